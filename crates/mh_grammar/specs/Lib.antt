@@ -1,0 +1,7 @@
+pub mod Derivations
+pub mod Edges
+pub mod First
+pub mod ItemSets
+pub mod Numbering
+pub mod Plain
+pub mod formers

@@ -1,0 +1,18 @@
+//! The plain grammar: its types, what its nonterminals derive, and the definitions that every layer above shares
+//! (derivations, FIRST, sets of LR(1) items, breadth-first numbering).
+#![tactic(auto)]
+
+mod edges;
+mod name;
+mod range;
+mod sequence;
+mod types;
+
+pub use edges::{Edge, find_edge};
+pub use name::{Name, from_bytes};
+pub use range::is_in_range;
+pub use sequence::Sequence;
+pub use types::{
+    Assoc, Grammar, Level, Look, Memory, NontermInfo, Production, Sentence, Symbol, Token,
+    TokenInfo,
+};

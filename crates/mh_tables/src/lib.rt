@@ -1,0 +1,6 @@
+//! Tables of a parser with the facts that they keep, and the test that every run on one ends.
+#![tactic(auto)]
+
+mod parts;
+
+pub use parts::{Action, Fallback, Place, StateParts};
