@@ -60,6 +60,8 @@ pub record IsAutomaton (g : PlainGrammar) (a : Automaton) : Type 0 where
   pub each : (s : ℕ) → s < length a.kernels → IsKernel g (kernel_at a s)
   pub starts : (i : ℕ) → i < length g.starts → kernel_at a i ≡ start_kernel i
   pub filled : (s : ℕ) → s < length a.kernels → 0 < length (kernel_at a s).items
+  -- a start production stands with the end of the stream alone
+  pub at_end : (s p d : ℕ) (look : Look) → kernel_of a s p d look → p < length g.starts → look ≡ End
   -- only the start kernels hold dots before a first symbol
   pub moved : (s p d : ℕ) → length g.starts ≤ s → HasPlace (kernel_at a s) p d → 0 < d
   -- one edge for each symbol that moves an item of the closure, and no other

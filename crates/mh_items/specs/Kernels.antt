@@ -1,7 +1,6 @@
 -- Kernels as lists that are the only ones for their sets of items.
-use Rattle.std.specs.Prelude.{◌≡◌, ◌<◌, ◌≤◌, ◌⊎◌, ℕ, [], ◌∷◌, length}
+use Rattle.std.specs.Prelude.{◌≡◌, ◌<◌, ◌≤◌, ◌⊎◌, ℕ, length}
 use Rattle.std.specs.List.{AllByRecursion, Contains}
-use Rattle.mh_grammar.specs.declared.types.Look.TheVariants.{End}
 use Rattle.mh_grammar.specs.Plain.{PlainGrammar, production_count, rhs_of, IsLookBelow}
 use Rattle.mh_grammar.specs.Edges.{IsRising, IsLookBefore}
 use Rattle.mh_grammar.specs.ItemSets.{ItemSet}
@@ -19,14 +18,13 @@ HasPlace k p d = (item : KernelItem) × Contains k.items item × (item.productio
 abbrev pub IsItemBefore : KernelItem → KernelItem → Type 0
 IsItemBefore i j = (i.production < j.production) ⊎ ((i.production ≡ j.production) × (i.dot < j.dot))
 
--- an item with its looks: numbers are the grammar's, the looks rise, there is one, and a start has the end alone
+-- an item with its looks: numbers are the grammar's, the looks rise, and there is one
 pub record IsKernelItem (g : PlainGrammar) (item : KernelItem) : Type 0 where
   pub production : item.production < production_count g
   pub dot : item.dot ≤ length (rhs_of g item.production)
   pub looks : AllByRecursion (IsLookBelow g.tokens) item.looks
   pub rising : IsRising IsLookBefore item.looks
   pub some : 0 < length item.looks
-  pub start : item.production < length g.starts → item.looks ≡ End ∷ []
 
 -- a list of items that is the only one for its set
 pub record IsKernel (g : PlainGrammar) (k : Kernel) : Type 0 where
