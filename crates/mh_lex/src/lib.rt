@@ -9,3 +9,6 @@ mod scanning;
 
 pub use kinds::{Kind, Lexeme, SyntaxFault};
 pub use scanning::{lex, lexed_once};
+
+#[cfg(test)]
+mod tests;
