@@ -2,5 +2,7 @@
 #![tactic(auto)]
 
 mod parts;
+mod table;
 
 pub use parts::{Action, Fallback, Place, StateParts};
+pub use table::{Table, table_of};
