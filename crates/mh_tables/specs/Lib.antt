@@ -1,2 +1,6 @@
 pub mod Facts
+pub mod Halting
+pub mod Moves
+pub mod Run
+pub mod RunTrees
 pub mod Table

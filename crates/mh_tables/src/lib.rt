@@ -1,6 +1,7 @@
 //! Tables of a parser with the facts that they keep, and the test that every run on one ends.
 #![tactic(auto)]
 
+mod moves;
 mod parts;
 mod table;
 
