@@ -1,15 +1,14 @@
 -- A run on a table that halts always ends, and in one way.
-use Rattle.std.proofs.Common.{◌≡◌, ℕ, zero, suc, ◌+◌, ◌-◌, ◌*◌, ◌<◌, ◌≤◌, ◌⊎◌, inl, inr, List, [], ◌∷◌, ◌++◌, length, take, drop, get_or, Some, None, Option, refl, ap, sym, subst, arith, ◌∙◌}
+use Rattle.std.proofs.Common.{◌≡◌, ℕ, zero, suc, ◌+◌, ◌<◌, List, [], ◌∷◌, ◌++◌, length, drop, Some, None, refl, ap, sym, arith, ◌∙◌}
 use Rattle.std.specs.List.{AllByRecursion}
-use Rattle.mh_grammar.specs.declared.types.Symbol.TheVariants.{N, T}
-use Rattle.mh_grammar.specs.Plain.{rhs_of, lhs_of}
-use Rattle.mh_tables.specs.Table.{TableData, edge_of}
+use Rattle.mh_grammar.specs.declared.types.Symbol.TheVariants.{T}
+use Rattle.mh_tables.specs.Table.{TableData}
 use Rattle.mh_tables.specs.Facts.{Facts}
-use Rattle.mh_tables.specs.Run.{Config, Move, Accepts, Asks, Refuses, Shifts, Reduces, move_of, top_of, reduce, reduction, reductions, IsRunStack, IsPath, Step, Goes, Ends, Stuck, step, step_by, next_of, after, Ending, EndsSo, VerdictOf, Accepted, Overshot, Rejected}
-use Rattle.mh_tables.specs.Halting.{Halts, HaltingFacts, IsLook, look_list}
+use Rattle.mh_tables.specs.Run.{Config, Move, Accepts, Asks, Refuses, Shifts, Reduces, move_of, top_of, IsRunStack, Goes, Ends, step, step_by, after, Ending, EndsSo, VerdictOf, Accepted, Overshot, Rejected}
+use Rattle.mh_tables.specs.Halting.{Halts, HaltingFacts}
 use Rattle.mh_tables.proofs.Path.{run_push}
 use Rattle.mh_tables.proofs.Reductions.{shifts_from_move, no_shift_at_end, move_at_next, reductions_at_next, after_reductions, after-add}
-use Rattle.mh_tables.proofs.Settling.{Settles, IsSettled, settles}
+use Rattle.mh_tables.proofs.Settling.{Settles, settles}
 
 -- steps before the end
 pub ends_before : (t : TableData) (n : ℕ) (c c' : Config) (how : Ending) → after t n c ≡ c' → EndsSo t c' how → EndsSo t c how

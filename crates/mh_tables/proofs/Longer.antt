@@ -1,9 +1,9 @@
 -- A run on more tokens makes the same steps, up to where it would ask.
-use Rattle.std.proofs.Common.{◌≡◌, ℕ, zero, suc, ◌+◌, ◌<◌, ◌⊎◌, inl, inr, List, [], ◌∷◌, ◌++◌, length, take, drop, Some, None, Option, refl, ap, sym, subst, arith, ◌∙◌}
+use Rattle.std.proofs.Common.{◌≡◌, ℕ, zero, suc, ◌⊎◌, inl, inr, List, [], ◌∷◌, ◌++◌, Some, None, Option, refl, ap, sym, subst, ◌∙◌}
 use Rattle.mh_tables.specs.declared.parts.Fallback.{Fallback}
 use Rattle.mh_tables.specs.declared.parts.Fallback.TheVariants as fallbacks
 use Rattle.mh_tables.specs.Table.{TableData, fallback_of}
-use Rattle.mh_tables.specs.Run.{Config, Move, Accepts, Asks, Refuses, Shifts, Reduces, move_of, move_by_default, move_of_next, top_of, reduce, initial, step, step_by, goes_to, Step, Goes, Ends, Stuck, after, next_of, VerdictOf, EndsSo, Ending, Rejected, Accepted, Overshot}
+use Rattle.mh_tables.specs.Run.{Config, Move, Accepts, Asks, Refuses, Shifts, Reduces, move_of, move_by_default, move_of_next, top_of, reduce, initial, step, step_by, goes_to, Step, Goes, Ends, Stuck, after, next_of, VerdictOf, Rejected, Overshot}
 use Rattle.mh_tables.proofs.Reductions.{no_shift_at_end}
 use Rattle.mh_tables.proofs.Ending.{step_moves, after_ended}
 

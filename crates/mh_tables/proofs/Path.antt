@@ -1,16 +1,15 @@
 -- A run's stack is a path of the edges, so a reduction finds its symbols and its edge.
-use Rattle.std.proofs.Common.{◌≡◌, ℕ, zero, suc, ◌+◌, ◌-◌, ◌<◌, ◌≤◌, ◌⊎◌, inl, inr, List, [], ◌∷◌, ◌++◌, length, take, drop, get_or, Some, None, Option, Bool, true, false, cond, nat_lt, refl, ap, sym, subst, arith, lt-ltb, le-ltb, ltb-false, length-append, length-take, ◌∙◌}
+use Rattle.std.proofs.Common.{◌≡◌, ℕ, zero, suc, ◌+◌, ◌-◌, ◌<◌, ◌≤◌, inl, inr, List, [], ◌∷◌, ◌++◌, length, take, get_or, Some, refl, arith, lt-ltb, length-append}
 use Rattle.std.proofs.lemmas.Bool.{cases_lt}
 use Rattle.std.proofs.lemmas.List.{get_or-take, length-take-le}
 use Rattle.std.proofs.Math.ListN.{get_or-append}
-use Rattle.std.proofs.Math.Seq.{get_or-append_right, get_or-append_seam}
-use Rattle.std.proofs.lemmas.Grind.{common_steps}
+use Rattle.std.proofs.Math.Seq.{get_or-append_seam}
 use Rattle.mh_grammar.specs.declared.types.Symbol.{Symbol}
-use Rattle.mh_grammar.specs.declared.types.Symbol.TheVariants.{T, N}
+use Rattle.mh_grammar.specs.declared.types.Symbol.TheVariants.{N}
 use Rattle.mh_grammar.specs.Plain.{rhs_of, lhs_of}
-use Rattle.mh_tables.specs.Table.{TableData, edge_of, cell_of, fallback_of}
-use Rattle.mh_tables.specs.Facts.{Facts, InCore, HasGoto, ReducesBy, Behind}
-use Rattle.mh_tables.specs.Run.{IsPath, IsRunStack, top_of, reduce, push_goto}
+use Rattle.mh_tables.specs.Table.{TableData, edge_of}
+use Rattle.mh_tables.specs.Facts.{Facts, InCore, HasGoto, ReducesBy}
+use Rattle.mh_tables.specs.Run.{IsPath, IsRunStack, top_of, reduce}
 
 -- no pair of an ordinary production has dot 0
 pub not_begun : (t : TableData) (f : Facts t) (s p : ℕ) → length t.grammar.starts ≤ p → InCore t s p 0 → ⊥

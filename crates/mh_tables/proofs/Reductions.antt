@@ -1,20 +1,19 @@
 -- What a move says, and reductions one after another.
-use Rattle.std.proofs.Common.{◌≡◌, ℕ, zero, suc, ◌+◌, ◌-◌, ◌<◌, ◌≤◌, ◌⊎◌, inl, inr, List, [], ◌∷◌, ◌++◌, length, take, drop, get_or, Some, None, Option, Bool, true, false, cond, nat_lt, refl, ap, sym, subst, arith, lt-ltb, le-ltb, ltb-false, length-append, length-take, length-drop, ◌∙◌}
-use Rattle.std.proofs.lemmas.Bool.{cases_lt, ltb-true}
-use Rattle.std.proofs.lemmas.List.{get_or-take, get_or-drop, length-take-le, drop-append-le, drop-take}
+use Rattle.std.proofs.Common.{◌≡◌, ℕ, zero, suc, ◌+◌, ◌-◌, ◌<◌, ◌⊎◌, inl, inr, List, [], ◌∷◌, ◌++◌, length, take, drop, Some, None, Option, Bool, true, false, cond, nat_lt, refl, ap, sym, arith, length-drop, ◌∙◌}
+use Rattle.std.proofs.lemmas.Bool.{ltb-true}
+use Rattle.std.proofs.lemmas.List.{get_or-drop, length-take-le, drop-append-le, drop-take}
 use Rattle.std.specs.Option.{option_and_then}
 use Rattle.mh_tables.specs.declared.parts.Action.{Action}
 use Rattle.mh_tables.specs.declared.parts.Action.TheVariants as actions
 use Rattle.mh_tables.specs.declared.parts.Fallback.{Fallback}
 use Rattle.mh_tables.specs.declared.parts.Fallback.TheVariants as fallbacks
-use Rattle.mh_grammar.specs.declared.types.Symbol.TheVariants.{N}
-use Rattle.mh_grammar.specs.Plain.{rhs_of, lhs_of}
-use Rattle.mh_tables.specs.Table.{TableData, edge_of, cell_of, fallback_of}
-use Rattle.mh_tables.specs.Facts.{Facts, ReducesBy, HasGoto}
-use Rattle.mh_tables.specs.Run.{Config, Move, Accepts, Asks, Refuses, Shifts, Reduces as Reducing, move_of, move_of_next, move_of_action, move_by_default, top_of, reduce, push_goto, reduction, reductions, reduced_by, Step, Goes, Ends, Stuck, step, step_by, goes_to, after, next_of, IsRunStack, IsPath}
-use Rattle.mh_tables.proofs.Path.{Finds, finds, reduce_finds, reduce_keeps, run_push}
+use Rattle.mh_grammar.specs.Plain.{rhs_of}
+use Rattle.mh_tables.specs.Table.{TableData, cell_of, fallback_of}
+use Rattle.mh_tables.specs.Facts.{ReducesBy}
+use Rattle.mh_tables.specs.Run.{Config, Move, Accepts, Asks, Refuses, Shifts, Reduces as Reducing, move_of, move_of_next, move_of_action, move_by_default, top_of, reduce, push_goto, reduction, reductions, reduced_by, Goes, step, after, next_of}
+use Rattle.mh_tables.proofs.Path.{Finds, reduce_finds}
 
-action_reduces : (a : Action) (p : ℕ) → move_of_action a ≡ Reducing p → a ≡ actions.Reduce p
+pub action_reduces : (a : Action) (p : ℕ) → move_of_action a ≡ Reducing p → a ≡ actions.Reduce p
 action_reduces (actions.Shift j) p e = cc
 action_reduces (actions.Reduce q) p e = cc
 action_reduces actions.Refuse p e = cc

@@ -1,12 +1,11 @@
 -- On a table that halts the reductions that come next end, whatever the stack.
-use Rattle.std.proofs.Common.{◌≡◌, ℕ, zero, suc, ◌+◌, ◌-◌, ◌*◌, ◌<◌, ◌≤◌, ◌⊎◌, inl, inr, List, [], ◌∷◌, ◌++◌, length, take, drop, get_or, Some, None, Option, refl, ap, sym, subst, arith, length-append, length-take, length-drop, ◌∙◌}
+use Rattle.std.proofs.Common.{◌≡◌, ℕ, zero, suc, ◌+◌, ◌-◌, ◌*◌, ◌<◌, ◌≤◌, ◌⊎◌, inl, inr, List, [], ◌∷◌, ◌++◌, length, take, drop, get_or, Some, None, Option, refl, ap, sym, arith, length-append, ◌∙◌}
 use Rattle.std.proofs.lemmas.Bool.{cases_lt}
 use Rattle.std.proofs.lemmas.List.{length-take-le, drop_more, drop_all}
-use Rattle.mh_grammar.specs.declared.types.Symbol.TheVariants.{N}
-use Rattle.mh_grammar.specs.Plain.{rhs_of, lhs_of}
-use Rattle.mh_tables.specs.Table.{TableData, edge_of}
+use Rattle.mh_grammar.specs.Plain.{rhs_of}
+use Rattle.mh_tables.specs.Table.{TableData}
 use Rattle.mh_tables.specs.Facts.{Facts}
-use Rattle.mh_tables.specs.Run.{Move, Accepts, Asks, Refuses, Shifts, Reduces, move_of, top_of, reduce, reduction, reductions, IsRunStack, IsPath}
+use Rattle.mh_tables.specs.Run.{Move, Accepts, Asks, Refuses, Shifts, Reduces, move_of, top_of, reduce, reduction, reductions, IsRunStack}
 use Rattle.mh_tables.specs.Halting.{Halts, IsBeginning, beginning, IsLook, look_list}
 use Rattle.mh_tables.proofs.Path.{Finds, finds, reduce_finds, reduce_keeps}
 use Rattle.mh_tables.proofs.Reductions.{reduces_from_move, reduced, reduction_is, reduction-drop, reductions_more, reductions_before, reductions_none}

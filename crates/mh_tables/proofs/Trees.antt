@@ -1,5 +1,5 @@
 -- The trees on the stack spell the right side that a reduction takes off.
-use Rattle.std.proofs.Common.{◌≡◌, ℕ, zero, suc, ◌+◌, ◌-◌, ◌<◌, ◌≤◌, ◌⊎◌, inl, inr, List, [], ◌∷◌, ◌++◌, length, take, drop, get_or, Some, None, Option, refl, ap, sym, subst, arith, ◌∙◌, length-append, length-drop, append_assoc, append-nil}
+use Rattle.std.proofs.Common.{◌≡◌, ℕ, zero, suc, ◌+◌, ◌-◌, ◌<◌, ◌≤◌, inl, inr, List, [], ◌∷◌, ◌++◌, length, take, drop, get_or, Some, refl, ap, sym, subst, arith, ◌∙◌, length-append, length-drop, append_assoc, append-nil}
 use Rattle.std.proofs.lemmas.Bool.{cases_lt}
 use Rattle.std.proofs.lemmas.List.{get_or-take, get_or-drop, length-take-le, take-append-drop}
 use Rattle.std.proofs.Math.ListN.{get_or-append}
@@ -11,10 +11,10 @@ use Rattle.mh_tables.specs.Table.{TableData, edge_of, fallback_of}
 use Rattle.mh_grammar.specs.declared.types.Symbol.TheVariants.{N, T}
 use Rattle.mh_tables.specs.declared.parts.Fallback.TheVariants as fallbacks
 use Rattle.mh_tables.specs.Facts.{Facts, InCore, ReducesBy as Reducing}
-use Rattle.mh_tables.specs.Run.{top_of, Config, Move, Accepts, Asks, Refuses, Shifts, Reduces, move_of, step, step_by, next_of, after, IsRunStack, reduce}
+use Rattle.mh_tables.specs.Run.{top_of, Config, Move, Accepts, Asks, Refuses, Shifts, Reduces, move_of, step, step_by, next_of, after, IsRunStack}
 use Rattle.mh_tables.proofs.Reductions.{Reduced, reduced, reduces_from_move, shifts_from_move, no_shift_at_end}
 use Rattle.mh_tables.proofs.Ending.{step_moves}
-use Rattle.mh_tables.specs.RunTrees.{RunTree, Leaf, Node, IsRunTree, IsRunForest, Grown, forest_of, Nil, Cons, yield_of, forest_yield, yields, Stands, grow, trees_after}
+use Rattle.mh_tables.specs.RunTrees.{RunTree, Leaf, Node, IsRunTree, IsRunForest, Grown, forest_of, yield_of, forest_yield, yields, Stands, grow, trees_after}
 use Rattle.mh_tables.proofs.Path.{top_of_take, finds, reduce_finds}
 
 -- the tree at a place below k is one for the symbol at that place of the right side
@@ -35,18 +35,20 @@ spelled t f stack trees g p (suc d) (suc k) ordinary inside there =
     let edge = g.each k (omega arith) in
     let back = f.behind (get_or stack k 0) edge.0 (get_or stack (k + 1) 0) p (suc d) edge.1 (let e : k + 1 ≡ suc k = omega arith in rw e there) in
     elim back.begun [
-      inl before ↦ (
-        let rest = spelled t f stack trees g p d k ordinary (omega arith) (let e : suc d - 1 ≡ d = omega arith in rw e at before) in
-        let le : d ≤ k = rest.0 in
-        (omega arith, λ j lt.
-            elim (cases_lt j d) [
-              inl less ↦ (
-                let r = rest.1 j less in
-                let e : suc k - suc d + j ≡ k - d + j = omega arith in
-                (r.0, r.1, rw e r.2))
-            | inr more ↦ last_spelled t trees p d k j edge.0 le (omega arith) back.symbol edge.2
-            ]))
-    | inr first ↦ (omega (arith, first.0), λ j lt. last_spelled t trees p d k j edge.0 (omega (arith, first.0)) (omega (arith, first.0)) back.symbol edge.2)
+      | inl before ↦ (
+          let rest = spelled t f stack trees g p d k ordinary (omega arith) (let e : suc d - 1 ≡ d = omega arith in rw e at before) in
+          let le : d ≤ k = rest.0 in (
+            omega arith,
+            λ j lt.
+                elim (cases_lt j d) [
+                  | inl less ↦ (
+                      let r = rest.1 j less in
+                      let e : suc k - suc d + j ≡ k - d + j = omega arith in
+                      (r.0, r.1, rw e r.2))
+                  | inr more ↦ last_spelled t trees p d k j edge.0 le (omega arith) back.symbol edge.2
+                ],
+          ))
+      | inr first ↦ (omega (arith, first.0), λ j lt. last_spelled t trees p d k j edge.0 (omega (arith, first.0)) (omega (arith, first.0)) back.symbol edge.2)
     ]
 
 -- trees for the symbols of a list, one by one, are a forest for it
@@ -76,17 +78,17 @@ grown_push t stack trees x u tree g edge is = record {
   start = rw (get_or-append stack (u ∷ []) 0 0 (let l = g.len in omega arith)) g.start;
   len = let l = g.len in rw (length-append, length-append) (omega arith);
   each = λ k lt.
-    let l = g.len in
-    let lt' : k < length trees + 1 = rw length-append at lt in
-    elim (cases_lt k (length trees)) [
-      inl less ↦ (
-        let e = g.each k less in
-        (e.0, rw (get_or-append stack (u ∷ []) 0 k (omega arith), get_or-append stack (u ∷ []) 0 (k + 1) (omega arith)) e.1, rw (get_or-append trees (tree ∷ []) (Leaf 0) k less) e.2))
-    | inr more ↦ (
-        let here : k ≡ length trees = omega arith in
-        let next : k + 1 ≡ length stack = omega arith in
-        (x, rw (get_or-append stack (u ∷ []) 0 k (omega arith), next, get_or-append_seam stack u [] 0) (rw here edge), rw (here, get_or-append_seam trees tree [] (Leaf 0)) is))
-    ];
+      let l = g.len in
+      let lt' : k < length trees + 1 = rw length-append at lt in
+      elim (cases_lt k (length trees)) [
+        | inl less ↦ (
+            let e = g.each k less in
+            (e.0, rw (get_or-append stack (u ∷ []) 0 k (omega arith), get_or-append stack (u ∷ []) 0 (k + 1) (omega arith)) e.1, rw (get_or-append trees (tree ∷ []) (Leaf 0) k less) e.2))
+        | inr more ↦ (
+            let here : k ≡ length trees = omega arith in
+            let next : k + 1 ≡ length stack = omega arith in
+            (x, rw (get_or-append stack (u ∷ []) 0 k (omega arith), next, get_or-append_seam stack u [] 0) (rw here edge), rw (here, get_or-append_seam trees tree [] (Leaf 0)) is))
+      ];
 }
 
 -- fewer states and trees
@@ -97,9 +99,9 @@ grown_take t stack trees n le g =
       start = rw (get_or-take (n + 1) stack 0 0 (omega arith)) g.start;
       len = rw (length-take-le n trees le, length-take-le (n + 1) stack (omega arith)) refl;
       each = λ k lt.
-        let lt' : k < n = rw (length-take-le n trees le) at lt in
-        let e = g.each k (omega arith) in
-        (e.0, rw (get_or-take (n + 1) stack k 0 (omega arith), get_or-take (n + 1) stack (k + 1) 0 (omega arith)) e.1, rw (get_or-take n trees k (Leaf 0) lt') e.2);
+          let lt' : k < n = rw (length-take-le n trees le) at lt in
+          let e = g.each k (omega arith) in
+          (e.0, rw (get_or-take (n + 1) stack k 0 (omega arith), get_or-take (n + 1) stack (k + 1) 0 (omega arith)) e.1, rw (get_or-take n trees k (Leaf 0) lt') e.2);
     }
 
 -- no edge leads to a start state
@@ -132,17 +134,17 @@ accepts_at t f stack trees g (suc k) i n lt there =
     let edge = g.each k (omega arith) in
     let back = f.behind (get_or stack k 0) edge.0 (get_or stack (k + 1) 0) i 1 edge.1 (let e : k + 1 ≡ suc k = omega arith in rw e there) in
     elim back.begun [
-      inr first ↦ absurd (omega (arith, first.1))
-    | inl before ↦ (
-        let at = start_of t f (get_or stack k 0) i (let e : 1 - 1 ≡ 0 = refl in rw e at before) in
-        let low : k ≡ 0 = only_start t f stack trees g k at.0 (omega arith) in
-        let same : i ≡ get_or stack 0 0 = at.1 ∙ ap (λ (m : ℕ). get_or stack m 0) low in
-        record {
-          one = omega arith;
-          symbol = edge.0;
-          is_start = rw (← same) back.symbol;
-          tree = subst (λ (m : ℕ). IsRunTree t edge.0 (get_or trees m (Leaf 0))) low edge.2;
-        })
+      | inr first ↦ absurd (omega (arith, first.1))
+      | inl before ↦ (
+          let at = start_of t f (get_or stack k 0) i (let e : 1 - 1 ≡ 0 = refl in rw e at before) in
+          let low : k ≡ 0 = only_start t f stack trees g k at.0 (omega arith) in
+          let same : i ≡ get_or stack 0 0 = at.1 ∙ ap (λ (m : ℕ). get_or stack m 0) low in
+          record {
+            one = omega arith;
+            symbol = edge.0;
+            is_start = rw (← same) back.symbol;
+            tree = subst (λ (m : ℕ). IsRunTree t edge.0 (get_or trees m (Leaf 0))) low edge.2;
+          })
     ]
 
 same_core : (t : TableData) (s s' p d : ℕ) → s ≡ s' → InCore t s p d → InCore t s' p d
@@ -159,8 +161,8 @@ forest_by t f stack trees p g can =
     let l = g.len in
     let at : top_of stack ≡ get_or stack (length trees) 0 = ap (λ (k : ℕ). get_or stack k 0) (omega arith) in
     elim (f.complete (top_of stack) p can) [
-      inl full ↦ reduced_forest t f stack trees g p (f.ordinary (top_of stack) p can).0 (same_core t _ _ p (length (rhs_of t.grammar p)) at full)
-    | inr empty ↦ forest_from t (rhs_of t.grammar p) (drop (length trees - length (rhs_of t.grammar p)) trees) (rw length-drop (omega (arith, empty.0))) (λ j lt. absurd (omega (arith, empty.0)))
+      | inl full ↦ reduced_forest t f stack trees g p (f.ordinary (top_of stack) p can).0 (same_core t _ _ p (length (rhs_of t.grammar p)) at full)
+      | inr empty ↦ forest_from t (rhs_of t.grammar p) (drop (length trees - length (rhs_of t.grammar p)) trees) (rw length-drop (omega (arith, empty.0))) (λ j lt. absurd (omega (arith, empty.0)))
     ]
 
 top_at : (stack : List ℕ) (n k len : ℕ) → k ≡ n + 1 → len ≡ n → n < length stack → top_of (take k stack) ≡ get_or (take (n + 1) stack) len 0
@@ -179,11 +181,11 @@ grown_reduced t f stack new trees p g can r =
     let len : length (take (length trees - length (rhs_of t.grammar p)) trees) ≡ length trees - length (rhs_of t.grammar p) = length-take-le (length trees - length (rhs_of t.grammar p)) trees le in
     let place = top_at stack (length trees - length (rhs_of t.grammar p)) (length stack - length (rhs_of t.grammar p)) (length (take (length trees - length (rhs_of t.grammar p)) trees)) kept len (omega arith) in
     let edge : edge_of t (get_or (take (length trees - length (rhs_of t.grammar p) + 1) stack) (length (take (length trees - length (rhs_of t.grammar p)) trees)) 0) (N (lhs_of t.grammar p)) ≡ Some r.found.goto.0 =
-        ap (λ (u : ℕ). edge_of t u (N (lhs_of t.grammar p))) (sym place) ∙ r.found.goto.1 in
+    ap (λ (u : ℕ). edge_of t u (N (lhs_of t.grammar p))) (sym place) ∙ r.found.goto.1 in
     rw r.is (rw kept
     (grown_push t (take (length trees - length (rhs_of t.grammar p) + 1) stack) (take (length trees - length (rhs_of t.grammar p)) trees) (N (lhs_of t.grammar p)) r.found.goto.0
-        (Node p (forest_of (drop (length trees - length (rhs_of t.grammar p)) trees))) (grown_take t stack trees (length trees - length (rhs_of t.grammar p)) le g) edge
-        ((f.ordinary (top_of stack) p can).0, refl, forest_by t f stack trees p g can)))
+    (Node p (forest_of (drop (length trees - length (rhs_of t.grammar p)) trees))) (grown_take t stack trees (length trees - length (rhs_of t.grammar p)) le g) edge
+    ((f.ordinary (top_of stack) p can).0, refl, forest_by t f stack trees p g can)))
 
 yields-append : (a b : List RunTree) → yields (a ++ b) ≡ yields a ++ yields b
 yields-append [] b = refl

@@ -1,5 +1,5 @@
 -- The run of a table on a list of tokens, step by step.
-use Rattle.std.specs.Prelude.{◌≡◌, ℕ, zero, suc, List, [], ◌∷◌, ◌++◌, length, take, drop, slice_index, Option, Some, None, option_and_then, Bool, if◌then◌else◌, nat_lt, ◌-◌, ◌+◌, ◌<◌}
+use Rattle.std.specs.Prelude.{◌≡◌, ℕ, zero, suc, List, [], ◌∷◌, ◌++◌, length, take, drop, slice_index, Option, Some, None, option_and_then, if◌then◌else◌, nat_lt, ◌-◌, ◌+◌, ◌<◌}
 use Rattle.mh_grammar.specs.declared.types.Symbol.{Symbol}
 use Rattle.mh_grammar.specs.declared.types.Symbol.TheVariants.{N}
 use Rattle.mh_tables.specs.declared.parts.Action.{Action}
