@@ -16,7 +16,7 @@ use Rattle.mh_items.specs.declared.kernels.Automaton.{Automaton}
 use Rattle.mh_tables.specs.declared.parts.StateParts.{StateParts}
 use Rattle.mh_grammar.specs.ItemSets.{ItemSet}
 use Rattle.mh_grammar.specs.Plain.{plain_of, rhs_of}
-use Rattle.mh_tables.specs.Table.{no_state}
+use Rattle.mh_tables.specs.Table.{TableData, no_state}
 use Rattle.mh_grammar.specs.Edges.{find_edge}
 use Rattle.mh_items.specs.Automaton.{edges_at, kernel_at, closure_of}
 use Rattle.mh_resolve.specs.declared.kinds.Mode.{Mode}
@@ -119,6 +119,11 @@ pub record IsResolved (mode : Mode) (s : State) (kernel : Kernel) (parts : State
 pub record AreResolved (g : Grammar) (a : Automaton) (mode : Mode) (states : List StateParts) : Type 0 where
   pub count : length states ≡ length a.kernels
   pub each : (s : ℕ) → s < length a.kernels → IsResolved mode (state_of g a s) (kernel_at a s) (slice_index_or states s no_state)
+
+-- the table of an automaton
+pub record IsTableOf (g : Grammar) (a : Automaton) (mode : Mode) (t : TableData) : Type 0 where
+  pub grammar : t.grammar ≡ plain_of g
+  pub states : AreResolved g a mode t.states
 
 -- a conflict of a state on a look, with its kind
 abbrev pub HasConflict : State → Look → ConflictKind → Type 0

@@ -13,3 +13,4 @@ mod states;
 
 pub use conflicts::Conflict;
 pub use kinds::{ConflictKind, Mode};
+pub use resolution::{conflicts_are_one, resolve, table_is_one};
