@@ -4,7 +4,7 @@ ghost use Rattle.std.specs.List.{AllByRecursion};
 ghost use Rattle.mh_lex.specs.declared.kinds.Kind.{Kind};
 ghost use Rattle.mh_lex.specs.declared.kinds.Lexeme.{Lexeme};
 ghost use Rattle.mh_lex.specs.Lexing.{Lexes};
-ghost use Rattle.mh_lex.specs.Texts.{IsText, laid, places, count_of_percents};
+ghost use Rattle.mh_lex.specs.Texts.{IsText, IsSpelled, laid, places, count_of_percents};
 
 /// Bytes have one list of lexemes and at most one first fault.
 pub fn lexed_once()
@@ -14,4 +14,9 @@ pub fn lexed_once()
 /// Texts with a space behind each are the lexemes of the file that they make, if at most one of them is `%%`.
 pub fn lexed_apart()
     ensures { (texts : List (Kind × List ℕ)) → AllByRecursion IsText texts → count_of_percents texts < 2 → Lexes (laid texts) (places 0 texts) None }
+{}
+
+/// Each word, mark, `%%`, keyword and string among the lexemes of a file spans a text of its kind.
+pub fn lexed_texts()
+    ensures { (bytes : List ℕ) (lexemes : List Lexeme) (f : Option ℕ) → Lexes bytes lexemes f → AllByRecursion (IsSpelled bytes) lexemes }
 {}
