@@ -171,7 +171,7 @@ laid_from total (suc left) at (t ∷ ts) h few e =
     let fewer : count_of_percents ts < suc (left_after (Some t.0) left - 1) = omega arith in
     let rest = taken (short (blank_front (laid ts)) refl) (laid_from total (suc (left_after (Some t.0) left - 1)) (at + length t.1 + 1) ts h.1 fewer m) refl in
     taken (text_taken t.0 t.1 h.0 (laid ts)) (subst (λ k. LexesFrom total k (32 ∷ laid ts) (places (at + length t.1 + 1) ts) None) (sym some) rest)
-      (laid_kept t.0 total at t.1 (laid ts) (places (at + length t.1 + 1) ts) e)
+    (laid_kept t.0 total at t.1 (laid ts) (places (at + length t.1 + 1) ts) e)
 
 pub laid_lexes : (ts : List (Kind × List ℕ)) → AllByRecursion IsText ts → count_of_percents ts < 2 → Lexes (laid ts) (places 0 ts) None
 laid_lexes ts h few = laid_from (length (laid ts)) 2 0 ts h few (omega arith)

@@ -1,4 +1,4 @@
--- What begins a lexeme, a comment or a blank.
+-- What begins a lexeme, a comment or a blank. Source: the Menhir manual's syntax of grammars, and this project's profile.
 use Rattle.std.specs.Prelude.{ℕ, ◌+◌, ◌<◌, ◌≤◌, ◌==◌, ◌&&◌, ◌||◌, Bool, false, cond, List, [], ◌∷◌, Option, Some, None, drop, take, nat_eq, codes}
 use Rattle.std.specs.Cmp.Lexicographic.{pointwise}
 use Rattle.mh_lex.specs.declared.kinds.Ends.TheVariants as ends
