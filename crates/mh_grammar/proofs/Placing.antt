@@ -1,12 +1,13 @@
 -- Items that are placed, and what a breadth-first numbering keeps while it is made.
-use Rattle.std.proofs.Common.{◌≡◌, ℕ, zero, suc, ◌+◌, ◌<◌, ◌≤◌, ◌⊎◌, List, [], ◌∷◌, ◌++◌, Some, length, get_or, refl, sym, ap, ◌∙◌, arith, inl, inr, append_assoc}
-use Rattle.std.specs.List.{slice_get, All, Contains, concat}
+use Rattle.std.proofs.Common.{◌≡◌, ℕ, zero, suc, ◌+◌, ◌<◌, ◌≤◌, ◌⊎◌, Bool, true, false, cond, Decides, List, [], ◌∷◌, ◌++◌, Some, length, get_or, refl, sym, ap, ◌∙◌, arith, inl, inr, append_assoc}
+use Rattle.std.specs.List.{slice_get, list_any, All, Contains, concat}
 use Rattle.std.proofs.lemmas.Bool.{cases_eq}
 use Rattle.std.proofs.lemmas.List.{get_or_append_left, get_or_push, length_push, append-nil, length-append}
 use Rattle.std.proofs.Math.Seq.{take-append_seam}
 use Rattle.std.proofs.lemmas.List.Elements.{All-push, Contains-append_left}
 use Rattle.std.proofs.lemmas.List.Folds.{concat-append}
 use Rattle.std.proofs.lemmas.Option.{slice_get-get_or, get_or_from_slice_get, slice_get_within}
+use Rattle.std.proofs.lemmas.Map.Keys.{any_passes_from_place}
 use Rattle.mh_grammar.specs.Numbering as numbering
 use Rattle.mh_grammar.specs.Numbering.{Reached, AreDistinct, InOrder, Names, IsRowOf, IsNumbering}
 use Rattle.mh_grammar.specs.Placed.{Placed, AllPlaced}
@@ -96,6 +97,27 @@ module _ {X : Type 0} where
     | inl g ↦ inl (g.1, rw (ap length g.0) at rest)
     | inr g ↦ inr (g.1, rw (ap length g.0 ∙ length_push old x) at rest)
   ]
+
+-- what is inserted into a set in the order of insertion is placed
+pub Placed-insert : {X : Type 0} (E : X → X → Bool) → (old new : List X) (x : X) (n : ℕ) → new ≡ cond (list_any (E x) old) old (old ++ x ∷ []) → ((a b : X) → Decides (E a b) (a ≡ b)) → (k : X) → slice_get new n ≡ Some k → E x k ≡ true → Placed old new x n
+Placed-insert E old new x n e d k at same = go (list_any (E x) old) refl e
+  where
+    one : x ≡ k
+    one = (d x k).0 same
+
+    here : slice_get new n ≡ Some x
+    here = at ∙ ap Some (sym one)
+
+    go : (b : Bool) → list_any (E x) old ≡ b → new ≡ cond b old (old ++ x ∷ []) → Placed old new x n
+    go true f g = record { at = here; grown = inl (g, rw g at (slice_get_within new n x here)) }
+    go false f g = record {
+      at = here;
+      grown = inr (
+        g,
+        (elim (get_cases old x n x (rw g at here)) [ inl before ↦ absurd (let t = any_passes_from_place (E x) old n x before ((d x x).1 refl) in let u : true ≡ false = sym t ∙ f in cc) | inr last ↦ last.0 ]),
+        λ c. let p = at_contains old x c in let t = any_passes_from_place (E x) old p.0 x p.1 ((d x x).1 refl) in let u : true ≡ false = sym t ∙ f in cc,
+      );
+    }
 
 pub InOrder-append : (k : ℕ) (a b : List ℕ) (m n : ℕ) → InOrder k a m → InOrder m b n → InOrder k (a ++ b) n
 InOrder-append k [] b m n p q = rw p q
