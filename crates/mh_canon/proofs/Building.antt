@@ -1,9 +1,9 @@
 -- What is kept while the collection is made: the states whose closures were taken have their edges.
-use Rattle.std.proofs.Common.{◌≡◌, ℕ, zero, suc, ◌+◌, ◌<◌, ◌≤◌, List, [], ◌∷◌, ◌++◌, Some, length, map, get_or, refl, sym, ap, ◌∙◌, arith, inl, inr}
-use Rattle.std.specs.List.{slice_get, All, concat}
+use Rattle.std.proofs.Common.{◌≡◌, ℕ, zero, suc, ◌+◌, ◌<◌, ◌≤◌, List, [], ◌∷◌, ◌++◌, Some, length, map, get_or, refl, sym, ap, ◌∙◌, ◌↔◌, arith, inl, inr}
+use Rattle.std.specs.List.{slice_get, All, Contains, concat}
 use Rattle.std.proofs.lemmas.Bool.{cases_lt}
 use Rattle.std.proofs.lemmas.List.{map-append, length_push, append-nil, length-append}
-use Rattle.std.proofs.lemmas.List.Elements.{All-get_or}
+use Rattle.std.proofs.lemmas.List.Elements.{All-contains, All-weaker, All-contains_itself}
 use Rattle.std.proofs.lemmas.List.Folds.{concat-append}
 use Rattle.std.proofs.lemmas.Option.{slice_get-get_or, get_or_from_slice_get, slice_get_within}
 use Rattle.mh_grammar.specs.declared.types.Symbol.{Symbol}
@@ -14,7 +14,7 @@ use Rattle.mh_grammar.specs.Edges.{IsRising, IsSymbolBefore}
 use Rattle.mh_grammar.specs.ItemSets.{AreSame, Close}
 use Rattle.mh_grammar.specs.Numbering.{InOrder, AreDistinct}
 use Rattle.mh_grammar.specs.Placed.{Placed}
-use Rattle.mh_grammar.proofs.Placing.{get_cases, get_left, get_last, AllPlaced-kept, AllPlaced-grows, AllPlaced-order, InOrder-append}
+use Rattle.mh_grammar.proofs.Placing.{contains_at, get_cases, get_left, get_last, AllPlaced-kept, AllPlaced-grows, AllPlaced-order, InOrder-append}
 use Rattle.mh_items.specs.declared.kernels.Kernel.{Kernel}
 use Rattle.mh_items.specs.declared.kernels.KernelItem.{KernelItem}
 use Rattle.mh_items.specs.Kernels.{Holds, IsKernel}
@@ -24,7 +24,7 @@ use Rattle.mh_canon.specs.Moves.{IsBehindDot, IsState, AreStates, AreStarts, IsS
 use Rattle.mh_canon.proofs.Edging.{IsRow, IsRow-kept, IsRow-new}
 use Rattle.mh_canon.proofs.Rising.{contains_here}
 use Rattle.mh_canon.proofs.Sets.{start_holds}
-use Rattle.mh_canon.proofs.States.{AreStates-edges}
+use Rattle.mh_canon.proofs.States.{IsSource-close, AreStates-edges}
 
 pub record Building (g : PlainGrammar) (kernels : List Kernel) (edges : List (List Edge)) : Type 0 where
   pub begins : (i : ℕ) → i < length g.starts → slice_get kernels i ≡ Some (start_kernel i)
@@ -99,8 +99,15 @@ Building-start g kernels s = record {
   order = sym s.len;
 }
 
-pub Building-step : (g : PlainGrammar) (kernels new : List Kernel) (edges : List (List Edge)) (k closed : Kernel) (symbols : List Symbol) (row : List Edge) → Building g kernels edges → slice_get kernels (length edges) ≡ Some k → IsSource g closed → AreSame (Holds closed) (Close g (Holds k)) → IsRising IsSymbolBefore symbols → ((X : Symbol) → Rattle.std.proofs.Common.◌↔◌ (Rattle.std.specs.List.Contains symbols X) (IsBehindDot g closed X)) → All (IsBehindDot g closed) symbols → AreEdges g closed symbols kernels new row → Building g new (edges ++ row ∷ [])
-Building-step g kernels new edges k closed symbols row w at source same rising exact behind e =
+-- the closure of a kernel that was found
+pub Building-source : (g : PlainGrammar) (kernels : List Kernel) (edges : List (List Edge)) (i : ℕ) (k closed : Kernel) → Building g kernels edges → slice_get kernels i ≡ Some k → IsKernel g closed → AreSame (Holds closed) (Close g (Holds k)) → IsSource g closed
+Building-source g kernels edges i k closed w at of_closed same =
+    IsSource-close g k closed (All-contains (IsState g) kernels k w.states.each (contains_at kernels i k at)) of_closed same
+
+pub Building-step : (g : PlainGrammar) (kernels new : List Kernel) (edges : List (List Edge)) (k closed : Kernel) (symbols : List Symbol) (row : List Edge) → Building g kernels edges → slice_get kernels (length edges) ≡ Some k → IsKernel g closed → AreSame (Holds closed) (Close g (Holds k)) → IsRising IsSymbolBefore symbols → ((X : Symbol) → Contains symbols X ↔ IsBehindDot g closed X) → AreEdges g closed symbols kernels new row → Building g new (edges ++ row ∷ [])
+Building-step g kernels new edges k closed symbols row w at of_closed same rising exact e =
+    let source = Building-source g kernels edges (length edges) k closed w at of_closed same in
+    let behind = All-weaker (Contains symbols) (IsBehindDot g closed) (λ X c. (exact X).0 c) symbols (All-contains_itself symbols) in
     let grows = AllPlaced-grows kernels new e.moves (targets_of row) e.placed in
     let kept = AllPlaced-kept kernels new e.moves (targets_of row) e.placed in
     let within = slice_get_within kernels (length edges) k at in
