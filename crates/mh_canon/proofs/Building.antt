@@ -1,6 +1,6 @@
 -- What is kept while the collection is made: the states whose closures were taken have their edges.
-use Rattle.std.proofs.Common.{◌≡◌, ℕ, zero, suc, ◌+◌, ◌<◌, ◌≤◌, List, [], ◌∷◌, ◌++◌, Some, length, map, get_or, refl, sym, ap, ◌∙◌, ◌↔◌, arith, inl, inr}
-use Rattle.std.specs.List.{slice_get, All, Contains, concat}
+use Rattle.std.proofs.Common.{◌≡◌, ℕ, ◌+◌, ◌<◌, ◌≤◌, List, [], ◌∷◌, ◌++◌, Some, length, map, get_or, refl, sym, ap, ◌∙◌, ◌↔◌, arith, inl, inr}
+use Rattle.std.specs.List.{slice_get, Contains, concat}
 use Rattle.std.proofs.lemmas.Bool.{cases_lt}
 use Rattle.std.proofs.lemmas.List.{map-append, length_push, append-nil, length-append}
 use Rattle.std.proofs.lemmas.List.Elements.{All-contains, All-weaker, All-contains_itself}
@@ -9,10 +9,10 @@ use Rattle.std.proofs.lemmas.Option.{slice_get-get_or, get_or_from_slice_get, sl
 use Rattle.mh_grammar.specs.declared.types.Symbol.{Symbol}
 use Rattle.mh_grammar.specs.declared.types.Look.TheVariants.{End}
 use Rattle.mh_grammar.specs.declared.edges.Edge.{Edge}
-use Rattle.mh_grammar.specs.Plain.{PlainGrammar, rhs_of}
+use Rattle.mh_grammar.specs.Plain.{PlainGrammar}
 use Rattle.mh_grammar.specs.Edges.{IsRising, IsSymbolBefore}
 use Rattle.mh_grammar.specs.ItemSets.{AreSame, Close}
-use Rattle.mh_grammar.specs.Numbering.{InOrder, AreDistinct}
+use Rattle.mh_grammar.specs.Numbering.{InOrder}
 use Rattle.mh_grammar.specs.Placed.{Placed}
 use Rattle.mh_grammar.proofs.Placing.{contains_at, get_cases, get_left, get_last, AllPlaced-kept, AllPlaced-grows, AllPlaced-order, InOrder-append}
 use Rattle.mh_items.specs.declared.kernels.Kernel.{Kernel}
@@ -71,12 +71,12 @@ AreStarts-step n at old new s p = elim p.grown [
       let one = one_start at n same in
       omega (arith, one))
   | inr g ↦ record {
-      len = rw g.0 (length_push old (start_kernel n) ∙ ap (λ k. k + 1) s.len);
-      each = λ i l. rw g.0 (elim (cases_lt i n) [
-        | inl m ↦ get_left old (start_kernel n ∷ []) i (start_kernel i) (s.each i m)
-        | inr m ↦ (let one : i ≡ n = omega arith in rw one (get_last old (start_kernel n) n (sym s.len)))
-      ]);
-    }
+    len = rw g.0 (length_push old (start_kernel n) ∙ ap (λ k. k + 1) s.len);
+    each = λ i l. rw g.0 (elim (cases_lt i n) [
+      | inl m ↦ get_left old (start_kernel n ∷ []) i (start_kernel i) (s.each i m)
+      | inr m ↦ (let one : i ≡ n = omega arith in rw one (get_last old (start_kernel n) n (sym s.len)))
+    ]);
+  }
 ]
 
 pub Building-start : (g : PlainGrammar) (kernels : List Kernel) → AreStarts (length g.starts) kernels → Building g kernels []
@@ -86,12 +86,12 @@ Building-start g kernels s = record {
     each = λ k d l. let m : k < length g.starts = omega (arith, s.len) in rw (get_or_from_slice_get kernels k (start_kernel k) d (s.each k m)) (IsState-start g k m);
     distinct = record {
       same = λ i j x e f.
-        let l : i < length g.starts = omega (arith, s.len, slice_get_within kernels i x e) in
-        let m : j < length g.starts = omega (arith, s.len, slice_get_within kernels j x f) in
-        let a = s.each i l in
-        let b = s.each j m in
-        let same : start_kernel i ≡ start_kernel j = cc in
-        one_start i j same;
+          let l : i < length g.starts = omega (arith, s.len, slice_get_within kernels i x e) in
+          let m : j < length g.starts = omega (arith, s.len, slice_get_within kernels j x f) in
+          let a = s.each i l in
+          let b = s.each j m in
+          let same : start_kernel i ≡ start_kernel j = cc in
+          one_start i j same;
     };
   };
   short = omega arith;

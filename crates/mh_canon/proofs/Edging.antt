@@ -1,6 +1,6 @@
 -- Rows of edges: what an edge on a symbol is, and what a new row says.
-use Rattle.std.proofs.Common.{◌≡◌, ℕ, zero, suc, ◌+◌, ◌<◌, ◌≤◌, ◌↔◌, Bool, true, false, List, [], ◌∷◌, ◌++◌, Option, Some, None, length, map, drop, get_or, refl, sym, ap, ◌∙◌, arith, inl, inr, eqb, if◌then◌else◌, cond}
-use Rattle.std.specs.List.{slice_get, All, AllByRecursion, AllZip, Contains}
+use Rattle.std.proofs.Common.{◌≡◌, ℕ, ◌↔◌, Bool, true, false, List, [], ◌∷◌, Some, map, refl, sym, ap, ◌∙◌, inl, inr, if◌then◌else◌}
+use Rattle.std.specs.List.{slice_get, AllByRecursion, AllZip, Contains}
 use Rattle.std.proofs.lemmas.Bool.Decides.{Decides-eqb}
 use Rattle.mh_grammar.specs.declared.types.Symbol.{Symbol}
 use Rattle.mh_grammar.specs.declared.types.Symbol.TheVariants.{T, N}
@@ -13,7 +13,7 @@ use Rattle.mh_grammar.specs.ItemSets.{ItemSet, AreSame, Close, Moved}
 use Rattle.mh_grammar.specs.Numbering.{Names}
 use Rattle.mh_grammar.proofs.Placing.{AllPlaced-names}
 use Rattle.mh_items.specs.declared.kernels.Kernel.{Kernel}
-use Rattle.mh_items.specs.Kernels.{Holds, IsKernel}
+use Rattle.mh_items.specs.Kernels.{Holds}
 use Rattle.mh_canon.specs.Canonical.{HasItem, targets_of}
 use Rattle.mh_canon.specs.Moves.{IsBehindDot, IsMove, AreEdges}
 use Rattle.mh_canon.proofs.Rising.{contains_cases, contains_none}
@@ -91,10 +91,10 @@ pub IsRow-new : (g : PlainGrammar) (k closed : Kernel) (symbols : List Symbol) (
 IsRow-new g k closed symbols old new row same rising exact e = record {
   rising = rising_edges row (rw (← e.on) at rising);
   leads = λ X u f.
-    let m = found_move g closed new row e.moves (rw (← e.on) at e.each) (AllPlaced-names old new e.moves (targets_of row) e.placed) X u f in
-    (m.0, m.1, same_trans (Holds m.0) (Moved g (Holds closed) X) (Moved g (Close g (Holds k)) X) m.2.same (moved_same g (Holds closed) (Close g (Holds k)) X same));
+      let m = found_move g closed new row e.moves (rw (← e.on) at e.each) (AllPlaced-names old new e.moves (targets_of row) e.placed) X u f in
+      (m.0, m.1, same_trans (Holds m.0) (Moved g (Holds closed) X) (Moved g (Close g (Holds k)) X) m.2.same (moved_same g (Holds closed) (Close g (Holds k)) X same));
   all = λ X h.
-    let here = has_same (Moved g (Close g (Holds k)) X) (Moved g (Holds closed) X) (same_sym (Moved g (Holds closed) X) (Moved g (Close g (Holds k)) X) (moved_same g (Holds closed) (Close g (Holds k)) X same)) h in
-    let c = (exact X).1 (behind_moved g closed X here.production here.dot here.look here.holds) in
-    found_edge row X (rw (← e.on) at c);
+      let here = has_same (Moved g (Close g (Holds k)) X) (Moved g (Holds closed) X) (same_sym (Moved g (Holds closed) X) (Moved g (Close g (Holds k)) X) (moved_same g (Holds closed) (Close g (Holds k)) X same)) h in
+      let c = (exact X).1 (behind_moved g closed X here.production here.dot here.look here.holds) in
+      found_edge row X (rw (← e.on) at c);
 }

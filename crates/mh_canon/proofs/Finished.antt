@@ -1,19 +1,18 @@
 -- A collection with all its edges is the canonical one.
-use Rattle.std.proofs.Common.{◌≡◌, ℕ, zero, suc, ◌<◌, ◌≤◌, List, [], ◌∷◌, Option, Some, None, length, get_or, refl, sym, ap, ◌∙◌, arith, inl, inr}
+use Rattle.std.proofs.Common.{◌≡◌, ℕ, zero, suc, ◌<◌, ◌≤◌, List, [], ◌∷◌, Some, None, length, get_or, refl, sym, ap, ◌∙◌, arith, inl, inr}
 use Rattle.std.proofs.lemmas.Bool.{cases_lt}
-use Rattle.std.specs.List.{slice_get, All}
+use Rattle.std.specs.List.{slice_get}
 use Rattle.std.proofs.lemmas.List.Elements.{All-get_or}
 use Rattle.std.proofs.lemmas.Option.{slice_get-get_or, slice_get_within}
 use Rattle.mh_grammar.specs.declared.types.Symbol.{Symbol}
-use Rattle.mh_grammar.specs.declared.edges.Edge.{Edge}
 use Rattle.mh_grammar.specs.Plain.{PlainGrammar}
 use Rattle.mh_grammar.specs.Edges.{find_edge}
-use Rattle.mh_grammar.specs.ItemSets.{AreSame, Close, Moved, StartItems, Reach}
+use Rattle.mh_grammar.specs.ItemSets.{AreSame, Close, StartItems, Reach}
 use Rattle.mh_items.specs.declared.kernels.Kernel.{Kernel}
 use Rattle.mh_items.specs.declared.kernels.Automaton.{Automaton}
-use Rattle.mh_items.specs.Kernels.{Holds, HasPlace, IsKernel}
+use Rattle.mh_items.specs.Kernels.{HasPlace}
 use Rattle.mh_items.specs.Automaton.{no_kernel, kernel_at, kernel_of, edges_at, leads_to, move_of, start_kernel, Moves}
-use Rattle.mh_canon.specs.Canonical.{HasItem, IsReach, IsCanonical}
+use Rattle.mh_canon.specs.Canonical.{HasItem, IsCanonical}
 use Rattle.mh_canon.specs.Moves.{IsState}
 use Rattle.mh_canon.proofs.Building.{Building}
 use Rattle.mh_canon.proofs.Edging.{IsRow}
@@ -99,8 +98,8 @@ module _ (g : PlainGrammar) (a : Automaton) (b : Building g a.kernels a.edges) (
     sound = λ s l. (state s l).reach;
     complete = reach_complete g a starts edge target;
     distinct = λ s u l m same.
-      let one : kernel_at a u ≡ kernel_at a s = sym (one_list g (kernel_at a s) (kernel_at a u) (state s l).kernel (state u m).kernel same) in
-      b.states.distinct.same s u (kernel_at a s) (kernel_get a s l) (kernel_get a u m ∙ ap Some one);
+        let one : kernel_at a u ≡ kernel_at a s = sym (one_list g (kernel_at a s) (kernel_at a u) (state s l).kernel (state u m).kernel same) in
+        b.states.distinct.same s u (kernel_at a s) (kernel_get a s l) (kernel_get a u m ∙ ap Some one);
     order = λ s l. (row s l).rising;
     edge = edge;
     target = target;

@@ -1,10 +1,9 @@
 -- What the definition of the canonical collection implies: all that every layer needs of an automaton, and that no more
 -- sets are reached than it has states.
-use Rattle.std.proofs.Common.{◌≡◌, ℕ, zero, suc, ◌<◌, ◌≤◌, List, [], ◌∷◌, Some, length, refl, sym, ap, ◌∙◌, arith, inl, inr}
-use Rattle.std.specs.List.{slice_get, All, AllByRecursion, AllZip, Contains}
+use Rattle.std.proofs.Common.{◌≡◌, ℕ, zero, suc, ◌<◌, ◌≤◌, List, [], ◌∷◌, Some, length, refl, ap, arith, inl, inr}
+use Rattle.std.specs.List.{slice_get, AllByRecursion, AllZip, Contains}
 use Rattle.std.proofs.lemmas.Bool.{cases_lt}
 use Rattle.std.proofs.lemmas.List.Elements.{recursion_from_All}
-use Rattle.std.proofs.lemmas.Option.{slice_get-get_or, slice_get_within}
 use Rattle.mh_grammar.specs.declared.types.Symbol.{Symbol}
 use Rattle.mh_grammar.specs.declared.types.Look.{Look}
 use Rattle.mh_grammar.specs.declared.types.Look.TheVariants.{End}
@@ -16,9 +15,9 @@ use Rattle.mh_grammar.proofs.Placing.{contains_at, at_contains}
 use Rattle.mh_grammar.proofs.Pigeon.{length-distinct_in}
 use Rattle.mh_items.specs.declared.kernels.Kernel.{Kernel}
 use Rattle.mh_items.specs.declared.kernels.Automaton.{Automaton}
-use Rattle.mh_items.specs.Kernels.{Holds, HasPlace, IsKernel}
-use Rattle.mh_items.specs.Automaton.{kernel_at, kernel_of, leads_to, move_of, start_kernel, Moves, IsTarget, IsAutomaton}
-use Rattle.mh_canon.specs.Canonical.{HasItem, IsReach, IsCanonical, Walk, walk_of, IsWalk, IsOver}
+use Rattle.mh_items.specs.Kernels.{Holds}
+use Rattle.mh_items.specs.Automaton.{kernel_at, kernel_of, start_kernel, IsAutomaton}
+use Rattle.mh_canon.specs.Canonical.{IsCanonical, Walk, walk_of, IsWalk, IsOver}
 use Rattle.mh_canon.proofs.Building.{IsKernel-start}
 use Rattle.mh_canon.proofs.Finished.{kernel_get, items_within}
 use Rattle.mh_canon.proofs.OneList.{one_list}
@@ -67,10 +66,10 @@ module _ (g : PlainGrammar) (a : Automaton) (h : IsCanonical g a) where
     filled = λ s l. let c = (h.each s l).1.holds.1 in omega (arith, c.1);
     at_end = at_end;
     moved = λ s p d l place.
-      let within = items_within a s p d place in
-      let look = place_holds g (kernel_at a s) (h.each s within).0 p d place in
-      let r = h.sound s within in
-      dot_moved s p d look.0 r.start r.path within l look.1 r.known r.same;
+        let within = items_within a s p d place in
+        let look = place_holds g (kernel_at a s) (h.each s within).0 p d place in
+        let r = h.sound s within in
+        dot_moved s p d look.0 r.start r.path within l look.1 r.known r.same;
     order = h.order;
     edge = h.edge;
     target = λ s X u e. let t = h.target s X u e in (
@@ -110,9 +109,9 @@ module _ (g : PlainGrammar) (a : Automaton) (h : IsCanonical g a) where
       let r = led o.walks (recursion_from_All (IsWalk g) o.walks o.each) in
       let apart : AreDistinct r.0 = record {
         same = λ i j k e f.
-          let v = led_at o.walks r.0 r.1 i k e in
-          let w = led_at o.walks r.0 r.1 j k f in
-          o.distinct i j v.0 w.0 v.1 w.1 (same_trans (walk_of g v.0) (Holds k) (walk_of g w.0) (same_sym (Holds k) (walk_of g v.0) v.3) w.3);
+            let v = led_at o.walks r.0 r.1 i k e in
+            let w = led_at o.walks r.0 r.1 j k f in
+            o.distinct i j v.0 w.0 v.1 w.1 (same_trans (walk_of g v.0) (Holds k) (walk_of g w.0) (same_sym (Holds k) (walk_of g v.0) v.3) w.3);
       } in
       let le = length-distinct_in a.kernels r.0 apart (λ k c. let i = at_contains r.0 k c in (led_at o.walks r.0 r.1 i.0 k i.1).2) in
       omega (arith, o.over, led_len o.walks r.0 r.1)

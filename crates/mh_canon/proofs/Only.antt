@@ -1,6 +1,6 @@
 -- A grammar has one canonical automaton.
-use Rattle.std.proofs.Common.{◌≡◌, ℕ, zero, suc, ◌<◌, ◌≤◌, ◌↔◌, Bool, true, false, List, [], ◌∷◌, Option, Some, None, length, map, take, refl, sym, ap, ◌∙◌, arith, inl, inr, if◌then◌else◌}
-use Rattle.std.specs.List.{slice_get, All, AllByRecursion, AllZip, Contains, concat}
+use Rattle.std.proofs.Common.{◌≡◌, ℕ, zero, suc, ◌<◌, ◌≤◌, ◌↔◌, Bool, true, false, List, [], ◌∷◌, Some, None, length, map, take, refl, sym, ap, ◌∙◌, arith, inl, inr, if◌then◌else◌}
+use Rattle.std.specs.List.{slice_get, AllByRecursion, AllZip, Contains}
 use Rattle.std.proofs.lemmas.List.{length-map, length-take-le}
 use Rattle.std.proofs.lemmas.Bool.{cases_lt}
 use Rattle.std.proofs.lemmas.Option.{slice_get_within}
@@ -9,7 +9,7 @@ use Rattle.mh_grammar.specs.declared.types.Symbol.TheVariants.{T, N}
 use Rattle.mh_grammar.specs.declared.edges.Edge.{Edge}
 use Rattle.mh_grammar.specs.Plain.{PlainGrammar}
 use Rattle.mh_grammar.specs.Edges.{IsRising, IsSymbolBefore, IsEdgeBefore, same_symbol, find_edge}
-use Rattle.mh_grammar.specs.ItemSets.{ItemSet, AreSame, Close, Moved, StartItems, Reach}
+use Rattle.mh_grammar.specs.ItemSets.{AreSame, Close, Moved, StartItems, Reach}
 use Rattle.mh_grammar.specs.Numbering as numbering
 use Rattle.mh_grammar.specs.Numbering.{Reached, AreDistinct, InOrder, Names, IsRowOf, IsNumbering}
 use Rattle.mh_grammar.proofs.Placing.{contains_at, at_contains}
@@ -17,8 +17,8 @@ use Rattle.mh_grammar.proofs.OneNumbering.{one_numbering, same_places, take_plac
 use Rattle.mh_items.specs.declared.kernels.Kernel.{Kernel}
 use Rattle.mh_items.specs.declared.kernels.Automaton.{Automaton}
 use Rattle.mh_items.specs.Kernels.{Holds, IsKernel}
-use Rattle.mh_items.specs.Automaton.{kernel_at, kernel_of, edges_at, leads_to, move_of, start_kernel, Moves}
-use Rattle.mh_canon.specs.Canonical.{HasItem, IsReach, IsCanonical, targets_of}
+use Rattle.mh_items.specs.Automaton.{kernel_at, kernel_of, edges_at, leads_to, move_of}
+use Rattle.mh_canon.specs.Canonical.{HasItem, IsCanonical, targets_of}
 use Rattle.mh_canon.proofs.Edging.{symbol_true, symbol_itself, found_edge}
 use Rattle.mh_canon.proofs.Finished.{kernel_get, kernel_got, edges_get}
 use Rattle.mh_canon.proofs.OneList.{one_list}
@@ -219,15 +219,15 @@ module _ (g : PlainGrammar) (a : Automaton) (h : IsCanonical g a) where
       );
       distinct = record {
         same = λ i j k e f.
-          let one : kernel_at a j ≡ kernel_at a i = kernel_got a j k f ∙ sym (kernel_got a i k e) in
-          h.distinct i j (slice_get_within a.kernels i k e) (slice_get_within a.kernels j k f) (rw one (λ p d look. ((λ x. x), (λ x. x))));
+            let one : kernel_at a j ≡ kernel_at a i = kernel_got a j k f ∙ sym (kernel_got a i k e) in
+            h.distinct i j (slice_get_within a.kernels i k e) (slice_get_within a.kernels j k f) (rw one (λ p d look. ((λ x. x), (λ x. x))));
       };
       len = rw length-map h.rows;
       rows = λ s k row e f.
-        let edges = map_get targets_of a.edges s row f in
-        let l = slice_get_within a.kernels s k e in
-        let same : edges_at a s ≡ edges.0 = (let c = edges_get a s (slice_get_within a.edges s edges.0 edges.1) in let d = edges.1 in cc) in
-        rw (← kernel_got a s k e, ← edges.2, ← same) (next_row s l);
+          let edges = map_get targets_of a.edges s row f in
+          let l = slice_get_within a.kernels s k e in
+          let same : edges_at a s ≡ edges.0 = (let c = edges_get a s (slice_get_within a.edges s edges.0 edges.1) in let d = edges.1 in cc) in
+          rw (← kernel_got a s k e, ← edges.2, ← same) (next_row s l);
       order = rw len h.breadth;
     }
 
@@ -275,11 +275,11 @@ pub one_canonical : (g : PlainGrammar) (a b : Automaton) → IsCanonical g a →
 one_canonical g a b h k =
     let n = length g.starts in
     let starts = take n a.kernels in
-    let first : (i : ℕ) → i < n → slice_get b.kernels i ≡ slice_get a.kernels i = λ i l. 
-      let s = h.starts i l in
-      let t = k.starts i l in
-      let one : kernel_at b i ≡ kernel_at a i = one_list g (kernel_at b i) (kernel_at a i) (k.each i t.0).0 (h.each i s.0).0 (same_trans (kernel_of b i) (StartItems i) (kernel_of a i) t.1 (same_sym (kernel_of a i) (StartItems i) s.1)) in
-      kernel_get b i t.0 ∙ ap Some one ∙ sym (kernel_get a i s.0) in
+    let first : (i : ℕ) → i < n → slice_get b.kernels i ≡ slice_get a.kernels i = λ i l.
+    let s = h.starts i l in
+    let t = k.starts i l in
+    let one : kernel_at b i ≡ kernel_at a i = one_list g (kernel_at b i) (kernel_at a i) (k.each i t.0).0 (h.each i s.0).0 (same_trans (kernel_of b i) (StartItems i) (kernel_of a i) t.1 (same_sym (kernel_of a i) (StartItems i) s.1)) in
+    kernel_get b i t.0 ∙ ap Some one ∙ sym (kernel_get a i s.0) in
     let begins : take n b.kernels ≡ starts = take_same n b.kernels a.kernels first in
     let enough : n ≤ length a.kernels = elim (cases_lt (length a.kernels) n) [ inl l ↦ absurd (omega (arith, (h.starts (length a.kernels) l).0)) | inr l ↦ l ] in
     let len : length starts ≡ n = length-take-le n a.kernels enough in

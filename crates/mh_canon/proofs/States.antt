@@ -1,20 +1,19 @@
 -- The kernels that were found are states of the collection; where they are too many, so are the sets that are reached.
-use Rattle.std.proofs.Common.{◌≡◌, ℕ, zero, suc, ◌+◌, ◌<◌, ◌≤◌, ◌↔◌, List, [], ◌∷◌, ◌++◌, Some, length, map, drop, get_or, refl, sym, ap, ◌∙◌, arith, inl, inr}
-use Rattle.std.specs.List.{slice_get, All, AllByRecursion, AllZip, Contains}
+use Rattle.std.proofs.Common.{◌≡◌, ℕ, zero, suc, ◌<◌, ◌≤◌, List, [], ◌∷◌, ◌++◌, Some, length, refl, sym, ap, ◌∙◌, arith, inl, inr}
+use Rattle.std.specs.List.{slice_get, All, AllByRecursion, AllZip}
 use Rattle.std.proofs.lemmas.List.{map-append, length_push}
 use Rattle.std.proofs.lemmas.List.Elements.{All-contains, All-from_recursion, recursion_from_All}
 use Rattle.std.proofs.lemmas.Option.{slice_get_within}
 use Rattle.mh_grammar.specs.declared.types.Symbol.{Symbol}
-use Rattle.mh_grammar.specs.declared.types.Look.{Look}
 use Rattle.mh_grammar.specs.declared.edges.Edge.{Edge}
 use Rattle.mh_grammar.specs.Plain.{PlainGrammar, rhs_of}
 use Rattle.mh_grammar.specs.ItemSets as items
 use Rattle.mh_grammar.specs.ItemSets.{ItemSet, AreSame, Close, Moved, Reach}
-use Rattle.mh_grammar.specs.Placed.{Placed, AllPlaced}
-use Rattle.mh_grammar.proofs.Placing.{at_contains, AllPlaced-push, AllPlaced-each, AllPlaced-distinct}
+use Rattle.mh_grammar.specs.Placed.{Placed}
+use Rattle.mh_grammar.proofs.Placing.{AllPlaced-push, AllPlaced-each, AllPlaced-distinct}
 use Rattle.mh_items.specs.declared.kernels.Kernel.{Kernel}
 use Rattle.mh_items.specs.Kernels.{Holds, IsKernel}
-use Rattle.mh_canon.specs.Canonical.{HasItem, IsReach, Walk, walk_of, IsWalk, IsOver, targets_of}
+use Rattle.mh_canon.specs.Canonical.{Walk, walk_of, IsWalk, IsOver, targets_of}
 use Rattle.mh_canon.specs.Moves.{IsBehindDot, IsState, AreStates, IsSource, IsMove, AreEdges}
 use Rattle.mh_canon.proofs.OneList.{one_list}
 use Rattle.mh_canon.proofs.Sets.{same_sym, same_trans, moved_same, close_same, place_holds, drop_from_get}
@@ -119,11 +118,11 @@ IsOver-states g kernels limit s o =
       walks = walks g kernels all;
       each = All-from_recursion (IsWalk g) (walks g kernels all) (walks_each g kernels all);
       distinct = λ i j v w e f same.
-        let a = walks_lead g kernels all i v e in
-        let b = walks_lead g kernels all j w f in
-        let sets : AreSame (Holds a.0) (Holds b.0) = same_trans (Holds a.0) (walk_of g v) (Holds b.0) a.2.same (same_trans (walk_of g v) (walk_of g w) (Holds b.0) same (same_sym (Holds b.0) (walk_of g w) b.2.same)) in
-        let one : b.0 ≡ a.0 = sym (one_list g a.0 b.0 a.2.state.kernel b.2.state.kernel sets) in
-        s.distinct.same i j a.0 a.1 (b.1 ∙ ap Some one);
+          let a = walks_lead g kernels all i v e in
+          let b = walks_lead g kernels all j w f in
+          let sets : AreSame (Holds a.0) (Holds b.0) = same_trans (Holds a.0) (walk_of g v) (Holds b.0) a.2.same (same_trans (walk_of g v) (walk_of g w) (Holds b.0) same (same_sym (Holds b.0) (walk_of g w) b.2.same)) in
+          let one : b.0 ≡ a.0 = sym (one_list g a.0 b.0 a.2.state.kernel b.2.state.kernel sets) in
+          s.distinct.same i j a.0 a.1 (b.1 ∙ ap Some one);
       over = omega (arith, walks_len g kernels all);
     }
 

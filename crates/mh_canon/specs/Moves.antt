@@ -1,10 +1,10 @@
 -- The states and edges that are found while the collection is made.
-use Rattle.std.specs.Prelude.{◌≡◌, ◌<◌, ℕ, suc, List, [], ◌∷◌, Some, length, map, slice_get}
+use Rattle.std.specs.Prelude.{◌≡◌, ◌<◌, ℕ, List, Some, length, map, slice_get}
 use Rattle.std.specs.List.{All, AllZip}
 use Rattle.mh_grammar.specs.declared.types.Symbol.{Symbol}
 use Rattle.mh_grammar.specs.declared.edges.Edge.{Edge}
 use Rattle.mh_grammar.specs.Plain.{PlainGrammar, rhs_of}
-use Rattle.mh_grammar.specs.ItemSets.{ItemSet, AreSame, Close, Moved, Reach}
+use Rattle.mh_grammar.specs.ItemSets.{AreSame, Close, Moved, Reach}
 use Rattle.mh_grammar.specs.Numbering.{AreDistinct}
 use Rattle.mh_grammar.specs.Placed.{AllPlaced}
 use Rattle.mh_items.specs.declared.kernels.Kernel.{Kernel}

@@ -127,10 +127,7 @@ fn place(kernels: &mut IndexSet<Kernel>, kernel: Kernel) -> Result<u32, StatesFa
 }
 
 /// Where a kernel stands; a new one is put behind the others.
-fn insert(
-    kernels: &mut IndexSet<Kernel>,
-    kernel: Kernel,
-) -> Result<usize, AllocFailed<Kernel>>
+fn insert(kernels: &mut IndexSet<Kernel>, kernel: Kernel) -> Result<usize, AllocFailed<Kernel>>
     ensures { IfOk result (Placed kernels.old.keys kernels.new.keys kernel) }
 {
     let (at, _) = kernels.insert_full(kernel)?;

@@ -3,6 +3,8 @@
 
 mod collection;
 mod symbols;
+#[cfg(test)]
+mod tests;
 mod uniqueness;
 
 pub use collection::{MAX_STATES, canonical};

@@ -21,14 +21,21 @@ fn symbol_behind(grammar: &Grammar, item: &KernelItem) -> Option<Symbol>
     if production < starts {
         return start_symbol(grammar.starts[production], item.dot);
     }
-    grammar.productions[production - starts].rhs.get(item.dot as usize).copied()
+    grammar.productions[production - starts]
+        .rhs
+        .get(item.dot as usize)
+        .copied()
 }
 
 /// The symbol at a place of the right side of a start production, which has one.
 fn start_symbol(start: u16, dot: u32) -> Option<Symbol>
     ensures { result ≡ slice_get (Symbol.N start ∷ []) dot }
 {
-    if dot == 0 { Some(Symbol::N(start)) } else { None }
+    if dot == 0 {
+        Some(Symbol::N(start))
+    } else {
+        None
+    }
 }
 
 /// The symbols behind the dots of a kernel, tokens rising and then nonterminals rising.

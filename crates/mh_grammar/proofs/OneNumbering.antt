@@ -1,10 +1,10 @@
 -- A numbering is the only one, where an item leads to one list of items.
-use Rattle.std.proofs.Common.{◌≡◌, ℕ, zero, suc, ◌+◌, ◌<◌, ◌≤◌, ◌⊎◌, List, [], ◌∷◌, ◌++◌, Option, Some, None, length, get_or, take, drop, refl, sym, ap, ◌∙◌, append_assoc, arith, inl, inr}
-use Rattle.std.specs.List.{slice_get, All, Contains, concat}
+use Rattle.std.proofs.Common.{◌≡◌, ℕ, zero, suc, ◌+◌, ◌<◌, ◌≤◌, List, [], ◌∷◌, ◌++◌, Some, length, take, drop, refl, sym, ap, ◌∙◌, append_assoc, arith, inl, inr}
+use Rattle.std.specs.List.{slice_get, Contains, concat}
 use Rattle.std.proofs.lemmas.Bool.{cases_lt}
 use Rattle.std.proofs.lemmas.List.{take_all, append-nil}
 use Rattle.std.proofs.lemmas.List.Elements.{Contains-append_left, Contains-append_right}
-use Rattle.std.proofs.lemmas.Option.{slice_get-get_or, slice_get_within}
+use Rattle.std.proofs.lemmas.Option.{slice_get_within}
 use Rattle.mh_grammar.specs.Numbering as numbering
 use Rattle.mh_grammar.specs.Numbering.{Reached, AreDistinct, InOrder, Names, IsRowOf, IsNumbering}
 use Rattle.mh_grammar.proofs.Placing.{contains_at, at_contains, InOrder-append}
@@ -168,10 +168,10 @@ module _ {X : Type 0} (Next : X → List X → Type 0) (one : (x : X) (a b : Lis
       first = refl;
       rows = refl;
       same = λ i j.
-        let x = at_place starts i j in
-        let a = take_place (length starts) xs i x.0 (rw w.begins x.1) in
-        let b = take_place (length starts) ys i x.0 (rw v.begins x.1) in
-        a ∙ sym b;
+          let x = at_place starts i j in
+          let a = take_place (length starts) xs i x.0 (rw w.begins x.1) in
+          let b = take_place (length starts) ys i x.0 (rw v.begins x.1) in
+          a ∙ sym b;
     }
     agree (suc s) l =
         let before = agree s (omega arith) in

@@ -1,8 +1,7 @@
-use Rattle.std.proofs.Common.{◌≡◌, ◌<◌, ◌≤◌, length, Some, refl, sym, ap, ◌∙◌, arith}
+use Rattle.std.proofs.Common.{◌≡◌, ◌<◌, length, Some, sym, ap, ◌∙◌, arith}
 use Rattle.std.specs.List.{slice_get}
 use Rattle.std.proofs.lemmas.Option.{slice_get-get_or}
 use Rattle.mh_grammar.specs.Plain.{plain_of}
-use Rattle.mh_canon.specs.Canonical.{IsCanonical}
 use Rattle.mh_canon.proofs.Building.{Building-start, Building-source, Building-step}
 use Rattle.mh_canon.proofs.Finished.{IsCanonical-done}
 use Rattle.mh_canon.proofs.Meaning.{IsAutomaton-canonical, IsOver-canonical}

@@ -1,11 +1,9 @@
-use Rattle.std.proofs.Common.{◌≡◌, ◌≤◌, ◌+◌, ◌++◌, ◌∷◌, [], take, length, get_or, Err, ap, arith}
-use Rattle.std.specs.List.{All}
+use Rattle.std.proofs.Common.{◌≡◌, ◌+◌, get_or, Err, ap}
 use Rattle.std.proofs.lemmas.List.{take_more}
 use Rattle.std.proofs.lemmas.List.Elements.{All-take}
 use Rattle.mh_grammar.specs.declared.types.Symbol.{Symbol}
 use Rattle.mh_grammar.specs.declared.types.Symbol.TheVariants.{T}
 use Rattle.mh_grammar.specs.Plain.{plain_of}
-use Rattle.mh_items.specs.declared.kernels.StatesFault.{StatesFault}
 use Rattle.mh_items.specs.declared.kernels.StatesFault.TheVariants.{TooManyStates}
 use Rattle.mh_canon.specs.Moves.{IsBehindDot, IsMove}
 use Rattle.mh_canon.proofs.States.{AreEdges-push, IsOver-placed, Placed-few}

@@ -1,6 +1,3 @@
-use Rattle.std.proofs.Common.{◌≡◌}
-use Rattle.mh_grammar.specs.Placed.{Placed}
-use Rattle.mh_items.specs.Automaton.{start_kernel}
 use Rattle.mh_canon.proofs.Building.{AreStarts-none, AreStarts-step}
 use Rattle.mh_canon.proofs.collection.start_kernels.Goals as goal
 

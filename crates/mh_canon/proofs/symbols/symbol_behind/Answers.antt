@@ -1,6 +1,6 @@
-use Rattle.std.proofs.Common.{◌≡◌, ◌<◌, ◌≤◌, length, refl, sym, ap, ◌∙◌, arith}
+use Rattle.std.proofs.Common.{◌<◌, ◌≤◌, length, sym, ap, ◌∙◌, arith}
 use Rattle.std.specs.List.{slice_get}
-use Rattle.mh_grammar.specs.Plain.{plain_of, rhs_of}
+use Rattle.mh_grammar.specs.Plain.{plain_of}
 use Rattle.mh_canon.proofs.Behind.{rhs_start, rhs_ordinary}
 use Rattle.mh_canon.proofs.symbols.symbol_behind.Goals as goal
 
