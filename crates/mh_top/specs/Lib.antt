@@ -1,0 +1,3 @@
+pub mod PlainLexemes
+pub mod PlainText
+pub mod PlainReader
