@@ -1,0 +1,5 @@
+pub mod PlainLexemes
+pub mod PlainText
+pub mod PlainReader
+pub mod PlainGrammars
+pub mod Places
