@@ -1,21 +1,13 @@
 -- Items that are placed, and what a breadth-first numbering keeps while it is made.
-<<<<<<< HEAD
 use Rattle.std.proofs.Common.{◌≡◌, ℕ, zero, suc, ◌+◌, ◌<◌, ◌≤◌, ◌⊎◌, Bool, true, false, cond, Decides, List, [], ◌∷◌, ◌++◌, Some, length, get_or, refl, sym, ap, ◌∙◌, arith, inl, inr, append_assoc}
 use Rattle.std.specs.List.{slice_get, list_any, All, Contains, concat}
-=======
-use Rattle.std.proofs.Common.{◌≡◌, ℕ, zero, suc, ◌+◌, ◌<◌, ◌≤◌, ◌⊎◌, List, [], ◌∷◌, ◌++◌, Some, length, get_or, refl, sym, ap, ◌∙◌, arith, inl, inr, append_assoc}
-use Rattle.std.specs.List.{slice_get, All, Contains, concat}
->>>>>>> 32c5cc60bac11f7e038ef4243714f1e6c29c840b
 use Rattle.std.proofs.lemmas.Bool.{cases_eq}
 use Rattle.std.proofs.lemmas.List.{get_or_append_left, get_or_push, length_push, append-nil, length-append}
 use Rattle.std.proofs.Math.Seq.{take-append_seam}
 use Rattle.std.proofs.lemmas.List.Elements.{All-push, Contains-append_left}
 use Rattle.std.proofs.lemmas.List.Folds.{concat-append}
 use Rattle.std.proofs.lemmas.Option.{slice_get-get_or, get_or_from_slice_get, slice_get_within}
-<<<<<<< HEAD
 use Rattle.std.proofs.lemmas.Map.Keys.{any_passes_from_place}
-=======
->>>>>>> 32c5cc60bac11f7e038ef4243714f1e6c29c840b
 use Rattle.mh_grammar.specs.Numbering as numbering
 use Rattle.mh_grammar.specs.Numbering.{Reached, AreDistinct, InOrder, Names, IsRowOf, IsNumbering}
 use Rattle.mh_grammar.specs.Placed.{Placed, AllPlaced}
@@ -106,7 +98,6 @@ module _ {X : Type 0} where
     | inr g ↦ inr (g.1, rw (ap length g.0 ∙ length_push old x) at rest)
   ]
 
-<<<<<<< HEAD
 -- what is inserted into a set in the order of insertion is placed
 pub Placed-insert : {X : Type 0} (E : X → X → Bool) → (old new : List X) (x : X) (n : ℕ) → new ≡ cond (list_any (E x) old) old (old ++ x ∷ []) → ((a b : X) → Decides (E a b) (a ≡ b)) → (k : X) → slice_get new n ≡ Some k → E x k ≡ true → Placed old new x n
 Placed-insert E old new x n e d k at same = go (list_any (E x) old) refl e
@@ -128,8 +119,6 @@ Placed-insert E old new x n e d k at same = go (list_any (E x) old) refl e
       );
     }
 
-=======
->>>>>>> 32c5cc60bac11f7e038ef4243714f1e6c29c840b
 pub InOrder-append : (k : ℕ) (a b : List ℕ) (m n : ℕ) → InOrder k a m → InOrder m b n → InOrder k (a ++ b) n
 InOrder-append k [] b m n p q = rw p q
 InOrder-append k (t ∷ a) b m n (inl p) q = inl (p.0, InOrder-append k a b m n p.1 q)
