@@ -1,5 +1,5 @@
 //! Laws of runs: empty calls that tell them to contracts.
-ghost use Rattle.std.specs.Prelude.{◌≡◌, ◌<◌, ◌++◌, List, ℕ, [], Option, length};
+ghost use Rattle.std.specs.Prelude.{◌≡◌, ◌<◌, ◌+◌, ◌++◌, List, ℕ, [], Option, length, take};
 ghost use Rattle.mh_tables.specs.Halting.{LoopsAt};
 ghost use Rattle.mh_tables.specs.Run.{VerdictOf, Ending, Rejected, after, initial};
 ghost use Rattle.mh_tables.specs.RunTrees.{Stands, trees_after};
@@ -15,6 +15,11 @@ impl Table {
     /// A sentence that is refused is refused at the same place, in the same state, with any tokens behind it.
     pub fn refusal_stays(&self)
         ensures { (start : ℕ) (w v : List ℕ) (at s : ℕ) → VerdictOf self.now start w (Rejected at s) → VerdictOf self.now start (w ++ v) (Rejected at s) }
+    {}
+
+    /// It is refused so without the tokens behind the refused one, too (Pottier 2016).
+    pub fn refusal_is_cut(&self)
+        ensures { (start : ℕ) (w : List ℕ) (at s : ℕ) → VerdictOf self.now start w (Rejected at s) → (at < length w) × VerdictOf self.now start (take (at + 1) w) (Rejected at s) }
     {}
 
     /// At each moment of a run the trees over its stack are trees for the symbols of the edges along it, and spell
