@@ -1,13 +1,15 @@
 //! Verdicts on the table of `s: A EOF`.
-ghost use Rattle.std.specs.Prelude.{◌≡◌, ◌∷◌, [], Some, None, length, IfOk, List};
+ghost use Rattle.std.specs.Prelude.{◌≡◌, ◌<◌, ◌∷◌, [], Some, None, length, IfOk, IsTrue, List, All};
 ghost use Rattle.mh_grammar.specs.Plain.{plain_of};
 ghost use Rattle.mh_tables.specs.Examples.{pair_grammar, pair_states, pair_table};
 
 use crate::{Verdict, verdict};
 use mh_grammar::{
-    Edge, Grammar, Memory, NontermInfo, Production, Sequence, Symbol, TokenInfo, from_bytes,
+    Edge, Grammar, Memory, NontermInfo, Production, Sequence, Symbol, Token, TokenInfo, from_bytes,
 };
-use mh_tables::{Action, Fallback, Place, StateParts, Table, check_halts, table_of};
+use mh_tables::{
+    Action, Fallback, HaltFault, Halting, Place, StateParts, Table, check_halts, table_of,
+};
 use std::alloc::Global;
 use std::test::Fail;
 
@@ -116,34 +118,72 @@ fn pair_states_of(alloc: Global) -> Result<Vec<StateParts>, Memory>
     Ok(vec![in alloc; begun, half, accepting, whole]?)
 }
 
+fn halting(alloc: Global) -> Result<Halting, HaltFault>
+    ensures { IfOk result (λ halting. halting ≡ pair_table) }
+{
+    match pair(alloc) {
+        Ok(table) => check_halts(alloc, table),
+        Err(_) => Err(HaltFault::Memory),
+    }
+}
+
+fn are_known(sentence: &[Token]) -> bool
+    ensures { IsTrue result → All (λ z. z < 2) sentence.now }
+{
+    sentence.iter().all(|token| *token < 2)
+}
+
+fn verdict_of(alloc: Global, halting: &Halting, sentence: &[Token]) -> Option<Verdict>
+    requires { halting.now ≡ pair_table }
+{
+    if sentence.len() < 10 && are_known(sentence) {
+        verdict(alloc, halting, 0, sentence).ok()
+    } else {
+        None
+    }
+}
+
 #[test]
-fn sentences_have_verdicts(rt: HostRuntime) -> Result<(), Fail> {
+fn sentences_are_accepted(rt: HostRuntime) -> Result<(), Fail> {
     let alloc = rt.alloc();
-    let table = pair(alloc).map_err(|_| "memory")?;
-    let halting = check_halts(alloc, table).map_err(|_| "it halts")?;
+    let halting = halting(alloc).map_err(|_| "it halts")?;
     assert_eq!(rt;
-        verdict(alloc, &halting, 0, &[0, 1]),
-        Ok(Verdict::Accept { read: 2 })
+        verdict_of(alloc, &halting, &[0, 1]),
+        Some(Verdict::Accept { read: 2 })
     );
     assert_eq!(rt;
-        verdict(alloc, &halting, 0, &[0]),
-        Ok(Verdict::Overshoot { state: 1 })
+        verdict_of(alloc, &halting, &[0, 1, 0]),
+        Some(Verdict::Accept { read: 2 })
+    );
+    Ok(())
+}
+
+#[test]
+fn sentences_overshoot(rt: HostRuntime) -> Result<(), Fail> {
+    let alloc = rt.alloc();
+    let halting = halting(alloc).map_err(|_| "it halts")?;
+    assert_eq!(rt;
+        verdict_of(alloc, &halting, &[]),
+        Some(Verdict::Overshoot { state: 0 })
     );
     assert_eq!(rt;
-        verdict(alloc, &halting, 0, &[0, 0]),
-        Ok(Verdict::Reject { at: 1, state: 1 })
+        verdict_of(alloc, &halting, &[0]),
+        Some(Verdict::Overshoot { state: 1 })
+    );
+    Ok(())
+}
+
+#[test]
+fn sentences_are_refused(rt: HostRuntime) -> Result<(), Fail> {
+    let alloc = rt.alloc();
+    let halting = halting(alloc).map_err(|_| "it halts")?;
+    assert_eq!(rt;
+        verdict_of(alloc, &halting, &[1]),
+        Some(Verdict::Reject { at: 0, state: 0 })
     );
     assert_eq!(rt;
-        verdict(alloc, &halting, 0, &[1]),
-        Ok(Verdict::Reject { at: 0, state: 0 })
-    );
-    assert_eq!(rt;
-        verdict(alloc, &halting, 0, &[]),
-        Ok(Verdict::Overshoot { state: 0 })
-    );
-    assert_eq!(rt;
-        verdict(alloc, &halting, 0, &[0, 1, 0]),
-        Ok(Verdict::Accept { read: 2 })
+        verdict_of(alloc, &halting, &[0, 0]),
+        Some(Verdict::Reject { at: 1, state: 1 })
     );
     Ok(())
 }
