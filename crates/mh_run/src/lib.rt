@@ -7,3 +7,6 @@ mod settle;
 
 pub use outcome::Verdict;
 pub use runs::verdict;
+
+#[cfg(test)]
+mod tests;

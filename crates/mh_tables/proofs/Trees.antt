@@ -11,7 +11,7 @@ use Rattle.mh_tables.specs.Table.{TableData, edge_of, fallback_of}
 use Rattle.mh_grammar.specs.declared.types.Symbol.TheVariants.{N, T}
 use Rattle.mh_tables.specs.declared.parts.Fallback.TheVariants as fallbacks
 use Rattle.mh_tables.specs.Facts.{Facts, InCore, ReducesBy as Reducing}
-use Rattle.mh_tables.specs.Run.{top_of, Config, Move, Accepts, Asks, Refuses, Shifts, Reduces, move_of, step, step_by, next_of, after, IsRunStack}
+use Rattle.mh_tables.specs.Run.{top_of, initial, Config, Move, Accepts, Asks, Refuses, Shifts, Reduces, move_of, step, step_by, next_of, after, IsRunStack}
 use Rattle.mh_tables.proofs.Reductions.{Reduced, reduced, reduces_from_move, shifts_from_move, no_shift_at_end}
 use Rattle.mh_tables.proofs.Ending.{step_moves}
 use Rattle.mh_tables.specs.RunTrees.{RunTree, Leaf, Node, IsRunTree, IsRunForest, Grown, forest_of, yield_of, forest_yield, yields, Stands, grow, trees_after}
@@ -243,3 +243,14 @@ stands t f w (suc n) c trees h =
     let m : Move = move_of t (top_of c.stack) c.left in
     let one = stands_by t f w c.stack c.read c.left trees m refl h in
     stands t f w n (next_of c (step t c)) (grow t m c.left trees) (rw (step_moves t c m refl) one)
+
+-- as it does where it begins
+stands_first : (t : TableData) (start : ℕ) (w : List ℕ) → start < length t.grammar.starts → Stands t w (initial start w) []
+stands_first t start w lt = record {
+  grown = record { start = lt; len = refl; each = λ k l. absurd (omega arith) };
+  spells = refl;
+  count = refl;
+}
+
+pub stands_from_start : (t : TableData) (f : Facts t) (start n : ℕ) (w : List ℕ) → start < length t.grammar.starts → Stands t w (after t n (initial start w)) (trees_after t n (initial start w) [])
+stands_from_start t f start n w lt = stands t f w n (initial start w) [] (stands_first t start w lt)

@@ -1,7 +1,7 @@
 //! A table on which every run ends.
-ghost use Rattle.std.specs.Prelude.{◌≡◌, ◌<◌, List, ℕ, Option, length, IfOk, IfErr, OnOk};
+ghost use Rattle.std.specs.Prelude.{◌≡◌, ◌<◌, List, ℕ, length, IfOk, IfErr, OnOk};
 ghost use Rattle.std.specs.List.{AllByRecursion};
-ghost use Rattle.mh_tables.specs.Halting.{HaltingFacts, Halts, LoopsAt};
+ghost use Rattle.mh_tables.specs.Halting.{HaltingFacts, Halts};
 ghost use Rattle.mh_tables.specs.Relative.{FaultOf, IsRefused};
 ghost use Rattle.mh_tables.specs.Run.{VerdictOf, Ending};
 
@@ -42,18 +42,6 @@ impl Halting {
     {
         let _table = &self.table;
     }
-}
-
-impl Table {
-    /// A start has at most one verdict on a sentence: an empty call that tells it to contracts.
-    pub fn one_verdict(&self)
-        ensures { (start : ℕ) (w : List ℕ) (a b : Ending) → VerdictOf self.now start w a → VerdictOf self.now start w b → a ≡ b }
-    {}
-
-    /// At most one relative run is the first that makes more than 10,000 reductions: an empty call that tells it to contracts.
-    pub fn one_loop(&self)
-        ensures { (below : Option ℕ) (s : ℕ) (look below' : Option ℕ) (s' : ℕ) (look' : Option ℕ) → LoopsAt self.now below s look → LoopsAt self.now below' s' look' → (below ≡ below') × (s ≡ s') × (look ≡ look') }
-    {}
 }
 
 /// The table, where no relative run on it makes more than 10,000 reductions. Else the first that does is answered, and

@@ -2,6 +2,7 @@
 #![tactic(auto)]
 
 mod halting;
+mod laws;
 mod moves;
 mod parts;
 mod relative;
