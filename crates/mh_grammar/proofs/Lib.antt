@@ -1,0 +1,3 @@
+pub mod OneNumbering
+pub mod Pigeon
+pub mod Placing

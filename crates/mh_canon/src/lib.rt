@@ -1,0 +1,9 @@
+//! Knuth's canonical collection of LR(1) item sets (Knuth 1965), numbered breadth first.
+#![tactic(auto)]
+
+mod collection;
+mod symbols;
+mod uniqueness;
+
+pub use collection::{MAX_STATES, canonical};
+pub use uniqueness::is_one_automaton;

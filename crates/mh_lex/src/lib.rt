@@ -1,0 +1,16 @@
+//! The lexemes of a grammar file.
+#![tactic(auto)]
+
+mod code;
+mod fronts;
+mod items;
+mod kinds;
+mod laws;
+mod scanning;
+
+pub use kinds::{Kind, Lexeme, SyntaxFault};
+pub use laws::{lexed_apart, lexed_once, lexed_texts};
+pub use scanning::lex;
+
+#[cfg(test)]
+mod tests;
