@@ -104,7 +104,7 @@ tokens_rising s z (cell ∷ cells) =
     below s z (z + 1 + i.place) c d f.state i.found.state f.look i.found.look (omega arith))
 
 -- the kind of a cell is that of its conflict
-unsolved_conflict : (by : ℕ → Comparison) (R : Action → Type 0) → IsUnsolved by R → IsConflict R
+pub unsolved_conflict : (by : ℕ → Comparison) (R : Action → Type 0) → IsUnsolved by R → IsConflict R
 unsolved_conflict by R (inl u) = record { one = Shift u.target; other = Reduce u.production; raw_one = u.shift; raw_other = u.reduce; two = λ e. cc }
 unsolved_conflict by R (inr t) = record { one = Reduce t.one; other = Reduce t.other; raw_one = t.stays_one.0; raw_other = t.stays_other.0; two = λ e. let same : t.one ≡ t.other = cc in let b = t.below in omega arith }
 

@@ -1,5 +1,5 @@
 -- Cells one after another.
-use Rattle.std.proofs.Common.{◌≡◌, ℕ, ◌<◌, ◌+◌, ◌++◌, List, [], ◌∷◌, length, take, get_or, Option, None, ap, ◌∙◌, sym, arith, inl, inr, length-append}
+use Rattle.std.proofs.Common.{◌≡◌, ℕ, ◌<◌, ◌+◌, ◌++◌, List, [], ◌∷◌, length, take, get_or, Option, Some, None, ap, ◌∙◌, sym, arith, inl, inr, length-append}
 use Rattle.std.proofs.lemmas.Bool.{cases_lt}
 use Rattle.std.proofs.lemmas.List.{get_or_push, get_or_append_left, get_or_default}
 use Rattle.mh_grammar.specs.declared.types.Grammar.{Grammar}
@@ -7,7 +7,11 @@ use Rattle.mh_grammar.specs.declared.types.Look.TheVariants.{Token, End}
 use Rattle.mh_grammar.specs.declared.edges.Edge.{Edge}
 use Rattle.mh_grammar.specs.declared.types.Symbol.TheVariants.{T}
 use Rattle.mh_grammar.specs.Edges.{find_edge}
-use Rattle.mh_tables.specs.declared.parts.Action.TheVariants.{Reduce}
+use Rattle.mh_tables.specs.declared.parts.Action.{Action}
+use Rattle.mh_tables.specs.declared.parts.Action.TheVariants.{Reduce, Refuse}
+use Rattle.std.specs.Prelude.{MatchOption}
+use Rattle.mh_resolve.specs.declared.kinds.Mode.{Mode}
+use Rattle.mh_resolve.specs.declared.kinds.Mode.TheVariants.{Merged}
 use Rattle.mh_items.specs.declared.kernels.KernelItem.{KernelItem}
 use Rattle.mh_items.specs.Kernels.{Holds}
 use Rattle.mh_resolve.specs.declared.cells.Cell.{Cell}
@@ -16,7 +20,7 @@ use Rattle.mh_resolve.specs.declared.counting.Tallies.{Tallies}
 use Rattle.mh_resolve.specs.Levels.{compared}
 use Rattle.mh_resolve.specs.Tallies.{empty_tally, cell_from}
 use Rattle.mh_resolve.specs.Counting.{AreShifts, AreTallied}
-use Rattle.mh_resolve.specs.Rows.{listed, AreCells, AreSettled, IsDecidedOn, HasReduction, no_cell}
+use Rattle.mh_resolve.specs.Rows.{listed, AreCells, AreSettled, IsDecidedOn, HasReduction, IsChoice, no_cell}
 use Rattle.mh_resolve.proofs.Deciding.{decided}
 use Rattle.mh_resolve.proofs.Places.{contains_more}
 
@@ -66,3 +70,8 @@ cells_are g items edges shifts t cells s a c = record {
 
 pub last_is : (g : Grammar) (items : List KernelItem) (edges : List Edge) (shifts : List (Option ℕ)) (t : Tallies) (cell : Cell) → AreTallied g (Holds (record { items = items })) shifts t → cell ≡ cell_from t.last None → IsDecidedOn (listed g items edges) End cell
 last_is g items edges shifts t cell a e = rw e (decided (compared g End) g (Holds (record { items = items })) End None t.last (a.each End tt))
+
+-- in merged mode, with nothing at the end of the stream
+pub choice_of : (kept : Action) (mode : Mode) (cells : List Cell) (found : Option ℕ) → kept ≡ Refuse → mode ≡ Merged → MatchOption found ((p : ℕ) → HasReduction cells p → ⊥) (HasReduction cells) → MatchOption found ((p : ℕ) → IsChoice kept mode cells p → ⊥) (IsChoice kept mode cells)
+choice_of kept mode cells None e f m = λ p c. elim c [ inl r ↦ (let no : Refuse ≡ Reduce p = sym e ∙ r in cc) | inr x ↦ m p x.2 ]
+choice_of kept mode cells (Some p) e f m = inr (e, f, m)

@@ -36,7 +36,7 @@ unique s look Refuse b t u = absurd t
 unique s look (Shift i) Refuse t u = absurd u
 unique s look (Reduce p) Refuse t u = absurd u
 
-takes_stays : (s : State) (look : Look) (a : Action) → TakesOn s look a → Stays (compared s.grammar look) (Raw s look) a
+pub takes_stays : (s : State) (look : Look) (a : Action) → TakesOn s look a → Stays (compared s.grammar look) (Raw s look) a
 takes_stays s look (Shift i) t = t
 takes_stays s look (Reduce p) t = t.0
 takes_stays s look Refuse t = t

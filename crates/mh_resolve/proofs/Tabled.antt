@@ -125,7 +125,7 @@ by_fallback g a mode s p (Some (fallbacks.Reduce q)) e h =
     let same : q ≡ p = cc in
     record { ordinary = rw (← same) h.0; look = h.1.look; complete = rw (← same) (kept_complete (state_of g a s) h.1.look q h.1.some) }
 
-named_ordinary : (g : Grammar) (p rank : ℕ) → error_rank g p ≡ Some rank → length g.starts ≤ p
+pub named_ordinary : (g : Grammar) (p rank : ℕ) → error_rank g p ≡ Some rank → length g.starts ≤ p
 unfolding error_rank
 named_ordinary g p rank e =
     elim (cases_lt p (length g.starts)) [

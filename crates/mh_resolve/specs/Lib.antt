@@ -1,4 +1,5 @@
 pub mod Cells
+pub mod Clear
 pub mod Conflicts
 pub mod Counting
 pub mod Levels

@@ -56,10 +56,14 @@ pub record HasReduction (cells : List Cell) (p : ℕ) : Type 0 where
 abbrev pub IsFit : ℕ → Cell → Type 0
 IsFit p cell = (cell.action ≡ Reduce p) ⊎ ((cell.action ≡ Refuse) × (cell.raw ≡ false))
 
--- each cell fits p, and the end of the stream reduces it, or has no action in merged mode and a token reduces it
+-- the end of the stream reduces p, or it has no action in merged mode and a token reduces p
+abbrev pub IsChoice : Action → Mode → List Cell → ℕ → Type 0
+IsChoice kept mode cells p = (kept ≡ Reduce p) ⊎ ((kept ≡ Refuse) × (mode ≡ Merged) × HasReduction cells p)
+
+-- and each cell fits it
 pub record IsDefaultIn (kept : Action) (mode : Mode) (cells : List Cell) (p : ℕ) : Type 0 where
   pub all : All (IsFit p) cells
-  pub last : (kept ≡ Reduce p) ⊎ ((kept ≡ Refuse) × (mode ≡ Merged) × HasReduction cells p)
+  pub last : IsChoice kept mode cells p
 
 abbrev pub IsLooked : KernelItem → Type 0
 IsLooked item = 0 < length item.looks

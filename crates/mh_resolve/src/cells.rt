@@ -1,7 +1,7 @@
 //! One cell of a state.
 ghost use Rattle.std.specs.Prelude.{◌≡◌};
 ghost use Rattle.mh_resolve.specs.Levels.{compared};
-ghost use Rattle.mh_resolve.specs.Tallies.{empty_tally, tally_with, weighed, cell_from};
+ghost use Rattle.mh_resolve.specs.Tallies.{empty_tally, lower, is_other, tally_with, weighed, cell_from};
 
 use crate::kinds::{Comparison, ConflictKind};
 use crate::levels::compare_on;
@@ -40,54 +40,52 @@ pub fn new_tally() -> Tally
     }
 }
 
+fn lower_of(lowest: Option<u32>, production: u32) -> u32
+    ensures { result ≡ lower lowest production }
+{
+    match lowest {
+        None => production,
+        Some(lowest) => {
+            if production < lowest {
+                production
+            } else {
+                lowest
+            }
+        }
+    }
+}
+
+// Whether there is a lowest one, and another.
+fn is_another(lowest: Option<u32>, production: u32) -> bool
+    ensures { result ≡ is_other lowest production }
+{
+    match lowest {
+        None => false,
+        Some(lowest) => production < lowest || lowest < production,
+    }
+}
+
 // One more reduction, with how it compares.
 fn count(tally: Tally, production: u32, comparison: Comparison) -> Tally
     ensures { result ≡ tally_with tally production comparison }
 {
+    let tally = Tally {
+        some: true,
+        ..tally
+    };
     match comparison {
-        Comparison::Reduces => match tally.lowest {
-            None => Tally {
-                lowest: Some(production),
-                some: true,
-                shifts: false,
-                ..tally
-            },
-            Some(lowest) => {
-                if production < lowest {
-                    Tally {
-                        lowest: Some(production),
-                        some: true,
-                        two: true,
-                        shifts: false,
-                        ..tally
-                    }
-                } else if lowest < production {
-                    Tally {
-                        some: true,
-                        two: true,
-                        shifts: false,
-                        ..tally
-                    }
-                } else {
-                    Tally {
-                        some: true,
-                        shifts: false,
-                        ..tally
-                    }
-                }
-            }
-        },
-        Comparison::Shifts => Tally {
-            some: true,
+        Comparison::Reduces => Tally {
+            lowest: Some(lower_of(tally.lowest, production)),
+            two: is_another(tally.lowest, production) || tally.two,
+            shifts: false,
             ..tally
         },
+        Comparison::Shifts => tally,
         Comparison::Neither => Tally {
-            some: true,
             shifts: false,
             ..tally
         },
         Comparison::Unknown => Tally {
-            some: true,
             unknown: true,
             ..tally
         },

@@ -13,7 +13,7 @@ mod states;
 
 pub use conflicts::Conflict;
 pub use kinds::{ConflictKind, Mode};
-pub use resolution::{conflicts_are_one, resolve, table_is_one};
+pub use resolution::{conflicts_are_one, conflicts_tell, resolve, table_acts, table_is_one};
 
 #[cfg(test)]
 mod tests;

@@ -1,14 +1,15 @@
 //! The table of an automaton, and its conflicts.
-ghost use Rattle.std.specs.Prelude.{◌≡◌, ◌<◌, ℕ, length, IfOk, Some};
+ghost use Rattle.std.specs.Prelude.{◌≡◌, ◌<◌, ◌↔◌, ℕ, [], length, IfOk, Some};
 ghost use Rattle.mh_grammar.specs.Plain.{plain_of, IsInRange};
 ghost use Rattle.mh_grammar.specs.Edges.{IsRising, IsEdgeBefore};
 ghost use Rattle.mh_items.specs.Firsts.{AreFirsts};
 ghost use Rattle.mh_items.specs.Kernels.{IsKernel};
 ghost use Rattle.mh_items.specs.Automaton.{IsAutomaton};
-ghost use Rattle.mh_tables.specs.Table.{table_data};
+ghost use Rattle.mh_tables.specs.Table.{table_data, state_at};
 ghost use Rattle.mh_tables.specs.Facts.{Facts};
-ghost use Rattle.mh_resolve.specs.States.{IsResolved, AreResolved, IsTableOf};
+ghost use Rattle.mh_resolve.specs.States.{state_of, IsResolved, AreResolved, IsTableOf};
 ghost use Rattle.mh_resolve.specs.Conflicts.{AreConflicts};
+ghost use Rattle.mh_resolve.specs.Clear.{HasNoConflicts, ActsWithin, ActsClearly};
 ghost use Rattle.mh_resolve.specs.Whole.{closed_state, IsRow, AreEdgesKnown};
 
 use crate::conflicts::{Conflict, add_conflicts};
@@ -129,4 +130,28 @@ pub fn conflicts_are_one(
     let _automaton = automaton;
     let _left = left;
     let _right = right;
+}
+
+/// The list of conflicts is empty exactly where no state has one: an empty call that says so to contracts.
+pub fn conflicts_tell(grammar: &Grammar, automaton: &Automaton, conflicts: &[Conflict])
+    requires { AreConflicts grammar.now automaton.now conflicts.now }
+    ensures { (conflicts.now ≡ []) ↔ HasNoConflicts grammar.now automaton.now }
+{
+    let _grammar = grammar;
+    let _automaton = automaton;
+    let _conflicts = conflicts;
+}
+
+/// A table shifts along its automaton's edges and reduces what is complete; without conflicts it takes every raw action:
+/// an empty call that says so to contracts.
+pub fn table_acts(grammar: &Grammar, automaton: &Automaton, mode: Mode, table: &Table)
+    requires automaton { IsAutomaton (plain_of grammar.now) automaton.now }
+    requires table { IsTableOf grammar.now automaton.now mode table.now }
+    ensures within { (s : ℕ) → s < length automaton.now.kernels → ActsWithin (state_of grammar.now automaton.now s) (state_at table.now s) }
+    ensures clearly { HasNoConflicts grammar.now automaton.now → (s : ℕ) → s < length automaton.now.kernels → ActsClearly (state_of grammar.now automaton.now s) (state_at table.now s) }
+{
+    let _grammar = grammar;
+    let _automaton = automaton;
+    let _mode = mode;
+    let _table = table;
 }

@@ -1,7 +1,7 @@
 //! The cells of a state together: the end of the stream, and the default.
 ghost use Rattle.std.specs.Prelude.{◌≡◌, ◌≢◌, ◌<◌, ◌↔◌, ℕ, length, IsTrue, IfOk, MatchOption};
 ghost use Rattle.std.specs.List.{All};
-ghost use Rattle.mh_resolve.specs.Rows.{AreSettled, IsStreamIn, IsDefaultIn, IsOtherwise, HasReduction, IsFit};
+ghost use Rattle.mh_resolve.specs.Rows.{AreSettled, IsStreamIn, IsChoice, IsDefaultIn, IsOtherwise, HasReduction, IsFit};
 
 use crate::cells::{Cell, Tally, settle};
 use crate::kinds::Mode;
@@ -80,28 +80,23 @@ fn all_fit(cells: &[Cell], production: u32) -> bool
     cells.iter().all(|cell| fits(cell, production))
 }
 
+// The only production that a default may reduce.
+fn only_choice(cells: &[Cell], kept: Action, mode: Mode) -> Option<u32>
+    ensures { MatchOption result ((p : ℕ) → IsChoice kept mode cells.now p → ⊥) (IsChoice kept mode cells.now) }
+{
+    match (kept, mode) {
+        (Action::Reduce(production), _) => Some(production),
+        (Action::Refuse, Mode::Merged) => first_reduction(cells),
+        _ => None,
+    }
+}
+
 /// The production of the default, where the end of the stream keeps an action.
 pub fn default_of(cells: &[Cell], kept: Action, mode: Mode) -> Option<u32>
     ensures { MatchOption result ((p : ℕ) → IsDefaultIn kept mode cells.now p → ⊥) (IsDefaultIn kept mode cells.now) }
 {
-    match (kept, mode) {
-        (Action::Reduce(production), _) => {
-            if all_fit(cells, production) {
-                Some(production)
-            } else {
-                None
-            }
-        }
-        (Action::Refuse, Mode::Merged) => match first_reduction(cells) {
-            Some(production) => {
-                if all_fit(cells, production) {
-                    Some(production)
-                } else {
-                    None
-                }
-            }
-            None => None,
-        },
+    match only_choice(cells, kept, mode) {
+        Some(production) if all_fit(cells, production) => Some(production),
         _ => None,
     }
 }
