@@ -4,3 +4,4 @@ pub mod Takes
 pub mod Spans
 pub mod LaidOut
 pub mod Spelled
+pub mod Always

@@ -8,10 +8,10 @@ use Rattle.mh_lex.specs.declared.kinds.Step.TheVariants.{Closes, Passes, Nests, 
 use Rattle.mh_lex.specs.Bytes.{byte_at, has, is_end, is_word_start}
 use Rattle.mh_lex.specs.Spellings.{string_rest, word_rest, literal, quoted_opening, quoted_id, quoted_rest}
 
--- an opening of so many bytes, and what follows up to its end, where it has one
-abbrev pub passes : ℕ → Option ℕ → Step
-passes opening None = Stuck
-passes opening (Some n) = Passes (n + opening)
+-- over an opening of so many bytes and what follows up to its end, where it has one
+abbrev pub passed : ℕ → Option ℕ → Step
+passed opening None = Stuck
+passed opening (Some n) = Passes (n + opening)
 
 -- (*
 abbrev pub begins_comment : List ℕ → Bool
@@ -33,10 +33,10 @@ single e s = cond (is_end s) Stuck (cond (has s 0 (opener e)) Nests (Passes 1))
 -- An item other than a comment: the first that fits of a string, a character literal, a word, a quoted string and a single
 -- byte. A string or quoted string that is not closed is not read as single bytes: nothing is passed over.
 unfoldable pub item : Ends → List ℕ → Step
-item e s = cond (has s 0 34) (passes 1 (string_rest false (drop 1 s)))
+item e s = cond (has s 0 34) (passed 1 (string_rest false (drop 1 s)))
     (cond (nat_lt 0 (literal s)) (Passes (literal s))
     (cond (is_word_start (byte_at s 0)) (Passes (word_rest s))
-    (cond (nat_lt 0 (quoted_opening s)) (passes (quoted_opening s) (quoted_rest (quoted_id (quoted_opening s) s) (drop (quoted_opening s) s)))
+    (cond (nat_lt 0 (quoted_opening s)) (passed (quoted_opening s) (quoted_rest (quoted_id (quoted_opening s) s) (drop (quoted_opening s) s)))
     (single e s))))
 
 -- what is passed over where nothing closes and no comment begins: in a type an arrow or a byte

@@ -4,7 +4,7 @@ ghost use Rattle.mh_lex.specs.declared.kinds.Ends.TheVariants as ends;
 ghost use Rattle.mh_lex.specs.Bytes.{byte_at, has, is_word_start};
 ghost use Rattle.mh_lex.specs.Spellings.{quoted_id, quoted_rest};
 ghost use Rattle.mh_lex.specs.Bodies.{Body};
-ghost use Rattle.mh_lex.specs.Steps.{begins_comment, passes, opener, single, item, plain, closer, has_remarks, step, Within};
+ghost use Rattle.mh_lex.specs.Steps.{begins_comment, passed, opener, single, item, plain, closer, has_remarks, step, Within};
 
 use crate::items::{
     has_byte, literal_length, quoted_length, quoted_opening_length, starts_word, string_length,
@@ -59,7 +59,7 @@ fn begins_word(rest: &[u8]) -> bool
 /// A quoted string behind its opening.
 fn quoted_step(opening: usize, rest: &[u8]) -> Step
     requires { (2 ≤ opening) × (opening ≤ length rest.now) }
-    ensures value { result ≡ passes opening (quoted_rest (quoted_id opening rest.now) (drop opening rest.now)) }
+    ensures value { result ≡ passed opening (quoted_rest (quoted_id opening rest.now) (drop opening rest.now)) }
     ensures within { Within (length rest.now) result }
 {
     match quoted_length(&rest[1..opening - 1], &rest[opening..]) {

@@ -6,6 +6,11 @@ ghost use Rattle.mh_lex.specs.declared.kinds.Lexeme.{Lexeme};
 ghost use Rattle.mh_lex.specs.Lexing.{Lexes};
 ghost use Rattle.mh_lex.specs.Texts.{IsText, IsSpelled, laid, places, count_of_percents};
 
+/// All bytes have lexemes, up to the end or the first fault.
+pub fn lexed_always()
+    ensures { (bytes : List ℕ) → (lexemes : List Lexeme) × (f : Option ℕ) × Lexes bytes lexemes f }
+{}
+
 /// Bytes have one list of lexemes and at most one first fault.
 pub fn lexed_once()
     ensures { (bytes : List ℕ) (one two : List Lexeme) (f g : Option ℕ)

@@ -1,0 +1,226 @@
+-- All bytes have lexemes.
+use Rattle.std.proofs.Common.{◌≡◌, ℕ, zero, suc, ◌-◌, ◌<◌, ◌≤◌, ◌&&◌, Bool, true, false, cond, List, [], ◌∷◌, ◌++◌, length, drop, take, Option, Some, None, refl, subst, arith, length-drop}
+use Rattle.std.specs.Prelude.{nat_lt}
+use Rattle.std.proofs.lemmas.Bool.Decides.{nat_tests}
+use Rattle.mh_lex.specs.declared.kinds.Ends.{Ends}
+use Rattle.mh_lex.specs.declared.kinds.Ends.TheVariants.{Comment, Brace, Bracket, Header, Angle, Slash}
+use Rattle.mh_lex.specs.declared.kinds.Step.{Step}
+use Rattle.mh_lex.specs.declared.kinds.Step.TheVariants.{Closes, Passes, Nests, Remark, Stuck}
+use Rattle.mh_lex.specs.declared.kinds.Kind.{Kind}
+use Rattle.mh_lex.specs.declared.kinds.Lexeme.{Lexeme}
+use Rattle.mh_lex.specs.declared.kinds.Front.{Front}
+use Rattle.mh_lex.specs.declared.kinds.Front.TheVariants.{Ended, Short, Long, Fault}
+use Rattle.mh_lex.specs.Bytes.{byte_at, has, is_end, is_word_start, is_word_byte, is_blank, is_mark}
+use Rattle.mh_lex.specs.Spellings.{word_rest, string_rest, literal, quoted_opening, quoted_id, quoted_rest}
+use Rattle.mh_lex.specs.Steps.{passed, begins_comment, opener, single, item, plain, closer, has_remarks, step}
+use Rattle.mh_lex.specs.Begins.{front, percent, slash, string_front, keyword_of, is_keyword}
+use Rattle.mh_lex.specs.Bodies.{Body}
+use Rattle.mh_lex.specs.Bodies.Body.{closes, passes, nests, remark}
+use Rattle.mh_lex.specs.Lexing.{Taken, LexesFrom, Lexes, kept, left_after}
+use Rattle.mh_lex.specs.Lexing.Taken.{short, long}
+use Rattle.mh_lex.specs.Lexing.LexesFrom.{ended, trailer, taken, fault}
+use Rattle.mh_lex.proofs.Levels.{Body-passes, Body-nests, Body-remark, Body-stuck, Body-once}
+use Rattle.mh_lex.proofs.Takes.{Taken-long, Taken-fault}
+
+-- a step goes over some byte
+record Moves (f : Step) : Type 0 where
+  over_end : (n : ℕ) → f ≡ Closes n → 0 < n
+  over_item : (n : ℕ) → f ≡ Passes n → 0 < n
+
+moves_cond : {x y : Step} (b : Bool) → (b ≡ true → Moves x) → Moves y → Moves (cond b x y)
+moves_cond true f g = f refl
+moves_cond false f g = g
+
+moves_closes : {m : ℕ} → 0 < m → Moves (Closes m)
+moves_closes h = record { over_end = λ n e. cc_less e h; over_item = λ n e. absurd (cc) }
+  where
+    cc_less : {m n : ℕ} → Closes m ≡ Closes n → 0 < m → 0 < n
+    cc_less {m} {n} e h = let same : m ≡ n = cc in subst (λ k. 0 < k) same h
+
+moves_passes : {m : ℕ} → 0 < m → Moves (Passes m)
+moves_passes h = record { over_end = λ n e. absurd (cc); over_item = λ n e. cc_less e h }
+  where
+    cc_less : {m n : ℕ} → Passes m ≡ Passes n → 0 < m → 0 < n
+    cc_less {m} {n} e h = let same : m ≡ n = cc in subst (λ k. 0 < k) same h
+
+moves_nests : Moves Nests
+moves_nests = record { over_end = λ n e. absurd (cc); over_item = λ n e. absurd (cc) }
+
+moves_remark : Moves Remark
+moves_remark = record { over_end = λ n e. absurd (cc); over_item = λ n e. absurd (cc) }
+
+moves_stuck : Moves Stuck
+moves_stuck = record { over_end = λ n e. absurd (cc); over_item = λ n e. absurd (cc) }
+
+moves_opened : (opening : ℕ) (o : Option ℕ) → 0 < opening → Moves (passed opening o)
+moves_opened opening None h = moves_stuck
+moves_opened opening (Some n) h = moves_passes (omega arith)
+
+more_than : (n : ℕ) → nat_lt 0 n ≡ true → 0 < n
+more_than n h = grind (arith, nat_tests)
+
+word_more : (s : List ℕ) → is_word_start (byte_at s 0) ≡ true → 0 < word_rest s
+word_more [] h = absurd (cc)
+word_more (b ∷ bs) h = let byte : is_word_byte b ≡ true = rw h refl in rw byte (omega arith)
+
+moves_single : (e : Ends) (s : List ℕ) → Moves (single e s)
+moves_single e s = moves_cond (is_end s) (λ _. moves_stuck) (moves_cond (has s 0 (opener e)) (λ _. moves_nests) (moves_passes (omega arith)))
+
+moves_item : (e : Ends) (s : List ℕ) → Moves (item e s)
+unfolding item
+moves_item e s = moves_cond (has s 0 34) (λ _. moves_opened 1 (string_rest false (drop 1 s)) (omega arith))
+    (moves_cond (nat_lt 0 (literal s)) (λ h. moves_passes (more_than (literal s) h))
+    (moves_cond (is_word_start (byte_at s 0)) (λ h. moves_passes (word_more s h))
+    (moves_cond (nat_lt 0 (quoted_opening s)) (λ h. moves_opened (quoted_opening s) (quoted_rest (quoted_id (quoted_opening s) s) (drop (quoted_opening s) s)) (more_than (quoted_opening s) h))
+    (moves_single e s))))
+
+moves_plain : (e : Ends) (s : List ℕ) → Moves (plain e s)
+moves_plain Comment s = moves_item Comment s
+moves_plain Brace s = moves_item Brace s
+moves_plain Bracket s = moves_item Bracket s
+moves_plain Header s = moves_item Header s
+moves_plain Angle s = moves_cond (has s 0 45 && has s 1 62) (λ _. moves_passes (omega arith)) (moves_single Angle s)
+moves_plain Slash s = moves_single Slash s
+
+moves_step : (e : Ends) (s : List ℕ) → Moves (step e s)
+unfolding step
+moves_step e s = moves_cond (nat_lt 0 (closer e s)) (λ h. moves_closes (more_than (closer e s) h))
+    (moves_cond (has_remarks e && begins_comment s) (λ _. moves_remark) (moves_plain e s))
+
+step_nil : (e : Ends) → step e [] ≡ Stuck
+unfolding step item literal quoted_opening
+step_nil Comment = refl
+step_nil Brace = refl
+step_nil Bracket = refl
+step_nil Header = refl
+step_nil Angle = refl
+step_nil Slash = refl
+
+-- code is closed somewhere, or nowhere
+data Closing (e : Ends) (s : List ℕ) : Type 0 where
+  closed : (rest : List ℕ) → Body e s rest → length rest < length s → Closing e s
+  open_still : ((rest : List ℕ) → Body e s rest → ⊥) → Closing e s
+
+module _ (e : Ends) (b : ℕ) (bs : List ℕ) where
+  shorter : (n : ℕ) → 0 < n → length (drop n (b ∷ bs)) ≤ length bs
+  shorter n h = omega (arith, length-drop n (b ∷ bs))
+
+  passes_closing : (n : ℕ) → step e (b ∷ bs) ≡ Passes n → 0 < n → Closing e (drop n (b ∷ bs)) → Closing e (b ∷ bs)
+  passes_closing n q h (closed rest c l) = closed rest (passes q c) (let k = shorter n h in omega arith)
+  passes_closing n q h (open_still c) = open_still (λ rest d. c rest (Body-passes q d))
+
+  nests_outer : (mid : List ℕ) → step e (b ∷ bs) ≡ Nests → Body e (drop 1 (b ∷ bs)) mid → length mid ≤ length bs → Closing e mid → Closing e (b ∷ bs)
+  nests_outer mid q c k (closed rest d l) = closed rest (nests q c d) (omega arith)
+  nests_outer mid q c k (open_still d) = open_still (λ rest a. let x = Body-nests q a in d rest (subst (λ m. Body e m rest) (Body-once c x.1) x.2))
+
+  nests_closing : (k : ℕ) → length bs ≤ k → ((s : List ℕ) → length s ≤ k → Closing e s) → step e (b ∷ bs) ≡ Nests → Closing e (drop 1 (b ∷ bs)) → Closing e (b ∷ bs)
+  nests_closing k less later q (closed mid c l) =
+      let short_mid : length mid ≤ length bs = (let one = shorter 1 (omega arith) in omega arith) in nests_outer mid q c short_mid (later mid (omega arith))
+  nests_closing k less later q (open_still c) = open_still (λ rest a. let x = Body-nests q a in c x.0 x.1)
+
+  remark_outer : (mid : List ℕ) → step e (b ∷ bs) ≡ Remark → Body Comment (drop 2 (b ∷ bs)) mid → length mid ≤ length bs → Closing e mid → Closing e (b ∷ bs)
+  remark_outer mid q c k (closed rest d l) = closed rest (remark q c d) (omega arith)
+  remark_outer mid q c k (open_still d) = open_still (λ rest a. let x = Body-remark q a in d rest (subst (λ m. Body e m rest) (Body-once c x.1) x.2))
+
+  remark_closing : (k : ℕ) → length bs ≤ k → ((s : List ℕ) → length s ≤ k → Closing e s) → step e (b ∷ bs) ≡ Remark → Closing Comment (drop 2 (b ∷ bs)) → Closing e (b ∷ bs)
+  remark_closing k less later q (closed mid c l) =
+      let short_mid : length mid ≤ length bs = (let two = shorter 2 (omega arith) in omega arith) in remark_outer mid q c short_mid (later mid (omega arith))
+  remark_closing k less later q (open_still c) = open_still (λ rest a. let x = Body-remark q a in c x.0 x.1)
+
+  step_closing : (k : ℕ) → length bs ≤ k → ((d : Ends) (s : List ℕ) → length s ≤ k → Closing d s) → (f : Step) → step e (b ∷ bs) ≡ f → Closing e (b ∷ bs)
+  step_closing k less later (Closes n) q = closed (drop n (b ∷ bs)) (closes q refl) (let l = shorter n ((moves_step e (b ∷ bs)).over_end n q) in omega arith)
+  step_closing k less later (Passes n) q =
+      let h = (moves_step e (b ∷ bs)).over_item n q in let l = shorter n h in passes_closing n q h (later e (drop n (b ∷ bs)) (omega arith))
+  step_closing k less later Nests q = let l = shorter 1 (omega arith) in nests_closing k less (later e) q (later e (drop 1 (b ∷ bs)) (omega arith))
+  step_closing k less later Remark q = let l = shorter 2 (omega arith) in remark_closing k less (later e) q (later Comment (drop 2 (b ∷ bs)) (omega arith))
+  step_closing k less later Stuck q = open_still (λ rest a. Body-stuck q a)
+
+closing_of : (k : ℕ) (e : Ends) (s : List ℕ) → length s ≤ k → Closing e s
+closing_of k e [] h = open_still (λ rest a. Body-stuck (step_nil e) a)
+closing_of zero e (b ∷ bs) h = absurd (omega arith)
+closing_of (suc k) e (b ∷ bs) h = step_closing e b bs k (omega arith) (closing_of k) (step e (b ∷ bs)) refl
+
+-- what is whole at the front has some byte
+record HasBytes (f : Front) : Type 0 where
+  some : (what : Option Kind) (n : ℕ) → f ≡ Short what n → 0 < n
+
+some_cond : {x y : Front} (b : Bool) → (b ≡ true → HasBytes x) → HasBytes y → HasBytes (cond b x y)
+some_cond true f g = f refl
+some_cond false f g = g
+
+some_short : {what : Option Kind} {m : ℕ} → 0 < m → HasBytes (Short what m)
+some_short {what} {m} h = record { some = λ k n e. let same : m ≡ n = cc in subst (λ i. 0 < i) same h }
+
+some_long : {what : Option Kind} {d : Ends} {m : ℕ} → HasBytes (Long what d m)
+some_long = record { some = λ k n e. absurd (cc) }
+
+some_ended : HasBytes Ended
+some_ended = record { some = λ k n e. absurd (cc) }
+
+some_fault : HasBytes Fault
+some_fault = record { some = λ k n e. absurd (cc) }
+
+some_string : (o : Option ℕ) → HasBytes (string_front o)
+some_string None = some_fault
+some_string (Some m) = some_short (omega arith)
+
+some_keyword : (s : List ℕ) → HasBytes (keyword_of s)
+unfolding keyword_of
+some_keyword s = some_cond (is_keyword (take (word_rest s) s)) (λ _. some_short (omega arith)) some_fault
+
+some_percent : (s : List ℕ) → HasBytes (percent s)
+unfolding percent
+some_percent s = some_cond (has s 1 37) (λ _. some_short (omega arith)) (some_cond (has s 1 123) (λ _. some_long)
+    (some_cond (has s 1 91 && has s 2 64) (λ _. some_long) (some_keyword (drop 1 s))))
+
+some_slash : (s : List ℕ) → HasBytes (slash s)
+unfolding slash
+some_slash s = some_cond (has s 1 42) (λ _. some_long) (some_cond (has s 1 47) (λ _. some_short (omega arith)) some_fault)
+
+some_front : (s : List ℕ) → HasBytes (front s)
+unfolding front
+some_front s = some_cond (is_end s) (λ _. some_ended)
+    (some_cond (is_blank (byte_at s 0)) (λ _. some_short (omega arith))
+    (some_cond (is_word_start (byte_at s 0)) (λ h. some_short (word_more s h))
+    (some_cond (begins_comment s) (λ _. some_long)
+    (some_cond (is_mark (byte_at s 0)) (λ _. some_short (omega arith))
+    (some_cond (has s 0 37) (λ _. some_percent s)
+    (some_cond (has s 0 47) (λ _. some_slash s)
+    (some_cond (has s 0 34) (λ _. some_string (string_rest false (drop 1 s)))
+    (some_cond (has s 0 123) (λ _. some_long)
+    (some_cond (has s 0 60) (λ _. some_long)
+    (some_cond (has s 0 91 && has s 1 64) (λ _. some_long) some_fault))))))))))
+
+front_nil : front [] ≡ Ended
+unfolding front
+front_nil = refl
+
+-- some outcome
+abbrev Outcome : ℕ → ℕ → List ℕ → Type 0
+Outcome total left s = (ls : List Lexeme) × (f : Option ℕ) × LexesFrom total left s ls f
+
+go_on : (total left : ℕ) (s rest : List ℕ) (what : Option Kind) → Taken s what rest → Outcome total (left_after what left) rest → Outcome total (suc left) s
+go_on total left s rest what t o = (kept total s what rest ++ o.0, o.1, taken t o.2 refl)
+
+module _ (total left : ℕ) (b : ℕ) (bs : List ℕ) (k : ℕ) (less : length bs ≤ k) (later : (left : ℕ) (s : List ℕ) → length s ≤ k → Outcome total left s) where
+  long_outcome : (what : Option Kind) (e : Ends) (n : ℕ) → front (b ∷ bs) ≡ Long what e n → Closing e (drop n (b ∷ bs)) → Outcome total (suc left) (b ∷ bs)
+  long_outcome what e n q (closed rest c l) =
+      let size = length-drop n (b ∷ bs) in go_on total left (b ∷ bs) rest what (long q c) (later (left_after what left) rest (omega arith))
+  long_outcome what e n q (open_still c) = ([], Some (total - length (b ∷ bs)), fault (λ d. cc) (λ other rest t. c rest (Taken-long q t).1))
+
+  front_outcome : (f : Front) → front (b ∷ bs) ≡ f → Outcome total (suc left) (b ∷ bs)
+  front_outcome Ended q = ([], None, ended q)
+  front_outcome (Short what n) q =
+      let h = (some_front (b ∷ bs)).some what n q in let size = length-drop n (b ∷ bs) in
+      go_on total left (b ∷ bs) (drop n (b ∷ bs)) what (short q refl) (later (left_after what left) (drop n (b ∷ bs)) (omega arith))
+  front_outcome (Long what e n) q = long_outcome what e n q (closing_of (length (drop n (b ∷ bs))) e (drop n (b ∷ bs)) (omega arith))
+  front_outcome Fault q = ([], Some (total - length (b ∷ bs)), fault (λ d. cc) (λ other rest t. Taken-fault q t))
+
+outcome_of : (k total left : ℕ) (s : List ℕ) → length s ≤ k → Outcome total left s
+outcome_of k total zero s h = ([], None, trailer)
+outcome_of k total (suc left) [] h = ([], None, ended front_nil)
+outcome_of zero total (suc left) (b ∷ bs) h = absurd (omega arith)
+outcome_of (suc k) total (suc left) (b ∷ bs) h = front_outcome total left b bs k (omega arith) (outcome_of k total) (front (b ∷ bs)) refl
+
+pub lexes_always : (bytes : List ℕ) → (ls : List Lexeme) × (f : Option ℕ) × Lexes bytes ls f
+lexes_always bytes = outcome_of (length bytes) (length bytes) 2 bytes (omega arith)
