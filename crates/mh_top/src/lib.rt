@@ -3,4 +3,4 @@
 
 mod plain;
 
-pub use plain::{PlainFault, PlainFile, PlainRule, grammar_of, read_plain};
+pub use plain::{PlainFault, PlainFile, PlainRule, grammar_of, read_grammar, read_plain};
