@@ -1,6 +1,6 @@
 -- The parts of a file's grammar make it.
-use Rattle.std.proofs.Common.{◌≡◌, ◌≢◌, ℕ, zero, suc, ◌+◌, ◌<◌, ◌≤◌, ◌⊎◌, List, [], ◌∷◌, ◌++◌, Some, None, length, get_or, take, drop, map, refl, sym, ap, subst, ◌∙◌, arith, inl, inr, append_assoc, add-one}
-use Rattle.std.specs.List.{slice_get, All, AllZip, Contains, sum_by}
+use Rattle.std.proofs.Common.{◌≡◌, ℕ, suc, ◌+◌, ◌<◌, ◌≤◌, ◌⊎◌, List, [], ◌∷◌, ◌++◌, Some, length, get_or, take, refl, sym, ap, subst, ◌∙◌, arith, inl, inr, append_assoc}
+use Rattle.std.specs.List.{slice_get, All, AllZip, Contains}
 use Rattle.std.proofs.lemmas.List.{append-nil, take_more, length-take-le, length-map}
 use Rattle.std.proofs.lemmas.List.Sums.{sum_by_push, sum_by-append}
 use Rattle.std.proofs.lemmas.List.Elements.{All-nil, All-cons, All-head, All-tail, All-weaker, All-contains, Contains-append_left, Contains-append_right}
@@ -11,15 +11,15 @@ use Rattle.mh_grammar.specs.declared.types.Production.{Production}
 use Rattle.mh_grammar.specs.declared.types.Grammar.{Grammar}
 use Rattle.mh_grammar.specs.Numbering.{AreDistinct, Names, Reached, IsNumbering}
 use Rattle.mh_grammar.specs.Numbering as numbering
-use Rattle.mh_grammar.proofs.Placing.{at_contains, contains_at, AllPlaced-names, AllPlaced-order}
+use Rattle.mh_grammar.proofs.Placing.{contains_at, AllPlaced-names, AllPlaced-order}
 use Rattle.mh_grammar.proofs.Pigeon.{length-distinct_in}
 use Rattle.mh_top.specs.declared.plain.files.PlainRule.{PlainRule}
 use Rattle.mh_top.specs.declared.plain.files.PlainFile.{PlainFile}
-use Rattle.mh_top.specs.PlainGrammars.{names_of, IsFew, AreRules, IsSymbolName, IsAcceptable, AreFirsts, IsNamed, Denotes, DenoteAll, rules_in, rules_of, Leads, IsProductionOf, AreOfRule, AreProductions, IsTokenOf, IsNonterminal, first_numbers, AreStarts, IsGrammarOf}
-use Rattle.mh_top.specs.Places.{Places, ArePlacedStarts, IsNumbered, IsRuleBelow, AreRulesBelow, IsKnown, IsClosed, AddsAlternatives, AddsRule, HasNames, IsResolved, IsMadeOf}
+use Rattle.mh_top.specs.PlainGrammars.{names_of, IsFew, AreRules, IsSymbolName, IsAcceptable, AreFirsts, IsNamed, Denotes, DenoteAll, rules_in, rules_of, Leads, IsProductionOf, AreOfRule, AreProductions, IsNonterminal, first_numbers, AreStarts, IsGrammarOf}
+use Rattle.mh_top.specs.Places.{Places, ArePlacedStarts, IsNumbered, IsRuleBelow, AreRulesBelow, IsKnown, IsClosed, AddsAlternatives, AddsRule, IsResolved, IsMadeOf}
 use Rattle.mh_top.proofs.PlainTables.{Places-distinct, Places-each, Places-contains, AreDistinct-none}
 use Rattle.mh_top.proofs.PlainRules.{AllZip-more, count_of}
-use Rattle.mh_top.proofs.PlainNumbers.{few-below, length-first_numbers}
+use Rattle.mh_top.proofs.PlainNumbers.{few-below}
 
 -- one more pair, where the item is read at its place
 pub zip_at : {A B : Type 0} (R : A → B → Type 0) (xs : List A) (ys : List B) (i : ℕ) (d : A) (y : B) → i < length xs → AllZip R (take i xs) ys → R (get_or xs i d) y → AllZip R (take (i + 1) xs) (ys ++ y ∷ [])

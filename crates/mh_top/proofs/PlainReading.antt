@@ -1,10 +1,9 @@
 -- What is spelled is read, and what is read is spelled.
-use Rattle.std.proofs.Common.{◌≡◌, ℕ, ◌+◌, List, [], ◌∷◌, ◌++◌, Option, Some, None, Bool, true, false, drop, take, refl, sym, ap, subst, ◌∙◌, append_assoc, arith, inl, inr}
-use Rattle.std.specs.Prelude.{IsTrue, if◌then◌else◌, ◌⊎◌}
+use Rattle.std.proofs.Common.{◌≡◌, ℕ, ◌+◌, List, [], ◌∷◌, ◌++◌, Option, Some, None, Bool, true, false, drop, take, refl, sym, ap, subst, ◌∙◌, append_assoc, inl, inr}
+use Rattle.std.specs.Prelude.{if◌then◌else◌, ◌⊎◌}
 use Rattle.std.proofs.lemmas.List.{drop-drop, append-nil}
 use Rattle.mh_top.specs.declared.plain.lexemes.Sign.{Sign}
 use Rattle.mh_top.specs.declared.plain.lexemes.Sign.TheVariants as signs
-use Rattle.mh_top.specs.declared.plain.lexemes.Front.{Front}
 use Rattle.mh_top.specs.declared.plain.lexemes.Front.TheVariants as fronts
 use Rattle.mh_top.specs.declared.plain.files.PlainRule.{PlainRule}
 use Rattle.mh_top.specs.declared.plain.files.PlainFile.{PlainFile}
@@ -14,9 +13,8 @@ use Rattle.mh_top.specs.declared.plain.reader.Place.TheVariants as places
 use Rattle.mh_top.specs.PlainLexemes.{Lexeme, Lexes, front, is_capital}
 use Rattle.mh_top.specs.PlainLexemes.Lexeme.{word, mark}
 use Rattle.mh_top.specs.PlainLexemes.Lexes.{ended, blank, a_word, a_mark}
-use Rattle.mh_top.specs.PlainText as text
 use Rattle.mh_top.specs.PlainText.{Alternative, Alternatives, Rules, Capitals, Declared, IsFile, IsPlainText}
-use Rattle.mh_top.specs.PlainReader.{start, with_rule, with_alternative, word_at, word_next, sign_place, sign_at, sign_next, next, file_with, finish_at, finish, go_on, run, Refers}
+use Rattle.mh_top.specs.PlainReader.{start, with_rule, with_alternative, word_at, word_next, sign_place, sign_at, sign_next, next, finish_at, finish, go_on, run, Refers}
 use Rattle.std.specs.Prelude.{Result, Ok, Err, IfOk}
 use Rattle.mh_top.specs.declared.plain.files.PlainFault.{PlainFault}
 use Rattle.mh_top.specs.declared.plain.files.PlainFault.TheVariants.{NotPlain}

@@ -1,16 +1,16 @@
 -- Rules that may stand together, and what their words stand for.
-use Rattle.std.proofs.Common.{◌≡◌, ◌≢◌, ℕ, zero, suc, ◌+◌, ◌<◌, ◌≤◌, ◌⊎◌, List, [], ◌∷◌, ◌++◌, Some, length, get_or, take, drop, map, refl, sym, ap, subst, ◌∙◌, arith, inl, inr, append_assoc, add-one, drop-cons}
-use Rattle.std.specs.List.{slice_get, All, AllZip, Contains, sum_by, concat}
+use Rattle.std.proofs.Common.{◌≡◌, ℕ, ◌+◌, ◌<◌, List, [], ◌∷◌, ◌++◌, Some, length, get_or, take, drop, refl, sym, ap, subst, ◌∙◌, arith, inl, inr, append_assoc, add-one, drop-cons}
+use Rattle.std.specs.List.{slice_get, All, AllZip, Contains, sum_by}
 use Rattle.std.proofs.lemmas.List.{take_more, map-append, take-append-drop}
 use Rattle.std.proofs.lemmas.Option.{slice_get_within}
 use Rattle.std.proofs.lemmas.List.Sums.{sum_by_push, sum_by-append}
-use Rattle.std.proofs.lemmas.List.Elements.{All-push, All-nil, All-cons, All-append, All-contains, Contains-push_cases, Contains-append_right}
-use Rattle.mh_grammar.specs.Numbering.{AreDistinct, Names}
+use Rattle.std.proofs.lemmas.List.Elements.{All-push, All-nil, All-contains, Contains-push_cases}
+use Rattle.mh_grammar.specs.Numbering.{AreDistinct}
 use Rattle.mh_grammar.specs.Placed.{Placed}
 use Rattle.mh_grammar.proofs.Placing.{get_left, get_last, contains_at, at_contains, AreDistinct-push}
 use Rattle.mh_top.specs.declared.plain.files.PlainRule.{PlainRule}
 use Rattle.mh_top.specs.PlainGrammars.{names_of, AreRules, MayStand}
-use Rattle.mh_top.specs.Places.{Places, ArePlacedStarts}
+use Rattle.mh_top.specs.Places.{ArePlacedStarts}
 use Rattle.mh_top.proofs.PlainTables.{AreDistinct-none, Places-push, Places-none}
 
 abbrev pub count_of : List PlainRule → ℕ

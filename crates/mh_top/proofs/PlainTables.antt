@@ -1,17 +1,16 @@
 -- Look-ups by name and by number, and what was placed.
-use Rattle.std.proofs.Common.{◌≡◌, ℕ, zero, suc, ◌+◌, ◌-◌, ◌<◌, ◌≤◌, ◌⊎◌, Bool, true, false, cond, eqb, List, [], ◌∷◌, ◌++◌, Option, Some, None, length, get_or, take, map, refl, sym, ap, subst, ◌∙◌, arith, inl, inr, append_assoc}
+use Rattle.std.proofs.Common.{◌≡◌, ℕ, Bool, true, false, eqb, List, [], ◌∷◌, ◌++◌, Option, Some, None, get_or, refl, sym, ap, subst, ◌∙◌, inl, inr}
 use Rattle.std.specs.Prelude.{if◌then◌else◌, IfSome, IfNone}
-use Rattle.std.specs.List.{slice_get, list_any, position, All, AllZip, Contains, concat}
+use Rattle.std.specs.List.{slice_get, list_any, position, All, Contains}
 use Rattle.std.specs.Cmp.Lexicographic.{pointwise, bytes_decides}
 use Rattle.std.proofs.lemmas.Bool.Decides.{Decides-eqb}
 use Rattle.std.proofs.lemmas.List.Quantifiers.{position-Some}
 use Rattle.std.proofs.lemmas.List.Folds.{list_any_at}
-use Rattle.std.proofs.lemmas.List.Elements.{Contains-get_or}
-use Rattle.std.proofs.lemmas.Option.{slice_get-get_or, slice_get_within, get_or_from_slice_get}
+use Rattle.std.proofs.lemmas.Option.{slice_get-get_or, slice_get_within}
 use Rattle.std.proofs.lemmas.Map.Views.{Contains-from_any}
-use Rattle.mh_grammar.specs.Numbering.{AreDistinct, InOrder, Names}
+use Rattle.mh_grammar.specs.Numbering.{AreDistinct}
 use Rattle.mh_grammar.specs.Placed.{Placed, AllPlaced}
-use Rattle.mh_grammar.proofs.Placing.{get_last, get_cases, contains_at, at_contains, AllPlaced-push, AllPlaced-distinct, AllPlaced-each, AllPlaced-names, AllPlaced-order, AllPlaced-kept, Names-contains}
+use Rattle.mh_grammar.proofs.Placing.{get_cases, contains_at, at_contains, AllPlaced-push, AllPlaced-distinct, AllPlaced-each, AllPlaced-names, Names-contains}
 use Rattle.mh_top.specs.Places.{Places}
 
 -- a test that decides which items are the same

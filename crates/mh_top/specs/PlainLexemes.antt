@@ -1,5 +1,5 @@
 -- The lexemes of the plain form of a grammar file (this project's profile of the Menhir manual's lexemes).
-use Rattle.std.specs.Prelude.{◌≡◌, ℕ, ◌+◌, ◌<◌, ◌≤◌, ◌==◌, ◌&&◌, ◌||◌, Bool, true, false, cond, List, [], ◌∷◌, length, drop, take, slice_index_or, nat_eq, nat_le}
+use Rattle.std.specs.Prelude.{◌≡◌, ℕ, ◌+◌, ◌<◌, ◌≤◌, ◌==◌, ◌&&◌, ◌||◌, Bool, cond, List, [], ◌∷◌, drop, take, slice_index_or, nat_eq, nat_le}
 use Rattle.std.specs.Cmp.Lexicographic.{pointwise}
 use Rattle.mh_top.specs.declared.plain.lexemes.Sign.{Sign}
 use Rattle.mh_top.specs.declared.plain.lexemes.Sign.TheVariants.{Colon, Bar, Percents, Token, Start, Braces}

@@ -1,6 +1,6 @@
 -- The grammar of plain files over lexemes. Each relation says that the first lexemes of a list are of the kind that it
 -- is named after, what follows them, and what they hold.
-use Rattle.std.specs.Prelude.{◌≡◌, ℕ, List, [], ◌∷◌, IsTrue}
+use Rattle.std.specs.Prelude.{ℕ, List, [], ◌∷◌, IsTrue}
 use Rattle.mh_top.specs.declared.plain.lexemes.Sign.TheVariants.{Colon, Bar, Percents, Token, Start, Braces}
 use Rattle.mh_top.specs.declared.plain.files.PlainRule.{PlainRule}
 use Rattle.mh_top.specs.declared.plain.files.PlainFile.{PlainFile}

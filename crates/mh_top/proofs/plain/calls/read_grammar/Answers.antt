@@ -1,4 +1,4 @@
-use Rattle.std.proofs.Common.{◌≡◌, Err, ap, sym, subst}
+use Rattle.std.proofs.Common.{◌≡◌, Err, ap, subst}
 use Rattle.std.proofs.lemmas.Result.{err_from_is_err_and, IfOk-weaker}
 use Rattle.mh_top.specs.declared.plain.files.PlainFault.TheVariants.{NotPlain}
 use Rattle.mh_top.specs.PlainGrammars.{IsGrammarOf, IsPlainGrammar, IsAcceptable}

@@ -1,9 +1,9 @@
-use Rattle.std.proofs.Common.{◌≡◌, ◌<◌, Err, ap, ◌∙◌, sym, subst, length}
+use Rattle.std.proofs.Common.{◌≡◌, ◌<◌, Err, ap, sym, subst, length}
 use Rattle.std.specs.List.{All, Contains}
 use Rattle.std.proofs.lemmas.Result.{err_from_is_err_and, IfOk-weaker}
 use Rattle.mh_top.specs.declared.plain.files.PlainFault.TheVariants.{NotPlain}
 use Rattle.mh_top.specs.PlainGrammars.{IsGrammarOf}
-use Rattle.mh_top.specs.Places.{IsMadeOf, ArePlacedStarts}
+use Rattle.mh_top.specs.Places.{IsMadeOf}
 use Rattle.mh_top.proofs.PlainMeaning as meaning
 use Rattle.mh_top.proofs.plain.grammars.grammar_with_symbols.Goals as goal
 

@@ -1,4 +1,4 @@
-use Rattle.std.proofs.Common.{◌≡◌, ℕ, ◌+◌, drop}
+use Rattle.std.proofs.Common.{◌≡◌, ◌+◌, drop}
 use Rattle.mh_top.specs.PlainLexemes.{word_rest}
 use Rattle.mh_top.proofs.plain.lexemes.word_length.Given as goal
 

@@ -1,8 +1,5 @@
-use Rattle.std.proofs.Common.{◌≡◌, ◌+◌, ◌-◌, ◌<◌, ◌≤◌, Some, length, get_or, arith, sym, ap, ◌∙◌}
-use Rattle.std.specs.List.{slice_get, All}
-use Rattle.std.proofs.lemmas.Option.{slice_get-get_or}
-use Rattle.mh_top.specs.PlainGrammars.{Leads, rules_of}
-use Rattle.mh_top.specs.Places.{IsRuleBelow}
+use Rattle.std.proofs.Common.{◌+◌, ◌-◌, ◌<◌, length, get_or, arith, ap, ◌∙◌}
+use Rattle.mh_top.specs.PlainGrammars.{Leads}
 use Rattle.mh_top.proofs.PlainNumbers as numbers
 use Rattle.mh_top.proofs.plain.numbering.number_rules.Goals as goal
 

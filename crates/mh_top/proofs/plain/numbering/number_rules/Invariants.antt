@@ -1,4 +1,4 @@
-use Rattle.std.proofs.Common.{◌-◌, ◌≤◌, ◌<◌, length}
+use Rattle.std.proofs.Common.{◌-◌, ◌<◌, length}
 use Rattle.std.specs.List.{All}
 use Rattle.mh_top.specs.PlainGrammars.{Leads}
 use Rattle.mh_top.proofs.PlainNumbers.{WalkedTo}

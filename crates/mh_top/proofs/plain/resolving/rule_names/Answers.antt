@@ -1,7 +1,7 @@
-use Rattle.std.proofs.Common.{◌≡◌, ◌<◌, [], ◌∷◌, ◌++◌, arith, sym, subst, ap, ◌∙◌, take, drop, length, ◌+◌}
+use Rattle.std.proofs.Common.{[], ◌∷◌, ◌++◌, arith, sym, subst, ap, ◌∙◌, take, drop, length, ◌+◌}
 use Rattle.std.proofs.lemmas.List.Sums.{sum_by_push}
 use Rattle.mh_top.specs.declared.plain.files.PlainRule.{PlainRule}
-use Rattle.mh_top.specs.PlainGrammars.{names_of, AreRules, MayStand}
+use Rattle.mh_top.specs.PlainGrammars.{AreRules, MayStand}
 use Rattle.mh_top.proofs.PlainRules as rules
 use Rattle.mh_top.proofs.plain.resolving.rule_names.Goals as goal
 
