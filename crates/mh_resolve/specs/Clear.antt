@@ -19,8 +19,8 @@ pub record IsClear (s : State) : Type 0 where
   pub one : (look : Look) → IsConflict (Raw s look) → ⊥
   pub stream : IsStreamConflict s → ⊥
 
--- nor has any state of an automaton; for the canonical automaton this says that the grammar is LR(1) (Knuth 1965) and
--- that no action at the end of the stream depends on whether the stream ends
+-- nor has any state of an automaton; of the canonical one this says that the grammar is LR(1) (Knuth 1965), and that no
+-- state has to know whether the stream has ended
 abbrev pub HasNoConflicts : Grammar → Automaton → Type 0
 HasNoConflicts g a = (s : ℕ) → s < length a.kernels → IsClear (state_of g a s)
 

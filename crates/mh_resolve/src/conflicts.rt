@@ -6,6 +6,7 @@ use crate::kinds::ConflictKind;
 use crate::states::Row;
 use mh_grammar::{Look, Memory};
 
+/// A conflict of a state, on a token or at the end of the stream.
 #[derive(Clone, Copy, Debug, PartialEq, Eq)]
 pub struct Conflict {
     pub state: u32,
