@@ -5,4 +5,71 @@ mod adapters;
 #[cfg(test)]
 mod tests;
 
-fn main() {}
+use adapters::{FileShelf, StdSink, StdSource};
+use mh_outside::write_whole;
+use std::env;
+use std::io::{ErrorKind, Write};
+use std::process::ExitCode;
+
+const BAD_WORDS: &[u8] = b"menhir: usage: bad words\n";
+
+const OUT_OF_MEMORY: &[u8] = b"menhir: out of memory\n";
+
+/// Why the words of the command line are not had.
+#[derive(Clone, Copy, Debug, PartialEq, Eq)]
+enum WordsFault {
+    Unreadable,
+    Memory,
+}
+
+/// The words behind the name of the program.
+fn words(rt: &HostRuntime) -> Result<Vec<String>, WordsFault> {
+    let mut words = Vec::new(rt.alloc());
+    let mut args = match env::args(rt) {
+        Ok(args) => args,
+        Err(error) => {
+            return Err(if error.kind() == ErrorKind::OutOfMemory {
+                WordsFault::Memory
+            } else {
+                WordsFault::Unreadable
+            });
+        }
+    };
+    let _program = args.next();
+    for word in args {
+        if words.push(word).is_err() {
+            return Err(WordsFault::Memory);
+        }
+    }
+    Ok(words)
+}
+
+/// Says why no work is begun, and gives the status.
+fn refuse<W: Write>(err: &mut StdSink<W>, line: &[u8], status: u8) -> ExitCode {
+    match write_whole(err, line) {
+        Ok(()) => ExitCode::from(status),
+        Err(_) => ExitCode::from(4),
+    }
+}
+
+fn main(rt: HostRuntime) -> ExitCode {
+    let mut err = StdSink::new(rt.stderr());
+    let words = match words(&rt) {
+        Ok(words) => words,
+        Err(WordsFault::Unreadable) => return refuse(&mut err, BAD_WORDS, 2),
+        Err(WordsFault::Memory) => return refuse(&mut err, OUT_OF_MEMORY, 6),
+    };
+    let Ok(mut input) = StdSource::new(rt.alloc(), rt.stdin()) else {
+        return refuse(&mut err, OUT_OF_MEMORY, 6);
+    };
+    let mut shelf = FileShelf::new(&rt);
+    let mut out = StdSink::new(rt.stdout());
+    ExitCode::from(mh_top::menhir(
+        rt.alloc(),
+        &words,
+        &mut shelf,
+        &mut input,
+        &mut out,
+        &mut err,
+    ))
+}
