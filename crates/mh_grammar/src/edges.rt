@@ -1,6 +1,6 @@
 //! Edges between states, and how one is found.
-ghost use Rattle.std.specs.Prelude.{◌≡◌};
-ghost use Rattle.mh_grammar.specs.Edges.{IsRising, IsEdgeBefore, same_symbol, find_edge as edge_on};
+ghost use Rattle.std.specs.Prelude.{◌≡◌, ◌↔◌, IsTrue};
+ghost use Rattle.mh_grammar.specs.Edges.{IsRising, IsEdgeBefore, IsSymbolBefore, same_symbol, find_edge as edge_on};
 
 use crate::types::Symbol;
 
@@ -21,14 +21,34 @@ fn is_same(left: Symbol, right: Symbol) -> bool
     }
 }
 
-/// Where the edge on a symbol leads. The edges stand in the order of symbols.
+fn is_before(left: Symbol, right: Symbol) -> bool
+    ensures { IsTrue result ↔ IsSymbolBefore left right }
+{
+    match (left, right) {
+        (Symbol::T(a), Symbol::T(b)) => a < b,
+        (Symbol::T(_), Symbol::N(_)) => true,
+        (Symbol::N(_), Symbol::T(_)) => false,
+        (Symbol::N(a), Symbol::N(b)) => a < b,
+    }
+}
+
+/// Where the edge on a symbol leads, by binary search. The edges stand in the order of symbols.
 pub fn find_edge(edges: &[Edge], symbol: Symbol) -> Option<u32>
     requires { IsRising IsEdgeBefore edges.now }
     ensures { result ≡ edge_on edges.now symbol }
 {
-    for edge in edges {
+    let mut low = 0usize;
+    let mut high = edges.len();
+    while low < high {
+        let middle = low + (high - low) / 2;
+        let edge = edges[middle];
         if is_same(edge.symbol, symbol) {
             return Some(edge.target);
+        }
+        if is_before(edge.symbol, symbol) {
+            low = middle + 1;
+        } else {
+            high = middle;
         }
     }
     None

@@ -14,7 +14,7 @@ use Rattle.mh_tables.specs.Table.{TableData, state_at, no_state, edge_of}
 use Rattle.mh_grammar.specs.Edges.{find_edge, same_symbol}
 use Rattle.mh_tables.specs.Facts.{Facts}
 use Rattle.mh_tables.specs.Run.{reductions}
-use Rattle.mh_tables.proofs.Edges.{edge_found}
+use Rattle.mh_grammar.proofs.EdgeOrder.{edge_found}
 use Rattle.mh_tables.proofs.Reductions.{reductions_none, reductions_split, reductions_before}
 use Rattle.mh_tables.specs.Halting.{IsBeginning, IsLook, Loops, Clear, Before, LoopsAt, NoneLoops, Halts, look_list, beginning}
 use Rattle.mh_tables.specs.Relative.{FirstLook, FirstState, AllClear, AreTargets}

@@ -1,5 +1,4 @@
 pub mod Cut
-pub mod Edges
 pub mod Ending
 pub mod Examples
 pub mod Finding

@@ -1,0 +1,4 @@
+%token A EOF
+%start s
+%%
+s: A EOF {}

@@ -1,0 +1,118 @@
+-- In a list of edges in the order of symbols each edge is the one on its symbol.
+use Rattle.std.proofs.Common.{◌≡◌, ℕ, zero, suc, ◌+◌, ◌<◌, ◌≤◌, List, [], ◌∷◌, Some, None, true, false, length, refl, ap, arith, inl, inr}
+use Rattle.std.proofs.lemmas.Bool.Decides.{nat_tests}
+use Rattle.std.proofs.lemmas.Bool.{cases_eq, cases_lt}
+use Rattle.std.proofs.lemmas.Option.{slice_get_within}
+use Rattle.std.specs.List.{slice_get, AllByRecursion}
+use Rattle.mh_grammar.specs.declared.types.Symbol.{Symbol}
+use Rattle.mh_grammar.specs.declared.types.Symbol.TheVariants.{T, N}
+use Rattle.mh_grammar.specs.declared.edges.Edge.{Edge}
+use Rattle.mh_grammar.specs.Edges.{IsRising, IsEdgeBefore, IsSymbolBefore, same_symbol, find_edge}
+
+same_itself : (x : Symbol) → same_symbol x x ≡ true
+same_itself (T a) = grind (arith, nat_tests)
+same_itself (N a) = grind (arith, nat_tests)
+
+before_not_same : (x y : Symbol) → IsSymbolBefore x y → same_symbol x y ≡ false
+before_not_same (T a) (T b) h = grind (arith, nat_tests)
+before_not_same (T a) (N b) h = refl
+before_not_same (N a) (T b) h = refl
+before_not_same (N a) (N b) h = grind (arith, nat_tests)
+
+at_place : {X : Type 0} → (P : X → Type 0) → (xs : List X) (k : ℕ) (x : X) → AllByRecursion P xs → slice_get xs k ≡ Some x → P x
+at_place P [] k x h g = absurd (let n = slice_get_within [] k x g in omega arith)
+at_place P (y ∷ ys) zero x h g = let e : y ≡ x = cc in rw (← e) h.0
+at_place P (y ∷ ys) (suc k) x h g = at_place P ys k x h.1 g
+
+-- an edge of the list is found by its symbol
+pub edge_found : (es : List Edge) (k : ℕ) (e : Edge) → IsRising IsEdgeBefore es → slice_get es k ≡ Some e → find_edge es e.symbol ≡ Some e.target
+edge_found [] k e h g = absurd (let n = slice_get_within [] k e g in omega arith)
+edge_found (d ∷ es) zero e h g = let i : d ≡ e = cc in rw i (rw (same_itself e.symbol) refl)
+edge_found (d ∷ es) (suc k) e h g =
+    rw (before_not_same d.symbol e.symbol (at_place (IsEdgeBefore d) es k e h.0 g)) (edge_found es k e h.1 g)
+
+same_either_way : (x y : Symbol) → same_symbol x y ≡ false → same_symbol y x ≡ false
+same_either_way (T a) (T b) h = grind (arith, nat_tests)
+same_either_way (T a) (N b) h = refl
+same_either_way (N a) (T b) h = refl
+same_either_way (N a) (N b) h = grind (arith, nat_tests)
+
+pub not_same_behind : (x y : Symbol) → IsSymbolBefore x y → same_symbol y x ≡ false
+not_same_behind x y h = same_either_way x y (before_not_same x y h)
+
+pub same_is : (x y : Symbol) → same_symbol x y ≡ true → x ≡ y
+same_is (T a) (T b) h = ap T (grind (arith, nat_tests))
+same_is (T a) (N b) h = cc
+same_is (N a) (T b) h = cc
+same_is (N a) (N b) h = ap N (grind (arith, nat_tests))
+
+before_before : (x y z : Symbol) → IsSymbolBefore x y → IsSymbolBefore y z → IsSymbolBefore x z
+before_before (T a) (T b) (T c) h k = omega arith
+before_before (T a) (T b) (N c) h k = tt
+before_before (T a) (N b) (T c) h k = absurd k
+before_before (T a) (N b) (N c) h k = tt
+before_before (N a) (T b) z h k = absurd h
+before_before (N a) (N b) (T c) h k = absurd k
+before_before (N a) (N b) (N c) h k = omega arith
+
+pub one_before : (x y : Symbol) → same_symbol x y ≡ false → (IsSymbolBefore x y → ⊥) → IsSymbolBefore y x
+one_before (T a) (T b) e n = grind (arith, nat_tests)
+one_before (T a) (N b) e n = absurd (n tt)
+one_before (N a) (T b) e n = tt
+one_before (N a) (N b) e n = grind (arith, nat_tests)
+
+-- of two edges of the list the earlier comes before
+rising_at : (es : List Edge) (i j : ℕ) (d e : Edge) → IsRising IsEdgeBefore es → i < j → slice_get es i ≡ Some d → slice_get es j ≡ Some e → IsEdgeBefore d e
+rising_at [] i j d e h l f g = absurd (let n = slice_get_within [] i d f in omega arith)
+rising_at (a ∷ es) i zero d e h l f g = absurd (let n : ⊥ = omega (arith, l) in n)
+rising_at (a ∷ es) zero (suc j) d e h l f g = let same : a ≡ d = cc in rw (← same) (at_place (IsEdgeBefore a) es j e h.0 g)
+rising_at (a ∷ es) (suc i) (suc j) d e h l f g = rising_at es i j d e h.1 (omega arith) f g
+
+-- where no edge has the symbol there is none
+none_found : (es : List Edge) (x : Symbol) → ((k : ℕ) (e : Edge) → slice_get es k ≡ Some e → same_symbol e.symbol x ≡ false) → find_edge es x ≡ None
+none_found [] x h = refl
+none_found (d ∷ es) x h = rw (h 0 d refl) (none_found es x (λ k e g. h (suc k) e g))
+
+-- what a search between two places keeps: all edges before come before the symbol, and it comes before those behind
+pub record Between (es : List Edge) (x : Symbol) (low high : ℕ) : Type 0 where
+  pub order : low ≤ high
+  pub within : high ≤ length es
+  pub below : (k : ℕ) (e : Edge) → k < low → slice_get es k ≡ Some e → IsSymbolBefore e.symbol x
+  pub above : (k : ℕ) (e : Edge) → high ≤ k → slice_get es k ≡ Some e → IsSymbolBefore x e.symbol
+
+pub between_all : (es : List Edge) (x : Symbol) → Between es x 0 (length es)
+between_all es x = record {
+  order = omega arith;
+  within = omega arith;
+  below = λ k e l g. absurd (let n : ⊥ = omega (arith, l) in n);
+  above = λ k e l g. absurd (let n : ⊥ = omega (arith, l, slice_get_within es k e g) in n);
+}
+
+module _ (es : List Edge) (x : Symbol) (low high middle : ℕ) (e : Edge) (rising : IsRising IsEdgeBefore es) (b : Between es x low high) (l : low ≤ middle) (m : middle < high) (at : slice_get es middle ≡ Some e) where
+  pub between_above : IsSymbolBefore e.symbol x → Between es x (middle + 1) high
+  between_above h = record {
+    order = omega arith;
+    within = b.within;
+    below = λ k f i g. elim (cases_eq k middle) [
+      | inl same ↦ (let one : f ≡ e = cc in rw one h)
+      | inr other ↦ before_before f.symbol e.symbol x (rising_at es k middle f e rising (omega arith) g at) h
+    ];
+    above = b.above;
+  }
+
+  pub between_below : IsSymbolBefore x e.symbol → Between es x low middle
+  between_below h = record {
+    order = l;
+    within = omega (arith, b.within);
+    below = b.below;
+    above = λ k f i g. elim (cases_eq k middle) [
+      | inl same ↦ (let one : f ≡ e = cc in rw one h)
+      | inr other ↦ before_before x e.symbol f.symbol h (rising_at es middle k e f rising (omega arith) at g)
+    ];
+  }
+
+pub none_between : (es : List Edge) (x : Symbol) (low high : ℕ) → Between es x low high → high ≤ low → find_edge es x ≡ None
+none_between es x low high b h = none_found es x (λ k e g. elim (cases_lt k low) [
+  | inl l ↦ before_not_same e.symbol x (b.below k e l g)
+  | inr l ↦ not_same_behind x e.symbol (b.above k e (omega arith) g)
+])
