@@ -1,0 +1,9 @@
+use Rattle.std.proofs.Common.{◌+◌, ◌-◌, ◌≡◌, List, ℕ, take, drop, ◌∙◌, rules, ap}
+use Rattle.mh_outside.proofs.Pieces.{reads_at}
+use Rattle.mh_outside.proofs.fakes.MemSourceSource.read.Goals as goal
+
+pub returns-clause-bytes : goal.returns-clause-bytes
+returns-clause-bytes c =
+    let is : c.copy_from_slice.new.self ≡ take (c.args.self.now.at + c.min-count.result - c.args.self.now.at) (drop c.args.self.now.at c.args.self.now.bytes.items) =
+    c.copy_from_slice.ensures.after ∙ ap (λ (l : List ℕ). take (c.args.self.now.at + c.min-count.result - c.args.self.now.at) (drop c.args.self.now.at l)) c.deref.ensures.value in
+    reads_at c.args.self.now.bytes.items c.args.buf.now c.copy_from_slice.new.self c.args.self.now.at c.min-count.result c.len.result is c.copy_from_slice.ensures.len c.min-count.ensures (search rules) (search rules)

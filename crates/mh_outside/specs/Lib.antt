@@ -1,0 +1,6 @@
+pub mod Faults
+pub mod Schedule
+pub mod Shelf
+pub mod Lines
+pub mod Sink
+pub mod Fakes

@@ -1,0 +1,102 @@
+ghost use Rattle.std.specs.Prelude.{◌≡◌, ◌<◌, ◌^◌, List, ℕ, Option, length};
+ghost use Rattle.mh_outside.specs.declared.lines.LineFault.TheVariants.{Memory, Failed as Failed'};
+ghost use Rattle.mh_outside.specs.Lines.{ReadsByte, ReadsLine, FindsLine, LineCounts};
+ghost use Rattle.mh_outside.specs.Faults.{Counts};
+
+use crate::{Failed, Source};
+use std::alloc::{AllocError, AllocFailed, Global};
+use thiserror::Error;
+
+#[derive(Clone, Copy, Debug, PartialEq, Eq, Error)]
+pub enum LineFault {
+    #[error("the input can't be read")]
+    Failed,
+    #[error("the line is too big")]
+    TooBig,
+    #[error("out of memory")]
+    Memory,
+}
+
+impl From<AllocError> for LineFault {
+    ghost from_gives = { λ _ e. e ≡ Memory };
+
+    fn from(_: AllocError) -> Self {
+        LineFault::Memory
+    }
+}
+
+impl<T: Drop> From<AllocFailed<T>> for LineFault {
+    ghost from_gives = { λ _ e. e ≡ Memory };
+
+    fn from(_: AllocFailed<T>) -> Self {
+        LineFault::Memory
+    }
+}
+
+const LF: u8 = b'\n';
+
+impl From<Failed> for LineFault {
+    ghost from_gives = { λ _ e. e ≡ Failed' };
+
+    fn from(_: Failed) -> Self {
+        LineFault::Failed
+    }
+}
+
+/// The next byte, or nothing at the end.
+fn read_byte<S: Source>(source: &mut S) -> Result<Option<u8>, Failed>
+    ensures bytes { ReadsByte (S.left source.old) (S.left source.new) result }
+    ensures counts { Counts (S.faults source.old) (S.faults source.new) result }
+{
+    let mut buf = [0u8; 1];
+    match source.read(&mut buf)? {
+        0 => Ok(None),
+        _ => Ok(Some(buf[0])),
+    }
+}
+
+/// What `read_line` does, said by the bytes that it takes.
+fn take_line<S: Source>(
+    alloc: Global,
+    source: &mut S,
+    limit: usize,
+) -> Result<Option<Vec<u8>>, LineFault>
+    ensures bytes { ReadsLine limit (S.left source.old) (S.left source.new) result }
+    ensures counts { LineCounts (S.faults source.old) (S.faults source.new) result }
+{
+    let mut line = Vec::new(alloc);
+    loop {
+        match read_byte(source)? {
+            None => return Ok(if line.is_empty() { None } else { Some(line) }),
+            Some(LF) => return Ok(Some(line)),
+            Some(byte) => {
+                let is_full = line.len() == limit;
+                if is_full {
+                    return Err(LineFault::TooBig);
+                }
+                if line.push(byte).is_err() {
+                    return Err(LineFault::Memory);
+                }
+            }
+        }
+    }
+}
+
+/// The bytes before the next LF, which is taken and is not in the line; the last line needs none. `None` at the end of
+/// the input, where no byte was left. It asks the source for one byte at a time, so nothing behind the line is taken.
+///
+/// # Errors
+///
+/// `TooBig` exactly where `limit + 1` bytes without LF were got, `Failed` where the source failed, and `Memory` where
+/// the line could not grow. The bytes that were got are then lost.
+pub fn read_line<S: Source>(
+    alloc: Global,
+    source: &mut S,
+    limit: usize,
+) -> Result<Option<Vec<u8>>, LineFault>
+    ensures bytes { ReadsLine limit (S.left source.old) (S.left source.new) result }
+    ensures found { FindsLine limit (S.left source.old) (S.left source.new) result }
+    ensures counts { LineCounts (S.faults source.old) (S.faults source.new) result }
+{
+    take_line(alloc, source, limit)
+}
