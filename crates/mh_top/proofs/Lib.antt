@@ -1,2 +1,5 @@
 pub mod Splits
 pub mod SoFar
+pub mod Loads
+pub mod Reports
+pub mod Worked

@@ -218,13 +218,13 @@ module _ (limit max m : ℕ) (all now : List Text → Text → Type 0) (in0 in1 
   pub ends : (in2 : Option Text) → IsAtEnd in1 × Keeps in1 in2 → EachRan limit max all in0 in2 out0 out1 (Ok tt)
   ends in2 h =
       let q = at_end limit max m in0 in1 in2 so_far.lines so_far.got h.0 h.1 in
-      (record { lines = so_far.lines; text = so_far.written; answers = answered; appends = so_far.appended; asks = q.0 }, q.1)
+      (record { lines = so_far.lines; text = so_far.written; answers = answered; appends = so_far.appended; asks = q.0; is_part = part_so_far }, q.1)
 
   pub too_much : (in2 : Option Text) (stop : Stop) → TooMuch limit m in1 → Halts TooBig too_big_input stop → EachRan limit max all in0 in2 out0 out1 (Err stop)
   too_much in2 (Halted cause line) much is = (
     is.0,
     is.1,
-    record { lines = so_far.lines; text = so_far.written; answers = answered; appends = so_far.appended; asks = not_all limit max m in0 in1 so_far.lines so_far.got much },
+    record { lines = so_far.lines; text = so_far.written; answers = answered; appends = so_far.appended; asks = not_all limit max m in0 in1 so_far.lines so_far.got much; is_part = part_so_far },
   )
   too_much in2 OutOfMemory much is = gives_up in2
   too_much in2 (ShelfFailed line) much is = absurd is

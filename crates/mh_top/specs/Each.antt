@@ -59,6 +59,7 @@ pub record Answered (limit max : ℕ) (all : List Text → Text → Type 0) (inp
   pub answers : all lines text
   pub appends : Appends out0 out1 text
   pub asks : Asks limit max input lines whole
+  pub is_part : IsPart limit max all input text
 
 -- the lines that were got whole were answered, before a read failed
 pub record AnsweredGot (limit max : ℕ) (all : List Text → Text → Type 0) (input left out0 out1 : Option Text) : Type 0 where

@@ -53,6 +53,11 @@ abbrev pub MayEnd : Option Files → Option Cause → Type 0
 MayEnd None (Some Missing) = ⊥
 MayEnd files cause = ⊤
 
+-- a part of what a plan writes on out
+abbrev pub IsOutPart : Plan → Option Text → Text → Type 0
+IsOutPart (Ends e) input text = IsPrefix text e.out
+IsOutPart (AsksEach answering) input text = IsPart line_limit max_lines (Answers answering) input text
+
 -- The work asked for ended as its outcome says, with this line to come on err.
 pub record EndsSo (Asked : Work → Type 0) (before now : World) (cause : Option Cause) (line : Text) : Type 0 where
   pub quiet : IsQuiet before now
@@ -63,14 +68,10 @@ pub record EndsSo (Asked : Work → Type 0) (before now : World) (cause : Option
   pub gives : Gives work before.left outcome
   pub cause_is : outcome.cause ≡ cause
   pub on_out : Appends before.out now.out outcome.out
+  pub is_part : IsOutPart work.plan before.left outcome.out
   pub on_err : Appends before.err now.err work.warnings
   pub line_is : outcome.err ≡ work.warnings ++ line
   pub left_is : LeftIs outcome.left now.left
-
--- a part of what a plan writes on out
-abbrev pub IsOutPart : Plan → Option Text → Text → Type 0
-IsOutPart (Ends e) input text = IsPrefix text e.out
-IsOutPart (AsksEach answering) input text = IsPart line_limit max_lines (Answers answering) input text
 
 -- nothing was written, but on err as `OnErr` says
 pub record WroteNothing (before now : World) (OnErr : Text → Type 0) : Type 0 where
@@ -132,6 +133,7 @@ pub record Does (Asked : Work → Type 0) (before now : World) (status : ℕ) : 
   pub gives : Gives work before.left outcome
   pub status_is : status ≡ status_of outcome.cause
   pub on_out : Appends before.out now.out outcome.out
+  pub is_part : IsOutPart work.plan before.left outcome.out
   pub on_err : Appends before.err now.err outcome.err
   pub left_is : LeftIs outcome.left now.left
   pub may : MayEnd before.files outcome.cause
