@@ -1,8 +1,8 @@
 -- What the fakes in memory hold, and how they answer.
 use Rattle.std.specs.Prelude.{◌≡◌, ◌⊎◌, ℕ, ◌+◌, ◌<◌, Bool, true, false, List, length, drop, Result, Ok, Err, vec_len, vec_capacity}
-use Rattle.mh_outside.specs.declared.fakes.MemShelf.{MemShelf}
-use Rattle.mh_outside.specs.declared.fakes.MemSource.{MemSource}
-use Rattle.mh_outside.specs.declared.fakes.MemSink.{MemSink}
+use Rattle.mh_outside.specs.declared.fakes.mem_shelf.MemShelf.{MemShelf}
+use Rattle.mh_outside.specs.declared.fakes.mem_source.MemSource.{MemSource}
+use Rattle.mh_outside.specs.declared.fakes.mem_sink.MemSink.{MemSink}
 use Rattle.mh_outside.specs.declared.shelf.ShelfFault.{ShelfFault}
 use Rattle.mh_outside.specs.declared.shelf.ShelfFault.TheVariants.{Failed}
 use Rattle.mh_outside.specs.Schedule.{Calls}

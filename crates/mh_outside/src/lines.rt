@@ -1,39 +1,25 @@
 ghost use Rattle.std.specs.Prelude.{◌≡◌, ◌<◌, ◌^◌, List, ℕ, Option, length};
-ghost use Rattle.mh_outside.specs.declared.lines.LineFault.TheVariants.{Memory, Failed as Failed'};
+ghost use Rattle.mh_outside.specs.declared.lines.LineFault.TheVariants.{Failed as Failed'};
 ghost use Rattle.mh_outside.specs.Lines.{ReadsByte, ReadsLine, FindsLine, LineCounts};
 ghost use Rattle.mh_outside.specs.Faults.{Counts};
 
 use crate::{Failed, Source};
-use std::alloc::{AllocError, AllocFailed, Global};
+use std::alloc::Global;
 use thiserror::Error;
 
+/// Why a line was not read.
 #[derive(Clone, Copy, Debug, PartialEq, Eq, Error)]
 pub enum LineFault {
+    /// The source failed.
     #[error("the input can't be read")]
     Failed,
+    /// More bytes than the limit were got without an LF.
     #[error("the line is too big")]
     TooBig,
+    /// The line could not grow.
     #[error("out of memory")]
     Memory,
 }
-
-impl From<AllocError> for LineFault {
-    ghost from_gives = { λ _ e. e ≡ Memory };
-
-    fn from(_: AllocError) -> Self {
-        LineFault::Memory
-    }
-}
-
-impl<T: Drop> From<AllocFailed<T>> for LineFault {
-    ghost from_gives = { λ _ e. e ≡ Memory };
-
-    fn from(_: AllocFailed<T>) -> Self {
-        LineFault::Memory
-    }
-}
-
-const LF: u8 = b'\n';
 
 impl From<Failed> for LineFault {
     ghost from_gives = { λ _ e. e ≡ Failed' };
@@ -42,6 +28,8 @@ impl From<Failed> for LineFault {
         LineFault::Failed
     }
 }
+
+const LF: u8 = b'\n';
 
 /// The next byte, or nothing at the end.
 fn read_byte<S: Source>(source: &mut S) -> Result<Option<u8>, Failed>

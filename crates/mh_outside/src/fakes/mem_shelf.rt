@@ -1,0 +1,71 @@
+ghost use Rattle.std.specs.Prelude.{◌≡◌, Some};
+ghost use Rattle.std.specs.Option.{option_copied};
+ghost use Rattle.mh_outside.specs.Faults.{ShelfCounts};
+ghost use Rattle.mh_outside.specs.Schedule.{no_calls, fails_next, after_call};
+ghost use Rattle.mh_outside.specs.Shelf.{files_of, file_at, HasDistinctNames, Reads};
+
+use crate::schedule::Schedule;
+use crate::{Shelf, ShelfFault};
+use std::alloc::Global;
+
+/// Files in memory.
+#[derive(Drop)]
+pub struct MemShelf {
+    files: Vec<(Vec<u8>, Vec<u8>)>,
+    schedule: Schedule,
+}
+
+impl MemShelf {
+    ghost use Rattle.mh_outside.specs.Fakes.{shelf_files, shelf_calls};
+
+    /// A shelf of these files, by name and bytes, whose calls with these numbers, from 1, fail.
+    pub fn new(files: Vec<(Vec<u8>, Vec<u8>)>, fails: Vec<u64>) -> Self
+        requires { HasDistinctNames (files_of files.items) }
+        ensures files { shelf_files result ≡ files_of files.items }
+        ensures calls { shelf_calls result ≡ no_calls fails.items }
+    {
+        MemShelf {
+            files,
+            schedule: Schedule::new(fails),
+        }
+    }
+}
+
+/// The bytes of the file with this name.
+fn file_of<'a>(files: &'a [(Vec<u8>, Vec<u8>)], name: &[u8]) -> Option<&'a [u8]>
+    ensures { option_copied result ≡ file_at (files_of files.now) name.now }
+{
+    let mut rest = files;
+    while let [file, after @ ..] = rest {
+        if name == file.0.as_slice() {
+            return Some(file.1.as_slice());
+        }
+        rest = after;
+    }
+    None
+}
+
+impl Shelf for MemShelf {
+    ghost use Rattle.mh_outside.specs.Fakes.{shelf_files, shelf_calls, FailsExactly};
+
+    ghost files = { λ s. Some (files_of s.files.items) };
+
+    ghost faults = { λ s. s.schedule.faults };
+
+    fn read_file(&mut self, alloc: Global, name: &[u8], limit: usize) -> Result<Vec<u8>, ShelfFault>
+        ensures answer { Reads (Some (shelf_files self.old)) name.now limit result }
+        ensures kept { Some (shelf_files self.new) ≡ Some (shelf_files self.old) }
+        ensures counts { ShelfCounts (shelf_calls self.old).faults (shelf_calls self.new).faults result }
+        ensures fails { FailsExactly (fails_next (shelf_calls self.old)) result }
+        ensures calls { shelf_calls self.new ≡ after_call (fails_next (shelf_calls self.old)) (shelf_calls self.old) }
+    {
+        if self.schedule.begin_call() {
+            return Err(ShelfFault::Failed);
+        }
+        match file_of(&self.files, name) {
+            None => Err(ShelfFault::Absent),
+            Some(bytes) if bytes.len() > limit => Err(ShelfFault::TooBig),
+            Some(bytes) => Ok(bytes.to_vec(alloc)?),
+        }
+    }
+}
