@@ -1,0 +1,10 @@
+pub mod Edges
+pub mod Ending
+pub mod Finding
+pub mod Longer
+pub mod Path
+pub mod Reductions
+pub mod Settling
+pub mod Trees
+pub mod Trying
+pub mod Waiting

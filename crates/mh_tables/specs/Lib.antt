@@ -1,2 +1,7 @@
 pub mod Facts
+pub mod Halting
+pub mod Moves
+pub mod Relative
+pub mod Run
+pub mod RunTrees
 pub mod Table

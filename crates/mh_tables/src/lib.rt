@@ -1,6 +1,13 @@
 //! Tables of a parser with the facts that they keep, and the test that every run on one ends.
 #![tactic(auto)]
 
+mod halting;
+mod moves;
 mod parts;
+mod relative;
+mod table;
 
+pub use halting::{Halting, check_halts};
 pub use parts::{Action, Fallback, Place, StateParts};
+pub use relative::HaltFault;
+pub use table::{Table, table_of};

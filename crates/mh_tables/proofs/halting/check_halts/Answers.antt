@@ -1,0 +1,11 @@
+use Rattle.mh_tables.proofs.Finding.{halts_from, not_halts}
+use Rattle.mh_tables.proofs.halting.check_halts.Goals as goal
+
+pub invariant_of-result : goal.invariant_of-result
+invariant_of-result c = record { facts = c.facts.ensures; halts = halts_from c.args.table (rw c.in-Ok-None.field-0-is at c.in-Ok-None.ensures) }
+
+pub returns-in-Ok-None-clause-halts : goal.returns-in-Ok-None-clause-halts
+returns-in-Ok-None-clause-halts c = halts_from c.args.table (rw c.in-Ok-None.field-0-is at c.in-Ok-None.ensures)
+
+pub returns-in-Ok-Some-clause-refused : goal.returns-in-Ok-Some-clause-refused
+returns-in-Ok-Some-clause-refused c = not_halts c.args.table c.in-Ok-Some.below c.in-Ok-Some.state c.in-Ok-Some.token (rw c.in-Ok-Some.field-0-is at c.in-Ok-Some.ensures)

@@ -1,0 +1,5 @@
+use Rattle.mh_tables.proofs.Finding.{one_loop as same}
+use Rattle.mh_tables.proofs.table.Table.one_loop.Goals as goal
+
+pub returns : goal.returns
+returns c = same c.args.self.now

@@ -1,0 +1,38 @@
+//! What a state does.
+ghost use Rattle.std.specs.Prelude.{◌≡◌, ◌<◌, length};
+ghost use Rattle.mh_tables.specs.Run.{move_of};
+ghost use Rattle.mh_tables.specs.Halting.{IsLook, look_list};
+ghost use Rattle.mh_tables.specs.Moves.{move_for};
+
+use crate::parts::{Action, Fallback};
+use crate::table::Table;
+use mh_grammar::Token;
+
+#[derive(Clone, Copy)]
+pub enum Choice {
+    Accept,
+    Ask,
+    Refuse,
+    Shift(u32),
+    Reduce(u32),
+}
+
+#[tactic(auto, unfolding(crate::specs::Run::move_of))]
+pub fn choose(table: &Table, state: u32, look: Option<Token>) -> Choice
+    requires state { state < length table.now.states }
+    requires look { IsLook table.now look }
+    ensures { move_for result ≡ move_of table.now state (look_list look) }
+{
+    match table.fallback(state) {
+        Some(Fallback::Accept) => Choice::Accept,
+        Some(Fallback::Reduce(production)) => Choice::Reduce(production),
+        None => match look {
+            None => Choice::Ask,
+            Some(token) => match table.action(state, token) {
+                Action::Shift(target) => Choice::Shift(target),
+                Action::Reduce(production) => Choice::Reduce(production),
+                Action::Refuse => Choice::Refuse,
+            },
+        },
+    }
+}

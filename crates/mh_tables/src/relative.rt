@@ -1,0 +1,283 @@
+//! Relative runs, tried one after another.
+ghost use Rattle.std.specs.Prelude.{◌≡◌, ◌<◌, ◌≤◌, length, All, IfOk, OnOk, Some, None};
+ghost use Rattle.std.specs.Option.{ForSome};
+ghost use Rattle.std.specs.List.Sorted.{IsPermutation};
+ghost use Rattle.mh_grammar.specs.Plain.{production_count};
+ghost use Rattle.mh_tables.specs.Table.{TableData, state_at};
+ghost use Rattle.mh_tables.specs.Run.{top_of as top};
+ghost use Rattle.mh_tables.specs.Halting.{IsLook, look_list, IsBeginning, beginning};
+ghost use Rattle.mh_tables.specs.Relative.{ReducedOr, ReducesNext, StackReduced, TriedOr, LoopsOr, Waits, LookFound, TokenFound, StateFound, AreTargets, TestFound};
+
+use crate::moves::{Choice, choose};
+use crate::parts::Action;
+use crate::table::Table;
+use mh_grammar::Token;
+use std::alloc::{AllocError, Global};
+
+/// Why a table is refused.
+#[derive(Clone, Copy, Debug, Drop, PartialEq, Eq)]
+pub enum HaltFault {
+    /// The relative run of `state`, alone (`below` is None, and the state is a start state) or above the state
+    /// `below`, with this next token or none, makes more than 10,000 reductions, and none before it does. Start states
+    /// alone come first, then edges by the lower state and then by the upper; with no token first, then with the
+    /// tokens rising.
+    Loops {
+        below: Option<u32>,
+        state: u32,
+        token: Option<Token>,
+    },
+    /// There was no memory for a stack.
+    Memory,
+}
+
+// The newest state of a stack.
+fn top_of(stack: &[u32]) -> u32
+    requires { 0 < length stack.now }
+    ensures { result ≡ top stack.now }
+{
+    stack[stack.len() - 1]
+}
+
+// The production that is reduced next.
+fn next_reduction(table: &Table, stack: &[u32], look: Option<Token>) -> Option<u32>
+    requires begun { 0 < length stack.now }
+    requires known { All (λ s. s < length table.now.states) stack.now }
+    requires look { IsLook table.now look }
+    ensures { ReducesNext table.now (look_list look) stack.now result }
+{
+    table.facts();
+    match choose(table, top_of(stack), look) {
+        Choice::Reduce(production) => Some(production),
+        _ => None,
+    }
+}
+
+// How many states stay in the reduction of a production, and which comes.
+fn stack_reduced(table: &Table, stack: &[u32], production: u32) -> Option<(usize, u32)>
+    requires known { All (λ s. s < length table.now.states) stack.now }
+    requires ordinary { length table.now.grammar.starts ≤ production }
+    requires production { production < production_count table.now.grammar }
+    ensures { StackReduced table.now production stack.now result }
+{
+    table.facts();
+    let taken = table.length_of(production) as usize;
+    if stack.len() <= taken {
+        return None;
+    }
+    let kept = stack.len() - taken;
+    match table.goto(stack[kept - 1], table.lhs_of(production)) {
+        Some(target) => Some((kept, target)),
+        None => None,
+    }
+}
+
+// Makes the reduction that comes next, or answers that none does.
+fn reduce_once(table: &Table, stack: &mut Vec<u32>, look: Option<Token>) -> Result<bool, AllocError>
+    requires begun { 0 < length stack.old.items }
+    requires known { All (λ s. s < length table.now.states) stack.old.items }
+    requires look { IsLook table.now look }
+    ensures ok { IfOk result (λ made. ReducedOr table.now (look_list look) stack.old.items stack.new.items made) }
+    ensures begun { OnOk result (0 < length stack.new.items) }
+    ensures known { OnOk result (All (λ s. s < length table.now.states) stack.new.items) }
+{
+    match next_reduction(table, stack, look) {
+        None => Ok(false),
+        Some(production) => match stack_reduced(table, stack, production) {
+            None => Ok(false),
+            Some((kept, target)) => {
+                stack.truncate(kept);
+                stack.push(target)?;
+                Ok(true)
+            }
+        },
+    }
+}
+
+// Puts the states with which a relative run begins in place of what was there.
+fn begin(
+    table: &Table,
+    stack: &mut Vec<u32>,
+    below: Option<u32>,
+    state: u32,
+) -> Result<(), AllocError>
+    requires below { ForSome below (λ r. r < length table.now.states) }
+    requires state { state < length table.now.states }
+    ensures stack { OnOk result (stack.new.items ≡ beginning below state) }
+    ensures begun { OnOk result (0 < length stack.new.items) }
+    ensures known { OnOk result (All (λ s. s < length table.now.states) stack.new.items) }
+{
+    stack.clear();
+    if let Some(below) = below {
+        stack.push(below)?;
+    }
+    stack.push(state)?;
+    Ok(())
+}
+
+// Whether the relative run makes more than 10,000 reductions; where it doesn't, `stack` holds what they leave.
+fn loops(
+    table: &Table,
+    stack: &mut Vec<u32>,
+    below: Option<u32>,
+    state: u32,
+    look: Option<Token>,
+) -> Result<bool, AllocError>
+    requires look { IsLook table.now look }
+    requires below { ForSome below (λ r. r < length table.now.states) }
+    requires state { state < length table.now.states }
+    ensures loops { IfOk result (λ found. LoopsOr table.now below state look found) }
+    ensures tried { IfOk result (λ found. TriedOr table.now below state look stack.new.items found) }
+    ensures begun { OnOk result (0 < length stack.new.items) }
+    ensures known { OnOk result (All (λ s. s < length table.now.states) stack.new.items) }
+{
+    begin(table, stack, below, state)?;
+    'tries: for _count in 0..10001u32 {
+        if !reduce_once(table, stack, look)? {
+            return Ok(false);
+        }
+    }
+    Ok(true)
+}
+
+// Whether it does with a token, where it stops in a state without default before it looks at one. A cell that
+// reduces nothing ends it there.
+fn loops_on(
+    table: &Table,
+    stack: &mut Vec<u32>,
+    below: Option<u32>,
+    state: u32,
+    top: u32,
+    token: Token,
+) -> Result<bool, AllocError>
+    requires token { token < table.now.grammar.tokens }
+    requires below { ForSome below (λ r. r < length table.now.states) }
+    requires state { state < length table.now.states }
+    requires top { top < length table.now.states }
+    requires waits { Waits table.now below state top }
+    ensures { IfOk result (λ found. LoopsOr table.now below state (Some token) found) }
+{
+    match table.action(top, token) {
+        Action::Reduce(_) => loops(table, stack, below, state, Some(token)),
+        _ => Ok(false),
+    }
+}
+
+// The first token with which it does.
+fn first_token(
+    table: &Table,
+    stack: &mut Vec<u32>,
+    below: Option<u32>,
+    state: u32,
+    top: u32,
+) -> Result<Option<Token>, AllocError>
+    requires below { ForSome below (λ r. r < length table.now.states) }
+    requires state { state < length table.now.states }
+    requires top { top < length table.now.states }
+    requires waits { Waits table.now below state top }
+    ensures { IfOk result (λ found. TokenFound table.now below state found) }
+{
+    'tokens: for token in 0..table.tokens() {
+        if loops_on(table, stack, below, state, top, token)? {
+            return Ok(Some(token));
+        }
+    }
+    Ok(None)
+}
+
+// The first look, in order, with which the relative run makes more than 10,000 reductions. The reductions that come
+// with no token come with each; where they stop in a state with a default, or before r is taken off, no token
+// changes that.
+fn first_look(
+    table: &Table,
+    stack: &mut Vec<u32>,
+    below: Option<u32>,
+    state: u32,
+) -> Result<Option<Option<Token>>, AllocError>
+    requires below { ForSome below (λ r. r < length table.now.states) }
+    requires state { state < length table.now.states }
+    ensures { IfOk result (λ found. LookFound table.now below state found) }
+{
+    if loops(table, stack, below, state, None)? {
+        return Ok(Some(None));
+    }
+    let top = top_of(stack);
+    match table.fallback(top) {
+        Some(_) => Ok(None),
+        None => match first_token(table, stack, below, state, top)? {
+            Some(token) => Ok(Some(Some(token))),
+            None => Ok(None),
+        },
+    }
+}
+
+// The first start state alone that begins a relative run of more than 10,000 reductions.
+fn first_start(
+    table: &Table,
+    stack: &mut Vec<u32>,
+) -> Result<Option<(u32, Option<Token>)>, AllocError>
+    ensures { IfOk result (λ found. StateFound table.now None found) }
+{
+    table.facts();
+    'states: for state in 0..u32::from(table.starts()) {
+        if let Some(look) = first_look(table, stack, None, state)? {
+            return Ok(Some((state, look)));
+        }
+    }
+    Ok(None)
+}
+
+// Where the edges of a state lead, in the order of states.
+fn targets_of(alloc: Global, table: &Table, from: u32) -> Result<Vec<u32>, AllocError>
+    requires { from < length table.now.states }
+    ensures { IfOk result (λ targets. AreTargets table.now from targets.items) }
+{
+    table.facts();
+    let edges = table.edges(from);
+    let mut targets = Vec::with_capacity(alloc, edges.len())?;
+    for edge in edges {
+        targets.push(edge.target)?;
+    }
+    targets.sort_unstable();
+    Ok(targets)
+}
+
+// The first state over a lower one that begins such a run.
+fn first_above(
+    alloc: Global,
+    table: &Table,
+    stack: &mut Vec<u32>,
+    below: u32,
+) -> Result<Option<(u32, Option<Token>)>, AllocError>
+    requires { below < length table.now.states }
+    ensures { IfOk result (λ found. StateFound table.now (Some below) found) }
+{
+    table.facts();
+    let targets = targets_of(alloc, table, below)?;
+    'targets: for target in targets.as_slice() {
+        if let Some(look) = first_look(table, stack, Some(below), *target)? {
+            return Ok(Some((*target, look)));
+        }
+    }
+    Ok(None)
+}
+
+/// The first relative run, in order, that makes more than 10,000 reductions: what is below its state, if anything,
+/// the state, and the next token, if one is given.
+pub(crate) fn first_loop(
+    alloc: Global,
+    table: &Table,
+) -> Result<Option<(Option<u32>, u32, Option<Token>)>, AllocError>
+    ensures { IfOk result (λ found. TestFound table.now found) }
+{
+    table.facts();
+    let mut stack = Vec::new(alloc);
+    if let Some((state, token)) = first_start(table, &mut stack)? {
+        return Ok(Some((None, state, token)));
+    }
+    'lower: for below in 0..table.states() {
+        if let Some((state, token)) = first_above(alloc, table, &mut stack, below)? {
+            return Ok(Some((Some(below), state, token)));
+        }
+    }
+    Ok(None)
+}
