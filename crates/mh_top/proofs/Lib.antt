@@ -3,3 +3,4 @@ pub mod SoFar
 pub mod Loads
 pub mod Reports
 pub mod Worked
+pub mod Steps

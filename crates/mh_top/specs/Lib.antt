@@ -10,3 +10,4 @@ pub mod TableStage
 pub mod Work
 pub mod Run
 pub mod Load
+pub mod Claims

@@ -2,8 +2,11 @@
 #![tactic(auto)]
 
 mod each;
+mod interpret;
 mod load;
 mod order;
+mod stages;
 mod stop;
+mod top;
 
 pub use stop::Cause;
