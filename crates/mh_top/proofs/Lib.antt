@@ -4,3 +4,5 @@ pub mod Loads
 pub mod Reports
 pub mod Worked
 pub mod Steps
+pub mod Endings
+pub mod Claims

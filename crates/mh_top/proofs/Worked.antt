@@ -120,7 +120,7 @@ all_misused (mode ∷ []) = refl
 all_misused (mode ∷ file ∷ []) = either_misused (bytes_eq mode (codes "--interpret") && not (is_dashed file)) (record { file = file }) bad_words
 all_misused (mode ∷ file ∷ more ∷ words) = refl
 
-words_misused : (words : List Text) (cause : Cause) (line : Text) → order_of words ≡ Halt cause line → cause ≡ Misused
+pub words_misused : (words : List Text) (cause : Cause) (line : Text) → order_of words ≡ Halt cause line → cause ≡ Misused
 words_misused words cause line is = ap cause_or_misused (sym is) ∙ all_misused words
 
 -- ---- a file

@@ -10,3 +10,4 @@ mod stop;
 mod top;
 
 pub use stop::Cause;
+pub use top::menhir;

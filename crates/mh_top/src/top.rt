@@ -2,7 +2,7 @@
 ghost use Rattle.std.specs.Prelude.{◌≡◌, map, string_bytes, ⊤};
 ghost use Rattle.mh_top.specs.Text.{cannot_read};
 ghost use Rattle.mh_top.specs.Work.{IsWorkOfTable, IsWorkOfGrammar, IsWorkOfFile, IsWorkOfOrder, Over};
-ghost use Rattle.mh_top.specs.Claims.{AskedBy, FileOf};
+ghost use Rattle.mh_top.specs.Claims.{AskedBy, FileOf, Completes, Finishes, IsStatus, MisuseHasCause, ReadFaultHasCause, AbsentIsSaid, WriteFaultHasCause, TooBigHasCause, LongFileIsSaid, LongInputIsSaid, WritesPart};
 ghost use Rattle.mh_top.specs.Run.{world, Worked, Ran, Reported, Says};
 
 use crate::interpret::interpret;
@@ -154,4 +154,54 @@ fn run<F: Shelf, I: Source, O: Sink, E: Sink>(
         Ok(()) => 0,
         Err(stop) => report(err, stop),
     }
+}
+
+/// Does what the words ask for, over any shelf, input and outputs, and gives the exit status: 0 done, 1 refused,
+/// 2 misused, 3 a read fault, 4 a write fault, 5 too big, 6 want of memory. The words are those of the command line
+/// without the program's name. The lines of the input are answered one after the other, each before the next is read.
+pub fn menhir<F: Shelf, I: Source, O: Sink, E: Sink>(
+    alloc: Global,
+    words: &[String],
+    shelf: &mut F,
+    input: &mut I,
+    out: &mut O,
+    err: &mut E,
+) -> u8
+    ensures complete { Completes (map string_bytes words.now)
+        (world F.files F.faults I.left I.faults O.written O.faults E.written E.faults shelf.old input.old out.old err.old)
+        (world F.files F.faults I.left I.faults O.written O.faults E.written E.faults shelf.new input.new out.new err.new) result }
+    ensures done { Finishes (map string_bytes words.now)
+        (world F.files F.faults I.left I.faults O.written O.faults E.written E.faults shelf.old input.old out.old err.old)
+        (world F.files F.faults I.left I.faults O.written O.faults E.written E.faults shelf.new input.new out.new err.new) result }
+    ensures status { IsStatus result }
+    ensures misuse { MisuseHasCause (map string_bytes words.now)
+        (world F.files F.faults I.left I.faults O.written O.faults E.written E.faults shelf.old input.old out.old err.old)
+        (world F.files F.faults I.left I.faults O.written O.faults E.written E.faults shelf.new input.new out.new err.new) result }
+    ensures read_fault { ReadFaultHasCause (map string_bytes words.now)
+        (world F.files F.faults I.left I.faults O.written O.faults E.written E.faults shelf.old input.old out.old err.old)
+        (world F.files F.faults I.left I.faults O.written O.faults E.written E.faults shelf.new input.new out.new err.new) result }
+    ensures absent { AbsentIsSaid (map string_bytes words.now)
+        (world F.files F.faults I.left I.faults O.written O.faults E.written E.faults shelf.old input.old out.old err.old)
+        (world F.files F.faults I.left I.faults O.written O.faults E.written E.faults shelf.new input.new out.new err.new) result }
+    ensures write_fault { WriteFaultHasCause
+        (world F.files F.faults I.left I.faults O.written O.faults E.written E.faults shelf.old input.old out.old err.old)
+        (world F.files F.faults I.left I.faults O.written O.faults E.written E.faults shelf.new input.new out.new err.new) result }
+    ensures too_big { TooBigHasCause (map string_bytes words.now)
+        (world F.files F.faults I.left I.faults O.written O.faults E.written E.faults shelf.old input.old out.old err.old)
+        (world F.files F.faults I.left I.faults O.written O.faults E.written E.faults shelf.new input.new out.new err.new) result }
+    ensures long_file { LongFileIsSaid (map string_bytes words.now)
+        (world F.files F.faults I.left I.faults O.written O.faults E.written E.faults shelf.old input.old out.old err.old)
+        (world F.files F.faults I.left I.faults O.written O.faults E.written E.faults shelf.new input.new out.new err.new) result }
+    ensures long_input { LongInputIsSaid (map string_bytes words.now)
+        (world F.files F.faults I.left I.faults O.written O.faults E.written E.faults shelf.old input.old out.old err.old)
+        (world F.files F.faults I.left I.faults O.written O.faults E.written E.faults shelf.new input.new out.new err.new) result }
+    ensures part { WritesPart (map string_bytes words.now)
+        (world F.files F.faults I.left I.faults O.written O.faults E.written E.faults shelf.old input.old out.old err.old)
+        (world F.files F.faults I.left I.faults O.written O.faults E.written E.faults shelf.new input.new out.new err.new) }
+    // How each run ended, in one piece.
+    ensures ran { Ran (AskedBy (map string_bytes words.now) (F.files shelf.old)) (FileOf (map string_bytes words.now))
+        (world F.files F.faults I.left I.faults O.written O.faults E.written E.faults shelf.old input.old out.old err.old)
+        (world F.files F.faults I.left I.faults O.written O.faults E.written E.faults shelf.new input.new out.new err.new) result }
+{
+    run(alloc, words, shelf, input, out, err)
 }
