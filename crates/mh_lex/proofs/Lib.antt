@@ -1,0 +1,4 @@
+pub mod Sums
+pub mod Levels
+pub mod Takes
+pub mod Spans

@@ -1,0 +1,13 @@
+use Rattle.std.proofs.Common.{◌≤◌, ◌-◌, length, drop}
+use Rattle.mh_lex.proofs.Levels.{Inside}
+use Rattle.mh_lex.proofs.code.code_length.Given as goal
+
+abbrev pub invariant-loop-length : goal.invariant-loop-length
+invariant-loop-length l = record {
+  inside : Inside l.code l.rest (drop l.at l.rest) l.outer;
+  within : l.at ≤ length l.rest;
+  below : l.outer ≤ l.at;
+}
+
+abbrev pub decreases-loop-length : goal.decreases-loop-length
+decreases-loop-length l = length l.rest - l.at

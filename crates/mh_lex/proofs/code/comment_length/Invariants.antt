@@ -1,0 +1,14 @@
+use Rattle.std.proofs.Common.{◌≤◌, ◌-◌, length, drop}
+use Rattle.mh_lex.specs.declared.kinds.Ends.TheVariants as ends
+use Rattle.mh_lex.proofs.Levels.{Inside}
+use Rattle.mh_lex.proofs.code.comment_length.Given as goal
+
+abbrev pub invariant-loop-length : goal.invariant-loop-length
+invariant-loop-length l = record {
+  inside : Inside ends.Comment l.rest (drop l.at l.rest) l.outer;
+  within : l.at ≤ length l.rest;
+  below : l.outer ≤ l.at;
+}
+
+abbrev pub decreases-loop-length : goal.decreases-loop-length
+decreases-loop-length l = length l.rest - l.at

@@ -1,0 +1,34 @@
+use Rattle.std.proofs.Common.{arith, length, sym, subst}
+use Rattle.mh_lex.proofs.Takes as takes
+use Rattle.mh_lex.proofs.Spans as spans
+use Rattle.mh_lex.proofs.scanning.lex.Goals as goal
+
+pub returns-in-Ended-clause-lexemes : goal.returns-in-Ended-clause-lexemes
+returns-in-Ended-clause-lexemes c = takes.SoFar-ended c.args.bytes.now c.loop-left.at c.loop-left.left c.loop-left.lexemes.items c.loop-left.invariant.so_far (omega arith) c.in-Ended.ensures
+
+pub loop-left-preserved : goal.loop-left-preserved
+loop-left-preserved c = record {
+  so_far = subst (λ k. takes.SoFar c.args.bytes.now c.in-Piece.end k c.add.new.lexemes.items) (sym c.still_left-left.ensures.value)
+      (takes.SoFar-next c.args.bytes.now c.loop-left.at c.loop-left.left c.in-Piece.end c.loop-left.lexemes.items c.add.new.lexemes.items c.in-Piece.what c.loop-left.invariant.so_far (omega arith)
+      c.in-Piece.ensures.0 c.in-Piece.ensures.1 c.in-Piece.ensures.2 c.in-Ok.ensures);
+  rises = spans.Rises-next c.loop-left.at c.in-Piece.end c.in-Piece.what c.loop-left.lexemes.items c.add.new.lexemes.items c.loop-left.invariant.rises c.in-Piece.ensures.0 c.in-Ok.ensures;
+  within = c.in-Piece.ensures.1;
+  left = omega (arith, c.still_left-left.ensures.within);
+}
+
+pub returns-in-Fault-clause-fault : goal.returns-in-Fault-clause-fault
+returns-in-Fault-clause-fault c = (
+  c.loop-left.lexemes.items,
+  c.loop-left.at,
+  takes.SoFar-fault c.args.bytes.now c.loop-left.at c.loop-left.left c.loop-left.lexemes.items c.loop-left.invariant.so_far (omega arith) c.loop-left.invariant.within c.in-Fault.ensures.0 c.in-Fault.ensures.1,
+  c.line_of.ensures,
+)
+
+pub returns-clause-lexemes : goal.returns-clause-lexemes
+returns-clause-lexemes c = takes.SoFar-trailer c.args.bytes.now c.loop-left.at c.loop-left.left c.loop-left.lexemes.items c.loop-left.invariant.so_far (omega arith)
+
+pub returns-in-Ended-clause-spans : goal.returns-in-Ended-clause-spans
+returns-in-Ended-clause-spans c = spans.Rises-longer 0 c.loop-left.at (length c.args.bytes.now) c.loop-left.lexemes.items c.loop-left.invariant.rises c.loop-left.invariant.within
+
+pub returns-clause-spans : goal.returns-clause-spans
+returns-clause-spans c = spans.Rises-longer 0 c.loop-left.at (length c.args.bytes.now) c.loop-left.lexemes.items c.loop-left.invariant.rises c.loop-left.invariant.within

@@ -1,0 +1,6 @@
+pub mod Bytes
+pub mod Spellings
+pub mod Steps
+pub mod Bodies
+pub mod Begins
+pub mod Lexing

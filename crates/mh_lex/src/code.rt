@@ -1,0 +1,241 @@
+//! Code, comments and types, up to what closes them.
+ghost use Rattle.std.specs.Prelude.{◌≡◌, ◌-◌, ◌<◌, ◌≤◌, ℕ, length, drop, List, IfSome, IfNone, IsTrue};
+ghost use Rattle.mh_lex.specs.declared.kinds.Ends.TheVariants as ends;
+ghost use Rattle.mh_lex.specs.Bytes.{byte_at, has, is_word_start};
+ghost use Rattle.mh_lex.specs.Spellings.{quoted_id, quoted_rest};
+ghost use Rattle.mh_lex.specs.Bodies.{Body};
+ghost use Rattle.mh_lex.specs.Steps.{begins_comment, passes, opener, single, item, plain, closer, has_remarks, step, Within};
+
+use crate::items::{
+    has_byte, literal_length, quoted_length, quoted_opening_length, starts_word, string_length,
+    word_length,
+};
+use crate::kinds::{Ends, Step};
+
+/// Whether a comment begins here.
+pub fn starts_comment(rest: &[u8]) -> bool
+    ensures value { result ≡ begins_comment rest.now }
+    ensures within { IsTrue result → 2 ≤ length rest.now }
+{
+    has_byte(rest, 0, b'(') && has_byte(rest, 1, b'*')
+}
+
+/// Whether the byte that nests stands here.
+fn nests(ends: Ends, rest: &[u8]) -> bool
+    ensures value { result ≡ has rest.now 0 (opener ends) }
+    ensures within { IsTrue result → 1 ≤ length rest.now }
+{
+    match ends {
+        Ends::Brace => has_byte(rest, 0, b'{'),
+        Ends::Bracket => has_byte(rest, 0, b'['),
+        Ends::Comment | Ends::Header | Ends::Angle | Ends::Slash => false,
+    }
+}
+
+/// A single byte.
+fn single_step(ends: Ends, rest: &[u8]) -> Step
+    ensures value { result ≡ single ends rest.now }
+    ensures within { Within (length rest.now) result }
+{
+    if rest.is_empty() {
+        Step::Stuck
+    } else if nests(ends, rest) {
+        Step::Nests
+    } else {
+        Step::Passes(1)
+    }
+}
+
+/// Whether a word begins here.
+fn begins_word(rest: &[u8]) -> bool
+    ensures value { result ≡ is_word_start (byte_at rest.now 0) }
+{
+    match rest.first() {
+        Some(first) => starts_word(*first),
+        None => false,
+    }
+}
+
+/// A quoted string behind its opening.
+fn quoted_step(opening: usize, rest: &[u8]) -> Step
+    requires { (2 ≤ opening) × (opening ≤ length rest.now) }
+    ensures value { result ≡ passes opening (quoted_rest (quoted_id opening rest.now) (drop opening rest.now)) }
+    ensures within { Within (length rest.now) result }
+{
+    match quoted_length(&rest[1..opening - 1], &rest[opening..]) {
+        Some(length) => Step::Passes(length + opening),
+        None => Step::Stuck,
+    }
+}
+
+/// The first that fits of a string, a character literal, a word, a quoted string and a byte.
+#[tactic(auto, unfolding(crate::specs::Steps::item))]
+fn item_at(ends: Ends, rest: &[u8]) -> Step
+    ensures value { result ≡ item ends rest.now }
+    ensures within { Within (length rest.now) result }
+{
+    if has_byte(rest, 0, b'"') {
+        return match string_length(&rest[1..]) {
+            Some(length) => Step::Passes(length + 1),
+            None => Step::Stuck,
+        };
+    }
+    let literal = literal_length(rest);
+    if literal > 0 {
+        return Step::Passes(literal);
+    }
+    if begins_word(rest) {
+        return Step::Passes(word_length(rest));
+    }
+    let opening = quoted_opening_length(rest);
+    if opening > 0 {
+        return quoted_step(opening, rest);
+    }
+    single_step(ends, rest)
+}
+
+/// What stands at the front where nothing closes and no comment begins.
+fn plain_step(ends: Ends, rest: &[u8]) -> Step
+    ensures value { result ≡ plain ends rest.now }
+    ensures within { Within (length rest.now) result }
+{
+    match ends {
+        Ends::Comment | Ends::Brace | Ends::Bracket | Ends::Header => item_at(ends, rest),
+        Ends::Angle => if has_byte(rest, 0, b'-') && has_byte(rest, 1, b'>') {
+            Step::Passes(2)
+        } else {
+            single_step(ends, rest)
+        },
+        Ends::Slash => single_step(ends, rest),
+    }
+}
+
+/// The length of what closes the code, 0 where it does not stand here.
+fn closing_length(ends: Ends, rest: &[u8]) -> usize
+    ensures value { result ≡ closer ends rest.now }
+    ensures within { result ≤ length rest.now }
+{
+    match ends {
+        Ends::Comment => if has_byte(rest, 0, b'*') && has_byte(rest, 1, b')') {
+            2
+        } else {
+            0
+        },
+        Ends::Brace => if has_byte(rest, 0, b'}') { 1 } else { 0 },
+        Ends::Bracket => if has_byte(rest, 0, b']') { 1 } else { 0 },
+        Ends::Header => if has_byte(rest, 0, b'%') && has_byte(rest, 1, b'}') {
+            2
+        } else {
+            0
+        },
+        Ends::Angle => if has_byte(rest, 0, b'>') { 1 } else { 0 },
+        Ends::Slash => if has_byte(rest, 0, b'*') && has_byte(rest, 1, b'/') {
+            2
+        } else {
+            0
+        },
+    }
+}
+
+/// Whether comments inside are passed over whole.
+fn passes_comments(ends: Ends) -> bool
+    ensures { result ≡ has_remarks ends }
+{
+    !matches!(ends, Ends::Slash)
+}
+
+/// What stands at the front inside of code.
+#[tactic(auto, unfolding(crate::specs::Steps::step))]
+fn step_at(ends: Ends, rest: &[u8]) -> Step
+    ensures value { result ≡ step ends rest.now }
+    ensures within { Within (length rest.now) result }
+{
+    let closing = closing_length(ends, rest);
+    if closing > 0 {
+        Step::Closes(closing)
+    } else if passes_comments(ends) && starts_comment(rest) {
+        Step::Remark
+    } else {
+        plain_step(ends, rest)
+    }
+}
+
+/// What stands at a place inside of code.
+fn step_from(ends: Ends, bytes: &[u8], at: usize) -> Step
+    requires { at ≤ length bytes.now }
+    ensures value { result ≡ step ends (drop at bytes.now) }
+    ensures within { Within (length bytes.now - at) result }
+{
+    step_at(ends, &bytes[at..])
+}
+
+/// How many bytes there are up to and with a comment's end, None where it has none.
+fn comment_length(rest: &[u8]) -> Option<usize>
+    ensures some { IfSome result (λ n. (n ≤ length rest.now) × Body ends.Comment rest.now (drop n rest.now)) }
+    ensures none { IfNone result ((after : List ℕ) → Body ends.Comment rest.now after → ⊥) }
+{
+    let mut at = 0usize;
+    let mut outer = 0usize;
+    loop {
+        match step_from(Ends::Comment, rest, at) {
+            Step::Closes(length) => {
+                if outer == 0 {
+                    return Some(at + length);
+                }
+                outer -= 1;
+                at += length;
+            }
+            Step::Passes(length) => at += length,
+            Step::Nests => {
+                outer += 1;
+                at += 1;
+            }
+            Step::Remark => {
+                outer += 1;
+                at += 2;
+            }
+            Step::Stuck => return None,
+        }
+    }
+}
+
+/// How many bytes there are from a place up to and with a comment's end, None where it has none.
+fn comment_from(bytes: &[u8], at: usize) -> Option<usize>
+    requires { at ≤ length bytes.now }
+    ensures some { IfSome result (λ n. (n ≤ length bytes.now - at) × Body ends.Comment (drop at bytes.now) (drop n (drop at bytes.now))) }
+    ensures none { IfNone result ((after : List ℕ) → Body ends.Comment (drop at bytes.now) after → ⊥) }
+{
+    comment_length(&bytes[at..])
+}
+
+/// How many bytes there are up to and with what closes the code, None where nothing does.
+pub fn code_length(code: Ends, rest: &[u8]) -> Option<usize>
+    ensures some { IfSome result (λ n. (n ≤ length rest.now) × Body code rest.now (drop n rest.now)) }
+    ensures none { IfNone result ((after : List ℕ) → Body code rest.now after → ⊥) }
+{
+    let mut at = 0usize;
+    let mut outer = 0usize;
+    loop {
+        match step_from(code, rest, at) {
+            Step::Closes(length) => {
+                if outer == 0 {
+                    return Some(at + length);
+                }
+                outer -= 1;
+                at += length;
+            }
+            Step::Passes(length) => at += length,
+            Step::Nests => {
+                outer += 1;
+                at += 1;
+            }
+            Step::Remark => {
+                let Some(length) = comment_from(rest, at + 2) else {
+                    return None;
+                };
+                at += 2 + length;
+            }
+            Step::Stuck => return None,
+        }
+    }
+}

@@ -1,0 +1,165 @@
+//! What begins a lexeme.
+ghost use Rattle.std.specs.Prelude.{◌≡◌, ◌+◌, ◌-◌, ◌<◌, ◌≤◌, length, drop, nat_eq};
+ghost use Rattle.std.specs.Cmp.Lexicographic.{pointwise};
+ghost use Rattle.mh_lex.specs.Bytes.{is_blank, is_mark};
+ghost use Rattle.mh_lex.specs.Begins.{line_rest, is_keyword, keyword, percent, slash, front, Begins};
+
+use crate::code::starts_comment;
+use crate::items::{has_byte, starts_word, string_length, word_length};
+use crate::kinds::{Ends, Front, Kind};
+
+fn is_blank_byte(byte: u8) -> bool
+    ensures { result ≡ is_blank byte }
+{
+    byte == b' ' || byte == b'\t' || byte == b'\n' || byte == b'\r' || byte == 12
+}
+
+fn is_mark_byte(byte: u8) -> bool
+    ensures { result ≡ is_mark byte }
+{
+    byte == b':'
+        || byte == b'|'
+        || byte == b'='
+        || byte == b','
+        || byte == b';'
+        || byte == b'('
+        || byte == b')'
+        || byte == b'?'
+        || byte == b'*'
+        || byte == b'+'
+}
+
+/// How many bytes there are up to the end of the line.
+fn line_length(rest: &[u8]) -> usize
+    ensures value { result ≡ line_rest rest.now }
+    ensures within { result ≤ length rest.now }
+{
+    let mut length = 0;
+    for byte in rest {
+        if *byte == b'\n' {
+            return length;
+        }
+        length += 1;
+    }
+    length
+}
+
+fn is_text(bytes: &[u8], text: &[u8]) -> bool
+    ensures { result ≡ pointwise nat_eq bytes.now text.now }
+{
+    bytes == text
+}
+
+#[tactic(auto, unfolding(crate::specs::Begins::is_keyword))]
+fn is_keyword_text(word: &[u8]) -> bool
+    ensures { result ≡ is_keyword word.now }
+{
+    is_text(word, b"token")
+        || is_text(word, b"start")
+        || is_text(word, b"type")
+        || is_text(word, b"left")
+        || is_text(word, b"right")
+        || is_text(word, b"nonassoc")
+        || is_text(word, b"on_error_reduce")
+        || is_text(word, b"parameter")
+        || is_text(word, b"attribute")
+        || is_text(word, b"public")
+        || is_text(word, b"inline")
+        || is_text(word, b"prec")
+}
+
+/// The keyword of which this is the word behind its percent sign.
+#[tactic(auto, unfolding(crate::specs::Begins::keyword))]
+fn keyword_at(behind: &[u8]) -> Front
+    ensures value { result ≡ keyword behind.now }
+    ensures within { Begins (length behind.now + 1) result }
+{
+    let length = word_length(behind);
+    if is_keyword_text(&behind[..length]) {
+        Front::Short(Some(Kind::Keyword), length + 1)
+    } else {
+        Front::Fault
+    }
+}
+
+/// What begins with a percent sign.
+#[tactic(auto, unfolding(crate::specs::Begins::percent))]
+fn percent_at(rest: &[u8]) -> Front
+    requires { 0 < length rest.now }
+    ensures value { result ≡ percent rest.now }
+    ensures within { Begins (length rest.now) result }
+{
+    if has_byte(rest, 1, b'%') {
+        return Front::Short(Some(Kind::Percents), 2);
+    }
+    if has_byte(rest, 1, b'{') {
+        return Front::Long(Some(Kind::Header), Ends::Header, 2);
+    }
+    if has_byte(rest, 1, b'[') && has_byte(rest, 2, b'@') {
+        return Front::Long(Some(Kind::Attribute), Ends::Bracket, 3);
+    }
+    keyword_at(&rest[1..])
+}
+
+/// What begins with a slash.
+#[tactic(auto, unfolding(crate::specs::Begins::slash))]
+fn slash_at(rest: &[u8]) -> Front
+    requires { 0 < length rest.now }
+    ensures value { result ≡ slash rest.now }
+    ensures within { Begins (length rest.now) result }
+{
+    if has_byte(rest, 1, b'*') {
+        Front::Long(None, Ends::Slash, 2)
+    } else if has_byte(rest, 1, b'/') {
+        Front::Short(None, line_length(&rest[2..]) + 2)
+    } else {
+        Front::Fault
+    }
+}
+
+/// What stands at the front.
+#[tactic(auto, unfolding(crate::specs::Begins::front))]
+pub fn front_of(rest: &[u8]) -> Front
+    ensures value { result ≡ front rest.now }
+    ensures within { Begins (length rest.now) result }
+{
+    let Some(first) = rest.first() else {
+        return Front::Ended;
+    };
+    let first = *first;
+    if is_blank_byte(first) {
+        Front::Short(None, 1)
+    } else if starts_word(first) {
+        Front::Short(Some(Kind::Word), word_length(rest))
+    } else if starts_comment(rest) {
+        Front::Long(None, Ends::Comment, 2)
+    } else if is_mark_byte(first) {
+        Front::Short(Some(Kind::Mark), 1)
+    } else if first == b'%' {
+        percent_at(rest)
+    } else if first == b'/' {
+        slash_at(rest)
+    } else if first == b'"' {
+        match string_length(&rest[1..]) {
+            Some(length) => Front::Short(Some(Kind::Quoted), length + 1),
+            None => Front::Fault,
+        }
+    } else if first == b'{' {
+        Front::Long(Some(Kind::Action), Ends::Brace, 1)
+    } else if first == b'<' {
+        Front::Long(Some(Kind::TypeText), Ends::Angle, 1)
+    } else if first == b'[' && has_byte(rest, 1, b'@') {
+        Front::Long(Some(Kind::Attribute), Ends::Bracket, 2)
+    } else {
+        Front::Fault
+    }
+}
+
+/// What stands at a place.
+pub fn front_from(bytes: &[u8], at: usize) -> Front
+    requires { at ≤ length bytes.now }
+    ensures value { result ≡ front (drop at bytes.now) }
+    ensures within { Begins (length bytes.now - at) result }
+{
+    front_of(&bytes[at..])
+}

@@ -1,0 +1,230 @@
+//! Words, strings, quoted strings and character literals.
+ghost use Rattle.std.specs.Prelude.{◌≡◌, ◌+◌, ◌<◌, ◌≤◌, ◌==◌, ◌&&◌, not, false, length, drop, IfSome, IsTrue};
+ghost use Rattle.mh_lex.specs.Bytes.{byte_at, has, is_word_start, is_word_byte, is_decimal, is_octal, is_hexadecimal, is_id_byte, is_escape};
+ghost use Rattle.mh_lex.specs.Spellings.{word_rest, string_rest, id_rest, quoted_opening, closes_quoted, quoted_rest, escaped, literal};
+
+/// Whether this byte stands at a place.
+pub fn has_byte(rest: &[u8], place: usize, byte: u8) -> bool
+    ensures value { result ≡ has rest.now place byte }
+    ensures within { IsTrue result → place < length rest.now }
+{
+    match rest.get(place) {
+        Some(found) => *found == byte,
+        None => false,
+    }
+}
+
+pub fn starts_word(byte: u8) -> bool
+    ensures { result ≡ is_word_start byte }
+{
+    byte.is_ascii_alphabetic() || byte == b'_'
+}
+
+fn continues_word(byte: u8) -> bool
+    ensures { result ≡ is_word_byte byte }
+{
+    starts_word(byte) || byte.is_ascii_digit() || byte == b'\''
+}
+
+fn continues_id(byte: u8) -> bool
+    ensures { result ≡ is_id_byte byte }
+{
+    byte.is_ascii_lowercase() || byte == b'_'
+}
+
+/// How many bytes of a word are left.
+pub fn word_length(rest: &[u8]) -> usize
+    ensures value { result ≡ word_rest rest.now }
+    ensures within { result ≤ length rest.now }
+{
+    let mut length = 0;
+    for byte in rest {
+        if !continues_word(*byte) {
+            return length;
+        }
+        length += 1;
+    }
+    length
+}
+
+/// Whether this is the wanted byte, not taken by a backslash.
+fn is_free(taken: bool, byte: u8, wanted: u8) -> bool
+    ensures { result ≡ (not taken && byte == wanted) }
+{
+    !taken && byte == wanted
+}
+
+/// How many bytes there are up to and with a string's closing quote.
+#[tactic(auto, using(crate::proofs::Sums::plus_more))]
+pub fn string_length(rest: &[u8]) -> Option<usize>
+    ensures value { result ≡ string_rest false rest.now }
+    ensures within { IfSome result (λ n. n ≤ length rest.now) }
+{
+    let mut taken = false;
+    for (place, byte) in rest.iter().enumerate() {
+        if is_free(taken, *byte, b'"') {
+            return Some(place + 1);
+        }
+        taken = is_free(taken, *byte, b'\\');
+    }
+    None
+}
+
+/// How many bytes of a quoted string's id are left.
+fn id_length(rest: &[u8]) -> usize
+    ensures value { result ≡ id_rest rest.now }
+    ensures within { result ≤ length rest.now }
+{
+    let mut length = 0;
+    for byte in rest {
+        if !continues_id(*byte) {
+            return length;
+        }
+        length += 1;
+    }
+    length
+}
+
+/// The length of a quoted string's opening, 0 where none stands here.
+#[tactic(auto, unfolding(crate::specs::Spellings::quoted_opening))]
+pub fn quoted_opening_length(rest: &[u8]) -> usize
+    ensures value { result ≡ quoted_opening rest.now }
+    ensures within { result ≤ length rest.now }
+    ensures least { 0 < result → 2 ≤ result }
+{
+    if !has_byte(rest, 0, b'{') {
+        return 0;
+    }
+    let id = id_length(&rest[1..]);
+    if has_byte(rest, id + 1, b'|') {
+        id + 2
+    } else {
+        0
+    }
+}
+
+/// Whether this id and a brace follow.
+#[tactic(auto, unfolding(crate::specs::Spellings::closes_quoted))]
+fn closes_quoted_string(id: &[u8], rest: &[u8]) -> bool
+    ensures value { result ≡ closes_quoted id.now rest.now }
+    ensures within { IsTrue result → length id.now < length rest.now }
+{
+    rest.starts_with(id) && has_byte(rest, id.len(), b'}')
+}
+
+/// Whether a bar, this id and a brace stand at a place.
+fn closes_at(id: &[u8], rest: &[u8], place: usize) -> bool
+    requires { place < length rest.now }
+    ensures value { result ≡ (byte_at rest.now place == 124 && closes_quoted id.now (drop (place + 1) rest.now)) }
+    ensures within { IsTrue result → place + 1 + length id.now < length rest.now }
+{
+    rest[place] == b'|' && closes_quoted_string(id, &rest[place + 1..])
+}
+
+/// How many bytes there are up to and with what closes a quoted string of this id.
+#[tactic(auto, using(crate::proofs::Sums::plus_more))]
+pub fn quoted_length(id: &[u8], rest: &[u8]) -> Option<usize>
+    ensures value { result ≡ quoted_rest id.now rest.now }
+    ensures within { IfSome result (λ n. n ≤ length rest.now) }
+{
+    for place in 0..rest.len() {
+        if closes_at(id, rest, place) {
+            return Some(place + id.len() + 2);
+        }
+    }
+    None
+}
+
+fn has_decimal(rest: &[u8], place: usize) -> bool
+    ensures value { result ≡ is_decimal (byte_at rest.now place) }
+{
+    match rest.get(place) {
+        Some(found) => found.is_ascii_digit(),
+        None => false,
+    }
+}
+
+fn has_octal(rest: &[u8], place: usize) -> bool
+    ensures value { result ≡ is_octal (byte_at rest.now place) }
+{
+    match rest.get(place) {
+        Some(found) => *found >= b'0' && *found <= b'7',
+        None => false,
+    }
+}
+
+fn has_hexadecimal(rest: &[u8], place: usize) -> bool
+    ensures value { result ≡ is_hexadecimal (byte_at rest.now place) }
+{
+    match rest.get(place) {
+        Some(found) => found.is_ascii_hexdigit(),
+        None => false,
+    }
+}
+
+/// Whether what may stand behind the backslash of a character stands at a place.
+fn has_escape(rest: &[u8], place: usize) -> bool
+    ensures value { result ≡ is_escape (byte_at rest.now place) }
+{
+    match rest.get(place) {
+        Some(found) => {
+            *found == b'\\'
+                || *found == b'\''
+                || *found == b'"'
+                || *found == b'n'
+                || *found == b't'
+                || *found == b'b'
+                || *found == b'r'
+                || *found == b' '
+        }
+        None => false,
+    }
+}
+
+/// The length of a character literal with a backslash, 0 where none stands here.
+#[tactic(auto, unfolding(crate::specs::Spellings::escaped))]
+fn escaped_length(rest: &[u8]) -> usize
+    ensures value { result ≡ escaped rest.now }
+    ensures within { result ≤ length rest.now }
+{
+    if has_escape(rest, 2) && has_byte(rest, 3, b'\'') {
+        4
+    } else if has_decimal(rest, 2)
+        && has_decimal(rest, 3)
+        && has_decimal(rest, 4)
+        && has_byte(rest, 5, b'\'')
+    {
+        6
+    } else if has_byte(rest, 2, b'x')
+        && has_hexadecimal(rest, 3)
+        && has_hexadecimal(rest, 4)
+        && has_byte(rest, 5, b'\'')
+    {
+        6
+    } else if has_byte(rest, 2, b'o')
+        && has_octal(rest, 3)
+        && has_octal(rest, 4)
+        && has_octal(rest, 5)
+        && has_byte(rest, 6, b'\'')
+    {
+        7
+    } else {
+        0
+    }
+}
+
+/// The length of a character literal, 0 where none stands here.
+#[tactic(auto, unfolding(crate::specs::Spellings::literal))]
+pub fn literal_length(rest: &[u8]) -> usize
+    ensures value { result ≡ literal rest.now }
+    ensures within { result ≤ length rest.now }
+{
+    if !has_byte(rest, 0, b'\'') {
+        return 0;
+    }
+    match rest.get(1) {
+        Some(b'\\') => escaped_length(rest),
+        Some(b'\'' | b'\n') | None => 0,
+        Some(_) => if has_byte(rest, 2, b'\'') { 3 } else { 0 },
+    }
+}

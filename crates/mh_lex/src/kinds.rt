@@ -1,0 +1,99 @@
+//! What stands at the front of some bytes.
+ghost use Rattle.std.specs.Prelude.{◌≡◌};
+ghost use Rattle.mh_lex.specs.declared.kinds.SyntaxFault.TheVariants.{Memory};
+
+use std::alloc::AllocError;
+use thiserror::Error;
+
+/// A row of the table of lexemes.
+#[derive(Clone, Copy, Debug, Drop, PartialEq, Eq)]
+pub enum Kind {
+    /// An ASCII letter or `_`, then letters, digits, `_` and `'`.
+    Word,
+    /// One of `:` `|` `=` `,` `;` `(` `)` `?` `*` `+`.
+    Mark,
+    /// `%%`.
+    Percents,
+    /// `%` and one of the words that it may stand before.
+    Keyword,
+    /// A string between `"`, in which `\` takes the next byte with it.
+    Quoted,
+    /// `%{` to `%}`.
+    Header,
+    /// `{` to the `}` that closes it.
+    Action,
+    /// `<` to the first `>` that is not the end of `->`.
+    TypeText,
+    /// `[@` or `%[@` to the `]` that closes it.
+    Attribute,
+}
+
+/// A lexeme, and the places of its first byte and behind its last one.
+#[derive(Clone, Copy, Debug, Drop, PartialEq, Eq)]
+pub struct Lexeme {
+    pub kind: Kind,
+    pub start: usize,
+    pub end: usize,
+}
+
+/// Why bytes are not read.
+#[derive(Clone, Copy, Debug, Drop, PartialEq, Eq, Error)]
+pub enum SyntaxFault {
+    /// What begins on this line, from 1 on, is no lexeme, or is not closed.
+    #[error("{line}: syntax error")]
+    Syntax { line: u32 },
+    #[error("out of memory")]
+    Memory,
+}
+
+impl From<AllocError> for SyntaxFault {
+    ghost from_gives = { λ _ fault. fault ≡ Memory };
+
+    fn from(_error: AllocError) -> SyntaxFault {
+        SyntaxFault::Memory
+    }
+}
+
+/// What closes a stretch of code, a comment or a type.
+#[derive(Clone, Copy, Drop)]
+pub enum Ends {
+    /// `*)`
+    Comment,
+    /// `}`
+    Brace,
+    /// `]`
+    Bracket,
+    /// `%}`
+    Header,
+    /// `>`
+    Angle,
+    /// `*/`
+    Slash,
+}
+
+/// What stands at the front inside of code, with its length.
+#[derive(Clone, Copy, Drop)]
+pub enum Step {
+    Closes(usize),
+    Passes(usize),
+    Nests,
+    Remark,
+    Stuck,
+}
+
+/// What stands at the front outside of code, with its length. What has no kind is dropped.
+#[derive(Clone, Copy, Drop)]
+pub enum Front {
+    Ended,
+    Short(Option<Kind>, usize),
+    Long(Option<Kind>, Ends, usize),
+    Fault,
+}
+
+/// What was taken, and where it ends.
+#[derive(Clone, Copy, Drop)]
+pub enum Taking {
+    Ended,
+    Piece(Option<Kind>, usize),
+    Fault,
+}

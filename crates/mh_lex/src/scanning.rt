@@ -1,0 +1,124 @@
+//! The lexemes of a file.
+ghost use Rattle.std.specs.Prelude.{◌≡◌, ℕ, List, ◌-◌, ◌<◌, ◌≤◌, ◌^◌, length, drop, IfSome, IfNone, IfOk, OnOk, Option, None, ◌++◌, ◌==◌};
+ghost use Rattle.std.specs.List.{count_by};
+ghost use Rattle.mh_lex.specs.declared.kinds.Lexeme.{Lexeme};
+ghost use Rattle.mh_lex.specs.Bodies.{Body};
+ghost use Rattle.mh_lex.specs.Lexing.{Lexes, Finds, Rises, line_at, left_after, piece, Refuses};
+
+use crate::code::code_length;
+use crate::fronts::front_from;
+use crate::kinds::{Ends, Front, Kind, Lexeme, SyntaxFault, Taking};
+use std::alloc::{AllocError, Global};
+
+/// How many bytes there are from a place up to what closes the code.
+fn code_from(code: Ends, bytes: &[u8], at: usize) -> Option<usize>
+    requires { at ≤ length bytes.now }
+    ensures some { IfSome result (λ n. (n ≤ length bytes.now - at) × Body code (drop at bytes.now) (drop n (drop at bytes.now))) }
+    ensures none { IfNone result ((after : List ℕ) → Body code (drop at bytes.now) after → ⊥) }
+{
+    code_length(code, &bytes[at..])
+}
+
+/// What is taken at a place.
+fn taken_at(bytes: &[u8], at: usize) -> Taking
+    requires { at ≤ length bytes.now }
+    ensures { Finds bytes.now at result }
+{
+    match front_from(bytes, at) {
+        Front::Ended => Taking::Ended,
+        Front::Short(what, length) => Taking::Piece(what, at + length),
+        Front::Long(what, code, opening) => {
+            match code_from(code, bytes, at + opening) {
+                Some(length) => Taking::Piece(what, at + opening + length),
+                None => Taking::Fault,
+            }
+        }
+        Front::Fault => Taking::Fault,
+    }
+}
+
+/// How many line feeds there are.
+fn count_of_lines(bytes: &[u8]) -> u32
+    requires { length bytes.now < 2 ^ 31 }
+    ensures value { result ≡ count_by (λ b. b == 10) bytes.now }
+    ensures within { result ≤ length bytes.now }
+{
+    let mut count = 0;
+    for byte in bytes {
+        if *byte == b'\n' {
+            count += 1;
+        }
+    }
+    count
+}
+
+/// The line of a place, from 1 on.
+fn line_of(bytes: &[u8], place: usize) -> u32
+    requires within { place ≤ length bytes.now }
+    requires short { length bytes.now < 2 ^ 31 }
+    ensures { result ≡ line_at bytes.now place }
+{
+    1 + count_of_lines(&bytes[..place])
+}
+
+/// Adds what has a kind.
+fn add(
+    lexemes: &mut Vec<Lexeme>,
+    what: Option<Kind>,
+    start: usize,
+    end: usize,
+) -> Result<(), AllocError>
+    ensures { OnOk result (lexemes.new.items ≡ lexemes.old.items ++ piece what start end) }
+{
+    if let Some(kind) = what {
+        lexemes.push(Lexeme { kind, start, end })?;
+    }
+    Ok(())
+}
+
+/// The lexemes of a grammar file in order, each with its place; blanks, comments and what stands behind the second `%%`
+/// are dropped. Answers `Syntax` with the line on which the first begins that is no lexeme or comment or is not closed
+/// (this project's profile of the Menhir manual's lexical conventions), and `Memory` only where memory runs out.
+pub fn lex(alloc: Global, bytes: &[u8]) -> Result<Vec<Lexeme>, SyntaxFault>
+    requires { length bytes.now < 2 ^ 31 }
+    ensures lexemes { IfOk result (λ v. Lexes bytes.now v.items None) }
+    ensures spans { IfOk result (λ v. Rises 0 (length bytes.now) v.items) }
+    ensures fault { Refuses bytes.now result }
+{
+    let mut lexemes = Vec::new(alloc);
+    let mut at = 0usize;
+    let mut left = 2usize;
+    while left > 0 {
+        match taken_at(bytes, at) {
+            Taking::Ended => return Ok(lexemes),
+            Taking::Piece(what, end) => {
+                let Ok(()) = add(&mut lexemes, what, at, end) else {
+                    return Err(SyntaxFault::Memory);
+                };
+                left = still_left(what, left);
+                at = end;
+            }
+            Taking::Fault => return Err(SyntaxFault::Syntax {
+                line: line_of(bytes, at),
+            }),
+        }
+    }
+    Ok(lexemes)
+}
+
+/// How many of the two `%%` are still to come.
+fn still_left(what: Option<Kind>, left: usize) -> usize
+    requires { 0 < left }
+    ensures value { result ≡ left_after what (left - 1) }
+    ensures within { result ≤ left }
+{
+    match what {
+        Some(Kind::Percents) => left - 1,
+        _ => left,
+    }
+}
+
+/// Bytes have one list of lexemes and one first fault.
+pub fn lexed_once()
+    ensures { (bytes : List ℕ) (one two : List Lexeme) (f g : Option ℕ) → Lexes bytes one f → Lexes bytes two g → (two ≡ one) × (g ≡ f) }
+{}

@@ -1,0 +1,4 @@
+//! The module that a grammar file spells.
+#![tactic(auto)]
+
+pub mod modules;

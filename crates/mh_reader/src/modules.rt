@@ -1,0 +1,57 @@
+//! What a grammar file spells. Code, types and attributes leave nothing here.
+use mh_grammar::{Assoc, Name, Sequence};
+
+/// A name, or a string that is to be an alias: the bytes between its quotes.
+#[derive(Clone, Debug, Drop, PartialEq, Eq)]
+pub enum Ref {
+    Plain(Name),
+    Alias(Name),
+}
+
+/// A name or an alias with actual arguments. `X?`, `X*` and `X+` are `option`, `list` and `nonempty_list` of `X`.
+#[derive(Debug, Drop)]
+pub struct Actual {
+    pub head: Ref,
+    pub args: Sequence<Actual>,
+}
+
+/// A production: its producers, and its `%prec` or that of its group.
+#[derive(Debug, Drop)]
+pub struct Alternative {
+    pub producers: Sequence<Actual>,
+    pub prec: Option<Ref>,
+}
+
+/// A rule with its modifiers and formals.
+#[derive(Debug, Drop)]
+pub struct Rule {
+    pub public: bool,
+    pub inlined: bool,
+    pub name: Name,
+    pub formals: Sequence<Name>,
+    pub alternatives: Sequence<Alternative>,
+}
+
+/// A token with its alias, if it has one.
+#[derive(Debug, Drop)]
+pub struct TokenDecl {
+    pub name: Name,
+    pub alias: Option<Name>,
+}
+
+/// A `%left`, `%right` or `%nonassoc` declaration.
+#[derive(Debug, Drop)]
+pub struct LevelDecl {
+    pub assoc: Assoc,
+    pub names: Sequence<Ref>,
+}
+
+/// A file: its declarations of each kind in order, and its rules.
+#[derive(Debug, Drop)]
+pub struct Module {
+    pub tokens: Sequence<TokenDecl>,
+    pub starts: Sequence<Name>,
+    pub levels: Sequence<LevelDecl>,
+    pub on_error: Sequence<Sequence<Actual>>,
+    pub rules: Sequence<Rule>,
+}
