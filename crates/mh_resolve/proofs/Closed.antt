@@ -1,0 +1,140 @@
+-- What the closure of a kernel of an automaton holds.
+use Rattle.std.proofs.Common.{◌≡◌, ℕ, zero, suc, ◌<◌, ◌≤◌, ◌⊎◌, List, [], ◌∷◌, length, drop, Some, refl, ap, arith, inl, inr}
+use Rattle.std.specs.List.{slice_get, Contains}
+use Rattle.std.proofs.lemmas.Bool.{cases_lt}
+use Rattle.std.proofs.lemmas.List.{get_or_past}
+use Rattle.mh_grammar.specs.declared.types.Symbol.{Symbol}
+use Rattle.mh_grammar.specs.declared.types.Symbol.TheVariants.{N}
+use Rattle.mh_grammar.specs.declared.types.Look.{Look}
+use Rattle.mh_grammar.specs.declared.types.Look.TheVariants.{End}
+use Rattle.mh_grammar.specs.Plain.{PlainGrammar, production_count, rhs_of, lhs_of}
+use Rattle.mh_grammar.specs.ItemSets.{ItemSet, Close, given, added, Moved, moved}
+use Rattle.mh_items.specs.declared.kernels.Kernel.{Kernel}
+use Rattle.mh_items.specs.declared.kernels.Automaton.{Automaton}
+use Rattle.mh_items.specs.Kernels.{Holds, HasPlace, IsKernelItem, IsKernel}
+use Rattle.mh_items.specs.Automaton.{IsAutomaton, no_kernel, kernel_at, kernel_of, closure_of, leads_to}
+use Rattle.mh_resolve.proofs.Places.{each_of, contains_at}
+
+-- the symbol at a dot, in two forms
+pub at_dot : {X : Type 0} (xs : List X) (d : ℕ) (x : X) (ys : List X) → drop d xs ≡ x ∷ ys → slice_get xs d ≡ Some x
+at_dot [] zero x ys e = cc
+at_dot (z ∷ zs) zero x ys e = let same : z ≡ x = cc in ap Some same
+at_dot [] (suc d) x ys e = cc
+at_dot (z ∷ zs) (suc d) x ys e = at_dot zs d x ys e
+
+pub alone : {X : Type 0} (x y : X) → Contains (x ∷ []) y → y ≡ x
+alone x y c = let at = contains_at (x ∷ []) y c in only at.0 at.1
+  where
+    only : (k : ℕ) → slice_get (x ∷ []) k ≡ Some y → y ≡ x
+    only zero h = cc
+    only (suc k) h = cc
+
+-- what is so of each item of a closure
+pub record IsItem (g : PlainGrammar) (p d : ℕ) (look : Look) : Type 0 where
+  pub production : p < production_count g
+  pub dot : d ≤ length (rhs_of g p)
+  pub start : p < length g.starts → look ≡ End
+
+held_is_item : (g : PlainGrammar) (k : Kernel) → IsKernel g k → ((p d : ℕ) (look : Look) → Holds k p d look → p < length g.starts → look ≡ End) → (p d : ℕ) (look : Look) → Holds k p d look → IsItem g p d look
+held_is_item g k h at_end p d look held =
+    let item = held.0 in
+    let is = each_of (IsKernelItem g) k.items item h.items held.1 in
+    let same : item.production ≡ p = held.2 in
+    let dot : item.dot ≡ d = held.3 in
+    record {
+      production = rw (← same) is.production;
+      dot = rw (← same) (rw (← dot) is.dot);
+      start = at_end p d look held;
+    }
+
+closed_is_item : (g : PlainGrammar) (I : ItemSet) → ((p d : ℕ) (look : Look) → I p d look → IsItem g p d look) → (p d : ℕ) (look : Look) → Close g I p d look → IsItem g p d look
+closed_is_item g I h p d look (given c) = h p d look c
+closed_is_item g I h p d look (added c e is b) = record {
+  production = is.known;
+  dot = omega arith;
+  start = λ lt. absurd (let ge = is.ordinary in omega arith);
+}
+
+-- a closure has an item of the kernel
+record AnItem (I : ItemSet) : Type 0 where
+  production : ℕ
+  dot : ℕ
+  look : Look
+  there : I production dot look
+
+closed_from : (g : PlainGrammar) (I : ItemSet) (p d : ℕ) (look : Look) → Close g I p d look → AnItem I
+closed_from g I p d look (given c) = record { production = p; dot = d; look = look; there = c }
+closed_from g I p d look (added {p = q} {d = e} {a = l} c s is b) = closed_from g I q e l c
+
+-- an item of a closure stands in the kernel, or begins a production of a nonterminal behind a dot
+record IsBegun (g : PlainGrammar) (I : ItemSet) (p d : ℕ) : Type 0 where
+  dot : d ≡ 0
+  ordinary : length g.starts ≤ p
+  from : ℕ
+  place : ℕ
+  look : Look
+  rest : List Symbol
+  there : Close g I from place look
+  before : drop place (rhs_of g from) ≡ N (lhs_of g p) ∷ rest
+
+closed_cases : (g : PlainGrammar) (I : ItemSet) (p d : ℕ) (look : Look) → Close g I p d look → I p d look ⊎ IsBegun g I p d
+closed_cases g I p d look (given c) = inl c
+closed_cases g I p d look (added {p = q} {d = e} {y = y} {a = l} c s is b) = inr (record {
+  dot = refl;
+  ordinary = is.ordinary;
+  from = q;
+  place = e;
+  look = l;
+  rest = y;
+  there = c;
+  before = rw is.lhs s;
+})
+
+kernel_past : (a : Automaton) (s : ℕ) → length a.kernels ≤ s → kernel_at a s ≡ no_kernel
+unfolding kernel_at
+kernel_past a s h = get_or_past a.kernels s no_kernel h
+
+held_within : (a : Automaton) (s p d : ℕ) (look : Look) → kernel_of a s p d look → s < length a.kernels
+held_within a s p d look h =
+    elim (cases_lt s (length a.kernels)) [
+      | inl lt ↦ lt
+      | inr ge ↦ (let past = kernel_past a s ge in let c = rw past at h.1 in absurd (omega (arith, c.1)))
+    ]
+
+pub closure_within : (g : PlainGrammar) (a : Automaton) (s p d : ℕ) (look : Look) → closure_of g a s p d look → s < length a.kernels
+closure_within g a s p d look c = let from = closed_from g (kernel_of a s) p d look c in held_within a s from.production from.dot from.look from.there
+
+-- an item of a state's closure
+pub closure_is_item : (g : PlainGrammar) (a : Automaton) → IsAutomaton g a → (s p d : ℕ) (look : Look) → closure_of g a s p d look → IsItem g p d look
+closure_is_item g a h s p d look c = closed_is_item g (kernel_of a s) (held_is_item g (kernel_at a s) (h.each s (closure_within g a s p d look c)) (h.at_end s)) p d look c
+
+-- an item with its dot before X is carried by an edge on X
+edge_from : (g : PlainGrammar) (a : Automaton) → IsAutomaton g a → (s p d : ℕ) (look : Look) (X : Symbol) (rest : List Symbol) → closure_of g a s p d look → drop d (rhs_of g p) ≡ X ∷ rest → (u : ℕ) × (leads_to a s X ≡ Some u)
+edge_from g a h s p d look X rest c before =
+    h.edge s X (closure_within g a s p d look c) (record { production = p; dot = suc d; look = look; moves = moved c before })
+
+-- an item of a state's closure stands in its kernel, or begins, and the state has an edge on its left side
+pub record Begins (g : PlainGrammar) (a : Automaton) (s : ℕ) (p : ℕ) : Type 0 where
+  pub ordinary : length g.starts ≤ p
+  pub target : ℕ
+  pub goto : leads_to a s (N (lhs_of g p)) ≡ Some target
+
+pub stands : (g : PlainGrammar) (a : Automaton) → IsAutomaton g a → (s p d : ℕ) (look : Look) → closure_of g a s p d look → HasPlace (kernel_at a s) p d ⊎ ((d ≡ 0) × Begins g a s p)
+stands g a h s p d look c =
+    elim (closed_cases g (kernel_of a s) p d look c) [
+      | inl held ↦ inl (held.0, held.1, held.2, held.3)
+      | inr begun ↦ (
+          let found = edge_from g a h s begun.from begun.place begun.look (N (lhs_of g p)) begun.rest begun.there begun.before in
+          inr (begun.dot, record { ordinary = begun.ordinary; target = found.0; goto = found.1 }))
+    ]
+
+-- a moved item by what it came from
+pub record CameFrom (g : PlainGrammar) (I : ItemSet) (X : Symbol) (p d : ℕ) (look : Look) : Type 0 where
+  pub place : ℕ
+  pub rest : List Symbol
+  pub dot : d ≡ suc place
+  pub there : I p place look
+  pub before : drop place (rhs_of g p) ≡ X ∷ rest
+
+pub came_from : (g : PlainGrammar) (I : ItemSet) (X : Symbol) (p d : ℕ) (look : Look) → Moved g I X p d look → CameFrom g I X p d look
+came_from g I X p d look (moved {d = e} {y = y} c s) = record { place = e; rest = y; dot = refl; there = c; before = s }

@@ -1,0 +1,15 @@
+pub mod Assembling
+pub mod Closed
+pub mod Counted
+pub mod Deciding
+pub mod Listing
+pub mod Once
+pub mod Places
+pub mod Ranking
+pub mod Resolving
+pub mod Rowing
+pub mod Same
+pub mod Shifting
+pub mod Stating
+pub mod Tabled
+pub mod Tallying

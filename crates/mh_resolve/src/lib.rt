@@ -1,0 +1,16 @@
+//! What the states of an automaton do, with conflicts resolved by levels, and the list of conflicts.
+#![tactic(auto)]
+
+mod cells;
+mod conflicts;
+mod counting;
+mod errors;
+mod kinds;
+mod levels;
+mod resolution;
+mod row;
+mod states;
+
+pub use conflicts::Conflict;
+pub use kinds::{ConflictKind, Mode};
+pub use resolution::{conflicts_are_one, resolve, table_is_one};

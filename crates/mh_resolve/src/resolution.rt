@@ -1,0 +1,132 @@
+//! The table of an automaton, and its conflicts.
+ghost use Rattle.std.specs.Prelude.{◌≡◌, ◌<◌, ℕ, length, IfOk, Some};
+ghost use Rattle.mh_grammar.specs.Plain.{plain_of, IsInRange};
+ghost use Rattle.mh_grammar.specs.Edges.{IsRising, IsEdgeBefore};
+ghost use Rattle.mh_items.specs.Firsts.{AreFirsts};
+ghost use Rattle.mh_items.specs.Kernels.{IsKernel};
+ghost use Rattle.mh_items.specs.Automaton.{IsAutomaton};
+ghost use Rattle.mh_tables.specs.Table.{table_data};
+ghost use Rattle.mh_tables.specs.Facts.{Facts};
+ghost use Rattle.mh_resolve.specs.States.{IsResolved, AreResolved, IsTableOf};
+ghost use Rattle.mh_resolve.specs.Conflicts.{AreConflicts};
+ghost use Rattle.mh_resolve.specs.Whole.{closed_state, IsRow, AreEdgesKnown};
+
+use crate::conflicts::{Conflict, add_conflicts};
+use crate::kinds::Mode;
+use crate::states::{Row, parts_of, row_of};
+use mh_grammar::{Edge, Grammar, Memory};
+use mh_items::first_sets::Firsts;
+use mh_items::{Automaton, Kernel, closure, firsts};
+use mh_tables::{StateParts, Table, table_of};
+use std::alloc::Global;
+
+// A state of the table, and what was found of it.
+#[derive(Debug, Drop)]
+struct Resolved {
+    parts: StateParts,
+    row: Row,
+}
+
+fn resolve_state(
+    alloc: Global,
+    grammar: &Grammar,
+    firsts: &Firsts,
+    kernel: &Kernel,
+    edges: &[Edge],
+    mode: Mode,
+) -> Result<Resolved, Memory>
+    requires range { IsInRange (plain_of grammar.now) }
+    requires firsts { AreFirsts (plain_of grammar.now) firsts.now }
+    requires kernel { IsKernel (plain_of grammar.now) kernel.now }
+    requires rising { IsRising IsEdgeBefore edges.now }
+    requires known { AreEdgesKnown (length grammar.now.tokens) edges.now }
+    ensures parts { IfOk result (λ r. IsResolved mode (closed_state grammar.now kernel.now edges.now) kernel.now r.parts) }
+    ensures row { IfOk result (λ r. IsRow (closed_state grammar.now kernel.now edges.now) r.row.cells r.row.last r.row.stream) }
+{
+    let closed = closure(alloc, grammar, firsts, kernel)?;
+    let row = row_of(alloc, grammar, kernel, &closed, edges)?;
+    let parts = parts_of(alloc, grammar, kernel, &closed, edges, mode, &row)?;
+    Ok(Resolved { parts, row })
+}
+
+// The states of the table, and the conflicts.
+fn resolve_states(
+    alloc: Global,
+    grammar: &Grammar,
+    automaton: &Automaton,
+    mode: Mode,
+) -> Result<(Vec<StateParts>, Vec<Conflict>), Memory>
+    requires range { IsInRange (plain_of grammar.now) }
+    requires automaton { IsAutomaton (plain_of grammar.now) automaton.now }
+    ensures states { IfOk result (λ r. AreResolved grammar.now automaton.now mode r.0.items) }
+    ensures facts { IfOk result (λ r. Facts (table_data grammar.now r.0.items)) }
+    ensures conflicts { IfOk result (λ r. AreConflicts grammar.now automaton.now r.1.items) }
+{
+    let known = firsts(alloc, grammar)?;
+    let mut states = Vec::with_capacity(alloc, automaton.kernels.len())?;
+    let mut conflicts = Vec::new(alloc);
+    for state in 0..automaton.kernels.len() {
+        let kernel = &automaton.kernels[state];
+        let edges = automaton.edges[state].as_slice();
+        let resolved = resolve_state(alloc, grammar, &known, kernel, edges, mode)?;
+        add_conflicts(&mut conflicts, state as u32, &resolved.row)?;
+        states.push(resolved.parts)?;
+    }
+    Ok((states, conflicts))
+}
+
+/// The table of an automaton, with conflicts resolved by levels, and the list of its conflicts: by state, then by token
+/// with the end of the stream behind the tokens; a conflict of the end of the stream comes last in its state.
+///
+/// The rules are those of yacc's precedence (Johnson 1975) as the Menhir manual gives them; what it leaves open is this
+/// project's profile. Fails for want of memory alone.
+pub fn resolve(
+    alloc: Global,
+    grammar: &Grammar,
+    automaton: &Automaton,
+    mode: Mode,
+) -> Result<(Table, Vec<Conflict>), Memory>
+    requires range { IsInRange (plain_of grammar.now) }
+    requires automaton { IsAutomaton (plain_of grammar.now) automaton.now }
+    ensures table { IfOk result (λ r. IsTableOf grammar.now automaton.now mode r.0) }
+    ensures conflicts { IfOk result (λ r. AreConflicts grammar.now automaton.now r.1.items) }
+{
+    let (states, conflicts) = resolve_states(alloc, grammar, automaton, mode)?;
+    Ok((table_of(alloc, grammar, states)?, conflicts))
+}
+
+/// An automaton has one table in each mode: an empty call that says so to contracts.
+pub fn table_is_one(
+    grammar: &Grammar,
+    automaton: &Automaton,
+    mode: Mode,
+    left: &Table,
+    right: &Table,
+)
+    requires left { IsTableOf grammar.now automaton.now mode left.now }
+    requires right { IsTableOf grammar.now automaton.now mode right.now }
+    ensures { left.now ≡ right.now }
+{
+    let _grammar = grammar;
+    let _automaton = automaton;
+    let _mode = mode;
+    let _left = left;
+    let _right = right;
+}
+
+/// An automaton has one list of conflicts: an empty call that says so to contracts.
+pub fn conflicts_are_one(
+    grammar: &Grammar,
+    automaton: &Automaton,
+    left: &[Conflict],
+    right: &[Conflict],
+)
+    requires left { AreConflicts grammar.now automaton.now left.now }
+    requires right { AreConflicts grammar.now automaton.now right.now }
+    ensures { left.now ≡ right.now }
+{
+    let _grammar = grammar;
+    let _automaton = automaton;
+    let _left = left;
+    let _right = right;
+}

@@ -1,0 +1,157 @@
+//! The parts of a state of the table.
+ghost use Rattle.std.specs.Prelude.{◌≡◌, ◌<◌, length, map, IfOk, []};
+ghost use Rattle.std.specs.List.{All};
+ghost use Rattle.mh_grammar.specs.Plain.{plain_of};
+ghost use Rattle.mh_grammar.specs.Edges.{IsRising, IsEdgeBefore};
+ghost use Rattle.mh_grammar.specs.ItemSets.{AreSame, Close};
+ghost use Rattle.mh_items.specs.Kernels.{Holds, IsKernel};
+ghost use Rattle.mh_resolve.specs.States.{place_of, IsResolved};
+ghost use Rattle.mh_resolve.specs.Rows.{listed, IsLooked};
+ghost use Rattle.mh_resolve.specs.Whole.{closed_state, kept_of, IsFiller, filled_with, fallback_for, AreEdgesKnown, IsRow};
+
+use crate::cells::{Cell, settle};
+use crate::counting::{shifts_of, tallies_of};
+use crate::errors::for_errors;
+use crate::kinds::Mode;
+use crate::row::{cells_of, default_of, is_stream_conflict};
+use mh_grammar::{Edge, Grammar, Memory, Sequence};
+use mh_items::{Kernel, KernelItem};
+use mh_tables::{Action, Fallback, Place, StateParts};
+use std::alloc::Global;
+
+/// What was found of a state: the cells of the tokens and of the end of the stream, and whether they conflict.
+#[derive(Debug, Drop)]
+pub struct Row {
+    pub cells: Sequence<Cell>,
+    pub last: Cell,
+    pub stream: bool,
+}
+
+fn kept_action(stream: bool, last: Action) -> Action
+    ensures { result ≡ kept_of stream last }
+{
+    if stream { Action::Refuse } else { last }
+}
+
+fn filler_of(grammar: &Grammar, items: &[KernelItem], default: Option<u32>) -> Option<u32>
+    requires { All IsLooked items.now }
+    ensures { IsFiller (listed grammar.now items.now []) default result }
+{
+    match default {
+        Some(_) => None,
+        None => for_errors(grammar, items),
+    }
+}
+
+fn action_of(cell: &Cell, filler: Option<u32>) -> Action
+    ensures { result ≡ filled_with filler cell.now }
+{
+    if cell.raw {
+        return cell.action;
+    }
+    match filler {
+        Some(production) => Action::Reduce(production),
+        None => Action::Refuse,
+    }
+}
+
+fn actions_of(alloc: Global, cells: &[Cell], filler: Option<u32>) -> Result<Vec<Action>, Memory>
+    ensures { IfOk result (λ actions. actions.items ≡ map (filled_with filler) cells.now) }
+{
+    let mut actions = Vec::new(alloc);
+    for cell in cells {
+        actions.push(action_of(cell, filler))?;
+    }
+    Ok(actions)
+}
+
+fn place(item: &KernelItem) -> Place
+    ensures { result ≡ place_of item.now }
+{
+    Place {
+        production: item.production,
+        dot: item.dot,
+    }
+}
+
+fn core_of(alloc: Global, items: &[KernelItem]) -> Result<Vec<Place>, Memory>
+    ensures { IfOk result (λ core. core.items ≡ map place_of items.now) }
+{
+    let mut core = Vec::new(alloc);
+    for item in items {
+        core.push(place(item))?;
+    }
+    Ok(core)
+}
+
+fn fallback_of(grammar: &Grammar, default: Option<u32>) -> Option<Fallback>
+    ensures { result ≡ fallback_for (length grammar.now.starts) default }
+{
+    match default {
+        None => None,
+        Some(production) => {
+            if (production as usize) < grammar.starts.len() {
+                Some(Fallback::Accept)
+            } else {
+                Some(Fallback::Reduce(production))
+            }
+        }
+    }
+}
+
+/// The row of a state.
+pub fn row_of(
+    alloc: Global,
+    grammar: &Grammar,
+    kernel: &Kernel,
+    closed: &Kernel,
+    edges: &[Edge],
+) -> Result<Row, Memory>
+    requires kernel { IsKernel (plain_of grammar.now) closed.now }
+    requires exact { AreSame (Holds closed.now) (Close (plain_of grammar.now) (Holds kernel.now)) }
+    requires rising { IsRising IsEdgeBefore edges.now }
+    requires known { AreEdgesKnown (length grammar.now.tokens) edges.now }
+    ensures { IfOk result (λ row. IsRow (closed_state grammar.now kernel.now edges.now) row.cells row.last row.stream) }
+{
+    let items = closed.items.as_slice();
+    let shifts = shifts_of(alloc, grammar.tokens.len(), edges)?;
+    let tallies = tallies_of(alloc, grammar, items, shifts.as_slice())?;
+    let cells = cells_of(alloc, tallies.tokens.as_slice(), shifts.as_slice())?;
+    let last = settle(tallies.last, None);
+    let stream = is_stream_conflict(cells.as_slice(), last.action);
+    Ok(Row {
+        cells: Sequence::from_vec(cells),
+        last,
+        stream,
+    })
+}
+
+/// The parts of a state, from its row.
+pub fn parts_of(
+    alloc: Global,
+    grammar: &Grammar,
+    kernel: &Kernel,
+    closed: &Kernel,
+    edges: &[Edge],
+    mode: Mode,
+    row: &Row,
+) -> Result<StateParts, Memory>
+    requires closed { IsKernel (plain_of grammar.now) closed.now }
+    requires exact { AreSame (Holds closed.now) (Close (plain_of grammar.now) (Holds kernel.now)) }
+    requires row { IsRow (closed_state grammar.now kernel.now edges.now) row.now.cells row.now.last row.now.stream }
+    ensures { IfOk result (IsResolved mode (closed_state grammar.now kernel.now edges.now) kernel.now) }
+{
+    let cells = row.cells.as_slice();
+    let kept = kept_action(row.stream, row.last.action);
+    let default = default_of(cells, kept, mode);
+    let filler = filler_of(grammar, closed.items.as_slice(), default);
+    let actions = actions_of(alloc, cells, filler)?;
+    let core = core_of(alloc, kernel.items.as_slice())?;
+    let copies = Vec::from_slice(alloc, edges)?;
+    Ok(StateParts {
+        cells: Sequence::from_vec(actions),
+        fallback: fallback_of(grammar, default),
+        edges: Sequence::from_vec(copies),
+        core: Sequence::from_vec(core),
+    })
+}

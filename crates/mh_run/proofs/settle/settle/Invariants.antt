@@ -1,0 +1,10 @@
+use Rattle.std.proofs.Common.{◌+◌, ◌-◌, ◌*◌}
+use Rattle.mh_run.proofs.Progress.{Progress}
+use Rattle.mh_run.proofs.settle.settle.Given as goal
+
+abbrev pub invariant-reductions : goal.invariant-reductions
+invariant-reductions l = Progress l.table l.look l.fn.stack.items l.stack.items l.floor l.count
+
+-- the place falls, or one reduction fewer is left above it
+abbrev pub decreases-reductions : goal.decreases-reductions
+decreases-reductions l = 10001 * l.floor + (10000 - l.count)

@@ -1,0 +1,54 @@
+//! Runs on whole sentences.
+ghost use Rattle.std.specs.Prelude.{◌≡◌, ◌<◌, ◌^◌, length, IfOk, All};
+ghost use Rattle.mh_tables.specs.Run.{VerdictOf};
+ghost use Rattle.mh_run.specs.Verdicts.{ending_for};
+
+use crate::outcome::Verdict;
+use crate::settle::{Choice, settle};
+use mh_grammar::{Memory, Token};
+use mh_tables::Halting;
+use std::alloc::Global;
+
+/// The verdict of a start, by its number, on a sentence of fewer than 2^32 tokens. Fails for want of memory alone.
+pub fn verdict(
+    alloc: Global,
+    table: &Halting,
+    start: u16,
+    sentence: &[Token],
+) -> Result<Verdict, Memory>
+    requires start { start < length table.now.grammar.starts }
+    requires tokens { All (λ z. z < table.now.grammar.tokens) sentence.now }
+    requires few { length sentence.now < 2 ^ 32 }
+    ensures { IfOk result (λ verdict. VerdictOf table.now start sentence.now (ending_for verdict)) }
+{
+    let _rows = table.table();
+    let mut stack: Vec<u32> = Vec::new(alloc);
+    stack.push(u32::from(start))?;
+    for (at, token) in sentence.iter().enumerate() {
+        match settle(table, &mut stack, Some(*token))? {
+            Choice::Shift(target) => stack.push(target)?,
+            Choice::Accept => return Ok(Verdict::Accept { read: at as u32 }),
+            Choice::Refuse => {
+                let state = stack[stack.len() - 1];
+                return Ok(Verdict::Reject {
+                    at: at as u32,
+                    state,
+                });
+            }
+            Choice::Ask => unreachable!(),
+            Choice::Reduce(_) => unreachable!(),
+        }
+    }
+    match settle(table, &mut stack, None)? {
+        Choice::Accept => Ok(Verdict::Accept {
+            read: sentence.len() as u32,
+        }),
+        Choice::Ask => {
+            let state = stack[stack.len() - 1];
+            Ok(Verdict::Overshoot { state })
+        }
+        Choice::Refuse => unreachable!(),
+        Choice::Shift(_) => unreachable!(),
+        Choice::Reduce(_) => unreachable!(),
+    }
+}

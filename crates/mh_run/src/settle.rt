@@ -1,0 +1,109 @@
+//! The reductions between two shifts of a run.
+ghost use Rattle.std.specs.Prelude.{◌≡◌, ◌<◌, length, IfOk, OnOk, Some};
+ghost use Rattle.mh_tables.specs.Table.{TableData};
+ghost use Rattle.mh_tables.specs.Run.{move_of, top_of, reduce, IsRunStack, Reduces};
+ghost use Rattle.mh_tables.specs.Halting.{IsLook, look_list};
+ghost use Rattle.mh_run.specs.Settled.{move_for, CanReduce, SettlesTo};
+
+use mh_grammar::Token;
+use mh_tables::{Action, Fallback, Halting, Table};
+use std::alloc::AllocError;
+
+// What a state does.
+#[derive(Clone, Copy)]
+pub(crate) enum Choice {
+    Accept,
+    Ask,
+    Refuse,
+    Shift(u32),
+    Reduce(u32),
+}
+
+#[tactic(auto, unfolding(mh_tables::specs::Run::move_of))]
+fn choose(table: &Table, state: u32, look: Option<Token>) -> Choice
+    requires state { state < length table.now.states }
+    requires look { IsLook table.now look }
+    ensures { move_for result ≡ move_of table.now state (look_list look) }
+{
+    match table.fallback(state) {
+        Some(Fallback::Accept) => Choice::Accept,
+        Some(Fallback::Reduce(production)) => Choice::Reduce(production),
+        None => match look {
+            None => Choice::Ask,
+            Some(token) => match table.action(state, token) {
+                Action::Shift(target) => Choice::Shift(target),
+                Action::Reduce(production) => Choice::Reduce(production),
+                Action::Refuse => Choice::Refuse,
+            },
+        },
+    }
+}
+
+// Takes off the states of a right side, and goes on the left side.
+fn reduce_on(table: &Table, stack: &mut Vec<u32>, production: u32) -> Result<(), AllocError>
+    requires { CanReduce table.now production stack.old.items }
+    ensures ok { OnOk result (reduce table.now production stack.old.items ≡ Some stack.new.items) }
+{
+    let kept = stack.len() - table.length_of(production) as usize;
+    stack.truncate(kept);
+    match table.goto(stack[kept - 1], table.lhs_of(production)) {
+        Some(target) => {
+            stack.push(target)?;
+            Ok(())
+        }
+        None => unreachable!(),
+    }
+}
+
+// What comes next.
+fn next_choice(table: &Halting, stack: &[u32], look: Option<Token>) -> Choice
+    requires run { IsRunStack table.now stack.now }
+    requires look { IsLook table.now look }
+    ensures { move_for result ≡ move_of table.now (top_of stack.now) (look_list look) }
+{
+    choose(table.table(), stack[stack.len() - 1], look)
+}
+
+// The reduction that comes next.
+fn reduce_next(
+    table: &Halting,
+    stack: &mut Vec<u32>,
+    look: Option<Token>,
+    production: u32,
+) -> Result<(), AllocError>
+    requires run { IsRunStack table.now stack.old.items }
+    requires next { move_of table.now (top_of stack.old.items) (look_list look) ≡ Reduces production }
+    ensures ok { OnOk result (reduce table.now production stack.old.items ≡ Some stack.new.items) }
+{
+    reduce_on(table.table(), stack, production)
+}
+
+// Makes the reductions that come next, and says what comes then. Each reduction either leaves the state at
+// the place `floor` on the stack, which at most 10,000 in a row do, or lowers that place.
+pub(crate) fn settle(
+    table: &Halting,
+    stack: &mut Vec<u32>,
+    look: Option<Token>,
+) -> Result<Choice, AllocError>
+    requires run { IsRunStack table.now stack.old.items }
+    requires look { IsLook table.now look }
+    ensures { IfOk result (λ choice. SettlesTo table.now (look_list look) stack.old.items stack.new.items (move_for choice)) }
+{
+    let _rows = table.table();
+    let mut floor = stack.len().saturating_sub(2);
+    let mut count: u32 = 0;
+    'reductions: loop {
+        match next_choice(table, stack, look) {
+            Choice::Reduce(production) => {
+                reduce_next(table, stack, look, production)?;
+                if floor + 1 < stack.len() {
+                    count += 1;
+                } else {
+                    floor = stack.len().saturating_sub(2);
+                    count = 0;
+                }
+            }
+            settled => return Ok(settled),
+        }
+    }
+}
