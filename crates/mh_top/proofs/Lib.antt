@@ -6,3 +6,5 @@ pub mod Worked
 pub mod Steps
 pub mod Endings
 pub mod Claims
+pub mod Fields
+pub mod Lexicons

@@ -11,3 +11,4 @@ pub mod Work
 pub mod Run
 pub mod Load
 pub mod Claims
+pub mod Sentences

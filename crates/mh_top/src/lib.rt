@@ -5,6 +5,7 @@ mod each;
 mod interpret;
 mod load;
 mod order;
+mod sentence;
 mod stages;
 mod stop;
 mod top;
