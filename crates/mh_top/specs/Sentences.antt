@@ -4,6 +4,7 @@ use Rattle.std.specs.List.{list_all, position_from, All}
 use Rattle.indexmap.specs.IndexMap.{get_by}
 use Rattle.std.specs.Str.{bytes_eq}
 use Rattle.std.specs.Borrow.{Bor}
+use Rattle.std.specs.Map.{lookup}
 use Rattle.mh_grammar.specs.declared.types.Grammar.{Grammar}
 use Rattle.mh_grammar.specs.declared.types.Sentence.{Sentence}
 use Rattle.mh_top.specs.Text.{Text}
@@ -68,6 +69,16 @@ behind_tokens before (Unknown name) = Unknown name
 -- the lexicon has the numbers of the tokens of these names
 abbrev pub HasNumbers : List Text → Lexicon → Type 0
 HasNumbers names lexicon = (name : Text) → get_by (λ key. bytes_eq name key.items) lexicon.tokens ≡ token_of names name
+
+-- the first that is there
+abbrev pub or_else : Option ℕ → Option ℕ → Option ℕ
+or_else None later = later
+or_else (Some first) later = Some first
+
+-- a name has its number now, where it had none; others keep theirs
+abbrev pub PutsName : Text → ℕ → List (Vec ℕ Global × ℕ) → List (Vec ℕ Global × ℕ) → Type 0
+PutsName name number old new =
+    (other : Text) → lookup (λ key. bytes_eq other key.items) new ≡ or_else (lookup (λ key. bytes_eq other key.items) old) (if bytes_eq other name then Some number else None)
 
 -- what a line is: a sentence of the first start, or the first of its faults
 pub data LineFound : Type 0 where

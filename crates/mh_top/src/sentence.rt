@@ -1,7 +1,7 @@
 //! Sentence lines: names of tokens with blanks between and around them.
-ghost use Rattle.std.specs.Prelude.{◌≡◌, ◌<◌, ◌≤◌, length, map, IfOk};
+ghost use Rattle.std.specs.Prelude.{◌≡◌, ◌<◌, ◌≤◌, length, map, IfOk, OnOk};
 ghost use Rattle.std.specs.List.{list_all, All};
-ghost use Rattle.mh_top.specs.Sentences.{is_blank as is_blank_byte, begins_name as begins, goes_on_name as goes_on, is_name as is_name_text, blank_count, piece_size, pieces, FirstPiece, HasNumbers, ReadsTokens, tokens_of, token_of, sentence_in, ReadsSentence};
+ghost use Rattle.mh_top.specs.Sentences.{is_blank as is_blank_byte, begins_name as begins, goes_on_name as goes_on, is_name as is_name_text, blank_count, piece_size, pieces, FirstPiece, HasNumbers, PutsName, ReadsTokens, tokens_of, token_of, sentence_in, ReadsSentence};
 ghost use Rattle.mh_top.specs.Verdicts.{token_names};
 ghost use Rattle.mh_top.specs.declared.sentence.SentenceFault.TheVariants.{Memory as Memory'};
 
@@ -33,6 +33,23 @@ pub(crate) struct Lexicon {
     tokens: IndexMap<Vec<u8>, Token>,
 }
 
+/// Puts in a name with its number, where it has none yet.
+fn put_name(
+    alloc: Global,
+    numbers: &mut IndexMap<Vec<u8>, Token>,
+    name: &[u8],
+    number: Token,
+) -> Result<(), Memory>
+    ensures { OnOk result (PutsName name.now number numbers.old.entries numbers.new.entries) }
+{
+    if numbers.get(name).is_some() {
+        return Ok(());
+    }
+    let key = Vec::from_slice(alloc, name)?;
+    numbers.insert(key, number)?;
+    Ok(())
+}
+
 impl Lexicon {
     /// The numbers of tokens. Of two with one name the first counts.
     pub(crate) fn new(alloc: Global, tokens: &[TokenInfo]) -> Result<Lexicon, Memory>
@@ -41,11 +58,7 @@ impl Lexicon {
     {
         let mut numbers = IndexMap::new(alloc);
         for (number, token) in tokens.iter().enumerate() {
-            let name = token.name.as_slice();
-            if numbers.get(name).is_none() {
-                let key = Vec::from_slice(alloc, name)?;
-                numbers.insert(key, number as Token)?;
-            }
+            put_name(alloc, &mut numbers, token.name.as_slice(), number as Token)?;
         }
         Ok(Lexicon { tokens: numbers })
     }
