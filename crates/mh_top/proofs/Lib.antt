@@ -8,3 +8,4 @@ pub mod Endings
 pub mod Claims
 pub mod Fields
 pub mod Lexicons
+pub mod Answering

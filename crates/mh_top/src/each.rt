@@ -1,5 +1,5 @@
 //! Each line of the input is answered, before the next is asked for.
-ghost use Rattle.std.specs.Prelude.{◌≡◌, ◌∷◌, ◌++◌, ◌↔◌, [], List, ℕ, IfOk};
+ghost use Rattle.std.specs.Prelude.{◌≡◌, ◌∷◌, ◌++◌, ◌↔◌, ◌<◌, ◌^◌, [], List, ℕ, length, IfOk};
 ghost use Rattle.mh_top.specs.Text.{too_big_input};
 ghost use Rattle.mh_top.specs.Stages.{Halts};
 ghost use Rattle.mh_top.specs.Each.{AnswersLine, EachRan, EachCounts, LineRan, OutCounts, StopIs};
@@ -17,6 +17,7 @@ pub(crate) trait Answer {
 
     /// The text that answers a line.
     fn answer(&mut self, alloc: Global, line: &[u8]) -> Result<Vec<u8>, Memory>
+        requires { length line.now < 2 ^ 32 }
         ensures { IfOk result (λ text. AnswersLine (Answers self.old) (Answers self.new) line.now text.items) };
 
     ghost no_line: { (s : Self) → (text : List ℕ) → Answers s [] text ↔ (text ≡ []) };
@@ -29,6 +30,7 @@ fn answer_line<O: Sink, A: Answer>(
     answers: &mut A,
     line: &[u8],
 ) -> Result<(), Stop>
+    requires { length line.now < 2 ^ 32 }
     ensures text { LineRan (A.Answers answers.old) (A.Answers answers.new) line.now (O.written out.old) (O.written out.new) result }
     ensures counts { OutCounts (O.faults out.old) (O.faults out.new) result }
 {
@@ -64,6 +66,7 @@ pub(crate) fn answer_each<I: Source, O: Sink, A: Answer>(
     out: &mut O,
     answers: &mut A,
 ) -> Result<(), Stop>
+    requires { limit < 2 ^ 32 }
     ensures ran { EachRan limit max (A.Answers answers.old) (I.left input.old) (I.left input.new) (O.written out.old) (O.written out.new) result }
     ensures counts { EachCounts (I.faults input.old) (I.faults input.new) (O.faults out.old) (O.faults out.new) result }
 {

@@ -1,5 +1,6 @@
 //! All that the program does.
-ghost use Rattle.std.specs.Prelude.{◌≡◌, map, string_bytes, ⊤};
+ghost use Rattle.std.specs.Prelude.{◌≡◌, ◌<◌, length, map, string_bytes};
+ghost use Rattle.mh_grammar.specs.Plain.{plain_of, IsInRange};
 ghost use Rattle.mh_top.specs.Text.{cannot_read};
 ghost use Rattle.mh_top.specs.Work.{IsWorkOfTable, IsWorkOfGrammar, IsWorkOfFile, IsWorkOfOrder, Over};
 ghost use Rattle.mh_top.specs.Claims.{AskedBy, FileOf, Completes, Finishes, IsStatus, MisuseHasCause, ReadFaultHasCause, AbsentIsSaid, WriteFaultHasCause, TooBigHasCause, LongFileIsSaid, LongInputIsSaid, WritesPart};
@@ -25,6 +26,8 @@ fn work_on_table<F: Shelf, I: Source, O: Sink, E: Sink>(
     out: &mut O,
     _err: &mut E,
 ) -> Result<(), Stop>
+    requires same { halting.grammar ≡ plain_of grammar }
+    requires start { 0 < length grammar.starts }
     ensures { Worked (IsWorkOfTable grammar halting) (λ line. ⊥)
         (world F.files F.faults I.left I.faults O.written O.faults E.written E.faults _shelf.old input.old out.old _err.old)
         (world F.files F.faults I.left I.faults O.written O.faults E.written E.faults _shelf.new input.new out.new _err.new)
@@ -42,6 +45,8 @@ fn work_on_grammar<F: Shelf, I: Source, O: Sink, E: Sink>(
     out: &mut O,
     err: &mut E,
 ) -> Result<(), Stop>
+    requires range { IsInRange (plain_of grammar) }
+    requires start { 0 < length grammar.starts }
     ensures { Worked (IsWorkOfGrammar grammar) (λ line. ⊥)
         (world F.files F.faults I.left I.faults O.written O.faults E.written E.faults shelf.old input.old out.old err.old)
         (world F.files F.faults I.left I.faults O.written O.faults E.written E.faults shelf.new input.new out.new err.new)
