@@ -1,0 +1,2 @@
+pub mod Pigeon
+pub mod Placing

@@ -1,5 +1,5 @@
 //! Kernels and automata.
-use mh_grammar::{Edge, Look, Sequence};
+use mh_grammar::{Edge, Look, Memory, Sequence};
 use std::alloc::{AllocError, AllocFailed};
 
 /// A production and a dot with the looks that it stands with, rising.
@@ -49,6 +49,17 @@ impl<T: Drop> From<AllocFailed<T>> for StatesFault {
     ghost from_gives = { λ _ e. e ≡ Memory };
 
     fn from(_: AllocFailed<T>) -> StatesFault {
+        StatesFault::Memory
+    }
+}
+
+impl From<Memory> for StatesFault {
+    ghost use Rattle.std.specs.Prelude.{◌≡◌};
+    ghost use Rattle.mh_items.specs.declared.kernels.StatesFault.TheVariants.{Memory};
+
+    ghost from_gives = { λ _ e. e ≡ Memory };
+
+    fn from(_: Memory) -> StatesFault {
         StatesFault::Memory
     }
 }

@@ -2,3 +2,4 @@ pub mod Sums
 pub mod Levels
 pub mod Takes
 pub mod Spans
+pub mod LaidOut

@@ -28,14 +28,14 @@ quoted None = Fault
 quoted (Some n) = Short (Some kinds.Quoted) (n + 1)
 
 -- the word behind a percent sign, taken as far as it goes
-unfoldable pub keyword : List ℕ → Front
-keyword s = cond (is_keyword (take (word_rest s) s)) (Short (Some kinds.Keyword) (word_rest s + 1)) Fault
+unfoldable pub keyword_of : List ℕ → Front
+keyword_of s = cond (is_keyword (take (word_rest s) s)) (Short (Some kinds.Keyword) (word_rest s + 1)) Fault
 
 -- behind a percent sign: %% %{ %[@ and keywords
 unfoldable pub percent : List ℕ → Front
 percent s = cond (has s 1 37) (Short (Some kinds.Percents) 2)
     (cond (has s 1 123) (Long (Some kinds.Header) ends.Header 2)
-    (cond (has s 1 91 && has s 2 64) (Long (Some kinds.Attribute) ends.Bracket 3) (keyword (drop 1 s))))
+    (cond (has s 1 91 && has s 2 64) (Long (Some kinds.Attribute) ends.Bracket 3) (keyword_of (drop 1 s))))
 
 -- behind a slash: /* and //
 unfoldable pub slash : List ℕ → Front

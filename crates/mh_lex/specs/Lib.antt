@@ -4,3 +4,4 @@ pub mod Steps
 pub mod Bodies
 pub mod Begins
 pub mod Lexing
+pub mod Texts

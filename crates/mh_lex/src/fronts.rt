@@ -2,7 +2,7 @@
 ghost use Rattle.std.specs.Prelude.{◌≡◌, ◌+◌, ◌-◌, ◌<◌, ◌≤◌, length, drop, nat_eq};
 ghost use Rattle.std.specs.Cmp.Lexicographic.{pointwise};
 ghost use Rattle.mh_lex.specs.Bytes.{is_blank, is_mark};
-ghost use Rattle.mh_lex.specs.Begins.{line_rest, is_keyword, keyword, percent, slash, front, Begins};
+ghost use Rattle.mh_lex.specs.Begins.{line_rest, is_keyword, keyword_of, percent, slash, front, Begins};
 
 use crate::code::starts_comment;
 use crate::items::{has_byte, starts_word, string_length, word_length};
@@ -69,9 +69,9 @@ fn is_keyword_text(word: &[u8]) -> bool
 }
 
 /// The keyword of which this is the word behind its percent sign.
-#[tactic(auto, unfolding(crate::specs::Begins::keyword))]
+#[tactic(auto, unfolding(crate::specs::Begins::keyword_of))]
 fn keyword_at(behind: &[u8]) -> Front
-    ensures value { result ≡ keyword behind.now }
+    ensures value { result ≡ keyword_of behind.now }
     ensures within { Begins (length behind.now + 1) result }
 {
     let length = word_length(behind);

@@ -5,10 +5,12 @@ mod code;
 mod fronts;
 mod items;
 mod kinds;
+mod laws;
 mod scanning;
 
 pub use kinds::{Kind, Lexeme, SyntaxFault};
-pub use scanning::{lex, lexed_once};
+pub use laws::{lexed_apart, lexed_once};
+pub use scanning::lex;
 
 #[cfg(test)]
 mod tests;

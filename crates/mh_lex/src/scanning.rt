@@ -117,8 +117,3 @@ fn still_left(what: Option<Kind>, left: usize) -> usize
         _ => left,
     }
 }
-
-/// Bytes have one list of lexemes and one first fault.
-pub fn lexed_once()
-    ensures { (bytes : List ℕ) (one two : List Lexeme) (f g : Option ℕ) → Lexes bytes one f → Lexes bytes two g → (two ≡ one) × (g ≡ f) }
-{}

@@ -14,3 +14,6 @@ mod states;
 pub use conflicts::Conflict;
 pub use kinds::{ConflictKind, Mode};
 pub use resolution::{conflicts_are_one, resolve, table_is_one};
+
+#[cfg(test)]
+mod tests;

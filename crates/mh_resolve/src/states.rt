@@ -84,7 +84,8 @@ fn core_of(alloc: Global, items: &[KernelItem]) -> Result<Vec<Place>, Memory>
     Ok(core)
 }
 
-fn fallback_of(grammar: &Grammar, default: Option<u32>) -> Option<Fallback>
+/// The default of a state: to reduce a start production is to accept.
+pub fn fallback_of(grammar: &Grammar, default: Option<u32>) -> Option<Fallback>
     ensures { result ≡ fallback_for (length grammar.now.starts) default }
 {
     match default {

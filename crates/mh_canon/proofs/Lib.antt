@@ -1,0 +1,10 @@
+pub mod Edging
+pub mod Exact
+pub mod Finished
+pub mod Meaning
+pub mod OneList
+pub mod Rising
+pub mod Sets
+pub mod States
+pub mod Behind
+pub mod Building

@@ -1,0 +1,7 @@
+//! Knuth's canonical collection of LR(1) item sets (Knuth 1965), numbered breadth first.
+#![tactic(auto)]
+
+mod collection;
+mod symbols;
+
+pub use collection::{MAX_STATES, canonical};

@@ -1,0 +1,180 @@
+-- Texts with spaces behind them are lexed to themselves.
+use Rattle.std.proofs.Common.{◌≡◌, ℕ, zero, suc, ◌+◌, ◌-◌, ◌<◌, ◌==◌, ◌&&◌, ◌||◌, Bool, true, false, not, cond, List, [], ◌∷◌, ◌++◌, length, drop, Some, None, refl, sym, ap, subst, ◌∙◌, arith, length-append}
+use Rattle.std.specs.Prelude.{codes, bytes_eq}
+use Rattle.std.specs.List.{AllByRecursion}
+use Rattle.std.proofs.lemmas.Bool.Decides.{nat_tests, Decides-eqb}
+use Rattle.std.proofs.lemmas.Slice.Eq.{bytes_eq-Decides}
+use Rattle.mh_lex.specs.declared.kinds.Ends.TheVariants as ends
+use Rattle.mh_lex.specs.declared.kinds.Step.TheVariants.{Closes}
+use Rattle.mh_lex.specs.declared.kinds.Kind.{Kind}
+use Rattle.mh_lex.specs.declared.kinds.Kind.TheVariants as kinds
+use Rattle.mh_lex.specs.declared.kinds.Lexeme.{Lexeme}
+use Rattle.mh_lex.specs.declared.kinds.Front.{Front}
+use Rattle.mh_lex.specs.declared.kinds.Front.TheVariants.{Ended, Short, Long}
+use Rattle.mh_lex.specs.Bytes.{is_word_start, is_word_byte, is_blank, is_mark}
+use Rattle.mh_lex.specs.Spellings.{more, word_rest, string_rest}
+use Rattle.mh_lex.specs.Steps.{step}
+use Rattle.mh_lex.specs.Begins.{front, percent, keyword_of, is_keyword}
+use Rattle.mh_lex.specs.Bodies.Body.{closes}
+use Rattle.mh_lex.specs.Lexing.{Taken, LexesFrom, Lexes, piece, left_after}
+use Rattle.mh_lex.specs.Lexing.Taken.{short, long}
+use Rattle.mh_lex.specs.Lexing.LexesFrom.{ended, taken}
+use Rattle.mh_lex.specs.Texts.{Text, IsText, is_content, laid, places, one_of, count_of_percents}
+use Rattle.mh_lex.specs.Texts.Text.{word, mark, percents, keyword, quoted, empty_action}
+
+-- one of two
+either : {P : Type 0} (a b : Bool) → (a || b) ≡ true → (a ≡ true → P) → (b ≡ true → P) → P
+either true b h f g = f refl
+either false b h f g = g h
+
+both : (a b : Bool) → (a && b) ≡ true → (a ≡ true) × (b ≡ true)
+both true b h = (refl, h)
+both false b h = absurd (cc)
+
+drop_all : (t rest : List ℕ) → drop (length t) (t ++ rest) ≡ rest
+drop_all [] rest = refl
+drop_all (b ∷ bs) rest = drop_all bs rest
+
+-- a word
+word_tests : (b : ℕ) → is_word_start b ≡ true → ((b == 256) ≡ false) × (is_blank b ≡ false)
+word_tests b h = (grind (arith, nat_tests), grind (arith, nat_tests))
+
+start_is_byte : (b : ℕ) → is_word_start b ≡ true → is_word_byte b ≡ true
+start_is_byte b h = rw h refl
+
+word_rest-append : (t rest : List ℕ) → AllByRecursion (λ b. is_word_byte b ≡ true) t → word_rest (t ++ 32 ∷ rest) ≡ length t
+word_rest-append [] rest h = refl
+word_rest-append (b ∷ bs) rest h = rw h.0 (ap (λ k. k + 1) (word_rest-append bs rest h.1) ∙ (omega arith))
+
+third : (p q r : Bool) (x y z w : Front) → p ≡ false → q ≡ false → r ≡ true → cond p x (cond q y (cond r z w)) ≡ z
+third p q r x y z w e f g = rw (e, f, g) refl
+
+word_front : (b : ℕ) (bs rest : List ℕ) → is_word_start b ≡ true → word_rest (b ∷ bs ++ 32 ∷ rest) ≡ length (b ∷ bs) → front (b ∷ bs ++ 32 ∷ rest) ≡ Short (Some kinds.Word) (length (b ∷ bs))
+unfolding front
+word_front b bs rest h e = let w = word_tests b h in third _ _ _ _ _ _ _ w.0 w.1 h ∙ ap (λ n. Short (Some kinds.Word) n) e
+
+-- a mark
+mark_cases : (P : ℕ → Type 0) → P 58 → P 124 → P 61 → P 44 → P 59 → P 40 → P 41 → P 63 → P 42 → P 43 → (b : ℕ) → is_mark b ≡ true → P b
+mark_cases P p0 p1 p2 p3 p4 p5 p6 p7 p8 p9 b h =
+    either _ _ h (is 58 p0) (λ h1. either _ _ h1 (is 124 p1) (λ h2. either _ _ h2 (is 61 p2) (λ h3. either _ _ h3 (is 44 p3) (λ h4. either _ _ h4 (is 59 p4)
+    (λ h5. either _ _ h5 (is 40 p5) (λ h6. either _ _ h6 (is 41 p6) (λ h7. either _ _ h7 (is 63 p7) (λ h8. either _ _ h8 (is 42 p8) (is 43 p9)))))))))
+  where
+    is : (m : ℕ) → P m → (b == m) ≡ true → P b
+    is m p e = subst P (sym ((Decides-eqb b m).0 e)) p
+
+abbrev IsMarkFront : ℕ → Type 0
+IsMarkFront b = (rest : List ℕ) → front (b ∷ 32 ∷ rest) ≡ Short (Some kinds.Mark) 1
+
+mark_front : (b : ℕ) → is_mark b ≡ true → IsMarkFront b
+unfolding front
+mark_front b h = mark_cases IsMarkFront (λ rest. refl) (λ rest. refl) (λ rest. refl) (λ rest. refl) (λ rest. refl) (λ rest. refl) (λ rest. refl) (λ rest. refl) (λ rest. refl) (λ rest. refl) b h
+
+-- a keyword
+keyword_cases : (P : List ℕ → Type 0) → P (codes "token") → P (codes "start") → P (codes "type") → P (codes "left") → P (codes "right") → P (codes "nonassoc") →
+    P (codes "on_error_reduce") → P (codes "parameter") → P (codes "attribute") → P (codes "public") → P (codes "inline") → P (codes "prec") → (w : List ℕ) → is_keyword w ≡ true → P w
+unfolding is_keyword
+keyword_cases P p0 p1 p2 p3 p4 p5 p6 p7 p8 p9 p10 p11 w h =
+    either _ _ h (is (codes "token") p0) (λ h1. either _ _ h1 (is (codes "start") p1) (λ h2. either _ _ h2 (is (codes "type") p2) (λ h3. either _ _ h3 (is (codes "left") p3)
+    (λ h4. either _ _ h4 (is (codes "right") p4) (λ h5. either _ _ h5 (is (codes "nonassoc") p5) (λ h6. either _ _ h6 (is (codes "on_error_reduce") p6)
+    (λ h7. either _ _ h7 (is (codes "parameter") p7) (λ h8. either _ _ h8 (is (codes "attribute") p8) (λ h9. either _ _ h9 (is (codes "public") p9)
+    (λ h10. either _ _ h10 (is (codes "inline") p10) (is (codes "prec") p11)))))))))))
+  where
+    is : (v : List ℕ) → P v → bytes_eq w v ≡ true → P w
+    is v p e = subst P (sym ((bytes_eq-Decides w v).0 e)) p
+
+abbrev IsKeywordFront : List ℕ → Type 0
+IsKeywordFront w = (rest : List ℕ) → front (37 ∷ w ++ 32 ∷ rest) ≡ Short (Some kinds.Keyword) (length w + 1)
+
+keyword_front : (w : List ℕ) → is_keyword w ≡ true → IsKeywordFront w
+unfolding front percent keyword_of is_keyword
+keyword_front w h = keyword_cases IsKeywordFront (λ rest. refl) (λ rest. refl) (λ rest. refl) (λ rest. refl) (λ rest. refl) (λ rest. refl)
+    (λ rest. refl) (λ rest. refl) (λ rest. refl) (λ rest. refl) (λ rest. refl) (λ rest. refl) w h
+
+-- %%
+percents_front : (rest : List ℕ) → front (37 ∷ 37 ∷ 32 ∷ rest) ≡ Short (Some kinds.Percents) 2
+unfolding front percent
+percents_front rest = refl
+
+-- a string
+string_rest-append : (held : Bool) (s rest : List ℕ) → is_content held s ≡ true → string_rest held ((s ++ 34 ∷ []) ++ rest) ≡ Some (length s + 1)
+string_rest-append true [] rest h = cc
+string_rest-append false [] rest h = refl
+string_rest-append held (b ∷ bs) rest h =
+    let two = both (not (not held && b == 34)) (is_content (not held && b == 92) bs) h in
+    let plain : (not held && b == 34) ≡ false = not_free (not held && b == 34) two.0 in
+    rw plain (ap more (string_rest-append (not held && b == 92) bs rest two.1) ∙ ap Some (omega arith))
+  where
+    not_free : (x : Bool) → not x ≡ true → x ≡ false
+    not_free true e = cc
+    not_free false e = refl
+
+quoted_front : (s rest : List ℕ) → is_content false s ≡ true → front (34 ∷ (s ++ 34 ∷ []) ++ 32 ∷ rest) ≡ Short (Some kinds.Quoted) (length s + 1 + 1)
+unfolding front
+quoted_front s rest h = rw (string_rest-append false s (32 ∷ rest) h) refl
+
+-- an empty action
+action_front : (rest : List ℕ) → front (123 ∷ rest) ≡ Long (Some kinds.Action) ends.Brace 1
+unfolding front
+action_front rest = refl
+
+action_step : (rest : List ℕ) → step ends.Brace (125 ∷ rest) ≡ Closes 1
+unfolding step
+action_step rest = refl
+
+-- before a space, a text is one lexeme
+before_space : (k : Kind) (t rest : List ℕ) → front (t ++ 32 ∷ rest) ≡ Short (Some k) (length t) → Taken (t ++ 32 ∷ rest) (Some k) (32 ∷ rest)
+before_space k t rest e = short e (sym (drop_all t (32 ∷ rest)))
+
+pub text_taken : (k : Kind) (t : List ℕ) → Text k t → (rest : List ℕ) → Taken (t ++ 32 ∷ rest) (Some k) (32 ∷ rest)
+text_taken k t (word {b = b} {bs = bs} h all) rest =
+    before_space kinds.Word (b ∷ bs) rest (word_front b bs rest h (word_rest-append (b ∷ bs) rest (start_is_byte b h, all)))
+text_taken k t (mark {b = b} h) rest = before_space kinds.Mark (b ∷ []) rest (mark_front b h rest)
+text_taken k t percents rest = before_space kinds.Percents (37 ∷ 37 ∷ []) rest (percents_front rest)
+text_taken k t (keyword {w = w} h) rest = before_space kinds.Keyword (37 ∷ w) rest (keyword_front w h rest ∙ ap (λ n. Short (Some kinds.Keyword) n) (omega arith))
+text_taken k t (quoted s h) rest =
+    before_space kinds.Quoted (34 ∷ s ++ 34 ∷ []) rest (quoted_front s rest h ∙ ap (λ n. Short (Some kinds.Quoted) n) (omega (arith, length-append s (34 ∷ []))))
+text_taken k t empty_action rest = long (action_front (125 ∷ 32 ∷ rest)) (closes (action_step (32 ∷ rest)) refl)
+
+-- texts one after the other
+blank_front : (rest : List ℕ) → front (32 ∷ rest) ≡ Short None 1
+unfolding front
+blank_front rest = refl
+
+nil_front : front [] ≡ Ended
+unfolding front
+nil_front = refl
+
+left_after-one_of : (k : Kind) (left : ℕ) → left_after (Some k) left + one_of k ≡ suc left
+left_after-one_of kinds.Percents left = omega arith
+left_after-one_of kinds.Word left = omega arith
+left_after-one_of kinds.Mark left = omega arith
+left_after-one_of kinds.Keyword left = omega arith
+left_after-one_of kinds.Quoted left = omega arith
+left_after-one_of kinds.Header left = omega arith
+left_after-one_of kinds.Action left = omega arith
+left_after-one_of kinds.TypeText left = omega arith
+left_after-one_of kinds.Attribute left = omega arith
+
+laid_kept : (k : Kind) (total at : ℕ) (t ls : List ℕ) (ps : List Lexeme) → total ≡ at + length (t ++ 32 ∷ ls) →
+    record { kind = k; start = at; end = at + length t } ∷ ps ≡ piece (Some k) (total - length (t ++ 32 ∷ ls)) (total - length (32 ∷ ls)) ++ ps
+laid_kept k total at t ls ps e =
+    let n = length-append t (32 ∷ ls) in
+    let a : at ≡ total - length (t ++ 32 ∷ ls) = omega arith in
+    let b : at + length t ≡ total - length (32 ∷ ls) = omega arith in
+    ap (λ m. record { kind = k; start = m; end = at + length t } ∷ ps) a ∙ ap (λ m. record { kind = k; start = total - length (t ++ 32 ∷ ls); end = m } ∷ ps) b
+
+laid_from : (total left at : ℕ) (ts : List (Kind × List ℕ)) → AllByRecursion IsText ts → count_of_percents ts < left → total ≡ at + length (laid ts) → LexesFrom total left (laid ts) (places at ts) None
+laid_from total zero at ts h few e = absurd (omega arith)
+laid_from total (suc left) at [] h few e = ended nil_front
+laid_from total (suc left) at (t ∷ ts) h few e =
+    let n : total ≡ at + (length t.1 + (1 + length (laid ts))) = e ∙ ap (λ k. at + k) (length-append t.1 (32 ∷ laid ts) ∙ ap (λ k. length t.1 + k) (omega arith)) in
+    let m : total ≡ at + length t.1 + 1 + length (laid ts) = omega arith in
+    let sum = left_after-one_of t.0 left in
+    let some : left_after (Some t.0) left ≡ suc (left_after (Some t.0) left - 1) = omega arith in
+    let fewer : count_of_percents ts < suc (left_after (Some t.0) left - 1) = omega arith in
+    let rest = taken (short (blank_front (laid ts)) refl) (laid_from total (suc (left_after (Some t.0) left - 1)) (at + length t.1 + 1) ts h.1 fewer m) refl in
+    taken (text_taken t.0 t.1 h.0 (laid ts)) (subst (λ k. LexesFrom total k (32 ∷ laid ts) (places (at + length t.1 + 1) ts) None) (sym some) rest)
+      (laid_kept t.0 total at t.1 (laid ts) (places (at + length t.1 + 1) ts) e)
+
+pub laid_lexes : (ts : List (Kind × List ℕ)) → AllByRecursion IsText ts → count_of_percents ts < 2 → Lexes (laid ts) (places 0 ts) None
+laid_lexes ts h few = laid_from (length (laid ts)) 2 0 ts h few (omega arith)
