@@ -9,3 +9,4 @@ pub mod Claims
 pub mod Fields
 pub mod Lexicons
 pub mod Answering
+pub mod Tabling

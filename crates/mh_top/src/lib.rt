@@ -8,6 +8,7 @@ mod order;
 mod sentence;
 mod stages;
 mod stop;
+mod tabled;
 mod top;
 
 pub use stop::Cause;

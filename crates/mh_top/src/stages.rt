@@ -2,12 +2,10 @@
 ghost use Rattle.std.specs.Prelude.{◌≡◌, ◌<◌, length, IfOk};
 ghost use Rattle.mh_grammar.specs.Plain.{plain_of, IsInRange};
 ghost use Rattle.mh_top.specs.GrammarStage.{IsGrammarStage};
-ghost use Rattle.mh_top.specs.TableStage.{IsTableStage};
 ghost use Rattle.mh_top.specs.Stages.{StageHas};
 
 use crate::stop::Stop;
 use mh_grammar::Grammar;
-use mh_tables::Halting;
 use std::alloc::Global;
 
 /// The grammar of a file. STAND-IN
@@ -15,15 +13,6 @@ pub(crate) fn grammar_of(_alloc: Global, _bytes: &[u8]) -> Result<Grammar, Stop>
     ensures grammar { StageHas (IsGrammarStage _bytes.now) result }
     ensures range { IfOk result (λ grammar. IsInRange (plain_of grammar)) }
     ensures start { IfOk result (λ grammar. 0 < length grammar.starts) }
-{
-    Err(Stop::OutOfMemory)
-}
-
-/// The table of a grammar. STAND-IN
-pub(crate) fn table_of(_alloc: Global, _grammar: &Grammar) -> Result<Halting, Stop>
-    requires { IsInRange (plain_of _grammar.now) }
-    ensures table { StageHas (IsTableStage _grammar.now) result }
-    ensures same { IfOk result (λ halting. halting.grammar ≡ plain_of _grammar.now) }
 {
     Err(Stop::OutOfMemory)
 }
