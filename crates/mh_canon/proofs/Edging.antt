@@ -54,7 +54,7 @@ found_move g closed kernels (f ∷ row) (k ∷ moves) each names X u e = go (sam
     go false s t rest = rest t
 
 -- there is an edge on each symbol
-found_edge : (row : List Edge) (X : Symbol) → Contains (map (λ (e : Edge). e.symbol) row) X → (u : ℕ) × (find_edge row X ≡ Some u)
+pub found_edge : (row : List Edge) (X : Symbol) → Contains (map (λ (e : Edge). e.symbol) row) X → (u : ℕ) × (find_edge row X ≡ Some u)
 found_edge [] X c = absurd (contains_none X c)
 found_edge (f ∷ row) X c = go (same_symbol f.symbol X) refl (found_edge row X)
   where

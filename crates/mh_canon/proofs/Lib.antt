@@ -3,6 +3,7 @@ pub mod Exact
 pub mod Finished
 pub mod Meaning
 pub mod OneList
+pub mod Only
 pub mod Rising
 pub mod Sets
 pub mod States

@@ -3,5 +3,7 @@
 
 mod collection;
 mod symbols;
+mod uniqueness;
 
 pub use collection::{MAX_STATES, canonical};
+pub use uniqueness::is_one_automaton;

@@ -1,2 +1,3 @@
+pub mod OneNumbering
 pub mod Pigeon
 pub mod Placing

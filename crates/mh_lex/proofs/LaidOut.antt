@@ -2,6 +2,7 @@
 use Rattle.std.proofs.Common.{◌≡◌, ℕ, zero, suc, ◌+◌, ◌-◌, ◌<◌, ◌==◌, ◌&&◌, ◌||◌, Bool, true, false, not, cond, List, [], ◌∷◌, ◌++◌, length, drop, Some, None, refl, sym, ap, subst, ◌∙◌, arith, length-append}
 use Rattle.std.specs.Prelude.{codes, bytes_eq}
 use Rattle.std.specs.List.{AllByRecursion}
+use Rattle.std.proofs.lemmas.Bool.{not-true}
 use Rattle.std.proofs.lemmas.Bool.Decides.{nat_tests, Decides-eqb}
 use Rattle.std.proofs.lemmas.Slice.Eq.{bytes_eq-Decides}
 use Rattle.mh_lex.specs.declared.kinds.Ends.TheVariants as ends
@@ -27,11 +28,11 @@ either : {P : Type 0} (a b : Bool) → (a || b) ≡ true → (a ≡ true → P) 
 either true b h f g = f refl
 either false b h f g = g h
 
-both : (a b : Bool) → (a && b) ≡ true → (a ≡ true) × (b ≡ true)
+pub both : (a b : Bool) → (a && b) ≡ true → (a ≡ true) × (b ≡ true)
 both true b h = (refl, h)
 both false b h = absurd (cc)
 
-drop_all : (t rest : List ℕ) → drop (length t) (t ++ rest) ≡ rest
+pub drop_all : (t rest : List ℕ) → drop (length t) (t ++ rest) ≡ rest
 drop_all [] rest = refl
 drop_all (b ∷ bs) rest = drop_all bs rest
 
@@ -101,12 +102,8 @@ string_rest-append true [] rest h = cc
 string_rest-append false [] rest h = refl
 string_rest-append held (b ∷ bs) rest h =
     let two = both (not (not held && b == 34)) (is_content (not held && b == 92) bs) h in
-    let plain : (not held && b == 34) ≡ false = not_free (not held && b == 34) two.0 in
+    let plain : (not held && b == 34) ≡ false = not-true (not held && b == 34) two.0 in
     rw plain (ap more (string_rest-append (not held && b == 92) bs rest two.1) ∙ ap Some (omega arith))
-  where
-    not_free : (x : Bool) → not x ≡ true → x ≡ false
-    not_free true e = cc
-    not_free false e = refl
 
 quoted_front : (s rest : List ℕ) → is_content false s ≡ true → front (34 ∷ (s ++ 34 ∷ []) ++ 32 ∷ rest) ≡ Short (Some kinds.Quoted) (length s + 1 + 1)
 unfolding front
@@ -174,7 +171,7 @@ laid_from total (suc left) at (t ∷ ts) h few e =
     let fewer : count_of_percents ts < suc (left_after (Some t.0) left - 1) = omega arith in
     let rest = taken (short (blank_front (laid ts)) refl) (laid_from total (suc (left_after (Some t.0) left - 1)) (at + length t.1 + 1) ts h.1 fewer m) refl in
     taken (text_taken t.0 t.1 h.0 (laid ts)) (subst (λ k. LexesFrom total k (32 ∷ laid ts) (places (at + length t.1 + 1) ts) None) (sym some) rest)
-      (laid_kept t.0 total at t.1 (laid ts) (places (at + length t.1 + 1) ts) e)
+    (laid_kept t.0 total at t.1 (laid ts) (places (at + length t.1 + 1) ts) e)
 
 pub laid_lexes : (ts : List (Kind × List ℕ)) → AllByRecursion IsText ts → count_of_percents ts < 2 → Lexes (laid ts) (places 0 ts) None
 laid_lexes ts h few = laid_from (length (laid ts)) 2 0 ts h few (omega arith)

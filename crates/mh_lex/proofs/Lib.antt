@@ -3,3 +3,4 @@ pub mod Levels
 pub mod Takes
 pub mod Spans
 pub mod LaidOut
+pub mod Spelled

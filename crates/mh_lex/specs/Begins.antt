@@ -1,4 +1,4 @@
--- What begins a lexeme, a comment or a blank.
+-- What begins a lexeme, a comment or a blank. Source: the Menhir manual's syntax of grammars, and this project's profile.
 use Rattle.std.specs.Prelude.{ℕ, ◌+◌, ◌<◌, ◌≤◌, ◌==◌, ◌&&◌, ◌||◌, Bool, false, cond, List, [], ◌∷◌, Option, Some, None, drop, take, nat_eq, codes}
 use Rattle.std.specs.Cmp.Lexicographic.{pointwise}
 use Rattle.mh_lex.specs.declared.kinds.Ends.TheVariants as ends
@@ -23,9 +23,9 @@ is_keyword w = pointwise nat_eq w (codes "token") || (pointwise nat_eq w (codes 
     || (pointwise nat_eq w (codes "attribute") || (pointwise nat_eq w (codes "public")
     || (pointwise nat_eq w (codes "inline") || pointwise nat_eq w (codes "prec")))))))))))
 
-abbrev pub quoted : Option ℕ → Front
-quoted None = Fault
-quoted (Some n) = Short (Some kinds.Quoted) (n + 1)
+abbrev pub string_front : Option ℕ → Front
+string_front None = Fault
+string_front (Some n) = Short (Some kinds.Quoted) (n + 1)
 
 -- the word behind a percent sign, taken as far as it goes
 unfoldable pub keyword_of : List ℕ → Front
@@ -52,7 +52,7 @@ front s =
     (cond (is_mark (byte_at s 0)) (Short (Some kinds.Mark) 1)
     (cond (has s 0 37) (percent s)
     (cond (has s 0 47) (slash s)
-    (cond (has s 0 34) (quoted (string_rest false (drop 1 s)))
+    (cond (has s 0 34) (string_front (string_rest false (drop 1 s)))
     (cond (has s 0 123) (Long (Some kinds.Action) ends.Brace 1)
     (cond (has s 0 60) (Long (Some kinds.TypeText) ends.Angle 1)
     (cond (has s 0 91 && has s 1 64) (Long (Some kinds.Attribute) ends.Bracket 2) Fault))))))))))

@@ -1,4 +1,4 @@
--- Bytes at places, and their classes.
+-- Bytes at places, and their classes. Source: this project's profile.
 use Rattle.std.specs.Prelude.{ℕ, ◌==◌, ◌&&◌, ◌||◌, Bool, List, slice_index_or, nat_le}
 
 -- the byte at a place; 256, which is no byte, behind the end

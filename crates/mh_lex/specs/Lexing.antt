@@ -1,4 +1,4 @@
--- Bytes and their lexemes.
+-- Bytes and their lexemes. Source: the Menhir manual's syntax of grammars, and this project's profile.
 use Rattle.std.specs.Prelude.{◌≡◌, ◌≢◌, ℕ, suc, ◌+◌, ◌-◌, ◌<◌, ◌≤◌, List, [], ◌∷◌, ◌++◌, length, Option, Some, None, drop, take, ◌==◌, Result, Ok, Err}
 use Rattle.std.specs.List.{count_by}
 use Rattle.mh_lex.specs.declared.kinds.SyntaxFault.{SyntaxFault}
@@ -58,6 +58,10 @@ Lexes bytes lexemes place = LexesFrom (length bytes) 2 bytes lexemes place
 abbrev pub Rises : ℕ → ℕ → List Lexeme → Type 0
 Rises low high [] = low ≤ high
 Rises low high (l ∷ ls) = (low ≤ l.start) × (l.start < l.end) × Rises l.end high ls
+
+-- it is not empty, and ends within so many bytes
+abbrev pub IsWithin : ℕ → Lexeme → Type 0
+IsWithin size l = (l.start < l.end) × (l.end ≤ size)
 
 -- what one step over the bytes at a place finds
 abbrev pub Finds : List ℕ → ℕ → Taking → Type 0

@@ -1,4 +1,5 @@
--- How far words, strings, quoted strings and characters go.
+-- How far words, strings, quoted strings and characters go. Source: the lexical conventions of the OCaml manual, and this
+-- project's profile where it takes less.
 use Rattle.std.specs.Prelude.{ℕ, ◌+◌, ◌-◌, ◌==◌, ◌&&◌, ◌||◌, Bool, cond, not, List, [], ◌∷◌, length, Option, Some, None, drop, take, nat_eq}
 use Rattle.std.specs.List.{starts_with}
 use Rattle.mh_lex.specs.Bytes.{byte_at, has, is_word_byte, is_id_byte, is_escape, is_decimal, is_octal, is_hexadecimal}
@@ -41,14 +42,16 @@ abbrev pub quoted_rest : List ℕ → List ℕ → Option ℕ
 quoted_rest id [] = None
 quoted_rest id (b ∷ bs) = cond (b == 124 && closes_quoted id bs) (Some (length id + 2)) (more (quoted_rest id bs))
 
--- the length of a character literal with a backslash, 0 where none stands here
+-- The length of a character literal with a backslash, 0 where none stands here: an escape, three decimal digits, x and two
+-- hexadecimal digits, o and three octal digits, each with a quote behind it.
 unfoldable pub escaped : List ℕ → ℕ
 escaped s = cond (is_escape (byte_at s 2) && has s 3 39) 4
     (cond (is_decimal (byte_at s 2) && (is_decimal (byte_at s 3) && (is_decimal (byte_at s 4) && has s 5 39))) 6
     (cond (has s 2 120 && (is_hexadecimal (byte_at s 3) && (is_hexadecimal (byte_at s 4) && has s 5 39))) 6
     (cond (has s 2 111 && (is_octal (byte_at s 3) && (is_octal (byte_at s 4) && (is_octal (byte_at s 5) && has s 6 39)))) 7 0)))
 
--- the length of a character literal, 0 where none stands here
+-- The length of a character literal, 0 where none stands here: between two quotes an escaped character, or one byte other
+-- than a backslash, a quote and a line feed.
 unfoldable pub literal : List ℕ → ℕ
 literal s = cond (not (has s 0 39)) 0
     (cond (has s 1 92) (escaped s)

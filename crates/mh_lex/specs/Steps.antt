@@ -1,4 +1,5 @@
--- What stands at the front inside of code, comments and types.
+-- What stands at the front inside of code, comments and types. Source: this project's profile; the Menhir manual leaves
+-- what is in actions to OCaml.
 use Rattle.std.specs.Prelude.{ℕ, ◌+◌, ◌<◌, ◌≤◌, ◌&&◌, Bool, true, false, cond, List, Option, Some, None, drop, nat_lt}
 use Rattle.mh_lex.specs.declared.kinds.Ends.{Ends}
 use Rattle.mh_lex.specs.declared.kinds.Ends.TheVariants.{Comment, Brace, Bracket, Header, Angle, Slash}
@@ -29,7 +30,8 @@ opener Slash = 257
 abbrev pub single : Ends → List ℕ → Step
 single e s = cond (is_end s) Stuck (cond (has s 0 (opener e)) Nests (Passes 1))
 
--- the first that fits of a string, a character literal, a word, a quoted string and a single byte
+-- An item other than a comment: the first that fits of a string, a character literal, a word, a quoted string and a single
+-- byte. A string or quoted string that is not closed is not read as single bytes: nothing is passed over.
 unfoldable pub item : Ends → List ℕ → Step
 item e s = cond (has s 0 34) (passes 1 (string_rest false (drop 1 s)))
     (cond (nat_lt 0 (literal s)) (Passes (literal s))
@@ -64,6 +66,7 @@ has_remarks Header = true
 has_remarks Angle = true
 has_remarks Slash = false
 
+-- What closes comes first, then a comment, then what is passed over or nests.
 unfoldable pub step : Ends → List ℕ → Step
 step e s = cond (nat_lt 0 (closer e s)) (Closes (closer e s))
     (cond (has_remarks e && begins_comment s) Remark (plain e s))

@@ -1,5 +1,5 @@
 -- Texts that are one lexeme each, and files made of them.
-use Rattle.std.specs.Prelude.{◌≡◌, ℕ, ◌+◌, ◌==◌, ◌&&◌, Bool, true, false, not, List, [], ◌∷◌, ◌++◌, length}
+use Rattle.std.specs.Prelude.{◌≡◌, ℕ, ◌+◌, ◌-◌, ◌==◌, ◌&&◌, Bool, true, false, not, List, [], ◌∷◌, ◌++◌, length, take, drop}
 use Rattle.std.specs.List.{AllByRecursion}
 use Rattle.mh_lex.specs.declared.kinds.Kind.{Kind}
 use Rattle.mh_lex.specs.declared.kinds.Kind.TheVariants as kinds
@@ -49,3 +49,22 @@ one_of kinds.Attribute = 0
 abbrev pub count_of_percents : List (Kind × List ℕ) → ℕ
 count_of_percents [] = 0
 count_of_percents (t ∷ ts) = one_of t.0 + count_of_percents ts
+
+-- a lexeme's bytes
+abbrev pub bytes_of : List ℕ → Lexeme → List ℕ
+bytes_of bytes l = take (l.end - l.start) (drop l.start bytes)
+
+-- what a lexeme of this kind spells; code and types are not looked into
+abbrev pub HasText : Kind → List ℕ → Type 0
+HasText kinds.Word t = Text kinds.Word t
+HasText kinds.Mark t = Text kinds.Mark t
+HasText kinds.Percents t = Text kinds.Percents t
+HasText kinds.Keyword t = Text kinds.Keyword t
+HasText kinds.Quoted t = Text kinds.Quoted t
+HasText kinds.Header t = Unit {0}
+HasText kinds.Action t = Unit {0}
+HasText kinds.TypeText t = Unit {0}
+HasText kinds.Attribute t = Unit {0}
+
+abbrev pub IsSpelled : List ℕ → Lexeme → Type 0
+IsSpelled bytes l = HasText l.kind (bytes_of bytes l)

@@ -171,7 +171,8 @@ fn step_from(ends: Ends, bytes: &[u8], at: usize) -> Step
 
 /// How many bytes there are up to and with a comment's end, None where it has none.
 fn comment_length(rest: &[u8]) -> Option<usize>
-    ensures some { IfSome result (λ n. (n ≤ length rest.now) × Body ends.Comment rest.now (drop n rest.now)) }
+    ensures some { IfSome result
+        (λ n. (n ≤ length rest.now) × Body ends.Comment rest.now (drop n rest.now)) }
     ensures none { IfNone result ((after : List ℕ) → Body ends.Comment rest.now after → ⊥) }
 {
     let mut at = 0usize;
@@ -202,7 +203,8 @@ fn comment_length(rest: &[u8]) -> Option<usize>
 /// How many bytes there are from a place up to and with a comment's end, None where it has none.
 fn comment_from(bytes: &[u8], at: usize) -> Option<usize>
     requires { at ≤ length bytes.now }
-    ensures some { IfSome result (λ n. (n ≤ length bytes.now - at) × Body ends.Comment (drop at bytes.now) (drop n (drop at bytes.now))) }
+    ensures some { IfSome result
+        (λ n. (n ≤ length bytes.now - at) × Body ends.Comment (drop at bytes.now) (drop n (drop at bytes.now))) }
     ensures none { IfNone result ((after : List ℕ) → Body ends.Comment (drop at bytes.now) after → ⊥) }
 {
     comment_length(&bytes[at..])
@@ -210,7 +212,8 @@ fn comment_from(bytes: &[u8], at: usize) -> Option<usize>
 
 /// How many bytes there are up to and with what closes the code, None where nothing does.
 pub fn code_length(code: Ends, rest: &[u8]) -> Option<usize>
-    ensures some { IfSome result (λ n. (n ≤ length rest.now) × Body code rest.now (drop n rest.now)) }
+    ensures some { IfSome result
+        (λ n. (n ≤ length rest.now) × Body code rest.now (drop n rest.now)) }
     ensures none { IfNone result ((after : List ℕ) → Body code rest.now after → ⊥) }
 {
     let mut at = 0usize;

@@ -36,10 +36,10 @@ pub struct Lexeme {
     pub end: usize,
 }
 
-/// Why bytes are not read.
+/// Why bytes are not read. `Syntax` names the line, from 1 on, on which the first begins that is no lexeme or comment, or
+/// that is not closed.
 #[derive(Clone, Copy, Debug, Drop, PartialEq, Eq, Error)]
 pub enum SyntaxFault {
-    /// What begins on this line, from 1 on, is no lexeme, or is not closed.
     #[error("{line}: syntax error")]
     Syntax { line: u32 },
     #[error("out of memory")]

@@ -1,17 +1,25 @@
 //! What holds of bytes and their lexemes.
 ghost use Rattle.std.specs.Prelude.{◌≡◌, ◌<◌, ℕ, List, Option, None};
-ghost use Rattle.std.specs.List.{AllByRecursion};
+ghost use Rattle.std.specs.List.{All};
 ghost use Rattle.mh_lex.specs.declared.kinds.Kind.{Kind};
 ghost use Rattle.mh_lex.specs.declared.kinds.Lexeme.{Lexeme};
 ghost use Rattle.mh_lex.specs.Lexing.{Lexes};
-ghost use Rattle.mh_lex.specs.Texts.{IsText, laid, places, count_of_percents};
+ghost use Rattle.mh_lex.specs.Texts.{IsText, IsSpelled, laid, places, count_of_percents};
 
 /// Bytes have one list of lexemes and at most one first fault.
 pub fn lexed_once()
-    ensures { (bytes : List ℕ) (one two : List Lexeme) (f g : Option ℕ) → Lexes bytes one f → Lexes bytes two g → (two ≡ one) × (g ≡ f) }
+    ensures { (bytes : List ℕ) (one two : List Lexeme) (f g : Option ℕ)
+        → Lexes bytes one f → Lexes bytes two g → (two ≡ one) × (g ≡ f) }
 {}
 
 /// Texts with a space behind each are the lexemes of the file that they make, if at most one of them is `%%`.
 pub fn lexed_apart()
-    ensures { (texts : List (Kind × List ℕ)) → AllByRecursion IsText texts → count_of_percents texts < 2 → Lexes (laid texts) (places 0 texts) None }
+    ensures { (texts : List (Kind × List ℕ)) → All IsText texts → count_of_percents texts < 2
+        → Lexes (laid texts) (places 0 texts) None }
+{}
+
+/// Each word, mark, `%%`, keyword and string among the lexemes of a file spans a text of its kind.
+pub fn lexed_texts()
+    ensures { (bytes : List ℕ) (lexemes : List Lexeme) (f : Option ℕ)
+        → Lexes bytes lexemes f → All (IsSpelled bytes) lexemes }
 {}

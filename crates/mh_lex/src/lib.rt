@@ -9,7 +9,7 @@ mod laws;
 mod scanning;
 
 pub use kinds::{Kind, Lexeme, SyntaxFault};
-pub use laws::{lexed_apart, lexed_once};
+pub use laws::{lexed_apart, lexed_once, lexed_texts};
 pub use scanning::lex;
 
 #[cfg(test)]

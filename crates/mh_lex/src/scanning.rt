@@ -1,9 +1,9 @@
 //! The lexemes of a file.
 ghost use Rattle.std.specs.Prelude.{◌≡◌, ℕ, List, ◌-◌, ◌<◌, ◌≤◌, ◌^◌, length, drop, IfSome, IfNone, IfOk, OnOk, Option, None, ◌++◌, ◌==◌};
-ghost use Rattle.std.specs.List.{count_by};
+ghost use Rattle.std.specs.List.{All, count_by};
 ghost use Rattle.mh_lex.specs.declared.kinds.Lexeme.{Lexeme};
 ghost use Rattle.mh_lex.specs.Bodies.{Body};
-ghost use Rattle.mh_lex.specs.Lexing.{Lexes, Finds, Rises, line_at, left_after, piece, Refuses};
+ghost use Rattle.mh_lex.specs.Lexing.{Lexes, Finds, Rises, IsWithin, line_at, left_after, piece, Refuses};
 
 use crate::code::code_length;
 use crate::fronts::front_from;
@@ -13,7 +13,8 @@ use std::alloc::{AllocError, Global};
 /// How many bytes there are from a place up to what closes the code.
 fn code_from(code: Ends, bytes: &[u8], at: usize) -> Option<usize>
     requires { at ≤ length bytes.now }
-    ensures some { IfSome result (λ n. (n ≤ length bytes.now - at) × Body code (drop at bytes.now) (drop n (drop at bytes.now))) }
+    ensures some { IfSome result
+        (λ n. (n ≤ length bytes.now - at) × Body code (drop at bytes.now) (drop n (drop at bytes.now))) }
     ensures none { IfNone result ((after : List ℕ) → Body code (drop at bytes.now) after → ⊥) }
 {
     code_length(code, &bytes[at..])
@@ -83,6 +84,7 @@ pub fn lex(alloc: Global, bytes: &[u8]) -> Result<Vec<Lexeme>, SyntaxFault>
     requires { length bytes.now < 2 ^ 31 }
     ensures lexemes { IfOk result (λ v. Lexes bytes.now v.items None) }
     ensures spans { IfOk result (λ v. Rises 0 (length bytes.now) v.items) }
+    ensures within { IfOk result (λ v. All (IsWithin (length bytes.now)) v.items) }
     ensures fault { Refuses bytes.now result }
 {
     let mut lexemes = Vec::new(alloc);

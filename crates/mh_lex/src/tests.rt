@@ -1,7 +1,7 @@
 //! Grammar files and their lexemes, worked out by hand.
 ghost use Rattle.std.specs.Prelude.{◌<◌, ◌^◌, length};
 
-use crate::{Kind, SyntaxFault, lex, lexed_once};
+use crate::{Kind, SyntaxFault, lex, lexed_apart, lexed_once, lexed_texts};
 use std::alloc::{AllocError, Global};
 use std::test::Fail;
 
@@ -167,5 +167,7 @@ fn lexes(rt: HostRuntime) -> Result<(), Fail> {
     }
     assert_eq!(rt; cases().split('^').count(), 102);
     lexed_once();
+    lexed_apart();
+    lexed_texts();
     Ok(())
 }

@@ -1,6 +1,8 @@
 pub mod Edges
 pub mod Ending
+pub mod Examples
 pub mod Finding
+pub mod Fitting
 pub mod Longer
 pub mod Path
 pub mod Reductions

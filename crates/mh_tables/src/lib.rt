@@ -11,3 +11,6 @@ pub use halting::{Halting, check_halts};
 pub use parts::{Action, Fallback, Place, StateParts};
 pub use relative::HaltFault;
 pub use table::{Table, table_of};
+
+#[cfg(test)]
+mod tests;

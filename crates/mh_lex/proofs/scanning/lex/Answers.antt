@@ -32,3 +32,11 @@ returns-in-Ended-clause-spans c = spans.Rises-longer 0 c.loop-left.at (length c.
 
 pub returns-clause-spans : goal.returns-clause-spans
 returns-clause-spans c = spans.Rises-longer 0 c.loop-left.at (length c.args.bytes.now) c.loop-left.lexemes.items c.loop-left.invariant.rises c.loop-left.invariant.within
+
+pub returns-in-Ended-clause-within : goal.returns-in-Ended-clause-within
+returns-in-Ended-clause-within c = spans.Rises-within 0 (length c.args.bytes.now) c.loop-left.lexemes.items
+    (spans.Rises-longer 0 c.loop-left.at (length c.args.bytes.now) c.loop-left.lexemes.items c.loop-left.invariant.rises c.loop-left.invariant.within)
+
+pub returns-clause-within : goal.returns-clause-within
+returns-clause-within c = spans.Rises-within 0 (length c.args.bytes.now) c.loop-left.lexemes.items
+    (spans.Rises-longer 0 c.loop-left.at (length c.args.bytes.now) c.loop-left.lexemes.items c.loop-left.invariant.rises c.loop-left.invariant.within)

