@@ -10,3 +10,4 @@ pub mod Fields
 pub mod Lexicons
 pub mod Answering
 pub mod Tabling
+pub mod Once

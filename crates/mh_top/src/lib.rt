@@ -13,3 +13,6 @@ mod top;
 
 pub use stop::Cause;
 pub use top::menhir;
+
+#[cfg(test)]
+mod tests;
