@@ -4,6 +4,7 @@ use std::alloc::Global;
 use std::test::Fail;
 
 /// The status, and the texts on out and err.
+#[derive(Drop)]
 struct Outcome {
     status: u8,
     out: Vec<u8>,
@@ -11,6 +12,7 @@ struct Outcome {
 }
 
 /// Which calls of the devices fail, by their numbers from 1.
+#[derive(Clone, Copy)]
 struct Fails<'a> {
     shelf: &'a [u64],
     input: &'a [u64],
