@@ -11,3 +11,8 @@ pub mod Lexicons
 pub mod Answering
 pub mod Tabling
 pub mod Once
+pub mod PlainReading
+pub mod PlainTables
+pub mod PlainRules
+pub mod PlainNumbers
+pub mod PlainMeaning

@@ -1,16 +1,19 @@
-//! The top call: all that the program does, over any shelf, input and output.
+//! The top call: all that the program does, over any shelf, input and output. Until the reader of whole grammar files
+//! stands, files are of the plain form.
 #![tactic(auto)]
 
 mod each;
 mod interpret;
 mod load;
 mod order;
+mod plain;
 mod sentence;
 mod stages;
 mod stop;
 mod tabled;
 mod top;
 
+pub use plain::{PlainFault, PlainFile, PlainRule, grammar_of, read_plain};
 pub use stop::Cause;
 pub use top::menhir;
 
