@@ -97,7 +97,7 @@ module _ (tokens names : List (List ℕ)) where
   pub symbols-below : (rules : List PlainRule) (symbols : List (List (List Symbol))) → DenoteAll tokens names rules symbols → AreRulesBelow (length names) symbols
   symbols-below rules symbols d = zip-right (λ (r : PlainRule) (ks : List (List Symbol)). AllZip (AllZip (Denotes tokens names)) r.alternatives ks) (All (All (IsRuleBelow (length names))))
       (λ r ks p. zip-right (AllZip (Denotes tokens names)) (All (IsRuleBelow (length names)))
-          (λ ws Xs q. zip-right (Denotes tokens names) (IsRuleBelow (length names)) (λ w X b. named-below w X b.named) ws Xs q) r.alternatives ks p) rules symbols d
+      (λ ws Xs q. zip-right (Denotes tokens names) (IsRuleBelow (length names)) (λ w X b. named-below w X b.named) ws Xs q) r.alternatives ks p) rules symbols d
 
   pub symbols-length : (rules : List PlainRule) (symbols : List (List (List Symbol))) → names ≡ names_of rules → DenoteAll tokens names rules symbols → length symbols ≡ length names
   symbols-length rules symbols e d =
@@ -136,7 +136,7 @@ module _ (tokens names : List (List ℕ)) where
     pub words-for-tokens : (rules : List PlainRule) → names ≡ names_of rules → All (λ r. All (All (IsSymbolName declared (names_of rules))) r.alternatives) rules → All (λ r. All (All (IsSymbolName tokens names)) r.alternatives) rules
     words-for-tokens rules e a = All-weaker (λ (r : PlainRule). All (All (IsSymbolName declared (names_of rules))) r.alternatives) (λ (r : PlainRule). All (All (IsSymbolName tokens names)) r.alternatives)
         (λ r b. All-weaker (All (IsSymbolName declared (names_of rules))) (All (IsSymbolName tokens names))
-            (λ ws d. All-weaker (IsSymbolName declared (names_of rules)) (IsSymbolName tokens names) (λ w s. name-for-tokens (names_of rules) w e s) ws d) r.alternatives b) rules a
+        (λ ws d. All-weaker (IsSymbolName declared (names_of rules)) (IsSymbolName tokens names) (λ w s. name-for-tokens (names_of rules) w e s) ws d) r.alternatives b) rules a
 
     few-declared : length tokens ≤ 256 → IsFew declared
     few-declared h = λ some d a. (let bound = length-distinct_in tokens some d (λ x c. declared-tokens x (All-contains (Contains declared) some x a c)) in omega (arith, bound))
@@ -148,7 +148,7 @@ module _ (tokens names : List (List ℕ)) where
     denoted-words : (rules : List PlainRule) (symbols : List (List (List Symbol))) → DenoteAll tokens names rules symbols → All (λ r. All (All (IsSymbolName declared names)) r.alternatives) rules
     denoted-words rules symbols d = zip-left (λ (r : PlainRule) (ks : List (List Symbol)). AllZip (AllZip (Denotes tokens names)) r.alternatives ks) (λ (r : PlainRule). All (All (IsSymbolName declared names)) r.alternatives)
         (λ r ks q. zip-left (AllZip (Denotes tokens names)) (All (IsSymbolName declared names))
-            (λ ws Xs z. zip-left (Denotes tokens names) (IsSymbolName declared names) (λ w X b. record { plain = b.plain; known = word-named w X b.named }) ws Xs z) r.alternatives ks q) rules symbols d
+        (λ ws Xs z. zip-left (Denotes tokens names) (IsSymbolName declared names) (λ w X b. record { plain = b.plain; known = word-named w X b.named }) ws Xs z) r.alternatives ks q) rules symbols d
 
 pub AreFirsts-from : {X : Type 0} (new xs : List X) → Places [] new xs → AreFirsts xs new
 AreFirsts-from new xs p = record {

@@ -97,6 +97,7 @@ pub number-step : (symbols : List (List (List Symbol))) (starts old new : List �
 number-step symbols starts old new done x ks w b a h e k p =
     let at : slice_get old done ≡ Some x = slice_get-get_or old done 0 h ∙ ap Some (sym e) in
     let low : x < length symbols = subst (λ r. r < length symbols) (sym e) (b done 0 h) in
-    let own : slice_get symbols x ≡ Some ks = slice_get-get_or symbols x ks low ∙ ap Some (sym k) in
-    (WalkedTo-step (Leads symbols) starts old new done x (rules_of ks) w at (record { alternatives = ks; own = own; all = refl }) p,
-    still-below (length symbols) old new ks p b (subst (λ t. All (All (IsRuleBelow (length symbols))) t) (sym k) (a x ks low)))
+    let own : slice_get symbols x ≡ Some ks = slice_get-get_or symbols x ks low ∙ ap Some (sym k) in (
+      WalkedTo-step (Leads symbols) starts old new done x (rules_of ks) w at (record { alternatives = ks; own = own; all = refl }) p,
+      still-below (length symbols) old new ks p b (subst (λ t. All (All (IsRuleBelow (length symbols))) t) (sym k) (a x ks low)),
+    )

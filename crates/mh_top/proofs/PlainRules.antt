@@ -54,11 +54,11 @@ AreRules-may tokens before after r a =
       few = omega (arith, a.few, total, one);
       apart = λ t. a.apart r.name t (contains_at (names_of (before ++ r ∷ after)) (length (names_of before)) r.name at);
       once = λ c. (
-        let p = at_contains (names_of before) r.name c in
-        let q : slice_get (names_of (before ++ r ∷ after)) p.0 ≡ Some r.name = subst (λ k. slice_get k p.0 ≡ Some r.name) (sym names) (get_left (names_of before) (r.name ∷ names_of after) p.0 r.name p.1) in
-        let same = a.once.same p.0 (length (names_of before)) r.name q at in
-        let within = slice_get_within (names_of before) p.0 r.name p.1 in
-        omega (arith, within, same));
+          let p = at_contains (names_of before) r.name c in
+          let q : slice_get (names_of (before ++ r ∷ after)) p.0 ≡ Some r.name = subst (λ k. slice_get k p.0 ≡ Some r.name) (sym names) (get_left (names_of before) (r.name ∷ names_of after) p.0 r.name p.1) in
+          let same = a.once.same p.0 (length (names_of before)) r.name q at in
+          let within = slice_get_within (names_of before) p.0 r.name p.1 in
+          omega (arith, within, same));
     }
 
 pub split_at : {X : Type 0} (xs : List X) (i : ℕ) (d : X) → i < length xs → xs ≡ take i xs ++ get_or xs i d ∷ drop (i + 1) xs

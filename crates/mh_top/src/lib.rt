@@ -13,7 +13,7 @@ mod stop;
 mod tabled;
 mod top;
 
-pub use plain::{PlainFault, PlainFile, PlainRule, grammar_of, read_plain};
+pub use plain::{PlainFault, PlainFile, PlainRule, grammar_of, read_grammar, read_plain};
 pub use stop::Cause;
 pub use top::menhir;
 

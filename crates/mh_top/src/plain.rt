@@ -1,4 +1,5 @@
 //! The plain form of a grammar file: words, `:`, `|`, `{}`, one `%token` line, one `%start` line and rules.
+mod calls;
 mod files;
 mod grammars;
 mod lexemes;
@@ -8,6 +9,7 @@ mod reading;
 mod resolving;
 mod tables;
 
+pub use calls::read_grammar;
 pub use files::{PlainFault, PlainFile, PlainRule};
 pub use grammars::grammar_of;
 pub use reading::read_plain;

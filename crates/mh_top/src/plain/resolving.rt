@@ -158,12 +158,7 @@ pub fn resolved_rules(
 {
     let mut resolved = Sequence::new(alloc);
     for rule in rules {
-        resolved.push(resolved_alternatives(
-            alloc,
-            tokens,
-            names,
-            rule.alternatives.as_slice(),
-        )?)?;
+        resolved.push(resolved_alternatives(alloc, tokens, names, rule.alternatives.as_slice())?)?;
     }
     Ok(resolved)
 }

@@ -41,7 +41,7 @@ returns-clause-grammar c =
     let s = rw c.as_slice.ensures at c.in_ok-found.ensures.starts in
     let made = rw (c.as_slice-2.ensures.keys, c.as_slice-3.ensures.keys) at c.grammar_from.ensures.made in
     IfOk-weaker c.grammar_from.result (IsMadeOf c.args.tokens.now.keys c.args.names.now.keys c.args.symbols.now c.number_rules.new.found.keys c.len-start_count.result) (IsGrammarOf c.args.file.now)
-        (λ g m. meaning.grammar-from c.args.file.now c.args.tokens.now.keys c.args.names.now.keys c.args.symbols.now c.in_ok-found.found.keys c.number_rules.new.found.keys c.len-start_count.result g c.requires s c.len-start_count.ensures.len c.in_ok-number_rules.ensures.numbered m) made
+    (λ g m. meaning.grammar-from c.args.file.now c.args.tokens.now.keys c.args.names.now.keys c.args.symbols.now c.in_ok-found.found.keys c.number_rules.new.found.keys c.len-start_count.result g c.requires s c.len-start_count.ensures.len c.in_ok-number_rules.ensures.numbered m) made
 
 pub returns-in_err-found-clause-not_plain : goal.returns-in_err-found-clause-not_plain
 returns-in_err-found-clause-not_plain c = λ e acceptable.

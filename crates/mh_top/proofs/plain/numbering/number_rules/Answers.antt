@@ -24,7 +24,7 @@ loop-done-preserved c =
     let placed = rw c.as_slice-in-loop-done.ensures at c.in_ok-place_alternatives.ensures.placed in
     let here : c.loop-done.done < length c.loop-done.found.keys = omega (arith, c.loop-done-test.true, c.len.ensures.len) in
     let r = numbers.number-step c.args.symbols.now c.args.found.now.keys c.loop-done.found.keys c.place_alternatives.new.found.keys c.loop-done.done c.from-rule.result ks c.loop-done.invariant.walk c.loop-done.invariant.below c.requires.symbols_below
-        here (c.from-rule.ensures ∙ ap (λ k. get_or k c.loop-done.done 0) c.as_slice.ensures.keys) c.index-symbols-rule.is placed in
+    here (c.from-rule.ensures ∙ ap (λ k. get_or k c.loop-done.done 0) c.as_slice.ensures.keys) c.index-symbols-rule.is placed in
     record { walk = r.0; below = r.1 }
 
 pub returns-clause-numbered : goal.returns-clause-numbered
