@@ -41,8 +41,8 @@ AreNumbers names es = (name : Text) → lookup (λ key. bytes_eq name key.items)
 pub numbers_push : (names : List Text) (name : Text) (number : ℕ) (es fs : Entries) → number ≡ length names → AreNumbers names es → PutsName name number es fs → AreNumbers (names ++ name ∷ []) fs
 numbers_push names name number es fs is are puts other =
     puts other ∙ ap (λ (o : Option ℕ). or_else o (if bytes_eq other name then Some number else None)) (are other)
-        ∙ ap (λ (k : ℕ). or_else (position_from (bytes_eq other) 0 names) (if bytes_eq other name then Some k else None)) (is ∙ zero_more (length names))
-        ∙ sym (position_push (bytes_eq other) 0 names name)
+    ∙ ap (λ (k : ℕ). or_else (position_from (bytes_eq other) 0 names) (if bytes_eq other name then Some k else None)) (is ∙ zero_more (length names))
+    ∙ sym (position_push (bytes_eq other) 0 names name)
   where
     zero_more : (n : ℕ) → n ≡ 0 + n
     zero_more n = omega arith
@@ -65,7 +65,7 @@ all_put tokens n es le are = subst (λ (ts : List TokenInfo). AreNumbers (map (�
 pub name_put : (es fs : Entries) (name : Text) (key : Vec ℕ Global) (number : ℕ) → fs ≡ es ++ (key, number) ∷ [] → key.items ≡ name → PutsName name number es fs
 name_put es fs name key number is named other =
     ap (lookup (λ k. bytes_eq other k.items)) is ∙ lookup_push (λ k. bytes_eq other k.items) es key number
-        ∙ ap (λ (n : Text). or_else (lookup (λ k. bytes_eq other k.items) es) (if bytes_eq other n then Some number else None)) named
+    ∙ ap (λ (n : Text). or_else (lookup (λ k. bytes_eq other k.items) es) (if bytes_eq other n then Some number else None)) named
 
 pub copied_none : (r : Option (Bor ℕ)) → is_some r ≡ false → option_copied r ≡ None
 copied_none None h = refl

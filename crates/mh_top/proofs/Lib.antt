@@ -11,6 +11,7 @@ pub mod Lexicons
 pub mod Answering
 pub mod Tabling
 pub mod Once
+pub mod Starting
 pub mod PlainReading
 pub mod PlainTables
 pub mod PlainRules

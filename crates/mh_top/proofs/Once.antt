@@ -38,13 +38,12 @@ loops_not g t line has halts first =
     let same : first.found ≡ t = table_once g first.found t first.table has in
     no_loop t first.below first.state first.look halts (subst (λ (x : TableData). LoopsAt x first.below first.state first.look) same first.loops)
 
-
 line_once : (g : Grammar) (a b : Text) → LoopsFirst g a → LoopsFirst g b → a ≡ b
 line_once g a b p q =
     let same : q.found ≡ p.found = table_once g q.found p.found q.table p.table in
     let one = one_loop p.found p.below p.state p.look q.below q.state q.look p.loops (subst (λ (x : TableData). LoopsAt x q.below q.state q.look) same q.loops) in
     p.line_is ∙ ap (λ (r : Option ℕ). loops_line (token_names g) r p.state p.look) one.0 ∙ ap (λ (s : ℕ). loops_line (token_names g) q.below s p.look) one.1
-        ∙ ap (λ (z : Option ℕ). loops_line (token_names g) q.below q.state z) one.2 ∙ sym q.line_is
+    ∙ ap (λ (z : Option ℕ). loops_line (token_names g) q.below q.state z) one.2 ∙ sym q.line_is
 
 abbrev Refusal : Grammar → Text → Type 0
 Refusal g line = (HasTooMany g × (line ≡ too_many_states)) ⊎ ((HasTooMany g → ⊥) × LoopsFirst g line)

@@ -98,12 +98,12 @@ on_one all mid now lines line written text goes answers more whole =
     let same : (lines ++ line ∷ []) ++ more ≡ lines ++ line ∷ more = append_assoc lines (line ∷ []) more in
     let on = goes (line ∷ more) whole in (
       λ h.
-        let p = on.0 (subst (λ (l : List Text). all l whole) same h) in
-        let q = (answers more p.0).0 p.2 in
-        (q.0, p.1 ∙ ap (λ (t : Text). written ++ t) q.1 ∙ sym (append_assoc written text q.0), q.2),
+          let p = on.0 (subst (λ (l : List Text). all l whole) same h) in
+          let q = (answers more p.0).0 p.2 in
+          (q.0, p.1 ∙ ap (λ (t : Text). written ++ t) q.1 ∙ sym (append_assoc written text q.0), q.2),
       λ h.
-        let back = (answers more (text ++ h.0)).1 (h.0, refl, h.2) in
-        subst (λ (l : List Text). all l whole) (sym same) (on.1 (text ++ h.0, h.1 ∙ append_assoc written text h.0, back)),
+          let back = (answers more (text ++ h.0)).1 (h.0, refl, h.2) in
+          subst (λ (l : List Text). all l whole) (sym same) (on.1 (text ++ h.0, h.1 ∙ append_assoc written text h.0, back)),
     )
 
 pub one_more : (limit max m k : ℕ) (all mid now : List Text → Text → Type 0) (in0 in1 in2 out0 out1 out2 : Option Text) (line text : Text) → k ≡ suc m → SoFar limit max k all mid in0 in1 out0 out1 → TakesLine in1 in2 line → HasNoEnd line → length line ≤ limit

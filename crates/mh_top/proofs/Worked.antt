@@ -165,12 +165,12 @@ module _ (b : World) (order : Order) (files : Option Files) (n : ℕ) where
   pub load_halts : (name : Text) (stop : Stop) → name ≡ order.file → LoadHas b.files name (Err stop) → LoadCounts {A = Text} b.shelf_faults n (Err stop) → Worked Asked (λ line. line ≡ cannot_read order.file) b m (Err stop)
   load_halts name (Halted cause line) same has counts =
       halts Asked b m cause line
-          (over_next b.files (λ fs. loaded fs name ≡ Halt cause line) (λ fs. IsWorkOfOrder fs order (halted cause line)) (λ fs h. subst (λ (s : Staged Text). Then s IsWorkOfFile (halted cause line)) (sym (ap (loaded fs) (sym same) ∙ h)) refl) has.1)
-          has.0
-          refl
-          refl
-          refl
-          (record { shelf = counts; input = refl; out = refl; err = refl })
+      (over_next b.files (λ fs. loaded fs name ≡ Halt cause line) (λ fs. IsWorkOfOrder fs order (halted cause line)) (λ fs h. subst (λ (s : Staged Text). Then s IsWorkOfFile (halted cause line)) (sym (ap (loaded fs) (sym same) ∙ h)) refl) has.1)
+      has.0
+      refl
+      refl
+      refl
+      (record { shelf = counts; input = refl; out = refl; err = refl })
   load_halts name (ShelfFailed line) same has counts = (has ∙ ap cannot_read same, counts.1, refl, silent_parts Asked b m refl refl)
   load_halts name OutOfMemory same has counts = (refl, silent_parts Asked b m refl refl)
   load_halts name InputFailed same has counts = absurd counts
@@ -180,12 +180,12 @@ module _ (b : World) (order : Order) (files : Option Files) (n : ℕ) where
   pub load_on : (name bytes : Text) (a : World) (r : Result (Unit {0}) Stop) → name ≡ order.file → files ≡ b.files → n ≡ b.shelf_faults → Over b.files (λ fs. loaded fs name ≡ Go bytes) → Worked (IsWorkOfFile bytes) (λ line. ⊥) m a r → Worked Asked (λ line. line ≡ cannot_read order.file) b a r
   load_on name bytes a r same kept calm has worked =
       wider (IsWorkOfFile bytes) Asked (λ line. ⊥) (λ line. line ≡ cannot_read order.file)
-          (λ w is. file_on order bytes b.files w (over_next b.files (λ fs. loaded fs name ≡ Go bytes) (λ fs. loaded fs order.file ≡ Go bytes) (λ fs h. ap (loaded fs) (sym same) ∙ h) has) is)
-          (λ line none. absurd none)
-          b
-          a
-          r
-          (subst (λ (w : World). Worked (IsWorkOfFile bytes) (λ line. ⊥) w a r) (ap₂ (λ (x : Option Files) (k : ℕ). record b { files = x; shelf_faults = k }) kept calm) worked)
+      (λ w is. file_on order bytes b.files w (over_next b.files (λ fs. loaded fs name ≡ Go bytes) (λ fs. loaded fs order.file ≡ Go bytes) (λ fs h. ap (loaded fs) (sym same) ∙ h) has) is)
+      (λ line none. absurd none)
+      b
+      a
+      r
+      (subst (λ (w : World). Worked (IsWorkOfFile bytes) (λ line. ⊥) w a r) (ap₂ (λ (x : Option Files) (k : ℕ). record b { files = x; shelf_faults = k }) kept calm) worked)
 
 -- ---- a plan that asks for each line
 

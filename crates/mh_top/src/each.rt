@@ -44,7 +44,13 @@ fn answer_line<O: Sink, A: Answer>(
 fn too_big(alloc: Global) -> Stop
     ensures { Halts TooBig too_big_input result }
 {
-    halted(alloc, Cause::TooBig, b"menhir: too big: the input\n", b"", b"")
+    halted(
+        alloc,
+        Cause::TooBig,
+        b"menhir: too big: the input\n",
+        b"",
+        b"",
+    )
 }
 
 fn stop_of(alloc: Global, fault: LineFault) -> Stop

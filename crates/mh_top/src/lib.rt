@@ -3,12 +3,12 @@
 #![tactic(auto)]
 
 mod each;
+mod grammar;
 mod interpret;
 mod load;
 mod order;
 mod plain;
 mod sentence;
-mod stages;
 mod stop;
 mod tabled;
 mod top;

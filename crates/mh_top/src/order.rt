@@ -27,7 +27,13 @@ fn is_dashed(word: &[u8]) -> bool
 fn bad_words(alloc: Global) -> Stop
     ensures { Halts Misused bad_words_line result }
 {
-    halted(alloc, Cause::Misused, b"menhir: usage: bad words\n", b"", b"")
+    halted(
+        alloc,
+        Cause::Misused,
+        b"menhir: usage: bad words\n",
+        b"",
+        b"",
+    )
 }
 
 /// The order that the words spell.

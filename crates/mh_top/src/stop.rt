@@ -38,13 +38,8 @@ impl Cause {
 #[derive(Drop)]
 pub(crate) enum Stop {
     /// By its definition, with a line on err.
-    Halted {
-        cause: Cause,
-        line: Sequence<u8>,
-    },
-    ShelfFailed {
-        line: Sequence<u8>,
-    },
+    Halted { cause: Cause, line: Sequence<u8> },
+    ShelfFailed { line: Sequence<u8> },
     InputFailed,
     WriteFailed,
     OutOfMemory,

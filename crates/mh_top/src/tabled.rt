@@ -87,11 +87,13 @@ fn halting_table(alloc: Global, grammar: &Grammar, table: Table) -> Result<Halti
 {
     match check_halts(alloc, table) {
         Ok(halting) => Ok(halting),
-        Err(HaltFault::Loops {
-            below,
-            state,
-            token,
-        }) => Err(loops(alloc, grammar, below, state, token)),
+        Err(
+            HaltFault::Loops {
+                below,
+                state,
+                token,
+            },
+        ) => Err(loops(alloc, grammar, below, state, token)),
         Err(HaltFault::Memory) => Err(Stop::OutOfMemory),
     }
 }

@@ -63,7 +63,13 @@ fn words_that_ask_for_nothing(rt: HostRuntime) -> Result<(), Fail> {
     let got = outcome(alloc, &["--interpret", "-g"], b"", Vec::new(alloc), &NONE)?;
     assert_eq!(rt; got.status, 2);
     assert_eq!(rt; got.err.as_slice(), usage);
-    let got = outcome(alloc, &["--interpret", "g", "g"], b"", Vec::new(alloc), &NONE)?;
+    let got = outcome(
+        alloc,
+        &["--interpret", "g", "g"],
+        b"",
+        Vec::new(alloc),
+        &NONE,
+    )?;
     assert_eq!(rt; got.status, 2);
     assert_eq!(rt; got.out.as_slice(), b"".as_slice());
     Ok(())

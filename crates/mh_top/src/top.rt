@@ -6,10 +6,10 @@ ghost use Rattle.mh_top.specs.Work.{IsWorkOfTable, IsWorkOfGrammar, IsWorkOfFile
 ghost use Rattle.mh_top.specs.Claims.{AskedBy, FileOf, Completes, Finishes, IsStatus, MisuseHasCause, ReadFaultHasCause, AbsentIsSaid, WriteFaultHasCause, TooBigHasCause, LongFileIsSaid, LongInputIsSaid, WritesPart};
 ghost use Rattle.mh_top.specs.Run.{world, Worked, Ran, Reported, Says};
 
+use crate::grammar::grammar_in;
 use crate::interpret::interpret;
 use crate::load::load;
 use crate::order::{Order, read_words};
-use crate::stages::grammar_of;
 use crate::stop::Stop;
 use crate::tabled::table_of;
 use mh_grammar::Grammar;
@@ -73,7 +73,7 @@ fn work_on_file<F: Shelf, I: Source, O: Sink, E: Sink>(
         (world F.files F.faults I.left I.faults O.written O.faults E.written E.faults shelf.new input.new out.new err.new)
         result }
 {
-    match grammar_of(alloc, bytes) {
+    match grammar_in(alloc, bytes) {
         Ok(grammar) => work_on_grammar(alloc, grammar, shelf, input, out, err),
         Err(stop) => Err(stop),
     }
