@@ -1,7 +1,10 @@
 pub mod Derivations
 pub mod Edges
 pub mod First
+pub mod FirstFlags
+pub mod Grid
 pub mod ItemSets
+pub mod Marked
 pub mod Numbering
 pub mod Placed
 pub mod Plain

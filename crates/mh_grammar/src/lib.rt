@@ -3,12 +3,21 @@
 #![tactic(auto)]
 
 mod edges;
+mod firsts;
+mod grid;
+mod laws;
+mod marks;
 mod name;
 mod range;
 mod sequence;
+#[cfg(test)]
+mod tests;
 mod types;
 
 pub use edges::{Edge, find_edge};
+pub use firsts::first;
+pub use laws::words_begin_with_first;
+pub use marks::{nullable, productive};
 pub use name::{Name, from_bytes};
 pub use range::is_in_range;
 pub use sequence::Sequence;

@@ -1,0 +1,14 @@
+pub mod Adding
+pub mod Asking
+pub mod Dotted
+pub mod Exact
+pub mod Linking
+pub mod Listing
+pub mod Lists
+pub mod LookRows
+pub mod Merged
+pub mod Moving
+pub mod OneList
+pub mod Setting
+pub mod Turning
+pub mod Wanting

@@ -1,0 +1,20 @@
+use Rattle.std.proofs.Common.{◌≡◌, length, Some, refl, arith}
+use Rattle.std.specs.List.{slice_get}
+use Rattle.std.proofs.lemmas.Option.{slice_get_read, slice_get_within}
+use Rattle.mh_grammar.proofs.FirstSets.{OnceSoFar-step}
+use Rattle.mh_grammar.proofs.firsts.add_once.Goals as goal
+
+pub loop-production-preserved : goal.loop-production-preserved
+loop-production-preserved c =
+    let ps = c.args.productions.now in
+    let p = c.production-item.result in
+    let i = c.loop-production.production-index in
+    let at : slice_get ps i ≡ Some p = slice_get_read ps (length ps) i p refl (omega arith) c.production-item.is in
+    let side = c.add_side-grown.ensures in
+    OnceSoFar-step ps c.args.nullable.now c.args.width c.args.flags.now c.loop-production.flags c.add_side-grown.new.flags c.loop-production.grown c.add_side-grown.result i p c.loop-production.invariant at side.grows
+    (rw (c.from.ensures, c.as_slice.ensures) at side.sound) (rw (c.from.ensures, c.as_slice.ensures) at side.added)
+
+pub returns-clause-added : goal.returns-clause-added
+returns-clause-added c = λ e. record {
+  added = λ k p at. c.loop-production.invariant.added e k p (omega (arith, slice_get_within c.args.productions.now k p at)) at;
+}

@@ -1,0 +1,103 @@
+//! Worked grammars, computed by hand.
+use crate::edges::{Edge, find_edge};
+use crate::firsts::first;
+use crate::laws::words_begin_with_first;
+use crate::marks::{nullable, productive};
+use crate::name::from_bytes;
+use crate::range::is_in_range;
+use crate::sequence::Sequence;
+use crate::types::{Grammar, Memory, NontermInfo, Production, Symbol, TokenInfo};
+use std::alloc::Global;
+use std::test::Fail;
+
+fn token(alloc: Global, name: &[u8]) -> Result<TokenInfo, Memory> {
+    Ok(TokenInfo {
+        name: from_bytes(alloc, name)?,
+        level: None,
+    })
+}
+
+fn nonterminal(alloc: Global, name: &[u8]) -> Result<NontermInfo, Memory> {
+    Ok(NontermInfo {
+        name: from_bytes(alloc, name)?,
+        on_error: None,
+    })
+}
+
+fn production(lhs: u16, rhs: Vec<Symbol>) -> Production {
+    Production {
+        lhs,
+        rhs: Sequence::from_vec(rhs),
+        level: None,
+    }
+}
+
+// s: x A b, x: | B, b: b
+fn sample(alloc: Global) -> Result<Grammar, Memory> {
+    let mut tokens = Vec::new(alloc);
+    tokens.push(token(alloc, b"A")?)?;
+    tokens.push(token(alloc, b"B")?)?;
+    let mut nonterminals = Vec::new(alloc);
+    nonterminals.push(nonterminal(alloc, b"s")?)?;
+    nonterminals.push(nonterminal(alloc, b"x")?)?;
+    nonterminals.push(nonterminal(alloc, b"b")?)?;
+    let mut productions = Vec::new(alloc);
+    let s = vec![in alloc; Symbol::N(1), Symbol::T(0), Symbol::N(2)]?;
+    productions.push(production(0, s))?;
+    productions.push(production(1, Vec::new(alloc)))?;
+    productions.push(production(1, vec![in alloc; Symbol::T(1)]?))?;
+    productions.push(production(2, vec![in alloc; Symbol::N(2)]?))?;
+    Ok(Grammar {
+        tokens: Sequence::from_vec(tokens),
+        nonterminals: Sequence::from_vec(nonterminals),
+        productions: Sequence::from_vec(productions),
+        starts: Sequence::from_vec(vec![in alloc; 0]?),
+    })
+}
+
+#[test]
+fn sets_of_a_sample(rt: HostRuntime) -> Result<(), Fail> {
+    let alloc = rt.alloc();
+    let grammar = sample(alloc)?;
+    assert!(rt; is_in_range(&grammar));
+    words_begin_with_first(&grammar);
+    let empty = nullable(alloc, &grammar)?;
+    assert_eq!(rt; empty.as_slice(), [false, true, false].as_slice());
+    let trees = productive(alloc, &grammar)?;
+    assert_eq!(rt; trees.as_slice(), [false, true, false].as_slice());
+    let rows = first(alloc, &grammar)?;
+    assert_eq!(rt; rows.len(), 3);
+    assert_eq!(rt; rows[0].as_slice(), [0, 1].as_slice());
+    assert_eq!(rt; rows[1].as_slice(), [1].as_slice());
+    assert_eq!(rt; rows[2].as_slice(), [].as_slice());
+    Ok(())
+}
+
+#[test]
+fn names_keep_their_bytes(rt: HostRuntime) -> Result<(), Fail> {
+    let name = from_bytes(rt.alloc(), b"expr")?;
+    assert_eq!(rt; name.as_slice(), b"expr".as_slice());
+    Ok(())
+}
+
+#[test]
+fn edges_are_found(rt: HostRuntime) -> Result<(), Fail> {
+    let edges = [
+        Edge {
+            symbol: Symbol::T(2),
+            target: 7,
+        },
+        Edge {
+            symbol: Symbol::T(5),
+            target: 4,
+        },
+        Edge {
+            symbol: Symbol::N(0),
+            target: 9,
+        },
+    ];
+    assert_eq!(rt; find_edge(&edges, Symbol::T(5)), Some(4));
+    assert_eq!(rt; find_edge(&edges, Symbol::N(0)), Some(9));
+    assert_eq!(rt; find_edge(&edges, Symbol::T(3)), None);
+    Ok(())
+}

@@ -1,0 +1,40 @@
+-- Which of two items comes first.
+use Rattle.std.proofs.Common.{◌≡◌, ℕ, ◌+◌, ◌<◌, ◌≤◌, ◌⊎◌, Bool, true, false, ltb, cond, List, Some, length, refl, sym, ap, ◌∙◌, arith, inl, inr}
+use Rattle.std.specs.List.{slice_get}
+use Rattle.std.proofs.lemmas.Bool.{ltb-true, ltb-false}
+use Rattle.std.proofs.lemmas.Option.{slice_get_within}
+use Rattle.std.specs.declared.cmp.Ordering.{Ordering}
+use Rattle.std.specs.declared.cmp.Ordering.TheVariants.{Less, Equal, Greater}
+use Rattle.mh_items.specs.declared.kernels.KernelItem.{KernelItem}
+use Rattle.mh_items.specs.Kernels.{IsItemBefore}
+use Rattle.mh_items.specs.Merging.{IsTurn, order_of}
+use Rattle.mh_items.proofs.Lists.{same_at}
+
+-- what the order of two items says
+abbrev pub IsOrder : KernelItem → KernelItem → Ordering → Type 0
+IsOrder x y Less = IsItemBefore x y
+IsOrder x y Greater = IsItemBefore y x
+IsOrder x y Equal = (x.production ≡ y.production) × (x.dot ≡ y.dot)
+
+pub order_says : (x y : KernelItem) → IsOrder x y (order_of x y)
+order_says x y = go (ltb x.production y.production) (ltb y.production x.production) (ltb x.dot y.dot) (ltb y.dot x.dot) refl refl refl refl
+  where
+    go : (a b c d : Bool) → ltb x.production y.production ≡ a → ltb y.production x.production ≡ b → ltb x.dot y.dot ≡ c → ltb y.dot x.dot ≡ d
+        → IsOrder x y (cond a Less (cond b Greater (cond c Less (cond d Greater Equal))))
+    go true b c d e f g h = inl (ltb-true x.production y.production e)
+    go false true c d e f g h = inl (ltb-true y.production x.production f)
+    go false false true d e f g h = (let k = ltb-false x.production y.production e in let l = ltb-false y.production x.production f in inr (omega arith, ltb-true x.dot y.dot g))
+    go false false false true e f g h = (let k = ltb-false x.production y.production e in let l = ltb-false y.production x.production f in inr (omega arith, ltb-true y.dot x.dot h))
+    go false false false false e f g h =
+        (let k = ltb-false x.production y.production e in let l = ltb-false y.production x.production f in let m = ltb-false x.dot y.dot g in let n = ltb-false y.dot x.dot h in (omega arith, omega arith))
+
+pub turn_of : (left right : List KernelItem) (i j : ℕ) (x y : KernelItem) → slice_get left i ≡ Some x → slice_get right j ≡ Some y → (o : Ordering) → IsOrder x y o → IsTurn left i right j o
+turn_of left right i j x y at at' Less h = (slice_get_within left i x at, λ x' y' e e'. rw (same_at left i x' x e at, same_at right j y' y e' at') h)
+turn_of left right i j x y at at' Greater h = (slice_get_within right j y at', λ x' y' e e'. rw (same_at left i x' x e at, same_at right j y' y e' at') h)
+turn_of left right i j x y at at' Equal h = (slice_get_within left i x at, slice_get_within right j y at', λ x' y' e e'. rw (same_at left i x' x e at, same_at right j y' y e' at') h)
+
+pub turn_left : (left right : List KernelItem) (i j : ℕ) → length right ≤ j → i < length left → IsTurn left i right j Less
+turn_left left right i j far l = (l, λ x y e e'. absurd (let k = slice_get_within right j y e' in omega arith))
+
+pub turn_right : (left right : List KernelItem) (i j : ℕ) → length left ≤ i → j < length right → IsTurn left i right j Greater
+turn_right left right i j far l = (l, λ x y e e'. absurd (let k = slice_get_within left i x e in omega arith))

@@ -1,0 +1,51 @@
+-- Two rising lists of items as one.
+use Rattle.std.specs.Prelude.{◌≡◌, ◌<◌, ◌≤◌, ◌+◌, ◌↔◌, ◌⊎◌, ℕ, Bool, true, false, List, Some, length, slice_get, slice_index_or, nat_lt, if◌then◌else◌}
+use Rattle.std.specs.List.{Contains}
+use Rattle.std.specs.declared.cmp.Ordering.{Ordering}
+use Rattle.std.specs.declared.cmp.Ordering.TheVariants.{Less, Equal, Greater}
+use Rattle.mh_grammar.specs.declared.types.Look.{Look}
+use Rattle.mh_grammar.specs.Plain.{PlainGrammar}
+use Rattle.mh_grammar.specs.Edges.{IsRising, IsLookBefore}
+use Rattle.mh_items.specs.declared.kernels.KernelItem.{KernelItem}
+use Rattle.mh_items.specs.Kernels.{Holds, IsKernel, IsItemBefore}
+use Rattle.mh_items.specs.Pairs.{column_of}
+
+-- the items of both, and no others
+pub record IsUnion (g : PlainGrammar) (left right items : List KernelItem) : Type 0 where
+  pub kernel : IsKernel g (record { items = items })
+  pub holds : (p d : ℕ) (b : Look) → Holds (record { items = items }) p d b ↔ (Holds (record { items = left }) p d b ⊎ Holds (record { items = right }) p d b)
+
+-- so far as the first i and j items
+pub record IsMerged (g : PlainGrammar) (left : List KernelItem) (i : ℕ) (right : List KernelItem) (j : ℕ) (items : List KernelItem) : Type 0 where
+  pub in_left : i ≤ length left
+  pub in_right : j ≤ length right
+  pub kernel : IsKernel g (record { items = items })
+  pub before_left : (x y : KernelItem) (k : ℕ) → Contains items x → i ≤ k → slice_get left k ≡ Some y → IsItemBefore x y
+  pub before_right : (x y : KernelItem) (k : ℕ) → Contains items x → j ≤ k → slice_get right k ≡ Some y → IsItemBefore x y
+  pub origin : (p d : ℕ) (b : Look) → Holds (record { items = items }) p d b → Holds (record { items = left }) p d b ⊎ Holds (record { items = right }) p d b
+  pub has_left : (y : KernelItem) (k : ℕ) (b : Look) → k < i → slice_get left k ≡ Some y → Contains y.looks b → Holds (record { items = items }) y.production y.dot b
+  pub has_right : (y : KernelItem) (k : ℕ) (b : Look) → k < j → slice_get right k ≡ Some y → Contains y.looks b → Holds (record { items = items }) y.production y.dot b
+
+-- by production, then by dot
+abbrev pub order_of : KernelItem → KernelItem → Ordering
+order_of x y = if nat_lt x.production y.production then Less else if nat_lt y.production x.production then Greater else if nat_lt x.dot y.dot then Less else if nat_lt y.dot x.dot then Greater else Equal
+
+-- which list has the next item, or both
+abbrev pub IsTurn : List KernelItem → ℕ → List KernelItem → ℕ → Ordering → Type 0
+IsTurn left i right j Less = (i < length left) × ((x y : KernelItem) → slice_get left i ≡ Some x → slice_get right j ≡ Some y → IsItemBefore x y)
+IsTurn left i right j Greater = (j < length right) × ((x y : KernelItem) → slice_get left i ≡ Some x → slice_get right j ≡ Some y → IsItemBefore y x)
+IsTurn left i right j Equal = (i < length left) × (j < length right) × ((x y : KernelItem) → slice_get left i ≡ Some x → slice_get right j ≡ Some y → (x.production ≡ y.production) × (x.dot ≡ y.dot))
+
+-- an item with the looks of both
+pub record IsJoined (x y z : KernelItem) : Type 0 where
+  pub production : z.production ≡ x.production
+  pub dot : z.dot ≡ x.dot
+  pub rising : IsRising IsLookBefore z.looks
+  pub looks : (b : Look) → Contains z.looks b ↔ (Contains x.looks b ⊎ Contains y.looks b)
+
+-- the columns of the looks were set
+pub record Marks (looks : List Look) (old new : List Bool) : Type 0 where
+  pub len : length new ≡ length old
+  pub kept : (c : ℕ) → slice_index_or old c false ≡ true → slice_index_or new c false ≡ true
+  pub origin : (c : ℕ) → slice_index_or new c false ≡ true → (slice_index_or old c false ≡ true) ⊎ ((b : Look) × Contains looks b × (c ≡ column_of b))
+  pub marked : (b : Look) → Contains looks b → slice_index_or new (column_of b) false ≡ true

@@ -1,0 +1,54 @@
+//! The moves of a closure.
+ghost use Rattle.std.specs.Prelude.{◌≡◌, ◌<◌, ◌+◌, ◌^◌, ◌↔◌, ℕ, Some, slice_get, IsTrue, IfOk};
+ghost use Rattle.mh_grammar.specs.Plain.{plain_of, rhs_of, production_count, IsInRange};
+ghost use Rattle.mh_grammar.specs.ItemSets.{AreSame, Moved};
+ghost use Rattle.mh_items.specs.Kernels.{Holds, IsKernel};
+
+use crate::kernels::{Kernel, KernelItem};
+use crate::places::symbol_at;
+use mh_grammar::{Grammar, Memory, Sequence, Symbol};
+use std::alloc::Global;
+
+/// The items of a closure with the dot moved past the symbol, rising (Knuth 1965). It fails for want of memory alone.
+pub fn moved(
+    alloc: Global,
+    grammar: &Grammar,
+    closed: &Kernel,
+    symbol: Symbol,
+) -> Result<Kernel, Memory>
+    requires range { IsInRange (plain_of grammar.now) }
+    requires kernel { IsKernel (plain_of grammar.now) closed.now }
+    ensures kernel { IfOk result (IsKernel (plain_of grammar.now)) }
+    ensures exact { IfOk result (λ m. AreSame (Holds m) (Moved (plain_of grammar.now) (Holds closed.now) symbol)) }
+{
+    let mut items = Vec::new(alloc);
+    for item in closed.items.as_slice() {
+        if is_before(grammar, item, symbol) {
+            items.push(advanced(item)?)?;
+        }
+    }
+    Ok(Kernel {
+        items: Sequence::from_vec(items),
+    })
+}
+
+/// Whether the symbol stands at the dot.
+fn is_before(grammar: &Grammar, item: &KernelItem, symbol: Symbol) -> bool
+    requires range { IsInRange (plain_of grammar.now) }
+    requires production { item.now.production < production_count (plain_of grammar.now) }
+    ensures { IsTrue result ↔ (slice_get (rhs_of (plain_of grammar.now) item.now.production) item.now.dot ≡ Some symbol) }
+{
+    symbol_at(grammar, item.production, item.dot) == Some(symbol)
+}
+
+/// The item with the dot behind the next symbol.
+fn advanced(item: &KernelItem) -> Result<KernelItem, Memory>
+    requires { item.now.dot + 1 < 2 ^ 32 }
+    ensures { IfOk result (λ moved. moved ≡ record item.now { dot = item.now.dot + 1 }) }
+{
+    Ok(KernelItem {
+        production: item.production,
+        dot: item.dot + 1,
+        looks: item.looks.clone()?,
+    })
+}
