@@ -1,3 +1,17 @@
+pub mod Splits
+pub mod SoFar
+pub mod Loads
+pub mod Reports
+pub mod Worked
+pub mod Steps
+pub mod Endings
+pub mod Claims
+pub mod Fields
+pub mod Lexicons
+pub mod Answering
+pub mod Tabling
+pub mod Once
+pub mod Starting
 pub mod PlainReading
 pub mod PlainTables
 pub mod PlainRules

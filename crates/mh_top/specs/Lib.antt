@@ -1,3 +1,17 @@
+pub mod Text
+pub mod Causes
+pub mod Order
+pub mod Lines
+pub mod Stages
+pub mod Each
+pub mod Verdicts
+pub mod GrammarStage
+pub mod TableStage
+pub mod Work
+pub mod Run
+pub mod Load
+pub mod Claims
+pub mod Sentences
 pub mod PlainLexemes
 pub mod PlainText
 pub mod PlainReader

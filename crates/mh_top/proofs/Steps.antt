@@ -1,0 +1,56 @@
+-- Each stage of the work, as it halts and as it goes on.
+use Rattle.std.proofs.Common.{◌≡◌, ℕ, List, [], Option, None, Some, refl, sym, ◌∙◌, subst}
+use Rattle.std.specs.Prelude.{Result, Ok, Err, ⊤}
+use Rattle.std.specs.Io.KnownBytes.{Appends}
+use Rattle.std.proofs.lemmas.List.{append-nil}
+use Rattle.mh_grammar.specs.declared.types.Grammar.{Grammar}
+use Rattle.mh_tables.specs.Table.{TableData}
+use Rattle.mh_outside.specs.Shelf.{Files}
+use Rattle.mh_top.specs.Text.{Text, cannot_read}
+use Rattle.mh_top.specs.Causes.{Staged, Go, Halt}
+use Rattle.mh_top.specs.Order.{order_of}
+use Rattle.mh_top.specs.Stages.{StageHas, StageIs}
+use Rattle.mh_top.specs.GrammarStage.{IsGrammarStage}
+use Rattle.mh_top.specs.TableStage.{IsTableStage}
+use Rattle.mh_top.specs.Each.{EachRan, EachCounts}
+use Rattle.mh_top.specs.Verdicts.{AreVerdicts, token_names}
+use Rattle.mh_top.specs.Work.{Work, Verdicts, Over, Then, IsWork, IsWorkOfOrder, IsWorkOfFile, IsWorkOfGrammar, IsWorkOfTable, halted, line_limit, max_lines}
+use Rattle.mh_top.specs.Run.{World, Worked, MayEnd}
+use Rattle.mh_top.specs.Claims.{AskedBy, FileOf}
+use Rattle.mh_top.specs.declared.order.Order.{Order}
+use Rattle.mh_top.specs.declared.stop.Cause.{Cause}
+use Rattle.mh_top.specs.declared.stop.Cause.TheVariants.{Refused}
+use Rattle.mh_top.specs.declared.stop.Stop.{Stop}
+use Rattle.mh_top.proofs.Worked.{wider, stage_halts, order_on, order_halts, each_ran}
+
+Appends-nil : (out : Option Text) → Appends out out []
+Appends-nil None = tt
+Appends-nil (Some out) = sym (append-nil out)
+
+may_refuse : (files : Option Files) (cause : Cause) → cause ≡ Refused → MayEnd files (Some cause)
+may_refuse None cause is = subst (λ (c : Cause). MayEnd None (Some c)) (sym is) tt
+may_refuse (Some fs) cause is = tt
+
+pub words_halt : (words : List Text) (b : World) (stop : Stop) → StageIs (order_of words) (Err stop) → Worked (AskedBy words b.files) (FileOf words) b b (Err stop)
+words_halt words b stop is = stage_halts (λ (s : Staged Order). order_of words ≡ s) (AskedBy words b.files) (FileOf words) b stop (λ cause line here. order_halts words b.files cause line here) is
+
+pub words_on : (words : List Text) (order : Order) (b a : World) (r : Result (Unit {0}) Stop) → order_of words ≡ Go order → Worked (λ w. Over b.files (λ fs. IsWorkOfOrder fs order w)) (λ line. line ≡ cannot_read order.file) b a r → Worked (AskedBy words b.files) (FileOf words) b a r
+words_on words order b a r is worked =
+    wider (λ w. Over b.files (λ fs. IsWorkOfOrder fs order w)) (AskedBy words b.files) (λ line. line ≡ cannot_read order.file) (FileOf words) (λ w here. order_on words order b.files w is here) (λ line named. (order, is, named)) b a r worked
+
+pub grammar_halts : (bytes : Text) (b : World) (stop : Stop) → StageHas {A = Grammar} (IsGrammarStage bytes) (Err stop) → Worked (IsWorkOfFile bytes) (λ line. ⊥) b b (Err stop)
+grammar_halts bytes b stop is = stage_halts (IsGrammarStage bytes) (IsWorkOfFile bytes) (λ line. ⊥) b stop (λ cause line here. ((Halt cause line, here, refl), may_refuse b.files cause here.0)) is
+
+pub grammar_on : (bytes : Text) (g : Grammar) (b a : World) (r : Result (Unit {0}) Stop) → IsGrammarStage bytes (Go g) → Worked (IsWorkOfGrammar g) (λ line. ⊥) b a r → Worked (IsWorkOfFile bytes) (λ line. ⊥) b a r
+grammar_on bytes g b a r is worked = wider (IsWorkOfGrammar g) (IsWorkOfFile bytes) (λ line. ⊥) (λ line. ⊥) (λ w here. (Go g, is, here)) (λ line none. none) b a r worked
+
+pub table_halts : (g : Grammar) (b : World) (stop : Stop) → StageHas {A = TableData} (IsTableStage g) (Err stop) → Worked (IsWorkOfGrammar g) (λ line. ⊥) b b (Err stop)
+table_halts g b stop is = stage_halts (IsTableStage g) (IsWorkOfGrammar g) (λ line. ⊥) b stop (λ cause line here. ((Halt cause line, here, refl), may_refuse b.files cause here.0)) is
+
+pub table_on : (g : Grammar) (t : TableData) (b a : World) (r : Result (Unit {0}) Stop) → IsTableStage g (Go t) → Worked (IsWorkOfTable g t) (λ line. ⊥) b a r → Worked (IsWorkOfGrammar g) (λ line. ⊥) b a r
+table_on g t b a r is worked = wider (IsWorkOfTable g t) (IsWorkOfGrammar g) (λ line. ⊥) (λ line. ⊥) (λ w here. (Go t, is, here)) (λ line none. none) b a r worked
+
+-- the verdicts of the lines
+pub verdicts_ran : (g : Grammar) (t : TableData) (b : World) (left out : Option Text) (n m : ℕ) (r : Result (Unit {0}) Stop) → EachRan line_limit max_lines (AreVerdicts (token_names g) t) b.left left b.out out r → EachCounts b.input_faults n b.out_faults m r
+    → Worked (IsWorkOfTable g t) (λ line. ⊥) b (record b { left = left; input_faults = n; out = out; out_faults = m }) r
+verdicts_ran g t b left out n m r ran counts = each_ran b (record b { left = left; input_faults = n; out = out; out_faults = m }) [] (Verdicts g t) (Appends-nil b.err) refl refl r ran counts

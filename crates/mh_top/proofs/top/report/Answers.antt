@@ -1,0 +1,18 @@
+use Rattle.std.proofs.Common.{◌≡◌, refl}
+use Rattle.mh_top.proofs.Reports.{reported, silent}
+use Rattle.mh_top.proofs.top.report.Goals as goal
+
+pub returns-in-Halted : goal.returns-in-Halted
+returns-in-Halted g c = reported _ _ c.code.result c.in-Halted.line _ _ _ _ _ _ c.in-Halted.is (c.code.ensures, refl) c.as_slice.ensures c.say.ensures
+
+pub returns-in-ShelfFailed : goal.returns-in-ShelfFailed
+returns-in-ShelfFailed g c = reported _ _ 3 c.in-ShelfFailed.line _ _ _ _ _ _ c.in-ShelfFailed.is (refl, refl) c.as_slice-in-ShelfFailed.ensures c.say-in-ShelfFailed.ensures
+
+pub returns-in-InputFailed : goal.returns-in-InputFailed
+returns-in-InputFailed g c = reported _ _ 3 _ _ _ _ _ _ _ c.in-InputFailed.is (refl, refl) refl c.say-in-InputFailed.ensures
+
+pub returns-in-WriteFailed : goal.returns-in-WriteFailed
+returns-in-WriteFailed g c = silent _ _ _ c.in-WriteFailed.is
+
+pub returns-in-OutOfMemory : goal.returns-in-OutOfMemory
+returns-in-OutOfMemory g c = reported _ _ 6 _ _ _ _ _ _ _ c.in-OutOfMemory.is (refl, refl) refl c.say-in-OutOfMemory.ensures

@@ -1,0 +1,8 @@
+use Rattle.std.proofs.Common.{◌≡◌, refl, List, ℕ, map}
+use Rattle.std.specs.String.{string_bytes}
+use Rattle.std.specs.declared.alloc.Global.{Global}
+use Rattle.mh_top.proofs.Steps.{verdicts_ran}
+use Rattle.mh_top.proofs.top.work_on_table.Goals as goal
+
+pub returns : goal.returns
+returns g c = verdicts_ran c.args.grammar c.args.halting _ _ _ _ _ c.interpret.result c.interpret.ensures.ran c.interpret.ensures.counts

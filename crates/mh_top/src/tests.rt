@@ -1,0 +1,192 @@
+use crate::menhir;
+use mh_outside::{MemShelf, MemSink, MemSource};
+use std::alloc::Global;
+use std::test::Fail;
+
+/// The status, and the texts on out and err.
+#[derive(Drop)]
+struct Outcome {
+    status: u8,
+    out: Vec<u8>,
+    err: Vec<u8>,
+}
+
+/// Which calls of the devices fail, by their numbers from 1.
+#[derive(Clone, Copy)]
+struct Fails<'a> {
+    shelf: &'a [u64],
+    input: &'a [u64],
+    out: &'a [u64],
+    err: &'a [u64],
+}
+
+const NONE: Fails<'static> = Fails {
+    shelf: &[],
+    input: &[],
+    out: &[],
+    err: &[],
+};
+
+/// A grammar of one sentence, `A EOF`.
+const ONE_SENTENCE: &[u8] = b"%token A EOF\n%start s\n%%\ns: A EOF {}\n";
+
+/// Runs the tool on the file `g.mly` with this text.
+fn run(
+    alloc: Global,
+    words: &[&str],
+    file: &[u8],
+    input: Vec<u8>,
+    fails: &Fails<'_>,
+) -> Result<Outcome, Fail> {
+    let mut given = Vec::new(alloc);
+    for word in words {
+        given.push(String::from_str(alloc, word)?)?;
+    }
+    let mut files = Vec::new(alloc);
+    files.push((b"g.mly".to_vec(alloc)?, file.to_vec(alloc)?))?;
+    let mut shelf = MemShelf::new(files, fails.shelf.to_vec(alloc)?);
+    let mut input = MemSource::new(input, fails.input.to_vec(alloc)?);
+    let mut out = MemSink::new(alloc, fails.out.to_vec(alloc)?);
+    let mut err = MemSink::new(alloc, fails.err.to_vec(alloc)?);
+    let status = menhir(alloc, &given, &mut shelf, &mut input, &mut out, &mut err);
+    Ok(Outcome {
+        status,
+        out: out.written().to_vec(alloc)?,
+        err: err.written().to_vec(alloc)?,
+    })
+}
+
+#[test]
+fn words_that_ask_for_nothing(rt: HostRuntime) -> Result<(), Fail> {
+    let alloc = rt.alloc();
+    let usage = b"menhir: usage: bad words\n".as_slice();
+    let got = run(alloc, &[], b"", Vec::new(alloc), &NONE)?;
+    assert_eq!(rt; got.status, 2);
+    assert_eq!(rt; got.err.as_slice(), usage);
+    let got = run(alloc, &["--interpret", "-g.mly"], b"", Vec::new(alloc), &NONE)?;
+    assert_eq!(rt; got.status, 2);
+    assert_eq!(rt; got.err.as_slice(), usage);
+    let got = run(alloc, &["--interpret", "g.mly", "g.mly"], b"", Vec::new(alloc), &NONE)?;
+    assert_eq!(rt; got.status, 2);
+    assert_eq!(rt; got.out.as_slice(), b"".as_slice());
+    Ok(())
+}
+
+#[test]
+fn a_file_that_cannot_be_read(rt: HostRuntime) -> Result<(), Fail> {
+    let alloc = rt.alloc();
+    let got = run(alloc, &["--interpret", "h"], b"", Vec::new(alloc), &NONE)?;
+    assert_eq!(rt; got.status, 3);
+    assert_eq!(rt; got.err.as_slice(), b"menhir: cannot read h\n".as_slice());
+    let failing = Fails {
+        shelf: &[1],
+        ..NONE
+    };
+    let got = run(alloc, &["--interpret", "g.mly"], b"", Vec::new(alloc), &failing)?;
+    assert_eq!(rt; got.status, 3);
+    assert_eq!(rt; got.err.as_slice(), b"menhir: cannot read g.mly\n".as_slice());
+    let failing = Fails { err: &[1], ..NONE };
+    let got = run(alloc, &["--interpret", "h"], b"", Vec::new(alloc), &failing)?;
+    assert_eq!(rt; got.status, 4);
+    assert_eq!(rt; got.err.as_slice(), b"".as_slice());
+    Ok(())
+}
+
+/// So many of one byte.
+fn repeated(alloc: Global, byte: u8, count: usize) -> Result<Vec<u8>, Fail> {
+    let mut bytes = Vec::with_capacity(alloc, count)?;
+    for _ in 0..count {
+        bytes.push(byte)?;
+    }
+    Ok(bytes)
+}
+
+/// Runs the verdicts of these lines.
+fn verdicts(alloc: Global, file: &[u8], input: &[u8], fails: &Fails<'_>) -> Result<Outcome, Fail> {
+    run(alloc, &["--interpret", "g.mly"], file, input.to_vec(alloc)?, fails)
+}
+
+#[test]
+fn each_line_has_its_verdict(rt: HostRuntime) -> Result<(), Fail> {
+    let input = b"A EOF\nA\nA A\nEOF\n\nA EOF A\nA Z\n1\n\tA\r EOF";
+    let got = verdicts(rt.alloc(), ONE_SENTENCE, input, &NONE)?;
+    assert_eq!(rt; got.status, 0);
+    let text = b"ACCEPT\nOVERSHOOT\nREJECT\nREJECT\nOVERSHOOT\nACCEPT\nERROR unknown token Z\nERROR unreadable\nACCEPT\n";
+    assert_eq!(rt; got.out.as_slice(), text.as_slice());
+    assert_eq!(rt; got.err.as_slice(), b"".as_slice());
+    Ok(())
+}
+
+#[test]
+fn grammars_that_are_refused(rt: HostRuntime) -> Result<(), Fail> {
+    let alloc = rt.alloc();
+    let table: [(&[u8], &[u8]); 3] = [
+        (b"%token A %start s %% s: A Z {}", b"menhir: not plain\n"),
+        (b"%token A EOF (* c *) %start s %% s: A EOF {}", b"menhir: not plain\n"),
+        (
+            b"%token A %start s %% s: b s A {} | c {} b: {} c: {}",
+            b"menhir: loops: state 0 on A\n",
+        ),
+    ];
+    for (file, line) in &table {
+        let got = verdicts(alloc, *file, b"A\n", &NONE)?;
+        assert_eq!(rt; got.status, 1);
+        assert_eq!(rt; got.out.as_slice(), b"".as_slice());
+        assert_eq!(rt; got.err.as_slice(), *line);
+    }
+    Ok(())
+}
+
+// Each read and each write fails in turn.
+#[test]
+fn devices_that_fail(rt: HostRuntime) -> Result<(), Fail> {
+    let alloc = rt.alloc();
+    let input = b"A EOF\nA\n";
+    for read in 1..11 {
+        let failing = Fails {
+            input: &[read],
+            ..NONE
+        };
+        let got = verdicts(alloc, ONE_SENTENCE, input, &failing)?;
+        let text = if read <= 6 {
+            b"".as_slice()
+        } else if read <= 8 {
+            b"ACCEPT\n".as_slice()
+        } else {
+            b"ACCEPT\nOVERSHOOT\n".as_slice()
+        };
+        assert_eq!(rt; got.status, if read <= 9 { 3 } else { 0 });
+        assert_eq!(rt; got.out.as_slice(), text);
+    }
+    for write in 1..4 {
+        let failing = Fails {
+            out: &[write],
+            ..NONE
+        };
+        let got = verdicts(alloc, ONE_SENTENCE, input, &failing)?;
+        assert_eq!(rt; got.status, if write <= 2 { 4 } else { 0 });
+        assert_eq!(rt; got.out.len(), [0, 7, 17][write as usize - 1]);
+    }
+    Ok(())
+}
+
+#[test]
+fn what_is_too_big(rt: HostRuntime) -> Result<(), Fail> {
+    let alloc = rt.alloc();
+    let words = ["--interpret", "g.mly"];
+    let line = b"menhir: too big: the input\n".as_slice();
+    let got = run(alloc, &words, ONE_SENTENCE, repeated(alloc, b' ', 1_048_577)?, &NONE)?;
+    assert_eq!(rt; got.status, 5);
+    assert_eq!(rt; got.err.as_slice(), line);
+    let got = run(alloc, &words, ONE_SENTENCE, repeated(alloc, b'\n', 1_000_001)?, &NONE)?;
+    assert_eq!(rt; got.status, 5);
+    assert_eq!(rt; got.err.as_slice(), line);
+    let got = run(alloc, &words, ONE_SENTENCE, repeated(alloc, b'\n', 1_000_000)?, &NONE)?;
+    assert_eq!(rt; got.status, 0);
+    assert_eq!(rt; got.out.len(), 10_000_000);
+    let file = repeated(alloc, b' ', 16_777_217)?;
+    let got = run(alloc, &words, file.as_slice(), Vec::new(alloc), &NONE)?;
+    assert_eq!(rt; got.status, 5);
+    assert_eq!(rt; got.err.as_slice(), b"menhir: too big: g.mly\n".as_slice());
+    Ok(())
+}

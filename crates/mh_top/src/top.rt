@@ -1,0 +1,213 @@
+//! All that the program does.
+ghost use Rattle.std.specs.Prelude.{◌≡◌, ◌<◌, length, map, string_bytes};
+ghost use Rattle.mh_grammar.specs.Plain.{plain_of, IsInRange};
+ghost use Rattle.mh_top.specs.Text.{cannot_read};
+ghost use Rattle.mh_top.specs.Work.{IsWorkOfTable, IsWorkOfGrammar, IsWorkOfFile, IsWorkOfOrder, Over};
+ghost use Rattle.mh_top.specs.Claims.{AskedBy, FileOf, Completes, Finishes, IsStatus, MisuseHasCause, ReadFaultHasCause, AbsentIsSaid, WriteFaultHasCause, TooBigHasCause, LongFileIsSaid, LongInputIsSaid, WritesPart};
+ghost use Rattle.mh_top.specs.Run.{world, Worked, Ran, Reported, Says};
+
+use crate::grammar::grammar_in;
+use crate::interpret::interpret;
+use crate::load::load;
+use crate::order::{Order, read_words};
+use crate::stop::Stop;
+use crate::tabled::table_of;
+use mh_grammar::Grammar;
+use mh_outside::{Shelf, Sink, Source, write_whole};
+use mh_tables::Halting;
+use std::alloc::Global;
+
+/// The work on a table.
+fn work_on_table<F: Shelf, I: Source, O: Sink, E: Sink>(
+    alloc: Global,
+    grammar: Grammar,
+    halting: Halting,
+    _shelf: &mut F,
+    input: &mut I,
+    out: &mut O,
+    _err: &mut E,
+) -> Result<(), Stop>
+    requires same { halting.grammar ≡ plain_of grammar }
+    requires start { 0 < length grammar.starts }
+    ensures { Worked (IsWorkOfTable grammar halting) (λ line. ⊥)
+        (world F.files F.faults I.left I.faults O.written O.faults E.written E.faults _shelf.old input.old out.old _err.old)
+        (world F.files F.faults I.left I.faults O.written O.faults E.written E.faults _shelf.new input.new out.new _err.new)
+        result }
+{
+    interpret(alloc, grammar, halting, input, out)
+}
+
+/// The work on a grammar.
+fn work_on_grammar<F: Shelf, I: Source, O: Sink, E: Sink>(
+    alloc: Global,
+    grammar: Grammar,
+    shelf: &mut F,
+    input: &mut I,
+    out: &mut O,
+    err: &mut E,
+) -> Result<(), Stop>
+    requires range { IsInRange (plain_of grammar) }
+    requires start { 0 < length grammar.starts }
+    ensures { Worked (IsWorkOfGrammar grammar) (λ line. ⊥)
+        (world F.files F.faults I.left I.faults O.written O.faults E.written E.faults shelf.old input.old out.old err.old)
+        (world F.files F.faults I.left I.faults O.written O.faults E.written E.faults shelf.new input.new out.new err.new)
+        result }
+{
+    match table_of(alloc, &grammar) {
+        Ok(halting) => work_on_table(alloc, grammar, halting, shelf, input, out, err),
+        Err(stop) => Err(stop),
+    }
+}
+
+/// The work on the bytes of a file.
+fn work_on_file<F: Shelf, I: Source, O: Sink, E: Sink>(
+    alloc: Global,
+    bytes: &[u8],
+    shelf: &mut F,
+    input: &mut I,
+    out: &mut O,
+    err: &mut E,
+) -> Result<(), Stop>
+    ensures { Worked (IsWorkOfFile bytes.now) (λ line. ⊥)
+        (world F.files F.faults I.left I.faults O.written O.faults E.written E.faults shelf.old input.old out.old err.old)
+        (world F.files F.faults I.left I.faults O.written O.faults E.written E.faults shelf.new input.new out.new err.new)
+        result }
+{
+    match grammar_in(alloc, bytes) {
+        Ok(grammar) => work_on_grammar(alloc, grammar, shelf, input, out, err),
+        Err(stop) => Err(stop),
+    }
+}
+
+/// The work on an order.
+fn work_on_order<F: Shelf, I: Source, O: Sink, E: Sink>(
+    alloc: Global,
+    order: &Order,
+    shelf: &mut F,
+    input: &mut I,
+    out: &mut O,
+    err: &mut E,
+) -> Result<(), Stop>
+    ensures { Worked (λ w. Over (F.files shelf.old) (λ files. IsWorkOfOrder files order.now w)) (λ line. line ≡ cannot_read order.now.file)
+        (world F.files F.faults I.left I.faults O.written O.faults E.written E.faults shelf.old input.old out.old err.old)
+        (world F.files F.faults I.left I.faults O.written O.faults E.written E.faults shelf.new input.new out.new err.new)
+        result }
+{
+    match load(alloc, shelf, order.file.as_slice()) {
+        Ok(bytes) => work_on_file(alloc, &bytes, shelf, input, out, err),
+        Err(stop) => Err(stop),
+    }
+}
+
+/// The work up to its last line on err.
+fn work<F: Shelf, I: Source, O: Sink, E: Sink>(
+    alloc: Global,
+    words: &[String],
+    shelf: &mut F,
+    input: &mut I,
+    out: &mut O,
+    err: &mut E,
+) -> Result<(), Stop>
+    ensures { Worked (AskedBy (map string_bytes words.now) (F.files shelf.old)) (FileOf (map string_bytes words.now))
+        (world F.files F.faults I.left I.faults O.written O.faults E.written E.faults shelf.old input.old out.old err.old)
+        (world F.files F.faults I.left I.faults O.written O.faults E.written E.faults shelf.new input.new out.new err.new)
+        result }
+{
+    match read_words(alloc, words) {
+        Ok(order) => work_on_order(alloc, &order, shelf, input, out, err),
+        Err(stop) => Err(stop),
+    }
+}
+
+/// Writes the last line, and gives the status.
+fn say<E: Sink>(err: &mut E, line: &[u8], status: u8) -> u8
+    ensures { Says status line.now (E.written err.old) (E.written err.new) (E.faults err.old) (E.faults err.new) result }
+{
+    match write_whole(err, line) {
+        Ok(()) => status,
+        Err(_) => 4,
+    }
+}
+
+/// Says why the work stopped.
+fn report<E: Sink>(err: &mut E, stop: Stop) -> u8
+    ensures { Reported stop (E.written err.old) (E.written err.new) (E.faults err.old) (E.faults err.new) result }
+{
+    match stop {
+        Stop::Halted { cause, line } => say(err, line.as_slice(), cause.code()),
+        Stop::ShelfFailed { line } => say(err, line.as_slice(), 3),
+        Stop::InputFailed => say(err, b"menhir: cannot read the input\n", 3),
+        Stop::WriteFailed => 4,
+        Stop::OutOfMemory => say(err, b"menhir: out of memory\n", 6),
+    }
+}
+
+/// Does what the words ask for, and tells how that ended.
+fn run<F: Shelf, I: Source, O: Sink, E: Sink>(
+    alloc: Global,
+    words: &[String],
+    shelf: &mut F,
+    input: &mut I,
+    out: &mut O,
+    err: &mut E,
+) -> u8
+    ensures ran { Ran (AskedBy (map string_bytes words.now) (F.files shelf.old)) (FileOf (map string_bytes words.now))
+        (world F.files F.faults I.left I.faults O.written O.faults E.written E.faults shelf.old input.old out.old err.old)
+        (world F.files F.faults I.left I.faults O.written O.faults E.written E.faults shelf.new input.new out.new err.new)
+        result }
+{
+    match work(alloc, words, shelf, input, out, err) {
+        Ok(()) => 0,
+        Err(stop) => report(err, stop),
+    }
+}
+
+/// Does what the words ask for, over any shelf, input and outputs, and gives the exit status: 0 done, 1 refused,
+/// 2 misused, 3 a read fault, 4 a write fault, 5 too big, 6 want of memory. The words are those of the command line
+/// without the program's name. The lines of the input are answered one after the other, each before the next is read.
+pub fn menhir<F: Shelf, I: Source, O: Sink, E: Sink>(
+    alloc: Global,
+    words: &[String],
+    shelf: &mut F,
+    input: &mut I,
+    out: &mut O,
+    err: &mut E,
+) -> u8
+    ensures complete { Completes (map string_bytes words.now)
+        (world F.files F.faults I.left I.faults O.written O.faults E.written E.faults shelf.old input.old out.old err.old)
+        (world F.files F.faults I.left I.faults O.written O.faults E.written E.faults shelf.new input.new out.new err.new) result }
+    ensures done { Finishes (map string_bytes words.now)
+        (world F.files F.faults I.left I.faults O.written O.faults E.written E.faults shelf.old input.old out.old err.old)
+        (world F.files F.faults I.left I.faults O.written O.faults E.written E.faults shelf.new input.new out.new err.new) result }
+    ensures status { IsStatus result }
+    ensures misuse { MisuseHasCause (map string_bytes words.now)
+        (world F.files F.faults I.left I.faults O.written O.faults E.written E.faults shelf.old input.old out.old err.old)
+        (world F.files F.faults I.left I.faults O.written O.faults E.written E.faults shelf.new input.new out.new err.new) result }
+    ensures read_fault { ReadFaultHasCause (map string_bytes words.now)
+        (world F.files F.faults I.left I.faults O.written O.faults E.written E.faults shelf.old input.old out.old err.old)
+        (world F.files F.faults I.left I.faults O.written O.faults E.written E.faults shelf.new input.new out.new err.new) result }
+    ensures absent { AbsentIsSaid (map string_bytes words.now)
+        (world F.files F.faults I.left I.faults O.written O.faults E.written E.faults shelf.old input.old out.old err.old)
+        (world F.files F.faults I.left I.faults O.written O.faults E.written E.faults shelf.new input.new out.new err.new) result }
+    ensures write_fault { WriteFaultHasCause
+        (world F.files F.faults I.left I.faults O.written O.faults E.written E.faults shelf.old input.old out.old err.old)
+        (world F.files F.faults I.left I.faults O.written O.faults E.written E.faults shelf.new input.new out.new err.new) result }
+    ensures too_big { TooBigHasCause (map string_bytes words.now)
+        (world F.files F.faults I.left I.faults O.written O.faults E.written E.faults shelf.old input.old out.old err.old)
+        (world F.files F.faults I.left I.faults O.written O.faults E.written E.faults shelf.new input.new out.new err.new) result }
+    ensures long_file { LongFileIsSaid (map string_bytes words.now)
+        (world F.files F.faults I.left I.faults O.written O.faults E.written E.faults shelf.old input.old out.old err.old)
+        (world F.files F.faults I.left I.faults O.written O.faults E.written E.faults shelf.new input.new out.new err.new) result }
+    ensures long_input { LongInputIsSaid (map string_bytes words.now)
+        (world F.files F.faults I.left I.faults O.written O.faults E.written E.faults shelf.old input.old out.old err.old)
+        (world F.files F.faults I.left I.faults O.written O.faults E.written E.faults shelf.new input.new out.new err.new) result }
+    ensures part { WritesPart (map string_bytes words.now)
+        (world F.files F.faults I.left I.faults O.written O.faults E.written E.faults shelf.old input.old out.old err.old)
+        (world F.files F.faults I.left I.faults O.written O.faults E.written E.faults shelf.new input.new out.new err.new) }
+    // How each run ended, in one piece.
+    ensures ran { Ran (AskedBy (map string_bytes words.now) (F.files shelf.old)) (FileOf (map string_bytes words.now))
+        (world F.files F.faults I.left I.faults O.written O.faults E.written E.faults shelf.old input.old out.old err.old)
+        (world F.files F.faults I.left I.faults O.written O.faults E.written E.faults shelf.new input.new out.new err.new) result }
+{
+    run(alloc, words, shelf, input, out, err)
+}
