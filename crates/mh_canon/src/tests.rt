@@ -77,7 +77,12 @@ fn of_the_empty_word(rt: HostRuntime) -> Result<(), Fail> {
 fn apart_by_looks(rt: HostRuntime) -> Result<(), Fail> {
     let (s, c) = (Symbol::N(0), Symbol::N(1));
     let (many, last) = (Symbol::T(0), Symbol::T(1));
-    let grammar = grammar_of(rt.alloc(), 2, 2, &[(0, &[c, c]), (1, &[many, c]), (1, &[last])])?;
+    let grammar = grammar_of(
+        rt.alloc(),
+        2,
+        2,
+        &[(0, &[c, c]), (1, &[many, c]), (1, &[last])],
+    )?;
     assert!(rt; is_in_range(&grammar));
     let automaton = canonical(rt.alloc(), &grammar).map_err(|_| "no memory")?;
     assert_eq!(rt; automaton.kernels.len(), 10);
