@@ -16,7 +16,7 @@ use Rattle.mh_canon.specs.Canonical.{HasItem, IsCanonical}
 use Rattle.mh_canon.specs.Moves.{IsState}
 use Rattle.mh_canon.proofs.Building.{Building}
 use Rattle.mh_canon.proofs.Edging.{IsRow}
-use Rattle.mh_canon.proofs.OneList.{one_list}
+use Rattle.mh_items.proofs.OneList.{kernel_same}
 use Rattle.mh_canon.proofs.Rising.{contains_none}
 use Rattle.mh_canon.proofs.Sets.{same_sym, same_trans, has_same, moved_same, close_same, reach_has, start_holds}
 
@@ -98,7 +98,7 @@ module _ (g : PlainGrammar) (a : Automaton) (b : Building g a.kernels a.edges) (
     sound = λ s l. (state s l).reach;
     complete = reach_complete g a starts edge target;
     distinct = λ s u l m same.
-        let one : kernel_at a u ≡ kernel_at a s = sym (one_list g (kernel_at a s) (kernel_at a u) (state s l).kernel (state u m).kernel same) in
+        let one : kernel_at a u ≡ kernel_at a s = sym (kernel_same g (kernel_at a s) (kernel_at a u) (state s l).kernel (state u m).kernel same) in
         b.states.distinct.same s u (kernel_at a s) (kernel_get a s l) (kernel_get a u m ∙ ap Some one);
     order = λ s l. (row s l).rising;
     edge = edge;

@@ -20,7 +20,7 @@ use Rattle.mh_items.specs.Automaton.{kernel_at, kernel_of, start_kernel, IsAutom
 use Rattle.mh_canon.specs.Canonical.{IsCanonical, Walk, walk_of, IsWalk, IsOver}
 use Rattle.mh_canon.proofs.Building.{IsKernel-start}
 use Rattle.mh_canon.proofs.Finished.{kernel_get, items_within}
-use Rattle.mh_canon.proofs.OneList.{one_list}
+use Rattle.mh_items.proofs.OneList.{kernel_same}
 use Rattle.mh_canon.proofs.Sets.{same_sym, same_trans, place_holds, moved_dot, start_holds}
 
 -- a start production stands with the end of the stream alone
@@ -42,7 +42,7 @@ module _ (g : PlainGrammar) (a : Automaton) (h : IsCanonical g a) where
   starts : (i : ℕ) → i < length g.starts → kernel_at a i ≡ start_kernel i
   starts i l =
       let s = h.starts i l in
-      one_list g (kernel_at a i) (start_kernel i) (h.each i s.0).0 (IsKernel-start g i l) (same_trans (kernel_of a i) (StartItems i) (Holds (start_kernel i)) s.1 (same_sym (Holds (start_kernel i)) (StartItems i) (start_holds i)))
+      kernel_same g (kernel_at a i) (start_kernel i) (h.each i s.0).0 (IsKernel-start g i l) (same_trans (kernel_of a i) (StartItems i) (Holds (start_kernel i)) s.1 (same_sym (Holds (start_kernel i)) (StartItems i) (start_holds i)))
 
   at_end : (s p d : ℕ) (look : Look) → kernel_of a s p d look → p < length g.starts → look ≡ End
   at_end s p d look k l =

@@ -21,7 +21,7 @@ use Rattle.mh_items.specs.Automaton.{kernel_at, kernel_of, edges_at, leads_to, m
 use Rattle.mh_canon.specs.Canonical.{HasItem, IsCanonical, targets_of}
 use Rattle.mh_canon.proofs.Edging.{symbol_true, symbol_itself, found_edge}
 use Rattle.mh_canon.proofs.Finished.{kernel_get, kernel_got, edges_get}
-use Rattle.mh_canon.proofs.OneList.{one_list}
+use Rattle.mh_items.proofs.OneList.{kernel_same}
 use Rattle.mh_canon.proofs.Rising.{contains_here, contains_there, contains_cases, contains_none, below_all, rising_same}
 use Rattle.mh_canon.proofs.Sets.{same_sym, same_trans, has_same, moved_same, close_same, reach_has}
 
@@ -84,7 +84,7 @@ record Next (g : PlainGrammar) (k : Kernel) (ks : List Kernel) : Type 0 where
   each : AllZip (IsMoveOf g k) symbols ks
 
 one_move : (g : PlainGrammar) (k m n : Kernel) (X : Symbol) → IsMoveOf g k X m → IsMoveOf g k X n → m ≡ n
-one_move g k m n X a b = one_list g m n a.kernel b.kernel (same_trans (Holds m) (Moved g (Close g (Holds k)) X) (Holds n) a.same (same_sym (Holds n) (Moved g (Close g (Holds k)) X) b.same))
+one_move g k m n X a b = kernel_same g m n a.kernel b.kernel (same_trans (Holds m) (Moved g (Close g (Holds k)) X) (Holds n) a.same (same_sym (Holds n) (Moved g (Close g (Holds k)) X) b.same))
 
 zip_same : (g : PlainGrammar) (k : Kernel) (symbols : List Symbol) (a b : List Kernel) → AllZip (IsMoveOf g k) symbols a → AllZip (IsMoveOf g k) symbols b → a ≡ b
 zip_same g k [] [] [] p q = refl
@@ -174,7 +174,7 @@ module _ (g : PlainGrammar) (a : Automaton) (h : IsCanonical g a) where
     to_reached : (i : ℕ) (path : List Symbol) → i < length g.starts → (k : Kernel) → IsKernel g k → HasItem (Holds k) → AreSame (Holds k) (Reach g i path) → Reached (Next g) starts k
     to_reached i [] l k of_k some same =
         let s = h.starts i l in
-        let one : kernel_at a i ≡ k = one_list g (kernel_at a i) k (h.each i s.0).0 of_k (same_trans (kernel_of a i) (StartItems i) (Holds k) s.1 (same_sym (Holds k) (StartItems i) same)) in
+        let one : kernel_at a i ≡ k = kernel_same g (kernel_at a i) k (h.each i s.0).0 of_k (same_trans (kernel_of a i) (StartItems i) (Holds k) s.1 (same_sym (Holds k) (StartItems i) same)) in
         numbering.Reached.start (rw one at (start_in i l))
     to_reached i (X ∷ path) l k of_k some same =
         let s = h.complete i path l (reach_has g i X path (has_same (Holds k) (Reach g i (X ∷ path)) same some)) in
@@ -278,7 +278,7 @@ one_canonical g a b h k =
     let first : (i : ℕ) → i < n → slice_get b.kernels i ≡ slice_get a.kernels i = λ i l.
     let s = h.starts i l in
     let t = k.starts i l in
-    let one : kernel_at b i ≡ kernel_at a i = one_list g (kernel_at b i) (kernel_at a i) (k.each i t.0).0 (h.each i s.0).0 (same_trans (kernel_of b i) (StartItems i) (kernel_of a i) t.1 (same_sym (kernel_of a i) (StartItems i) s.1)) in
+    let one : kernel_at b i ≡ kernel_at a i = kernel_same g (kernel_at b i) (kernel_at a i) (k.each i t.0).0 (h.each i s.0).0 (same_trans (kernel_of b i) (StartItems i) (kernel_of a i) t.1 (same_sym (kernel_of a i) (StartItems i) s.1)) in
     kernel_get b i t.0 ∙ ap Some one ∙ sym (kernel_get a i s.0) in
     let begins : take n b.kernels ≡ starts = take_same n b.kernels a.kernels first in
     let enough : n ≤ length a.kernels = elim (cases_lt (length a.kernels) n) [ inl l ↦ absurd (omega (arith, (h.starts (length a.kernels) l).0)) | inr l ↦ l ] in

@@ -1,5 +1,5 @@
 -- Sets of items: what closures and moves keep.
-use Rattle.std.proofs.Common.{◌≡◌, ℕ, zero, suc, ◌<◌, List, [], ◌∷◌, Some, drop, refl, sym, ap, ◌∙◌, arith, inl, inr}
+use Rattle.std.proofs.Common.{◌≡◌, ℕ, zero, suc, ◌<◌, List, [], ◌∷◌, Some, length, drop, refl, sym, ap, ◌∙◌, arith, inl, inr}
 use Rattle.std.specs.List.{slice_get, Contains}
 use Rattle.mh_grammar.specs.declared.types.Symbol.{Symbol}
 use Rattle.mh_grammar.specs.declared.types.Look.{Look}
@@ -13,7 +13,10 @@ use Rattle.mh_items.specs.Kernels.{Holds, HasPlace, IsKernelItem, IsKernel}
 use Rattle.mh_items.specs.Automaton.{start_kernel}
 use Rattle.mh_canon.specs.Canonical.{HasItem}
 use Rattle.mh_canon.proofs.Rising.{contains_here, contains_cases, contains_none, below_all}
-use Rattle.mh_canon.proofs.OneList.{first_look}
+
+first_look : (looks : List Look) → 0 < length looks → (a : Look) × Contains looks a
+first_look [] l = absurd (omega arith)
+first_look (a ∷ looks) l = (a, contains_here a looks)
 
 pub same_sym : (I J : ItemSet) → AreSame I J → AreSame J I
 same_sym I J s p d a = ((s p d a).1, (s p d a).0)

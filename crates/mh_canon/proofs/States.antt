@@ -15,7 +15,7 @@ use Rattle.mh_items.specs.declared.kernels.Kernel.{Kernel}
 use Rattle.mh_items.specs.Kernels.{Holds, IsKernel}
 use Rattle.mh_canon.specs.Canonical.{Walk, walk_of, IsWalk, IsOver, targets_of}
 use Rattle.mh_canon.specs.Moves.{IsBehindDot, IsState, AreStates, IsSource, IsMove, AreEdges}
-use Rattle.mh_canon.proofs.OneList.{one_list}
+use Rattle.mh_items.proofs.OneList.{kernel_same}
 use Rattle.mh_canon.proofs.Sets.{same_sym, same_trans, moved_same, close_same, place_holds, drop_from_get}
 
 -- the closure of a state
@@ -121,7 +121,7 @@ IsOver-states g kernels limit s o =
           let a = walks_lead g kernels all i v e in
           let b = walks_lead g kernels all j w f in
           let sets : AreSame (Holds a.0) (Holds b.0) = same_trans (Holds a.0) (walk_of g v) (Holds b.0) a.2.same (same_trans (walk_of g v) (walk_of g w) (Holds b.0) same (same_sym (Holds b.0) (walk_of g w) b.2.same)) in
-          let one : b.0 ≡ a.0 = sym (one_list g a.0 b.0 a.2.state.kernel b.2.state.kernel sets) in
+          let one : b.0 ≡ a.0 = sym (kernel_same g a.0 b.0 a.2.state.kernel b.2.state.kernel sets) in
           s.distinct.same i j a.0 a.1 (b.1 ∙ ap Some one);
       over = omega (arith, walks_len g kernels all);
     }
