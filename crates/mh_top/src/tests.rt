@@ -63,10 +63,22 @@ fn words_that_ask_for_nothing(rt: HostRuntime) -> Result<(), Fail> {
     let got = run(alloc, &[], b"", Vec::new(alloc), &NONE)?;
     assert_eq!(rt; got.status, 2);
     assert_eq!(rt; got.err.as_slice(), usage);
-    let got = run(alloc, &["--interpret", "-g.mly"], b"", Vec::new(alloc), &NONE)?;
+    let got = run(
+        alloc,
+        &["--interpret", "-g.mly"],
+        b"",
+        Vec::new(alloc),
+        &NONE,
+    )?;
     assert_eq!(rt; got.status, 2);
     assert_eq!(rt; got.err.as_slice(), usage);
-    let got = run(alloc, &["--interpret", "g.mly", "g.mly"], b"", Vec::new(alloc), &NONE)?;
+    let got = run(
+        alloc,
+        &["--interpret", "g.mly", "g.mly"],
+        b"",
+        Vec::new(alloc),
+        &NONE,
+    )?;
     assert_eq!(rt; got.status, 2);
     assert_eq!(rt; got.out.as_slice(), b"".as_slice());
     Ok(())
@@ -82,9 +94,18 @@ fn a_file_that_cannot_be_read(rt: HostRuntime) -> Result<(), Fail> {
         shelf: &[1],
         ..NONE
     };
-    let got = run(alloc, &["--interpret", "g.mly"], b"", Vec::new(alloc), &failing)?;
+    let got = run(
+        alloc,
+        &["--interpret", "g.mly"],
+        b"",
+        Vec::new(alloc),
+        &failing,
+    )?;
     assert_eq!(rt; got.status, 3);
-    assert_eq!(rt; got.err.as_slice(), b"menhir: cannot read g.mly\n".as_slice());
+    assert_eq!(rt;
+        got.err.as_slice(),
+        b"menhir: cannot read g.mly\n".as_slice()
+    );
     let failing = Fails { err: &[1], ..NONE };
     let got = run(alloc, &["--interpret", "h"], b"", Vec::new(alloc), &failing)?;
     assert_eq!(rt; got.status, 4);
@@ -103,7 +124,13 @@ fn repeated(alloc: Global, byte: u8, count: usize) -> Result<Vec<u8>, Fail> {
 
 /// Runs the verdicts of these lines.
 fn verdicts(alloc: Global, file: &[u8], input: &[u8], fails: &Fails<'_>) -> Result<Outcome, Fail> {
-    run(alloc, &["--interpret", "g.mly"], file, input.to_vec(alloc)?, fails)
+    run(
+        alloc,
+        &["--interpret", "g.mly"],
+        file,
+        input.to_vec(alloc)?,
+        fails,
+    )
 }
 
 #[test]
@@ -111,7 +138,8 @@ fn each_line_has_its_verdict(rt: HostRuntime) -> Result<(), Fail> {
     let input = b"A EOF\nA\nA A\nEOF\n\nA EOF A\nA Z\n1\n\tA\r EOF";
     let got = verdicts(rt.alloc(), ONE_SENTENCE, input, &NONE)?;
     assert_eq!(rt; got.status, 0);
-    let text = b"ACCEPT\nOVERSHOOT\nREJECT\nREJECT\nOVERSHOOT\nACCEPT\nERROR unknown token Z\nERROR unreadable\nACCEPT\n";
+    let text =
+        b"ACCEPT\nOVERSHOOT\nREJECT\nREJECT\nOVERSHOOT\nACCEPT\nERROR unknown token Z\nERROR unreadable\nACCEPT\n";
     assert_eq!(rt; got.out.as_slice(), text.as_slice());
     assert_eq!(rt; got.err.as_slice(), b"".as_slice());
     Ok(())
@@ -122,7 +150,10 @@ fn grammars_that_are_refused(rt: HostRuntime) -> Result<(), Fail> {
     let alloc = rt.alloc();
     let table: [(&[u8], &[u8]); 3] = [
         (b"%token A %start s %% s: A Z {}", b"menhir: not plain\n"),
-        (b"%token A EOF (* c *) %start s %% s: A EOF {}", b"menhir: not plain\n"),
+        (
+            b"%token A EOF (* c *) %start s %% s: A EOF {}",
+            b"menhir: not plain\n",
+        ),
         (
             b"%token A %start s %% s: b s A {} | c {} b: {} c: {}",
             b"menhir: loops: state 0 on A\n",
@@ -170,22 +201,45 @@ fn devices_that_fail(rt: HostRuntime) -> Result<(), Fail> {
     Ok(())
 }
 
+const WORDS: [&str; 2] = ["--interpret", "g.mly"];
+
+const TOO_BIG: &[u8] = b"menhir: too big: the input\n";
+
 #[test]
-fn what_is_too_big(rt: HostRuntime) -> Result<(), Fail> {
+fn a_line_that_is_too_big(rt: HostRuntime) -> Result<(), Fail> {
     let alloc = rt.alloc();
-    let words = ["--interpret", "g.mly"];
-    let line = b"menhir: too big: the input\n".as_slice();
-    let got = run(alloc, &words, ONE_SENTENCE, repeated(alloc, b' ', 1_048_577)?, &NONE)?;
+    let input = repeated(alloc, b' ', 1_048_577)?;
+    let got = run(alloc, &WORDS, ONE_SENTENCE, input, &NONE)?;
     assert_eq!(rt; got.status, 5);
-    assert_eq!(rt; got.err.as_slice(), line);
-    let got = run(alloc, &words, ONE_SENTENCE, repeated(alloc, b'\n', 1_000_001)?, &NONE)?;
+    assert_eq!(rt; got.err.as_slice(), TOO_BIG);
+    Ok(())
+}
+
+#[test]
+fn a_line_too_many(rt: HostRuntime) -> Result<(), Fail> {
+    let alloc = rt.alloc();
+    let input = repeated(alloc, b'\n', 1_000_001)?;
+    let got = run(alloc, &WORDS, ONE_SENTENCE, input, &NONE)?;
     assert_eq!(rt; got.status, 5);
-    assert_eq!(rt; got.err.as_slice(), line);
-    let got = run(alloc, &words, ONE_SENTENCE, repeated(alloc, b'\n', 1_000_000)?, &NONE)?;
+    assert_eq!(rt; got.err.as_slice(), TOO_BIG);
+    Ok(())
+}
+
+#[test]
+fn as_many_lines_as_there_may_be(rt: HostRuntime) -> Result<(), Fail> {
+    let alloc = rt.alloc();
+    let input = repeated(alloc, b'\n', 1_000_000)?;
+    let got = run(alloc, &WORDS, ONE_SENTENCE, input, &NONE)?;
     assert_eq!(rt; got.status, 0);
     assert_eq!(rt; got.out.len(), 10_000_000);
+    Ok(())
+}
+
+#[test]
+fn a_file_that_is_too_big(rt: HostRuntime) -> Result<(), Fail> {
+    let alloc = rt.alloc();
     let file = repeated(alloc, b' ', 16_777_217)?;
-    let got = run(alloc, &words, file.as_slice(), Vec::new(alloc), &NONE)?;
+    let got = run(alloc, &WORDS, file.as_slice(), Vec::new(alloc), &NONE)?;
     assert_eq!(rt; got.status, 5);
     assert_eq!(rt; got.err.as_slice(), b"menhir: too big: g.mly\n".as_slice());
     Ok(())
