@@ -201,9 +201,14 @@ fn devices_that_fail(rt: HostRuntime) -> Result<(), Fail> {
     Ok(())
 }
 
+const WORDS: [&str; 2] = ["--interpret", "g.mly"];
+
+const TOO_BIG: &[u8] = b"menhir: too big: the input\n";
+
 #[test]
-fn what_is_too_big(rt: HostRuntime) -> Result<(), Fail> {
+fn a_line_that_is_too_big(rt: HostRuntime) -> Result<(), Fail> {
     let alloc = rt.alloc();
+<<<<<<< HEAD
     let words = ["--interpret", "g.mly"];
     let line = b"menhir: too big: the input\n".as_slice();
     let got = run(
@@ -231,10 +236,40 @@ fn what_is_too_big(rt: HostRuntime) -> Result<(), Fail> {
         repeated(alloc, b'\n', 1_000_000)?,
         &NONE,
     )?;
+=======
+    let input = repeated(alloc, b' ', 1_048_577)?;
+    let got = run(alloc, &WORDS, ONE_SENTENCE, input, &NONE)?;
+    assert_eq!(rt; got.status, 5);
+    assert_eq!(rt; got.err.as_slice(), TOO_BIG);
+    Ok(())
+}
+
+#[test]
+fn a_line_too_many(rt: HostRuntime) -> Result<(), Fail> {
+    let alloc = rt.alloc();
+    let input = repeated(alloc, b'\n', 1_000_001)?;
+    let got = run(alloc, &WORDS, ONE_SENTENCE, input, &NONE)?;
+    assert_eq!(rt; got.status, 5);
+    assert_eq!(rt; got.err.as_slice(), TOO_BIG);
+    Ok(())
+}
+
+#[test]
+fn as_many_lines_as_there_may_be(rt: HostRuntime) -> Result<(), Fail> {
+    let alloc = rt.alloc();
+    let input = repeated(alloc, b'\n', 1_000_000)?;
+    let got = run(alloc, &WORDS, ONE_SENTENCE, input, &NONE)?;
+>>>>>>> c6d1f766bf9d334b78a13986657459e595525c75
     assert_eq!(rt; got.status, 0);
     assert_eq!(rt; got.out.len(), 10_000_000);
+    Ok(())
+}
+
+#[test]
+fn a_file_that_is_too_big(rt: HostRuntime) -> Result<(), Fail> {
+    let alloc = rt.alloc();
     let file = repeated(alloc, b' ', 16_777_217)?;
-    let got = run(alloc, &words, file.as_slice(), Vec::new(alloc), &NONE)?;
+    let got = run(alloc, &WORDS, file.as_slice(), Vec::new(alloc), &NONE)?;
     assert_eq!(rt; got.status, 5);
     assert_eq!(rt; got.err.as_slice(), b"menhir: too big: g.mly\n".as_slice());
     Ok(())
