@@ -208,35 +208,6 @@ const TOO_BIG: &[u8] = b"menhir: too big: the input\n";
 #[test]
 fn a_line_that_is_too_big(rt: HostRuntime) -> Result<(), Fail> {
     let alloc = rt.alloc();
-<<<<<<< HEAD
-    let words = ["--interpret", "g.mly"];
-    let line = b"menhir: too big: the input\n".as_slice();
-    let got = run(
-        alloc,
-        &words,
-        ONE_SENTENCE,
-        repeated(alloc, b' ', 1_048_577)?,
-        &NONE,
-    )?;
-    assert_eq!(rt; got.status, 5);
-    assert_eq!(rt; got.err.as_slice(), line);
-    let got = run(
-        alloc,
-        &words,
-        ONE_SENTENCE,
-        repeated(alloc, b'\n', 1_000_001)?,
-        &NONE,
-    )?;
-    assert_eq!(rt; got.status, 5);
-    assert_eq!(rt; got.err.as_slice(), line);
-    let got = run(
-        alloc,
-        &words,
-        ONE_SENTENCE,
-        repeated(alloc, b'\n', 1_000_000)?,
-        &NONE,
-    )?;
-=======
     let input = repeated(alloc, b' ', 1_048_577)?;
     let got = run(alloc, &WORDS, ONE_SENTENCE, input, &NONE)?;
     assert_eq!(rt; got.status, 5);
@@ -259,7 +230,6 @@ fn as_many_lines_as_there_may_be(rt: HostRuntime) -> Result<(), Fail> {
     let alloc = rt.alloc();
     let input = repeated(alloc, b'\n', 1_000_000)?;
     let got = run(alloc, &WORDS, ONE_SENTENCE, input, &NONE)?;
->>>>>>> c6d1f766bf9d334b78a13986657459e595525c75
     assert_eq!(rt; got.status, 0);
     assert_eq!(rt; got.out.len(), 10_000_000);
     Ok(())
