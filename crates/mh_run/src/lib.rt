@@ -1,10 +1,12 @@
 //! Verdicts of sentences on a table.
 #![tactic(auto)]
 
+mod exactness;
 mod outcome;
 mod runs;
 mod settle;
 
+pub use exactness::{accepts_with_tree, overshoots_in_sentences, verdicts_are_exact};
 pub use outcome::Verdict;
 pub use runs::verdict;
 

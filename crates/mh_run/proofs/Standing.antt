@@ -1,0 +1,76 @@
+-- A table of an automaton has its edges, and its kernels hold what their edges carry.
+use Rattle.std.proofs.Common.{◌≡◌, ℕ, ◌<◌, ◌≤◌, List, [], ◌∷◌, length, refl, ap, sym, subst, arith, ◌∙◌, inl, inr}
+use Rattle.std.specs.List.{Contains}
+use Rattle.std.proofs.lemmas.Bool.{cases_lt}
+use Rattle.std.proofs.lemmas.List.{get_or_past}
+use Rattle.mh_grammar.specs.declared.types.Symbol.{Symbol}
+use Rattle.mh_grammar.specs.declared.types.Look.{Look}
+use Rattle.mh_grammar.specs.declared.types.Look.TheVariants.{End}
+use Rattle.mh_grammar.specs.declared.types.Grammar.{Grammar}
+use Rattle.mh_grammar.specs.declared.edges.Edge.{Edge}
+use Rattle.mh_grammar.specs.Edges.{find_edge}
+use Rattle.mh_grammar.specs.Plain.{PlainGrammar, plain_of}
+use Rattle.mh_items.specs.declared.kernels.KernelItem.{KernelItem}
+use Rattle.mh_items.specs.declared.kernels.Kernel.{Kernel}
+use Rattle.mh_items.specs.declared.kernels.Automaton.{Automaton}
+use Rattle.mh_items.specs.Kernels.{Holds}
+use Rattle.mh_items.specs.Automaton.{IsAutomaton, edges_at, kernel_of, leads_to, start_kernel}
+use Rattle.mh_tables.specs.declared.parts.StateParts.{StateParts}
+use Rattle.mh_tables.specs.Table.{TableData, no_state, state_at, edge_of}
+use Rattle.mh_resolve.specs.declared.kinds.Mode.{Mode}
+use Rattle.mh_resolve.specs.States.{IsTableOf}
+use Rattle.mh_resolve.proofs.Closed.{alone}
+use Rattle.mh_resolve.proofs.Places.{at_contains}
+
+-- the automaton of a table
+pub record StandsFor (t : TableData) (a : Automaton) : Type 0 where
+  pub automaton : IsAutomaton t.grammar a
+  pub edges : (s : ℕ) (X : Symbol) → edge_of t s X ≡ leads_to a s X
+
+edges_past : (a : Automaton) (s : ℕ) → length a.edges ≤ s → edges_at a s ≡ []
+unfolding edges_at
+edges_past a s h = get_or_past a.edges s [] h
+
+state_past : (t : TableData) (s : ℕ) → length t.states ≤ s → state_at t s ≡ no_state
+state_past t s h = get_or_past t.states s no_state h
+
+pub stands_for : (g : Grammar) (a : Automaton) (mode : Mode) (t : TableData) → IsAutomaton (plain_of g) a → IsTableOf g a mode t → StandsFor t a
+unfolding edge_of
+stands_for g a mode t h is = record {
+  automaton = subst (λ (p : PlainGrammar). IsAutomaton p a) (sym is.grammar) h;
+  edges = λ s X. elim (cases_lt s (length a.kernels)) [
+    | inl lt ↦ ap (λ (es : List Edge). find_edge es X) (is.states.each s lt).edges
+    | inr ge ↦ (
+        let count = is.states.count in
+        let rows = h.rows in
+        let below : (state_at t s).edges ≡ [] = ap (λ (parts : StateParts). parts.edges) (state_past t s (omega arith)) in
+        let above : edges_at a s ≡ [] = edges_past a s (omega arith) in
+        ap (λ (es : List Edge). find_edge es X) (below ∙ sym above))
+  ];
+}
+
+-- a start kernel holds its one item
+pub record IsStartItem (i p d : ℕ) (look : Look) : Type 0 where
+  pub production : p ≡ i
+  pub dot : d ≡ 0
+  pub at_end : look ≡ End
+
+start_holds : (i : ℕ) → Holds (start_kernel i) i 0 End
+start_holds i = (record { production = i; dot = 0; looks = End ∷ [] }, at_contains (start_kernel i).items 0 (record { production = i; dot = 0; looks = End ∷ [] }) refl, refl, refl, at_contains (End ∷ []) 0 End refl)
+
+start_only : (i p d : ℕ) (look : Look) → Holds (start_kernel i) p d look → IsStartItem i p d look
+start_only i p d look (item, there, q, e, l) =
+    let one : KernelItem = record { production = i; dot = 0; looks = End ∷ [] } in
+    let same : item ≡ one = alone one item there in
+    let looks : Contains (End ∷ []) look = subst (λ (x : KernelItem). Contains x.looks look) same l in
+    record {
+      production = sym q ∙ ap (λ (x : KernelItem). x.production) same;
+      dot = sym e ∙ ap (λ (x : KernelItem). x.dot) same;
+      at_end = alone End look looks;
+    }
+
+pub start_item : (g : PlainGrammar) (a : Automaton) → IsAutomaton g a → (i : ℕ) → i < length g.starts → kernel_of a i i 0 End
+start_item g a h i lt = subst (λ (k : Kernel). Holds k i 0 End) (sym (h.starts i lt)) (start_holds i)
+
+pub start_item_only : (g : PlainGrammar) (a : Automaton) → IsAutomaton g a → (i p d : ℕ) (look : Look) → i < length g.starts → kernel_of a i p d look → IsStartItem i p d look
+start_item_only g a h i p d look lt held = start_only i p d look (subst (λ (k : Kernel). Holds k p d look) (h.starts i lt) held)

@@ -1,0 +1,8 @@
+use Rattle.mh_run.proofs.Accepted.{accepted_tree, accepted_sentence}
+use Rattle.mh_run.proofs.exactness.accepts_with_tree.Goals as goal
+
+pub returns-clause-tree : goal.returns-clause-tree
+returns-clause-tree c = accepted_tree c.args.table.now c.facts.ensures
+
+pub returns-clause-sentence : goal.returns-clause-sentence
+returns-clause-sentence c = accepted_sentence c.args.table.now c.facts.ensures
