@@ -13,8 +13,8 @@ use Rattle.mh_grammar.specs.Plain.{PlainGrammar, plain_of}
 use Rattle.mh_items.specs.declared.kernels.KernelItem.{KernelItem}
 use Rattle.mh_items.specs.declared.kernels.Kernel.{Kernel}
 use Rattle.mh_items.specs.declared.kernels.Automaton.{Automaton}
-use Rattle.mh_items.specs.Kernels.{Holds}
-use Rattle.mh_items.specs.Automaton.{IsAutomaton, edges_at, kernel_of, leads_to, start_kernel}
+use Rattle.mh_items.specs.Kernels.{Holds, HasPlace}
+use Rattle.mh_items.specs.Automaton.{IsAutomaton, edges_at, kernel_of, leads_to}
 use Rattle.mh_tables.specs.declared.parts.StateParts.{StateParts}
 use Rattle.mh_tables.specs.Table.{TableData, no_state, state_at, edge_of}
 use Rattle.mh_resolve.specs.declared.kinds.Mode.{Mode}
@@ -49,28 +49,36 @@ stands_for g a mode t h is = record {
   ];
 }
 
--- a start kernel holds its one item
-pub record IsStartItem (i p d : ℕ) (look : Look) : Type 0 where
-  pub production : p ≡ i
-  pub dot : d ≡ 0
+-- a kernel of one item holds it alone
+pub record IsAlone (q e p d : ℕ) (look : Look) : Type 0 where
+  pub production : p ≡ q
+  pub dot : d ≡ e
   pub at_end : look ≡ End
 
-start_holds : (i : ℕ) → Holds (start_kernel i) i 0 End
-start_holds i = (record { production = i; dot = 0; looks = End ∷ [] }, at_contains (start_kernel i).items 0 (record { production = i; dot = 0; looks = End ∷ [] }) refl, refl, refl, at_contains (End ∷ []) 0 End refl)
+abbrev pub kernel_with : ℕ → ℕ → Kernel
+kernel_with q e = record { items = record { production = q; dot = e; looks = End ∷ [] } ∷ [] }
 
-start_only : (i p d : ℕ) (look : Look) → Holds (start_kernel i) p d look → IsStartItem i p d look
-start_only i p d look (item, there, q, e, l) =
-    let one : KernelItem = record { production = i; dot = 0; looks = End ∷ [] } in
+pub with_holds : (q e : ℕ) → Holds (kernel_with q e) q e End
+with_holds q e =
+    let item : KernelItem = record { production = q; dot = e; looks = End ∷ [] } in
+    (item, at_contains (item ∷ []) 0 item refl, refl, refl, at_contains (End ∷ []) 0 End refl)
+
+pub place_only : (q e p d : ℕ) → HasPlace (kernel_with q e) p d → (p ≡ q) × (d ≡ e)
+place_only q e p d (item, there, x, y) =
+    let one : KernelItem = record { production = q; dot = e; looks = End ∷ [] } in
     let same : item ≡ one = alone one item there in
-    let looks : Contains (End ∷ []) look = subst (λ (x : KernelItem). Contains x.looks look) same l in
-    record {
-      production = sym q ∙ ap (λ (x : KernelItem). x.production) same;
-      dot = sym e ∙ ap (λ (x : KernelItem). x.dot) same;
-      at_end = alone End look looks;
-    }
+    (sym x ∙ ap (λ (i : KernelItem). i.production) same, sym y ∙ ap (λ (i : KernelItem). i.dot) same)
+
+pub with_only : (q e p d : ℕ) (look : Look) → Holds (kernel_with q e) p d look → IsAlone q e p d look
+with_only q e p d look (item, there, x, y, l) =
+    let one : KernelItem = record { production = q; dot = e; looks = End ∷ [] } in
+    let same : item ≡ one = alone one item there in
+    let place = place_only q e p d (item, there, x, y) in
+    let looks : Contains (End ∷ []) look = subst (λ (i : KernelItem). Contains i.looks look) same l in
+    record { production = place.0; dot = place.1; at_end = alone End look looks }
 
 pub start_item : (g : PlainGrammar) (a : Automaton) → IsAutomaton g a → (i : ℕ) → i < length g.starts → kernel_of a i i 0 End
-start_item g a h i lt = subst (λ (k : Kernel). Holds k i 0 End) (sym (h.starts i lt)) (start_holds i)
+start_item g a h i lt = subst (λ (k : Kernel). Holds k i 0 End) (sym (h.starts i lt)) (with_holds i 0)
 
-pub start_item_only : (g : PlainGrammar) (a : Automaton) → IsAutomaton g a → (i p d : ℕ) (look : Look) → i < length g.starts → kernel_of a i p d look → IsStartItem i p d look
-start_item_only g a h i p d look lt held = start_only i p d look (subst (λ (k : Kernel). Holds k p d look) (h.starts i lt) held)
+pub start_item_only : (g : PlainGrammar) (a : Automaton) → IsAutomaton g a → (i p d : ℕ) (look : Look) → i < length g.starts → kernel_of a i p d look → IsAlone i 0 p d look
+start_item_only g a h i p d look lt held = with_only i 0 p d look (subst (λ (k : Kernel). Holds k p d look) (h.starts i lt) held)

@@ -1,3 +1,4 @@
 pub mod Settled
 pub mod Verdicts
 pub mod Exactness
+pub mod Example

@@ -1,5 +1,10 @@
 //! What the verdicts of a table say of the grammar's sentences (Knuth 1965): empty calls that tell it to contracts.
 ghost use Rattle.std.specs.Prelude.{◌≡◌, ◌↔◌, ◌<◌, ◌+◌, List, ℕ, length, take};
+ghost use Rattle.mh_grammar.specs.declared.types.Grammar.{Grammar};
+ghost use Rattle.mh_items.specs.declared.kernels.Automaton.{Automaton};
+ghost use Rattle.mh_tables.specs.Table.{TableData};
+ghost use Rattle.mh_resolve.specs.declared.kinds.Mode.{Mode};
+ghost use Rattle.mh_run.specs.Example.{MeetsPremises};
 ghost use Rattle.mh_grammar.specs.Plain.{plain_of, IsSentence, BeginsSentence};
 ghost use Rattle.mh_items.specs.Automaton.{IsAutomaton};
 ghost use Rattle.mh_resolve.specs.Clear.{HasNoConflicts};
@@ -53,3 +58,9 @@ pub fn verdicts_are_exact(grammar: &Grammar, automaton: &Automaton, mode: Mode, 
     let _mode = mode;
     table.facts();
 }
+
+/// The premises of these laws can be met: there is a grammar, with its automaton and its table, that has a sentence and
+/// no conflicts.
+pub fn some_clean_table()
+    ensures { (g : Grammar) × (a : Automaton) × (mode : Mode) × (t : TableData) × MeetsPremises g a mode t }
+{}

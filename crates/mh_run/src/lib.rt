@@ -6,7 +6,9 @@ mod outcome;
 mod runs;
 mod settle;
 
-pub use exactness::{accepts_with_tree, overshoots_in_sentences, verdicts_are_exact};
+pub use exactness::{
+    accepts_with_tree, overshoots_in_sentences, some_clean_table, verdicts_are_exact,
+};
 pub use outcome::Verdict;
 pub use runs::verdict;
 
