@@ -10,7 +10,7 @@ mod scanning;
 
 pub use kinds::{Kind, Lexeme, SyntaxFault};
 pub use laws::{lexed_apart, lexed_once, lexed_texts};
-pub use scanning::lex;
+pub use scanning::{lex, line_of};
 
 #[cfg(test)]
 mod tests;
