@@ -1,5 +1,7 @@
 -- Reading stops at the first lexeme that no file has there.
-use Rattle.std.proofs.Common.{◌≡◌, ℕ, suc, ◌<◌, ◌≤◌, List, [], ◌∷◌, ◌++◌, length, take, drop, get_or, Option, Some, None, Bool, refl, sym, ap, subst, ◌∙◌, append_assoc, drop-cons, arith}
+use Rattle.std.proofs.Common.{◌≡◌, ℕ, suc, ◌<◌, ◌≤◌, ◌+◌, add-one, List, [], ◌∷◌, ◌++◌, length, take, drop, get_or, Option, Some, None, Bool, refl, sym, ap, subst, ◌∙◌, append_assoc, drop-cons, arith}
+use Rattle.std.proofs.Math.Seq.{take-suc, split_at}
+use Rattle.std.proofs.Math.ListN.{drop_of_length-le, take-append-drop}
 use Rattle.std.proofs.lemmas.List.{append-nil}
 use Rattle.mh_lex.specs.declared.kinds.Lexeme.{Lexeme}
 use Rattle.std.proofs.Common.{Result, Ok, Err, IfOk}
@@ -12,6 +14,8 @@ use Rattle.mh_reader.specs.declared.modules.Actual.{Actual}
 use Rattle.mh_reader.specs.declared.modules.Module.{Module}
 use Rattle.mh_reader.specs.declared.signs.Sign.{Sign}
 use Rattle.mh_reader.specs.declared.signs.Sign.TheVariants as signs
+use Rattle.mh_reader.specs.declared.modules.Rule.{Rule}
+use Rattle.mh_reader.specs.declared.places.Draft.{Draft}
 use Rattle.mh_reader.specs.declared.places.Pending.{Pending}
 use Rattle.mh_reader.specs.declared.places.Listing.{Listing}
 use Rattle.mh_reader.specs.declared.places.Listing.TheVariants as lists
@@ -206,6 +210,50 @@ no_whole_module once bytes ls (Err (Syntax line)) lx (halt, never) =
 none_some : (place : ℕ) → None ≡ Some place → ⊥
 none_some place e = cc
 
-pub lexical_fault : LexedOnce → (bytes : List ℕ) (line : ℕ) → (ls : List Lexeme) × (place : ℕ) × Lexes bytes ls (Some place) × (line ≡ line_at bytes place) →
+lexical_fault : LexedOnce → (bytes : List ℕ) (line : ℕ) → (ls : List Lexeme) × (place : ℕ) × Lexes bytes ls (Some place) × (line ≡ line_at bytes place) →
     IsSyntaxLine bytes line × ((m : Module) → Spells bytes m → ⊥)
 lexical_fault once bytes line (ls, place, lx, e) = (IsSyntaxLine.lexical lx e, λ m (ks, ly, f). none_some place (once bytes ls ks (Some place) None lx ly).1)
+
+-- LOOPS
+
+-- the loop goes on
+pub goes_at : (bytes : List ℕ) (ls : List Lexeme) (i : ℕ) (d : Lexeme) (s t : Reader) → i < length ls → Goes (reads_of bytes (take i ls)) s →
+    taken s (sign_by (get_or ls i d).kind (bytes_of bytes (get_or ls i d))) (text_by (get_or ls i d).kind (bytes_of bytes (get_or ls i d))) ≡ Some t → Goes (reads_of bytes (take (i + 1) ls)) t
+goes_at bytes ls i d s t h g e = subst (λ k. Goes (reads_of bytes k) t) (sym (ap (λ n. take n ls) (add-one i) ∙ take-suc ls i d h)) (goes_on bytes (take i ls) (get_or ls i d) s t g e)
+
+-- the loop stops
+pub halts_at : (bytes : List ℕ) (ls : List Lexeme) (i : ℕ) (d : Lexeme) (s : Reader) (line : ℕ) → i < length ls → Goes (reads_of bytes (take i ls)) s →
+    taken s (sign_by (get_or ls i d).kind (bytes_of bytes (get_or ls i d))) (text_by (get_or ls i d).kind (bytes_of bytes (get_or ls i d))) ≡ None → line ≡ line_at bytes (get_or ls i d).start →
+    IsHalt bytes ls line × ((m : Module) → File no_module (reads_of bytes ls) m → ⊥)
+halts_at bytes ls i d s line h g e n = halts bytes ls (take i ls) (drop (suc i) ls) (get_or ls i d) s line (split_at ls i d h) g e n
+
+take_whole : (ls : List Lexeme) (i : ℕ) → length ls ≤ i → take i ls ≡ ls
+take_whole ls i h = sym (append-nil (take i ls)) ∙ ap (λ k. take i ls ++ k) (sym (drop_of_length-le ls h)) ∙ take-append-drop i ls
+
+goes_whole : (bytes : List ℕ) (ls : List Lexeme) (i : ℕ) (s : Reader) → length ls ≤ i → Goes (reads_of bytes (take i ls)) s → Goes (reads_of bytes ls) s
+goes_whole bytes ls i s h g = subst (λ k. Goes (reads_of bytes k) s) (take_whole ls i h) g
+
+-- the loop is over
+pub whole_at : (bytes : List ℕ) (ls : List Lexeme) (i : ℕ) (s : Reader) (m : Module) → length ls ≤ i → Goes (reads_of bytes (take i ls)) s → finish_at s.made s.place ≡ Some m → File no_module (reads_of bytes ls) m
+whole_at bytes ls i s m h g e = ends_whole bytes ls s m (goes_whole bytes ls i s h g) e
+
+pub early_at : (bytes : List ℕ) (ls : List Lexeme) (i : ℕ) (s : Reader) (line : ℕ) → length ls ≤ i → Goes (reads_of bytes (take i ls)) s → finish_at s.made s.place ≡ None → line ≡ line_at bytes (length bytes) →
+    IsHalt bytes ls line × ((m : Module) → File no_module (reads_of bytes ls) m → ⊥)
+early_at bytes ls i s line h g e n = ends_early bytes ls s line (goes_whole bytes ls i s h g) e n
+
+pub shallow_at : (bytes : List ℕ) (l : Lexeme) (s t : Reader) → IsShallow s.place → taken s (sign_by l.kind (bytes_of bytes l)) (text_by l.kind (bytes_of bytes l)) ≡ Some t → IsShallow t.place
+shallow_at bytes l s t h e = taken_shallow (sign_by l.kind (bytes_of bytes l)) (text_by l.kind (bytes_of bytes l)) s t h e
+
+-- where no file ends
+pub no_end : (p : Place) (m : Module) → (p ≡ places.Rules → ⊥) → ((d : Draft) → p ≡ places.Group d → ⊥) → ((r : Rule) → p ≡ places.GroupClosed r → ⊥) → (p ≡ places.RuleEnd → ⊥) → (p ≡ places.Ended → ⊥) → finish_at m p ≡ None
+unfolding finish_at
+no_end places.Rules m a b c d e = absurd (a refl)
+no_end (places.Group x) m a b c d e = absurd (b x refl)
+no_end (places.GroupClosed x) m a b c d e = absurd (c x refl)
+no_end places.RuleEnd m a b c d e = absurd (d refl)
+no_end places.Ended m a b c d e = absurd (e refl)
+no_end _ m a b c d e = refl
+
+pub lexical_along : LexedOnce → (bytes : List ℕ) (line other : ℕ) → other ≡ line → (ls : List Lexeme) × (place : ℕ) × Lexes bytes ls (Some place) × (line ≡ line_at bytes place) →
+    IsSyntaxLine bytes other × ((m : Module) → Spells bytes m → ⊥)
+lexical_along once bytes line other e h = subst (λ k. IsSyntaxLine bytes k × ((m : Module) → Spells bytes m → ⊥)) (sym e) (lexical_fault once bytes line h)
