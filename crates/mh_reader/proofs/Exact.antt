@@ -170,9 +170,10 @@ pub halts : (bytes : List ℕ) (ls before after : List Lexeme) (l : Lexeme) (s :
     taken s (sign_by l.kind (bytes_of bytes l)) (text_by l.kind (bytes_of bytes l)) ≡ None → line ≡ line_at bytes l.start →
     IsHalt bytes ls line × ((m : Module) → File no_module (reads_of bytes ls) m → ⊥)
 halts bytes ls before after l s line is h e n =
-    let never = refused_lexeme bytes before l s h e in
-    (unexpected before after l is (begins (reads_of bytes before) s h) never n,
-     λ m f. never (whole_begins bytes before after l m (subst (λ k. File no_module (reads_of bytes k) m) is f)))
+    let never = refused_lexeme bytes before l s h e in (
+      unexpected before after l is (begins (reads_of bytes before) s h) never n,
+      λ m f. never (whole_begins bytes before after l m (subst (λ k. File no_module (reads_of bytes k) m) is f)),
+    )
 
 ends_run : (bytes : List ℕ) (ls : List Lexeme) (s : Reader) → Goes (reads_of bytes ls) s → run start (reads_of bytes ls) ≡ finish_at s.made s.place
 ends_run bytes ls s h = ap (λ k. run start k) (sym (append-nil (reads_of bytes ls))) ∙ h []

@@ -131,7 +131,7 @@ Above m k (p ∷ ps) b e [] out = ⊥
 Above m k (p ∷ ps) b e (y ∷ xs) out =
     ((y.sign ≡ signs.Close) × (mid : List Read) × (c : Actual) × (f : ℕ) × Suffixed (applied p.head (p.args ++ b ∷ [])) (suc (max p.depth e)) xs mid c f × Above m k ps c f mid out)
     ⊎ ((y.sign ≡ signs.Comma) × (next : List Read) × (ks : List Actual) × (n : ℕ) × Args (p.args ++ b ∷ []) (max p.depth e) xs next ks n
-        × (mid : List Read) × (c : Actual) × (f : ℕ) × Suffixed (applied p.head ks) (suc n) next mid c f × Above m k ps c f mid out)
+    × (mid : List Read) × (c : Actual) × (f : ℕ) × Suffixed (applied p.head ks) (suc n) next mid c f × Above m k ps c f mid out)
 
 abbrev pub After : Module → Purpose → List Pending → Actual → ℕ → List Read → Module → Type 0
 After m k ps a d ls out = (mid : List Read) × (b : Actual) × (e : ℕ) × Suffixed a d ls mid b e × Above m k ps b e mid out
@@ -745,4 +745,4 @@ pub sound : (ls : List Read) (s : Reader) (out : Module) → IsShallow s.place �
 sound [] s out l e = finished s.place s.made out e
 sound (x ∷ xs) s out l e = back_at x xs out s.place s.made l
     (stepped (λ t. run t xs ≡ Some out) (λ t. Wants t xs out) (next_at s.made s.place x.sign x.text) (next_safe s.place s.made x.sign x.text l)
-        (λ t k h. sound xs t out k h) (reads (next_at s.made s.place x.sign x.text) xs out e))
+    (λ t k h. sound xs t out k h) (reads (next_at s.made s.place x.sign x.text) xs out e))

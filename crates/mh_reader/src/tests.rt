@@ -145,7 +145,11 @@ fn depths(rt: HostRuntime) -> Result<(), Fail> {
     ] {
         let bytes = deep_file(alloc, front, repeated, times, back)?;
         assert!(rt; bytes.len() < 10_000);
-        assert_eq!(rt; verdict(alloc, bytes.as_slice())?, expected, "{times} times {repeated:?}");
+        assert_eq!(rt;
+            verdict(alloc, bytes.as_slice())?,
+            expected,
+            "{times} times {repeated:?}"
+        );
     }
     Ok(())
 }
@@ -244,13 +248,15 @@ fn shown(alloc: Global, module: &Module) -> Result<Vec<u8>, AllocError> {
     Ok(text)
 }
 
-const FILE: &str = "%{ open M %}\n%token <int> INT \"1\\\"\" [@x], EOF\n%token C\n%start <t> s %start u, v\n\
+const FILE: &str =
+    "%{ open M %}\n%token <int> INT \"1\\\"\" [@x], EOF\n%token C\n%start <t> s %start u, v\n\
     %type <t> x(y) %left INT \"+\" %nonassoc %right C, D\n%on_error_reduce a, b(c, d?) %on_error_reduce e*\n\
     %attribute a [@b] %parameter <M : S>\n%%\n\
     %public s: | x = INT; y = e(INT, \"1\")? ; EOF {} | B | C %prec INT {} %prec \"+\" | D {} ;;\n\
     %inline %public %inline e(x, y): a(b(c)*) z=\"q\"+ { (* { *) }\n%inline u(): {}\n%% rest \"";
 
-const SHOWN: &str = "token INT=1\\\" EOF C\nstart s u v\nleft INT '+\nnonassoc\nright C D\non_error a b.c.option\non_error list.e\n\
+const SHOWN: &str =
+    "token INT=1\\\" EOF C\nstart s u v\nleft INT '+\nnonassoc\nright C D\non_error a b.c.option\non_error list.e\n\
     public s | INT option.e EOF | B %'+ | C %INT | D\npublic inline e,x,y | a.list nonempty_list.'q\ninline u |";
 
 #[test]
@@ -258,7 +264,9 @@ fn a_module(rt: HostRuntime) -> Result<(), Fail> {
     let alloc = rt.alloc();
     let bytes = FILE.as_bytes();
     assert!(rt; bytes.len() < 1000);
-    let module = read_module(alloc, bytes).ok().ok_or("the file spells a module")?;
+    let module = read_module(alloc, bytes)
+        .ok()
+        .ok_or("the file spells a module")?;
     let text = shown(alloc, &module)?;
     assert_eq!(rt; text.as_slice(), SHOWN.as_bytes());
     Ok(())

@@ -11,7 +11,7 @@ none = record { kind = Word; start = 0; end = 0 }
 pub returns-in-Err-Unexpected-clause-fault : goal.returns-in-Err-Unexpected-clause-fault
 returns-in-Err-Unexpected-clause-fault c =
     exact.halts_at c.args.bytes.now c.args.lexemes.now c.loop-lexeme.lexeme-index none c.loop-lexeme.reader c.first_line.result (omega arith) c.loop-lexeme.invariant.goes
-        (rw c.in-Err-Unexpected.field-0-is at c.in-Err-Unexpected.ensures) c.first_line.ensures
+    (rw c.in-Err-Unexpected.field-0-is at c.in-Err-Unexpected.ensures) c.first_line.ensures
 
 pub loop-lexeme-preserved : goal.loop-lexeme-preserved
 loop-lexeme-preserved c = record {
@@ -26,4 +26,4 @@ returns-in-Ok-ended-clause-spelled c =
 pub returns-in-Err-Unexpected-ended-clause-fault : goal.returns-in-Err-Unexpected-ended-clause-fault
 returns-in-Err-Unexpected-ended-clause-fault c =
     exact.early_at c.args.bytes.now c.args.lexemes.now c.loop-lexeme.lexeme-index c.loop-lexeme.reader c.last_line.result (omega arith) c.loop-lexeme.invariant.goes
-        (rw c.in-Err-Unexpected-ended.field-0-is at c.in-Err-Unexpected-ended.ensures) c.last_line.ensures
+    (rw c.in-Err-Unexpected-ended.field-0-is at c.in-Err-Unexpected-ended.ensures) c.last_line.ensures
