@@ -53,8 +53,8 @@ fn count_of_lines(bytes: &[u8]) -> u32
     count
 }
 
-/// The line of a place, from 1 on.
-fn line_of(bytes: &[u8], place: usize) -> u32
+/// The line of a place, from 1 on: one more than the line feeds before it.
+pub fn line_of(bytes: &[u8], place: usize) -> u32
     requires within { place ≤ length bytes.now }
     requires short { length bytes.now < 2 ^ 31 }
     ensures { result ≡ line_at bytes.now place }

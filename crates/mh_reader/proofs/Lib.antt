@@ -1,0 +1,4 @@
+pub mod Heads
+pub mod Again
+pub mod Sound
+pub mod Exact

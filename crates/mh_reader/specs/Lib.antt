@@ -1,0 +1,5 @@
+pub mod Signs
+pub mod Spelling
+pub mod Machine
+pub mod Limits
+pub mod Faults

@@ -1,4 +1,20 @@
 //! The module that a grammar file spells.
 #![tactic(auto)]
 
-pub mod modules;
+mod actuals;
+mod advance;
+mod declarations;
+mod laws;
+mod modules;
+mod places;
+mod reading;
+mod rules;
+mod signs;
+mod stack;
+
+pub use laws::spelled_once;
+pub use modules::{Actual, Alternative, LevelDecl, Module, Ref, Rule, TokenDecl};
+pub use reading::read_module;
+
+#[cfg(test)]
+mod tests;

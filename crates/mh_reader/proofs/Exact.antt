@@ -1,0 +1,260 @@
+-- Reading stops at the first lexeme that no file has there.
+use Rattle.std.proofs.Common.{◌≡◌, ℕ, suc, ◌<◌, ◌≤◌, ◌+◌, add-one, List, [], ◌∷◌, ◌++◌, length, take, drop, get_or, Option, Some, None, Bool, refl, sym, ap, subst, ◌∙◌, append_assoc, drop-cons, arith}
+use Rattle.std.proofs.Math.Seq.{take-suc, split_at}
+use Rattle.std.proofs.Math.ListN.{drop_of_length-le, take-append-drop}
+use Rattle.std.proofs.lemmas.List.{append-nil}
+use Rattle.mh_lex.specs.declared.kinds.Lexeme.{Lexeme}
+use Rattle.std.proofs.Common.{Result, Ok, Err, IfOk}
+use Rattle.mh_lex.specs.declared.kinds.SyntaxFault.{SyntaxFault}
+use Rattle.mh_lex.specs.declared.kinds.SyntaxFault.TheVariants.{Syntax, Memory}
+use Rattle.mh_lex.specs.Lexing.{Lexes, line_at}
+use Rattle.mh_lex.specs.Texts.{bytes_of}
+use Rattle.mh_reader.specs.declared.modules.Ref.{Ref}
+use Rattle.mh_reader.specs.declared.modules.Actual.{Actual}
+use Rattle.mh_reader.specs.declared.modules.Module.{Module}
+use Rattle.mh_reader.specs.declared.signs.Sign.{Sign}
+use Rattle.mh_reader.specs.declared.signs.Sign.TheVariants as signs
+use Rattle.mh_reader.specs.declared.modules.Rule.{Rule}
+use Rattle.mh_reader.specs.declared.places.Draft.{Draft}
+use Rattle.mh_reader.specs.declared.places.Pending.{Pending}
+use Rattle.mh_reader.specs.declared.places.Listing.{Listing}
+use Rattle.mh_reader.specs.declared.places.Listing.TheVariants as lists
+use Rattle.mh_reader.specs.declared.places.Purpose.{Purpose}
+use Rattle.mh_reader.specs.declared.places.Purpose.TheVariants as purposes
+use Rattle.mh_reader.specs.declared.places.Place.{Place}
+use Rattle.mh_reader.specs.declared.places.Place.TheVariants as places
+use Rattle.mh_reader.specs.declared.places.Reader.{Reader}
+use Rattle.mh_reader.specs.Signs.{Read, reads_of, read_of, kept, sign_by, text_by}
+use Rattle.mh_reader.specs.Spelling.{applied, no_module, File, Spells, Begins}
+use Rattle.mh_reader.specs.Limits.{IsShallow}
+use Rattle.mh_reader.specs.Faults.{IsHalt, IsSyntaxLine, Stops, Refuses}
+use Rattle.mh_reader.specs.Faults.IsHalt.{unexpected, unfinished}
+use Rattle.mh_reader.specs.Machine.{at, next_at, finish_at, run, go_on, start, taken}
+use Rattle.mh_reader.proofs.Again.{again-file}
+use Rattle.mh_reader.proofs.Sound.{sound, Safe, next_safe}
+
+abbrev lexeme : Sign → Read
+lexeme g = record { sign = g; text = [] }
+
+-- there is a way to an end
+abbrev pub Live : Reader → Type 0
+Live s = (ys : List Read) × (out : Module) × (run s ys ≡ Some out)
+
+live_after : (ps : List Pending) (m : Module) (k : Purpose) (a : Actual) (d : ℕ) → Live (at m (places.After k ps a d))
+unfolding next_at finish_at
+live_after [] m (purposes.Producer t) a d = (lexeme signs.Action ∷ [], _, refl)
+live_after [] m (purposes.Listed b ks) a d = (lexeme signs.Percents ∷ [], _, refl)
+live_after (p ∷ ps) m k a d = let t = live_after ps m k (applied p.head (p.args ++ a ∷ [])) _ in (lexeme signs.Close ∷ t.0, t.1, t.2)
+
+live_head : (ps : List Pending) (m : Module) (k : Purpose) (r : Ref) → Live (at m (places.Head k ps r))
+unfolding next_at finish_at
+live_head [] m (purposes.Producer t) r = (lexeme signs.Action ∷ [], _, refl)
+live_head [] m (purposes.Listed b ks) r = (lexeme signs.Percents ∷ [], _, refl)
+live_head (p ∷ ps) m k r = let t = live_after ps m k (applied p.head (p.args ++ applied r [] ∷ [])) _ in (lexeme signs.Close ∷ t.0, t.1, t.2)
+
+live_comma : (l : Listing) (m : Module) → Live (at m (places.Comma l))
+unfolding next_at finish_at
+live_comma lists.Tokens m = (record { sign = signs.Word; text = 65 ∷ [] } ∷ lexeme signs.Percents ∷ [], _, refl)
+live_comma lists.Starts m = (lexeme signs.Word ∷ lexeme signs.Percents ∷ [], _, refl)
+live_comma (lists.Levels g ks) m = (lexeme signs.Word ∷ lexeme signs.Percents ∷ [], _, refl)
+live_comma (lists.Actuals b ks) m = (lexeme signs.Word ∷ lexeme signs.Percents ∷ [], _, refl)
+
+live_at : (p : Place) (m : Module) → Live (at m p)
+unfolding next_at finish_at
+live_at places.Declarations m = (lexeme signs.Percents ∷ [], _, refl)
+live_at (places.Opening l) m = (lexeme signs.Percents ∷ [], _, refl)
+live_at places.TypeOf m = (lexeme signs.TypeText ∷ lexeme signs.Percents ∷ [], _, refl)
+live_at (places.Items l) m = (lexeme signs.Percents ∷ [], _, refl)
+live_at (places.Comma l) m = live_comma l m
+live_at (places.TokenNamed name) m = (lexeme signs.Percents ∷ [], _, refl)
+live_at places.ParameterType m = (lexeme signs.TypeText ∷ lexeme signs.Percents ∷ [], _, refl)
+live_at places.Rules m = ([], _, refl)
+live_at (places.Modified p i) m = (lexeme signs.Word ∷ lexeme signs.Colon ∷ lexeme signs.Action ∷ [], _, refl)
+live_at (places.RuleNamed r) m = (lexeme signs.Colon ∷ lexeme signs.Action ∷ [], _, refl)
+live_at (places.FormalsOpen r) m = (lexeme signs.Close ∷ lexeme signs.Colon ∷ lexeme signs.Action ∷ [], _, refl)
+live_at (places.FormalRead r) m = (lexeme signs.Close ∷ lexeme signs.Colon ∷ lexeme signs.Action ∷ [], _, refl)
+live_at (places.FormalComma r) m = (lexeme signs.Word ∷ lexeme signs.Close ∷ lexeme signs.Colon ∷ lexeme signs.Action ∷ [], _, refl)
+live_at (places.FormalsClosed r) m = (lexeme signs.Colon ∷ lexeme signs.Action ∷ [], _, refl)
+live_at (places.Begin r) m = (lexeme signs.Action ∷ [], _, refl)
+live_at (places.Production d) m = (lexeme signs.Action ∷ [], _, refl)
+live_at (places.Spaced d) m = (lexeme signs.Action ∷ [], _, refl)
+live_at (places.Named d name) m = (lexeme signs.Action ∷ [], _, refl)
+live_at (places.Argument k ps) m = let t = live_head ps m k _ in (lexeme signs.Word ∷ t.0, t.1, t.2)
+live_at (places.Head k ps r) m = live_head ps m k r
+live_at (places.After k ps a d) m = live_after ps m k a d
+live_at (places.Prec d) m = (lexeme signs.Word ∷ lexeme signs.Action ∷ [], _, refl)
+live_at (places.Closed d) m = (lexeme signs.Action ∷ [], _, refl)
+live_at (places.Group d) m = ([], _, refl)
+live_at (places.GroupPrec d) m = (lexeme signs.Word ∷ [], _, refl)
+live_at (places.GroupClosed r) m = ([], _, refl)
+live_at places.RuleEnd m = ([], _, refl)
+live_at places.Ended m = ([], _, refl)
+
+live : (s : Reader) → Live s
+live s = live_at s.place s.made
+
+-- the reader reads exactly what is spelled
+pub exact_read : (ls : List Read) (m : Module) → run start ls ≡ Some m → File no_module ls m
+exact_read ls m e = sound ls start m tt e
+
+pub exact_spelled : (ls : List Read) (m : Module) → File no_module ls m → run start ls ≡ Some m
+exact_spelled ls m h = again-file h
+
+pub file_once : (ls : List Read) (one two : Module) → File no_module ls one → File no_module ls two → one ≡ two
+file_once ls one two h k = let e = exact_spelled ls one h in let f = exact_spelled ls two k in cc
+
+-- what was read before, whatever follows
+abbrev pub Goes : List Read → Reader → Type 0
+Goes before s = (ys : List Read) → run start (before ++ ys) ≡ run s ys
+
+begins : (before : List Read) (s : Reader) → Goes before s → Begins before
+begins before s h = let l = live s in (l.0, l.1, exact_read (before ++ l.0) l.1 (h l.0 ∙ l.2))
+
+blocked : (s : Reader) (x : Read) (ys : List Read) → next_at s.made s.place x.sign x.text ≡ None → run s (x ∷ ys) ≡ None
+blocked s x ys e = ap (λ o. go_on o (λ u. run u ys)) e
+
+not_both : (o : Option Module) (m : Module) → o ≡ Some m → o ≡ None → ⊥
+not_both o m e f = cc
+
+refused : (before : List Read) (s : Reader) (x : Read) → Goes before s → next_at s.made s.place x.sign x.text ≡ None → Begins (before ++ x ∷ []) → ⊥
+refused before s x h e (ys, m, f) =
+    let spelled = subst (λ k. run start k ≡ Some m) (append_assoc before (x ∷ []) ys) (exact_spelled ((before ++ x ∷ []) ++ ys) m f) in
+    not_both (run start (before ++ x ∷ ys)) m spelled (h (x ∷ ys) ∙ blocked s x ys e)
+
+-- LEXEMES
+
+pub reads_of-append : (bytes : List ℕ) (ls ks : List Lexeme) → reads_of bytes (ls ++ ks) ≡ reads_of bytes ls ++ reads_of bytes ks
+reads_of-append bytes [] ks = refl
+reads_of-append bytes (l ∷ ls) ks = ap (λ r. read_of bytes l ++ r) (reads_of-append bytes ls ks) ∙ sym (append_assoc (read_of bytes l) (reads_of bytes ls) (reads_of bytes ks))
+
+taken_run : (o : Option Sign) (text : List ℕ) (s t : Reader) (ys : List Read) → taken s o text ≡ Some t → run s (kept o text ++ ys) ≡ run t ys
+taken_run None text s t ys e = let same : s ≡ t = cc in ap (λ u. run u ys) same
+taken_run (Some g) text s t ys e = ap (λ k. go_on k (λ u. run u ys)) e
+
+safe_some : (o : Option Reader) (t : Reader) → o ≡ Some t → Safe o → IsShallow t.place
+safe_some o t e h = subst Safe e h
+
+pub taken_shallow : (o : Option Sign) (text : List ℕ) (s t : Reader) → IsShallow s.place → taken s o text ≡ Some t → IsShallow t.place
+taken_shallow None text s t h e = let same : s ≡ t = cc in subst (λ u. IsShallow u.place) same h
+taken_shallow (Some g) text s t h e = safe_some (next_at s.made s.place g text) t e (next_safe s.place s.made g text h)
+
+-- one lexeme more
+pub goes_on : (bytes : List ℕ) (before : List Lexeme) (l : Lexeme) (s t : Reader) → Goes (reads_of bytes before) s →
+    taken s (sign_by l.kind (bytes_of bytes l)) (text_by l.kind (bytes_of bytes l)) ≡ Some t → Goes (reads_of bytes (before ++ l ∷ [])) t
+goes_on bytes before l s t h e ys =
+    let last : reads_of bytes (l ∷ []) ≡ read_of bytes l = append-nil (read_of bytes l) in
+    ap (λ k. run start (k ++ ys)) (reads_of-append bytes before (l ∷ []) ∙ ap (λ k. reads_of bytes before ++ k) last)
+    ∙ ap (λ k. run start k) (append_assoc (reads_of bytes before) (read_of bytes l) ys)
+    ∙ h (read_of bytes l ++ ys)
+    ∙ taken_run (sign_by l.kind (bytes_of bytes l)) (text_by l.kind (bytes_of bytes l)) s t ys e
+
+refused_sign : (bytes : List ℕ) (before : List Read) (s : Reader) (o : Option Sign) (text : List ℕ) → Goes before s → taken s o text ≡ None → Begins (before ++ kept o text) → ⊥
+refused_sign bytes before s None text h e b = cc
+refused_sign bytes before s (Some g) text h e b = refused before s (record { sign = g; text = text }) h e b
+
+refused_lexeme : (bytes : List ℕ) (before : List Lexeme) (l : Lexeme) (s : Reader) → Goes (reads_of bytes before) s →
+    taken s (sign_by l.kind (bytes_of bytes l)) (text_by l.kind (bytes_of bytes l)) ≡ None → Begins (reads_of bytes (before ++ l ∷ [])) → ⊥
+refused_lexeme bytes before l s h e b =
+    let last : reads_of bytes (l ∷ []) ≡ read_of bytes l = append-nil (read_of bytes l) in
+    let same = reads_of-append bytes before (l ∷ []) ∙ ap (λ k. reads_of bytes before ++ k) last in
+    refused_sign bytes (reads_of bytes before) s (sign_by l.kind (bytes_of bytes l)) (text_by l.kind (bytes_of bytes l)) h e (subst Begins same b)
+
+-- lexemes whose first ones begin no file spell no module
+whole_begins : (bytes : List ℕ) (before after : List Lexeme) (l : Lexeme) (m : Module) → File no_module (reads_of bytes (before ++ l ∷ after)) m → Begins (reads_of bytes (before ++ l ∷ []))
+whole_begins bytes before after l m f =
+    let split = ap (λ k. reads_of bytes k) (sym (append_assoc before (l ∷ []) after)) ∙ reads_of-append bytes (before ++ l ∷ []) after in
+    (reads_of bytes after, m, subst (λ k. File no_module k m) split f)
+
+-- where it stops
+pub halts : (bytes : List ℕ) (ls before after : List Lexeme) (l : Lexeme) (s : Reader) (line : ℕ) → ls ≡ before ++ l ∷ after → Goes (reads_of bytes before) s →
+    taken s (sign_by l.kind (bytes_of bytes l)) (text_by l.kind (bytes_of bytes l)) ≡ None → line ≡ line_at bytes l.start →
+    IsHalt bytes ls line × ((m : Module) → File no_module (reads_of bytes ls) m → ⊥)
+halts bytes ls before after l s line is h e n =
+    let never = refused_lexeme bytes before l s h e in (
+      unexpected before after l is (begins (reads_of bytes before) s h) never n,
+      λ m f. never (whole_begins bytes before after l m (subst (λ k. File no_module (reads_of bytes k) m) is f)),
+    )
+
+ends_run : (bytes : List ℕ) (ls : List Lexeme) (s : Reader) → Goes (reads_of bytes ls) s → run start (reads_of bytes ls) ≡ finish_at s.made s.place
+ends_run bytes ls s h = ap (λ k. run start k) (sym (append-nil (reads_of bytes ls))) ∙ h []
+
+pub ends_whole : (bytes : List ℕ) (ls : List Lexeme) (s : Reader) (m : Module) → Goes (reads_of bytes ls) s → finish_at s.made s.place ≡ Some m → File no_module (reads_of bytes ls) m
+ends_whole bytes ls s m h e = exact_read (reads_of bytes ls) m (ends_run bytes ls s h ∙ e)
+
+pub ends_early : (bytes : List ℕ) (ls : List Lexeme) (s : Reader) (line : ℕ) → Goes (reads_of bytes ls) s → finish_at s.made s.place ≡ None → line ≡ line_at bytes (length bytes) →
+    IsHalt bytes ls line × ((m : Module) → File no_module (reads_of bytes ls) m → ⊥)
+ends_early bytes ls s line h e n =
+    let never : (m : Module) → File no_module (reads_of bytes ls) m → ⊥ = λ m f. not_both (run start (reads_of bytes ls)) m (exact_spelled (reads_of bytes ls) m f) (ends_run bytes ls s h ∙ e) in
+    (unfinished (begins (reads_of bytes ls) s h) never n, never)
+
+-- BYTES
+
+-- bytes have one list of lexemes and at most one first fault
+abbrev pub LexedOnce : Type 0
+LexedOnce = (bytes : List ℕ) (one two : List Lexeme) (f g : Option ℕ) → Lexes bytes one f → Lexes bytes two g → (two ≡ one) × (g ≡ f)
+
+-- bytes spell at most one module
+pub spelled_once : LexedOnce → (bytes : List ℕ) (one two : Module) → Spells bytes one → Spells bytes two → one ≡ two
+spelled_once once bytes one two (ls, lx, f) (ks, ly, g) =
+    file_once (reads_of bytes ls) one two f (subst (λ k. File no_module (reads_of bytes k) two) (once bytes ls ks None None lx ly).0 g)
+
+pub whole_module : (bytes : List ℕ) (ls : List Lexeme) (r : Result Module SyntaxFault) → Lexes bytes ls None → IfOk r (λ m. File no_module (reads_of bytes ls) m) → IfOk r (λ m. Spells bytes m)
+whole_module bytes ls (Ok m) lx f = (ls, lx, f)
+whole_module bytes ls (Err e) lx f = f
+
+pub no_whole_module : LexedOnce → (bytes : List ℕ) (ls : List Lexeme) (r : Result Module SyntaxFault) → Lexes bytes ls None → Stops bytes ls r → Refuses bytes r
+no_whole_module once bytes ls (Ok m) lx h = tt
+no_whole_module once bytes ls (Err Memory) lx h = tt
+no_whole_module once bytes ls (Err (Syntax line)) lx (halt, never) =
+    (IsSyntaxLine.syntactic lx halt, λ m (ks, ly, f). never m (subst (λ k. File no_module (reads_of bytes k) m) (once bytes ls ks None None lx ly).0 f))
+
+none_some : (place : ℕ) → None ≡ Some place → ⊥
+none_some place e = cc
+
+lexical_fault : LexedOnce → (bytes : List ℕ) (line : ℕ) → (ls : List Lexeme) × (place : ℕ) × Lexes bytes ls (Some place) × (line ≡ line_at bytes place) →
+    IsSyntaxLine bytes line × ((m : Module) → Spells bytes m → ⊥)
+lexical_fault once bytes line (ls, place, lx, e) = (IsSyntaxLine.lexical lx e, λ m (ks, ly, f). none_some place (once bytes ls ks (Some place) None lx ly).1)
+
+-- LOOPS
+
+-- the loop goes on
+pub goes_at : (bytes : List ℕ) (ls : List Lexeme) (i : ℕ) (d : Lexeme) (s t : Reader) → i < length ls → Goes (reads_of bytes (take i ls)) s →
+    taken s (sign_by (get_or ls i d).kind (bytes_of bytes (get_or ls i d))) (text_by (get_or ls i d).kind (bytes_of bytes (get_or ls i d))) ≡ Some t → Goes (reads_of bytes (take (i + 1) ls)) t
+goes_at bytes ls i d s t h g e = subst (λ k. Goes (reads_of bytes k) t) (sym (ap (λ n. take n ls) (add-one i) ∙ take-suc ls i d h)) (goes_on bytes (take i ls) (get_or ls i d) s t g e)
+
+-- the loop stops
+pub halts_at : (bytes : List ℕ) (ls : List Lexeme) (i : ℕ) (d : Lexeme) (s : Reader) (line : ℕ) → i < length ls → Goes (reads_of bytes (take i ls)) s →
+    taken s (sign_by (get_or ls i d).kind (bytes_of bytes (get_or ls i d))) (text_by (get_or ls i d).kind (bytes_of bytes (get_or ls i d))) ≡ None → line ≡ line_at bytes (get_or ls i d).start →
+    IsHalt bytes ls line × ((m : Module) → File no_module (reads_of bytes ls) m → ⊥)
+halts_at bytes ls i d s line h g e n = halts bytes ls (take i ls) (drop (suc i) ls) (get_or ls i d) s line (split_at ls i d h) g e n
+
+take_whole : (ls : List Lexeme) (i : ℕ) → length ls ≤ i → take i ls ≡ ls
+take_whole ls i h = sym (append-nil (take i ls)) ∙ ap (λ k. take i ls ++ k) (sym (drop_of_length-le ls h)) ∙ take-append-drop i ls
+
+goes_whole : (bytes : List ℕ) (ls : List Lexeme) (i : ℕ) (s : Reader) → length ls ≤ i → Goes (reads_of bytes (take i ls)) s → Goes (reads_of bytes ls) s
+goes_whole bytes ls i s h g = subst (λ k. Goes (reads_of bytes k) s) (take_whole ls i h) g
+
+-- the loop is over
+pub whole_at : (bytes : List ℕ) (ls : List Lexeme) (i : ℕ) (s : Reader) (m : Module) → length ls ≤ i → Goes (reads_of bytes (take i ls)) s → finish_at s.made s.place ≡ Some m → File no_module (reads_of bytes ls) m
+whole_at bytes ls i s m h g e = ends_whole bytes ls s m (goes_whole bytes ls i s h g) e
+
+pub early_at : (bytes : List ℕ) (ls : List Lexeme) (i : ℕ) (s : Reader) (line : ℕ) → length ls ≤ i → Goes (reads_of bytes (take i ls)) s → finish_at s.made s.place ≡ None → line ≡ line_at bytes (length bytes) →
+    IsHalt bytes ls line × ((m : Module) → File no_module (reads_of bytes ls) m → ⊥)
+early_at bytes ls i s line h g e n = ends_early bytes ls s line (goes_whole bytes ls i s h g) e n
+
+pub shallow_at : (bytes : List ℕ) (l : Lexeme) (s t : Reader) → IsShallow s.place → taken s (sign_by l.kind (bytes_of bytes l)) (text_by l.kind (bytes_of bytes l)) ≡ Some t → IsShallow t.place
+shallow_at bytes l s t h e = taken_shallow (sign_by l.kind (bytes_of bytes l)) (text_by l.kind (bytes_of bytes l)) s t h e
+
+-- where no file ends
+pub no_end : (p : Place) (m : Module) → (p ≡ places.Rules → ⊥) → ((d : Draft) → p ≡ places.Group d → ⊥) → ((r : Rule) → p ≡ places.GroupClosed r → ⊥) → (p ≡ places.RuleEnd → ⊥) → (p ≡ places.Ended → ⊥) → finish_at m p ≡ None
+unfolding finish_at
+no_end places.Rules m a b c d e = absurd (a refl)
+no_end (places.Group x) m a b c d e = absurd (b x refl)
+no_end (places.GroupClosed x) m a b c d e = absurd (c x refl)
+no_end places.RuleEnd m a b c d e = absurd (d refl)
+no_end places.Ended m a b c d e = absurd (e refl)
+no_end _ m a b c d e = refl
+
+pub lexical_along : LexedOnce → (bytes : List ℕ) (line other : ℕ) → other ≡ line → (ls : List Lexeme) × (place : ℕ) × Lexes bytes ls (Some place) × (line ≡ line_at bytes place) →
+    IsSyntaxLine bytes other × ((m : Module) → Spells bytes m → ⊥)
+lexical_along once bytes line other e h = subst (λ k. IsSyntaxLine bytes k × ((m : Module) → Spells bytes m → ⊥)) (sym e) (lexical_fault once bytes line h)

@@ -1,0 +1,80 @@
+-- What the lexemes of a file are to its grammar. Source: this project's profile of the Menhir manual's syntax of grammars.
+use Rattle.std.specs.Prelude.{ℕ, ◌-◌, ◌==◌, ◌&&◌, Bool, false, cond, List, [], ◌∷◌, ◌++◌, length, Option, Some, None, drop, take, nat_eq, nat_le, codes}
+use Rattle.std.specs.Cmp.Lexicographic.{pointwise}
+use Rattle.mh_grammar.specs.declared.types.Assoc.TheVariants.{Left, Right, Nonassoc}
+use Rattle.mh_lex.specs.declared.kinds.Kind.{Kind}
+use Rattle.mh_lex.specs.declared.kinds.Kind.TheVariants as kinds
+use Rattle.mh_lex.specs.declared.kinds.Lexeme.{Lexeme}
+use Rattle.mh_lex.specs.Bytes.{byte_at}
+use Rattle.mh_lex.specs.Texts.{bytes_of}
+use Rattle.mh_reader.specs.declared.signs.Sign.{Sign}
+use Rattle.mh_reader.specs.declared.signs.Sign.TheVariants as signs
+
+-- a lexeme as the grammar sees it
+pub record Read : Type 0 where
+  pub sign : Sign
+  pub text : List ℕ
+
+-- : | = , ; ( ) ? * +
+abbrev pub mark_sign : ℕ → Sign
+mark_sign b =
+    cond (b == 58) signs.Colon
+    (cond (b == 124) signs.Bar
+    (cond (b == 61) signs.Equals
+    (cond (b == 44) signs.Comma
+    (cond (b == 59) signs.Semicolon
+    (cond (b == 40) signs.Open
+    (cond (b == 41) signs.Close
+    (cond (b == 63) signs.Question
+    (cond (b == 42) signs.Star
+    (cond (b == 43) signs.Plus signs.Unknown)))))))))
+
+-- the word behind a percent sign
+unfoldable pub keyword_sign : List ℕ → Sign
+keyword_sign w =
+    cond (pointwise nat_eq w (codes "token")) signs.Token
+    (cond (pointwise nat_eq w (codes "start")) signs.Start
+    (cond (pointwise nat_eq w (codes "type")) signs.Type
+    (cond (pointwise nat_eq w (codes "left")) (signs.Level Left)
+    (cond (pointwise nat_eq w (codes "right")) (signs.Level Right)
+    (cond (pointwise nat_eq w (codes "nonassoc")) (signs.Level Nonassoc)
+    (cond (pointwise nat_eq w (codes "on_error_reduce")) signs.OnErrorReduce
+    (cond (pointwise nat_eq w (codes "parameter")) signs.Parameter
+    (cond (pointwise nat_eq w (codes "attribute")) signs.Attribute
+    (cond (pointwise nat_eq w (codes "public")) signs.Public
+    (cond (pointwise nat_eq w (codes "inline")) signs.Inline
+    (cond (pointwise nat_eq w (codes "prec")) signs.Prec signs.Unknown)))))))))))
+
+-- what a lexeme with these bytes is; an attribute is nothing
+abbrev pub sign_by : Kind → List ℕ → Option Sign
+sign_by kinds.Word t = Some signs.Word
+sign_by kinds.Mark t = Some (mark_sign (byte_at t 0))
+sign_by kinds.Percents t = Some signs.Percents
+sign_by kinds.Keyword t = Some (keyword_sign (drop 1 t))
+sign_by kinds.Quoted t = Some signs.Quoted
+sign_by kinds.Header t = Some signs.Header
+sign_by kinds.Action t = Some signs.Action
+sign_by kinds.TypeText t = Some signs.TypeText
+sign_by kinds.Attribute t = None
+
+-- the content of a string is the bytes between its quotes
+abbrev pub text_by : Kind → List ℕ → List ℕ
+text_by kinds.Quoted t = take (length t - 2) (drop 1 t)
+text_by _ t = t
+
+abbrev pub kept : Option Sign → List ℕ → List Read
+kept None t = []
+kept (Some g) t = record { sign = g; text = t } ∷ []
+
+abbrev pub read_of : List ℕ → Lexeme → List Read
+read_of bytes l = kept (sign_by l.kind (bytes_of bytes l)) (text_by l.kind (bytes_of bytes l))
+
+-- the lexemes of a file without its attributes
+abbrev pub reads_of : List ℕ → List Lexeme → List Read
+reads_of bytes [] = []
+reads_of bytes (l ∷ ls) = read_of bytes l ++ reads_of bytes ls
+
+-- A to Z
+abbrev pub is_capital : List ℕ → Bool
+is_capital [] = false
+is_capital (b ∷ bs) = nat_le 65 b && nat_le b 90

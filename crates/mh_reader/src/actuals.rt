@@ -1,0 +1,308 @@
+//! Actuals: names with arguments and suffixes.
+ghost use Rattle.std.specs.Prelude.{◌≡◌, ◌+◌, ◌≤◌, ◌∷◌, ◌++◌, [], suc, IfOk, length, nat_le, max};
+ghost use Rattle.mh_reader.specs.declared.modules.Ref.TheVariants.{Plain};
+ghost use Rattle.mh_reader.specs.Spelling.{applied, ref_by};
+ghost use Rattle.mh_reader.specs.Machine as machine;
+ghost use Rattle.mh_reader.specs.Machine.{Refers, with_argument, with_producer};
+ghost use Rattle.mh_reader.specs.Limits.{Deep};
+
+use crate::declarations::at_items;
+use crate::modules::{Actual, Module, Ref};
+use crate::places::{Draft, Listing, Pending, Place, Purpose, Reader, Refusal};
+use crate::rules::{at_spaced, reference};
+use crate::signs::Sign;
+use crate::stack::Stack;
+use mh_grammar::{Memory, Name, Sequence, from_bytes};
+use std::alloc::Global;
+
+/// The greatest depth of an actual.
+const DEPTH: usize = 1000;
+
+/// Whether one more than a depth within so many brackets is not too deep.
+fn has_room(depth: usize, brackets: usize) -> bool
+    ensures { result ≡ nat_le (suc depth + brackets) 1000 }
+{
+    brackets < DEPTH && depth < DEPTH - brackets
+}
+
+fn deeper_of(one: usize, two: usize) -> usize
+    ensures { result ≡ max one two }
+{
+    if one < two { two } else { one }
+}
+
+/// Adds an actual behind others.
+fn add_actual(actuals: Sequence<Actual>, actual: Actual) -> Result<Sequence<Actual>, Memory>
+    ensures { IfOk result (λ all. all ≡ actuals ++ actual ∷ []) }
+{
+    let mut actuals = actuals;
+    let Ok(()) = actuals.push(actual) else {
+        return Err(Memory);
+    };
+    Ok(actuals)
+}
+
+/// An actual with one argument.
+fn wrapped(alloc: Global, name: &[u8], inner: Actual) -> Result<Actual, Memory>
+    ensures { IfOk result (λ a. a ≡ applied (Plain name.now) (inner ∷ [])) }
+{
+    let head = Ref::Plain(from_bytes(alloc, name)?);
+    let Ok(args) = add_actual(Sequence::new(alloc), inner) else {
+        return Err(Memory);
+    };
+    Ok(Actual { head, args })
+}
+
+/// Behind a whole producer or item of a list.
+fn whole(
+    alloc: Global,
+    made: Module,
+    purpose: Purpose,
+    actual: Actual,
+    sign: Sign,
+    text: &[u8],
+) -> Result<Reader, Refusal>
+    ensures { Refers (machine.whole made purpose actual sign text.now) result }
+{
+    match purpose {
+        Purpose::Producer(draft) => {
+            let Ok(producers) = add_actual(draft.producers, actual) else {
+                return Err(Refusal::Memory);
+            };
+            let draft = Draft {
+                rule: draft.rule,
+                productions: draft.productions,
+                producers,
+            };
+            at_spaced(alloc, made, draft, sign, text)
+        }
+        Purpose::Listed(kept, actuals) => {
+            let Ok(actuals) = add_actual(actuals, actual) else {
+                return Err(Refusal::Memory);
+            };
+            at_items(alloc, made, Listing::Actuals(kept, actuals), sign, text)
+        }
+    }
+}
+
+/// Within a bracket, behind a whole argument.
+fn behind_argument(
+    made: Module,
+    purpose: Purpose,
+    rest: Stack<Pending>,
+    inner: Pending,
+    actual: Actual,
+    depth: usize,
+    sign: Sign,
+) -> Result<Reader, Refusal>
+    requires inner { inner.depth ≤ 1000 }
+    requires outer { depth ≤ 1000 }
+    ensures { Refers (machine.within made purpose inner rest actual depth sign) result }
+{
+    let mut pending = rest;
+    let deepest = deeper_of(inner.depth, depth);
+    let Ok(args) = add_actual(inner.args, actual) else {
+        return Err(Refusal::Memory);
+    };
+    match sign {
+        Sign::Comma => {
+            let Ok(()) = pending.push(Pending {
+                head: inner.head,
+                args,
+                depth: deepest,
+            }) else {
+                return Err(Refusal::Memory);
+            };
+            Ok(Reader {
+                made,
+                place: Place::Argument(purpose, pending),
+            })
+        }
+        Sign::Close => Ok(Reader {
+            made,
+            place: Place::After(
+                purpose,
+                pending,
+                Actual {
+                    head: inner.head,
+                    args,
+                },
+                deepest + 1,
+            ),
+        }),
+        _ => Err(Refusal::Unexpected),
+    }
+}
+
+/// Behind an actual with all its suffixes.
+fn above(
+    alloc: Global,
+    made: Module,
+    purpose: Purpose,
+    pending: Stack<Pending>,
+    actual: Actual,
+    depth: usize,
+    sign: Sign,
+    text: &[u8],
+) -> Result<Reader, Refusal>
+    requires within { depth + length pending ≤ 1000 }
+    requires deep { Deep pending }
+    ensures { Refers (machine.above made purpose pending actual depth sign text.now) result }
+{
+    let mut rest = pending;
+    match rest.pop() {
+        None => whole(alloc, made, purpose, actual, sign, text),
+        Some(inner) => behind_argument(made, purpose, rest, inner, actual, depth, sign),
+    }
+}
+
+/// A suffix behind an actual.
+fn suffix(
+    alloc: Global,
+    made: Module,
+    purpose: Purpose,
+    pending: Stack<Pending>,
+    actual: Actual,
+    depth: usize,
+    name: &[u8],
+) -> Result<Reader, Refusal>
+    ensures { Refers (machine.deeper made purpose pending actual depth (machine.fits (suc depth) pending) name.now) result }
+{
+    if !has_room(depth, pending.len()) {
+        return Err(Refusal::Unexpected);
+    }
+    let Ok(actual) = wrapped(alloc, name, actual) else {
+        return Err(Refusal::Memory);
+    };
+    Ok(Reader {
+        made,
+        place: Place::After(purpose, pending, actual, depth + 1),
+    })
+}
+
+/// Behind an actual, where a suffix may stand.
+pub fn after(
+    alloc: Global,
+    made: Module,
+    purpose: Purpose,
+    pending: Stack<Pending>,
+    actual: Actual,
+    depth: usize,
+    sign: Sign,
+    text: &[u8],
+) -> Result<Reader, Refusal>
+    requires within { depth + length pending ≤ 1000 }
+    requires deep { Deep pending }
+    ensures { Refers (machine.after made purpose pending actual depth sign text.now) result }
+{
+    match sign {
+        Sign::Question => suffix(alloc, made, purpose, pending, actual, depth, b"option"),
+        Sign::Star => suffix(alloc, made, purpose, pending, actual, depth, b"list"),
+        Sign::Plus => suffix(
+            alloc,
+            made,
+            purpose,
+            pending,
+            actual,
+            depth,
+            b"nonempty_list",
+        ),
+        _ => above(alloc, made, purpose, pending, actual, depth, sign, text),
+    }
+}
+
+/// A bracket of arguments opens.
+fn open(
+    alloc: Global,
+    made: Module,
+    purpose: Purpose,
+    pending: Stack<Pending>,
+    head: Ref,
+) -> Result<Reader, Refusal>
+    ensures { Refers (machine.opened made purpose pending head (machine.fits 2 pending)) result }
+{
+    if !has_room(1, pending.len()) {
+        return Err(Refusal::Unexpected);
+    }
+    let mut pending = pending;
+    let Ok(()) = pending.push(Pending {
+        head,
+        args: Sequence::new(alloc),
+        depth: 0,
+    }) else {
+        return Err(Refusal::Memory);
+    };
+    Ok(Reader {
+        made,
+        place: Place::Argument(purpose, pending),
+    })
+}
+
+/// Behind the name of an actual.
+pub fn at_head(
+    alloc: Global,
+    made: Module,
+    purpose: Purpose,
+    pending: Stack<Pending>,
+    head: Ref,
+    sign: Sign,
+    text: &[u8],
+) -> Result<Reader, Refusal>
+    requires within { 1 + length pending ≤ 1000 }
+    requires deep { Deep pending }
+    ensures { Refers (machine.at_head made purpose pending head sign text.now) result }
+{
+    match sign {
+        Sign::Open => open(alloc, made, purpose, pending, head),
+        _ => {
+            let actual = Actual {
+                head,
+                args: Sequence::new(alloc),
+            };
+            after(alloc, made, purpose, pending, actual, 1, sign, text)
+        }
+    }
+}
+
+/// Behind a word that may name a producer.
+pub fn at_named(
+    alloc: Global,
+    made: Module,
+    draft: Draft,
+    name: Name,
+    sign: Sign,
+    text: &[u8],
+) -> Result<Reader, Refusal>
+    ensures { Refers (machine.at_named made draft name sign text.now) result }
+{
+    let purpose = Purpose::Producer(draft);
+    let pending = Stack::new(alloc);
+    match sign {
+        Sign::Equals => Ok(Reader {
+            made,
+            place: Place::Argument(purpose, pending),
+        }),
+        _ => at_head(alloc, made, purpose, pending, Ref::Plain(name), sign, text),
+    }
+}
+
+/// Where an actual has to begin.
+pub fn at_argument(
+    alloc: Global,
+    made: Module,
+    purpose: Purpose,
+    pending: Stack<Pending>,
+    sign: Sign,
+    text: &[u8],
+) -> Result<Reader, Refusal>
+    ensures { Refers (machine.at_argument made purpose pending (ref_by sign text.now)) result }
+{
+    match reference(alloc, sign, text) {
+        Ok(head) => Ok(Reader {
+            made,
+            place: Place::Head(purpose, pending, head),
+        }),
+        Err(Refusal::Unexpected) => Err(Refusal::Unexpected),
+        Err(Refusal::Memory) => Err(Refusal::Memory),
+    }
+}

@@ -1,0 +1,287 @@
+//! Declarations and their lists.
+ghost use Rattle.std.specs.Prelude.{◌≡◌, ◌∷◌, ◌++◌, [], IfOk};
+ghost use Rattle.mh_reader.specs.Signs.{is_capital};
+ghost use Rattle.mh_reader.specs.Machine as machine;
+ghost use Rattle.mh_reader.specs.Machine.{Refers};
+
+use crate::modules::{LevelDecl, Module, Ref, TokenDecl};
+use crate::places::{Listing, Place, Purpose, Reader, Refusal};
+use crate::signs::{Sign, is_capital_word};
+use crate::stack::Stack;
+use mh_grammar::{Memory, Name, Sequence, from_bytes};
+use std::alloc::Global;
+
+/// The module behind a list.
+fn close(made: Module, listing: Listing) -> Result<Module, Memory>
+    ensures { IfOk result (λ m. m ≡ machine.close made listing) }
+{
+    let mut made = made;
+    match listing {
+        Listing::Tokens | Listing::Starts | Listing::Actuals(false, _) => Ok(made),
+        Listing::Levels(assoc, names) => {
+            let Ok(()) = made.levels.push(LevelDecl { assoc, names }) else {
+                return Err(Memory);
+            };
+            Ok(made)
+        }
+        Listing::Actuals(true, actuals) => {
+            let Ok(()) = made.on_error.push(actuals) else {
+                return Err(Memory);
+            };
+            Ok(made)
+        }
+    }
+}
+
+/// A declaration or the rules begin.
+pub fn declare(alloc: Global, made: Module, sign: Sign) -> Result<Reader, Refusal>
+    ensures { Refers (machine.declare made sign) result }
+{
+    let place = match sign {
+        Sign::Header | Sign::Semicolon => Place::Declarations,
+        Sign::Token => Place::Opening(Listing::Tokens),
+        Sign::Start => Place::Opening(Listing::Starts),
+        Sign::Type => Place::TypeOf,
+        Sign::Level(assoc) => Place::Items(Listing::Levels(assoc, Sequence::new(alloc))),
+        Sign::OnErrorReduce => Place::Items(Listing::Actuals(true, Sequence::new(alloc))),
+        Sign::Parameter => Place::ParameterType,
+        Sign::Attribute => Place::Items(Listing::Actuals(false, Sequence::new(alloc))),
+        Sign::Percents => Place::Rules,
+        _ => return Err(Refusal::Unexpected),
+    };
+    Ok(Reader { made, place })
+}
+
+/// A start of a list.
+fn add_start(made: Module, name: Name) -> Result<Module, Memory>
+    ensures { IfOk result (λ m. m ≡ record made { starts = made.starts ++ name ∷ [] }) }
+{
+    let mut made = made;
+    let Ok(()) = made.starts.push(name) else {
+        return Err(Memory);
+    };
+    Ok(made)
+}
+
+/// A name of a level.
+fn add_name(names: Sequence<Ref>, name: Ref) -> Result<Sequence<Ref>, Memory>
+    ensures { IfOk result (λ all. all ≡ names ++ name ∷ []) }
+{
+    let mut names = names;
+    let Ok(()) = names.push(name) else {
+        return Err(Memory);
+    };
+    Ok(names)
+}
+
+/// A token, which may have an alias.
+fn add_token(made: Module, name: Name, alias: Option<Name>) -> Result<Module, Memory>
+    ensures { IfOk result (λ m. m ≡ machine.with_token made name alias) }
+{
+    let mut made = made;
+    let Ok(()) = made.tokens.push(TokenDecl { name, alias }) else {
+        return Err(Memory);
+    };
+    Ok(made)
+}
+
+/// A word in a list.
+fn list_word(alloc: Global, made: Module, listing: Listing, text: &[u8]) -> Result<Reader, Refusal>
+    ensures { Refers (machine.list_word made listing text.now) result }
+{
+    let Ok(name) = from_bytes(alloc, text) else {
+        return Err(Refusal::Memory);
+    };
+    match listing {
+        Listing::Tokens => {
+            if is_capital_word(text) {
+                Ok(Reader {
+                    made,
+                    place: Place::TokenNamed(name),
+                })
+            } else {
+                Err(Refusal::Unexpected)
+            }
+        }
+        Listing::Starts => {
+            let Ok(made) = add_start(made, name) else {
+                return Err(Refusal::Memory);
+            };
+            Ok(Reader {
+                made,
+                place: Place::Items(Listing::Starts),
+            })
+        }
+        Listing::Levels(assoc, names) => {
+            let Ok(names) = add_name(names, Ref::Plain(name)) else {
+                return Err(Refusal::Memory);
+            };
+            Ok(Reader {
+                made,
+                place: Place::Items(Listing::Levels(assoc, names)),
+            })
+        }
+        Listing::Actuals(kept, actuals) => Ok(Reader {
+            made,
+            place: Place::Head(
+                Purpose::Listed(kept, actuals),
+                Stack::new(alloc),
+                Ref::Plain(name),
+            ),
+        }),
+    }
+}
+
+/// A string in a list.
+fn list_quoted(
+    alloc: Global,
+    made: Module,
+    listing: Listing,
+    text: &[u8],
+) -> Result<Reader, Refusal>
+    ensures { Refers (machine.list_quoted made listing text.now) result }
+{
+    let Ok(name) = from_bytes(alloc, text) else {
+        return Err(Refusal::Memory);
+    };
+    match listing {
+        Listing::Tokens | Listing::Starts => Err(Refusal::Unexpected),
+        Listing::Levels(assoc, names) => {
+            let Ok(names) = add_name(names, Ref::Alias(name)) else {
+                return Err(Refusal::Memory);
+            };
+            Ok(Reader {
+                made,
+                place: Place::Items(Listing::Levels(assoc, names)),
+            })
+        }
+        Listing::Actuals(kept, actuals) => Ok(Reader {
+            made,
+            place: Place::Head(
+                Purpose::Listed(kept, actuals),
+                Stack::new(alloc),
+                Ref::Alias(name),
+            ),
+        }),
+    }
+}
+
+/// In a list.
+pub fn at_items(
+    alloc: Global,
+    made: Module,
+    listing: Listing,
+    sign: Sign,
+    text: &[u8],
+) -> Result<Reader, Refusal>
+    ensures { Refers (machine.at_items made listing sign text.now) result }
+{
+    match sign {
+        Sign::Word => list_word(alloc, made, listing, text),
+        Sign::Quoted => list_quoted(alloc, made, listing, text),
+        Sign::Comma => Ok(Reader {
+            made,
+            place: Place::Comma(listing),
+        }),
+        _ => {
+            let Ok(made) = close(made, listing) else {
+                return Err(Refusal::Memory);
+            };
+            declare(alloc, made, sign)
+        }
+    }
+}
+
+/// Behind a comma of a list.
+pub fn at_comma(
+    alloc: Global,
+    made: Module,
+    listing: Listing,
+    sign: Sign,
+    text: &[u8],
+) -> Result<Reader, Refusal>
+    ensures { Refers (machine.at_comma made listing sign text.now) result }
+{
+    match sign {
+        Sign::Word => list_word(alloc, made, listing, text),
+        Sign::Quoted => list_quoted(alloc, made, listing, text),
+        _ => Err(Refusal::Unexpected),
+    }
+}
+
+/// Where a type may stand before a list.
+pub fn at_opening(
+    alloc: Global,
+    made: Module,
+    listing: Listing,
+    sign: Sign,
+    text: &[u8],
+) -> Result<Reader, Refusal>
+    ensures { Refers (machine.at_opening made listing sign text.now) result }
+{
+    match sign {
+        Sign::TypeText => Ok(Reader {
+            made,
+            place: Place::Items(listing),
+        }),
+        _ => at_items(alloc, made, listing, sign, text),
+    }
+}
+
+/// Where a type has to stand before a list of actuals.
+pub fn at_type(alloc: Global, made: Module, sign: Sign) -> Result<Reader, Refusal>
+    ensures { Refers (machine.at_type made sign) result }
+{
+    match sign {
+        Sign::TypeText => Ok(Reader {
+            made,
+            place: Place::Items(Listing::Actuals(false, Sequence::new(alloc))),
+        }),
+        _ => Err(Refusal::Unexpected),
+    }
+}
+
+/// Where a parameter's type has to stand.
+pub fn at_parameter(made: Module, sign: Sign) -> Result<Reader, Refusal>
+    ensures { Refers (machine.at_parameter made sign) result }
+{
+    match sign {
+        Sign::TypeText => Ok(Reader {
+            made,
+            place: Place::Declarations,
+        }),
+        _ => Err(Refusal::Unexpected),
+    }
+}
+
+/// Behind a token's name, where its alias may stand.
+pub fn at_token(
+    alloc: Global,
+    made: Module,
+    name: Name,
+    sign: Sign,
+    text: &[u8],
+) -> Result<Reader, Refusal>
+    ensures { Refers (machine.at_token made name sign text.now) result }
+{
+    match sign {
+        Sign::Quoted => {
+            let Ok(alias) = from_bytes(alloc, text) else {
+                return Err(Refusal::Memory);
+            };
+            let Ok(made) = add_token(made, name, Some(alias)) else {
+                return Err(Refusal::Memory);
+            };
+            Ok(Reader {
+                made,
+                place: Place::Items(Listing::Tokens),
+            })
+        }
+        _ => {
+            let Ok(made) = add_token(made, name, None) else {
+                return Err(Refusal::Memory);
+            };
+            at_items(alloc, made, Listing::Tokens, sign, text)
+        }
+    }
+}

@@ -1,0 +1,13 @@
+//! What holds of bytes and the module that they spell.
+ghost use Rattle.std.specs.Prelude.{◌≡◌, ℕ, List};
+ghost use Rattle.mh_reader.specs.declared.modules.Module.{Module};
+ghost use Rattle.mh_reader.specs.Spelling.{Spells};
+
+use mh_lex::lexed_once;
+
+/// Bytes spell at most one module.
+pub fn spelled_once()
+    ensures { (bytes : List ℕ) (one two : Module) → Spells bytes one → Spells bytes two → one ≡ two }
+{
+    lexed_once();
+}

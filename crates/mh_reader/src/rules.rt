@@ -1,0 +1,598 @@
+//! Rules but for their actuals.
+ghost use Rattle.std.specs.Prelude.{◌≡◌, ◌∷◌, ◌++◌, [], IfOk, Some, map};
+ghost use Rattle.mh_reader.specs.Spelling as spelling;
+ghost use Rattle.mh_reader.specs.Spelling.{ref_by, with_prec};
+ghost use Rattle.mh_reader.specs.Machine as machine;
+ghost use Rattle.mh_reader.specs.Machine.{Refers, ruled, grouped, grouped_with, produced, drafted, named, with_formal};
+
+use crate::modules::{Alternative, Module, Ref, Rule};
+use crate::places::{Draft, Place, Purpose, Reader, Refusal};
+use crate::signs::Sign;
+use crate::stack::Stack;
+use mh_grammar::{Memory, Name, Sequence, from_bytes};
+use std::alloc::Global;
+
+/// What a word or a string refers to.
+pub fn reference(alloc: Global, sign: Sign, text: &[u8]) -> Result<Ref, Refusal>
+    ensures { Refers (ref_by sign text.now) result }
+{
+    let Ok(name) = from_bytes(alloc, text) else {
+        return Err(Refusal::Memory);
+    };
+    match sign {
+        Sign::Word => Ok(Ref::Plain(name)),
+        Sign::Quoted => Ok(Ref::Alias(name)),
+        _ => Err(Refusal::Unexpected),
+    }
+}
+
+/// A rule of this name begins.
+fn name_rule(
+    alloc: Global,
+    made: Module,
+    public: bool,
+    inlined: bool,
+    text: &[u8],
+) -> Result<Reader, Refusal>
+    ensures { Refers (machine.goes made (machine.name_place public inlined text.now)) result }
+{
+    let Ok(name) = from_bytes(alloc, text) else {
+        return Err(Refusal::Memory);
+    };
+    Ok(Reader {
+        made,
+        place: Place::RuleNamed(Rule {
+            public,
+            inlined,
+            name,
+            formals: Sequence::new(alloc),
+            alternatives: Sequence::new(alloc),
+        }),
+    })
+}
+
+/// Where a rule may begin.
+pub fn in_rules(alloc: Global, made: Module, sign: Sign, text: &[u8]) -> Result<Reader, Refusal>
+    ensures { Refers (machine.in_rules made sign text.now) result }
+{
+    match sign {
+        Sign::Word => name_rule(alloc, made, false, false, text),
+        Sign::Public => Ok(Reader {
+            made,
+            place: Place::Modified(true, false),
+        }),
+        Sign::Inline => Ok(Reader {
+            made,
+            place: Place::Modified(false, true),
+        }),
+        Sign::Percents => Ok(Reader {
+            made,
+            place: Place::Ended,
+        }),
+        _ => Err(Refusal::Unexpected),
+    }
+}
+
+/// Behind modifiers.
+pub fn at_modified(
+    alloc: Global,
+    made: Module,
+    public: bool,
+    inlined: bool,
+    sign: Sign,
+    text: &[u8],
+) -> Result<Reader, Refusal>
+    ensures { Refers (machine.at_modified made public inlined sign text.now) result }
+{
+    match sign {
+        Sign::Word => name_rule(alloc, made, public, inlined, text),
+        Sign::Public => Ok(Reader {
+            made,
+            place: Place::Modified(true, inlined),
+        }),
+        Sign::Inline => Ok(Reader {
+            made,
+            place: Place::Modified(public, true),
+        }),
+        _ => Err(Refusal::Unexpected),
+    }
+}
+
+/// Behind a rule's name.
+pub fn at_rule_named(made: Module, rule: Rule, sign: Sign) -> Result<Reader, Refusal>
+    ensures { Refers (machine.at_rule_named made rule sign) result }
+{
+    match sign {
+        Sign::Open => Ok(Reader {
+            made,
+            place: Place::FormalsOpen(rule),
+        }),
+        Sign::Colon => Ok(Reader {
+            made,
+            place: Place::Begin(rule),
+        }),
+        _ => Err(Refusal::Unexpected),
+    }
+}
+
+/// A formal.
+fn add_formal(alloc: Global, made: Module, rule: Rule, text: &[u8]) -> Result<Reader, Refusal>
+    ensures { Refers (machine.goes made (machine.formal_place rule text.now)) result }
+{
+    let Ok(name) = from_bytes(alloc, text) else {
+        return Err(Refusal::Memory);
+    };
+    let mut rule = rule;
+    let Ok(()) = rule.formals.push(name) else {
+        return Err(Refusal::Memory);
+    };
+    Ok(Reader {
+        made,
+        place: Place::FormalRead(rule),
+    })
+}
+
+/// Behind the bracket of formals.
+pub fn at_formals_open(
+    alloc: Global,
+    made: Module,
+    rule: Rule,
+    sign: Sign,
+    text: &[u8],
+) -> Result<Reader, Refusal>
+    ensures { Refers (machine.at_formals_open made rule sign text.now) result }
+{
+    match sign {
+        Sign::Word => add_formal(alloc, made, rule, text),
+        Sign::Close => Ok(Reader {
+            made,
+            place: Place::FormalsClosed(rule),
+        }),
+        _ => Err(Refusal::Unexpected),
+    }
+}
+
+/// Behind a formal.
+pub fn at_formal_read(made: Module, rule: Rule, sign: Sign) -> Result<Reader, Refusal>
+    ensures { Refers (machine.at_formal_read made rule sign) result }
+{
+    match sign {
+        Sign::Comma => Ok(Reader {
+            made,
+            place: Place::FormalComma(rule),
+        }),
+        Sign::Close => Ok(Reader {
+            made,
+            place: Place::FormalsClosed(rule),
+        }),
+        _ => Err(Refusal::Unexpected),
+    }
+}
+
+/// Behind a comma of formals.
+pub fn at_formal_comma(
+    alloc: Global,
+    made: Module,
+    rule: Rule,
+    sign: Sign,
+    text: &[u8],
+) -> Result<Reader, Refusal>
+    ensures { Refers (machine.at_formal_comma made rule sign text.now) result }
+{
+    match sign {
+        Sign::Word => add_formal(alloc, made, rule, text),
+        _ => Err(Refusal::Unexpected),
+    }
+}
+
+/// Behind formals.
+pub fn at_formals_closed(made: Module, rule: Rule, sign: Sign) -> Result<Reader, Refusal>
+    ensures { Refers (machine.at_formals_closed made rule sign) result }
+{
+    match sign {
+        Sign::Colon => Ok(Reader {
+            made,
+            place: Place::Begin(rule),
+        }),
+        _ => Err(Refusal::Unexpected),
+    }
+}
+
+/// A group begins.
+fn draft_of(alloc: Global, rule: Rule) -> Draft
+    ensures { result ≡ drafted rule }
+{
+    Draft {
+        rule,
+        productions: Sequence::new(alloc),
+        producers: Sequence::new(alloc),
+    }
+}
+
+/// A production ends.
+fn end_production(alloc: Global, draft: Draft, prec: Option<Ref>) -> Result<Draft, Memory>
+    ensures { IfOk result (λ d. d ≡ produced draft prec) }
+{
+    let mut productions = draft.productions;
+    let Ok(()) = productions.push(Alternative {
+        producers: draft.producers,
+        prec,
+    }) else {
+        return Err(Memory);
+    };
+    Ok(Draft {
+        rule: draft.rule,
+        productions,
+        producers: Sequence::new(alloc),
+    })
+}
+
+/// A production ends at a bar.
+fn end_at_bar(alloc: Global, made: Module, draft: Draft) -> Result<Reader, Refusal>
+    ensures { Refers (machine.goes made (machine.bar_place draft)) result }
+{
+    let Ok(draft) = end_production(alloc, draft, None) else {
+        return Err(Refusal::Memory);
+    };
+    Ok(Reader {
+        made,
+        place: Place::Production(draft),
+    })
+}
+
+/// A production ends at the action of its group.
+fn end_at_action(alloc: Global, made: Module, draft: Draft) -> Result<Reader, Refusal>
+    ensures { Refers (machine.goes made (machine.action_place draft)) result }
+{
+    let Ok(draft) = end_production(alloc, draft, None) else {
+        return Err(Refusal::Memory);
+    };
+    Ok(Reader {
+        made,
+        place: Place::Group(draft),
+    })
+}
+
+/// In a production.
+pub fn in_production(
+    alloc: Global,
+    made: Module,
+    draft: Draft,
+    sign: Sign,
+    text: &[u8],
+) -> Result<Reader, Refusal>
+    ensures { Refers (machine.in_production made draft sign text.now) result }
+{
+    match sign {
+        Sign::Word => {
+            let Ok(name) = from_bytes(alloc, text) else {
+                return Err(Refusal::Memory);
+            };
+            Ok(Reader {
+                made,
+                place: Place::Named(draft, name),
+            })
+        }
+        Sign::Quoted => {
+            let Ok(name) = from_bytes(alloc, text) else {
+                return Err(Refusal::Memory);
+            };
+            Ok(Reader {
+                made,
+                place: Place::Head(
+                    Purpose::Producer(draft),
+                    Stack::new(alloc),
+                    Ref::Alias(name),
+                ),
+            })
+        }
+        Sign::Prec => Ok(Reader {
+            made,
+            place: Place::Prec(draft),
+        }),
+        Sign::Bar => end_at_bar(alloc, made, draft),
+        Sign::Action => end_at_action(alloc, made, draft),
+        _ => Err(Refusal::Unexpected),
+    }
+}
+
+/// Behind a rule's colon.
+pub fn at_begin(
+    alloc: Global,
+    made: Module,
+    rule: Rule,
+    sign: Sign,
+    text: &[u8],
+) -> Result<Reader, Refusal>
+    ensures { Refers (machine.at_begin made rule sign text.now) result }
+{
+    let begun = draft_of(alloc, rule);
+    match sign {
+        Sign::Bar => Ok(Reader {
+            made,
+            place: Place::Production(begun),
+        }),
+        _ => in_production(alloc, made, begun, sign, text),
+    }
+}
+
+/// Behind a producer.
+pub fn at_spaced(
+    alloc: Global,
+    made: Module,
+    draft: Draft,
+    sign: Sign,
+    text: &[u8],
+) -> Result<Reader, Refusal>
+    ensures { Refers (machine.at_spaced made draft sign text.now) result }
+{
+    match sign {
+        Sign::Semicolon => Ok(Reader {
+            made,
+            place: Place::Spaced(draft),
+        }),
+        _ => in_production(alloc, made, draft, sign, text),
+    }
+}
+
+/// Behind a production's `%prec`.
+pub fn at_prec(
+    alloc: Global,
+    made: Module,
+    draft: Draft,
+    sign: Sign,
+    text: &[u8],
+) -> Result<Reader, Refusal>
+    ensures { Refers (machine.at_prec made draft (ref_by sign text.now)) result }
+{
+    match reference(alloc, sign, text) {
+        Ok(prec) => {
+            let Ok(draft) = end_production(alloc, draft, Some(prec)) else {
+                return Err(Refusal::Memory);
+            };
+            Ok(Reader {
+                made,
+                place: Place::Closed(draft),
+            })
+        }
+        Err(Refusal::Unexpected) => Err(Refusal::Unexpected),
+        Err(Refusal::Memory) => Err(Refusal::Memory),
+    }
+}
+
+/// Behind a production that has a `%prec`.
+pub fn at_closed(alloc: Global, made: Module, draft: Draft, sign: Sign) -> Result<Reader, Refusal>
+    ensures { Refers (machine.at_closed made draft sign) result }
+{
+    match sign {
+        Sign::Bar => Ok(Reader {
+            made,
+            place: Place::Production(Draft {
+                producers: Sequence::new(alloc),
+                ..draft
+            }),
+        }),
+        Sign::Action => Ok(Reader {
+            made,
+            place: Place::Group(draft),
+        }),
+        _ => Err(Refusal::Unexpected),
+    }
+}
+
+/// Adds alternatives behind others.
+fn joined(
+    all: Sequence<Alternative>,
+    more: Sequence<Alternative>,
+) -> Result<Sequence<Alternative>, Memory>
+    ensures { IfOk result (λ s. s ≡ all ++ more) }
+{
+    let mut items = all.into_vec();
+    let mut last = more.into_vec();
+    let Ok(()) = items.append(&mut last) else {
+        return Err(Memory);
+    };
+    Ok(Sequence::from_vec(items))
+}
+
+/// The rule with a group of these productions.
+fn with_group(rule: Rule, productions: Sequence<Alternative>) -> Result<Rule, Memory>
+    ensures { IfOk result (λ r. r ≡ record rule { alternatives = rule.alternatives ++ productions }) }
+{
+    let Ok(alternatives) = joined(rule.alternatives, productions) else {
+        return Err(Memory);
+    };
+    Ok(Rule {
+        public: rule.public,
+        inlined: rule.inlined,
+        name: rule.name,
+        formals: rule.formals,
+        alternatives,
+    })
+}
+
+/// The rule with the group that ends here.
+pub fn group_of(draft: Draft) -> Result<Rule, Memory>
+    ensures { IfOk result (λ r. r ≡ grouped draft) }
+{
+    with_group(draft.rule, draft.productions)
+}
+
+/// The module with the rule that ends here.
+pub fn add_rule(made: Module, rule: Rule) -> Result<Module, Memory>
+    ensures { IfOk result (λ m. m ≡ ruled made rule) }
+{
+    let mut made = made;
+    let Ok(()) = made.rules.push(rule) else {
+        return Err(Memory);
+    };
+    Ok(made)
+}
+
+/// Behind a group.
+pub fn behind_group(
+    alloc: Global,
+    made: Module,
+    rule: Rule,
+    sign: Sign,
+    text: &[u8],
+) -> Result<Reader, Refusal>
+    ensures { Refers (machine.behind_group made rule sign text.now) result }
+{
+    match sign {
+        Sign::Bar => Ok(Reader {
+            made,
+            place: Place::Production(draft_of(alloc, rule)),
+        }),
+        Sign::Semicolon => {
+            let Ok(made) = add_rule(made, rule) else {
+                return Err(Refusal::Memory);
+            };
+            Ok(Reader {
+                made,
+                place: Place::RuleEnd,
+            })
+        }
+        _ => {
+            let Ok(made) = add_rule(made, rule) else {
+                return Err(Refusal::Memory);
+            };
+            in_rules(alloc, made, sign, text)
+        }
+    }
+}
+
+/// Behind a group's action, where its `%prec` may stand.
+pub fn at_group(
+    alloc: Global,
+    made: Module,
+    draft: Draft,
+    sign: Sign,
+    text: &[u8],
+) -> Result<Reader, Refusal>
+    ensures { Refers (machine.at_group made draft sign text.now) result }
+{
+    match sign {
+        Sign::Prec => Ok(Reader {
+            made,
+            place: Place::GroupPrec(draft),
+        }),
+        _ => {
+            let Ok(rule) = group_of(draft) else {
+                return Err(Refusal::Memory);
+            };
+            behind_group(alloc, made, rule, sign, text)
+        }
+    }
+}
+
+fn copied(alloc: Global, name: &Name) -> Result<Name, Memory>
+    ensures { IfOk result (λ copy. copy ≡ name.now) }
+{
+    from_bytes(alloc, name.as_slice())
+}
+
+fn copied_ref(alloc: Global, found: &Ref) -> Result<Ref, Memory>
+    ensures { IfOk result (λ copy. copy ≡ found.now) }
+{
+    match found {
+        Ref::Plain(name) => {
+            let Ok(copy) = copied(alloc, name) else {
+                return Err(Memory);
+            };
+            Ok(Ref::Plain(copy))
+        }
+        Ref::Alias(name) => {
+            let Ok(copy) = copied(alloc, name) else {
+                return Err(Memory);
+            };
+            Ok(Ref::Alias(copy))
+        }
+    }
+}
+
+/// A production's own level, else its group's.
+fn own_or(alloc: Global, group: &Ref, prec: Option<Ref>) -> Result<Option<Ref>, Memory>
+    ensures { IfOk result (λ own. own ≡ spelling.own_or (Some group.now) prec) }
+{
+    match prec {
+        Some(own) => Ok(Some(own)),
+        None => {
+            let Ok(copy) = copied_ref(alloc, group) else {
+                return Err(Memory);
+            };
+            Ok(Some(copy))
+        }
+    }
+}
+
+/// The group's level goes to each production without its own.
+fn levelled(
+    alloc: Global,
+    productions: Sequence<Alternative>,
+    group: &Ref,
+) -> Result<Sequence<Alternative>, Memory>
+    ensures { IfOk result (λ all. all ≡ map (with_prec (Some group.now)) productions) }
+{
+    let mut all = Sequence::new(alloc);
+    for production in productions.into_vec() {
+        let Ok(prec) = own_or(alloc, group, production.prec) else {
+            return Err(Memory);
+        };
+        let Ok(()) = all.push(Alternative {
+            producers: production.producers,
+            prec,
+        }) else {
+            return Err(Memory);
+        };
+    }
+    Ok(all)
+}
+
+/// The rule with a group of this level.
+fn levelled_group(alloc: Global, draft: Draft, group: &Ref) -> Result<Rule, Memory>
+    ensures { IfOk result (λ r. r ≡ grouped_with draft group.now) }
+{
+    let Ok(productions) = levelled(alloc, draft.productions, group) else {
+        return Err(Memory);
+    };
+    with_group(draft.rule, productions)
+}
+
+/// Behind a group's `%prec`.
+pub fn at_group_prec(
+    alloc: Global,
+    made: Module,
+    draft: Draft,
+    sign: Sign,
+    text: &[u8],
+) -> Result<Reader, Refusal>
+    ensures { Refers (machine.at_group_prec made draft (ref_by sign text.now)) result }
+{
+    match reference(alloc, sign, text) {
+        Ok(prec) => {
+            let Ok(rule) = levelled_group(alloc, draft, &prec) else {
+                return Err(Refusal::Memory);
+            };
+            Ok(Reader {
+                made,
+                place: Place::GroupClosed(rule),
+            })
+        }
+        Err(Refusal::Unexpected) => Err(Refusal::Unexpected),
+        Err(Refusal::Memory) => Err(Refusal::Memory),
+    }
+}
+
+/// Behind a rule that a semicolon ended.
+pub fn at_rule_end(alloc: Global, made: Module, sign: Sign, text: &[u8]) -> Result<Reader, Refusal>
+    ensures { Refers (machine.at_rule_end made sign text.now) result }
+{
+    match sign {
+        Sign::Semicolon => Ok(Reader {
+            made,
+            place: Place::RuleEnd,
+        }),
+        _ => in_rules(alloc, made, sign, text),
+    }
+}
