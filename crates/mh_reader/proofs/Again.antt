@@ -26,7 +26,7 @@ use Rattle.mh_reader.specs.Spelling as spelling
 use Rattle.mh_reader.specs.Spelling.{applied, ref_by, ref_of, suffix_of, alternative, with_prec, own_or, starts_with_bar, is_bar, Suffixed, Base, Args, IsActual, Limited, ListOf, IsAlias, IsToken, IsWord, IsRef, MayType, Declaration, Semicolons, IsProducer, Producers, IsPrec, Productions, Groups, Modifiers, Formals, MayFormals, MayBar, IsRule, Rules, File}
 use Rattle.mh_reader.specs.Machine as machine
 use Rattle.mh_reader.specs.Machine.{at, next_at, finish_at, run, go_on, fits, close, with_token, named, drafted, produced, with_producer, with_argument, grouped, grouped_with, ruled}
-use Rattle.mh_reader.proofs.Heads.{IsHead, Head-along, Head-here, is_quiet, is_calm, is_firm, is_end, is_unquoted, is_untyped, is_unlevelled, is_begin, end_calm, end_unquoted, end_untyped, firm_calm, ref_firm, ref_untyped, Suffixed-quiet, Limited-calm, Actual-firm, Producers-firm, Semicolons-calm, Semicolons-unlevelled, Prec-firm, List-head, Rules-begin, File-end}
+use Rattle.mh_reader.proofs.Heads.{IsHead, Head-along, Head-here, is_quiet, is_calm, is_firm, is_end, is_unquoted, is_untyped, is_unlevelled, is_begin, end_calm, end_unquoted, end_untyped, ref_untyped, Suffixed-quiet, Limited-calm, Producers-firm, Semicolons-calm, Semicolons-unlevelled, Prec-firm, List-head, Rules-begin, File-end}
 
 -- a step
 pub step : (m : Module) (p : Place) (x : Read) (xs : List Read) (t : Reader) → next_at m p x.sign x.text ≡ Some t → run (at m p) (x ∷ xs) ≡ run t xs

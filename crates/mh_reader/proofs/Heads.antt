@@ -1,13 +1,12 @@
 -- What may stand behind what.
-use Rattle.std.proofs.Common.{◌≡◌, ℕ, List, [], ◌∷◌, Option, Some, None, Bool, true, false, refl}
+use Rattle.std.proofs.Common.{◌≡◌, ℕ, List, [], ◌∷◌, Option, Some, Bool, true, false, refl}
 use Rattle.mh_reader.specs.declared.modules.Ref.{Ref}
 use Rattle.mh_reader.specs.declared.modules.Actual.{Actual}
 use Rattle.mh_reader.specs.declared.modules.Rule.{Rule}
-use Rattle.mh_reader.specs.declared.modules.TokenDecl.{TokenDecl}
 use Rattle.mh_reader.specs.declared.modules.Module.{Module}
 use Rattle.mh_reader.specs.declared.signs.Sign.{Sign}
 use Rattle.mh_reader.specs.declared.signs.Sign.TheVariants as signs
-use Rattle.mh_reader.specs.Signs.{Read, is_capital}
+use Rattle.mh_reader.specs.Signs.{Read}
 use Rattle.mh_reader.specs.Spelling as spelling
 use Rattle.mh_reader.specs.Spelling.{ref_by, ref_of, suffix_of, Suffixed, Base, Args, IsActual, Limited, ListOf, IsAlias, IsToken, IsWord, IsRef, MayType, Declaration, Semicolons, IsProducer, Producers, IsPrec, Productions, Groups, Modifiers, Formals, MayFormals, MayBar, IsRule, Rules, File}
 

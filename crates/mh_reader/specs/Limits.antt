@@ -1,5 +1,5 @@
 -- No actual that is being read is too deep.
-use Rattle.std.specs.Prelude.{◌≤◌, ◌+◌, ℕ, List, [], ◌∷◌, length}
+use Rattle.std.specs.Prelude.{◌≤◌, ◌+◌, List, [], ◌∷◌, length}
 use Rattle.mh_reader.specs.declared.places.Pending.{Pending}
 use Rattle.mh_reader.specs.declared.places.Place.{Place}
 use Rattle.mh_reader.specs.declared.places.Place.TheVariants as places

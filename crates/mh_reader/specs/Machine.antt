@@ -1,5 +1,5 @@
 -- Reading one lexeme at a time.
-use Rattle.std.specs.Prelude.{◌≡◌, ◌+◌, ℕ, suc, max, nat_le, cond, List, [], ◌∷◌, ◌++◌, length, map, Option, Some, None, Bool, true, false, Result, Ok, Err}
+use Rattle.std.specs.Prelude.{◌≡◌, ◌+◌, ℕ, suc, max, nat_le, List, [], ◌∷◌, ◌++◌, length, map, Option, Some, None, Bool, true, false, Result, Ok, Err}
 use Rattle.mh_reader.specs.declared.modules.Ref.{Ref}
 use Rattle.mh_reader.specs.declared.modules.Ref.TheVariants.{Plain, Alias}
 use Rattle.mh_reader.specs.declared.modules.Actual.{Actual}

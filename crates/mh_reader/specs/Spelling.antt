@@ -11,7 +11,6 @@ use Rattle.mh_reader.specs.declared.modules.Actual.{Actual, roll-Actual}
 use Rattle.mh_reader.specs.declared.modules.Alternative.{Alternative}
 use Rattle.mh_reader.specs.declared.modules.Rule.{Rule}
 use Rattle.mh_reader.specs.declared.modules.TokenDecl.{TokenDecl}
-use Rattle.mh_reader.specs.declared.modules.LevelDecl.{LevelDecl}
 use Rattle.mh_reader.specs.declared.modules.Module.{Module}
 use Rattle.mh_reader.specs.declared.signs.Sign.{Sign}
 use Rattle.mh_reader.specs.declared.signs.Sign.TheVariants as signs
