@@ -1,0 +1,12 @@
+//! That the work which the words ask for is one: an empty call that tells it to contracts.
+ghost use Rattle.std.specs.Prelude.{◌≡◌, List, Some};
+ghost use Rattle.mh_outside.specs.Shelf.{Files};
+ghost use Rattle.mh_top.specs.Text.{Text};
+ghost use Rattle.mh_top.specs.Work.{Work, IsWork, Outcome, Gives};
+
+/// Over given files the words ask for one work, and a work has one outcome on a given input.
+pub fn work_is_one()
+    ensures work { (words : List Text) (files : Files) (v w : Work) → IsWork words files v → IsWork words files w → v ≡ w }
+    ensures outcome { (w : Work) (input : Text) (o p : Outcome) → Gives w (Some input) o → Gives w (Some input) p → o ≡ p }
+{
+}
