@@ -14,7 +14,7 @@ mod stop;
 mod tabled;
 mod top;
 
-pub use laws::work_is_one;
+pub use laws::{grammar_is_one, work_is_one};
 pub use plain::{PlainFault, PlainFile, PlainRule, grammar_of, read_grammar, read_plain};
 pub use stop::Cause;
 pub use top::menhir;
