@@ -17,3 +17,7 @@ pub mod PlainTables
 pub mod PlainRules
 pub mod PlainNumbers
 pub mod PlainMeaning
+pub mod Ranging
+pub mod Exactly
+pub mod OneGrammar
+pub mod OneOutcome

@@ -17,3 +17,4 @@ pub mod PlainText
 pub mod PlainReader
 pub mod PlainGrammars
 pub mod Places
+pub mod Exact

@@ -5,6 +5,7 @@
 mod each;
 mod grammar;
 mod interpret;
+mod laws;
 mod load;
 mod order;
 mod plain;
@@ -13,6 +14,7 @@ mod stop;
 mod tabled;
 mod top;
 
+pub use laws::{grammar_is_one, work_is_one};
 pub use plain::{PlainFault, PlainFile, PlainRule, grammar_of, read_grammar, read_plain};
 pub use stop::Cause;
 pub use top::menhir;

@@ -4,6 +4,7 @@ ghost use Rattle.mh_grammar.specs.Plain.{plain_of, IsInRange};
 ghost use Rattle.mh_top.specs.Text.{cannot_read};
 ghost use Rattle.mh_top.specs.Work.{IsWorkOfTable, IsWorkOfGrammar, IsWorkOfFile, IsWorkOfOrder, Over};
 ghost use Rattle.mh_top.specs.Claims.{AskedBy, FileOf, Completes, Finishes, IsStatus, MisuseHasCause, ReadFaultHasCause, AbsentIsSaid, WriteFaultHasCause, TooBigHasCause, LongFileIsSaid, LongInputIsSaid, WritesPart};
+ghost use Rattle.mh_top.specs.Exact.{AcceptsExactly, RejectsRightly, OvershootsRightly, AcceptsRightly};
 ghost use Rattle.mh_top.specs.Run.{world, Worked, Ran, Reported, Says};
 
 use crate::grammar::grammar_in;
@@ -204,6 +205,11 @@ pub fn menhir<F: Shelf, I: Source, O: Sink, E: Sink>(
     ensures part { WritesPart (map string_bytes words.now)
         (world F.files F.faults I.left I.faults O.written O.faults E.written E.faults shelf.old input.old out.old err.old)
         (world F.files F.faults I.left I.faults O.written O.faults E.written E.faults shelf.new input.new out.new err.new) }
+    // What the answers to sentence lines say of the sentences of the grammar.
+    ensures exact { AcceptsExactly (map string_bytes words.now) (F.files shelf.old) }
+    ensures rejects { RejectsRightly (map string_bytes words.now) (F.files shelf.old) }
+    ensures overshoots { OvershootsRightly (map string_bytes words.now) (F.files shelf.old) }
+    ensures accepts { AcceptsRightly (map string_bytes words.now) (F.files shelf.old) }
     // How each run ended, in one piece.
     ensures ran { Ran (AskedBy (map string_bytes words.now) (F.files shelf.old)) (FileOf (map string_bytes words.now))
         (world F.files F.faults I.left I.faults O.written O.faults E.written E.faults shelf.old input.old out.old err.old)

@@ -2,6 +2,7 @@ use Rattle.std.proofs.Common.{List, ℕ, map}
 use Rattle.std.specs.String.{string_bytes}
 use Rattle.std.specs.declared.alloc.Global.{Global}
 use Rattle.mh_top.proofs.Claims.{completes, finishes, is_status, misuse_cause, read_cause, absent_said, write_cause, big_cause, long_file_said, long_input_said, writes_part}
+use Rattle.mh_top.proofs.Exactly.{accepts_exactly, rejects_rightly, overshoots_rightly, all_rightly}
 use Rattle.mh_top.proofs.top.menhir.Goals as goal
 
 pub returns : goal.returns
@@ -20,5 +21,9 @@ returns g c =
       long_file = long_file_said words _ _ _ ran;
       long_input = long_input_said words _ _ _ ran;
       part = writes_part words _ _ _ ran;
+      exact = accepts_exactly words _;
+      rejects = rejects_rightly words _;
+      overshoots = overshoots_rightly words _;
+      accepts = all_rightly words _;
       ran = ran;
     }
