@@ -1,10 +1,10 @@
 -- Syntax trees as plain data.
-use Rattle.std.specs.Prelude.{ℕ, suc, max, List, [], ◌∷◌, ◌++◌, slice_get}
+use Rattle.std.specs.Prelude.{ℕ, suc, max, List, [], ◌∷◌, ◌++◌, ◌-◌, length, nat_lt, if◌then◌else◌, slice_get}
 use Rattle.std.specs.Option.{option_map, unwrap_or}
 use Rattle.mh_grammar.specs.declared.types.Grammar.{Grammar}
 use Rattle.mh_grammar.specs.declared.types.TokenInfo.{TokenInfo}
 use Rattle.mh_grammar.specs.declared.types.NontermInfo.{NontermInfo}
-use Rattle.mh_grammar.specs.Plain.{plain_of, lhs_of}
+use Rattle.mh_grammar.specs.declared.types.Production.{Production}
 
 -- a token, or a production with one tree for each symbol of its right side (Knuth 1965)
 mutual
@@ -40,18 +40,22 @@ abbrev mutual
   forest_yield Nil = []
   forest_yield (Cons first rest) = yield_of first ++ forest_yield rest
 
--- the name of a token, and that of a production's left side; a number that the grammar lacks has the empty name
+-- the name of a token, and that of an ordinary production's left side; a number that the grammar lacks has the empty name
 unfoldable pub token_name : Grammar → ℕ → List ℕ
 token_name g z = unwrap_or (option_map (λ (i : TokenInfo). i.name) (slice_get g.tokens z)) []
 
 unfoldable pub nonterminal_name : Grammar → ℕ → List ℕ
 nonterminal_name g n = unwrap_or (option_map (λ (i : NontermInfo). i.name) (slice_get g.nonterminals n)) []
 
+unfoldable pub left_side_name : Grammar → ℕ → List ℕ
+left_side_name g p =
+    if nat_lt p (length g.starts) then [] else unwrap_or (option_map (λ (q : Production). nonterminal_name g q.lhs) (slice_get g.productions (p - length g.starts))) []
+
 -- A leaf is its token's name. A node is `[`, the name of its left side, `:`, each child after one space, and `]`.
 abbrev mutual
   pub text_of : Grammar → SyntaxTree → List ℕ
   text_of g (Leaf z) = token_name g z
-  text_of g (Node p kids) = 91 ∷ nonterminal_name g (lhs_of (plain_of g) p) ++ 58 ∷ forest_text g kids ++ 93 ∷ []
+  text_of g (Node p kids) = 91 ∷ left_side_name g p ++ 58 ∷ forest_text g kids ++ 93 ∷ []
 
   pub forest_text : Grammar → Forest → List ℕ
   forest_text g Nil = []

@@ -1,7 +1,6 @@
 //! The text of a tree.
 ghost use Rattle.std.specs.Prelude.{◌≡◌, ◌++◌, IfOk, OnOk};
-ghost use Rattle.mh_grammar.specs.Plain.{plain_of, lhs_of};
-ghost use Rattle.mh_tree.specs.Trees.{text_of, forest_text, forest_of, token_name, nonterminal_name};
+ghost use Rattle.mh_tree.specs.Trees.{text_of, forest_text, forest_of, token_name, nonterminal_name, left_side_name};
 
 use crate::tree::{Shape, Tree};
 use mh_grammar::{Grammar, Memory, Token};
@@ -54,24 +53,25 @@ fn write_token(text: &mut Vec<u8>, grammar: &Grammar, token: Token) -> Result<()
     Ok(())
 }
 
-#[tactic(auto, unfolding(crate::specs::Trees::nonterminal_name))]
+#[tactic(auto, unfolding(crate::specs::Trees::left_side_name))]
 fn write_left_side(text: &mut Vec<u8>, grammar: &Grammar, production: u32) -> Result<(), Memory>
-    ensures { OnOk result (text.new.items ≡ text.old.items ++ nonterminal_name grammar.now (lhs_of (plain_of grammar.now) production)) }
+    ensures { OnOk result (text.new.items ≡ text.old.items ++ left_side_name grammar.now production) }
 {
-    let lhs = left_side(grammar, production);
-    if let Some(info) = grammar.nonterminals.get(usize::from(lhs)) {
-        text.extend_from_slice(info.name.as_slice())?;
+    let Some(place) = (production as usize).checked_sub(grammar.starts.len()) else {
+        return Ok(());
+    };
+    if let Some(production) = grammar.productions.get(place) {
+        write_nonterminal(text, grammar, production.lhs)?;
     }
     Ok(())
 }
 
-#[tactic(auto, unfolding(mh_grammar::specs::Plain::lhs_of))]
-fn left_side(grammar: &Grammar, production: u32) -> u16
-    ensures { result ≡ lhs_of (plain_of grammar.now) production }
+#[tactic(auto, unfolding(crate::specs::Trees::nonterminal_name))]
+fn write_nonterminal(text: &mut Vec<u8>, grammar: &Grammar, nonterminal: u16) -> Result<(), Memory>
+    ensures { OnOk result (text.new.items ≡ text.old.items ++ nonterminal_name grammar.now nonterminal) }
 {
-    let place = (production as usize).saturating_sub(grammar.starts.len());
-    match grammar.productions.get(place) {
-        Some(production) => production.lhs,
-        None => 0,
+    if let Some(info) = grammar.nonterminals.get(usize::from(nonterminal)) {
+        text.extend_from_slice(info.name.as_slice())?;
     }
+    Ok(())
 }
