@@ -1,0 +1,9 @@
+use Rattle.std.proofs.Common.{◌≡◌, ◌<◌, max, drop}
+use Rattle.mh_tree.specs.Trees.{forest_height, forest_of}
+use Rattle.mh_tree.proofs.tree.highest.Given as goal
+
+abbrev pub invariant-loop-tree : goal.invariant-loop-tree
+invariant-loop-tree l = record {
+  rest : max l.highest (forest_height (forest_of (drop l.tree-index l.trees))) ≡ forest_height (forest_of l.trees);
+  bound : l.highest < 4000;
+}

@@ -1,0 +1,4 @@
+pub mod Trees
+pub mod Shapes
+pub mod Falls
+pub mod Coding

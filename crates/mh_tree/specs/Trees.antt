@@ -1,0 +1,62 @@
+-- Syntax trees as plain data.
+use Rattle.std.specs.Prelude.{ℕ, suc, max, List, [], ◌∷◌, ◌++◌, ◌-◌, length, nat_lt, if◌then◌else◌, slice_get}
+use Rattle.std.specs.Option.{option_map, unwrap_or}
+use Rattle.mh_grammar.specs.declared.types.Grammar.{Grammar}
+use Rattle.mh_grammar.specs.declared.types.TokenInfo.{TokenInfo}
+use Rattle.mh_grammar.specs.declared.types.NontermInfo.{NontermInfo}
+use Rattle.mh_grammar.specs.declared.types.Production.{Production}
+
+-- a token, or a production with one tree for each symbol of its right side (Knuth 1965)
+mutual
+  pub data SyntaxTree : Type 0 where
+    Leaf : (token : ℕ) → SyntaxTree
+    Node : (production : ℕ) → (children : Forest) → SyntaxTree
+
+  pub data Forest : Type 0 where
+    Nil : Forest
+    Cons : (first : SyntaxTree) → (rest : Forest) → Forest
+
+abbrev pub forest_of : List SyntaxTree → Forest
+forest_of [] = Nil
+forest_of (tree ∷ trees) = Cons tree (forest_of trees)
+
+-- a leaf and an empty node have height 1, another node has one more than its highest child
+abbrev mutual
+  pub height_of : SyntaxTree → ℕ
+  height_of (Leaf z) = 1
+  height_of (Node p kids) = suc (forest_height kids)
+
+  pub forest_height : Forest → ℕ
+  forest_height Nil = 0
+  forest_height (Cons first rest) = max (height_of first) (forest_height rest)
+
+-- the tokens of a tree, from left to right
+abbrev mutual
+  pub yield_of : SyntaxTree → List ℕ
+  yield_of (Leaf z) = z ∷ []
+  yield_of (Node p kids) = forest_yield kids
+
+  pub forest_yield : Forest → List ℕ
+  forest_yield Nil = []
+  forest_yield (Cons first rest) = yield_of first ++ forest_yield rest
+
+-- the name of a token, and that of an ordinary production's left side; a number that the grammar lacks has the empty name
+unfoldable pub token_name : Grammar → ℕ → List ℕ
+token_name g z = unwrap_or (option_map (λ (i : TokenInfo). i.name) (slice_get g.tokens z)) []
+
+unfoldable pub nonterminal_name : Grammar → ℕ → List ℕ
+nonterminal_name g n = unwrap_or (option_map (λ (i : NontermInfo). i.name) (slice_get g.nonterminals n)) []
+
+unfoldable pub left_side_name : Grammar → ℕ → List ℕ
+left_side_name g p =
+    if nat_lt p (length g.starts) then [] else unwrap_or (option_map (λ (q : Production). nonterminal_name g q.lhs) (slice_get g.productions (p - length g.starts))) []
+
+-- A leaf is its token's name. A node is `[`, the name of its left side, `:`, each child after one space, and `]`.
+abbrev mutual
+  pub text_of : Grammar → SyntaxTree → List ℕ
+  text_of g (Leaf z) = token_name g z
+  text_of g (Node p kids) = 91 ∷ left_side_name g p ++ 58 ∷ forest_text g kids ++ 93 ∷ []
+
+  pub forest_text : Grammar → Forest → List ℕ
+  forest_text g Nil = []
+  forest_text g (Cons first rest) = 32 ∷ text_of g first ++ forest_text g rest

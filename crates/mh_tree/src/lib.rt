@@ -1,0 +1,12 @@
+//! Shared syntax trees: their height, their tokens and their text.
+#![tactic(auto)]
+
+#[cfg(test)]
+mod tests;
+mod text;
+mod tokens;
+mod tree;
+
+pub use text::print_tree;
+pub use tokens::yield_of;
+pub use tree::{Tree, leaf, node};

@@ -1,0 +1,108 @@
+//! Trees.
+ghost use Rattle.std.specs.Prelude.{◌≡◌, IfOk};
+ghost use Rattle.std.specs.Prelude.{◌<◌, ◌≤◌};
+ghost use Rattle.std.specs.List.{All};
+ghost use Rattle.mh_tree.specs.Trees.{height_of, forest_height, Leaf, Node, forest_of};
+ghost use Rattle.mh_tree.specs.Shapes.{tree_of};
+
+use mh_grammar::{Memory, Token};
+use std::alloc::Global;
+use std::marker::Model;
+use std::rc::Rc;
+
+/// A shared syntax tree.
+#[derive(Drop)]
+#[cycle(tree)]
+pub struct Tree {
+    shape: Rc<Shape>,
+    height: u32,
+}
+
+#[derive(Drop)]
+#[cycle(tree)]
+pub(crate) enum Shape {
+    Leaf(Token),
+    Node(u32, Vec<Tree>),
+}
+
+impl Model for Tree {
+    ghost use Rattle.std.specs.Prelude.{◌≡◌, ◌≤◌};
+    ghost use Rattle.mh_tree.specs.Trees.{SyntaxTree, height_of};
+
+    ghost Value = { SyntaxTree };
+
+    ghost use Rattle.mh_tree.specs.Coding.{tree_code};
+
+    ghost coded = { tree_code };
+
+    ghost use Rattle.mh_tree.specs.Shapes.{tree_of};
+
+    ghost view = { λ t. tree_of t.shape.value };
+
+    ghost invariant = { λ t. (t.height ≡ height_of (tree_of t.shape.value)) × (t.height ≤ 4000) };
+
+    ghost size = { height_of };
+
+    ghost use Rattle.mh_tree.specs.Falls.{depth_le-height};
+
+    ghost size_decreases = { λ t h. depth_le-height t.shape.value };
+}
+
+impl Tree {
+    /// What stands at the root.
+    pub(crate) fn shape(&self) -> &Shape
+        ensures { tree_of result.now ≡ self.now }
+    {
+        &self.shape
+    }
+
+    pub fn height(&self) -> u32
+        ensures { result ≡ height_of self.now }
+    {
+        self.height
+    }
+
+    /// An equal tree, which shares the nodes of this one.
+    pub fn share(&self) -> Result<Tree, Memory>
+        ensures { IfOk result (λ t. t ≡ self.now) }
+    {
+        Ok(Tree {
+            shape: self.shape.clone()?,
+            height: self.height,
+        })
+    }
+}
+
+pub fn leaf(alloc: Global, token: Token) -> Result<Tree, Memory>
+    ensures { IfOk result (λ t. t ≡ Leaf token) }
+{
+    Ok(Tree {
+        shape: Rc::new(alloc, Shape::Leaf(token))?,
+        height: 1,
+    })
+}
+
+/// The tree of a production over its children. Where memory is wanting, the children are dropped.
+pub fn node(alloc: Global, production: u32, children: Vec<Tree>) -> Result<Tree, Memory>
+    requires { All (λ t. height_of t < 4000) children.items }
+    ensures { IfOk result (λ t. t ≡ Node production (forest_of children.items)) }
+{
+    let height = highest(children.as_slice()) + 1;
+    Ok(Tree {
+        shape: Rc::new(alloc, Shape::Node(production, children))?,
+        height,
+    })
+}
+
+/// The height of the highest tree, and 0 where there is none.
+fn highest(trees: &[Tree]) -> u32
+    requires { All (λ t. height_of t < 4000) trees.now }
+    ensures value { result ≡ forest_height (forest_of trees.now) }
+    ensures bound { result < 4000 }
+{
+    let mut highest = 0u32;
+    for tree in trees {
+        highest = highest.max(tree.height());
+    }
+    highest
+}
