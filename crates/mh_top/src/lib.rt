@@ -20,4 +20,6 @@ pub use stop::Cause;
 pub use top::menhir;
 
 #[cfg(test)]
+mod rows;
+#[cfg(test)]
 mod tests;
