@@ -72,6 +72,22 @@ fn of_the_empty_word(rt: HostRuntime) -> Result<(), Fail> {
     Ok(())
 }
 
+// s: A EOF. A token's edge comes before that of the start, and both before the next state's.
+#[test]
+fn of_one_sentence(rt: HostRuntime) -> Result<(), Fail> {
+    let (s, a, eof) = (Symbol::N(0), Symbol::T(0), Symbol::T(1));
+    let grammar = grammar_of(rt.alloc(), 2, 1, &[(0, &[a, eof])])?;
+    assert!(rt; is_in_range(&grammar));
+    let automaton = canonical(rt.alloc(), &grammar).map_err(|_| "no memory")?;
+    assert_eq!(rt; automaton.kernels.len(), 4);
+    let steps = steps_of(rt.alloc(), automaton.edges.as_slice())?;
+    assert_eq!(rt;
+        steps.as_slice(),
+        [(0, a, 1), (0, s, 2), (1, eof, 3)].as_slice()
+    );
+    Ok(())
+}
+
 // s: c c, c: C c | D. The states behind C and D stand once before another c and once at the end.
 #[test]
 fn apart_by_looks(rt: HostRuntime) -> Result<(), Fail> {
