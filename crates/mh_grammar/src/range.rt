@@ -7,7 +7,7 @@ use crate::types::{Grammar, Production, Symbol};
 
 /// Whether left sides, symbols and starts are in range, and there are not too many of anything.
 pub fn is_in_range(grammar: &Grammar) -> bool
-    ensures { IsTrue result → IsInRange (plain_of grammar.now) }
+    ensures { IsTrue result ↔ IsInRange (plain_of grammar.now) }
 {
     let tokens = grammar.tokens.len();
     let nonterminals = grammar.nonterminals.len();
@@ -15,7 +15,7 @@ pub fn is_in_range(grammar: &Grammar) -> bool
     tokens <= 65535
         && nonterminals <= 65535
         && starts <= 65535
-        && grammar.productions.len() < 0xffff_ffff - starts
+        && grammar.productions.len() <= 0xffff_ffff - starts
         && are_starts_in_range(grammar.starts.as_slice(), nonterminals)
         && are_productions_in_range(grammar.productions.as_slice(), tokens, nonterminals)
 }
@@ -27,8 +27,9 @@ fn are_starts_in_range(starts: &[u16], nonterminals: usize) -> bool
 }
 
 fn are_productions_in_range(productions: &[Production], tokens: usize, nonterminals: usize) -> bool
-    ensures below { IsTrue result → All (IsProductionBelow tokens nonterminals) productions.now }
-    ensures short { IsTrue result → All (λ p. length p.rhs < 2 ^ 32) productions.now }
+    ensures {
+        IsTrue result ↔ All (λ p. IsProductionBelow tokens nonterminals p × length p.rhs < 2 ^ 32) productions.now
+    }
 {
     productions
         .iter()
@@ -36,8 +37,9 @@ fn are_productions_in_range(productions: &[Production], tokens: usize, nontermin
 }
 
 fn is_production_in_range(production: &Production, tokens: usize, nonterminals: usize) -> bool
-    ensures below { IsTrue result → IsProductionBelow tokens nonterminals production.now }
-    ensures short { IsTrue result → length production.now.rhs < 2 ^ 32 }
+    ensures {
+        IsTrue result ↔ IsProductionBelow tokens nonterminals production.now × length production.now.rhs < 2 ^ 32
+    }
 {
     usize::from(production.lhs) < nonterminals
         && production.rhs.len() <= 0xffff_ffff
@@ -45,7 +47,7 @@ fn is_production_in_range(production: &Production, tokens: usize, nonterminals: 
 }
 
 fn are_symbols_in_range(symbols: &[Symbol], tokens: usize, nonterminals: usize) -> bool
-    ensures { IsTrue result → All (IsSymbolBelow tokens nonterminals) symbols.now }
+    ensures { IsTrue result ↔ All (IsSymbolBelow tokens nonterminals) symbols.now }
 {
     symbols
         .iter()

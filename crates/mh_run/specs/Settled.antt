@@ -3,17 +3,7 @@ use Rattle.std.specs.Prelude.{◌≡◌, ℕ, List, Some, ◌<◌, ◌≤◌, �
 use Rattle.mh_grammar.specs.Plain.{rhs_of, production_count}
 use Rattle.mh_tables.specs.Table.{TableData}
 use Rattle.mh_tables.specs.Facts.{HasGoto}
-use Rattle.mh_tables.specs.Run.{Move, Accepts, Asks, Refuses, Shifts, Reduces, move_of, top_of, reduce, reductions, IsRunStack}
-use Rattle.mh_run.specs.declared.settle.Choice.{Choice}
-use Rattle.mh_run.specs.declared.settle.Choice.TheVariants as choices
-
--- the move that a choice stands for
-abbrev pub move_for : Choice → Move
-move_for choices.Accept = Accepts
-move_for choices.Ask = Asks
-move_for choices.Refuse = Refuses
-move_for (choices.Shift j) = Shifts j
-move_for (choices.Reduce p) = Reduces p
+use Rattle.mh_tables.specs.Run.{Move, Reduces, move_of, top_of, reduce, reductions, IsRunStack}
 
 -- the state that comes to the top where a right side is taken off
 abbrev pub below_of : TableData → ℕ → List ℕ → ℕ

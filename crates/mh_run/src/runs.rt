@@ -4,9 +4,9 @@ ghost use Rattle.mh_tables.specs.Run.{VerdictOf};
 ghost use Rattle.mh_run.specs.Verdicts.{ending_for};
 
 use crate::outcome::Verdict;
-use crate::settle::{Choice, settle};
+use crate::settle::settle;
 use mh_grammar::{Memory, Token};
-use mh_tables::Halting;
+use mh_tables::{Choice, Halting};
 use std::alloc::Global;
 
 /// The verdict of a start, by its number, on a sentence of fewer than 2^32 tokens. Fails for want of memory alone.

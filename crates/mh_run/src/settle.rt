@@ -3,41 +3,12 @@ ghost use Rattle.std.specs.Prelude.{◌≡◌, ◌<◌, length, IfOk, OnOk, Some
 ghost use Rattle.mh_tables.specs.Table.{TableData};
 ghost use Rattle.mh_tables.specs.Run.{move_of, top_of, reduce, IsRunStack, Reduces};
 ghost use Rattle.mh_tables.specs.Halting.{IsLook, look_list};
-ghost use Rattle.mh_run.specs.Settled.{move_for, CanReduce, SettlesTo};
+ghost use Rattle.mh_tables.specs.Moves.{move_for};
+ghost use Rattle.mh_run.specs.Settled.{CanReduce, SettlesTo};
 
 use mh_grammar::Token;
-use mh_tables::{Action, Fallback, Halting, Table};
+use mh_tables::{Choice, Halting, Table, choose};
 use std::alloc::AllocError;
-
-// What a state does.
-#[derive(Clone, Copy)]
-pub(crate) enum Choice {
-    Accept,
-    Ask,
-    Refuse,
-    Shift(u32),
-    Reduce(u32),
-}
-
-#[tactic(auto, unfolding(mh_tables::specs::Run::move_of))]
-fn choose(table: &Table, state: u32, look: Option<Token>) -> Choice
-    requires state { state < length table.now.states }
-    requires look { IsLook table.now look }
-    ensures { move_for result ≡ move_of table.now state (look_list look) }
-{
-    match table.fallback(state) {
-        Some(Fallback::Accept) => Choice::Accept,
-        Some(Fallback::Reduce(production)) => Choice::Reduce(production),
-        None => match look {
-            None => Choice::Ask,
-            Some(token) => match table.action(state, token) {
-                Action::Shift(target) => Choice::Shift(target),
-                Action::Reduce(production) => Choice::Reduce(production),
-                Action::Refuse => Choice::Refuse,
-            },
-        },
-    }
-}
 
 // Takes off the states of a right side, and goes on the left side.
 fn reduce_on(table: &Table, stack: &mut Vec<u32>, production: u32) -> Result<(), AllocError>

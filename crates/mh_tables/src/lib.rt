@@ -9,6 +9,7 @@ mod relative;
 mod table;
 
 pub use halting::{Halting, check_halts};
+pub use moves::{Choice, choose};
 pub use parts::{Action, Fallback, Place, StateParts};
 pub use relative::HaltFault;
 pub use table::{Table, table_of};

@@ -8,6 +8,7 @@ use crate::parts::{Action, Fallback};
 use crate::table::Table;
 use mh_grammar::Token;
 
+/// The move of a state: accepting or reducing without a look, asking for a token, or what its cell on the token says.
 #[derive(Clone, Copy)]
 pub enum Choice {
     Accept,
@@ -17,6 +18,7 @@ pub enum Choice {
     Reduce(u32),
 }
 
+/// The move of a state that exists, with the next token of the table, or none.
 #[tactic(auto, unfolding(crate::specs::Run::move_of))]
 pub fn choose(table: &Table, state: u32, look: Option<Token>) -> Choice
     requires state { state < length table.now.states }
