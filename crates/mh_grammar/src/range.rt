@@ -27,9 +27,7 @@ fn are_starts_in_range(starts: &[u16], nonterminals: usize) -> bool
 }
 
 fn are_productions_in_range(productions: &[Production], tokens: usize, nonterminals: usize) -> bool
-    ensures {
-        IsTrue result ↔ All (λ p. IsProductionBelow tokens nonterminals p × length p.rhs < 2 ^ 32) productions.now
-    }
+    ensures { IsTrue result ↔ All (λ p. IsProductionBelow tokens nonterminals p × length p.rhs < 2 ^ 32) productions.now }
 {
     productions
         .iter()
@@ -37,9 +35,7 @@ fn are_productions_in_range(productions: &[Production], tokens: usize, nontermin
 }
 
 fn is_production_in_range(production: &Production, tokens: usize, nonterminals: usize) -> bool
-    ensures {
-        IsTrue result ↔ IsProductionBelow tokens nonterminals production.now × length production.now.rhs < 2 ^ 32
-    }
+    ensures { IsTrue result ↔ IsProductionBelow tokens nonterminals production.now × length production.now.rhs < 2 ^ 32 }
 {
     usize::from(production.lhs) < nonterminals
         && production.rhs.len() <= 0xffff_ffff
