@@ -5,6 +5,7 @@ pub mod FirstFlags
 pub mod Grid
 pub mod ItemSets
 pub mod Marked
+pub mod Names
 pub mod Numbering
 pub mod Placed
 pub mod Plain

@@ -8,6 +8,7 @@ mod grid;
 mod laws;
 mod marks;
 mod name;
+mod names;
 mod range;
 mod sequence;
 #[cfg(test)]
@@ -19,6 +20,7 @@ pub use firsts::first;
 pub use laws::words_begin_with_first;
 pub use marks::{nullable, productive};
 pub use name::{Name, from_bytes};
+pub use names::{left_side_name, nonterminal_name, start_name, symbol_name, token_name};
 pub use range::is_in_range;
 pub use sequence::Sequence;
 pub use types::{

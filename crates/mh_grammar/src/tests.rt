@@ -4,6 +4,7 @@ use crate::firsts::first;
 use crate::laws::words_begin_with_first;
 use crate::marks::{nullable, productive};
 use crate::name::from_bytes;
+use crate::names::{left_side_name, nonterminal_name, start_name, symbol_name, token_name};
 use crate::range::is_in_range;
 use crate::sequence::Sequence;
 use crate::types::{Grammar, Memory, NontermInfo, Production, Symbol, TokenInfo};
@@ -99,5 +100,23 @@ fn edges_are_found(rt: HostRuntime) -> Result<(), Fail> {
     assert_eq!(rt; find_edge(&edges, Symbol::T(5)), Some(4));
     assert_eq!(rt; find_edge(&edges, Symbol::N(0)), Some(9));
     assert_eq!(rt; find_edge(&edges, Symbol::T(3)), None);
+    Ok(())
+}
+
+#[test]
+fn names_of_a_sample(rt: HostRuntime) -> Result<(), Fail> {
+    let alloc = rt.alloc();
+    let grammar = sample(alloc)?;
+    assert_eq!(rt; token_name(&grammar, 1), b"B".as_slice());
+    assert_eq!(rt; token_name(&grammar, 2), b"".as_slice());
+    assert_eq!(rt; nonterminal_name(&grammar, 1), b"x".as_slice());
+    assert_eq!(rt; symbol_name(&grammar, Symbol::T(0)), b"A".as_slice());
+    assert_eq!(rt; symbol_name(&grammar, Symbol::N(2)), b"b".as_slice());
+    assert_eq!(rt; left_side_name(&grammar, 0), b"".as_slice());
+    assert_eq!(rt; left_side_name(&grammar, 1), b"s".as_slice());
+    assert_eq!(rt; left_side_name(&grammar, 3), b"x".as_slice());
+    assert_eq!(rt; left_side_name(&grammar, 5), b"".as_slice());
+    assert_eq!(rt; start_name(&grammar, 0), b"s".as_slice());
+    assert_eq!(rt; start_name(&grammar, 1), b"".as_slice());
     Ok(())
 }
