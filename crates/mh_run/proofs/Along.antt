@@ -1,9 +1,9 @@
 -- What goes along with a run, step by step.
-use Rattle.std.proofs.Common.{◌≡◌, ℕ, zero, suc, ◌+◌, ◌-◌, ◌<◌, ◌≤◌, inl, inr, List, [], ◌∷◌, length, Option, Some, None, Bool, true, false, refl, ap, sym, arith, ◌∙◌}
+use Rattle.std.proofs.Common.{◌≡◌, ℕ, zero, suc, ◌+◌, inl, inr, List, [], length, Option, Some, None, true, false, refl, ap, arith, ◌∙◌}
 use Rattle.std.proofs.lemmas.Bool.{cases_lt}
 use Rattle.mh_grammar.specs.Plain.{rhs_of}
 use Rattle.mh_tables.specs.Table.{TableData}
-use Rattle.mh_tables.specs.Run.{Config, Move, Accepts, Asks, Refuses, Shifts, Reduces, move_of, top_of, reduce, step, step_by, goes_to, Goes, Ends, Ending, next_of, after}
+use Rattle.mh_tables.specs.Run.{Config, Move, Accepts, Asks, Refuses, Shifts, Reduces, move_of, top_of, reduce, step, goes_to, Ends, Ending, next_of, after}
 use Rattle.mh_tables.specs.Halting.{look_list}
 use Rattle.mh_tables.proofs.Reductions.{move_at_next}
 use Rattle.mh_tables.proofs.Ending.{step_moves}

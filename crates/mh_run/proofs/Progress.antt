@@ -1,5 +1,5 @@
 -- How the reductions that come next are made, one after another.
-use Rattle.std.proofs.Common.{◌≡◌, ℕ, suc, ◌+◌, ◌-◌, ◌<◌, ◌≤◌, List, length, Some, Option, Bool, true, false, refl, arith, length-append}
+use Rattle.std.proofs.Common.{◌≡◌, ℕ, suc, ◌+◌, ◌-◌, ◌<◌, ◌≤◌, List, length, Some, Option, true, false, refl, arith, length-append}
 use Rattle.std.proofs.lemmas.List.{length-take-le}
 use Rattle.mh_grammar.specs.Plain.{rhs_of}
 use Rattle.mh_tables.specs.Table.{TableData}

@@ -1,9 +1,9 @@
 -- What the runs say that have their last reductions or their trees along.
-use Rattle.std.proofs.Common.{◌≡◌, ℕ, zero, suc, ◌-◌, ◌<◌, List, [], ◌∷◌, ◌++◌, length, take, drop, get_or, Bool, true, false, refl, ap, sym, subst, arith, ◌∙◌, length-append}
+use Rattle.std.proofs.Common.{◌≡◌, ℕ, zero, suc, ◌-◌, ◌<◌, List, [], ◌∷◌, ◌++◌, length, take, drop, get_or, false, refl, ap, sym, subst, arith, ◌∙◌, length-append}
 use Rattle.mh_tree.specs.Trees.{SyntaxTree, Leaf, Node, forest_of}
 use Rattle.mh_tables.specs.Table.{TableData}
 use Rattle.mh_tables.specs.Facts.{Facts}
-use Rattle.mh_tables.specs.Run.{Config, Move, Accepts, Asks, Refuses, Shifts, Reduces, move_of, top_of, step, next_of, after, initial, Ending, Accepted, VerdictOf}
+use Rattle.mh_tables.specs.Run.{Config, Move, Accepts, Asks, Refuses, Shifts, Reduces, move_of, top_of, step, next_of, initial, Ending, Accepted, VerdictOf}
 use Rattle.mh_tables.specs.RunTrees.{grow, trees_after}
 use Rattle.mh_tables.proofs.Reductions.{no_shift_at_end}
 use Rattle.mh_run.specs.Following.{Following, along, along_after, RunsSo, RunsDeep}

@@ -1,5 +1,5 @@
 -- One token after another.
-use Rattle.std.proofs.Common.{◌≡◌, ℕ, zero, suc, ◌+◌, ◌-◌, ◌<◌, ◌≤◌, inl, inr, List, [], ◌∷◌, ◌++◌, length, drop, get_or, Some, None, Option, Bool, true, false, refl, ap, sym, arith, ◌∙◌}
+use Rattle.std.proofs.Common.{◌≡◌, ℕ, zero, suc, ◌+◌, ◌-◌, ◌<◌, ◌≤◌, inl, inr, List, [], ◌∷◌, ◌++◌, length, drop, get_or, Some, None, Option, true, false, refl, ap, sym, arith, ◌∙◌}
 use Rattle.std.proofs.lemmas.Bool.{cases_lt}
 use Rattle.std.proofs.lemmas.List.{drop_more, drop_all, get_or_default}
 use Rattle.mh_tables.specs.declared.parts.Action.{Action}
@@ -10,7 +10,7 @@ use Rattle.mh_tables.specs.Table.{TableData, fallback_of, cell_of}
 use Rattle.mh_tables.specs.Facts.{Facts}
 use Rattle.mh_tables.specs.Run.{Config, Move, Asks, Refuses, Shifts, move_of, move_of_action, move_by_default, top_of, IsRunStack, Ends, step, step_by, next_of, after, Ending, initial}
 use Rattle.mh_tables.proofs.Reductions.{move_at_next, after-add}
-use Rattle.mh_tables.proofs.Ending.{step_moves, run_shift, run_begins, after_ended}
+use Rattle.mh_tables.proofs.Ending.{step_moves, run_shift, run_begins}
 use Rattle.mh_run.specs.Following.{Following, along, along_after, RunsSo, RunsDeep}
 use Rattle.mh_run.specs.Settled.{left_with, standing, SettlesTo, SettlesDeep}
 use Rattle.mh_run.proofs.Along.{after_one_more, along_one_more, along_add, along_ended}

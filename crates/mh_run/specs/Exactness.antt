@@ -1,9 +1,9 @@
 -- What the verdicts of a table say of the grammar's sentences.
 use Rattle.std.specs.Prelude.{◌≡◌, ◌<◌, ◌≤◌, ℕ, List, [], ◌∷◌, length, take}
-use Rattle.mh_grammar.specs.Plain.{PlainGrammar, production_count, IsSentence, IsProductive, start_symbol}
+use Rattle.mh_grammar.specs.Plain.{PlainGrammar, IsSentence, IsProductive, start_symbol}
 use Rattle.mh_tables.specs.Table.{TableData}
 use Rattle.mh_tables.specs.Run.{Accepted, initial, after, step, Ends}
-use Rattle.mh_tree.specs.Trees.{SyntaxTree, Forest, Leaf, Node, Nil, Cons, IsTreeFor, yield_of}
+use Rattle.mh_tree.specs.Trees.{SyntaxTree, IsTreeFor, yield_of}
 use Rattle.mh_tables.specs.RunTrees.{trees_after}
 
 -- the first tokens of w, as many as `read`, are a sentence

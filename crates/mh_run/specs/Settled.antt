@@ -1,5 +1,5 @@
 -- What the functions of the run answer.
-use Rattle.std.specs.Prelude.{◌≡◌, ℕ, Bool, true, false, List, [], ◌∷◌, Option, Some, None, ◌<◌, ◌≤◌, ◌-◌, length, slice_index}
+use Rattle.std.specs.Prelude.{◌≡◌, ℕ, true, false, List, [], ◌∷◌, Option, Some, None, ◌<◌, ◌≤◌, ◌-◌, length, slice_index}
 use Rattle.mh_grammar.specs.Plain.{rhs_of, production_count}
 use Rattle.mh_tables.specs.Table.{TableData}
 use Rattle.mh_tables.specs.Facts.{HasGoto}

@@ -1,5 +1,5 @@
 -- How many nodes trees have, and how a list of trees that wait to be dropped changes.
-use Rattle.std.proofs.Common.{◌≡◌, ℕ, suc, max, ◌+◌, ◌*◌, ◌<◌, ◌≤◌, List, [], ◌∷◌, ◌++◌, Bool, true, false, cond, refl, arith}
+use Rattle.std.proofs.Common.{◌≡◌, ℕ, suc, max, ◌+◌, ◌*◌, ◌<◌, ◌≤◌, List, [], ◌∷◌, ◌++◌, Bool, true, false, cond, arith}
 use denote.Param.Weighed.{most, w_this}
 use Rattle.mh_tree.specs.declared.tree.Tree.{Tree}
 use Rattle.mh_tree.specs.declared.tree.Tree.TheDeep.{size-Tree}

@@ -1,5 +1,5 @@
 use Rattle.std.proofs.Common.{◌≡◌, refl, arith, length}
-use Rattle.mh_tables.specs.Run.{Accepts, Asks, Refuses, Accepted, Overshot, Rejected, initial, top_of}
+use Rattle.mh_tables.specs.Run.{Accepts, Asks, Refuses, Accepted, Overshot, Rejected, top_of}
 use Rattle.mh_tables.proofs.Reductions.{no_shift_at_end}
 use Rattle.mh_run.specs.Following.{RunsSo}
 use Rattle.mh_run.proofs.Along.{leads_fits}

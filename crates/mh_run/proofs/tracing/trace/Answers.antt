@@ -1,4 +1,4 @@
-use Rattle.std.proofs.Common.{List, ℕ, subst, sym}
+use Rattle.std.proofs.Common.{subst, sym}
 use Rattle.mh_run.specs.Trace.{TraceOf}
 use Rattle.mh_run.specs.Verdicts.{ending_for}
 use Rattle.mh_run.proofs.Ran.{ran_trace}
