@@ -1,10 +1,13 @@
 -- Syntax trees as plain data.
-use Rattle.std.specs.Prelude.{ℕ, suc, max, List, [], ◌∷◌, ◌++◌, ◌-◌, length, nat_lt, if◌then◌else◌, slice_get}
+use Rattle.std.specs.Prelude.{◌≡◌, ◌<◌, ◌≤◌, ℕ, suc, max, List, [], ◌∷◌, ◌++◌, ◌-◌, length, nat_lt, if◌then◌else◌, slice_get}
 use Rattle.std.specs.Option.{option_map, unwrap_or}
 use Rattle.mh_grammar.specs.declared.types.Grammar.{Grammar}
 use Rattle.mh_grammar.specs.declared.types.TokenInfo.{TokenInfo}
 use Rattle.mh_grammar.specs.declared.types.NontermInfo.{NontermInfo}
 use Rattle.mh_grammar.specs.declared.types.Production.{Production}
+use Rattle.mh_grammar.specs.declared.types.Symbol.{Symbol}
+use Rattle.mh_grammar.specs.declared.types.Symbol.TheVariants.{T, N}
+use Rattle.mh_grammar.specs.Plain.{PlainGrammar, production_count, rhs_of, lhs_of}
 
 -- a token, or a production with one tree for each symbol of its right side (Knuth 1965)
 mutual
@@ -39,6 +42,19 @@ abbrev mutual
   pub forest_yield : Forest → List ℕ
   forest_yield Nil = []
   forest_yield (Cons first rest) = yield_of first ++ forest_yield rest
+
+-- A tree of the grammar for a symbol: a leaf of that token, or an ordinary production of that nonterminal over trees for
+-- its right side.
+abbrev mutual
+  pub IsTreeFor : PlainGrammar → Symbol → SyntaxTree → Type 0
+  IsTreeFor g x (Leaf z) = x ≡ T z
+  IsTreeFor g x (Node p kids) = (length g.starts ≤ p) × (p < production_count g) × (x ≡ N (lhs_of g p)) × IsForestFor g (rhs_of g p) kids
+
+  pub IsForestFor : PlainGrammar → List Symbol → Forest → Type 0
+  IsForestFor g [] Nil = Unit {0}
+  IsForestFor g [] (Cons first rest) = ⊥
+  IsForestFor g (x ∷ xs) Nil = ⊥
+  IsForestFor g (x ∷ xs) (Cons first rest) = IsTreeFor g x first × IsForestFor g xs rest
 
 -- the name of a token, and that of an ordinary production's left side; a number that the grammar lacks has the empty name
 unfoldable pub token_name : Grammar → ℕ → List ℕ
