@@ -1,5 +1,5 @@
 -- All bytes have lexemes.
-use Rattle.std.proofs.Common.{◌≡◌, ℕ, zero, suc, ◌-◌, ◌<◌, ◌≤◌, ◌&&◌, Bool, true, false, cond, List, [], ◌∷◌, ◌++◌, length, drop, take, Option, Some, None, refl, subst, arith, length-drop}
+use Rattle.std.proofs.Common.{◌≡◌, ℕ, zero, suc, ◌-◌, ◌<◌, ◌≤◌, ◌&&◌, Bool, true, false, cond, List, [], ◌∷◌, ◌++◌, length, drop, take, Option, Some, None, refl, sym, ap, subst, ◌∙◌, arith, length-drop, length-append}
 use Rattle.std.specs.Prelude.{nat_lt}
 use Rattle.std.proofs.lemmas.Bool.Decides.{nat_tests}
 use Rattle.mh_lex.specs.declared.kinds.Ends.{Ends}
@@ -224,3 +224,39 @@ outcome_of (suc k) total (suc left) (b ∷ bs) h = front_outcome total left b bs
 
 pub lexes_always : (bytes : List ℕ) → (ls : List Lexeme) × (f : Option ℕ) × Lexes bytes ls f
 lexes_always bytes = outcome_of (length bytes) (length bytes) 2 bytes (omega arith)
+
+-- ---- there are no more lexemes than bytes
+
+some_byte : (e : Ends) (s : List ℕ) (f : Step) → step e s ≡ f → (f ≡ Stuck → ⊥) → 0 < length s
+some_byte e [] f q h = absurd (h (sym q ∙ step_nil e))
+some_byte e (b ∷ bs) f q h = omega arith
+
+body_less : (e : Ends) (s rest : List ℕ) → Body e s rest → length rest < length s
+body_less e s rest (closes {n = n} q r) =
+    omega (arith, some_byte e s (Closes n) q (λ d. cc), (moves_step e s).over_end n q, length-drop n s, ap length r)
+body_less e s rest (passes {n = n} q b) = omega (arith, body_less e (drop n s) rest b, length-drop n s)
+body_less e s rest (nests {mid = mid} q b c) = omega (arith, body_less e (drop 1 s) mid b, body_less e mid rest c, length-drop 1 s)
+body_less e s rest (remark {mid = mid} q b c) = omega (arith, body_less Comment (drop 2 s) mid b, body_less e mid rest c, length-drop 2 s)
+
+some_front_byte : (s : List ℕ) (f : Front) → front s ≡ f → (f ≡ Ended → ⊥) → 0 < length s
+some_front_byte [] f q h = absurd (h (sym q ∙ front_nil))
+some_front_byte (b ∷ bs) f q h = omega arith
+
+taken_less : (s rest : List ℕ) (what : Option Kind) → Taken s what rest → length rest < length s
+taken_less s rest what (short {n = n} q r) =
+    omega (arith, some_front_byte s (Short what n) q (λ d. cc), (some_front s).some what n q, length-drop n s, ap length r)
+taken_less s rest what (long {e = e} {n = n} q b) = omega (arith, body_less e (drop n s) rest b, length-drop n s)
+
+length_kept : (total : ℕ) (s rest : List ℕ) (what : Option Kind) → length (kept total s what rest) ≤ 1
+length_kept total s rest None = omega arith
+length_kept total s rest (Some k) = omega arith
+
+lexes_few_from : (total left : ℕ) (s : List ℕ) (ls : List Lexeme) (f : Option ℕ) → LexesFrom total left s ls f → length ls ≤ length s
+lexes_few_from total left s ls f (ended q) = omega arith
+lexes_few_from total left s ls f trailer = omega arith
+lexes_few_from total left s ls f (taken {left = n} {rest = rest} {what = what} {ls = more} t l q) =
+    omega (arith, lexes_few_from total (left_after what n) rest more f l, taken_less s rest what t, length_kept total s rest what, ap length q, length-append (kept total s what rest) more)
+lexes_few_from total left s ls f (fault d h) = omega arith
+
+pub lexes_few : (bytes : List ℕ) (ls : List Lexeme) (f : Option ℕ) → Lexes bytes ls f → length ls ≤ length bytes
+lexes_few bytes ls f l = lexes_few_from (length bytes) 2 bytes ls f l

@@ -5,3 +5,5 @@ pub mod Exact
 pub mod Laid
 pub mod Fitting
 pub mod Reprinted
+pub mod Lines
+pub mod Short

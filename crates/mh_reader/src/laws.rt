@@ -2,6 +2,7 @@
 ghost use Rattle.std.specs.Prelude.{◌≡◌, ℕ, List};
 ghost use Rattle.mh_reader.specs.declared.modules.Module.{Module};
 ghost use Rattle.mh_reader.specs.Spelling.{Spells};
+ghost use Rattle.mh_reader.specs.Faults.{IsSyntaxLine};
 
 use mh_lex::lexed_once;
 
@@ -11,3 +12,8 @@ pub fn spelled_once()
 {
     lexed_once();
 }
+
+/// Bytes that spell no module have at most one line that says where.
+pub fn line_once()
+    ensures { (bytes : List ℕ) (one two : ℕ) → IsSyntaxLine bytes one → IsSyntaxLine bytes two → one ≡ two }
+{}

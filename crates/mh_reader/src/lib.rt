@@ -13,7 +13,7 @@ mod rules;
 mod signs;
 mod stack;
 
-pub use laws::spelled_once;
+pub use laws::{line_once, spelled_once};
 pub use modules::{Actual, Alternative, LevelDecl, Module, Ref, Rule, TokenDecl};
 pub use printing::print_module;
 pub use reading::read_module;

@@ -39,14 +39,14 @@ module _ (words : List Text) (files : Files) (w : Work) (input : Option Text) (o
   of_table g (Go t) stage is = Lines g t is
   of_table g (Halt cause line) stage is = refusal cause line is stage.0
 
-  of_grammar : (bytes : Text) (s : Staged Grammar) → IsGrammarStage bytes s → Then s IsWorkOfGrammar w → Ended words Has w o
-  of_grammar bytes (Go g) stage is = of_table g is.0 is.1 is.2
-  of_grammar bytes (Halt cause line) stage is = refusal cause line is stage.0
+  of_grammar : (name bytes : Text) (s : Staged Grammar) → IsGrammarStage name bytes s → Then s IsWorkOfGrammar w → Ended words Has w o
+  of_grammar name bytes (Go g) stage is = of_table g is.0 is.1 is.2
+  of_grammar name bytes (Halt cause line) stage is = refusal cause line is stage.0
 
-  of_found : (order : Order) → order_of words ≡ Go order → (what : Found) → found files order.file file_limit ≡ what → Then (loaded_from order.file what) IsWorkOfFile w → Ended words Has w o
+  of_found : (order : Order) → order_of words ≡ Go order → (what : Found) → found files order.file file_limit ≡ what → Then (loaded_from order.file what) (IsWorkOfFile order.file) w → Ended words Has w o
   of_found order on NoFile here is = NoSuchFile ((cause_halted w input o Missing _ is gives).0) (order, on, here)
   of_found order on Long here is = LongFile ((cause_halted w input o TooBig _ is gives).0) (order, on, here)
-  of_found order on (Bytes bytes) here is = of_grammar bytes is.0 is.1 is.2
+  of_found order on (Bytes bytes) here is = of_grammar order.file bytes is.0 is.1 is.2
 
   of_words : (s : Staged Order) → order_of words ≡ s → Then s (IsWorkOfOrder files) w → Ended words Has w o
   of_words (Go order) here is = of_found order here (found files order.file file_limit) refl is
@@ -69,10 +69,10 @@ asked_ended words (Some fs) w input o gives asked = ended words fs w input o giv
 
 -- ---- and what follows of the files
 
-pub file_gives : (words : List Text) (files : Files) (w : Work) (what : Found) → IsWork words files w → HoldsFile words what files → (name : Text) × Then (loaded_from name what) IsWorkOfFile w
+pub file_gives : (words : List Text) (files : Files) (w : Work) (what : Found) → IsWork words files w → HoldsFile words what files → (name : Text) × Then (loaded_from name what) (IsWorkOfFile name) w
 file_gives words files w what is has =
     let order = has.0 in
-    let here : IsWorkOfOrder files order w = subst (λ (s : Staged Order). Then s (IsWorkOfOrder files) w) has.1 is in (order.file, subst (λ (f : Found). Then (loaded_from order.file f) IsWorkOfFile w) has.2 here)
+    let here : IsWorkOfOrder files order w = subst (λ (s : Staged Order). Then s (IsWorkOfOrder files) w) has.1 is in (order.file, subst (λ (f : Found). Then (loaded_from order.file f) (IsWorkOfFile order.file) w) has.2 here)
 
 pub missing_gives : (words : List Text) (files : Files) (w : Work) (input : Option Text) (o : Outcome) → Gives w input o → IsWork words files w → HoldsFile words NoFile files → o.cause ≡ Some Missing
 missing_gives words files w input o gives is has = let p = file_gives words files w NoFile is has in (cause_halted w input o Missing _ p.1 gives).0

@@ -30,9 +30,8 @@ use Rattle.mh_outside.specs.Shelf.{Files, found, within, file_at, Long, Bytes}
 use Rattle.mh_top.specs.Text.{Text, cannot_read, too_big}
 use Rattle.mh_top.specs.Causes.{Staged, Go, Halt}
 use Rattle.mh_top.specs.Order.{order_of}
-use Rattle.mh_top.specs.GrammarStage.{IsGrammarStage}
+use Rattle.mh_top.specs.GrammarStage.{GrammarOf, IsGrammarStage}
 use Rattle.mh_top.specs.TableStage.{HasTooMany, HasTable, IsTableStage}
-use Rattle.mh_top.specs.PlainGrammars.{IsPlainGrammar}
 use Rattle.mh_top.specs.Sentences.{LineFound, IsSentence, IsUnreadable, TokensFound, Tokens, Unknown, first_start, tokens_of, is_name, pieces, sentence_in}
 use Rattle.mh_top.specs.Verdicts.{FoundText, verdict_text, token_names}
 use Rattle.mh_top.specs.Work.{Work, AsksEach, Verdicts, Then, IsWorkOfOrder, IsWorkOfFile, IsWorkOfGrammar, IsWorkOfTable, halted, interpreting, loaded_from, file_limit}
@@ -50,7 +49,7 @@ use Rattle.std.specs.List.{list_all}
 pub record IsTabled (g : Grammar) (t : TableData) : Type 0 where
   bytes : Text
   short : length bytes ≤ file_limit
-  plain : IsPlainGrammar bytes g
+  given : GrammarOf bytes g
   few : HasTooMany g → ⊥
   table : HasTable g t
 
@@ -65,19 +64,19 @@ module _ (g : Grammar) (t : TableData) where
       let table : u ≡ t = cc in
       subst (λ (x : TableData). IsTabled g x) table (subst (λ (x : Grammar). IsTabled x u) grammar is)
 
-  of_table : (bytes : Text) → length bytes ≤ file_limit → (h : Grammar) → IsPlainGrammar bytes h → (s : Staged TableData) → IsTableStage h s → Then s (IsWorkOfTable h) (interpreting g t) → IsTabled g t
-  of_table bytes short h plain (Go u) stage is = same_tabled h u is (record { bytes = bytes; short = short; plain = plain; few = stage.0; table = stage.1 })
-  of_table bytes short h plain (Halt cause line) stage is = absurd (not_halted cause line is)
+  of_table : (bytes : Text) → length bytes ≤ file_limit → (h : Grammar) → GrammarOf bytes h → (s : Staged TableData) → IsTableStage h s → Then s (IsWorkOfTable h) (interpreting g t) → IsTabled g t
+  of_table bytes short h given (Go u) stage is = same_tabled h u is (record { bytes = bytes; short = short; given = given; few = stage.0; table = stage.1 })
+  of_table bytes short h given (Halt cause line) stage is = absurd (not_halted cause line is)
 
-  of_grammar : (bytes : Text) → length bytes ≤ file_limit → (s : Staged Grammar) → IsGrammarStage bytes s → Then s IsWorkOfGrammar (interpreting g t) → IsTabled g t
-  of_grammar bytes short (Go h) stage is = of_table bytes short h stage is.0 is.1 is.2
-  of_grammar bytes short (Halt cause line) stage is = absurd (not_halted cause line is)
+  of_grammar : (name bytes : Text) → length bytes ≤ file_limit → (s : Staged Grammar) → IsGrammarStage name bytes s → Then s IsWorkOfGrammar (interpreting g t) → IsTabled g t
+  of_grammar name bytes short (Go h) stage is = of_table bytes short h stage is.0 is.1 is.2
+  of_grammar name bytes short (Halt cause line) stage is = absurd (not_halted cause line is)
 
-  of_bytes : (name bytes : Text) (small : Bool) → leb (length bytes) file_limit ≡ small → Then (loaded_from name (if small then Bytes bytes else Long)) IsWorkOfFile (interpreting g t) → IsTabled g t
-  of_bytes name bytes true e is = of_grammar bytes (grind (arith, e)) is.0 is.1 is.2
+  of_bytes : (name bytes : Text) (small : Bool) → leb (length bytes) file_limit ≡ small → Then (loaded_from name (if small then Bytes bytes else Long)) (IsWorkOfFile name) (interpreting g t) → IsTabled g t
+  of_bytes name bytes true e is = of_grammar name bytes (grind (arith, e)) is.0 is.1 is.2
   of_bytes name bytes false e is = absurd (not_halted TooBig (too_big name) is)
 
-  of_found : (name : Text) (what : Option Text) → Then (loaded_from name (within file_limit what)) IsWorkOfFile (interpreting g t) → IsTabled g t
+  of_found : (name : Text) (what : Option Text) → Then (loaded_from name (within file_limit what)) (IsWorkOfFile name) (interpreting g t) → IsTabled g t
   of_found name None is = absurd (not_halted Missing (cannot_read name) is)
   of_found name (Some bytes) is = of_bytes name bytes (leb (length bytes) file_limit) refl is
 
@@ -124,10 +123,10 @@ module _ (g : Grammar) (t : TableData) (is : IsTabled g t) where
       let table = is.table.table in
       let grammar : t.grammar ≡ plain_of g = table.grammar in
       let whole : table_data g t.states ≡ t = (λ i. record { grammar = sym grammar i; states = t.states }) in
-      subst Facts whole (facts_of g is.table.automaton Canonical t.states (in_range is.bytes g is.short is.plain) automaton table.states)
+      subst Facts whole (facts_of g is.table.automaton Canonical t.states (in_range is.bytes g is.short is.given) automaton table.states)
 
   start : 0 < length g.starts
-  start = has_start is.bytes g is.plain
+  start = has_start is.bytes g is.given
 
   clear : IsLR1 g → HasNoConflicts g is.table.automaton
   clear lr1 = subst (HasNoConflicts g) (one_canonical (plain_of g) lr1.automaton is.table.automaton lr1.canonical is.table.canonical) lr1.clear

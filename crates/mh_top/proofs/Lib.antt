@@ -12,11 +12,11 @@ pub mod Answering
 pub mod Tabling
 pub mod Once
 pub mod Starting
-pub mod PlainReading
 pub mod PlainTables
 pub mod PlainRules
 pub mod PlainNumbers
 pub mod PlainMeaning
+pub mod PlainModules
 pub mod Ranging
 pub mod Exactly
 pub mod OneGrammar

@@ -5,7 +5,7 @@ use Rattle.std.proofs.lemmas.Slice.Eq.{bytes_eq-Decides}
 use Rattle.std.specs.Prelude.{codes, ⊤}
 use Rattle.std.specs.Str.{bytes_eq}
 use Rattle.std.specs.declared.alloc.Global.{Global}
-use Rattle.mh_outside.specs.Shelf.{Files, Found, NoFile, Long, Bytes, found, within, Reads}
+use Rattle.mh_outside.specs.Shelf.{Files, Found, NoFile, Long, Bytes, found, file_at, within, Reads}
 use Rattle.mh_outside.specs.declared.shelf.ShelfFault.{ShelfFault}
 use Rattle.mh_outside.specs.declared.shelf.ShelfFault.TheVariants as shelf_faults
 use Rattle.mh_top.specs.Text.{Text, cannot_read, too_big}
@@ -56,3 +56,19 @@ is_too_big None name stop reads is =
     let bytes = long_file file_limit in
     halts_so None name TooBig (too_big name) stop ((name, bytes.0) ∷ [], ap (loaded_from name) (found_alone name bytes.0 file_limit ∙ is_long file_limit bytes.0 bytes.1)) tt is
 is_too_big (Some fs) name stop reads is = halts_so (Some fs) name TooBig (too_big name) stop (ap (loaded_from name) reads) tt is
+
+fits_within : (limit : ℕ) (file bytes : Text) (small : Bool) → nat_le (length file) limit ≡ small → (if small then Bytes file else Long) ≡ Bytes bytes → length bytes ≤ limit
+fits_within limit file bytes true e is =
+    let same : file ≡ bytes = cc in
+    let le : length file ≤ limit = grind (arith, nat_tests) in
+    omega (arith, le, ap length same)
+fits_within limit file bytes false e is = absurd (cc)
+
+found_fits : (limit : ℕ) (file : Option Text) (bytes : Text) → within limit file ≡ Bytes bytes → length bytes ≤ limit
+found_fits limit None bytes is = absurd (cc)
+found_fits limit (Some file) bytes is = fits_within limit file bytes (nat_le (length file) limit) refl is
+
+-- what is read is within the limit
+pub loads_short : (files : Option Files) (name : Text) (v : Vec ℕ Global) → Reads files name file_limit (Ok v) → length v.items ≤ file_limit
+loads_short None name v reads = reads
+loads_short (Some fs) name v reads = found_fits file_limit (file_at fs name) v.items reads

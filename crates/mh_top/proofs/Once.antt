@@ -15,7 +15,10 @@ use Rattle.mh_top.specs.Text.{Text, too_many_states, not_plain}
 use Rattle.mh_top.specs.Causes.{Staged, Go, Halt}
 use Rattle.mh_top.specs.Order.{order_of}
 use Rattle.mh_top.specs.Verdicts.{token_names}
-use Rattle.mh_top.specs.GrammarStage.{GrammarOf, IsGrammarStage}
+use Rattle.mh_reader.proofs.Lines.{line_once, one_module}
+use Rattle.mh_reader.specs.declared.modules.Module.{Module}
+use Rattle.mh_top.specs.ModuleGrammars.{IsPlain}
+use Rattle.mh_top.specs.GrammarStage.{GrammarOf, IsGrammarStage, IsSyntaxFault, IsNotPlain, syntax_error}
 use Rattle.mh_top.specs.TableStage.{HasTooMany, HasTable, LoopsFirst, IsTableStage, loops_line}
 use Rattle.mh_top.specs.Work.{Work, Then, IsWork, IsWorkOfOrder, IsWorkOfFile, IsWorkOfGrammar, IsWorkOfTable, halted, loaded, loaded_from, file_limit}
 use Rattle.mh_top.specs.declared.order.Order.{Order}
@@ -38,8 +41,8 @@ loops_not g t line has halts first =
     let same : first.found ≡ t = table_once g first.found t first.table has in
     no_loop t first.below first.state first.look halts (subst (λ (x : TableData). LoopsAt x first.below first.state first.look) same first.loops)
 
-line_once : (g : Grammar) (a b : Text) → LoopsFirst g a → LoopsFirst g b → a ≡ b
-line_once g a b p q =
+loop_once : (g : Grammar) (a b : Text) → LoopsFirst g a → LoopsFirst g b → a ≡ b
+loop_once g a b p q =
     let same : q.found ≡ p.found = table_once g q.found p.found q.table p.table in
     let one = one_loop p.found p.below p.state p.look q.below q.state q.look p.loops (subst (λ (x : TableData). LoopsAt x q.below q.state q.look) same q.loops) in
     p.line_is ∙ ap (λ (r : Option ℕ). loops_line (token_names g) r p.state p.look) one.0 ∙ ap (λ (s : ℕ). loops_line (token_names g) q.below s p.look) one.1
@@ -52,7 +55,7 @@ refusal_once : (g : Grammar) (a b : Text) → Refusal g a → Refusal g b → a 
 refusal_once g a b (inl p) (inl q) = p.1 ∙ sym q.1
 refusal_once g a b (inl p) (inr q) = absurd (q.0 p.0)
 refusal_once g a b (inr p) (inl q) = absurd (p.0 q.0)
-refusal_once g a b (inr p) (inr q) = line_once g a b p.1 q.1
+refusal_once g a b (inr p) (inr q) = loop_once g a b p.1 q.1
 
 not_refused : (g : Grammar) (t : TableData) (line : Text) → IsTableStage g (Go t) → Refusal g line → ⊥
 not_refused g t line go (inl p) = go.0 p.0
@@ -69,11 +72,26 @@ table_stage_once g (Halt cause line) (Halt cause' line') p q = ap₂ (λ (c : Ca
 abbrev pub OneGrammar : Type 0
 OneGrammar = (bytes : Text) (g h : Grammar) → GrammarOf bytes g → GrammarOf bytes h → g ≡ h
 
-pub grammar_stage_once : OneGrammar → (bytes : Text) (s s' : Staged Grammar) → IsGrammarStage bytes s → IsGrammarStage bytes s' → s ≡ s'
-grammar_stage_once once bytes (Go g) (Go h) p q = ap Go (once bytes g h p q)
-grammar_stage_once once bytes (Go g) (Halt cause line) p q = absurd (q.2 g p)
-grammar_stage_once once bytes (Halt cause line) (Go g) p q = absurd (p.2 g q)
-grammar_stage_once once bytes (Halt cause line) (Halt cause' line') p q = ap₂ (λ (c : Cause) (l : Text). Halt c l) (p.0 ∙ sym q.0) (p.1 ∙ sym q.1)
+abbrev NoGrammar : Text → Text → Text → Type 0
+NoGrammar name bytes line = IsSyntaxFault name bytes line ⊎ IsNotPlain bytes line
+
+has_none : (name bytes : Text) (g : Grammar) (line : Text) → GrammarOf bytes g → NoGrammar name bytes line → ⊥
+has_none name bytes g line p (inl q) = q.spelled p.made p.spelled
+has_none name bytes g line p (inr q) =
+    let plain : IsPlain p.made = record { file = p.grammar.file; meaning = p.grammar.meaning; acceptable = p.grammar.grammar.acceptable } in
+    q.meaning (subst IsPlain (one_module bytes p.made q.made p.spelled q.spelled) plain)
+
+none_once : (name bytes a b : Text) → NoGrammar name bytes a → NoGrammar name bytes b → a ≡ b
+none_once name bytes a b (inl p) (inl q) = p.text_is ∙ ap (syntax_error name) (line_once bytes p.line q.line p.stops q.stops) ∙ sym q.text_is
+none_once name bytes a b (inl p) (inr q) = absurd (p.spelled q.made q.spelled)
+none_once name bytes a b (inr p) (inl q) = absurd (q.spelled p.made p.spelled)
+none_once name bytes a b (inr p) (inr q) = p.text_is ∙ sym q.text_is
+
+pub grammar_stage_once : OneGrammar → (name bytes : Text) (s s' : Staged Grammar) → IsGrammarStage name bytes s → IsGrammarStage name bytes s' → s ≡ s'
+grammar_stage_once once name bytes (Go g) (Go h) p q = ap Go (once bytes g h p q)
+grammar_stage_once once name bytes (Go g) (Halt cause line) p q = absurd (has_none name bytes g line p q.1)
+grammar_stage_once once name bytes (Halt cause line) (Go g) p q = absurd (has_none name bytes g line q p.1)
+grammar_stage_once once name bytes (Halt cause line) (Halt cause' line') p q = ap₂ (λ (c : Cause) (l : Text). Halt c l) (p.0 ∙ sym q.0) (none_once name bytes line line' p.1 q.1)
 
 -- ---- the work
 
@@ -92,11 +110,11 @@ grammar_work_once g w v p q =
     let same : q.0 ≡ p.0 = table_stage_once g q.0 p.0 q.1 p.1 in
     then_once p.0 (IsWorkOfTable g) (table_work_once g) w v p.2 (subst (λ (s : Staged TableData). Then s (IsWorkOfTable g) v) same q.2)
 
-file_work_once : OneGrammar → (bytes : Text) → IsOne (IsWorkOfFile bytes)
-file_work_once once bytes w v p q =
-    let same : q.0 ≡ p.0 = grammar_stage_once once bytes q.0 p.0 q.1 p.1 in
+file_work_once : OneGrammar → (name bytes : Text) → IsOne (IsWorkOfFile name bytes)
+file_work_once once name bytes w v p q =
+    let same : q.0 ≡ p.0 = grammar_stage_once once name bytes q.0 p.0 q.1 p.1 in
     then_once p.0 IsWorkOfGrammar grammar_work_once w v p.2 (subst (λ (s : Staged Grammar). Then s IsWorkOfGrammar v) same q.2)
 
 -- The words ask for one work over the same files.
 pub work_once : OneGrammar → (words : List Text) (files : Files) (w v : Work) → IsWork words files w → IsWork words files v → w ≡ v
-work_once once words files w v p q = then_once (order_of words) (IsWorkOfOrder files) (λ order. then_once (loaded files order.file) IsWorkOfFile (file_work_once once)) w v p q
+work_once once words files w v p q = then_once (order_of words) (IsWorkOfOrder files) (λ order. then_once (loaded files order.file) (IsWorkOfFile order.file) (file_work_once once order.file)) w v p q

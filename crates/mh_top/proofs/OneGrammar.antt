@@ -15,22 +15,15 @@ use Rattle.mh_grammar.proofs.Placing.{contains_at}
 use Rattle.mh_top.specs.declared.plain.files.PlainRule.{PlainRule}
 use Rattle.mh_top.specs.declared.plain.files.PlainFile.{PlainFile}
 use Rattle.mh_top.specs.Text.{Text}
-use Rattle.mh_top.specs.PlainGrammars.{names_of, AreFirsts, IsNamed, Denotes, DenoteAll, rules_of, Leads, Renumbers, IsProductionOf, AreOfRule, AreProductions, IsTokenOf, IsNonterminal, first_numbers, AreStarts, IsGrammarOf, IsPlainGrammar}
-use Rattle.mh_top.proofs.PlainReading.{IsPlainText-once}
+use Rattle.mh_top.specs.PlainGrammars.{names_of, AreFirsts, IsNamed, Denotes, DenoteAll, rules_of, Leads, Renumbers, IsProductionOf, AreOfRule, AreProductions, IsTokenOf, IsNonterminal, first_numbers, AreStarts, IsGrammarOf}
+use Rattle.mh_reader.specs.declared.modules.Module.{Module}
+use Rattle.mh_reader.proofs.Lines.{one_module}
+use Rattle.mh_top.specs.ModuleGrammars.{IsGrammarOfModule}
+use Rattle.mh_top.specs.GrammarStage.{GrammarOf}
+use Rattle.mh_top.proofs.PlainModules.{zip_once, IsFunction, file_once}
 use Rattle.mh_top.proofs.Ranging.{firsts_there}
 
 -- ---- lists
-
-abbrev IsFunction : {A B : Type 0} → (A → B → Type 0) → Type 0
-IsFunction {A} {B} R = (x : A) (y z : B) → R x y → R x z → y ≡ z
-
-zip_once : {A B : Type 0} (R : A → B → Type 0) → IsFunction R → (xs : List A) (ys zs : List B) → AllZip R xs ys → AllZip R xs zs → ys ≡ zs
-zip_once R one [] [] [] p q = refl
-zip_once R one [] [] (z ∷ zs) p q = absurd q
-zip_once R one [] (y ∷ ys) zs p q = absurd p
-zip_once R one (x ∷ xs) [] zs p q = absurd p
-zip_once R one (x ∷ xs) (y ∷ ys) [] p q = absurd q
-zip_once R one (x ∷ xs) (y ∷ ys) (z ∷ zs) p q = ap₂ (λ h t. h ∷ t) (one x y z p.0 q.0) (zip_once R one xs ys zs p.1 q.1)
 
 -- what is named, where no item stands twice, goes by one number
 zip_named : {X : Type 0} (states : List X) → AreDistinct states → (xs : List X) (a b : List ℕ) → Names states a xs → Names states b xs → a ≡ b
@@ -181,7 +174,11 @@ module _ (f : PlainFile) (g h : Grammar) (p : IsGrammarOf f g) (q : IsGrammarOf 
       let starts : g.starts ≡ h.starts = p.starts ∙ ap (λ (k : List ℕ). first_numbers (length k)) (sym starts_same) ∙ sym q.starts in
       λ i. record { tokens = tokens i; nonterminals = nonterminals i; productions = productions i; starts = starts i }
 
-pub one_grammar : (bytes : Text) (g h : Grammar) → IsPlainGrammar bytes g → IsPlainGrammar bytes h → g ≡ h
-one_grammar bytes g h p q =
-    let file : q.file ≡ p.file = IsPlainText-once bytes q.file p.file q.text p.text in
+-- a module means one grammar
+module_once : (m : Module) (g h : Grammar) → IsGrammarOfModule m g → IsGrammarOfModule m h → g ≡ h
+module_once m g h p q =
+    let file : q.file ≡ p.file = file_once m q.file p.file q.meaning p.meaning in
     same p.file g h p.grammar (subst (λ (f : PlainFile). IsGrammarOf f h) file q.grammar)
+
+pub one_grammar : (bytes : Text) (g h : Grammar) → GrammarOf bytes g → GrammarOf bytes h → g ≡ h
+one_grammar bytes g h p q = module_once p.made g h p.grammar (subst (λ (m : Module). IsGrammarOfModule m h) (one_module bytes q.made p.made q.spelled p.spelled) q.grammar)

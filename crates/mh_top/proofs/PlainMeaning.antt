@@ -1,5 +1,5 @@
 -- The parts of a file's grammar make it.
-use Rattle.std.proofs.Common.{◌≡◌, ℕ, suc, ◌+◌, ◌<◌, ◌≤◌, ◌⊎◌, List, [], ◌∷◌, ◌++◌, Some, length, get_or, take, refl, sym, ap, subst, ◌∙◌, arith, inl, inr, append_assoc}
+use Rattle.std.proofs.Common.{Bool, true, false, true≢false, IsTrue, ◌↔◌, ◌≡◌, ℕ, suc, ◌+◌, ◌<◌, ◌≤◌, ◌⊎◌, List, [], ◌∷◌, ◌++◌, Some, length, get_or, take, refl, sym, ap, subst, ◌∙◌, arith, inl, inr, append_assoc}
 use Rattle.std.specs.List.{slice_get, All, AllZip, Contains}
 use Rattle.std.proofs.lemmas.List.{append-nil, take_more, length-take-le, length-map}
 use Rattle.std.proofs.lemmas.List.Sums.{sum_by_push, sum_by-append}
@@ -158,9 +158,10 @@ AreFirsts-from new xs p = record {
   distinct = Places-distinct [] new xs p AreDistinct-none;
 }
 
-pub acceptable-from : (f : PlainFile) (tokens names : List (List ℕ)) (start_rules : List ℕ) (symbols : List (List (List Symbol))) → Places [] tokens f.tokens → length tokens ≤ 256 → names ≡ names_of f.rules → AreRules tokens f.rules → DenoteAll tokens names f.rules symbols →
+pub acceptable-from : (f : PlainFile) (tokens names : List (List ℕ)) (start_rules : List ℕ) (symbols : List (List (List Symbol))) → 0 < length f.starts → Places [] tokens f.tokens → length tokens ≤ 256 → names ≡ names_of f.rules → AreRules tokens f.rules → DenoteAll tokens names f.rules symbols →
     ArePlacedStarts names f.starts start_rules → IsAcceptable f
-acceptable-from f tokens names start_rules symbols p few e a d s = record {
+acceptable-from f tokens names start_rules symbols some p few e a d s = record {
+  some_start = some;
   tokens = few-declared tokens names f.tokens p few;
   rules = rules-for-declared tokens names f.tokens p f.rules a;
   starts = subst (λ k. All (Contains k) f.starts) e (starts-named tokens names f.starts start_rules s);
@@ -195,7 +196,7 @@ AreStarts-from names starts rules a = record { all = a.all; named = a.named; fir
 pub grammar-from : (f : PlainFile) (tokens names : List (List ℕ)) (symbols : List (List (List Symbol))) (start_rules found : List ℕ) (starts : ℕ) (g : Grammar) → IsResolved f tokens names symbols → ArePlacedStarts names f.starts start_rules → starts ≡ length start_rules → IsNumbered (Leads symbols) start_rules found →
     IsMadeOf tokens names symbols found starts g → IsGrammarOf f g
 grammar-from f tokens names symbols start_rules found starts g r s c n m = record {
-  acceptable = acceptable-from f tokens names start_rules symbols r.has.placed r.has.few r.has.names_are r.has.rules r.denoted s;
+  acceptable = acceptable-from f tokens names start_rules symbols r.has.some_start r.has.placed r.has.few r.has.names_are r.has.rules r.denoted s;
   token_names = tokens;
   declared = AreFirsts-from tokens f.tokens r.has.placed;
   tokens = m.tokens_are;
@@ -233,3 +234,9 @@ module _ (f : PlainFile) (tokens names : List (List ℕ)) (symbols : List (List 
 
   pub below-few : (rules : List ℕ) → AreDistinct rules → All (λ r. r < length symbols) rules → length rules ≤ 20000
   below-few rules d a = let bound = few-below (length symbols) rules d a in let few = resolved-few_symbols in omega arith
+
+-- a list that is not empty has an item
+pub some_item : {A : Type 0} (xs : List A) (b : Bool) → (IsTrue b ↔ (xs ≡ [])) → b ≡ false → 0 < length xs
+some_item [] true h e = absurd (true≢false e)
+some_item [] false h e = absurd (true≢false (sym (h.1 refl)))
+some_item (x ∷ xs) b h e = omega arith

@@ -14,23 +14,20 @@ use Rattle.mh_grammar.specs.Plain.{plain_of, IsInRange, IsProductionBelow, IsSym
 use Rattle.mh_grammar.specs.Numbering.{InOrder, Names}
 use Rattle.mh_grammar.proofs.Placing.{at_contains}
 use Rattle.mh_canon.proofs.Rising.{contains_here, contains_there}
-use Rattle.mh_top.specs.declared.plain.lexemes.Sign.{Sign}
-use Rattle.mh_top.specs.declared.plain.lexemes.Sign.TheVariants.{Bar, Start, Percents, Colon, Token, Braces}
-use Rattle.mh_top.specs.declared.plain.lexemes.Front.{Front}
-use Rattle.mh_top.specs.declared.plain.lexemes.Front.TheVariants.{Ended, Blank, Word, Mark, Fault}
 use Rattle.mh_top.specs.declared.plain.files.PlainRule.{PlainRule}
 use Rattle.mh_top.specs.declared.plain.files.PlainFile.{PlainFile}
 use Rattle.mh_top.specs.Text.{Text}
-use Rattle.mh_top.specs.PlainLexemes.{Lexeme, Lexes, front, percent, keyword, has, is_blank, is_word_start, is_word_byte, word_rest}
-use Rattle.mh_top.specs.PlainLexemes.Lexeme.{word, mark}
-use Rattle.mh_top.specs.PlainText.{Alternative, Alternatives, Rules, Capitals, Declared, IsFile}
-use Rattle.mh_top.specs.PlainGrammars.{names_of, AreFirsts, IsNamed, Denotes, DenoteAll, Renumbers, IsProductionOf, AreOfRule, AreProductions, IsTokenOf, IsNonterminal, first_numbers, IsGrammarOf, IsPlainGrammar}
+use Rattle.mh_reader.specs.declared.modules.Alternative.{Alternative}
+use Rattle.mh_reader.specs.declared.modules.Rule.{Rule}
+use Rattle.mh_reader.specs.declared.modules.Module.{Module}
+use Rattle.mh_reader.proofs.Short.{AreShort as AreShortRules, spelled_short}
+use Rattle.mh_top.specs.PlainModules.{IsWordOf, AreWordsOf, IsRuleOf, IsFileOf}
+use Rattle.mh_top.specs.GrammarStage.{GrammarOf}
+use Rattle.mh_top.specs.PlainGrammars.{names_of, AreFirsts, IsNamed, Denotes, DenoteAll, Renumbers, IsProductionOf, AreOfRule, AreProductions, IsTokenOf, IsNonterminal, first_numbers, IsGrammarOf}
 use Rattle.mh_top.specs.Work.{file_limit}
 use Rattle.mh_top.proofs.PlainMeaning.{few-names}
 use Rattle.mh_top.proofs.PlainNumbers.{few-below, length-first_numbers}
 use Rattle.mh_top.proofs.PlainRules.{count_of}
-use Rattle.std.specs.Cmp.Lexicographic.{pointwise}
-use Rattle.std.specs.Prelude.{nat_eq, ◌&&◌}
 
 -- ---- lists side by side
 
@@ -82,101 +79,18 @@ first_below : (n m : ℕ) → n ≤ m → All (λ s. s < m) (first_numbers n)
 first_below zero m le = All-nil (λ s. s < m)
 first_below (suc n) m le = All-push (λ s. s < m) (first_numbers n) n (first_below n m (omega arith)) (omega arith)
 
--- ---- words are no longer than the file
-
--- a lexeme has a byte
-abbrev HasByte : Front → Type 0
-HasByte (Word n) = 0 < n
-HasByte (Mark g n) = 0 < n
-HasByte _ = Unit {0}
-
-of_percent : (a b c : Bool) → HasByte (cond a (Mark Percents 2) (cond b (Mark Token 6) (cond c (Mark Start 6) Fault)))
-of_percent true b c = omega arith
-of_percent false true c = omega arith
-of_percent false false true = omega arith
-of_percent false false false = tt
-
-of_front : (a b c d e f g : Bool) (w : ℕ) (p : Front) → (c ≡ true → 0 < w) → HasByte p →
-    HasByte (cond a Ended (cond b Blank (cond c (Word w) (cond d (Mark Colon 1) (cond e (Mark Bar 1) (cond f p (cond g (Mark Braces 2) Fault)))))))
-of_front true b c d e f g w p h k = tt
-of_front false true c d e f g w p h k = tt
-of_front false false true d e f g w p h k = h refl
-of_front false false false true e f g w p h k = omega arith
-of_front false false false false true f g w p h k = omega arith
-of_front false false false false false true g w p h k = k
-of_front false false false false false false true w p h k = omega arith
-of_front false false false false false false false w p h k = tt
-
-some_rest : (b : ℕ) (bs : List ℕ) → is_word_start b ≡ true → 0 < word_rest (b ∷ bs)
-some_rest b bs e = let here : is_word_byte b ≡ true = rw e refl in rw here (omega arith)
-
-percent_byte : (s : List ℕ) → HasByte (percent s)
-unfolding percent keyword
-percent_byte s =
-    let w = take (word_rest (drop 1 s)) (drop 1 s) in
-    of_percent (has s 1 37) (pointwise nat_eq w (116 ∷ 111 ∷ 107 ∷ 101 ∷ 110 ∷ [])) (pointwise nat_eq w (115 ∷ 116 ∷ 97 ∷ 114 ∷ 116 ∷ []))
-
-front_byte : (b : ℕ) (bs : List ℕ) → HasByte (front (b ∷ bs))
-unfolding front
-front_byte b bs =
-    of_front (has (b ∷ bs) 0 256) (is_blank b) (is_word_start b) (has (b ∷ bs) 0 58) (has (b ∷ bs) 0 124) (has (b ∷ bs) 0 37) (has (b ∷ bs) 0 123 && has (b ∷ bs) 1 125) (word_rest (b ∷ bs)) (percent (b ∷ bs)) (some_rest b bs) (percent_byte (b ∷ bs))
-
-none_there : front [] ≡ Ended
-unfolding front
-none_there = refl
-
-word_byte : (bytes : List ℕ) (n : ℕ) → front bytes ≡ Word n → (0 < n) × (0 < length bytes)
-word_byte [] n e = absurd (let bad : Ended ≡ Word n = sym none_there ∙ e in cc)
-word_byte (b ∷ bs) n e = let some : HasByte (Word n) = subst HasByte e (front_byte b bs) in (some, omega arith)
-
-mark_byte : (bytes : List ℕ) (g : Sign) (n : ℕ) → front bytes ≡ Mark g n → (0 < n) × (0 < length bytes)
-mark_byte [] g n e = absurd (let bad : Ended ≡ Mark g n = sym none_there ∙ e in cc)
-mark_byte (b ∷ bs) g n e = let some : HasByte (Mark g n) = subst HasByte e (front_byte b bs) in (some, omega arith)
-
-lexes_short : (bytes : List ℕ) (ls : List Lexeme) → Lexes bytes ls → length ls ≤ length bytes
-lexes_short bytes ls (Lexes.ended e) = omega arith
-lexes_short bytes ls (Lexes.blank e l) = omega (arith, lexes_short (drop 1 bytes) ls l, length-drop 1 bytes)
-lexes_short bytes ls (Lexes.a_word {n = n} {ls = more} e l) =
-    let some = word_byte bytes n e in
-    omega (arith, lexes_short (drop n bytes) more l, length-drop n bytes, some.0, some.1)
-lexes_short bytes ls (Lexes.a_mark {g = g} {n = n} {ls = more} e l) =
-    let some = mark_byte bytes g n e in
-    omega (arith, lexes_short (drop n bytes) more l, length-drop n bytes, some.0, some.1)
-
-alternative_short : (ls rest : List Lexeme) (ws : List (List ℕ)) → Alternative ls rest ws → length ws + length rest ≤ length ls
-alternative_short ls rest ws (Alternative.closes) = omega arith
-alternative_short ls rest ws (Alternative.takes {ls = more} {ws = us} a) = omega (arith, alternative_short more rest us a)
+-- ---- right sides are no longer than the file
 
 abbrev AreShort : ℕ → List (List (List ℕ)) → Type 0
 AreShort m ks = All (λ ws. length ws ≤ m) ks
 
-alternatives_short : (m : ℕ) (ls rest : List Lexeme) (ks : List (List (List ℕ))) → Alternatives ls rest ks → length ls ≤ m → AreShort m ks × (length rest ≤ m)
-alternatives_short m ls rest ks (Alternatives.last {a = a} h) le =
-    let fits = alternative_short ls rest a h in
-    (All-cons (λ ws. length ws ≤ m) a [] (omega (arith, fits)) (All-nil (λ ws. length ws ≤ m)), omega (arith, fits))
-alternatives_short m ls rest ks (Alternatives.more {mid = mid} {a = a} {ks = us} h t) le =
-    let fits = alternative_short ls (mark Bar ∷ mid) a h in
-    let more = alternatives_short m mid rest us t (omega (arith, fits)) in
-    (All-cons (λ ws. length ws ≤ m) a us (omega (arith, fits)) more.0, more.1)
-
-rules_short : (m : ℕ) (ls : List Lexeme) (rs : List PlainRule) → Rules ls rs → length ls ≤ m → All (λ r. AreShort m r.alternatives) rs
-rules_short m ls rs (Rules.none) le = All-nil (λ (r : PlainRule). AreShort m r.alternatives)
-rules_short m ls rs (Rules.more {w = w} {ls = next} {mid = mid} {ks = ks} {rs = more} h t) le =
-    let fits = alternatives_short m next mid ks h (omega arith) in
-    All-cons (λ (r : PlainRule). AreShort m r.alternatives) (record { name = w; alternatives = ks }) more fits.0 (rules_short m mid more t fits.1)
-
-capitals_short : (ls rest : List Lexeme) (ws : List (List ℕ)) → Capitals ls rest ws → length rest ≤ length ls
-capitals_short ls rest ws (Capitals.none) = omega arith
-capitals_short ls rest ws (Capitals.more {ls = more} {ws = us} c t) = omega (arith, capitals_short more rest us t)
-
-declared_short : (ls rest : List Lexeme) (ws : List (List ℕ)) → Declared ls rest ws → length rest ≤ length ls
-declared_short ls rest ws (Declared.absent) = omega arith
-declared_short ls rest ws (Declared.given {ls = more} c) = omega (arith, capitals_short more rest ws c)
-
-file_short : (m : ℕ) (ls : List Lexeme) (f : PlainFile) → IsFile ls f → length ls ≤ m → All (λ r. AreShort m r.alternatives) f.rules
-file_short m ls f (IsFile.file {rest = rest} {ts = ts} {s = s} {rs = rs} d r) le =
-    let fits = declared_short ls (mark Start ∷ word s ∷ mark Percents ∷ rest) ts d in
-    rules_short m rest rs r (omega (arith, fits))
+-- the right sides of a plain file are as long as those of its module
+file_short : (n : ℕ) (m : Module) (f : PlainFile) → AreShortRules n m.rules → IsFileOf m f → All (λ r. AreShort n r.alternatives) f.rules
+file_short n m f short is =
+    zip_told (IsRuleOf m.tokens) (λ (r : Rule). All (λ k. length k.producers ≤ n) r.alternatives) (λ (r : PlainRule). AreShort n r.alternatives)
+    (λ r p fits are. zip_told (AreWordsOf m.tokens) (λ (k : Alternative). length k.producers ≤ n) (λ (ws : List (List ℕ)). length ws ≤ n)
+    (λ k ws le words. omega (arith, le, zip_length (IsWordOf m.tokens) k.producers ws words.words_are)) r.alternatives p.alternatives fits are.alternatives_are)
+    m.rules f.rules short is.rules_are
 
 -- ---- what the words stand for
 
@@ -318,7 +232,5 @@ module _ (f : PlainFile) (g : Grammar) (is : IsGrammarOf f g) (short : All (λ r
     few = omega (arith, starts_same, starts_few, found_few, productions_few);
   }
 
-pub in_range : (bytes : Text) (g : Grammar) → length bytes ≤ file_limit → IsPlainGrammar bytes g → IsInRange (plain_of g)
-in_range bytes g short is =
-    let fits = lexes_short bytes is.text.lexemes is.text.lexes in
-    ranged is.file g is.grammar (file_short file_limit is.text.lexemes is.file is.text.file (omega (arith, fits, short)))
+pub in_range : (bytes : Text) (g : Grammar) → length bytes ≤ file_limit → GrammarOf bytes g → IsInRange (plain_of g)
+in_range bytes g short is = ranged is.grammar.file g is.grammar.grammar (file_short file_limit is.made is.grammar.file (spelled_short file_limit bytes is.made short is.spelled) is.grammar.meaning)

@@ -38,11 +38,11 @@ pub words_on : (words : List Text) (order : Order) (b a : World) (r : Result (Un
 words_on words order b a r is worked =
     wider (λ w. Over b.files (λ fs. IsWorkOfOrder fs order w)) (AskedBy words b.files) (λ line. line ≡ cannot_read order.file) (FileOf words) (λ w here. order_on words order b.files w is here) (λ line named. (order, is, named)) b a r worked
 
-pub grammar_halts : (bytes : Text) (b : World) (stop : Stop) → StageHas {A = Grammar} (IsGrammarStage bytes) (Err stop) → Worked (IsWorkOfFile bytes) (λ line. ⊥) b b (Err stop)
-grammar_halts bytes b stop is = stage_halts (IsGrammarStage bytes) (IsWorkOfFile bytes) (λ line. ⊥) b stop (λ cause line here. ((Halt cause line, here, refl), may_refuse b.files cause here.0)) is
+pub grammar_halts : (name bytes : Text) (b : World) (stop : Stop) → StageHas {A = Grammar} (IsGrammarStage name bytes) (Err stop) → Worked (IsWorkOfFile name bytes) (λ line. ⊥) b b (Err stop)
+grammar_halts name bytes b stop is = stage_halts (IsGrammarStage name bytes) (IsWorkOfFile name bytes) (λ line. ⊥) b stop (λ cause line here. ((Halt cause line, here, refl), may_refuse b.files cause here.0)) is
 
-pub grammar_on : (bytes : Text) (g : Grammar) (b a : World) (r : Result (Unit {0}) Stop) → IsGrammarStage bytes (Go g) → Worked (IsWorkOfGrammar g) (λ line. ⊥) b a r → Worked (IsWorkOfFile bytes) (λ line. ⊥) b a r
-grammar_on bytes g b a r is worked = wider (IsWorkOfGrammar g) (IsWorkOfFile bytes) (λ line. ⊥) (λ line. ⊥) (λ w here. (Go g, is, here)) (λ line none. none) b a r worked
+pub grammar_on : (name bytes : Text) (g : Grammar) (b a : World) (r : Result (Unit {0}) Stop) → IsGrammarStage name bytes (Go g) → Worked (IsWorkOfGrammar g) (λ line. ⊥) b a r → Worked (IsWorkOfFile name bytes) (λ line. ⊥) b a r
+grammar_on name bytes g b a r is worked = wider (IsWorkOfGrammar g) (IsWorkOfFile name bytes) (λ line. ⊥) (λ line. ⊥) (λ w here. (Go g, is, here)) (λ line none. none) b a r worked
 
 pub table_halts : (g : Grammar) (b : World) (stop : Stop) → StageHas {A = TableData} (IsTableStage g) (Err stop) → Worked (IsWorkOfGrammar g) (λ line. ⊥) b b (Err stop)
 table_halts g b stop is = stage_halts (IsTableStage g) (IsWorkOfGrammar g) (λ line. ⊥) b stop (λ cause line here. ((Halt cause line, here, refl), may_refuse b.files cause here.0)) is

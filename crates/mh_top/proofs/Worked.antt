@@ -152,8 +152,8 @@ order_halts words files cause line is = (
 )
 
 -- a file was read
-file_on : (order : Order) (bytes : Text) (files : Option Files) (w : Work) → Over files (λ fs. loaded fs order.file ≡ Go bytes) → IsWorkOfFile bytes w → Over files (λ fs. IsWorkOfOrder fs order w)
-file_on order bytes files w over is = over_next files (λ fs. loaded fs order.file ≡ Go bytes) (λ fs. IsWorkOfOrder fs order w) (λ fs h. subst (λ (s : Staged Text). Then s IsWorkOfFile w) (sym h) is) over
+file_on : (order : Order) (bytes : Text) (files : Option Files) (w : Work) → Over files (λ fs. loaded fs order.file ≡ Go bytes) → IsWorkOfFile order.file bytes w → Over files (λ fs. IsWorkOfOrder fs order w)
+file_on order bytes files w over is = over_next files (λ fs. loaded fs order.file ≡ Go bytes) (λ fs. IsWorkOfOrder fs order w) (λ fs h. subst (λ (s : Staged Text). Then s (IsWorkOfFile order.file) w) (sym h) is) over
 
 module _ (b : World) (order : Order) (files : Option Files) (n : ℕ) where
   abbrev m : World
@@ -165,7 +165,7 @@ module _ (b : World) (order : Order) (files : Option Files) (n : ℕ) where
   pub load_halts : (name : Text) (stop : Stop) → name ≡ order.file → LoadHas b.files name (Err stop) → LoadCounts {A = Text} b.shelf_faults n (Err stop) → Worked Asked (λ line. line ≡ cannot_read order.file) b m (Err stop)
   load_halts name (Halted cause line) same has counts =
       halts Asked b m cause line
-      (over_next b.files (λ fs. loaded fs name ≡ Halt cause line) (λ fs. IsWorkOfOrder fs order (halted cause line)) (λ fs h. subst (λ (s : Staged Text). Then s IsWorkOfFile (halted cause line)) (sym (ap (loaded fs) (sym same) ∙ h)) refl) has.1)
+      (over_next b.files (λ fs. loaded fs name ≡ Halt cause line) (λ fs. IsWorkOfOrder fs order (halted cause line)) (λ fs h. subst (λ (s : Staged Text). Then s (IsWorkOfFile order.file) (halted cause line)) (sym (ap (loaded fs) (sym same) ∙ h)) refl) has.1)
       has.0
       refl
       refl
@@ -177,15 +177,15 @@ module _ (b : World) (order : Order) (files : Option Files) (n : ℕ) where
   load_halts name WriteFailed same has counts = absurd counts
 
   -- the work on the bytes goes on in the world that the load left
-  pub load_on : (name bytes : Text) (a : World) (r : Result (Unit {0}) Stop) → name ≡ order.file → files ≡ b.files → n ≡ b.shelf_faults → Over b.files (λ fs. loaded fs name ≡ Go bytes) → Worked (IsWorkOfFile bytes) (λ line. ⊥) m a r → Worked Asked (λ line. line ≡ cannot_read order.file) b a r
+  pub load_on : (name bytes : Text) (a : World) (r : Result (Unit {0}) Stop) → name ≡ order.file → files ≡ b.files → n ≡ b.shelf_faults → Over b.files (λ fs. loaded fs name ≡ Go bytes) → Worked (IsWorkOfFile order.file bytes) (λ line. ⊥) m a r → Worked Asked (λ line. line ≡ cannot_read order.file) b a r
   load_on name bytes a r same kept calm has worked =
-      wider (IsWorkOfFile bytes) Asked (λ line. ⊥) (λ line. line ≡ cannot_read order.file)
+      wider (IsWorkOfFile order.file bytes) Asked (λ line. ⊥) (λ line. line ≡ cannot_read order.file)
       (λ w is. file_on order bytes b.files w (over_next b.files (λ fs. loaded fs name ≡ Go bytes) (λ fs. loaded fs order.file ≡ Go bytes) (λ fs h. ap (loaded fs) (sym same) ∙ h) has) is)
       (λ line none. absurd none)
       b
       a
       r
-      (subst (λ (w : World). Worked (IsWorkOfFile bytes) (λ line. ⊥) w a r) (ap₂ (λ (x : Option Files) (k : ℕ). record b { files = x; shelf_faults = k }) kept calm) worked)
+      (subst (λ (w : World). Worked (IsWorkOfFile order.file bytes) (λ line. ⊥) w a r) (ap₂ (λ (x : Option Files) (k : ℕ). record b { files = x; shelf_faults = k }) kept calm) worked)
 
 -- ---- a plan that asks for each line
 

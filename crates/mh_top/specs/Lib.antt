@@ -12,9 +12,8 @@ pub mod Run
 pub mod Load
 pub mod Claims
 pub mod Sentences
-pub mod PlainLexemes
-pub mod PlainText
-pub mod PlainReader
+pub mod PlainModules
 pub mod PlainGrammars
+pub mod ModuleGrammars
 pub mod Places
 pub mod Exact

@@ -57,6 +57,7 @@ pub record AddsRule (found : List ℕ) (rule : ℕ) (alternatives : List (List S
 
 -- the names of a file's tokens and rules
 pub record HasNames (f : PlainFile) (tokens names : List (List ℕ)) : Type 0 where
+  pub some_start : 0 < length f.starts
   pub placed : Places [] tokens f.tokens
   pub few : length tokens ≤ 256
   pub names_are : names ≡ names_of f.rules

@@ -11,7 +11,6 @@ use Rattle.mh_grammar.specs.declared.types.Grammar.{Grammar}
 use Rattle.mh_grammar.specs.Numbering.{AreDistinct, InOrder, Names, IsNumbering}
 use Rattle.mh_top.specs.declared.plain.files.PlainRule.{PlainRule}
 use Rattle.mh_top.specs.declared.plain.files.PlainFile.{PlainFile}
-use Rattle.mh_top.specs.PlainText.{IsPlainText}
 
 abbrev pub error_word : List ℕ
 error_word = 101 ∷ 114 ∷ 114 ∷ 111 ∷ 114 ∷ []
@@ -45,6 +44,7 @@ pub record IsSymbolName (tokens names : List (List ℕ)) (w : List ℕ) : Type 0
 
 -- the file means a grammar
 pub record IsAcceptable (f : PlainFile) : Type 0 where
+  pub some_start : 0 < length f.starts
   pub tokens : IsFew f.tokens
   pub rules : AreRules f.tokens f.rules
   pub starts : All (Contains (names_of f.rules)) f.starts
@@ -148,9 +148,3 @@ pub record IsGrammarOf (f : PlainFile) (g : Grammar) : Type 0 where
   pub nonterminals : AllZip (IsNonterminal (names_of f.rules)) found g.nonterminals
   pub productions : AreProductions found 0 symbols g.productions
   pub starts : g.starts ≡ first_numbers (length start_rules)
-
--- the bytes are of the plain form, and mean this grammar
-pub record IsPlainGrammar (bytes : List ℕ) (g : Grammar) : Type 0 where
-  pub file : PlainFile
-  pub text : IsPlainText bytes file
-  pub grammar : IsGrammarOf file g

@@ -72,11 +72,12 @@ IsWorkOfTable g t w = w ≡ interpreting g t
 abbrev pub IsWorkOfGrammar : Grammar → Work → Type 0
 IsWorkOfGrammar g w = (s : Staged TableData) × IsTableStage g s × Then s (IsWorkOfTable g) w
 
-abbrev pub IsWorkOfFile : Text → Work → Type 0
-IsWorkOfFile bytes w = (s : Staged Grammar) × IsGrammarStage bytes s × Then s IsWorkOfGrammar w
+-- the work on the file that has this name and these bytes
+abbrev pub IsWorkOfFile : Text → Text → Work → Type 0
+IsWorkOfFile name bytes w = (s : Staged Grammar) × IsGrammarStage name bytes s × Then s IsWorkOfGrammar w
 
 abbrev pub IsWorkOfOrder : Files → Order → Work → Type 0
-IsWorkOfOrder files order w = Then (loaded files order.file) IsWorkOfFile w
+IsWorkOfOrder files order w = Then (loaded files order.file) (IsWorkOfFile order.file) w
 
 abbrev pub IsWork : List Text → Files → Work → Type 0
 IsWork words files w = Then (order_of words) (IsWorkOfOrder files) w

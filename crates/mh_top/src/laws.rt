@@ -4,15 +4,15 @@ ghost use Rattle.mh_grammar.specs.declared.types.Grammar.{Grammar};
 ghost use Rattle.mh_grammar.specs.Plain.{plain_of, IsInRange};
 ghost use Rattle.mh_outside.specs.Shelf.{Files};
 ghost use Rattle.mh_top.specs.Text.{Text};
-ghost use Rattle.mh_top.specs.PlainGrammars.{IsPlainGrammar};
+ghost use Rattle.mh_top.specs.GrammarStage.{GrammarOf};
 ghost use Rattle.mh_top.specs.Work.{Work, IsWork, Outcome, Gives, file_limit};
 
 /// The bytes of a file give at most one grammar. It has a start, and where the file is within its limit, 16 MiB, its
 /// numbers are in range.
 pub fn grammar_is_one()
-    ensures one { (bytes : Text) (g h : Grammar) → IsPlainGrammar bytes g → IsPlainGrammar bytes h → g ≡ h }
-    ensures start { (bytes : Text) (g : Grammar) → IsPlainGrammar bytes g → 0 < length g.starts }
-    ensures range { (bytes : Text) (g : Grammar) → length bytes ≤ file_limit → IsPlainGrammar bytes g → IsInRange (plain_of g) }
+    ensures one { (bytes : Text) (g h : Grammar) → GrammarOf bytes g → GrammarOf bytes h → g ≡ h }
+    ensures start { (bytes : Text) (g : Grammar) → GrammarOf bytes g → 0 < length g.starts }
+    ensures range { (bytes : Text) (g : Grammar) → length bytes ≤ file_limit → GrammarOf bytes g → IsInRange (plain_of g) }
 {}
 
 /// Over given files the words ask for one work, and a work has one outcome on a given input.

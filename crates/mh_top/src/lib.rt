@@ -1,5 +1,5 @@
-//! The top call: all that the program does, over any shelf, input and output. Until the reader of whole grammar files
-//! stands, files are of the plain form.
+//! The top call: all that the program does, over any shelf, input and output. Until levels, parameters and inlining have
+//! their meaning, a module that has them is refused as not plain.
 #![tactic(auto)]
 
 mod each;
@@ -15,7 +15,7 @@ mod tabled;
 mod top;
 
 pub use laws::{grammar_is_one, work_is_one};
-pub use plain::{PlainFault, PlainFile, PlainRule, grammar_of, read_grammar, read_plain};
+pub use plain::{PlainFault, PlainFile, PlainRule, file_of_module, grammar_of, grammar_of_module};
 pub use stop::Cause;
 pub use top::menhir;
 

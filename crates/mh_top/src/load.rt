@@ -1,5 +1,6 @@
 //! Files are read from a shelf.
-ghost use Rattle.std.specs.Prelude.{◌≡◌};
+ghost use Rattle.std.specs.Prelude.{◌≡◌, ◌≤◌, IfOk, length};
+ghost use Rattle.mh_top.specs.Work.{file_limit};
 ghost use Rattle.mh_top.specs.Load.{LoadHas, LoadCounts};
 
 use crate::stop::{Cause, Stop, halted, joined};
@@ -12,6 +13,7 @@ const FILE_LIMIT: usize = 16 * 1024 * 1024;
 /// The bytes of the named file.
 pub(crate) fn load<F: Shelf>(alloc: Global, shelf: &mut F, name: &[u8]) -> Result<Vec<u8>, Stop>
     ensures bytes { LoadHas (F.files shelf.old) name.now result }
+    ensures short { IfOk result (λ bytes. length bytes.items ≤ file_limit) }
     ensures kept { F.files shelf.new ≡ F.files shelf.old }
     ensures counts { LoadCounts (F.faults shelf.old) (F.faults shelf.new) result }
 {

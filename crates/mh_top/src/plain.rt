@@ -1,15 +1,13 @@
-//! The plain form of a grammar file: words, `:`, `|`, `{}`, one `%token` line, one `%start` line and rules.
+//! The plain file that a module means, and its grammar.
 mod calls;
 mod files;
 mod grammars;
-mod lexemes;
+mod modules;
 mod numbering;
-mod reader;
-mod reading;
 mod resolving;
 mod tables;
 
-pub use calls::read_grammar;
+pub use calls::grammar_of_module;
 pub use files::{PlainFault, PlainFile, PlainRule};
 pub use grammars::grammar_of;
-pub use reading::read_plain;
+pub use modules::file_of_module;

@@ -145,15 +145,26 @@ fn each_line_has_its_verdict(rt: HostRuntime) -> Result<(), Fail> {
     Ok(())
 }
 
+/// The grammar of one sentence, with an action that is read past.
+const CODE: &[u8] =
+    b"%token A EOF\n%start s\n%%\ns: A EOF { f \"}\" '\"' {x| |} |x} (* } \"*)\" *) }\n";
+
+/// The same, cut off within its quoted string.
+const CUT: &[u8] = b"%token A EOF\n%start s\n%%\ns: A EOF { f \"}\" '\"' {x|";
+
 #[test]
 fn grammars_that_are_refused(rt: HostRuntime) -> Result<(), Fail> {
     let alloc = rt.alloc();
-    let table: [(&[u8], &[u8]); 3] = [
-        (b"%token A %start s %% s: A Z {}", b"menhir: not plain\n"),
+    let table: [(&[u8], &[u8]); 7] = [
+        (b"", b"menhir: g.mly:1: syntax error\n"),
+        (CUT, b"menhir: g.mly:4: syntax error\n"),
+        (b"%token A\n", b"menhir: g.mly:2: syntax error\n"),
         (
-            b"%token A EOF (* c *) %start s %% s: A EOF {}",
-            b"menhir: not plain\n",
+            b"%token A EOF\n%start s\ns: A EOF {}\n",
+            b"menhir: g.mly:3: syntax error\n",
         ),
+        (b"%token A %start s %% s: A Z {}", b"menhir: not plain\n"),
+        (b"%token A %start s %% s: A? {}", b"menhir: not plain\n"),
         (
             b"%token A %start s %% s: b s A {} | c {} b: {} c: {}",
             b"menhir: loops: state 0 on A\n",
@@ -164,6 +175,35 @@ fn grammars_that_are_refused(rt: HostRuntime) -> Result<(), Fail> {
         assert_eq!(rt; got.status, 1);
         assert_eq!(rt; got.out.as_slice(), b"".as_slice());
         assert_eq!(rt; got.err.as_slice(), *line);
+    }
+    Ok(())
+}
+
+#[test]
+fn grammars_in_other_words(rt: HostRuntime) -> Result<(), Fail> {
+    let alloc = rt.alloc();
+    let table: [(&[u8], &[u8], &[u8]); 4] = [
+        (CODE, b"A EOF\n", b"ACCEPT\n"),
+        (
+            b"%token A B EOF %start s %% s: A EOF {}",
+            b"B\nA B\n",
+            b"REJECT\nREJECT\n",
+        ),
+        (
+            b"%token A \"a\" EOF %start s %% (* c *) s: x = \"a\"; EOF { }",
+            b"A EOF\n",
+            b"ACCEPT\n",
+        ),
+        (
+            b"%{ h %} %token <int> A [@cost 2] %token EOF %start <u> s %% %public s: | a EOF {} a: A {} %% }",
+            b"A EOF\nEOF\n",
+            b"ACCEPT\nREJECT\n",
+        ),
+    ];
+    for (file, input, text) in &table {
+        let got = verdicts(alloc, *file, *input, &NONE)?;
+        assert_eq!(rt; got.status, 0);
+        assert_eq!(rt; got.out.as_slice(), *text);
     }
     Ok(())
 }

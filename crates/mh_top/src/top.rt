@@ -1,5 +1,5 @@
 //! All that the program does.
-ghost use Rattle.std.specs.Prelude.{◌≡◌, ◌<◌, length, map, string_bytes};
+ghost use Rattle.std.specs.Prelude.{◌≡◌, ◌<◌, ◌^◌, length, map, string_bytes};
 ghost use Rattle.mh_grammar.specs.Plain.{plain_of, IsInRange};
 ghost use Rattle.mh_top.specs.Text.{cannot_read};
 ghost use Rattle.mh_top.specs.Work.{IsWorkOfTable, IsWorkOfGrammar, IsWorkOfFile, IsWorkOfOrder, Over};
@@ -60,21 +60,23 @@ fn work_on_grammar<F: Shelf, I: Source, O: Sink, E: Sink>(
     }
 }
 
-/// The work on the bytes of a file.
+/// The work on a file of this name and these bytes.
 fn work_on_file<F: Shelf, I: Source, O: Sink, E: Sink>(
     alloc: Global,
+    name: &[u8],
     bytes: &[u8],
     shelf: &mut F,
     input: &mut I,
     out: &mut O,
     err: &mut E,
 ) -> Result<(), Stop>
-    ensures { Worked (IsWorkOfFile bytes.now) (λ line. ⊥)
+    requires { length bytes.now < 2 ^ 31 }
+    ensures { Worked (IsWorkOfFile name.now bytes.now) (λ line. ⊥)
         (world F.files F.faults I.left I.faults O.written O.faults E.written E.faults shelf.old input.old out.old err.old)
         (world F.files F.faults I.left I.faults O.written O.faults E.written E.faults shelf.new input.new out.new err.new)
         result }
 {
-    match grammar_in(alloc, bytes) {
+    match grammar_in(alloc, name, bytes) {
         Ok(grammar) => work_on_grammar(alloc, grammar, shelf, input, out, err),
         Err(stop) => Err(stop),
     }
@@ -95,7 +97,7 @@ fn work_on_order<F: Shelf, I: Source, O: Sink, E: Sink>(
         result }
 {
     match load(alloc, shelf, order.file.as_slice()) {
-        Ok(bytes) => work_on_file(alloc, &bytes, shelf, input, out, err),
+        Ok(bytes) => work_on_file(alloc, order.file.as_slice(), &bytes, shelf, input, out, err),
         Err(stop) => Err(stop),
     }
 }

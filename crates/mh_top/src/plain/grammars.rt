@@ -250,6 +250,7 @@ fn grammar_with_tokens(
     file: &PlainFile,
     tokens: &IndexSet<Name>,
 ) -> Result<Grammar, PlainFault>
+    requires start { 0 < length file.now.starts }
     requires placed { Places [] tokens.now.keys file.now.tokens }
     requires few { length tokens.now.keys ≤ 256 }
     ensures grammar { IfOk result (IsGrammarOf file.now) }
@@ -262,7 +263,7 @@ fn grammar_with_tokens(
 
 /// The grammar of a file: its tokens, each once, in order of first declaration; as nonterminals the rules that the starts
 /// reach, numbered breadth first; as productions the alternatives of these, in the order of the file. `NotPlain` comes
-/// exactly where the file means no grammar: a name is a token and a rule, or two rules have one name; a start is no rule;
+/// exactly where the file means no grammar: it has no start; a name is a token and a rule, or two rules have one name; a start is no rule;
 /// a word of an alternative is `error`, or neither a token nor a rule; a rule has no alternative; there are more than 256
 /// tokens or more than 20,000 alternatives. `Memory` comes where there was none, and for a right side of 2^32 symbols or
 /// more.
@@ -271,6 +272,9 @@ pub fn grammar_of(alloc: Global, file: &PlainFile) -> Result<Grammar, PlainFault
     ensures in_range { IfOk result (λ grammar. IsInRange (plain_of grammar)) }
     ensures not_plain { result ≡ Err PlainFault.NotPlain → IsAcceptable file.now → ⊥ }
 {
+    if file.starts.is_empty() {
+        return Err(PlainFault::NotPlain);
+    }
     let tokens = token_names(alloc, file.tokens.as_slice())?;
     grammar_with_tokens(alloc, file, &tokens)
 }

@@ -6,6 +6,7 @@ use Rattle.mh_top.proofs.plain.grammars.grammar_with_tokens.Goals as goal
 
 pub grammar_with_names-requires : goal.grammar_with_names-requires
 grammar_with_names-requires c = record {
+  some_start = c.requires.start;
   placed = c.requires.placed;
   few = c.requires.few;
   names_are = rw c.as_slice.ensures at c.in_ok-names.ensures.names;
