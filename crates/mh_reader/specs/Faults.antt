@@ -1,5 +1,5 @@
 -- The line of a syntax fault. Source: this project's profile.
-use Rattle.std.specs.Prelude.{◌≡◌, ℕ, List, [], ◌∷◌, ◌++◌, length, Some, None, Result, Ok, Err}
+use Rattle.std.specs.Prelude.{◌≡◌, ℕ, List, [], ◌∷◌, ◌++◌, length, Some, None, Result, Ok, Err, IfOk}
 use Rattle.mh_lex.specs.declared.kinds.Lexeme.{Lexeme}
 use Rattle.mh_lex.specs.declared.kinds.SyntaxFault.{SyntaxFault}
 use Rattle.mh_lex.specs.declared.kinds.SyntaxFault.TheVariants.{Syntax, Memory}
@@ -31,3 +31,7 @@ abbrev pub Refuses : List ℕ → Result Module SyntaxFault → Type 0
 Refuses bytes (Ok m) = Unit {0}
 Refuses bytes (Err (Syntax line)) = IsSyntaxLine bytes line × ((m : Module) → Spells bytes m → ⊥)
 Refuses bytes (Err Memory) = Unit {0}
+
+-- an answer that read_module may give
+abbrev pub Reads : List ℕ → Result Module SyntaxFault → Type 0
+Reads bytes answer = IfOk answer (λ m. Spells bytes m) × Refuses bytes answer

@@ -3,3 +3,4 @@ pub mod Spelling
 pub mod Machine
 pub mod Limits
 pub mod Faults
+pub mod Printed

@@ -7,6 +7,7 @@ mod declarations;
 mod laws;
 mod modules;
 mod places;
+mod printing;
 mod reading;
 mod rules;
 mod signs;
@@ -14,6 +15,7 @@ mod stack;
 
 pub use laws::spelled_once;
 pub use modules::{Actual, Alternative, LevelDecl, Module, Ref, Rule, TokenDecl};
+pub use printing::print_module;
 pub use reading::read_module;
 
 #[cfg(test)]

@@ -1,8 +1,8 @@
 //! Grammar files and what they spell, worked out by hand.
 ghost use Rattle.std.specs.Prelude.{◌<◌, ◌^◌, length};
 
-use crate::{Actual, Alternative, Module, Ref, Rule, read_module, spelled_once};
-use mh_grammar::{Assoc, Name, Sequence};
+use crate::{print_module, read_module, spelled_once};
+use mh_grammar::Memory;
 use mh_lex::SyntaxFault;
 use std::alloc::{AllocError, Global};
 use std::test::Fail;
@@ -96,7 +96,19 @@ fn cases() -> &'static str {
      %% s: a, b {}~1^\
      %% s: <t> {}~1^\
      %token A\n%%\ns: A {}\n)\n\"~5^\
-     %% s: A {} )\n%{~2"
+     %% s: A {} )\n%{~2^\
+     %token A \"\" B \"\\\"\" %%~+^\
+     %left %right %nonassoc %%~+^\
+     %on_error_reduce %on_error_reduce \"a\" %%~+^\
+     %start s %start s %%~+^\
+     %% s: \"a\"(\"b\") {}~+^\
+     %% s: error {} error: {}~+^\
+     %% s(x): x(x) {} %%~+^\
+     %% s: {} %prec \"a\" | {} %prec b~+^\
+     %% s: | A | %prec B {} %prec C~+^\
+     %% %inline s: a* b+ c? {}~+^\
+     %% s: A_'1 {}~+^\
+     %%s:{}t:|{}|{}%%%%~+"
 }
 
 #[test]
@@ -107,7 +119,7 @@ fn verdicts(rt: HostRuntime) -> Result<(), Fail> {
         let found = [verdict(rt.alloc(), bytes.as_bytes())?];
         assert_eq!(rt; found.as_slice(), expected.as_bytes(), "at {bytes:?}");
     }
-    assert_eq!(rt; cases().split('^').count(), 77);
+    assert_eq!(rt; cases().split('^').count(), 89);
     spelled_once();
     Ok(())
 }
@@ -154,100 +166,6 @@ fn depths(rt: HostRuntime) -> Result<(), Fail> {
     Ok(())
 }
 
-fn add_name(text: &mut Vec<u8>, name: &Name) -> Result<(), AllocError> {
-    text.extend_from_slice(name.as_slice())
-}
-
-fn add_ref(text: &mut Vec<u8>, reference: &Ref) -> Result<(), AllocError> {
-    match reference {
-        Ref::Plain(name) => add_name(text, name),
-        Ref::Alias(name) => {
-            text.extend_from_slice(b"'")?;
-            add_name(text, name)
-        }
-    }
-}
-
-/// An actual with the heads of its arguments.
-fn add_actual(text: &mut Vec<u8>, actual: &Actual) -> Result<(), AllocError> {
-    text.extend_from_slice(b" ")?;
-    add_ref(text, &actual.head)?;
-    for argument in actual.args.as_slice() {
-        text.extend_from_slice(b".")?;
-        add_ref(text, &argument.head)?;
-    }
-    Ok(())
-}
-
-fn add_actuals(text: &mut Vec<u8>, actuals: &Sequence<Actual>) -> Result<(), AllocError> {
-    for actual in actuals.as_slice() {
-        add_actual(text, actual)?;
-    }
-    Ok(())
-}
-
-fn add_alternative(text: &mut Vec<u8>, alternative: &Alternative) -> Result<(), AllocError> {
-    text.extend_from_slice(b" |")?;
-    add_actuals(text, &alternative.producers)?;
-    if let Some(prec) = &alternative.prec {
-        text.extend_from_slice(b" %")?;
-        add_ref(text, prec)?;
-    }
-    Ok(())
-}
-
-fn add_rule(text: &mut Vec<u8>, rule: &Rule) -> Result<(), AllocError> {
-    text.extend_from_slice(if rule.public { b"\npublic " } else { b"\n" })?;
-    text.extend_from_slice(if rule.inlined { b"inline " } else { b"" })?;
-    add_name(text, &rule.name)?;
-    for formal in rule.formals.as_slice() {
-        text.extend_from_slice(b",")?;
-        add_name(text, formal)?;
-    }
-    for alternative in rule.alternatives.as_slice() {
-        add_alternative(text, alternative)?;
-    }
-    Ok(())
-}
-
-/// A module in full, but for the arguments of arguments.
-fn shown(alloc: Global, module: &Module) -> Result<Vec<u8>, AllocError> {
-    let mut text = Vec::new(alloc);
-    text.extend_from_slice(b"token")?;
-    for token in module.tokens.as_slice() {
-        text.extend_from_slice(b" ")?;
-        add_name(&mut text, &token.name)?;
-        if let Some(alias) = &token.alias {
-            text.extend_from_slice(b"=")?;
-            add_name(&mut text, alias)?;
-        }
-    }
-    text.extend_from_slice(b"\nstart")?;
-    for start in module.starts.as_slice() {
-        text.extend_from_slice(b" ")?;
-        add_name(&mut text, start)?;
-    }
-    for level in module.levels.as_slice() {
-        text.extend_from_slice(match level.assoc {
-            Assoc::Left => b"\nleft",
-            Assoc::Right => b"\nright",
-            Assoc::Nonassoc => b"\nnonassoc",
-        })?;
-        for name in level.names.as_slice() {
-            text.extend_from_slice(b" ")?;
-            add_ref(&mut text, name)?;
-        }
-    }
-    for actuals in module.on_error.as_slice() {
-        text.extend_from_slice(b"\non_error")?;
-        add_actuals(&mut text, actuals)?;
-    }
-    for rule in module.rules.as_slice() {
-        add_rule(&mut text, rule)?;
-    }
-    Ok(text)
-}
-
 const FILE: &str =
     "%{ open M %}\n%token <int> INT \"1\\\"\" [@x], EOF\n%token C\n%start <t> s %start u, v\n\
     %type <t> x(y) %left INT \"+\" %nonassoc %right C, D\n%on_error_reduce a, b(c, d?) %on_error_reduce e*\n\
@@ -255,9 +173,10 @@ const FILE: &str =
     %public s: | x = INT; y = e(INT, \"1\")? ; EOF {} | B | C %prec INT {} %prec \"+\" | D {} ;;\n\
     %inline %public %inline e(x, y): a(b(c)*) z=\"q\"+ { (* { *) }\n%inline u(): {}\n%% rest \"";
 
-const SHOWN: &str =
-    "token INT=1\\\" EOF C\nstart s u v\nleft INT '+\nnonassoc\nright C D\non_error a b.c.option\non_error list.e\n\
-    public s | INT option.e EOF | B %'+ | C %INT | D\npublic inline e,x,y | a.list nonempty_list.'q\ninline u |";
+const PRINTED: &str = "%token INT \"1\\\"\" %token EOF %token C %start s %start u %start v \
+    %left INT \"+\" %nonassoc %right C D %on_error_reduce a b ( c , option ( d ) ) %on_error_reduce list ( e ) %% \
+    %public s : | INT option ( e ( INT , \"1\" ) ) EOF {} | B %prec \"+\" {} | C %prec INT {} | D {} \
+    %public %inline e ( x , y ) : | a ( list ( b ( c ) ) ) nonempty_list ( \"q\" ) {} %inline u : | {} ";
 
 #[test]
 fn a_module(rt: HostRuntime) -> Result<(), Fail> {
@@ -267,7 +186,45 @@ fn a_module(rt: HostRuntime) -> Result<(), Fail> {
     let module = read_module(alloc, bytes)
         .ok()
         .ok_or("the file spells a module")?;
-    let text = shown(alloc, &module)?;
-    assert_eq!(rt; text.as_slice(), SHOWN.as_bytes());
+    let text = print_module(alloc, &module)?;
+    assert_eq!(rt; text.as_slice(), PRINTED.as_bytes());
+    Ok(())
+}
+
+/// Whether a file that spells a module is printed as one that spells it, which is then printed alike.
+fn is_kept(alloc: Global, bytes: &[u8]) -> Result<bool, Memory>
+    requires { length bytes.now < 2 ^ 31 }
+{
+    let Ok(module) = read_module(alloc, bytes) else {
+        return Ok(false);
+    };
+    let text = print_module(alloc, &module)?;
+    if text.len() > 10_000 {
+        return Ok(false);
+    }
+    let Ok(again) = read_module(alloc, text.as_slice()) else {
+        return Ok(false);
+    };
+    Ok(print_module(alloc, &again)? == text)
+}
+
+#[test]
+fn printed_files(rt: HostRuntime) -> Result<(), Fail> {
+    for case in cases().split('^') {
+        let (bytes, expected) = case.split_once('~').ok_or("a case without a `~`")?;
+        assert!(rt; bytes.len() < 1000);
+        assert_eq!(rt;
+            is_kept(rt.alloc(), bytes.as_bytes())?,
+            expected == "+",
+            "at {bytes:?}"
+        );
+    }
+    assert_eq!(rt;
+        cases()
+            .split('^')
+            .filter(|case| case.ends_with("~+"))
+            .count(),
+        40
+    );
     Ok(())
 }

@@ -14,12 +14,13 @@ use Rattle.mh_tables.specs.declared.parts.Action.TheVariants as actions
 use Rattle.mh_tables.specs.Table.{TableData, fallback_of, cell_of}
 use Rattle.mh_tables.specs.Facts.{Facts}
 use Rattle.mh_tables.specs.Run.{Config, Move, Accepts, Asks, Refuses, Shifts, Reduces, move_of, move_of_next, move_of_action, move_by_default, top_of, reduce, initial, step, step_by, goes_to, Ends, after, next_of, VerdictOf, Accepted, Overshot, Rejected, Ending}
-use Rattle.mh_tables.specs.RunTrees.{RunTree, Leaf, IsRunTree, Stands, yield_of, yields, trees_after}
+use Rattle.mh_tree.specs.Trees.{SyntaxTree, Leaf, IsTreeFor, yield_of}
+use Rattle.mh_tables.specs.RunTrees.{Stands, yields, trees_after}
 use Rattle.mh_tables.proofs.Reductions.{reduced}
 use Rattle.mh_tables.proofs.Ending.{step_moves}
 use Rattle.mh_tables.proofs.Trees.{stands_from_start, accepts_one, AcceptsOne}
 use Rattle.mh_run.specs.Exactness.{IsTreeOfRead, IsPrefixSentence}
-use Rattle.mh_run.proofs.Derived.{AreKnown, known_after, tree_derives}
+use Rattle.mh_run.proofs.Derived.{tree_derives}
 
 -- the right side of a start production
 pub rhs-start : (g : PlainGrammar) (start : ℕ) → start < length g.starts → rhs_of g start ≡ N (get_or g.starts start 0) ∷ []
@@ -107,12 +108,12 @@ bottom_after t start (suc n) c b =
     let m : Move = move_of t (top_of c.stack) c.left in
     bottom_after t start n (next_of c (step t c)) (rw (step_moves t c m refl) (bottom_by t start c m b))
 
-one_tree : (trees : List RunTree) → length trees ≡ 1 → trees ≡ get_or trees 0 (Leaf 0) ∷ []
+one_tree : (trees : List SyntaxTree) → length trees ≡ 1 → trees ≡ get_or trees 0 (Leaf 0) ∷ []
 one_tree [] e = absurd (omega arith)
 one_tree (x ∷ []) e = refl
 one_tree (x ∷ y ∷ trees) e = absurd (omega arith)
 
-read_spelled : (w left : List ℕ) (trees : List RunTree) (tree : RunTree) (read : ℕ) → trees ≡ tree ∷ [] → yields trees ++ left ≡ w → length (yields trees) ≡ read → (yield_of tree ≡ take read w) × (read ≤ length w)
+read_spelled : (w left : List ℕ) (trees : List SyntaxTree) (tree : SyntaxTree) (read : ℕ) → trees ≡ tree ∷ [] → yields trees ++ left ≡ w → length (yields trees) ≡ read → (yield_of tree ≡ take read w) × (read ≤ length w)
 read_spelled w left trees tree read e s n =
     let one : yields trees ≡ yield_of tree = ap yields e ∙ append-nil (yield_of tree) in
     let len : length (yield_of tree) ≡ read = ap length (sym one) ∙ n in
@@ -121,31 +122,41 @@ read_spelled w left trees tree read e s n =
       let l = length-append (yield_of tree) left in let k = ap length whole in omega arith,
     )
 
--- the run of a start that accepts
-pub accepted_tree : (t : TableData) (f : Facts t) (start : ℕ) (w : List ℕ) (read : ℕ) → start < length t.grammar.starts → VerdictOf t start w (Accepted read) → (tree : RunTree) × IsTreeOfRead t start w read tree
-accepted_tree t f start w read lt (n, e) =
-    let c : Config = after t n (initial start w) in
-    let trees : List RunTree = trees_after t n (initial start w) [] in
-    let h : Stands t w c trees = stands_from_start t f start n w lt in
-    let b : Bottom start c.stack = bottom_after t start n (initial start w) (record { some_state = omega arith; is = refl }) in
-    let m = step_accepts t c read e in
-    let a : AcceptsOne t c.stack trees = accepts_one t f c.stack trees h.grown (accepts_by_default t (top_of c.stack) c.left m.0) in
-    let symbol : Some a.symbol ≡ Some (N (get_or t.grammar.starts start 0)) = sym (ap (λ (s : ℕ). slice_get (rhs_of t.grammar s) 0) (sym b.is) ∙ a.is_start) ∙ ap (λ (l : List Symbol). slice_get l 0) (rhs-start t.grammar start lt) in
-    let same : a.symbol ≡ N (get_or t.grammar.starts start 0) = cc in
-    let one = one_tree trees a.one in
-    let r = read_spelled w c.left trees (get_or trees 0 (Leaf 0)) read one h.spells (h.count ∙ m.1) in
-    let all : AreKnown t.grammar (get_or trees 0 (Leaf 0) ∷ []) = subst (AreKnown t.grammar) one (known_after t f n (initial start w) [] tt) in (
-      get_or trees 0 (Leaf 0),
+-- the run of a start that accepts after so many steps
+module _ (t : TableData) (f : Facts t) (start : ℕ) (w : List ℕ) (read n : ℕ) (lt : start < length t.grammar.starts) (e : step t (after t n (initial start w)) ≡ Ends (Accepted read)) where
+  accepts : AcceptsOne t (after t n (initial start w)).stack (trees_after t n (initial start w) [])
+  accepts =
+      let c : Config = after t n (initial start w) in
+      let m = step_accepts t c read e in
+      accepts_one t f c.stack (trees_after t n (initial start w) []) (stands_from_start t f start n w lt).grown (accepts_by_default t (top_of c.stack) c.left m.0)
+
+  -- leaves one tree
+  pub accepted_one : trees_after t n (initial start w) [] ≡ get_or (trees_after t n (initial start w) []) 0 (Leaf 0) ∷ []
+  accepted_one = one_tree (trees_after t n (initial start w) []) accepts.one
+
+  -- and it derives what was read
+  pub accepted_from : IsTreeOfRead t start w read (get_or (trees_after t n (initial start w) []) 0 (Leaf 0))
+  accepted_from =
+      let c : Config = after t n (initial start w) in
+      let trees : List SyntaxTree = trees_after t n (initial start w) [] in
+      let h : Stands t w c trees = stands_from_start t f start n w lt in
+      let b : Bottom start c.stack = bottom_after t start n (initial start w) (record { some_state = omega arith; is = refl }) in
+      let m = step_accepts t c read e in
+      let a : AcceptsOne t c.stack trees = accepts in
+      let symbol : Some a.symbol ≡ Some (N (get_or t.grammar.starts start 0)) = sym (ap (λ (s : ℕ). slice_get (rhs_of t.grammar s) 0) (sym b.is) ∙ a.is_start) ∙ ap (λ (l : List Symbol). slice_get l 0) (rhs-start t.grammar start lt) in
+      let same : a.symbol ≡ N (get_or t.grammar.starts start 0) = cc in
+      let r = read_spelled w c.left trees (get_or trees 0 (Leaf 0)) read accepted_one h.spells (h.count ∙ m.1) in
       record {
-        left = record { steps = n; ends = e; trees = one };
+        left = record { steps = n; ends = e; trees = accepted_one };
         within = r.1;
-        known = all.0;
-        is = subst (λ (X : Symbol). IsRunTree t X (get_or trees 0 (Leaf 0))) same a.tree;
+        is = subst (λ (X : Symbol). IsTreeFor t.grammar X (get_or trees 0 (Leaf 0))) same a.tree;
         spells = r.0;
-      },
-    )
+      }
+
+pub accepted_tree : (t : TableData) (f : Facts t) (start : ℕ) (w : List ℕ) (read : ℕ) → start < length t.grammar.starts → VerdictOf t start w (Accepted read) → (tree : SyntaxTree) × IsTreeOfRead t start w read tree
+accepted_tree t f start w read lt (n, e) = (get_or (trees_after t n (initial start w) []) 0 (Leaf 0), accepted_from t f start w read n lt e)
 
 pub accepted_sentence : (t : TableData) (f : Facts t) (start : ℕ) (w : List ℕ) (read : ℕ) → start < length t.grammar.starts → VerdictOf t start w (Accepted read) → IsPrefixSentence t.grammar start w read
 accepted_sentence t f start w read lt v =
     let a = accepted_tree t f start w read lt v in
-    record { within = a.1.within; sentence = rw (← a.1.spells) (tree_derives t a.0 (start_symbol t.grammar start) a.1.known a.1.is) }
+    record { within = a.1.within; sentence = rw (← a.1.spells) (tree_derives t.grammar a.0 (start_symbol t.grammar start) a.1.is) }

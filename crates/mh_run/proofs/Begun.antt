@@ -17,27 +17,23 @@ use Rattle.mh_resolve.proofs.Closed.{closure_is_item}
 use Rattle.mh_tables.specs.Table.{TableData}
 use Rattle.mh_tables.specs.Facts.{Facts}
 use Rattle.mh_tables.specs.Run.{Config, Move, Accepts, Asks, Refuses, Shifts, Reduces, move_of, top_of, initial, after, VerdictOf, Overshot}
-use Rattle.mh_tables.specs.RunTrees.{RunTree, Leaf, IsRunTree, Grown, Stands, yield_of, yields, trees_after}
+use Rattle.mh_tree.specs.Trees.{SyntaxTree, Leaf, IsTreeFor, yield_of}
+use Rattle.mh_tables.specs.RunTrees.{Grown, Stands, yields, trees_after}
 use Rattle.mh_tables.proofs.Trees.{stands_from_start}
-use Rattle.mh_run.specs.Exactness.{AllProductive, IsKnownTree}
+use Rattle.mh_run.specs.Exactness.{AllProductive}
 use Rattle.mh_run.proofs.Accepted.{EndsBy, step_ends, Bottom, bottom_after, rhs-start}
-use Rattle.mh_run.proofs.Derived.{AreKnown, known_after, tree_derives}
+use Rattle.mh_run.proofs.Derived.{tree_derives}
 use Rattle.mh_run.proofs.Standing.{StandsFor, start_item, start_item_only}
 use Rattle.mh_run.proofs.Turns.{no_ask}
 
-yields-push : (a : List RunTree) (x : RunTree) → yields (a ++ x ∷ []) ≡ yields a ++ yield_of x
+yields-push : (a : List SyntaxTree) (x : SyntaxTree) → yields (a ++ x ∷ []) ≡ yields a ++ yield_of x
 yields-push [] x = append-nil (yield_of x)
 yields-push (y ∷ a) x = ap (λ (l : List ℕ). yield_of y ++ l) (yields-push a x) ∙ sym (append_assoc (yield_of y) (yields a) (yield_of x))
 
-take-suc : (k : ℕ) (xs : List RunTree) (d : RunTree) → k < length xs → take (suc k) xs ≡ take k xs ++ get_or xs k d ∷ []
+take-suc : (k : ℕ) (xs : List SyntaxTree) (d : SyntaxTree) → k < length xs → take (suc k) xs ≡ take k xs ++ get_or xs k d ∷ []
 take-suc k [] d lt = absurd (omega arith)
 take-suc zero (x ∷ xs) d lt = refl
-take-suc (suc k) (x ∷ xs) d lt = ap (λ (l : List RunTree). x ∷ l) (take-suc k xs d (omega arith))
-
-known_at : (t : TableData) (kids : List RunTree) (k : ℕ) → k < length kids → AreKnown t.grammar kids → IsKnownTree t.grammar (get_or kids k (Leaf 0))
-known_at t [] k lt h = absurd (omega arith)
-known_at t (x ∷ xs) zero lt h = h.0
-known_at t (x ∷ xs) (suc k) lt h = known_at t xs k (omega arith) h.1
+take-suc (suc k) (x ∷ xs) d lt = ap (λ (l : List SyntaxTree). x ∷ l) (take-suc k xs d (omega arith))
 
 pub drop_next : {X : Type 0} (d : ℕ) (xs : List X) (x : X) (ys : List X) → drop d xs ≡ x ∷ ys → drop (suc d) xs ≡ ys
 drop_next zero [] x ys e = cc
@@ -65,7 +61,7 @@ module _ (t : TableData) (range : IsInRange t.grammar) (productive : AllProducti
   single : (X : Symbol) (w : List ℕ) → DerivesAll t.grammar (X ∷ []) w → Derives t.grammar X w
   single X w (trees.Derivations.more {u} s tree trees.Derivations.none) = rw (s ∙ append-nil u) tree
 
-  module _ (a : Automaton) (is : StandsFor t a) (start : ℕ) (lt : start < length t.grammar.starts) (stack : List ℕ) (kids : List RunTree) (g : Grown t stack kids) (all : AreKnown t.grammar kids) (b : get_or stack 0 0 ≡ start) where
+  module _ (a : Automaton) (is : StandsFor t a) (start : ℕ) (lt : start < length t.grammar.starts) (stack : List ℕ) (kids : List SyntaxTree) (g : Grown t stack kids) (b : get_or stack 0 0 ≡ start) where
     -- whatever finishes the production at an item of the state at the place k, some sentence begins so
     Finishes : ℕ → ℕ → ℕ → Type 0
     Finishes k p d = (v : List ℕ) → DerivesAll t.grammar (drop d (rhs_of t.grammar p)) v → (v' : List ℕ) × IsSentence t.grammar start (yields (take k kids) ++ (v ++ v'))
@@ -82,13 +78,13 @@ module _ (t : TableData) (range : IsInRange t.grammar) (productive : AllProducti
         let z = by_close k s h p' d' l' c (v ++ rest.0) whole in
         (rest.0 ++ z.0, rw (← append_assoc v rest.0 z.0) z.1)
 
-    by_move : (k : ℕ) → k < length kids → (X : Symbol) → IsRunTree t X (get_or kids k (Leaf 0)) → ((p d : ℕ) (l : Look) → closure_of t.grammar a (get_or stack k 0) p d l → Finishes k p d)
+    by_move : (k : ℕ) → k < length kids → (X : Symbol) → IsTreeFor t.grammar X (get_or kids k (Leaf 0)) → ((p d : ℕ) (l : Look) → closure_of t.grammar a (get_or stack k 0) p d l → Finishes k p d)
         → (p d : ℕ) (l : Look) → moves_of t.grammar a (get_or stack k 0) X p d l → Finishes (suc k) p d
     unfolding Finishes
     by_move k within X tree h p d l (moved {d = d'} {y} c e) v f =
-        let x : RunTree = get_or kids k (Leaf 0) in
+        let x : SyntaxTree = get_or kids k (Leaf 0) in
         let more : DerivesAll t.grammar (drop d' (rhs_of t.grammar p)) (yield_of x ++ v) =
-        rw e (trees.Derivations.more refl (tree_derives t x X (known_at t kids k within all) tree) (rw (drop_next d' (rhs_of t.grammar p) X y e) at f)) in
+        rw e (trees.Derivations.more refl (tree_derives t.grammar x X tree) (rw (drop_next d' (rhs_of t.grammar p) X y e) at f)) in
         let z = h p d' l c (yield_of x ++ v) more in
         let word : yields (take k kids) ++ ((yield_of x ++ v) ++ z.0) ≡ yields (take (suc k) kids) ++ (v ++ z.0) =
         ap (λ (w : List ℕ). yields (take k kids) ++ w) (append_assoc (yield_of x) v z.0)
@@ -147,11 +143,10 @@ pub overshot_begins : (t : TableData) (f : Facts t) (a : Automaton) → StandsFo
     → (start : ℕ) (w : List ℕ) (s : ℕ) → start < length t.grammar.starts → VerdictOf t start w (Overshot s) → BeginsSentence t.grammar start w
 overshot_begins t f a is productive start w s lt (n, e) =
     let c : Config = after t n (initial start w) in
-    let kids : List RunTree = trees_after t n (initial start w) [] in
+    let kids : List SyntaxTree = trees_after t n (initial start w) [] in
     let h : Stands t w c kids = stands_from_start t f start n w lt in
     let low : Bottom start c.stack = bottom_after t start n (initial start w) (record { some_state = omega arith; is = refl }) in
-    let known : AreKnown t.grammar kids = known_after t f n (initial start w) [] tt in
     let asks : move_of t (top_of c.stack) c.left ≡ Asks = by_overshoots c _ s (step_ends t c (Overshot s) e) in
     let none : c.left ≡ [] = asks_at_end t (top_of c.stack) c.left asks in
     let whole : yields kids ≡ w = sym (append-nil (yields kids)) ∙ ap (λ (l : List ℕ). yields kids ++ l) (sym none) ∙ h.spells in
-    rw whole at (begun t f.ranges.grammar productive a is start lt c.stack kids h.grown known low.is)
+    rw whole at (begun t f.ranges.grammar productive a is start lt c.stack kids h.grown low.is)

@@ -1,5 +1,6 @@
 -- One token after another.
-use Rattle.std.proofs.Common.{◌≡◌, ℕ, ◌+◌, ◌-◌, ◌<◌, ◌≤◌, List, [], ◌∷◌, ◌++◌, length, drop, get_or, Some, None, Option, ap, sym, arith, ◌∙◌}
+use Rattle.std.proofs.Common.{◌≡◌, ℕ, zero, suc, ◌+◌, ◌-◌, ◌<◌, ◌≤◌, inl, inr, List, [], ◌∷◌, ◌++◌, length, drop, get_or, Some, None, Option, true, false, refl, ap, sym, arith, ◌∙◌}
+use Rattle.std.proofs.lemmas.Bool.{cases_lt}
 use Rattle.std.proofs.lemmas.List.{drop_more, drop_all, get_or_default}
 use Rattle.mh_tables.specs.declared.parts.Action.{Action}
 use Rattle.mh_tables.specs.declared.parts.Action.TheVariants as actions
@@ -7,10 +8,12 @@ use Rattle.mh_tables.specs.declared.parts.Fallback.{Fallback}
 use Rattle.mh_tables.specs.declared.parts.Fallback.TheVariants as fallbacks
 use Rattle.mh_tables.specs.Table.{TableData, fallback_of, cell_of}
 use Rattle.mh_tables.specs.Facts.{Facts}
-use Rattle.mh_tables.specs.Run.{Config, Move, Asks, Refuses, Shifts, move_of, move_of_action, move_by_default, top_of, IsRunStack, Ends, step_by, Ending, EndsSo, initial}
-use Rattle.mh_tables.proofs.Reductions.{move_at_next, reductions_at_next, after_reductions}
-use Rattle.mh_tables.proofs.Ending.{ends_before, ends_step, step_moves, run_shift, run_begins}
-use Rattle.mh_run.specs.Settled.{SettlesTo}
+use Rattle.mh_tables.specs.Run.{Config, Move, Asks, Refuses, Shifts, move_of, move_of_action, move_by_default, top_of, IsRunStack, Ends, step, step_by, next_of, after, Ending, initial}
+use Rattle.mh_tables.proofs.Reductions.{move_at_next, after-add}
+use Rattle.mh_tables.proofs.Ending.{step_moves, run_shift, run_begins}
+use Rattle.mh_run.specs.Following.{Following, along, along_after, RunsSo, RunsDeep}
+use Rattle.mh_run.specs.Settled.{left_with, standing, SettlesTo, SettlesDeep}
+use Rattle.mh_run.proofs.Along.{after_one_more, along_one_more, along_add, along_ended}
 
 by_action_asks : (a : Action) → move_of_action a ≡ Asks → ⊥
 by_action_asks (actions.Shift j) e = cc
@@ -37,65 +40,152 @@ pub no_refusal_at_end : (t : TableData) (s : ℕ) → move_of t s [] ≡ Refuses
 unfolding move_of
 no_refusal_at_end t s e = by_default_refuses (fallback_of t s) e
 
--- where a run stands
-abbrev pub at : List ℕ → ℕ → List ℕ → Config
-at stack read left = record { stack = stack; read = read; left = left }
-
--- the run that stands there goes on so
-pub settled_ends : (t : TableData) (left old new : List ℕ) (read : ℕ) (m : Move) (how : Ending) → SettlesTo t left old new m → step_by t (at new read left) m ≡ Ends how → EndsSo t (at old read left) how
-settled_ends t left old new read m how s e =
-    ends_before t s.count (at old read left) (at new read left) how (after_reductions t read left old new s.count s.made) (0, step_moves t (at new read left) m s.next ∙ e)
-
--- with more tokens behind the next one
-pub settled_with : (t : TableData) (z : ℕ) (rest old new : List ℕ) (m : Move) → SettlesTo t (z ∷ []) old new m → SettlesTo t (z ∷ rest) old new m
-settled_with t z rest old new m s = record {
-  count = s.count;
-  made = reductions_at_next t z rest old new s.count s.made;
-  run = s.run;
-  next = move_at_next t (top_of new) z rest ∙ s.next;
-  settled = s.settled;
-}
-
-pub settled_shifts : (t : TableData) (z : ℕ) (rest old new : List ℕ) (read j : ℕ) (how : Ending) → SettlesTo t (z ∷ rest) old new (Shifts j) → EndsSo t (at (new ++ j ∷ []) (read + 1) rest) how → EndsSo t (at old read (z ∷ rest)) how
-settled_shifts t z rest old new read j how s e =
-    ends_before t s.count (at old read (z ∷ rest)) (at new read (z ∷ rest)) how (after_reductions t read (z ∷ rest) old new s.count s.made)
-    (ends_step t (at new read (z ∷ rest)) (at (new ++ j ∷ []) (read + 1) rest) how (step_moves t (at new read (z ∷ rest)) (Shifts j) s.next) e)
-
--- The run so far: each ending from here on is one of the whole run.
-pub record SoFar (t : TableData) (start : ℕ) (w stack : List ℕ) (read : ℕ) : Type 0 where
-  pub run : IsRunStack t stack
-  pub ends : (how : Ending) → EndsSo t (at stack read (drop read w)) how → EndsSo t (initial start w) how
-
-next_is : (w : List ℕ) (read z : ℕ) → read < length w → z ≡ get_or w read 0 → drop read w ≡ z ∷ drop (read + 1) w
-next_is w read z lt e = drop_more w read 0 lt ∙ ap (λ (y : ℕ). y ∷ drop (read + 1) w) (sym e)
-
--- an ending on a token
-pub turn_ends : (t : TableData) (start : ℕ) (w old new : List ℕ) (read z : ℕ) (m : Move) (how : Ending) → SoFar t start w old read → read < length w → z ≡ get_or w read 0 → SettlesTo t (z ∷ []) old new m
-    → step_by t (at new read (z ∷ drop (read + 1) w)) m ≡ Ends how → EndsSo t (initial start w) how
-turn_ends t start w old new read z m how h lt e s ended =
-    h.ends how (rw (next_is w read z lt e) (settled_ends t (z ∷ drop (read + 1) w) old new read m how (settled_with t z (drop (read + 1) w) old new m s) ended))
-
--- a shift
-pub turn_shifts : (t : TableData) (f : Facts t) (start : ℕ) (w old new : List ℕ) (read z j : ℕ) → SoFar t start w old read → read < length w → z ≡ get_or w read 0 → SettlesTo t (z ∷ []) old new (Shifts j)
-    → SoFar t start w (new ++ j ∷ []) (read + 1)
-turn_shifts t f start w old new read z j h lt e s =
-    let all = settled_with t z (drop (read + 1) w) old new (Shifts j) s in
-    record {
-      run = run_shift t f new z j (drop (read + 1) w) s.run all.next;
-      ends = λ how ended. h.ends how (rw (next_is w read z lt e) (settled_shifts t z (drop (read + 1) w) old new read j how all ended));
-    }
-
--- an ending with no token left
-pub last_ends : (t : TableData) (start : ℕ) (w old new : List ℕ) (read : ℕ) (m : Move) (how : Ending) → SoFar t start w old read → drop read w ≡ [] → SettlesTo t [] old new m → step_by t (at new read []) m ≡ Ends how → EndsSo t (initial start w) how
-last_ends t start w old new read m how h e s ended = h.ends how (rw e (settled_ends t [] old new read m how s ended))
-
 -- nothing is left past the end
 pub none_left : (w : List ℕ) (read : ℕ) → length w ≤ read → drop read w ≡ []
 none_left w read le = drop_all read w le
+
+-- what is left before it
+pub next_is : (w : List ℕ) (read z : ℕ) → read < length w → z ≡ get_or w read 0 → drop read w ≡ z ∷ drop (read + 1) w
+next_is w read z lt e = drop_more w read 0 lt ∙ ap (λ (y : ℕ). y ∷ drop (read + 1) w) (sym e)
 
 -- what the code reads at the top
 pub top_read : (stack : List ℕ) (len x : ℕ) → len ≡ length stack → 0 < length stack → x ≡ get_or stack (len - 1) x → x ≡ top_of stack
 top_read stack len x e pos r = let i : len - 1 ≡ length stack - 1 = omega arith in r ∙ rw i (get_or_default stack (length stack - 1) x 0 (omega arith))
 
-pub so_far_none : (t : TableData) (start : ℕ) (w stack : List ℕ) → start < length t.grammar.starts → stack ≡ start ∷ [] → SoFar t start w stack 0
-so_far_none t start w stack lt e = rw e (record { run = run_begins t start lt; ends = λ how ended. ended })
+-- where a run stands
+abbrev pub at : List ℕ → ℕ → List ℕ → Config
+at stack read left = record { stack = stack; read = read; left = left }
+
+-- The run so far: the steps that led here, and what went along.
+pub record SoFar {S : Type 0} (f : Following S) (t : TableData) (start : ℕ) (w : List ℕ) (first : S) (stack : List ℕ) (read : ℕ) (s : S) : Type 0 where
+  pub run : IsRunStack t stack
+  pub steps : ℕ
+  pub there : after t steps (initial start w) ≡ at stack read (drop read w)
+  pub value : along_after f t steps (initial start w) first ≡ s
+  pub fits : (n : ℕ) → n ≤ steps → f.deep (along_after f t n (initial start w) first) ≡ false
+
+module _ {S : Type 0} (f : Following S) (t : TableData) (start : ℕ) (w : List ℕ) (first : S) where
+  pub so_far_none : (stack : List ℕ) → start < length t.grammar.starts → stack ≡ start ∷ [] → f.deep first ≡ false → SoFar f t start w first stack 0 first
+  so_far_none stack lt e d =
+      rw e (record {
+        run = run_begins t start lt;
+        steps = 0;
+        there = refl;
+        value = refl;
+        fits = λ n le. let z : n ≡ zero = omega arith in rw z d;
+      })
+
+  module _ (stack : List ℕ) (read : ℕ) (s : S) (h : SoFar f t start w first stack read s) where
+    -- what goes along from here on
+    behind : (c : Config) (k : ℕ) → at stack read (drop read w) ≡ c → along_after f t (h.steps + k) (initial start w) first ≡ along_after f t k c s
+    behind c k e =
+        along_add f t h.steps k (initial start w) first
+        ∙ ap (λ (x : Config). along_after f t k x (along_after f t h.steps (initial start w) first)) (h.there ∙ e)
+        ∙ ap (along_after f t k c) h.value
+
+    deep_here : f.deep s ≡ false
+    deep_here = rw h.value at (h.fits h.steps (omega arith))
+
+    -- after the reductions that come next
+    pub so_far_settled : (look : Option ℕ) (rest new : List ℕ) (now : S) (m : Move) → drop read w ≡ left_with look rest → SettlesTo f t look stack new s now m → SoFar f t start w first new read now
+    so_far_settled look rest new now m e r =
+        let here : at stack read (drop read w) ≡ standing stack read look rest = ap (at stack read) e in
+        record {
+          run = r.run;
+          steps = h.steps + r.count;
+          there = after-add t h.steps r.count (initial start w) ∙ ap (after t r.count) (h.there ∙ here) ∙ r.leads.there read rest ∙ ap (at new read) (sym e);
+          value = behind (standing stack read look rest) r.count here ∙ r.leads.value read rest;
+          fits = λ n le.
+              elim (cases_lt n (h.steps + 1)) [
+                | inl lt ↦ h.fits n (omega arith)
+                | inr ge ↦ (let k : n ≡ h.steps + (n - h.steps) = omega arith in rw (k, behind (standing stack read look rest) (n - h.steps) here) (r.leads.fits read rest (n - h.steps) (omega arith)))
+              ];
+        }
+
+    pub so_far_deep : (look : Option ℕ) (rest : List ℕ) → drop read w ≡ left_with look rest → SettlesDeep f t look stack s → RunsDeep f t start w first
+    so_far_deep look rest e r = (h.steps + r.count, rw (behind (standing stack read look rest) r.count (ap (at stack read) e)) (r.deep read rest))
+
+    module _ (z j : ℕ) (rest : List ℕ) (e : drop read w ≡ z ∷ rest) (m : move_of t (top_of stack) (z ∷ []) ≡ Shifts j) where
+      shifts : move_of t (top_of stack) (z ∷ rest) ≡ Shifts j
+      shifts = move_at_next t (top_of stack) z rest ∙ m
+
+      value_shifted : along_after f t (suc h.steps) (initial start w) first ≡ f.shifted s z
+      value_shifted =
+          along_one_more f t h.steps (initial start w) first
+          ∙ ap (λ (c : Config). along f t (move_of t (top_of c.stack) c.left) c.left (along_after f t h.steps (initial start w) first)) (h.there ∙ ap (at stack read) e)
+          ∙ ap (along f t (move_of t (top_of stack) (z ∷ rest)) (z ∷ rest)) h.value
+          ∙ ap (λ (x : Move). along f t x (z ∷ rest) s) shifts
+
+      pub so_far_shifted : Facts t → rest ≡ drop (read + 1) w → f.deep (f.shifted s z) ≡ false → SoFar f t start w first (stack ++ j ∷ []) (read + 1) (f.shifted s z)
+      so_far_shifted facts r d = record {
+        run = run_shift t facts stack z j rest h.run shifts;
+        steps = suc h.steps;
+        there =
+            after_one_more t h.steps (initial start w)
+            ∙ ap (λ (c : Config). next_of c (step t c)) (h.there ∙ ap (at stack read) e)
+            ∙ ap (next_of (at stack read (z ∷ rest))) (step_moves t (at stack read (z ∷ rest)) (Shifts j) shifts)
+            ∙ ap (at (stack ++ j ∷ []) (read + 1)) r;
+        value = value_shifted;
+        fits = λ n le.
+            elim (cases_lt n (suc h.steps)) [
+              | inl lt ↦ h.fits n (omega arith)
+              | inr ge ↦ (let k : n ≡ suc h.steps = omega arith in rw (k, value_shifted) d)
+            ];
+      }
+
+      pub so_far_shift_deep : f.deep (f.shifted s z) ≡ true → RunsDeep f t start w first
+      so_far_shift_deep d = (suc h.steps, rw value_shifted d)
+
+    -- an ending
+    pub so_far_ends : (m : Move) (how : Ending) → move_of t (top_of stack) (drop read w) ≡ m → step_by t (at stack read (drop read w)) m ≡ Ends how → RunsSo f t start w first how s
+    so_far_ends m how e ended =
+        let ends : step t (at stack read (drop read w)) ≡ Ends how = step_moves t (at stack read (drop read w)) m e ∙ ended in
+        record {
+          steps = h.steps;
+          ends = ap (step t) h.there ∙ ends;
+          value = h.value;
+          fits = λ n.
+              elim (cases_lt n (h.steps + 1)) [
+                | inl lt ↦ h.fits n (omega arith)
+                | inr ge ↦ (
+                    let k : n ≡ h.steps + (n - h.steps) = omega arith in
+                    rw (k, behind (at stack read (drop read w)) (n - h.steps) refl, along_ended f t (n - h.steps) (at stack read (drop read w)) how s ends) deep_here)
+              ];
+        }
+
+-- an ending on a token
+pub turn_ends : {S : Type 0} (f : Following S) (t : TableData) (start : ℕ) (w : List ℕ) (first : S) (old new : List ℕ) (read z : ℕ) (before now : S) (m : Move) (how : Ending) → SoFar f t start w first old read before
+    → read < length w → z ≡ get_or w read 0 → SettlesTo f t (Some z) old new before now m → step_by t (at new read (drop read w)) m ≡ Ends how → RunsSo f t start w first how now
+turn_ends f t start w first old new read z before now m how h lt e s ended =
+    let left = next_is w read z lt e in
+    so_far_ends f t start w first new read now (so_far_settled f t start w first old read before h (Some z) (drop (read + 1) w) new now m left s) m how
+    (ap (move_of t (top_of new)) left ∙ move_at_next t (top_of new) z (drop (read + 1) w) ∙ s.next) ended
+
+-- a shift
+pub turn_shifts : {S : Type 0} (f : Following S) (t : TableData) (facts : Facts t) (start : ℕ) (w : List ℕ) (first : S) (old new : List ℕ) (read z j : ℕ) (before now : S) → SoFar f t start w first old read before
+    → read < length w → z ≡ get_or w read 0 → SettlesTo f t (Some z) old new before now (Shifts j) → f.deep (f.shifted now z) ≡ false → SoFar f t start w first (new ++ j ∷ []) (read + 1) (f.shifted now z)
+turn_shifts f t facts start w first old new read z j before now h lt e s d =
+    let left = next_is w read z lt e in
+    so_far_shifted f t start w first new read now (so_far_settled f t start w first old read before h (Some z) (drop (read + 1) w) new now (Shifts j) left s) z j (drop (read + 1) w) left s.next facts refl d
+
+pub turn_shifts_deep : {S : Type 0} (f : Following S) (t : TableData) (start : ℕ) (w : List ℕ) (first : S) (old new : List ℕ) (read z j : ℕ) (before now : S) → SoFar f t start w first old read before
+    → read < length w → z ≡ get_or w read 0 → SettlesTo f t (Some z) old new before now (Shifts j) → f.deep (f.shifted now z) ≡ true → RunsDeep f t start w first
+turn_shifts_deep f t start w first old new read z j before now h lt e s d =
+    let left = next_is w read z lt e in
+    so_far_shift_deep f t start w first new read now (so_far_settled f t start w first old read before h (Some z) (drop (read + 1) w) new now (Shifts j) left s) z j (drop (read + 1) w) left s.next d
+
+pub turn_deep : {S : Type 0} (f : Following S) (t : TableData) (start : ℕ) (w : List ℕ) (first : S) (old : List ℕ) (read z : ℕ) (before : S) → SoFar f t start w first old read before → read < length w → z ≡ get_or w read 0
+    → SettlesDeep f t (Some z) old before → RunsDeep f t start w first
+turn_deep f t start w first old read z before h lt e s = so_far_deep f t start w first old read before h (Some z) (drop (read + 1) w) (next_is w read z lt e) s
+
+-- an ending with no token left
+pub last_ends : {S : Type 0} (f : Following S) (t : TableData) (start : ℕ) (w : List ℕ) (first : S) (old new : List ℕ) (read : ℕ) (before now : S) (m : Move) (how : Ending) → SoFar f t start w first old read before → length w ≤ read
+    → SettlesTo f t None old new before now m → step_by t (at new read []) m ≡ Ends how → RunsSo f t start w first how now
+last_ends f t start w first old new read before now m how h le s ended =
+    let left = none_left w read le in
+    so_far_ends f t start w first new read now (so_far_settled f t start w first old read before h None [] new now m left s) m how (ap (move_of t (top_of new)) left ∙ s.next)
+    (rw left ended)
+
+pub last_deep : {S : Type 0} (f : Following S) (t : TableData) (start : ℕ) (w : List ℕ) (first : S) (old : List ℕ) (read : ℕ) (before : S) → SoFar f t start w first old read before → length w ≤ read
+    → SettlesDeep f t None old before → RunsDeep f t start w first
+last_deep f t start w first old read before h le s = so_far_deep f t start w first old read before h None [] (none_left w read le) s

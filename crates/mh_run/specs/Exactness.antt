@@ -1,9 +1,10 @@
 -- What the verdicts of a table say of the grammar's sentences.
 use Rattle.std.specs.Prelude.{◌≡◌, ◌<◌, ◌≤◌, ℕ, List, [], ◌∷◌, length, take}
-use Rattle.mh_grammar.specs.Plain.{PlainGrammar, production_count, IsSentence, IsProductive, start_symbol}
+use Rattle.mh_grammar.specs.Plain.{PlainGrammar, IsSentence, IsProductive, start_symbol}
 use Rattle.mh_tables.specs.Table.{TableData}
 use Rattle.mh_tables.specs.Run.{Accepted, initial, after, step, Ends}
-use Rattle.mh_tables.specs.RunTrees.{RunTree, RunForest, Leaf, Node, Nil, Cons, IsRunTree, yield_of, trees_after}
+use Rattle.mh_tree.specs.Trees.{SyntaxTree, IsTreeFor, yield_of}
+use Rattle.mh_tables.specs.RunTrees.{trees_after}
 
 -- the first tokens of w, as many as `read`, are a sentence
 pub record IsPrefixSentence (g : PlainGrammar) (start : ℕ) (w : List ℕ) (read : ℕ) : Type 0 where
@@ -14,26 +15,15 @@ pub record IsPrefixSentence (g : PlainGrammar) (start : ℕ) (w : List ℕ) (rea
 abbrev pub AllProductive : PlainGrammar → Type 0
 AllProductive g = (n : ℕ) → n < g.nonterminals → IsProductive g n
 
--- the productions at the nodes of a tree are the grammar's
-abbrev mutual
-  pub IsKnownTree : PlainGrammar → RunTree → Type 0
-  IsKnownTree g (Leaf z) = Unit {0}
-  IsKnownTree g (Node p kids) = (p < production_count g) × IsKnownForest g kids
-
-  pub IsKnownForest : PlainGrammar → RunForest → Type 0
-  IsKnownForest g Nil = Unit {0}
-  IsKnownForest g (Cons first rest) = IsKnownTree g first × IsKnownForest g rest
-
 -- the run of a start on w accepts, having read so many tokens, and has this one tree then
-pub record LeavesTree (t : TableData) (start : ℕ) (w : List ℕ) (read : ℕ) (tree : RunTree) : Type 0 where
+pub record LeavesTree (t : TableData) (start : ℕ) (w : List ℕ) (read : ℕ) (tree : SyntaxTree) : Type 0 where
   pub steps : ℕ
   pub ends : step t (after t steps (initial start w)) ≡ Ends (Accepted read)
   pub trees : trees_after t steps (initial start w) [] ≡ tree ∷ []
 
 -- it is a derivation's tree for the symbol of the start, and its leaves are the tokens that were read
-pub record IsTreeOfRead (t : TableData) (start : ℕ) (w : List ℕ) (read : ℕ) (tree : RunTree) : Type 0 where
+pub record IsTreeOfRead (t : TableData) (start : ℕ) (w : List ℕ) (read : ℕ) (tree : SyntaxTree) : Type 0 where
   pub left : LeavesTree t start w read tree
   pub within : read ≤ length w
-  pub known : IsKnownTree t.grammar tree
-  pub is : IsRunTree t (start_symbol t.grammar start) tree
+  pub is : IsTreeFor t.grammar (start_symbol t.grammar start) tree
   pub spells : yield_of tree ≡ take read w

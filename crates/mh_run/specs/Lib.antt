@@ -1,4 +1,8 @@
+pub mod Following
 pub mod Settled
 pub mod Verdicts
 pub mod Exactness
 pub mod Example
+pub mod Trace
+pub mod Deep
+pub mod TreeRuns

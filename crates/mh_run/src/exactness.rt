@@ -10,7 +10,7 @@ ghost use Rattle.mh_items.specs.Automaton.{IsAutomaton};
 ghost use Rattle.mh_resolve.specs.Clear.{HasNoConflicts};
 ghost use Rattle.mh_resolve.specs.States.{IsTableOf};
 ghost use Rattle.mh_tables.specs.Run.{VerdictOf, Accepted, Overshot, Rejected};
-ghost use Rattle.mh_tables.specs.RunTrees.{RunTree};
+ghost use Rattle.mh_tree.specs.Trees.{SyntaxTree};
 ghost use Rattle.mh_run.specs.Exactness.{IsTreeOfRead, IsPrefixSentence, AllProductive};
 
 use mh_grammar::Grammar;
@@ -21,7 +21,7 @@ use mh_tables::Table;
 /// Where the run of a start accepts, on any table, its one tree is a derivation's tree for the symbol of the start, and
 /// the tokens that were read are a sentence.
 pub fn accepts_with_tree(table: &Table)
-    ensures tree { (start : ℕ) (w : List ℕ) (read : ℕ) → start < length table.now.grammar.starts → VerdictOf table.now start w (Accepted read) → (tree : RunTree) × IsTreeOfRead table.now start w read tree }
+    ensures tree { (start : ℕ) (w : List ℕ) (read : ℕ) → start < length table.now.grammar.starts → VerdictOf table.now start w (Accepted read) → (tree : SyntaxTree) × IsTreeOfRead table.now start w read tree }
     ensures sentence { (start : ℕ) (w : List ℕ) (read : ℕ) → start < length table.now.grammar.starts → VerdictOf table.now start w (Accepted read) → IsPrefixSentence table.now.grammar start w read }
 {
     table.facts();

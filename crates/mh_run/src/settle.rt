@@ -1,14 +1,17 @@
 //! The reductions between two shifts of a run.
-ghost use Rattle.std.specs.Prelude.{◌≡◌, ◌<◌, length, IfOk, OnOk, Some};
+ghost use Rattle.std.specs.Prelude.{◌≡◌, ◌<◌, true, false, length, IfOk, IfErr, OnOk, Some};
+ghost use Rattle.mh_grammar.specs.Plain.{rhs_of};
 ghost use Rattle.mh_tables.specs.Table.{TableData};
 ghost use Rattle.mh_tables.specs.Run.{move_of, top_of, reduce, IsRunStack, Reduces};
 ghost use Rattle.mh_tables.specs.Halting.{IsLook, look_list};
 ghost use Rattle.mh_tables.specs.Moves.{move_for};
-ghost use Rattle.mh_run.specs.Settled.{CanReduce, SettlesTo};
+ghost use Rattle.mh_run.specs.Settled.{CanReduce, SettlesTo, SettlesDeep};
+ghost use Rattle.mh_run.specs.declared.follow.Stop.TheVariants.{TooDeep};
 
+use crate::follow::{Follow, Stop};
 use mh_grammar::Token;
 use mh_tables::{Choice, Halting, Table, choose};
-use std::alloc::AllocError;
+use std::alloc::{AllocError, Global};
 
 // Takes off the states of a right side, and goes on the left side.
 fn reduce_on(table: &Table, stack: &mut Vec<u32>, production: u32) -> Result<(), AllocError>
@@ -49,16 +52,40 @@ fn reduce_next(
     reduce_on(table.table(), stack, production)
 }
 
-// Makes the reductions that come next, and says what comes then. Each reduction either leaves the state at
-// the place `floor` on the stack, which at most 10,000 in a row do, or lowers that place.
-pub(crate) fn settle(
+// Tells what goes along of the reduction that comes next.
+fn tell_next<F: Follow>(
+    alloc: Global,
+    table: &Halting,
+    stack: &[u32],
+    look: Option<Token>,
+    production: u32,
+    follower: &mut F,
+) -> Result<(), Stop>
+    requires run { IsRunStack table.now stack.now }
+    requires next { move_of table.now (top_of stack.now) (look_list look) ≡ Reduces production }
+    requires fits { F.following.deep follower.old ≡ false }
+    ensures value { OnOk result (follower.new ≡ F.following.reduced follower.old (length (rhs_of table.now.grammar production)) production) }
+    ensures fits { OnOk result (F.following.deep (F.following.reduced follower.old (length (rhs_of table.now.grammar production)) production) ≡ false) }
+    ensures deep { IfErr result (λ stop. stop ≡ TooDeep → F.following.deep (F.following.reduced follower.old (length (rhs_of table.now.grammar production)) production) ≡ true) }
+{
+    let rows = table.table();
+    follower.reduce(alloc, rows.length_of(production) as usize, production)
+}
+
+// Makes the reductions that come next, tells what goes along of them, and says what comes then. Each reduction either
+// leaves the state at the place `floor` on the stack, which at most 10,000 in a row do, or lowers that place.
+pub(crate) fn settle<F: Follow>(
+    alloc: Global,
     table: &Halting,
     stack: &mut Vec<u32>,
     look: Option<Token>,
-) -> Result<Choice, AllocError>
+    follower: &mut F,
+) -> Result<Choice, Stop>
     requires run { IsRunStack table.now stack.old.items }
     requires look { IsLook table.now look }
-    ensures { IfOk result (λ choice. SettlesTo table.now (look_list look) stack.old.items stack.new.items (move_for choice)) }
+    requires fits { F.following.deep follower.old ≡ false }
+    ensures settled { IfOk result (λ choice. SettlesTo F.following table.now look stack.old.items stack.new.items follower.old follower.new (move_for choice)) }
+    ensures deep { IfErr result (λ stop. stop ≡ TooDeep → SettlesDeep F.following table.now look stack.old.items follower.old) }
 {
     let _rows = table.table();
     let mut floor = stack.len().saturating_sub(2);
@@ -66,6 +93,9 @@ pub(crate) fn settle(
     'reductions: loop {
         match next_choice(table, stack, look) {
             Choice::Reduce(production) => {
+                if let Err(stop) = tell_next(alloc, table, stack, look, production, follower) {
+                    return Err(stop);
+                }
                 reduce_next(table, stack, look, production)?;
                 if floor + 1 < stack.len() {
                     count += 1;

@@ -3,7 +3,7 @@ use Rattle.std.proofs.Common.{◌≡◌, ℕ, zero, suc, ◌+◌, ◌<◌, ◌�
 use Rattle.mh_tables.specs.declared.parts.Fallback.{Fallback}
 use Rattle.mh_tables.specs.declared.parts.Fallback.TheVariants as fallbacks
 use Rattle.mh_tables.specs.Table.{TableData, fallback_of}
-use Rattle.mh_tables.specs.Run.{Config, Move, Accepts, Asks, Refuses, Shifts, Reduces, move_of, move_by_default, top_of, reduce, initial, step, step_by, goes_to, Step, Goes, Ends, Stuck, after, next_of, VerdictOf, Ending, Rejected, Accepted, Overshot}
+use Rattle.mh_tables.specs.Run.{Config, Move, Accepts, Asks, Refuses, Shifts, Reduces, move_of, move_by_default, top_of, reduce, step, step_by, goes_to, Step, Goes, Ends, Stuck, after, next_of, VerdictOf, Ending, Rejected, Accepted, Overshot}
 use Rattle.mh_tables.proofs.Reductions.{no_shift_at_end, move_at_next}
 use Rattle.mh_tables.proofs.Ending.{step_moves, after_ended}
 

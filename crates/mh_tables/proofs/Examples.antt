@@ -1,12 +1,8 @@
 -- The tables of the examples keep the facts of a table.
-use Rattle.std.proofs.Common.{◌≡◌, ℕ, ◌<◌, ◌≤◌, [], ◌∷◌, List, length, true, None, refl, sym, subst, arith, rules}
-use Rattle.std.specs.List.{All}
-use Rattle.std.proofs.lemmas.List.Elements.{All-cons, All-nil}
-use Rattle.mh_grammar.specs.declared.types.Symbol.TheVariants.{T, N}
-use Rattle.mh_grammar.specs.declared.types.Production.{Production}
+use Rattle.std.proofs.Common.{◌≡◌, List, true, refl, sym, subst, rules}
 use Rattle.mh_grammar.specs.declared.types.Grammar.{Grammar}
 use Rattle.mh_tables.specs.declared.parts.StateParts.{StateParts}
-use Rattle.mh_grammar.specs.Plain.{PlainGrammar, plain_of, rhs_of, lhs_of, IsInRange, IsProductionBelow, IsSymbolBelow}
+use Rattle.mh_grammar.specs.Plain.{PlainGrammar, plain_of, rhs_of, lhs_of, IsInRange}
 use Rattle.mh_tables.specs.Table.{table_data, cell_of, fallback_of, edge_of}
 use Rattle.mh_tables.specs.Facts.{Facts}
 use Rattle.mh_tables.specs.Examples.{pair_grammar, pair_table, loop_grammar, loop_table}

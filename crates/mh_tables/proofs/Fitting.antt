@@ -1,10 +1,10 @@
 -- A test of a table's facts that computes: for tables that are written out whole.
-use Rattle.std.proofs.Common.{◌≡◌, ℕ, zero, suc, ◌+◌, ◌-◌, ◌^◌, ◌<◌, ◌≤◌, ◌⊎◌, inl, inr, List, [], ◌∷◌, length, get_or, Some, None, Option, Bool, true, false, cond, nat_eq, nat_lt, refl, ap, sym, subst, arith, ◌∙◌, lt-ltb, le-ltb}
+use Rattle.std.proofs.Common.{◌≡◌, ℕ, zero, suc, ◌+◌, ◌-◌, ◌^◌, ◌<◌, ◌≤◌, ◌⊎◌, inl, inr, List, [], ◌∷◌, length, Some, None, Option, Bool, true, false, cond, nat_eq, nat_lt, refl, ap, sym, subst, arith, ◌∙◌, lt-ltb, le-ltb}
 use Rattle.std.proofs.lemmas.Bool.{cases_lt}
 use Rattle.std.proofs.lemmas.Bool.Decides.{nat_tests}
-use Rattle.std.proofs.lemmas.List.{get_or_past, get_or_default}
+use Rattle.std.proofs.lemmas.List.{get_or_past}
 use Rattle.std.proofs.lemmas.Option.{slice_get_within, slice_get-get_or, get_or_from_slice_get}
-use Rattle.std.specs.List.{slice_get, AllByRecursion, Contains}
+use Rattle.std.specs.List.{slice_get, AllByRecursion}
 use Rattle.mh_grammar.specs.declared.types.Symbol.{Symbol}
 use Rattle.mh_grammar.specs.declared.types.Symbol.TheVariants.{T, N}
 use Rattle.mh_grammar.specs.declared.edges.Edge.{Edge}
@@ -17,7 +17,7 @@ use Rattle.mh_tables.specs.declared.parts.Fallback.TheVariants as fallbacks
 use Rattle.mh_tables.specs.declared.parts.Place.{Place}
 use Rattle.mh_tables.specs.declared.parts.StateParts.{StateParts}
 use Rattle.mh_tables.specs.Table.{TableData, state_at, no_state, cell_of, fallback_of, edge_of}
-use Rattle.mh_tables.specs.Facts.{Facts, Ranges, InCore, HasGoto, ReducesBy, Behind}
+use Rattle.mh_tables.specs.Facts.{Facts, InCore, HasGoto, ReducesBy, Behind}
 use Rattle.mh_tables.proofs.Finding.{edge_source}
 
 -- tests, and what they say

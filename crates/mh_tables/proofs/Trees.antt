@@ -14,21 +14,22 @@ use Rattle.mh_tables.specs.Facts.{Facts, InCore, ReducesBy as Reducing}
 use Rattle.mh_tables.specs.Run.{top_of, initial, Config, Move, Accepts, Asks, Refuses, Shifts, Reduces, move_of, step, step_by, next_of, after, IsRunStack}
 use Rattle.mh_tables.proofs.Reductions.{Reduced, reduced, reduces_from_move, shifts_from_move, no_shift_at_end}
 use Rattle.mh_tables.proofs.Ending.{step_moves}
-use Rattle.mh_tables.specs.RunTrees.{RunTree, Leaf, Node, IsRunTree, IsRunForest, Grown, forest_of, yield_of, forest_yield, yields, Stands, grow, trees_after}
+use Rattle.mh_tree.specs.Trees.{SyntaxTree, Leaf, Node, IsTreeFor, IsForestFor, forest_of, yield_of, forest_yield}
+use Rattle.mh_tables.specs.RunTrees.{Grown, yields, Stands, grow, trees_after}
 use Rattle.mh_tables.proofs.Path.{top_of_take, finds, reduce_finds}
 
 -- the tree at a place below k is one for the symbol at that place of the right side
-abbrev pub Spelled : TableData → List RunTree → ℕ → ℕ → ℕ → Type 0
-Spelled t trees p d k = (d ≤ k) × ((j : ℕ) → j < d → (x : Symbol) × (slice_get (rhs_of t.grammar p) j ≡ Some x) × IsRunTree t x (get_or trees (k - d + j) (Leaf 0)))
+abbrev pub Spelled : TableData → List SyntaxTree → ℕ → ℕ → ℕ → Type 0
+Spelled t trees p d k = (d ≤ k) × ((j : ℕ) → j < d → (x : Symbol) × (slice_get (rhs_of t.grammar p) j ≡ Some x) × IsTreeFor t.grammar x (get_or trees (k - d + j) (Leaf 0)))
 
-last_spelled : (t : TableData) (trees : List RunTree) (p d k j : ℕ) (x : Symbol) → d ≤ k → j ≡ d → slice_get (rhs_of t.grammar p) (suc d - 1) ≡ Some x → IsRunTree t x (get_or trees k (Leaf 0))
-    → (y : Symbol) × (slice_get (rhs_of t.grammar p) j ≡ Some y) × IsRunTree t y (get_or trees (suc k - suc d + j) (Leaf 0))
+last_spelled : (t : TableData) (trees : List SyntaxTree) (p d k j : ℕ) (x : Symbol) → d ≤ k → j ≡ d → slice_get (rhs_of t.grammar p) (suc d - 1) ≡ Some x → IsTreeFor t.grammar x (get_or trees k (Leaf 0))
+    → (y : Symbol) × (slice_get (rhs_of t.grammar p) j ≡ Some y) × IsTreeFor t.grammar y (get_or trees (suc k - suc d + j) (Leaf 0))
 last_spelled t trees p d k j x le e s tree =
     let place : suc k - suc d + j ≡ k = omega arith in
     let dot : suc d - 1 ≡ j = omega arith in
     (x, rw dot at s, rw place tree)
 
-pub spelled : (t : TableData) (f : Facts t) (stack : List ℕ) (trees : List RunTree) (g : Grown t stack trees) (p d k : ℕ) → length t.grammar.starts ≤ p → k ≤ length trees → InCore t (get_or stack k 0) p d → Spelled t trees p d k
+pub spelled : (t : TableData) (f : Facts t) (stack : List ℕ) (trees : List SyntaxTree) (g : Grown t stack trees) (p d k : ℕ) → length t.grammar.starts ≤ p → k ≤ length trees → InCore t (get_or stack k 0) p d → Spelled t trees p d k
 spelled t f stack trees g p zero k ordinary inside there = (omega arith, λ j lt. absurd (omega arith))
 spelled t f stack trees g p (suc d) zero ordinary inside there = absurd (omega (arith, (f.start_core (get_or stack 0 0) p (suc d) g.start there).1))
 spelled t f stack trees g p (suc d) (suc k) ordinary inside there =
@@ -52,8 +53,8 @@ spelled t f stack trees g p (suc d) (suc k) ordinary inside there =
     ]
 
 -- trees for the symbols of a list, one by one, are a forest for it
-pub forest_from : (t : TableData) (xs : List Symbol) (trees : List RunTree) → length trees ≡ length xs → ((j : ℕ) → j < length xs → (x : Symbol) × (slice_get xs j ≡ Some x) × IsRunTree t x (get_or trees j (Leaf 0)))
-    → IsRunForest t xs (forest_of trees)
+pub forest_from : (t : TableData) (xs : List Symbol) (trees : List SyntaxTree) → length trees ≡ length xs → ((j : ℕ) → j < length xs → (x : Symbol) × (slice_get xs j ≡ Some x) × IsTreeFor t.grammar x (get_or trees j (Leaf 0)))
+    → IsForestFor t.grammar xs (forest_of trees)
 forest_from t [] [] e h = tt
 forest_from t [] (tree ∷ trees) e h = absurd (omega arith)
 forest_from t (x ∷ xs) [] e h = absurd (omega arith)
@@ -63,8 +64,8 @@ forest_from t (x ∷ xs) (tree ∷ trees) e h =
     (rw same at first.2, forest_from t xs trees (omega arith) (λ j lt. h (suc j) (omega arith)))
 
 -- the trees that a reduction takes off are a forest for the right side
-pub reduced_forest : (t : TableData) (f : Facts t) (stack : List ℕ) (trees : List RunTree) (g : Grown t stack trees) (p : ℕ) → length t.grammar.starts ≤ p → InCore t (get_or stack (length trees) 0) p (length (rhs_of t.grammar p))
-    → IsRunForest t (rhs_of t.grammar p) (forest_of (drop (length trees - length (rhs_of t.grammar p)) trees))
+pub reduced_forest : (t : TableData) (f : Facts t) (stack : List ℕ) (trees : List SyntaxTree) (g : Grown t stack trees) (p : ℕ) → length t.grammar.starts ≤ p → InCore t (get_or stack (length trees) 0) p (length (rhs_of t.grammar p))
+    → IsForestFor t.grammar (rhs_of t.grammar p) (forest_of (drop (length trees - length (rhs_of t.grammar p)) trees))
 reduced_forest t f stack trees g p ordinary there =
     let all = spelled t f stack trees g p (length (rhs_of t.grammar p)) (length trees) ordinary (omega arith) there in
     let le : length (rhs_of t.grammar p) ≤ length trees = all.0 in
@@ -72,7 +73,7 @@ reduced_forest t f stack trees g p ordinary there =
     (λ j lt. let r = all.1 j lt in (r.0, r.1, rw (get_or-drop (length trees - length (rhs_of t.grammar p)) trees j (Leaf 0)) r.2))
 
 -- one more state with its tree
-pub grown_push : (t : TableData) (stack : List ℕ) (trees : List RunTree) (x : Symbol) (u : ℕ) (tree : RunTree) → Grown t stack trees → edge_of t (get_or stack (length trees) 0) x ≡ Some u → IsRunTree t x tree
+pub grown_push : (t : TableData) (stack : List ℕ) (trees : List SyntaxTree) (x : Symbol) (u : ℕ) (tree : SyntaxTree) → Grown t stack trees → edge_of t (get_or stack (length trees) 0) x ≡ Some u → IsTreeFor t.grammar x tree
     → Grown t (stack ++ u ∷ []) (trees ++ tree ∷ [])
 grown_push t stack trees x u tree g edge is = record {
   start = rw (get_or-append stack (u ∷ []) 0 0 (let l = g.len in omega arith)) g.start;
@@ -92,7 +93,7 @@ grown_push t stack trees x u tree g edge is = record {
 }
 
 -- fewer states and trees
-pub grown_take : (t : TableData) (stack : List ℕ) (trees : List RunTree) (n : ℕ) → n ≤ length trees → Grown t stack trees → Grown t (take (n + 1) stack) (take n trees)
+pub grown_take : (t : TableData) (stack : List ℕ) (trees : List SyntaxTree) (n : ℕ) → n ≤ length trees → Grown t stack trees → Grown t (take (n + 1) stack) (take n trees)
 grown_take t stack trees n le g =
     let l = g.len in
     record {
@@ -114,21 +115,21 @@ start_of t f s i there =
     elim (cases_lt s (length t.grammar.starts)) [ inl lt ↦ (lt, (f.start_core s i 0 lt there).0) | inr le ↦ absurd (let m = f.other_core s i 0 le there in omega arith) ]
 
 -- What a run that accepts leaves: one tree, for the start symbol.
-pub record AcceptsOne (t : TableData) (stack : List ℕ) (trees : List RunTree) : Type 0 where
+pub record AcceptsOne (t : TableData) (stack : List ℕ) (trees : List SyntaxTree) : Type 0 where
   pub one : length trees ≡ 1
   pub symbol : Symbol
   pub is_start : slice_get (rhs_of t.grammar (get_or stack 0 0)) 0 ≡ Some symbol
-  pub tree : IsRunTree t symbol (get_or trees 0 (Leaf 0))
+  pub tree : IsTreeFor t.grammar symbol (get_or trees 0 (Leaf 0))
 
 -- the only start state on a run's stack is its first
-only_start : (t : TableData) (f : Facts t) (stack : List ℕ) (trees : List RunTree) (g : Grown t stack trees) (k : ℕ) → get_or stack k 0 < length t.grammar.starts → k ≤ length trees → k ≡ 0
+only_start : (t : TableData) (f : Facts t) (stack : List ℕ) (trees : List SyntaxTree) (g : Grown t stack trees) (k : ℕ) → get_or stack k 0 < length t.grammar.starts → k ≤ length trees → k ≡ 0
 only_start t f stack trees g zero lt le = refl
 only_start t f stack trees g (suc k) lt le =
     let edge = g.each k (omega arith) in
     let e : suc k ≡ k + 1 = omega arith in
     absurd (no_edge_to_start t f (get_or stack k 0) (get_or stack (k + 1) 0) edge.0 (rw e at lt) edge.1)
 
-accepts_at : (t : TableData) (f : Facts t) (stack : List ℕ) (trees : List RunTree) (g : Grown t stack trees) (k i : ℕ) → length trees ≡ k → i < length t.grammar.starts → InCore t (get_or stack k 0) i 1 → AcceptsOne t stack trees
+accepts_at : (t : TableData) (f : Facts t) (stack : List ℕ) (trees : List SyntaxTree) (g : Grown t stack trees) (k i : ℕ) → length trees ≡ k → i < length t.grammar.starts → InCore t (get_or stack k 0) i 1 → AcceptsOne t stack trees
 accepts_at t f stack trees g zero i n lt there = absurd (omega (arith, (f.start_core (get_or stack 0 0) i 1 g.start there).1))
 accepts_at t f stack trees g (suc k) i n lt there =
     let edge = g.each k (omega arith) in
@@ -143,20 +144,20 @@ accepts_at t f stack trees g (suc k) i n lt there =
             one = omega arith;
             symbol = edge.0;
             is_start = rw (← same) back.symbol;
-            tree = subst (λ (m : ℕ). IsRunTree t edge.0 (get_or trees m (Leaf 0))) low edge.2;
+            tree = subst (λ (m : ℕ). IsTreeFor t.grammar edge.0 (get_or trees m (Leaf 0))) low edge.2;
           })
     ]
 
 same_core : (t : TableData) (s s' p d : ℕ) → s ≡ s' → InCore t s p d → InCore t s' p d
 same_core t s s' p d e h = subst (λ (u : ℕ). InCore t u p d) e h
 
-pub accepts_one : (t : TableData) (f : Facts t) (stack : List ℕ) (trees : List RunTree) (g : Grown t stack trees) → fallback_of t (top_of stack) ≡ Some fallbacks.Accept → AcceptsOne t stack trees
+pub accepts_one : (t : TableData) (f : Facts t) (stack : List ℕ) (trees : List SyntaxTree) (g : Grown t stack trees) → fallback_of t (top_of stack) ≡ Some fallbacks.Accept → AcceptsOne t stack trees
 accepts_one t f stack trees g e =
     let there = f.accepts (top_of stack) e in
     let l = g.len in
     accepts_at t f stack trees g (length trees) there.0 refl there.1 (same_core t _ _ there.0 1 (ap (λ (k : ℕ). get_or stack k 0) (omega arith)) there.2)
 
-forest_by : (t : TableData) (f : Facts t) (stack : List ℕ) (trees : List RunTree) (p : ℕ) (g : Grown t stack trees) → Reducing t (top_of stack) p → IsRunForest t (rhs_of t.grammar p) (forest_of (drop (length trees - length (rhs_of t.grammar p)) trees))
+forest_by : (t : TableData) (f : Facts t) (stack : List ℕ) (trees : List SyntaxTree) (p : ℕ) (g : Grown t stack trees) → Reducing t (top_of stack) p → IsForestFor t.grammar (rhs_of t.grammar p) (forest_of (drop (length trees - length (rhs_of t.grammar p)) trees))
 forest_by t f stack trees p g can =
     let l = g.len in
     let at : top_of stack ≡ get_or stack (length trees) 0 = ap (λ (k : ℕ). get_or stack k 0) (omega arith) in
@@ -171,7 +172,7 @@ top_at stack n k len e e' lt =
     ∙ ap (λ (i : ℕ). get_or (take (n + 1) stack) i 0) (sym e')
 
 -- a reduction keeps the trees
-pub grown_reduced : (t : TableData) (f : Facts t) (stack new : List ℕ) (trees : List RunTree) (p : ℕ) → Grown t stack trees → Reducing t (top_of stack) p → Reduced t p stack new
+pub grown_reduced : (t : TableData) (f : Facts t) (stack new : List ℕ) (trees : List SyntaxTree) (p : ℕ) → Grown t stack trees → Reducing t (top_of stack) p → Reduced t p stack new
     → Grown t new (take (length trees - length (rhs_of t.grammar p)) trees ++ Node p (forest_of (drop (length trees - length (rhs_of t.grammar p)) trees)) ∷ [])
 grown_reduced t f stack new trees p g can r =
     let l = g.len in
@@ -185,32 +186,32 @@ grown_reduced t f stack new trees p g can r =
     rw r.is (rw kept
     (grown_push t (take (length trees - length (rhs_of t.grammar p) + 1) stack) (take (length trees - length (rhs_of t.grammar p)) trees) (N (lhs_of t.grammar p)) r.found.goto.0
     (Node p (forest_of (drop (length trees - length (rhs_of t.grammar p)) trees))) (grown_take t stack trees (length trees - length (rhs_of t.grammar p)) le g) edge
-    ((f.ordinary (top_of stack) p can).0, refl, forest_by t f stack trees p g can)))
+    ((f.ordinary (top_of stack) p can).0, (f.ordinary (top_of stack) p can).1, refl, forest_by t f stack trees p g can)))
 
-yields-append : (a b : List RunTree) → yields (a ++ b) ≡ yields a ++ yields b
+yields-append : (a b : List SyntaxTree) → yields (a ++ b) ≡ yields a ++ yields b
 yields-append [] b = refl
 yields-append (tree ∷ a) b = rw (yields-append a b) (sym (append_assoc (yield_of tree) (yields a) (yields b)))
 
-forest_yield-of : (trees : List RunTree) → forest_yield (forest_of trees) ≡ yields trees
+forest_yield-of : (trees : List SyntaxTree) → forest_yield (forest_of trees) ≡ yields trees
 forest_yield-of [] = refl
 forest_yield-of (tree ∷ trees) = ap (λ (l : List ℕ). yield_of tree ++ l) (forest_yield-of trees)
 
-yields_node : (trees : List RunTree) (p n : ℕ) → yields (take n trees ++ Node p (forest_of (drop n trees)) ∷ []) ≡ yields trees
+yields_node : (trees : List SyntaxTree) (p n : ℕ) → yields (take n trees ++ Node p (forest_of (drop n trees)) ∷ []) ≡ yields trees
 yields_node trees p n =
     yields-append (take n trees) (Node p (forest_of (drop n trees)) ∷ [])
     ∙ ap (λ (l : List ℕ). yields (take n trees) ++ l) (append-nil (forest_yield (forest_of (drop n trees))) ∙ forest_yield-of (drop n trees))
     ∙ sym (yields-append (take n trees) (drop n trees)) ∙ ap yields (take-append-drop n trees)
 
-yields_leaf : (trees : List RunTree) (z : ℕ) (left : List ℕ) → yields (trees ++ Leaf z ∷ []) ++ left ≡ yields trees ++ z ∷ left
+yields_leaf : (trees : List SyntaxTree) (z : ℕ) (left : List ℕ) → yields (trees ++ Leaf z ∷ []) ++ left ≡ yields trees ++ z ∷ left
 yields_leaf trees z left = rw (yields-append trees (Leaf z ∷ [])) (append_assoc (yields trees) (z ∷ []) left)
 
-run_of : (t : TableData) (stack : List ℕ) (trees : List RunTree) → Grown t stack trees → IsRunStack t stack
+run_of : (t : TableData) (stack : List ℕ) (trees : List SyntaxTree) → Grown t stack trees → IsRunStack t stack
 run_of t stack trees g = record {
   path = record { begun = let l = g.len in omega arith; edges = λ k lt. let l = g.len in let e = g.each k (omega arith) in (e.0, e.1) };
   start = g.start;
 }
 
-stands_by : (t : TableData) (f : Facts t) (w stack : List ℕ) (read : ℕ) (left : List ℕ) (trees : List RunTree) (m : Move) → move_of t (top_of stack) left ≡ m → Stands t w (record { stack = stack; read = read; left = left }) trees
+stands_by : (t : TableData) (f : Facts t) (w stack : List ℕ) (read : ℕ) (left : List ℕ) (trees : List SyntaxTree) (m : Move) → move_of t (top_of stack) left ≡ m → Stands t w (record { stack = stack; read = read; left = left }) trees
     → Stands t w (next_of (record { stack = stack; read = read; left = left }) (step_by t (record { stack = stack; read = read; left = left }) m)) (grow t m left trees)
 stands_by t f w stack read left trees Accepts e h = h
 stands_by t f w stack read left trees Asks e h = h
@@ -237,7 +238,7 @@ stands_by t f w stack read left trees (Reduces p) e h =
     })
 
 -- a run stands so at each moment
-pub stands : (t : TableData) (f : Facts t) (w : List ℕ) (n : ℕ) (c : Config) (trees : List RunTree) → Stands t w c trees → Stands t w (after t n c) (trees_after t n c trees)
+pub stands : (t : TableData) (f : Facts t) (w : List ℕ) (n : ℕ) (c : Config) (trees : List SyntaxTree) → Stands t w c trees → Stands t w (after t n c) (trees_after t n c trees)
 stands t f w zero c trees h = h
 stands t f w (suc n) c trees h =
     let m : Move = move_of t (top_of c.stack) c.left in

@@ -1,10 +1,10 @@
 -- What one level of a tree says.
-use Rattle.std.specs.Prelude.{ℕ, ◌+◌, ◌≤◌, List, [], ◌∷◌}
+use Rattle.std.specs.Prelude.{◌+◌, ◌≤◌, List, [], ◌∷◌}
 use Rattle.std.proofs.Common.{arith}
 use denote.Param.Weighed.{most}
 use Rattle.mh_tree.specs.declared.tree.Shape.{Shape}
 use Rattle.mh_tree.specs.declared.tree.Shape.TheVariants as shape
-use Rattle.mh_tree.specs.Trees.{SyntaxTree, Leaf, Node, Forest, forest_of, height_of, forest_height}
+use Rattle.mh_tree.specs.Trees.{SyntaxTree, Leaf, Node, forest_of, height_of, forest_height}
 
 abbrev pub tree_of : Shape → SyntaxTree
 tree_of (shape.Leaf z) = Leaf z

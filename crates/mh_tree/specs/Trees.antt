@@ -1,10 +1,10 @@
 -- Syntax trees as plain data.
-use Rattle.std.specs.Prelude.{ℕ, suc, max, List, [], ◌∷◌, ◌++◌, ◌-◌, length, nat_lt, if◌then◌else◌, slice_get}
-use Rattle.std.specs.Option.{option_map, unwrap_or}
+use Rattle.std.specs.Prelude.{◌≡◌, ◌<◌, ◌≤◌, ℕ, suc, max, List, [], ◌∷◌, ◌++◌, length}
 use Rattle.mh_grammar.specs.declared.types.Grammar.{Grammar}
-use Rattle.mh_grammar.specs.declared.types.TokenInfo.{TokenInfo}
-use Rattle.mh_grammar.specs.declared.types.NontermInfo.{NontermInfo}
-use Rattle.mh_grammar.specs.declared.types.Production.{Production}
+use Rattle.mh_grammar.specs.declared.types.Symbol.{Symbol}
+use Rattle.mh_grammar.specs.declared.types.Symbol.TheVariants.{T, N}
+use Rattle.mh_grammar.specs.Plain.{PlainGrammar, production_count, rhs_of, lhs_of}
+use Rattle.mh_grammar.specs.Names.{token_name, left_side_name}
 
 -- a token, or a production with one tree for each symbol of its right side (Knuth 1965)
 mutual
@@ -40,16 +40,18 @@ abbrev mutual
   forest_yield Nil = []
   forest_yield (Cons first rest) = yield_of first ++ forest_yield rest
 
--- the name of a token, and that of an ordinary production's left side; a number that the grammar lacks has the empty name
-unfoldable pub token_name : Grammar → ℕ → List ℕ
-token_name g z = unwrap_or (option_map (λ (i : TokenInfo). i.name) (slice_get g.tokens z)) []
+-- A tree of the grammar for a symbol: a leaf of that token, or an ordinary production of that nonterminal over trees for
+-- its right side.
+abbrev mutual
+  pub IsTreeFor : PlainGrammar → Symbol → SyntaxTree → Type 0
+  IsTreeFor g x (Leaf z) = x ≡ T z
+  IsTreeFor g x (Node p kids) = (length g.starts ≤ p) × (p < production_count g) × (x ≡ N (lhs_of g p)) × IsForestFor g (rhs_of g p) kids
 
-unfoldable pub nonterminal_name : Grammar → ℕ → List ℕ
-nonterminal_name g n = unwrap_or (option_map (λ (i : NontermInfo). i.name) (slice_get g.nonterminals n)) []
-
-unfoldable pub left_side_name : Grammar → ℕ → List ℕ
-left_side_name g p =
-    if nat_lt p (length g.starts) then [] else unwrap_or (option_map (λ (q : Production). nonterminal_name g q.lhs) (slice_get g.productions (p - length g.starts))) []
+  pub IsForestFor : PlainGrammar → List Symbol → Forest → Type 0
+  IsForestFor g [] Nil = Unit {0}
+  IsForestFor g [] (Cons first rest) = ⊥
+  IsForestFor g (x ∷ xs) Nil = ⊥
+  IsForestFor g (x ∷ xs) (Cons first rest) = IsTreeFor g x first × IsForestFor g xs rest
 
 -- A leaf is its token's name. A node is `[`, the name of its left side, `:`, each child after one space, and `]`.
 abbrev mutual

@@ -107,3 +107,36 @@ fn a_shared_tree_in_a_tree(rt: HostRuntime) -> Result<(), Fail> {
     );
     Ok(())
 }
+
+#[test]
+fn a_chain_of_the_greatest_height(rt: HostRuntime) -> Result<(), Fail> {
+    let alloc = rt.alloc();
+    let grammar = sample(alloc)?;
+    let chain = highest_chain(alloc)?;
+    assert_eq!(rt; chain.height(), 4000);
+    assert_eq!(rt; yield_of(alloc, &chain)?.as_slice(), [0].as_slice());
+    // Each of the 3,999 nodes adds `[s: ` and `]` to the `A`.
+    assert_eq!(rt; print_tree(alloc, &grammar, &chain)?.len(), 19_996);
+    drop(chain);
+    Ok(())
+}
+
+// Nodes with one child each, over a leaf.
+fn highest_chain(alloc: Global) -> Result<Tree, Memory> {
+    let mut chain = leaf(alloc, 0)?;
+    for _ in 1..4000 {
+        if chain.height() < 4000 {
+            chain = over(alloc, chain)?;
+        }
+    }
+    Ok(chain)
+}
+
+fn over(alloc: Global, child: Tree) -> Result<Tree, Memory>
+    requires { height_of child < 4000 }
+    ensures { IfOk result (λ t. t ≡ Node 1 (Cons child Nil)) }
+{
+    let mut children = Vec::new(alloc);
+    children.push(child)?;
+    node(alloc, 1, children)
+}

@@ -1,5 +1,5 @@
 //! Trees.
-ghost use Rattle.std.specs.Prelude.{◌≡◌, IfOk};
+ghost use Rattle.std.specs.Prelude.{◌≡◌, ◌↔◌, ℕ, IfOk, IfSome, IsTrue};
 ghost use Rattle.std.specs.Prelude.{◌<◌, ◌≤◌};
 ghost use Rattle.std.specs.List.{All};
 ghost use Rattle.mh_tree.specs.Trees.{height_of, forest_height, Leaf, Node, forest_of};
@@ -11,7 +11,6 @@ use std::marker::Model;
 use std::rc::Rc;
 
 /// A shared syntax tree.
-#[derive(Drop)]
 #[cycle(tree)]
 pub struct Tree {
     shape: Rc<Shape>,
@@ -48,12 +47,46 @@ impl Model for Tree {
     ghost size_decreases = { λ t h. depth_le-height t.shape.value };
 }
 
+// A loop over the nodes that have no other owner: the stack would not hold a recursion over a high tree everywhere.
+impl Drop for Tree {
+    fn drop(self) {
+        let Tree { shape, height: _ } = self;
+        let Some(mut waiting) = children_of(shape) else {
+            return;
+        };
+        'trees: while let Some(tree) = waiting.pop() {
+            if let Some(mut children) = tree.into_children() {
+                // Where there is no memory to put them off, they are dropped here.
+                let _ = waiting.append(&mut children);
+            }
+        }
+    }
+}
+
+// The children of a node that has no other owner.
+fn children_of(shape: Rc<Shape>) -> Option<Vec<Tree>>
+    ensures { IfSome result (λ children. (p : ℕ) × (tree_of shape.value ≡ Node p (forest_of children.items))) }
+{
+    match Rc::into_inner(shape) {
+        Some(Shape::Node(_, children)) => Some(children),
+        _ => None,
+    }
+}
+
 impl Tree {
     /// What stands at the root.
     pub(crate) fn shape(&self) -> &Shape
         ensures { tree_of result.now ≡ self.now }
     {
         &self.shape
+    }
+
+    // The children, where the node has no other owner.
+    fn into_children(self) -> Option<Vec<Tree>>
+        ensures { IfSome result (λ children. (p : ℕ) × (self ≡ Node p (forest_of children.items))) }
+    {
+        let Tree { shape, height: _ } = self;
+        children_of(shape)
     }
 
     pub fn height(&self) -> u32
@@ -80,6 +113,13 @@ pub fn leaf(alloc: Global, token: Token) -> Result<Tree, Memory>
         shape: Rc::new(alloc, Shape::Leaf(token))?,
         height: 1,
     })
+}
+
+/// Whether a node may stand over these trees: none of them has the greatest height, 4,000.
+pub fn can_be_children(trees: &[Tree]) -> bool
+    ensures { IsTrue result ↔ All (λ t. height_of t < 4000) trees.now }
+{
+    trees.iter().all(|tree| tree.height() < 4000)
 }
 
 /// The tree of a production over its children. Where memory is wanting, the children are dropped.

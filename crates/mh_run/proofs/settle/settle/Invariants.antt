@@ -3,8 +3,8 @@ use Rattle.mh_run.proofs.Progress.{Progress}
 use Rattle.mh_run.proofs.settle.settle.Given as goal
 
 abbrev pub invariant-reductions : goal.invariant-reductions
-invariant-reductions l = Progress l.table l.look l.fn.stack.items l.stack.items l.floor l.count
+invariant-reductions g l = Progress g.F.Follow.following l.table l.look l.fn.stack.items l.stack.items l.fn.follower l.follower l.floor l.count
 
 -- the place falls, or one reduction fewer is left above it
 abbrev pub decreases-reductions : goal.decreases-reductions
-decreases-reductions l = 10001 * l.floor + (10000 - l.count)
+decreases-reductions g l = 10001 * l.floor + (10000 - l.count)

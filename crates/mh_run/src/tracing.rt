@@ -1,0 +1,64 @@
+//! The productions that a run reduced since its last shift.
+ghost use Rattle.std.specs.Prelude.{◌≡◌, ◌<◌, ◌^◌, length, IfOk, All};
+ghost use Rattle.mh_run.specs.Trace.{TraceOf};
+ghost use Rattle.mh_run.specs.Verdicts.{ending_for};
+
+use crate::follow::{Follow, Stop};
+use crate::outcome::Verdict;
+use crate::runs::run;
+use mh_grammar::{Memory, Token};
+use mh_tables::Halting;
+use std::alloc::Global;
+use std::marker::Model;
+
+/// The productions that were reduced since the last shift.
+#[derive(Drop)]
+struct SinceShift {
+    productions: Vec<u32>,
+}
+
+impl Model for SinceShift {
+    ghost use Rattle.std.specs.Prelude.{List, ℕ};
+
+    ghost Value = { List ℕ };
+
+    ghost view = { λ s. s.productions.items };
+}
+
+impl Follow for SinceShift {
+    ghost use Rattle.std.specs.Prelude.{false, [], ◌∷◌, ◌++◌};
+
+    ghost following = { record { shifted = λ ps z. []; reduced = λ ps m p. ps ++ p ∷ []; deep = λ ps. false } };
+
+    fn shift(&mut self, _: Global, _: Token) -> Result<(), Stop> {
+        self.productions.clear();
+        Ok(())
+    }
+
+    fn reduce(&mut self, _: Global, _: usize, production: u32) -> Result<(), Stop> {
+        self.productions.push(production)?;
+        Ok(())
+    }
+}
+
+/// The verdict of a start, by its number, on a sentence of fewer than 2^32 tokens, and the productions that were reduced
+/// since the last shift, in order. Fails for want of memory alone.
+pub fn trace(
+    alloc: Global,
+    table: &Halting,
+    start: u16,
+    sentence: &[Token],
+) -> Result<(Verdict, Vec<u32>), Memory>
+    requires start { start < length table.now.grammar.starts }
+    requires tokens { All (λ z. z < table.now.grammar.tokens) sentence.now }
+    requires few { length sentence.now < 2 ^ 32 }
+    ensures { IfOk result (λ traced. TraceOf table.now start sentence.now (ending_for traced.0) traced.1.items) }
+{
+    let mut since = SinceShift {
+        productions: Vec::new(alloc),
+    };
+    match run(alloc, table, start, sentence, &mut since) {
+        Ok(verdict) => Ok((verdict, since.productions)),
+        Err(_) => Err(Memory),
+    }
+}

@@ -1,0 +1,11 @@
+use Rattle.std.proofs.Common.{◌<◌}
+use Rattle.mh_tree.specs.Trees.{height_of}
+use Rattle.mh_tree.proofs.Counts.{all_nodes, all_heights}
+use Rattle.mh_tree.proofs.tree.Tree.+drop.Given as goal
+
+-- what waits stood below
+abbrev pub invariant-trees : goal.invariant-trees
+invariant-trees l = all_heights l.waiting.items < height_of l.fn.self
+
+abbrev pub decreases-trees : goal.decreases-trees
+decreases-trees l = all_nodes l.waiting.items
