@@ -66,9 +66,9 @@ fn texts_of(alloc: Global, grammar: &Grammar) -> Result<(Vec<u8>, Vec<u8>), Fail
     if !is_in_range(grammar) {
         return Err("numbers out of range".into());
     }
-    let automaton = canonical(alloc, grammar).map_err(|_| "no automaton")?;
+    let automaton = canonical(alloc, grammar)?;
     let (table, conflicts) = resolve(alloc, grammar, &automaton, Mode::Canonical)?;
-    let table = check_halts(alloc, table).map_err(|_| "no end")?;
+    let table = check_halts(alloc, table)?;
     let text = automaton_text(alloc, grammar, &automaton, &table, Mode::Canonical)?;
     let warnings = warning_text(alloc, grammar, conflicts.as_slice())?;
     Ok((text, warnings))
