@@ -7,6 +7,7 @@ pub mod Listing
 pub mod Once
 pub mod Places
 pub mod Ranking
+pub mod Refusing
 pub mod Resolving
 pub mod Rowing
 pub mod Same

@@ -1,6 +1,6 @@
 -- Which cells are holes.
-use Rattle.std.proofs.Common.{◌≡◌, ℕ, ◌<◌, ◌⊎◌, List, length, get_or, Bool, true, false, refl, ap, sym, ◌∙◌, arith, inl, inr, map}
-use Rattle.std.specs.Prelude.{◌&&◌, MatchBool}
+use Rattle.std.proofs.Common.{◌≡◌, ℕ, ◌<◌, ◌⊎◌, List, length, get_or, Bool, true, false, ap, sym, subst, ◌∙◌, arith, inl, inr, map}
+use Rattle.std.specs.Prelude.{◌&&◌, MatchBool, Result, Ok, Err, IfOk}
 use Rattle.std.proofs.lemmas.List.{get_or-map, length-map}
 use Rattle.mh_grammar.specs.declared.types.Look.{Look}
 use Rattle.mh_grammar.specs.declared.types.Look.TheVariants.{Token}
@@ -28,7 +28,7 @@ decided_hole s look cell d = go cell.raw cell.action d.raw d.action
 
 pub marked : (s : State) (cells : List Cell) (holes : List Bool) → AreCells s (length s.grammar.tokens) cells → holes ≡ map marks_hole cells → AreHoles s holes
 marked s cells holes c e = record {
-  len = ap length e ∙ length-map marks_hole cells ∙ c.len;
+  len = ap length e ∙ length-map cells marks_hole ∙ c.len;
   each = λ z lt. subst (λ b. MatchBool b (IsHoleOn s (Token z)) (IsHoleOn s (Token z) → ⊥)) (sym (at z lt)) (decided_hole s (Token z) (get_or cells z no_cell) (c.each z lt));
 }
   where
@@ -36,3 +36,7 @@ marked s cells holes c e = record {
     at z lt =
         let n = c.len in
         ap (λ l. get_or l z false) e ∙ get_or-map marks_hole cells z no_cell false (omega arith)
+
+pub mapped : {X E : Type 0} (r : Result X E) (P Q : X → Type 0) → ((x : X) → P x → Q x) → IfOk r P → IfOk r Q
+mapped (Ok x) P Q f p = f x p
+mapped (Err e) P Q f p = tt

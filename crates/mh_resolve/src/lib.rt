@@ -5,6 +5,7 @@ mod cells;
 mod conflicts;
 mod counting;
 mod errors;
+mod holes;
 mod kinds;
 mod levels;
 mod resolution;
@@ -12,6 +13,7 @@ mod row;
 mod states;
 
 pub use conflicts::Conflict;
+pub use holes::holes_of;
 pub use kinds::{ConflictKind, Mode};
 pub use resolution::{conflicts_are_one, conflicts_tell, resolve, table_acts, table_is_one};
 

@@ -1,13 +1,10 @@
 -- Syntax trees as plain data.
-use Rattle.std.specs.Prelude.{◌≡◌, ◌<◌, ◌≤◌, ℕ, suc, max, List, [], ◌∷◌, ◌++◌, ◌-◌, length, nat_lt, if◌then◌else◌, slice_get}
-use Rattle.std.specs.Option.{option_map, unwrap_or}
+use Rattle.std.specs.Prelude.{◌≡◌, ◌<◌, ◌≤◌, ℕ, suc, max, List, [], ◌∷◌, ◌++◌, length}
 use Rattle.mh_grammar.specs.declared.types.Grammar.{Grammar}
-use Rattle.mh_grammar.specs.declared.types.TokenInfo.{TokenInfo}
-use Rattle.mh_grammar.specs.declared.types.NontermInfo.{NontermInfo}
-use Rattle.mh_grammar.specs.declared.types.Production.{Production}
 use Rattle.mh_grammar.specs.declared.types.Symbol.{Symbol}
 use Rattle.mh_grammar.specs.declared.types.Symbol.TheVariants.{T, N}
 use Rattle.mh_grammar.specs.Plain.{PlainGrammar, production_count, rhs_of, lhs_of}
+use Rattle.mh_grammar.specs.Names.{token_name, left_side_name}
 
 -- a token, or a production with one tree for each symbol of its right side (Knuth 1965)
 mutual
@@ -55,17 +52,6 @@ abbrev mutual
   IsForestFor g [] (Cons first rest) = ⊥
   IsForestFor g (x ∷ xs) Nil = ⊥
   IsForestFor g (x ∷ xs) (Cons first rest) = IsTreeFor g x first × IsForestFor g xs rest
-
--- the name of a token, and that of an ordinary production's left side; a number that the grammar lacks has the empty name
-unfoldable pub token_name : Grammar → ℕ → List ℕ
-token_name g z = unwrap_or (option_map (λ (i : TokenInfo). i.name) (slice_get g.tokens z)) []
-
-unfoldable pub nonterminal_name : Grammar → ℕ → List ℕ
-nonterminal_name g n = unwrap_or (option_map (λ (i : NontermInfo). i.name) (slice_get g.nonterminals n)) []
-
-unfoldable pub left_side_name : Grammar → ℕ → List ℕ
-left_side_name g p =
-    if nat_lt p (length g.starts) then [] else unwrap_or (option_map (λ (q : Production). nonterminal_name g q.lhs) (slice_get g.productions (p - length g.starts))) []
 
 -- A leaf is its token's name. A node is `[`, the name of its left side, `:`, each child after one space, and `]`.
 abbrev mutual

@@ -1,0 +1,41 @@
+-- The texts of productions, items and kernels.
+use Rattle.std.specs.Prelude.{ℕ, List, [], ◌∷◌, ◌++◌, length, nat_lt, if◌then◌else◌, take, drop, codes}
+use Rattle.mh_grammar.specs.declared.types.Symbol.{Symbol}
+use Rattle.mh_grammar.specs.declared.types.Grammar.{Grammar}
+use Rattle.mh_grammar.specs.declared.types.Look.{Look}
+use Rattle.mh_grammar.specs.declared.types.Look.TheVariants.{Token, End}
+use Rattle.mh_grammar.specs.Plain.{plain_of, rhs_of}
+use Rattle.mh_grammar.specs.Names.{token_name, symbol_name, left_side_name, start_name}
+use Rattle.mh_items.specs.declared.kernels.KernelItem.{KernelItem}
+
+abbrev pub Text : Type 0
+Text = List ℕ
+
+-- symbols, each after one space
+abbrev pub names_after : Grammar → List Symbol → Text
+names_after g [] = []
+names_after g (X ∷ symbols) = 32 ∷ symbol_name g X ++ names_after g symbols
+
+-- the left side of a start production is its start with a quote
+abbrev pub left_side : Grammar → ℕ → Text
+left_side g p = if nat_lt p (length g.starts) then start_name g p ++ codes "'" else left_side_name g p
+
+-- a production: its left side, an arrow, and its right side
+abbrev pub production_text : Grammar → ℕ → Text
+production_text g p = left_side g p ++ codes " ->" ++ names_after g (rhs_of (plain_of g) p)
+
+-- the end of the stream is `#`
+abbrev pub look_name : Grammar → Look → Text
+look_name g (Token z) = token_name g z
+look_name g End = codes "#"
+
+-- looks, each after one space
+abbrev pub looks_after : Grammar → List Look → Text
+looks_after g [] = []
+looks_after g (look ∷ looks) = 32 ∷ look_name g look ++ looks_after g looks
+
+-- an item has a dot in its right side, and its looks in brackets
+abbrev pub kernel_text : Grammar → KernelItem → Text
+kernel_text g item =
+    let symbols = rhs_of (plain_of g) item.production in
+    left_side g item.production ++ codes " ->" ++ names_after g (take item.dot symbols) ++ codes " ." ++ names_after g (drop item.dot symbols) ++ codes " [" ++ looks_after g item.looks ++ codes " ]"

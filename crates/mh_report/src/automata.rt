@@ -1,0 +1,286 @@
+//! The text of an automaton with its table.
+ghost use Rattle.std.specs.Prelude.{◌≡◌, ◌<◌, ◌++◌, length, decimal, IfOk, OnOk};
+ghost use Rattle.std.specs.List.{All};
+ghost use Rattle.mh_grammar.specs.Plain.{plain_of, IsInRange};
+ghost use Rattle.mh_items.specs.Firsts.{AreFirsts};
+ghost use Rattle.mh_items.specs.Kernels.{IsKernelItem};
+ghost use Rattle.mh_items.specs.Automaton.{IsAutomaton, kernel_at, edges_at};
+ghost use Rattle.mh_tables.specs.Table.{cell_of, fallback_of};
+ghost use Rattle.mh_resolve.specs.States.{IsTableOf};
+ghost use Rattle.mh_report.specs.Automata.{mode_name, title, kernel_line, kernel_lines, cell_line, cell_lines, goto_line, goto_lines, default_line, head_line, AreActionLines, IsStateText, IsAutomatonText, Adds};
+
+use crate::items::{write_item, write_number, write_production};
+use mh_grammar::{Edge, Grammar, Memory, Symbol, Token, nonterminal_name, token_name};
+use mh_items::first_sets::Firsts;
+use mh_items::{Automaton, KernelItem, firsts};
+use mh_resolve::{Mode, holes_of};
+use mh_tables::{Action, Fallback, Halting, Table};
+use std::alloc::Global;
+
+fn mode_name(mode: Mode) -> &'static [u8]
+    ensures { result.now ≡ mode_name mode }
+{
+    match mode {
+        Mode::Merged => b"merged",
+        Mode::Canonical => b"canonical",
+    }
+}
+
+fn write_title(alloc: Global, text: &mut Vec<u8>, mode: Mode, states: u32) -> Result<(), Memory>
+    ensures { OnOk result (text.new.items ≡ text.old.items ++ title mode states) }
+{
+    text.extend_from_slice(mode_name(mode))?;
+    text.extend_from_slice(b": ")?;
+    write_number(alloc, text, states)?;
+    text.extend_from_slice(b" states\n")?;
+    Ok(())
+}
+
+fn write_kernel_line(text: &mut Vec<u8>, grammar: &Grammar, item: &KernelItem) -> Result<(), Memory>
+    requires { IsKernelItem (plain_of grammar.now) item.now }
+    ensures { OnOk result (text.new.items ≡ text.old.items ++ kernel_line grammar.now item.now) }
+{
+    text.extend_from_slice(b"  ")?;
+    write_item(text, grammar, item)?;
+    text.push(b'\n')?;
+    Ok(())
+}
+
+fn write_kernel_lines(
+    text: &mut Vec<u8>,
+    grammar: &Grammar,
+    items: &[KernelItem],
+) -> Result<(), Memory>
+    requires { All (IsKernelItem (plain_of grammar.now)) items.now }
+    ensures { OnOk result (text.new.items ≡ text.old.items ++ kernel_lines grammar.now items.now) }
+{
+    for item in items {
+        write_kernel_line(text, grammar, item)?;
+    }
+    Ok(())
+}
+
+// A token with what its cell does.
+fn write_cell_line(
+    alloc: Global,
+    text: &mut Vec<u8>,
+    grammar: &Grammar,
+    token: Token,
+    action: Action,
+    is_hole: bool,
+) -> Result<(), Memory>
+    ensures { OnOk result (text.new.items ≡ text.old.items ++ cell_line grammar.now token action is_hole) }
+{
+    match action {
+        Action::Shift(target) => {
+            text.extend_from_slice(b"  ")?;
+            text.extend_from_slice(token_name(grammar, token))?;
+            text.extend_from_slice(b": shift ")?;
+            write_number(alloc, text, target)?;
+            text.push(b'\n')?;
+        }
+        Action::Reduce(production) => {
+            text.extend_from_slice(b"  ")?;
+            text.extend_from_slice(token_name(grammar, token))?;
+            text.extend_from_slice(b": reduce ")?;
+            write_production(text, grammar, production)?;
+            text.push(b'\n')?;
+        }
+        Action::Refuse => {
+            if is_hole {
+                text.extend_from_slice(b"  ")?;
+                text.extend_from_slice(token_name(grammar, token))?;
+                text.extend_from_slice(b": hole\n")?;
+            }
+        }
+    }
+    Ok(())
+}
+
+fn write_cell_lines(
+    alloc: Global,
+    text: &mut Vec<u8>,
+    grammar: &Grammar,
+    table: &Table,
+    state: u32,
+    holes: &[bool],
+) -> Result<(), Memory>
+    requires range { IsInRange (plain_of grammar.now) }
+    requires grammar { table.now.grammar ≡ plain_of grammar.now }
+    requires state { state < length table.now.states }
+    requires holes { length holes.now ≡ length grammar.now.tokens }
+    ensures { OnOk result (text.new.items ≡ text.old.items ++ cell_lines grammar.now table.now state holes.now (length grammar.now.tokens)) }
+{
+    for token in 0..holes.len() {
+        let number = token as Token;
+        let action = table.action(state, number);
+        write_cell_line(alloc, text, grammar, number, action, holes[token])?;
+    }
+    Ok(())
+}
+
+fn write_goto_line(
+    alloc: Global,
+    text: &mut Vec<u8>,
+    grammar: &Grammar,
+    symbol: Symbol,
+    target: u32,
+) -> Result<(), Memory>
+    ensures { OnOk result (text.new.items ≡ text.old.items ++ goto_line grammar.now symbol target) }
+{
+    if let Symbol::N(nonterminal) = symbol {
+        text.extend_from_slice(b"  ")?;
+        text.extend_from_slice(nonterminal_name(grammar, nonterminal))?;
+        text.extend_from_slice(b": goto ")?;
+        write_number(alloc, text, target)?;
+        text.push(b'\n')?;
+    }
+    Ok(())
+}
+
+fn write_goto_lines(
+    alloc: Global,
+    text: &mut Vec<u8>,
+    grammar: &Grammar,
+    edges: &[Edge],
+) -> Result<(), Memory>
+    ensures { OnOk result (text.new.items ≡ text.old.items ++ goto_lines grammar.now edges.now) }
+{
+    for edge in edges {
+        write_goto_line(alloc, text, grammar, edge.symbol, edge.target)?;
+    }
+    Ok(())
+}
+
+fn write_default(text: &mut Vec<u8>, grammar: &Grammar, production: u32) -> Result<(), Memory>
+    ensures { OnOk result (text.new.items ≡ text.old.items ++ default_line grammar.now production) }
+{
+    text.extend_from_slice(b"  default: reduce ")?;
+    write_production(text, grammar, production)?;
+    text.push(b'\n')?;
+    Ok(())
+}
+
+// The default, or a line for each token that acts or is a hole.
+fn write_actions(
+    alloc: Global,
+    text: &mut Vec<u8>,
+    grammar: &Grammar,
+    known: &Firsts,
+    automaton: &Automaton,
+    table: &Table,
+    state: u32,
+) -> Result<(), Memory>
+    requires range { IsInRange (plain_of grammar.now) }
+    requires firsts { AreFirsts (plain_of grammar.now) known.now }
+    requires automaton { IsAutomaton (plain_of grammar.now) automaton.now }
+    requires grammar { table.now.grammar ≡ plain_of grammar.now }
+    requires states { length table.now.states ≡ length automaton.now.kernels }
+    requires state { state < length automaton.now.kernels }
+    ensures { OnOk result (Adds (AreActionLines grammar.now automaton.now table.now state (fallback_of table.now state)) text.old.items text.new.items) }
+{
+    match table.fallback(state) {
+        Some(Fallback::Accept) => {
+            text.extend_from_slice(b"  default: accept\n")?;
+            Ok(())
+        }
+        Some(Fallback::Reduce(production)) => write_default(text, grammar, production),
+        None => {
+            let holes = holes_of(alloc, grammar, known, automaton, state as usize)?;
+            write_cell_lines(alloc, text, grammar, table, state, holes.as_slice())
+        }
+    }
+}
+
+fn write_head(alloc: Global, text: &mut Vec<u8>, state: u32) -> Result<(), Memory>
+    ensures { OnOk result (text.new.items ≡ text.old.items ++ head_line state) }
+{
+    text.extend_from_slice(b"state ")?;
+    write_number(alloc, text, state)?;
+    text.push(b'\n')?;
+    Ok(())
+}
+
+fn write_kernel(
+    text: &mut Vec<u8>,
+    grammar: &Grammar,
+    automaton: &Automaton,
+    state: u32,
+) -> Result<(), Memory>
+    requires automaton { IsAutomaton (plain_of grammar.now) automaton.now }
+    requires state { state < length automaton.now.kernels }
+    ensures { OnOk result (text.new.items ≡ text.old.items ++ kernel_lines grammar.now (kernel_at automaton.now state).items) }
+{
+    let kernel = &automaton.kernels[state as usize];
+    write_kernel_lines(text, grammar, kernel.items.as_slice())
+}
+
+fn write_gotos(
+    alloc: Global,
+    text: &mut Vec<u8>,
+    grammar: &Grammar,
+    automaton: &Automaton,
+    state: u32,
+) -> Result<(), Memory>
+    requires state { state < length automaton.now.edges }
+    ensures { OnOk result (text.new.items ≡ text.old.items ++ goto_lines grammar.now (edges_at automaton.now state)) }
+{
+    let edges = automaton.edges[state as usize].as_slice();
+    write_goto_lines(alloc, text, grammar, edges)
+}
+
+fn write_state(
+    alloc: Global,
+    text: &mut Vec<u8>,
+    grammar: &Grammar,
+    known: &Firsts,
+    automaton: &Automaton,
+    table: &Table,
+    state: u32,
+) -> Result<(), Memory>
+    requires range { IsInRange (plain_of grammar.now) }
+    requires firsts { AreFirsts (plain_of grammar.now) known.now }
+    requires automaton { IsAutomaton (plain_of grammar.now) automaton.now }
+    requires grammar { table.now.grammar ≡ plain_of grammar.now }
+    requires states { length table.now.states ≡ length automaton.now.kernels }
+    requires state { state < length automaton.now.kernels }
+    ensures { OnOk result (Adds (IsStateText grammar.now automaton.now table.now state) text.old.items text.new.items) }
+{
+    write_head(alloc, text, state)?;
+    write_kernel(text, grammar, automaton, state)?;
+    write_actions(alloc, text, grammar, known, automaton, table, state)?;
+    write_gotos(alloc, text, grammar, automaton, state)?;
+    Ok(())
+}
+
+/// The states of an automaton, each with its kernel, its default or the cells that act or are holes, and its edges on
+/// nonterminals. The table is that of the automaton in the mode. Fails for want of memory alone.
+pub fn automaton_text(
+    alloc: Global,
+    grammar: &Grammar,
+    automaton: &Automaton,
+    table: &Halting,
+    mode: Mode,
+) -> Result<Vec<u8>, Memory>
+    requires range { IsInRange (plain_of grammar.now) }
+    requires automaton { IsAutomaton (plain_of grammar.now) automaton.now }
+    requires table { IsTableOf grammar.now automaton.now mode table.now }
+    ensures { IfOk result (λ text. IsAutomatonText grammar.now automaton.now mode table.now text.items) }
+{
+    let known = firsts(alloc, grammar)?;
+    let states = automaton.kernels.len() as u32;
+    let mut text = Vec::new(alloc);
+    write_title(alloc, &mut text, mode, states)?;
+    for state in 0..states {
+        write_state(
+            alloc,
+            &mut text,
+            grammar,
+            &known,
+            automaton,
+            table.table(),
+            state,
+        )?;
+    }
+    Ok(text)
+}

@@ -1,0 +1,146 @@
+//! The texts of productions, items and kernels. Each function writes behind what a text holds.
+ghost use Rattle.std.specs.Prelude.{◌≡◌, ◌<◌, ◌≤◌, ◌++◌, length, take, drop, codes, decimal, OnOk};
+ghost use Rattle.mh_grammar.specs.Plain.{plain_of, rhs_of, production_count};
+ghost use Rattle.mh_items.specs.Kernels.{IsKernelItem};
+ghost use Rattle.mh_report.specs.Items.{names_after, left_side, production_text, look_name, looks_after, kernel_text};
+
+use mh_grammar::{
+    Grammar, Look, Memory, Symbol, left_side_name, nonterminal_name, symbol_name, token_name,
+};
+use mh_items::KernelItem;
+use std::alloc::Global;
+
+pub(crate) fn write_number(alloc: Global, text: &mut Vec<u8>, number: u32) -> Result<(), Memory>
+    ensures { OnOk result (text.new.items ≡ text.old.items ++ decimal number) }
+{
+    let digits = format!(in alloc; "{number}")?;
+    text.extend_from_slice(digits.as_bytes())?;
+    Ok(())
+}
+
+// Symbols, each after a space.
+fn write_names(text: &mut Vec<u8>, grammar: &Grammar, symbols: &[Symbol]) -> Result<(), Memory>
+    ensures { OnOk result (text.new.items ≡ text.old.items ++ names_after grammar.now symbols.now) }
+{
+    for symbol in symbols {
+        text.push(b' ')?;
+        text.extend_from_slice(symbol_name(grammar, *symbol))?;
+    }
+    Ok(())
+}
+
+#[tactic(auto, unfolding(mh_grammar::specs::Names::start_name))]
+fn write_left_side(text: &mut Vec<u8>, grammar: &Grammar, production: u32) -> Result<(), Memory>
+    ensures { OnOk result (text.new.items ≡ text.old.items ++ left_side grammar.now production) }
+{
+    match grammar.starts.get(production as usize) {
+        Some(start) => {
+            text.extend_from_slice(nonterminal_name(grammar, *start))?;
+            text.push(b'\'')?;
+        }
+        None => text.extend_from_slice(left_side_name(grammar, production))?,
+    }
+    Ok(())
+}
+
+fn write_rhs(
+    text: &mut Vec<u8>,
+    grammar: &Grammar,
+    symbols: &[Symbol],
+    dot: usize,
+) -> Result<(), Memory>
+    requires { dot ≤ length symbols.now }
+    ensures { OnOk result (text.new.items ≡ text.old.items ++ (names_after grammar.now (take dot symbols.now) ++ (codes " ." ++ names_after grammar.now (drop dot symbols.now)))) }
+{
+    let (before, behind) = symbols.split_at(dot);
+    write_names(text, grammar, before)?;
+    text.extend_from_slice(b" .")?;
+    write_names(text, grammar, behind)
+}
+
+// The right side of a production.
+#[tactic(auto, unfolding(mh_grammar::specs::Plain::rhs_of))]
+fn write_right_side(text: &mut Vec<u8>, grammar: &Grammar, production: u32) -> Result<(), Memory>
+    ensures { OnOk result (text.new.items ≡ text.old.items ++ names_after grammar.now (rhs_of (plain_of grammar.now) production)) }
+{
+    let production = production as usize;
+    let starts = grammar.starts.len();
+    if production < starts {
+        return write_names(text, grammar, &[Symbol::N(grammar.starts[production])]);
+    }
+    match grammar.productions.get(production - starts) {
+        Some(found) => write_names(text, grammar, found.rhs.as_slice()),
+        None => Ok(()),
+    }
+}
+
+// The right side of a production with a dot.
+#[tactic(auto, unfolding(mh_grammar::specs::Plain::rhs_of))]
+fn write_dotted(
+    text: &mut Vec<u8>,
+    grammar: &Grammar,
+    production: u32,
+    dot: u32,
+) -> Result<(), Memory>
+    requires production { production < production_count (plain_of grammar.now) }
+    requires dot { dot ≤ length (rhs_of (plain_of grammar.now) production) }
+    ensures { OnOk result (text.new.items ≡ text.old.items ++ (names_after grammar.now (take dot (rhs_of (plain_of grammar.now) production)) ++ (codes " ." ++ names_after grammar.now (drop dot (rhs_of (plain_of grammar.now) production))))) }
+{
+    let production = production as usize;
+    let starts = grammar.starts.len();
+    if production < starts {
+        let symbols = [Symbol::N(grammar.starts[production])];
+        return write_rhs(text, grammar, &symbols, dot as usize);
+    }
+    let symbols = grammar.productions[production - starts].rhs.as_slice();
+    write_rhs(text, grammar, symbols, dot as usize)
+}
+
+pub(crate) fn write_production(
+    text: &mut Vec<u8>,
+    grammar: &Grammar,
+    production: u32,
+) -> Result<(), Memory>
+    ensures { OnOk result (text.new.items ≡ text.old.items ++ production_text grammar.now production) }
+{
+    write_left_side(text, grammar, production)?;
+    text.extend_from_slice(b" ->")?;
+    write_right_side(text, grammar, production)
+}
+
+pub(crate) fn look_name(grammar: &Grammar, look: Look) -> &[u8]
+    ensures { result.now ≡ look_name grammar.now look }
+{
+    match look {
+        Look::Token(token) => token_name(grammar, token),
+        Look::End => b"#",
+    }
+}
+
+fn write_looks(text: &mut Vec<u8>, grammar: &Grammar, looks: &[Look]) -> Result<(), Memory>
+    ensures { OnOk result (text.new.items ≡ text.old.items ++ looks_after grammar.now looks.now) }
+{
+    for look in looks {
+        text.push(b' ')?;
+        text.extend_from_slice(look_name(grammar, *look))?;
+    }
+    Ok(())
+}
+
+/// An item with its looks.
+pub(crate) fn write_item(
+    text: &mut Vec<u8>,
+    grammar: &Grammar,
+    item: &KernelItem,
+) -> Result<(), Memory>
+    requires { IsKernelItem (plain_of grammar.now) item.now }
+    ensures { OnOk result (text.new.items ≡ text.old.items ++ kernel_text grammar.now item.now) }
+{
+    write_left_side(text, grammar, item.production)?;
+    text.extend_from_slice(b" ->")?;
+    write_dotted(text, grammar, item.production, item.dot)?;
+    text.extend_from_slice(b" [")?;
+    write_looks(text, grammar, item.looks.as_slice())?;
+    text.extend_from_slice(b" ]")?;
+    Ok(())
+}

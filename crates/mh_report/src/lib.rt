@@ -1,0 +1,12 @@
+//! Texts for people: the automaton with its table, and the warnings on conflicts.
+#![tactic(auto)]
+
+mod automata;
+mod items;
+mod warnings;
+
+pub use automata::automaton_text;
+pub use warnings::warning_text;
+
+#[cfg(test)]
+mod tests;
