@@ -8,7 +8,7 @@ ghost use Rattle.mh_reader.specs.Limits.{Deep};
 
 use crate::declarations::at_items;
 use crate::modules::{Actual, Module, Ref};
-use crate::places::{Draft, Listing, Pending, Place, Purpose, Reader, Refusal};
+use crate::places::{Draft, Listing, Pending, Place, Purpose, Reader, Refusal, go_to};
 use crate::rules::{at_spaced, reference};
 use crate::signs::Sign;
 use crate::stack::Stack;
@@ -36,9 +36,7 @@ fn add_actual(actuals: Sequence<Actual>, actual: Actual) -> Result<Sequence<Actu
     ensures { IfOk result (λ all. all ≡ actuals ++ actual ∷ []) }
 {
     let mut actuals = actuals;
-    let Ok(()) = actuals.push(actual) else {
-        return Err(Memory);
-    };
+    actuals.push(actual)?;
     Ok(actuals)
 }
 
@@ -47,9 +45,7 @@ fn wrapped(alloc: Global, name: &[u8], inner: Actual) -> Result<Actual, Memory>
     ensures { IfOk result (λ a. a ≡ applied (Plain name.now) (inner ∷ [])) }
 {
     let head = Ref::Plain(from_bytes(alloc, name)?);
-    let Ok(args) = add_actual(Sequence::new(alloc), inner) else {
-        return Err(Memory);
-    };
+    let args = add_actual(Sequence::new(alloc), inner)?;
     Ok(Actual { head, args })
 }
 
@@ -66,9 +62,7 @@ fn whole(
 {
     match purpose {
         Purpose::Producer(draft) => {
-            let Ok(producers) = add_actual(draft.producers, actual) else {
-                return Err(Refusal::Memory);
-            };
+            let producers = add_actual(draft.producers, actual)?;
             let draft = Draft {
                 rule: draft.rule,
                 productions: draft.productions,
@@ -77,9 +71,7 @@ fn whole(
             at_spaced(alloc, made, draft, sign, text)
         }
         Purpose::Listed(kept, actuals) => {
-            let Ok(actuals) = add_actual(actuals, actual) else {
-                return Err(Refusal::Memory);
-            };
+            let actuals = add_actual(actuals, actual)?;
             at_items(alloc, made, Listing::Actuals(kept, actuals), sign, text)
         }
     }
@@ -101,26 +93,19 @@ fn behind_argument(
 {
     let mut pending = rest;
     let deepest = deeper_of(inner.depth, depth);
-    let Ok(args) = add_actual(inner.args, actual) else {
-        return Err(Refusal::Memory);
-    };
+    let args = add_actual(inner.args, actual)?;
     match sign {
         Sign::Comma => {
-            let Ok(()) = pending.push(Pending {
+            pending.push(Pending {
                 head: inner.head,
                 args,
                 depth: deepest,
-            }) else {
-                return Err(Refusal::Memory);
-            };
-            Ok(Reader {
-                made,
-                place: Place::Argument(purpose, pending),
-            })
+            })?;
+            go_to(made, Place::Argument(purpose, pending))
         }
-        Sign::Close => Ok(Reader {
+        Sign::Close => go_to(
             made,
-            place: Place::After(
+            Place::After(
                 purpose,
                 pending,
                 Actual {
@@ -129,7 +114,7 @@ fn behind_argument(
                 },
                 deepest + 1,
             ),
-        }),
+        ),
         _ => Err(Refusal::Unexpected),
     }
 }
@@ -171,13 +156,8 @@ fn suffix(
     if !has_room(depth, pending.len()) {
         return Err(Refusal::Unexpected);
     }
-    let Ok(actual) = wrapped(alloc, name, actual) else {
-        return Err(Refusal::Memory);
-    };
-    Ok(Reader {
-        made,
-        place: Place::After(purpose, pending, actual, depth + 1),
-    })
+    let actual = wrapped(alloc, name, actual)?;
+    go_to(made, Place::After(purpose, pending, actual, depth + 1))
 }
 
 /// Behind an actual, where a suffix may stand.
@@ -225,17 +205,12 @@ fn open(
         return Err(Refusal::Unexpected);
     }
     let mut pending = pending;
-    let Ok(()) = pending.push(Pending {
+    pending.push(Pending {
         head,
         args: Sequence::new(alloc),
         depth: 0,
-    }) else {
-        return Err(Refusal::Memory);
-    };
-    Ok(Reader {
-        made,
-        place: Place::Argument(purpose, pending),
-    })
+    })?;
+    go_to(made, Place::Argument(purpose, pending))
 }
 
 /// Behind the name of an actual.
@@ -278,10 +253,7 @@ pub fn at_named(
     let purpose = Purpose::Producer(draft);
     let pending = Stack::new(alloc);
     match sign {
-        Sign::Equals => Ok(Reader {
-            made,
-            place: Place::Argument(purpose, pending),
-        }),
+        Sign::Equals => go_to(made, Place::Argument(purpose, pending)),
         _ => at_head(alloc, made, purpose, pending, Ref::Plain(name), sign, text),
     }
 }
@@ -298,10 +270,7 @@ pub fn at_argument(
     ensures { Refers (machine.at_argument made purpose pending (ref_by sign text.now)) result }
 {
     match reference(alloc, sign, text) {
-        Ok(head) => Ok(Reader {
-            made,
-            place: Place::Head(purpose, pending, head),
-        }),
+        Ok(head) => go_to(made, Place::Head(purpose, pending, head)),
         Err(Refusal::Unexpected) => Err(Refusal::Unexpected),
         Err(Refusal::Memory) => Err(Refusal::Memory),
     }

@@ -5,7 +5,7 @@ ghost use Rattle.mh_reader.specs.Machine as machine;
 ghost use Rattle.mh_reader.specs.Machine.{Refers};
 
 use crate::modules::{LevelDecl, Module, Ref, TokenDecl};
-use crate::places::{Listing, Place, Purpose, Reader, Refusal};
+use crate::places::{Listing, Place, Purpose, Reader, Refusal, go_to};
 use crate::signs::{Sign, is_capital_word};
 use crate::stack::Stack;
 use mh_grammar::{Memory, Name, Sequence, from_bytes};
@@ -19,15 +19,11 @@ fn close(made: Module, listing: Listing) -> Result<Module, Memory>
     match listing {
         Listing::Tokens | Listing::Starts | Listing::Actuals(false, _) => Ok(made),
         Listing::Levels(assoc, names) => {
-            let Ok(()) = made.levels.push(LevelDecl { assoc, names }) else {
-                return Err(Memory);
-            };
+            made.levels.push(LevelDecl { assoc, names })?;
             Ok(made)
         }
         Listing::Actuals(true, actuals) => {
-            let Ok(()) = made.on_error.push(actuals) else {
-                return Err(Memory);
-            };
+            made.on_error.push(actuals)?;
             Ok(made)
         }
     }
@@ -49,7 +45,7 @@ pub fn declare(alloc: Global, made: Module, sign: Sign) -> Result<Reader, Refusa
         Sign::Percents => Place::Rules,
         _ => return Err(Refusal::Unexpected),
     };
-    Ok(Reader { made, place })
+    go_to(made, place)
 }
 
 /// A start of a list.
@@ -57,9 +53,7 @@ fn add_start(made: Module, name: Name) -> Result<Module, Memory>
     ensures { IfOk result (λ m. m ≡ record made { starts = made.starts ++ name ∷ [] }) }
 {
     let mut made = made;
-    let Ok(()) = made.starts.push(name) else {
-        return Err(Memory);
-    };
+    made.starts.push(name)?;
     Ok(made)
 }
 
@@ -68,9 +62,7 @@ fn add_name(names: Sequence<Ref>, name: Ref) -> Result<Sequence<Ref>, Memory>
     ensures { IfOk result (λ all. all ≡ names ++ name ∷ []) }
 {
     let mut names = names;
-    let Ok(()) = names.push(name) else {
-        return Err(Memory);
-    };
+    names.push(name)?;
     Ok(names)
 }
 
@@ -79,9 +71,7 @@ fn add_token(made: Module, name: Name, alias: Option<Name>) -> Result<Module, Me
     ensures { IfOk result (λ m. m ≡ machine.with_token made name alias) }
 {
     let mut made = made;
-    let Ok(()) = made.tokens.push(TokenDecl { name, alias }) else {
-        return Err(Memory);
-    };
+    made.tokens.push(TokenDecl { name, alias })?;
     Ok(made)
 }
 
@@ -89,46 +79,31 @@ fn add_token(made: Module, name: Name, alias: Option<Name>) -> Result<Module, Me
 fn list_word(alloc: Global, made: Module, listing: Listing, text: &[u8]) -> Result<Reader, Refusal>
     ensures { Refers (machine.list_word made listing text.now) result }
 {
-    let Ok(name) = from_bytes(alloc, text) else {
-        return Err(Refusal::Memory);
-    };
+    let name = from_bytes(alloc, text)?;
     match listing {
         Listing::Tokens => {
             if is_capital_word(text) {
-                Ok(Reader {
-                    made,
-                    place: Place::TokenNamed(name),
-                })
+                go_to(made, Place::TokenNamed(name))
             } else {
                 Err(Refusal::Unexpected)
             }
         }
         Listing::Starts => {
-            let Ok(made) = add_start(made, name) else {
-                return Err(Refusal::Memory);
-            };
-            Ok(Reader {
-                made,
-                place: Place::Items(Listing::Starts),
-            })
+            let made = add_start(made, name)?;
+            go_to(made, Place::Items(Listing::Starts))
         }
         Listing::Levels(assoc, names) => {
-            let Ok(names) = add_name(names, Ref::Plain(name)) else {
-                return Err(Refusal::Memory);
-            };
-            Ok(Reader {
-                made,
-                place: Place::Items(Listing::Levels(assoc, names)),
-            })
+            let names = add_name(names, Ref::Plain(name))?;
+            go_to(made, Place::Items(Listing::Levels(assoc, names)))
         }
-        Listing::Actuals(kept, actuals) => Ok(Reader {
+        Listing::Actuals(kept, actuals) => go_to(
             made,
-            place: Place::Head(
+            Place::Head(
                 Purpose::Listed(kept, actuals),
                 Stack::new(alloc),
                 Ref::Plain(name),
             ),
-        }),
+        ),
     }
 }
 
@@ -141,28 +116,21 @@ fn list_quoted(
 ) -> Result<Reader, Refusal>
     ensures { Refers (machine.list_quoted made listing text.now) result }
 {
-    let Ok(name) = from_bytes(alloc, text) else {
-        return Err(Refusal::Memory);
-    };
+    let name = from_bytes(alloc, text)?;
     match listing {
         Listing::Tokens | Listing::Starts => Err(Refusal::Unexpected),
         Listing::Levels(assoc, names) => {
-            let Ok(names) = add_name(names, Ref::Alias(name)) else {
-                return Err(Refusal::Memory);
-            };
-            Ok(Reader {
-                made,
-                place: Place::Items(Listing::Levels(assoc, names)),
-            })
+            let names = add_name(names, Ref::Alias(name))?;
+            go_to(made, Place::Items(Listing::Levels(assoc, names)))
         }
-        Listing::Actuals(kept, actuals) => Ok(Reader {
+        Listing::Actuals(kept, actuals) => go_to(
             made,
-            place: Place::Head(
+            Place::Head(
                 Purpose::Listed(kept, actuals),
                 Stack::new(alloc),
                 Ref::Alias(name),
             ),
-        }),
+        ),
     }
 }
 
@@ -179,14 +147,9 @@ pub fn at_items(
     match sign {
         Sign::Word => list_word(alloc, made, listing, text),
         Sign::Quoted => list_quoted(alloc, made, listing, text),
-        Sign::Comma => Ok(Reader {
-            made,
-            place: Place::Comma(listing),
-        }),
+        Sign::Comma => go_to(made, Place::Comma(listing)),
         _ => {
-            let Ok(made) = close(made, listing) else {
-                return Err(Refusal::Memory);
-            };
+            let made = close(made, listing)?;
             declare(alloc, made, sign)
         }
     }
@@ -220,10 +183,7 @@ pub fn at_opening(
     ensures { Refers (machine.at_opening made listing sign text.now) result }
 {
     match sign {
-        Sign::TypeText => Ok(Reader {
-            made,
-            place: Place::Items(listing),
-        }),
+        Sign::TypeText => go_to(made, Place::Items(listing)),
         _ => at_items(alloc, made, listing, sign, text),
     }
 }
@@ -233,10 +193,10 @@ pub fn at_type(alloc: Global, made: Module, sign: Sign) -> Result<Reader, Refusa
     ensures { Refers (machine.at_type made sign) result }
 {
     match sign {
-        Sign::TypeText => Ok(Reader {
+        Sign::TypeText => go_to(
             made,
-            place: Place::Items(Listing::Actuals(false, Sequence::new(alloc))),
-        }),
+            Place::Items(Listing::Actuals(false, Sequence::new(alloc))),
+        ),
         _ => Err(Refusal::Unexpected),
     }
 }
@@ -246,10 +206,7 @@ pub fn at_parameter(made: Module, sign: Sign) -> Result<Reader, Refusal>
     ensures { Refers (machine.at_parameter made sign) result }
 {
     match sign {
-        Sign::TypeText => Ok(Reader {
-            made,
-            place: Place::Declarations,
-        }),
+        Sign::TypeText => go_to(made, Place::Declarations),
         _ => Err(Refusal::Unexpected),
     }
 }
@@ -266,21 +223,12 @@ pub fn at_token(
 {
     match sign {
         Sign::Quoted => {
-            let Ok(alias) = from_bytes(alloc, text) else {
-                return Err(Refusal::Memory);
-            };
-            let Ok(made) = add_token(made, name, Some(alias)) else {
-                return Err(Refusal::Memory);
-            };
-            Ok(Reader {
-                made,
-                place: Place::Items(Listing::Tokens),
-            })
+            let alias = from_bytes(alloc, text)?;
+            let made = add_token(made, name, Some(alias))?;
+            go_to(made, Place::Items(Listing::Tokens))
         }
         _ => {
-            let Ok(made) = add_token(made, name, None) else {
-                return Err(Refusal::Memory);
-            };
+            let made = add_token(made, name, None)?;
             at_items(alloc, made, Listing::Tokens, sign, text)
         }
     }

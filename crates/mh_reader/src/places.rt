@@ -1,13 +1,35 @@
 //! Where a reader stands.
+ghost use Rattle.std.specs.Prelude.{◌≡◌};
+ghost use Rattle.mh_reader.specs.Machine as machine;
+ghost use Rattle.mh_reader.specs.Machine.{Refers};
+ghost use Rattle.mh_reader.specs.declared.places.Refusal.TheVariants as refusals;
+
 use crate::modules::{Actual, Alternative, Module, Ref, Rule};
 use crate::stack::Stack;
-use mh_grammar::{Assoc, Name, Sequence};
+use mh_grammar::{Assoc, Memory, Name, Sequence};
+use std::alloc::AllocError;
 
 /// Why a lexeme is not taken.
 #[derive(Clone, Copy, Debug, Drop)]
 pub enum Refusal {
     Unexpected,
     Memory,
+}
+
+impl From<Memory> for Refusal {
+    ghost from_gives = { λ _ refusal. refusal ≡ refusals.Memory };
+
+    fn from(_: Memory) -> Refusal {
+        Refusal::Memory
+    }
+}
+
+impl From<AllocError> for Refusal {
+    ghost from_gives = { λ _ refusal. refusal ≡ refusals.Memory };
+
+    fn from(_: AllocError) -> Refusal {
+        Refusal::Memory
+    }
 }
 
 /// An actual whose bracket is open, and the depth of its deepest argument so far.
@@ -80,4 +102,11 @@ pub enum Place {
 pub struct Reader {
     pub made: Module,
     pub place: Place,
+}
+
+/// The reader goes on at a place.
+pub fn go_to(made: Module, place: Place) -> Result<Reader, Refusal>
+    ensures { Refers (machine.goes made place) result }
+{
+    Ok(Reader { made, place })
 }

@@ -43,19 +43,8 @@ fn ended(reader: Reader) -> Result<Module, Refusal>
     let made = reader.made;
     match reader.place {
         Place::Rules | Place::RuleEnd | Place::Ended => Ok(made),
-        Place::Group(draft) => {
-            let Ok(rule) = group_of(draft) else {
-                return Err(Refusal::Memory);
-            };
-            match add_rule(made, rule) {
-                Ok(made) => Ok(made),
-                Err(_) => Err(Refusal::Memory),
-            }
-        }
-        Place::GroupClosed(rule) => match add_rule(made, rule) {
-            Ok(made) => Ok(made),
-            Err(_) => Err(Refusal::Memory),
-        },
+        Place::Group(draft) => Ok(add_rule(made, group_of(draft)?)?),
+        Place::GroupClosed(rule) => Ok(add_rule(made, rule)?),
         _ => Err(Refusal::Unexpected),
     }
 }

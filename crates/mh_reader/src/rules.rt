@@ -6,7 +6,7 @@ ghost use Rattle.mh_reader.specs.Machine as machine;
 ghost use Rattle.mh_reader.specs.Machine.{Refers, ruled, grouped, grouped_with, produced, drafted, named, with_formal};
 
 use crate::modules::{Alternative, Module, Ref, Rule};
-use crate::places::{Draft, Place, Purpose, Reader, Refusal};
+use crate::places::{Draft, Place, Purpose, Reader, Refusal, go_to};
 use crate::signs::Sign;
 use crate::stack::Stack;
 use mh_grammar::{Memory, Name, Sequence, from_bytes};
@@ -16,9 +16,7 @@ use std::alloc::Global;
 pub fn reference(alloc: Global, sign: Sign, text: &[u8]) -> Result<Ref, Refusal>
     ensures { Refers (ref_by sign text.now) result }
 {
-    let Ok(name) = from_bytes(alloc, text) else {
-        return Err(Refusal::Memory);
-    };
+    let name = from_bytes(alloc, text)?;
     match sign {
         Sign::Word => Ok(Ref::Plain(name)),
         Sign::Quoted => Ok(Ref::Alias(name)),
@@ -36,19 +34,17 @@ fn name_rule(
 ) -> Result<Reader, Refusal>
     ensures { Refers (machine.goes made (machine.name_place public inlined text.now)) result }
 {
-    let Ok(name) = from_bytes(alloc, text) else {
-        return Err(Refusal::Memory);
-    };
-    Ok(Reader {
+    let name = from_bytes(alloc, text)?;
+    go_to(
         made,
-        place: Place::RuleNamed(Rule {
+        Place::RuleNamed(Rule {
             public,
             inlined,
             name,
             formals: Sequence::new(alloc),
             alternatives: Sequence::new(alloc),
         }),
-    })
+    )
 }
 
 /// Where a rule may begin.
@@ -57,18 +53,9 @@ pub fn in_rules(alloc: Global, made: Module, sign: Sign, text: &[u8]) -> Result<
 {
     match sign {
         Sign::Word => name_rule(alloc, made, false, false, text),
-        Sign::Public => Ok(Reader {
-            made,
-            place: Place::Modified(true, false),
-        }),
-        Sign::Inline => Ok(Reader {
-            made,
-            place: Place::Modified(false, true),
-        }),
-        Sign::Percents => Ok(Reader {
-            made,
-            place: Place::Ended,
-        }),
+        Sign::Public => go_to(made, Place::Modified(true, false)),
+        Sign::Inline => go_to(made, Place::Modified(false, true)),
+        Sign::Percents => go_to(made, Place::Ended),
         _ => Err(Refusal::Unexpected),
     }
 }
@@ -86,14 +73,8 @@ pub fn at_modified(
 {
     match sign {
         Sign::Word => name_rule(alloc, made, public, inlined, text),
-        Sign::Public => Ok(Reader {
-            made,
-            place: Place::Modified(true, inlined),
-        }),
-        Sign::Inline => Ok(Reader {
-            made,
-            place: Place::Modified(public, true),
-        }),
+        Sign::Public => go_to(made, Place::Modified(true, inlined)),
+        Sign::Inline => go_to(made, Place::Modified(public, true)),
         _ => Err(Refusal::Unexpected),
     }
 }
@@ -103,14 +84,8 @@ pub fn at_rule_named(made: Module, rule: Rule, sign: Sign) -> Result<Reader, Ref
     ensures { Refers (machine.at_rule_named made rule sign) result }
 {
     match sign {
-        Sign::Open => Ok(Reader {
-            made,
-            place: Place::FormalsOpen(rule),
-        }),
-        Sign::Colon => Ok(Reader {
-            made,
-            place: Place::Begin(rule),
-        }),
+        Sign::Open => go_to(made, Place::FormalsOpen(rule)),
+        Sign::Colon => go_to(made, Place::Begin(rule)),
         _ => Err(Refusal::Unexpected),
     }
 }
@@ -119,17 +94,10 @@ pub fn at_rule_named(made: Module, rule: Rule, sign: Sign) -> Result<Reader, Ref
 fn add_formal(alloc: Global, made: Module, rule: Rule, text: &[u8]) -> Result<Reader, Refusal>
     ensures { Refers (machine.goes made (machine.formal_place rule text.now)) result }
 {
-    let Ok(name) = from_bytes(alloc, text) else {
-        return Err(Refusal::Memory);
-    };
+    let name = from_bytes(alloc, text)?;
     let mut rule = rule;
-    let Ok(()) = rule.formals.push(name) else {
-        return Err(Refusal::Memory);
-    };
-    Ok(Reader {
-        made,
-        place: Place::FormalRead(rule),
-    })
+    rule.formals.push(name)?;
+    go_to(made, Place::FormalRead(rule))
 }
 
 /// Behind the bracket of formals.
@@ -144,10 +112,7 @@ pub fn at_formals_open(
 {
     match sign {
         Sign::Word => add_formal(alloc, made, rule, text),
-        Sign::Close => Ok(Reader {
-            made,
-            place: Place::FormalsClosed(rule),
-        }),
+        Sign::Close => go_to(made, Place::FormalsClosed(rule)),
         _ => Err(Refusal::Unexpected),
     }
 }
@@ -157,14 +122,8 @@ pub fn at_formal_read(made: Module, rule: Rule, sign: Sign) -> Result<Reader, Re
     ensures { Refers (machine.at_formal_read made rule sign) result }
 {
     match sign {
-        Sign::Comma => Ok(Reader {
-            made,
-            place: Place::FormalComma(rule),
-        }),
-        Sign::Close => Ok(Reader {
-            made,
-            place: Place::FormalsClosed(rule),
-        }),
+        Sign::Comma => go_to(made, Place::FormalComma(rule)),
+        Sign::Close => go_to(made, Place::FormalsClosed(rule)),
         _ => Err(Refusal::Unexpected),
     }
 }
@@ -190,10 +149,7 @@ pub fn at_formals_closed(made: Module, rule: Rule, sign: Sign) -> Result<Reader,
     ensures { Refers (machine.at_formals_closed made rule sign) result }
 {
     match sign {
-        Sign::Colon => Ok(Reader {
-            made,
-            place: Place::Begin(rule),
-        }),
+        Sign::Colon => go_to(made, Place::Begin(rule)),
         _ => Err(Refusal::Unexpected),
     }
 }
@@ -214,12 +170,10 @@ fn end_production(alloc: Global, draft: Draft, prec: Option<Ref>) -> Result<Draf
     ensures { IfOk result (λ d. d ≡ produced draft prec) }
 {
     let mut productions = draft.productions;
-    let Ok(()) = productions.push(Alternative {
+    productions.push(Alternative {
         producers: draft.producers,
         prec,
-    }) else {
-        return Err(Memory);
-    };
+    })?;
     Ok(Draft {
         rule: draft.rule,
         productions,
@@ -231,26 +185,16 @@ fn end_production(alloc: Global, draft: Draft, prec: Option<Ref>) -> Result<Draf
 fn end_at_bar(alloc: Global, made: Module, draft: Draft) -> Result<Reader, Refusal>
     ensures { Refers (machine.goes made (machine.bar_place draft)) result }
 {
-    let Ok(draft) = end_production(alloc, draft, None) else {
-        return Err(Refusal::Memory);
-    };
-    Ok(Reader {
-        made,
-        place: Place::Production(draft),
-    })
+    let draft = end_production(alloc, draft, None)?;
+    go_to(made, Place::Production(draft))
 }
 
 /// A production ends at the action of its group.
 fn end_at_action(alloc: Global, made: Module, draft: Draft) -> Result<Reader, Refusal>
     ensures { Refers (machine.goes made (machine.action_place draft)) result }
 {
-    let Ok(draft) = end_production(alloc, draft, None) else {
-        return Err(Refusal::Memory);
-    };
-    Ok(Reader {
-        made,
-        place: Place::Group(draft),
-    })
+    let draft = end_production(alloc, draft, None)?;
+    go_to(made, Place::Group(draft))
 }
 
 /// In a production.
@@ -265,31 +209,21 @@ pub fn in_production(
 {
     match sign {
         Sign::Word => {
-            let Ok(name) = from_bytes(alloc, text) else {
-                return Err(Refusal::Memory);
-            };
-            Ok(Reader {
-                made,
-                place: Place::Named(draft, name),
-            })
+            let name = from_bytes(alloc, text)?;
+            go_to(made, Place::Named(draft, name))
         }
         Sign::Quoted => {
-            let Ok(name) = from_bytes(alloc, text) else {
-                return Err(Refusal::Memory);
-            };
-            Ok(Reader {
+            let name = from_bytes(alloc, text)?;
+            go_to(
                 made,
-                place: Place::Head(
+                Place::Head(
                     Purpose::Producer(draft),
                     Stack::new(alloc),
                     Ref::Alias(name),
                 ),
-            })
+            )
         }
-        Sign::Prec => Ok(Reader {
-            made,
-            place: Place::Prec(draft),
-        }),
+        Sign::Prec => go_to(made, Place::Prec(draft)),
         Sign::Bar => end_at_bar(alloc, made, draft),
         Sign::Action => end_at_action(alloc, made, draft),
         _ => Err(Refusal::Unexpected),
@@ -308,10 +242,7 @@ pub fn at_begin(
 {
     let begun = draft_of(alloc, rule);
     match sign {
-        Sign::Bar => Ok(Reader {
-            made,
-            place: Place::Production(begun),
-        }),
+        Sign::Bar => go_to(made, Place::Production(begun)),
         _ => in_production(alloc, made, begun, sign, text),
     }
 }
@@ -327,10 +258,7 @@ pub fn at_spaced(
     ensures { Refers (machine.at_spaced made draft sign text.now) result }
 {
     match sign {
-        Sign::Semicolon => Ok(Reader {
-            made,
-            place: Place::Spaced(draft),
-        }),
+        Sign::Semicolon => go_to(made, Place::Spaced(draft)),
         _ => in_production(alloc, made, draft, sign, text),
     }
 }
@@ -347,13 +275,8 @@ pub fn at_prec(
 {
     match reference(alloc, sign, text) {
         Ok(prec) => {
-            let Ok(draft) = end_production(alloc, draft, Some(prec)) else {
-                return Err(Refusal::Memory);
-            };
-            Ok(Reader {
-                made,
-                place: Place::Closed(draft),
-            })
+            let draft = end_production(alloc, draft, Some(prec))?;
+            go_to(made, Place::Closed(draft))
         }
         Err(Refusal::Unexpected) => Err(Refusal::Unexpected),
         Err(Refusal::Memory) => Err(Refusal::Memory),
@@ -365,17 +288,14 @@ pub fn at_closed(alloc: Global, made: Module, draft: Draft, sign: Sign) -> Resul
     ensures { Refers (machine.at_closed made draft sign) result }
 {
     match sign {
-        Sign::Bar => Ok(Reader {
+        Sign::Bar => go_to(
             made,
-            place: Place::Production(Draft {
+            Place::Production(Draft {
                 producers: Sequence::new(alloc),
                 ..draft
             }),
-        }),
-        Sign::Action => Ok(Reader {
-            made,
-            place: Place::Group(draft),
-        }),
+        ),
+        Sign::Action => go_to(made, Place::Group(draft)),
         _ => Err(Refusal::Unexpected),
     }
 }
@@ -389,9 +309,7 @@ fn joined(
 {
     let mut items = all.into_vec();
     let mut last = more.into_vec();
-    let Ok(()) = items.append(&mut last) else {
-        return Err(Memory);
-    };
+    items.append(&mut last)?;
     Ok(Sequence::from_vec(items))
 }
 
@@ -399,9 +317,7 @@ fn joined(
 fn with_group(rule: Rule, productions: Sequence<Alternative>) -> Result<Rule, Memory>
     ensures { IfOk result (λ r. r ≡ record rule { alternatives = rule.alternatives ++ productions }) }
 {
-    let Ok(alternatives) = joined(rule.alternatives, productions) else {
-        return Err(Memory);
-    };
+    let alternatives = joined(rule.alternatives, productions)?;
     Ok(Rule {
         public: rule.public,
         inlined: rule.inlined,
@@ -423,9 +339,7 @@ pub fn add_rule(made: Module, rule: Rule) -> Result<Module, Memory>
     ensures { IfOk result (λ m. m ≡ ruled made rule) }
 {
     let mut made = made;
-    let Ok(()) = made.rules.push(rule) else {
-        return Err(Memory);
-    };
+    made.rules.push(rule)?;
     Ok(made)
 }
 
@@ -440,23 +354,13 @@ pub fn behind_group(
     ensures { Refers (machine.behind_group made rule sign text.now) result }
 {
     match sign {
-        Sign::Bar => Ok(Reader {
-            made,
-            place: Place::Production(draft_of(alloc, rule)),
-        }),
+        Sign::Bar => go_to(made, Place::Production(draft_of(alloc, rule))),
         Sign::Semicolon => {
-            let Ok(made) = add_rule(made, rule) else {
-                return Err(Refusal::Memory);
-            };
-            Ok(Reader {
-                made,
-                place: Place::RuleEnd,
-            })
+            let made = add_rule(made, rule)?;
+            go_to(made, Place::RuleEnd)
         }
         _ => {
-            let Ok(made) = add_rule(made, rule) else {
-                return Err(Refusal::Memory);
-            };
+            let made = add_rule(made, rule)?;
             in_rules(alloc, made, sign, text)
         }
     }
@@ -473,14 +377,9 @@ pub fn at_group(
     ensures { Refers (machine.at_group made draft sign text.now) result }
 {
     match sign {
-        Sign::Prec => Ok(Reader {
-            made,
-            place: Place::GroupPrec(draft),
-        }),
+        Sign::Prec => go_to(made, Place::GroupPrec(draft)),
         _ => {
-            let Ok(rule) = group_of(draft) else {
-                return Err(Refusal::Memory);
-            };
+            let rule = group_of(draft)?;
             behind_group(alloc, made, rule, sign, text)
         }
     }
@@ -497,15 +396,11 @@ fn copied_ref(alloc: Global, found: &Ref) -> Result<Ref, Memory>
 {
     match found {
         Ref::Plain(name) => {
-            let Ok(copy) = copied(alloc, name) else {
-                return Err(Memory);
-            };
+            let copy = copied(alloc, name)?;
             Ok(Ref::Plain(copy))
         }
         Ref::Alias(name) => {
-            let Ok(copy) = copied(alloc, name) else {
-                return Err(Memory);
-            };
+            let copy = copied(alloc, name)?;
             Ok(Ref::Alias(copy))
         }
     }
@@ -518,9 +413,7 @@ fn own_or(alloc: Global, group: &Ref, prec: Option<Ref>) -> Result<Option<Ref>, 
     match prec {
         Some(own) => Ok(Some(own)),
         None => {
-            let Ok(copy) = copied_ref(alloc, group) else {
-                return Err(Memory);
-            };
+            let copy = copied_ref(alloc, group)?;
             Ok(Some(copy))
         }
     }
@@ -536,15 +429,11 @@ fn levelled(
 {
     let mut all = Sequence::new(alloc);
     for production in productions.into_vec() {
-        let Ok(prec) = own_or(alloc, group, production.prec) else {
-            return Err(Memory);
-        };
-        let Ok(()) = all.push(Alternative {
+        let prec = own_or(alloc, group, production.prec)?;
+        all.push(Alternative {
             producers: production.producers,
             prec,
-        }) else {
-            return Err(Memory);
-        };
+        })?;
     }
     Ok(all)
 }
@@ -553,9 +442,7 @@ fn levelled(
 fn levelled_group(alloc: Global, draft: Draft, group: &Ref) -> Result<Rule, Memory>
     ensures { IfOk result (λ r. r ≡ grouped_with draft group.now) }
 {
-    let Ok(productions) = levelled(alloc, draft.productions, group) else {
-        return Err(Memory);
-    };
+    let productions = levelled(alloc, draft.productions, group)?;
     with_group(draft.rule, productions)
 }
 
@@ -571,13 +458,8 @@ pub fn at_group_prec(
 {
     match reference(alloc, sign, text) {
         Ok(prec) => {
-            let Ok(rule) = levelled_group(alloc, draft, &prec) else {
-                return Err(Refusal::Memory);
-            };
-            Ok(Reader {
-                made,
-                place: Place::GroupClosed(rule),
-            })
+            let rule = levelled_group(alloc, draft, &prec)?;
+            go_to(made, Place::GroupClosed(rule))
         }
         Err(Refusal::Unexpected) => Err(Refusal::Unexpected),
         Err(Refusal::Memory) => Err(Refusal::Memory),
@@ -589,10 +471,7 @@ pub fn at_rule_end(alloc: Global, made: Module, sign: Sign, text: &[u8]) -> Resu
     ensures { Refers (machine.at_rule_end made sign text.now) result }
 {
     match sign {
-        Sign::Semicolon => Ok(Reader {
-            made,
-            place: Place::RuleEnd,
-        }),
+        Sign::Semicolon => go_to(made, Place::RuleEnd),
         _ => in_rules(alloc, made, sign, text),
     }
 }
