@@ -1,0 +1,4 @@
+pub mod Expansion
+pub mod Searching
+pub mod Sharing
+pub mod Terms
