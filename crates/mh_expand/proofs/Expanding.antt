@@ -110,7 +110,7 @@ first_reached j ts (expansion.AreFirst.more {ts = us} {t = x} before after a spl
   | inr e ↦ rw e (found_reached j us (first_reached j us a) x (rw split (Contains-append_right before (x ∷ after) x (contains_here x after))) i)
 ]
 
-start_rule : (j : Joined) (t : Term) → Contains (start_terms j) t → IsInstance t
+pub start_rule : (j : Joined) (t : Term) → Contains (start_terms j) t → IsInstance t
 start_rule j t c = let at = at_contains (start_terms j) t c in go j.starts at.0 at.1
   where
     go : (rs : List ℕ) (i : ℕ) → slice_get (map start_term rs) i ≡ Some t → IsInstance t

@@ -7,3 +7,5 @@ pub mod Found
 pub mod Going
 pub mod Ranking
 pub mod Expanding
+pub mod Simulating
+pub mod Same

@@ -6,6 +6,7 @@ use Rattle.mh_expand.specs.Sharing.{terms_of, terms_at}
 use Rattle.mh_expand.specs.Searching.{IsSearch, WentStarts, AreRanks}
 use Rattle.mh_expand.proofs.Shared.{terms_of-distinct}
 use Rattle.mh_expand.proofs.Expanding.{fault_start, IsSearch-none, IsExpanding-start, IsExpanded-done, Names-longer}
+use Rattle.mh_expand.proofs.Same.{has_same_sentences}
 use Rattle.mh_expand.proofs.expansion.expand.Goals as goal
 
 pub expand_all-requires : goal.expand_all-requires
@@ -39,3 +40,6 @@ returns-in-Ok-expand_all-clause-ok c =
     let a = c.in-Ok-expand_all.ensures.ok in
     let named : Names (terms_at vs new) c.in-Ok.starts (start_terms j) = Names-longer (terms_at us numbers) (terms_at vs new) a.longer c.in-Ok.starts (start_terms j) w.made in
     IsExpanded-done j vs new c.in-Ok-expand_all.instances (get nat_eq c.in_ok-ranks.ranks) a.expanding (record { tokens = c.in_ok-copy_of_tokens-in-Ok-expand_all.field-0; starts = c.in-Ok.starts; instances = c.in-Ok-expand_all.instances }) a.done named c.in_ok-copy_of_tokens-in-Ok-expand_all.ensures refl
+
+pub returns-in-Ok-expand_all-clause-sentences : goal.returns-in-Ok-expand_all-clause-sentences
+returns-in-Ok-expand_all-clause-sentences c = has_same_sentences c.args.joined.now (record { tokens = c.in_ok-copy_of_tokens-in-Ok-expand_all.field-0; starts = c.in-Ok.starts; instances = c.in-Ok-expand_all.instances }) (returns-in-Ok-expand_all-clause-ok c)
