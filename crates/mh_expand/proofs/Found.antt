@@ -1,0 +1,229 @@
+-- The instances among what was found, with one term more.
+use Rattle.std.proofs.Common.{◌≡◌, ℕ, suc, ◌<◌, ◌≤◌, ◌⊎◌, List, [], ◌∷◌, ◌++◌, Option, Some, None, length, take, get_or, refl, sym, ap, ◌∙◌, arith, append_assoc, inl, inr}
+use Rattle.std.specs.List.{slice_get, All, Contains}
+use Rattle.std.specs.Option.{option_map}
+use Rattle.std.proofs.lemmas.Option.{slice_get-map}
+use Rattle.std.proofs.lemmas.List.{map-append}
+use Rattle.std.proofs.lemmas.List.Elements.{All-push}
+use Rattle.std.proofs.lemmas.Bool.{cases_lt}
+use Rattle.std.proofs.lemmas.List.{length-map, take-append-le, append-nil}
+use Rattle.std.proofs.Math.Seq.{take-append_seam}
+use Rattle.std.proofs.lemmas.List.Elements.{Contains-append_left, Contains-append_right}
+use Rattle.std.proofs.lemmas.Option.{slice_get_within, slice_get-get_or}
+use Rattle.mh_grammar.specs.Numbering.{AreDistinct}
+use Rattle.mh_grammar.proofs.Placing.{get_last, get_cases, contains_at, at_contains, AreDistinct-push}
+use Rattle.mh_grammar.proofs.Pigeon.{length-distinct_in}
+use Rattle.mh_join.specs.declared.joined.Joined.{Joined}
+use Rattle.mh_expand.specs.declared.fault.ExpandFault.{ExpandFault}
+use Rattle.mh_expand.specs.Terms.{Term, Atom, head_of, head_name, text}
+use Rattle.mh_join.specs.declared.joined.Head.TheVariants.{Token}
+use Rattle.mh_expand.specs.Expansion as expansion
+use Rattle.mh_expand.specs.Expansion.{IsInstance, IsNew, IsFull, IsFault, IsClear, Fits, Causes}
+use Rattle.mh_expand.specs.declared.instances.Part.TheVariants as parts
+use Rattle.mh_expand.specs.declared.fault.ExpandFault.TheVariants.{Arity, Expansion, Memory}
+use Rattle.mh_expand.specs.Sharing.{term_at, terms_at}
+use Rattle.mh_expand.specs.Searching.{IsSight, AreFound, IsSearch, Finds}
+use Rattle.mh_expand.proofs.Shared.{get_term, term_got}
+
+module _ {X : Type 0} where
+  pub contains_here : (x : X) (xs : List X) → Contains (x ∷ xs) x
+  contains_here x xs = contains_at (x ∷ xs) 0 x refl
+
+  pub contains_there : (y : X) (xs : List X) (x : X) → Contains xs x → Contains (y ∷ xs) x
+  contains_there y xs x c = let at = at_contains xs x c in contains_at (y ∷ xs) (suc at.0) x at.1
+
+  pub contains_none : (x : X) → Contains [] x → ⊥
+  contains_none x c = omega (arith, c.1)
+
+  pub contains_push : (xs : List X) (y x : X) → Contains (xs ++ y ∷ []) x → Contains xs x ⊎ (x ≡ y)
+  contains_push xs y x c =
+      let at = at_contains (xs ++ y ∷ []) x c in
+      elim (get_cases xs y at.0 x at.1) [ inl e ↦ inl (contains_at xs at.0 x e) | inr l ↦ inr l.1 ]
+
+  pub contains_last : (xs : List X) (y : X) → Contains (xs ++ y ∷ []) y
+  contains_last xs y = Contains-append_right xs (y ∷ []) y (contains_here y [])
+
+  -- where a list that ends in y is split
+  pub split_push : (xs : List X) (y : X) (before : List X) (x : X) (after : List X) → xs ++ y ∷ [] ≡ before ++ x ∷ after → ((xs ≡ before) × (y ≡ x)) ⊎ ((rest : List X) × (xs ≡ before ++ x ∷ rest))
+  split_push [] y [] x after e = let same : y ≡ x = cc in inl (refl, same)
+  split_push [] y (z ∷ []) x after e = cc
+  split_push [] y (z ∷ w ∷ before) x after e = cc
+  split_push (z ∷ xs) y [] x after e = let same : z ≡ x = cc in inr (xs, ap (λ v. v ∷ xs) same)
+  split_push (z ∷ xs) y (w ∷ before) x after e =
+      let same : z ≡ w = cc in
+      let rest : xs ++ y ∷ [] ≡ before ++ x ∷ after = cc in
+      elim (split_push xs y before x after rest) [
+        | inl l ↦ inl ((λ i. same i ∷ l.0 i), l.1)
+        | inr r ↦ inr (r.0, (λ i. same i ∷ r.1 i))
+      ]
+
+pub IsClear-none : (j : Joined) → IsClear j []
+IsClear-none j [] after t e s f = cc
+IsClear-none j (x ∷ before) after t e s f = cc
+
+pub IsClear-push : (j : Joined) (before : List Term) (t : Term) → IsClear j before → ((e : ExpandFault) → IsFault j before t e → ⊥) → IsClear j (before ++ t ∷ [])
+IsClear-push j before t c h front behind x e s f = elim (split_push before t front x behind s) [
+  | inl l ↦ h e (rw (l.0, l.1) f)
+  | inr r ↦ c front r.0 x e r.1 f
+]
+
+pub IsSight-push : (before earlier : List Term) (t x : Term) → IsSight before earlier t → IsSight (before ++ x ∷ []) earlier t
+IsSight-push before earlier t x s = record {
+  front = s.front;
+  behind = s.behind ++ x ∷ [];
+  split = ap (λ l. l ++ x ∷ []) s.split ∙ append_assoc s.front (t ∷ s.behind) (x ∷ []);
+  instance = s.instance;
+  new = s.new;
+  others = s.others;
+}
+
+pub AreFound-none : AreFound [] []
+AreFound-none = record {
+  all = λ x c i. absurd (contains_none x c);
+  each = λ k t e. cc;
+  distinct = record { same = λ i j x e f. cc };
+}
+
+pub AreFound-same : (before fs : List Term) (t : Term) → AreFound before fs → (IsInstance t → Contains fs t) → AreFound (before ++ t ∷ []) fs
+AreFound-same before fs t a h = record {
+  all = λ x c i. elim (contains_push before t x c) [ inl l ↦ a.all x l i | inr e ↦ rw e (h (rw e at i)) ];
+  each = λ k x e. IsSight-push before (take k fs) x t (a.each k x e);
+  distinct = a.distinct;
+}
+
+pub AreFound-new : (before fs : List Term) (t : Term) → AreFound before fs → IsInstance t → (Contains fs t → ⊥) → AreFound (before ++ t ∷ []) (fs ++ t ∷ [])
+AreFound-new before fs t a i new = record {
+  all = λ x c n. elim (contains_push before t x c) [ inl l ↦ Contains-append_left fs (t ∷ []) x (a.all x l n) | inr e ↦ rw e (contains_last fs t) ];
+  each = λ k x e. elim (get_cases fs t k x e) [
+    | inl old ↦ (let l = slice_get_within fs k x old in
+        rw (take-append-le k fs (t ∷ []) (omega arith)) (IsSight-push before (take k fs) x t (a.each k x old)))
+    | inr last ↦ rw (last.0, last.1, take-append_seam fs (t ∷ [])) (record {
+      front = before;
+      behind = [];
+      split = refl;
+      instance = i;
+      new = new;
+      others = a.all;
+    })
+  ];
+  distinct = AreDistinct-push fs t a.distinct new;
+}
+
+-- what was found once stands in what was found
+pub found_before : (before fs : List Term) (t : Term) → AreFound before fs → Contains fs t → Contains before t × IsInstance t
+found_before before fs t a c =
+    let at = at_contains fs t c in
+    let s = a.each at.0 t at.1 in
+    (rw s.split (Contains-append_right s.front (t ∷ s.behind) t (contains_here t s.behind)), s.instance)
+
+-- no more instances than were found
+pub not_full : (before fs : List Term) → AreFound before fs → IsFull before → 20000 ≤ length fs
+not_full before fs a f =
+    let le = length-distinct_in fs f.some f.distinct (λ x c. let w = f.found c.0 x c.1 in a.all x (rw c.2 at w).0 (rw c.2 at w).1) in
+    omega (arith, le, f.full)
+
+some_of : {X Y : Type 0} (f : X → Y) (o : Option X) (y : Y) → option_map f o ≡ Some y → (x : X) × (o ≡ Some x) × (f x ≡ y)
+some_of f None y e = cc
+some_of f (Some x) y e = let same : f x ≡ y = cc in (x, refl, same)
+
+-- the number of a term that stands once
+module _ (ts : List Term) (d : AreDistinct ts) (number : ℕ) (t : Term) (here : slice_get ts number ≡ Some t) (numbers : List ℕ) (below : All (λ n. n < length ts) numbers) where
+  pub number_in : Contains (terms_at ts numbers) t → Contains numbers number
+  number_in c =
+      let at = at_contains (terms_at ts numbers) t c in
+      let n = some_of (term_at ts) (slice_get numbers at.0) t (sym (slice_get-map (term_at ts) numbers at.0) ∙ at.1) in
+      let in_list = contains_at numbers at.0 n.0 n.1 in
+      let l : n.0 < length ts = rw in_list.2 at (below in_list.0 n.0 in_list.1) in
+      let same : n.0 ≡ number = d.same n.0 number t (get_term ts n.0 l ∙ ap Some n.2) here in
+      rw same at in_list
+
+  pub term_in : (at : ℕ) → slice_get numbers at ≡ Some number → slice_get (terms_at ts numbers) at ≡ Some t
+  term_in at e = slice_get-map (term_at ts) numbers at ∙ ap (option_map (term_at ts)) e ∙ ap Some (term_got ts number t here)
+
+  module _ (j : Joined) (before : List Term) (s : IsSearch j before ts numbers) (fits : Fits j t) where
+    -- a term that was found before
+    pub Finds-old : (at : ℕ) → slice_get numbers at ≡ Some number → Finds j before ts t numbers numbers (parts.Instance at)
+    Finds-old at e =
+        let c = contains_at (terms_at ts numbers) at t (term_in at e) in
+        record {
+          search = record {
+            below = s.below;
+            clear = IsClear-push j before t s.clear (known c);
+            found = AreFound-same before (terms_at ts numbers) t s.found (λ i. c);
+          };
+          part = term_in at e;
+          grows = ([], sym (append-nil numbers));
+        }
+      where
+        known : Contains (terms_at ts numbers) t → (e : ExpandFault) → IsFault j before t e → ⊥
+        known c e (expansion.IsFault.count f) = f fits
+        known c e (expansion.IsFault.long f n l) = n.new (found_before before (terms_at ts numbers) t s.found c).0
+        known c e (expansion.IsFault.full f n l) = n.new (found_before before (terms_at ts numbers) t s.found c).0
+
+    module _ (instance : IsInstance t) (new : Contains numbers number → ⊥) where
+      fresh : Contains (terms_at ts numbers) t → ⊥
+      fresh c = new (number_in c)
+
+      is_new : IsNew before t
+      is_new = record { instance = instance; new = λ c. fresh (s.found.all t c instance) }
+
+      -- a new one
+      pub Finds-new : length numbers < 20000 → length (text j t) ≤ 1000 → Finds j before ts t numbers (numbers ++ number ∷ []) (parts.Instance (length numbers))
+      Finds-new few short =
+          let all : terms_at ts (numbers ++ number ∷ []) ≡ terms_at ts numbers ++ t ∷ [] = map-append (term_at ts) numbers (number ∷ []) ∙ ap (λ x. terms_at ts numbers ++ x ∷ []) (term_got ts number t here) in
+          record {
+            search = record {
+              below = All-push (λ n. n < length ts) numbers number s.below (slice_get_within ts number t here);
+              clear = IsClear-push j before t s.clear no_fault;
+              found = rw all (AreFound-new before (terms_at ts numbers) t s.found instance fresh);
+            };
+            part = rw all (get_last (terms_at ts numbers) t (length numbers) (sym (length-map numbers (term_at ts))));
+            grows = (number ∷ [], refl);
+          }
+        where
+          no_fault : (e : ExpandFault) → IsFault j before t e → ⊥
+          no_fault e (expansion.IsFault.count f) = f fits
+          no_fault e (expansion.IsFault.long f n l) = omega arith
+          no_fault e (expansion.IsFault.full f n l) = omega (arith, not_full before (terms_at ts numbers) s.found l, length-map numbers (term_at ts))
+
+      -- one that is not to come
+      pub IsFault-new : length numbers ≤ 20000 → ((length numbers < 20000) × (length (text j t) ≤ 1000) → ⊥) → IsFault j before t (Expansion (head_name j (head_of t)))
+      IsFault-new few bad = elim (cases_lt (length numbers) 20000) [
+        | inl l ↦ elim (cases_lt 1000 (length (text j t))) [
+          | inl m ↦ expansion.IsFault.long fits is_new m
+          | inr m ↦ absurd (bad (l, m))
+        ]
+        | inr l ↦ expansion.IsFault.full fits is_new (record {
+          some = terms_at ts numbers;
+          found = λ k d m. found_before before (terms_at ts numbers) (get_or (terms_at ts numbers) k d) s.found (contains_at (terms_at ts numbers) k (get_or (terms_at ts numbers) k d) (slice_get-get_or (terms_at ts numbers) k d m));
+          distinct = s.found.distinct;
+          full = omega (arith, length-map numbers (term_at ts));
+        })
+      ]
+
+-- a token
+pub Finds-token : (j : Joined) (before ts : List Term) (numbers : List ℕ) (z : ℕ) → IsSearch j before ts numbers → Finds j before ts (Atom (Token z)) numbers numbers (parts.Token z)
+Finds-token j before ts numbers z s = record {
+  search = record {
+    below = s.below;
+    clear = IsClear-push j before (Atom (Token z)) s.clear no_fault;
+    found = AreFound-same before (terms_at ts numbers) (Atom (Token z)) s.found (λ i. absurd i);
+  };
+  part = refl;
+  grows = ([], sym (append-nil numbers));
+}
+  where
+    no_fault : (e : ExpandFault) → IsFault j before (Atom (Token z)) e → ⊥
+    no_fault e (expansion.IsFault.count f) = f refl
+    no_fault e (expansion.IsFault.long f n l) = n.instance
+    no_fault e (expansion.IsFault.full f n l) = n.instance
+
+pub empty_list : {X : Type 0} (xs : List X) → length xs ≡ 0 → xs ≡ []
+empty_list [] e = refl
+empty_list (x ∷ xs) e = absurd (omega (arith, e))
+
+-- a cause that follows from another
+pub Causes-from : (P Q : ExpandFault → Type 0) → ((e : ExpandFault) → P e → Q e) → (e : ExpandFault) → Causes P e → Causes Q e
+Causes-from P Q h (Arity n) c = h (Arity n) c
+Causes-from P Q h (Expansion n) c = h (Expansion n) c
+Causes-from P Q h Memory c = tt

@@ -1,0 +1,11 @@
+pub mod Applying
+pub mod Shared
+pub mod Equal
+pub mod Actuals
+pub mod Room
+pub mod Found
+pub mod Going
+pub mod Ranking
+pub mod Expanding
+pub mod Simulating
+pub mod Same

@@ -1,0 +1,29 @@
+use Rattle.std.proofs.Common.{◌≡◌, ◌∷◌, ◌+◌, Some, drop, sym, ap, ◌∙◌, add-one, suc}
+use Rattle.std.specs.List.{slice_get}
+use Rattle.std.proofs.Math.Seq.{drop-cons}
+use Rattle.mh_expand.specs.Sharing.{terms_of, terms_at}
+use Rattle.mh_expand.proofs.Actuals.{stands, IsReplacing, IsReplacing-start, IsReplacing-step}
+use Rattle.mh_expand.proofs.Shared.{terms_at-kept}
+use Rattle.mh_expand.proofs.replacing.+replace.Goals as goal
+
+pub loop-arg-init : goal.loop-arg-init
+loop-arg-init t c =
+    let old = terms_of c.args.terms.now.nodes.keys in
+    let fs = terms_at old c.args.formals.now in
+    rw c.as_slice-arg-items.ensures (IsReplacing-start old fs c.in_ok-node.node c.args.applied.now c.in_ok-node.ensures)
+
+pub loop-arg-preserved : goal.loop-arg-preserved
+loop-arg-preserved t c =
+    let old = terms_of c.args.terms.now.nodes.keys in
+    let mid = terms_of c.loop-arg.terms.nodes.keys in
+    let new = terms_of c.replace.new.terms.nodes.keys in
+    let fs = terms_at old c.args.formals.now in
+    let items = c.as_slice-arg-items.result.now in
+    let i = c.loop-arg.arg-index in
+    let inv : IsReplacing old mid fs c.loop-arg.node (drop i items) (stands fs c.args.applied.now) = c.loop-arg.invariant in
+    let front : drop i items ≡ c.arg-item.result ∷ drop (i + 1) items =
+    rw add-one (drop-cons items i c.arg-item.result c.loop-arg-test.true ∙ ap (λ x. x ∷ drop (suc i) items) (sym c.arg-item.is)) in
+    let same = terms_at-kept old mid c.args.formals.now inv.grows c.requires in
+    let term : slice_get new c.in_ok-number.number ≡ Some (stands fs c.arg-item.result) =
+    c.in_ok-number.ensures.term ∙ ap (λ ts. Some (stands ts c.arg-item.result)) same in
+    rw c.in_ok-push.ensures.ok (IsReplacing-step old mid new fs c.loop-arg.node c.arg-item.result (drop (i + 1) items) (stands fs c.args.applied.now) c.in_ok-number.number (rw front at inv) c.in_ok-number.ensures.grows term)

@@ -1,0 +1,13 @@
+use Rattle.std.proofs.Common.{drop}
+use Rattle.mh_expand.specs.Sharing.{terms_of, terms_at}
+use Rattle.mh_expand.proofs.Actuals.{stands, IsReplacing}
+use Rattle.mh_expand.proofs.replacing.+replace.Given as goal
+
+abbrev pub decreases-replace : goal.decreases-replace
+decreases-replace l = goal.size-replace l
+
+abbrev pub invariant-loop-arg : goal.invariant-loop-arg
+invariant-loop-arg l =
+    let old = terms_of l.fn.terms.nodes.keys in
+    let fs = terms_at old l.formals in
+    IsReplacing old (terms_of l.terms.nodes.keys) fs l.node (drop l.arg-index l.arg-items) (stands fs l.applied)

@@ -1,0 +1,41 @@
+-- Terms that share their parts, and what is kept while instances are found.
+use Rattle.std.specs.Prelude.{◌≡◌, ◌<◌, ℕ, List, [], ◌∷◌, ◌++◌, Some, map, length, slice_get}
+use Rattle.std.specs.Option.{unwrap_or}
+use Rattle.std.specs.List.{All}
+use Rattle.mh_grammar.specs.Numbering.{AreDistinct}
+use Rattle.mh_join.specs.declared.joined.Head.TheVariants.{Token}
+use Rattle.mh_expand.specs.declared.terms.Application.{Application}
+use Rattle.mh_expand.specs.Terms.{Term, Atom, apply_all}
+
+-- the term of a number; a number past the end has none, and is never asked for
+abbrev pub term_at : List Term → ℕ → Term
+term_at ts n = unwrap_or (slice_get ts n) (Atom (Token 0))
+
+abbrev pub terms_at : List Term → List ℕ → List Term
+terms_at ts ns = map (term_at ts) ns
+
+-- the term of a node, where its arguments are among these
+abbrev pub node_term : List Term → Application → Term
+node_term ts n = apply_all (Atom n.head) (terms_at ts n.args)
+
+-- the terms of nodes, behind others
+abbrev pub terms_from : List Term → List Application → List Term
+terms_from ts [] = ts
+terms_from ts (n ∷ ns) = terms_from (ts ++ node_term ts n ∷ []) ns
+
+unfoldable pub terms_of : List Application → List Term
+terms_of ns = terms_from [] ns
+
+-- each node stands once, behind its arguments
+pub record AreNodes (ns : List Application) : Type 0 where
+  pub distinct : AreDistinct ns
+  pub below : (i : ℕ) (n : Application) → slice_get ns i ≡ Some n → All (λ a. a < i) n.args
+
+-- more terms may have come
+abbrev pub Grows : List Term → List Term → Type 0
+Grows old new = (more : List Term) × (new ≡ old ++ more)
+
+-- the node is that of a term over these
+pub record IsNode (ts : List Term) (n : Application) (t : Term) : Type 0 where
+  pub below : All (λ a. a < length ts) n.args
+  pub means : node_term ts n ≡ t

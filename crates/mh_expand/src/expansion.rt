@@ -1,0 +1,197 @@
+//! The expansion of joined rules.
+ghost use Rattle.std.specs.Prelude.{◌≡◌, ◌<◌, ◌≤◌, ◌++◌, ℕ, List, [], length, slice_index, nat_eq, IsSome, IfOk, IfErr};
+ghost use Rattle.std.specs.List.{All};
+ghost use Rattle.indexmap.specs.IndexMap.{get};
+ghost use Rattle.mh_expand.specs.Terms.{Term, arguments, text};
+ghost use Rattle.mh_expand.specs.Expansion.{Fails, Causes, IsExpanded, IsFirstFault, producers_of, right_side, rule_at, start_terms};
+ghost use Rattle.mh_expand.specs.Sentences.{HasSameSentences};
+ghost use Rattle.mh_expand.specs.Sharing.{terms_of, term_at, terms_at, Grows};
+ghost use Rattle.mh_expand.specs.Searching.{IsSearch, IsFit, AreRanks, WentStarts, WentInstance, WentAlternative, IsExpanding, AreExpanded};
+
+use crate::fault::ExpandFault;
+use crate::instances::{Expanded, Instance, InstanceProduction};
+use crate::ranks::{Ranks, rank_of, ranks_of};
+use crate::replacing::replace;
+use crate::search::{MAX_INSTANCES, MAX_NAME, find, find_instance};
+use crate::terms::{Application, Terms};
+use crate::texts::text_within;
+use indexmap::IndexSet;
+use mh_grammar::{Memory, Name, Sequence, TokenInfo};
+use mh_join::{Head, Joined, JoinedAlternative, JoinedRule};
+use std::alloc::Global;
+
+/// The instances that the starts reach, found breadth first, with their alternatives.
+pub fn expand(alloc: Global, joined: &Joined) -> Result<Expanded, ExpandFault>
+    ensures ok { IfOk result (IsExpanded joined.now) }
+    ensures sentences { IfOk result (HasSameSentences joined.now) }
+    ensures err { IfErr result (Causes (IsFirstFault joined.now)) }
+{
+    let mut terms = Terms::new(alloc);
+    let ranks = ranks_of(alloc, &mut terms, joined.on_error.as_slice())?;
+    let mut found = IndexSet::new(alloc);
+    let starts = match find_starts(alloc, joined, &mut terms, &mut found) {
+        Ok(starts) => starts,
+        Err(fault) => return Err(fault),
+    };
+    match expand_all(alloc, joined, &mut terms, &ranks, &mut found) {
+        Ok(instances) => Ok(Expanded {
+            tokens: copy_of_tokens(&joined.tokens)?,
+            starts,
+            instances,
+        }),
+        Err(fault) => Err(fault),
+    }
+}
+
+fn copy_of_tokens(tokens: &Sequence<TokenInfo>) -> Result<Sequence<TokenInfo>, Memory>
+    ensures { IfOk result (λ t. t ≡ tokens.now) }
+{
+    Ok(tokens.clone()?)
+}
+
+/// The instances that were found, and those that are found while they are expanded.
+fn expand_all(
+    alloc: Global,
+    joined: &Joined,
+    terms: &mut Terms,
+    ranks: &Ranks,
+    found: &mut IndexSet<usize>,
+) -> Result<Sequence<Instance>, ExpandFault>
+    requires { IsExpanding joined.now (terms_of terms.old.nodes.keys) found.old.keys [] (get nat_eq ranks.now) }
+    ensures ok { IfOk result (λ is. AreExpanded joined.now (terms_of terms.old.nodes.keys) (terms_of terms.new.nodes.keys) found.old.keys found.new.keys is (get nat_eq ranks.now)) }
+    ensures err { IfErr result (Causes (IsFirstFault joined.now)) }
+{
+    let mut instances = Sequence::new(alloc);
+    'instances: while instances.len() < found.len() {
+        match expand_instance(alloc, joined, terms, ranks, found, instances.len()) {
+            Ok(instance) => instances.push(instance)?,
+            Err(fault) => return Err(fault),
+        }
+    }
+    Ok(instances)
+}
+
+/// The starts as instances.
+fn find_starts(
+    alloc: Global,
+    joined: &Joined,
+    terms: &mut Terms,
+    found: &mut IndexSet<usize>,
+) -> Result<Sequence<u32>, ExpandFault>
+    requires few { length found.old.keys ≤ MAX_INSTANCES }
+    ensures few { IfOk result (λ _. length found.new.keys ≤ MAX_INSTANCES) }
+    ensures ok { IfOk result (λ s. IsSearch joined.now [] (terms_of terms.old.nodes.keys) found.old.keys → WentStarts joined.now (terms_of terms.old.nodes.keys) (terms_of terms.new.nodes.keys) found.old.keys found.new.keys s) }
+    ensures err { IfErr result (λ e. IsSearch joined.now [] (terms_of terms.old.nodes.keys) found.old.keys → Causes (Fails joined.now (start_terms joined.now)) e) }
+{
+    let mut starts = Sequence::new(alloc);
+    for rule in joined.starts.as_slice() {
+        let number = terms.insert(Application {
+            head: Head::Rule(*rule),
+            args: Sequence::new(alloc),
+        })?;
+        match find_instance(alloc, joined, terms, found, number, *rule) {
+            Ok(start) => starts.push(start)?,
+            Err(fault) => return Err(fault),
+        }
+    }
+    Ok(starts)
+}
+
+/// An instance that was found, with its alternatives.
+fn expand_instance(
+    alloc: Global,
+    joined: &Joined,
+    terms: &mut Terms,
+    ranks: &Ranks,
+    found: &mut IndexSet<usize>,
+    place: usize,
+) -> Result<Instance, ExpandFault>
+    requires place { place < length found.old.keys }
+    requires few { length found.old.keys ≤ MAX_INSTANCES }
+    requires below { All (λ n. n < length (terms_of terms.old.nodes.keys)) found.old.keys }
+    requires fit { IsFit joined.now (term_at (terms_of terms.old.nodes.keys) (slice_index found.old.keys place)) }
+    requires ranks { AreRanks joined.now.on_error (terms_of terms.old.nodes.keys) (get nat_eq ranks.now) }
+    ensures few { IfOk result (λ _. length found.new.keys ≤ MAX_INSTANCES) }
+    ensures ok { IfOk result (λ i. (before : List Term) → IsSearch joined.now before (terms_of terms.old.nodes.keys) found.old.keys → WentInstance joined.now before (terms_of terms.old.nodes.keys) (terms_of terms.new.nodes.keys) found.old.keys found.new.keys (term_at (terms_of terms.old.nodes.keys) (slice_index found.old.keys place)) i) }
+    ensures err { IfErr result (λ e. (before : List Term) → IsSearch joined.now before (terms_of terms.old.nodes.keys) found.old.keys → Causes (Fails joined.now (before ++ producers_of joined.now (term_at (terms_of terms.old.nodes.keys) (slice_index found.old.keys place)))) e) }
+{
+    let number = found.as_slice()[place];
+    let node = terms.at(number);
+    let rule = rule_of(joined, node.head);
+    let formals = copy_of(&node.args)?;
+    let name = name_of(alloc, joined, terms, number)?;
+    let mut productions = Sequence::new(alloc);
+    for alternative in rule.alternatives.as_slice() {
+        match expand_alternative(alloc, joined, terms, found, formals.as_slice(), alternative) {
+            Ok(production) => productions.push(production)?,
+            Err(fault) => return Err(fault),
+        }
+    }
+    Ok(Instance {
+        name,
+        inlined: rule.inlined,
+        on_error: rank_of(ranks, number),
+        productions,
+    })
+}
+
+/// The rule at a head.
+fn rule_of(joined: &Joined, head: Head) -> &JoinedRule
+    requires { IsSome (rule_at joined.now head) }
+    ensures { rule_at joined.now head ≡ Some result.now }
+{
+    match head {
+        Head::Rule(place) => &joined.rules[place as usize],
+        _ => unreachable!(),
+    }
+}
+
+fn copy_of(numbers: &Sequence<usize>) -> Result<Sequence<usize>, Memory>
+    ensures { IfOk result (λ s. s ≡ numbers.now) }
+{
+    Ok(numbers.clone()?)
+}
+
+/// The name of an instance.
+fn name_of(alloc: Global, joined: &Joined, terms: &Terms, number: usize) -> Result<Name, Memory>
+    requires number { number < length (terms_of terms.now.nodes.keys) }
+    requires short { length (text joined.now (term_at (terms_of terms.now.nodes.keys) number)) ≤ MAX_NAME }
+    ensures { IfOk result (λ n. n ≡ text joined.now (term_at (terms_of terms.now.nodes.keys) number)) }
+{
+    match text_within(alloc, joined, terms, number, MAX_NAME)? {
+        Some(name) => Ok(name),
+        None => unreachable!(),
+    }
+}
+
+/// An alternative with its formals replaced.
+fn expand_alternative(
+    alloc: Global,
+    joined: &Joined,
+    terms: &mut Terms,
+    found: &mut IndexSet<usize>,
+    formals: &[usize],
+    alternative: &JoinedAlternative,
+) -> Result<InstanceProduction, ExpandFault>
+    requires few { length found.old.keys ≤ MAX_INSTANCES }
+    requires formals { All (λ n. n < length (terms_of terms.old.nodes.keys)) formals.now }
+    ensures few { IfOk result (λ _. length found.new.keys ≤ MAX_INSTANCES) }
+    ensures grows { IfOk result (λ _. Grows (terms_of terms.old.nodes.keys) (terms_of terms.new.nodes.keys)) }
+    ensures ok { IfOk result (λ p. (before : List Term) (t : Term) → arguments t ≡ terms_at (terms_of terms.old.nodes.keys) formals.now → IsSearch joined.now before (terms_of terms.old.nodes.keys) found.old.keys → WentAlternative joined.now before (terms_of terms.old.nodes.keys) (terms_of terms.new.nodes.keys) found.old.keys found.new.keys t alternative.now p) }
+    ensures err { IfErr result (λ e. (before : List Term) (t : Term) → arguments t ≡ terms_at (terms_of terms.old.nodes.keys) formals.now → IsSearch joined.now before (terms_of terms.old.nodes.keys) found.old.keys → Causes (Fails joined.now (before ++ right_side t alternative.now)) e) }
+{
+    let mut rhs = Sequence::new(alloc);
+    for producer in alternative.producers.as_slice() {
+        let number = replace(alloc, terms, formals, producer)?;
+        match find(alloc, joined, terms, found, number) {
+            Ok(part) => rhs.push(part)?,
+            Err(fault) => return Err(fault),
+        }
+    }
+    Ok(InstanceProduction {
+        file: alternative.file,
+        place: alternative.place,
+        rhs,
+        prec: alternative.prec,
+    })
+}

@@ -1,0 +1,18 @@
+//! The instances of joined rules: what the starts reach, once each formal is replaced by what it stands for.
+#![tactic(auto)]
+
+mod expansion;
+mod fault;
+mod instances;
+mod ranks;
+mod replacing;
+mod search;
+mod terms;
+#[cfg(test)]
+mod tests;
+mod texts;
+
+pub use expansion::expand;
+pub use fault::ExpandFault;
+pub use instances::{Expanded, Instance, InstanceProduction, Part};
+pub use search::{MAX_INSTANCES, MAX_NAME};

@@ -1,0 +1,51 @@
+//! The `%on_error_reduce` declarations, by the terms that they name.
+ghost use Rattle.std.specs.Prelude.{◌≡◌, [], nat_eq, IfOk, OnOk};
+ghost use Rattle.indexmap.specs.IndexMap.{get};
+ghost use Rattle.mh_expand.specs.Sharing.{terms_of};
+ghost use Rattle.mh_expand.specs.Searching.{AreRanks, AddsRank};
+
+use crate::replacing::replace;
+use crate::terms::Terms;
+use indexmap::IndexMap;
+use mh_grammar::{Memory, Sequence};
+use mh_join::Applied;
+use std::alloc::Global;
+
+/// For each term the place of the first declaration that names it.
+pub(crate) type Ranks = IndexMap<usize, u64>;
+
+/// The ranks of the terms that the declarations name.
+pub(crate) fn ranks_of(
+    alloc: Global,
+    terms: &mut Terms,
+    declarations: &[Sequence<Applied>],
+) -> Result<Ranks, Memory>
+    requires { terms_of terms.old.nodes.keys ≡ [] }
+    ensures { IfOk result (λ r. AreRanks declarations.now (terms_of terms.new.nodes.keys) (get nat_eq r)) }
+{
+    let mut ranks = IndexMap::new(alloc);
+    for (rank, declaration) in declarations.iter().enumerate() {
+        for applied in declaration.as_slice() {
+            let number = replace(alloc, terms, &[], applied)?;
+            add_rank(&mut ranks, number, rank as u64)?;
+        }
+    }
+    Ok(ranks)
+}
+
+/// The rank of a term, if a declaration names it.
+pub(crate) fn rank_of(ranks: &Ranks, number: usize) -> Option<u64>
+    ensures { result ≡ get nat_eq ranks.now number }
+{
+    ranks.get(&number).copied()
+}
+
+/// The first declaration counts.
+fn add_rank(ranks: &mut Ranks, number: usize, rank: u64) -> Result<(), Memory>
+    ensures { OnOk result (AddsRank (get nat_eq ranks.old) (get nat_eq ranks.new) number rank) }
+{
+    if !ranks.contains_key(&number) {
+        ranks.insert(number, rank)?;
+    }
+    Ok(())
+}

@@ -1,0 +1,54 @@
+//! Actuals with their formals replaced.
+ghost use Rattle.std.specs.Prelude.{◌≡◌, ◌<◌, length, slice_get, IfOk};
+ghost use Rattle.std.specs.List.{All};
+ghost use Rattle.mh_expand.specs.Terms.{replaced, replaced_head, term_of};
+ghost use Rattle.mh_expand.specs.Sharing.{terms_of, terms_at, Grows, IsNode};
+
+use crate::terms::{Application, Terms};
+use mh_grammar::{Memory, Sequence};
+use mh_join::{Applied, Head};
+use std::alloc::Global;
+
+/// The term that an actual stands for, where the formals stand for these terms.
+pub(crate) fn replace(
+    alloc: Global,
+    terms: &mut Terms,
+    formals: &[usize],
+    applied: &Applied,
+) -> Result<usize, Memory>
+    requires { All (λ n. n < length (terms_of terms.old.nodes.keys)) formals.now }
+    ensures grows { IfOk result (λ _. Grows (terms_of terms.old.nodes.keys) (terms_of terms.new.nodes.keys)) }
+    ensures term { IfOk result (λ n. slice_get (terms_of terms.new.nodes.keys) n ≡ Some (replaced (terms_at (terms_of terms.old.nodes.keys) formals.now) (term_of applied.now))) }
+{
+    let mut node = replace_head(alloc, terms, formals, applied.head)?;
+    for arg in applied.args.as_slice() {
+        let number = replace(alloc, terms, formals, arg)?;
+        node.args.push(number)?;
+    }
+    Ok(terms.insert(node)?)
+}
+
+/// A formal stands for its term, with the arguments that this has.
+fn replace_head(
+    alloc: Global,
+    terms: &Terms,
+    formals: &[usize],
+    head: Head,
+) -> Result<Application, Memory>
+    requires { All (λ n. n < length (terms_of terms.now.nodes.keys)) formals.now }
+    ensures { IfOk result (λ n. IsNode (terms_of terms.now.nodes.keys) n (replaced_head (terms_at (terms_of terms.now.nodes.keys) formals.now) head)) }
+{
+    if let Head::Formal(place) = head {
+        if let Some(number) = formals.get(place as usize) {
+            let node = terms.at(*number);
+            return Ok(Application {
+                head: node.head,
+                args: node.args.clone()?,
+            });
+        }
+    }
+    Ok(Application {
+        head,
+        args: Sequence::new(alloc),
+    })
+}

@@ -1,0 +1,147 @@
+//! The instances that are found.
+ghost use Rattle.std.specs.Prelude.{◌≡◌, ◌<◌, ◌≤◌, ◌↔◌, ℕ, List, length, IsTrue, IfOk, IfErr};
+ghost use Rattle.mh_grammar.specs.Placed.{Placed};
+ghost use Rattle.mh_expand.specs.Terms.{Term, head_of, head_name, text};
+ghost use Rattle.mh_expand.specs.Expansion.{IsInstance, Fits, IsFault, Causes};
+ghost use Rattle.mh_expand.specs.Sharing.{terms_of, term_at};
+ghost use Rattle.mh_expand.specs.Searching.{IsSearch, Finds};
+
+use crate::fault::ExpandFault;
+use crate::instances::Part;
+use crate::terms::Terms;
+use crate::texts::text_within;
+use indexmap::IndexSet;
+use mh_grammar::{Memory, Name};
+use mh_join::{Head, Joined};
+use std::alloc::{AllocFailed, Global};
+
+/// The most instances that there may be.
+pub const MAX_INSTANCES: usize = 20_000;
+
+/// The most bytes that the name of an instance may have.
+pub const MAX_NAME: usize = 1000;
+
+/// What a term is that was found: a token, or an instance, which is a new one where it was not there.
+pub(crate) fn find(
+    alloc: Global,
+    joined: &Joined,
+    terms: &Terms,
+    found: &mut IndexSet<usize>,
+    number: usize,
+) -> Result<Part, ExpandFault>
+    requires number { number < length (terms_of terms.now.nodes.keys) }
+    requires few { length found.old.keys ≤ MAX_INSTANCES }
+    ensures few { IfOk result (λ _. length found.new.keys ≤ MAX_INSTANCES) }
+    ensures ok { IfOk result (λ p. (before : List Term) → IsSearch joined.now before (terms_of terms.now.nodes.keys) found.old.keys → Finds joined.now before (terms_of terms.now.nodes.keys) (term_at (terms_of terms.now.nodes.keys) number) found.old.keys found.new.keys p) }
+    ensures err { IfErr result (λ e. (before : List Term) → IsSearch joined.now before (terms_of terms.now.nodes.keys) found.old.keys → Causes (IsFault joined.now before (term_at (terms_of terms.now.nodes.keys) number)) e) }
+{
+    let node = terms.at(number);
+    match node.head {
+        Head::Token(token) if node.args.is_empty() => Ok(Part::Token(token)),
+        Head::Rule(rule) => match find_instance(alloc, joined, terms, found, number, rule) {
+            Ok(at) => Ok(Part::Instance(at)),
+            Err(fault) => Err(fault),
+        },
+        _ => Err(wrong_count(alloc, joined, terms, number)),
+    }
+}
+
+/// The number of the instance that a term with this rule as head is.
+pub(crate) fn find_instance(
+    alloc: Global,
+    joined: &Joined,
+    terms: &Terms,
+    found: &mut IndexSet<usize>,
+    number: usize,
+    rule: u64,
+) -> Result<u32, ExpandFault>
+    requires number { number < length (terms_of terms.now.nodes.keys) }
+    requires few { length found.old.keys ≤ MAX_INSTANCES }
+    requires rule { head_of (term_at (terms_of terms.now.nodes.keys) number) ≡ Head.Rule rule }
+    ensures few { IfOk result (λ _. length found.new.keys ≤ MAX_INSTANCES) }
+    ensures ok { IfOk result (λ p. (before : List Term) → IsSearch joined.now before (terms_of terms.now.nodes.keys) found.old.keys → Finds joined.now before (terms_of terms.now.nodes.keys) (term_at (terms_of terms.now.nodes.keys) number) found.old.keys found.new.keys (Part.Instance p)) }
+    ensures err { IfErr result (λ e. (before : List Term) → IsSearch joined.now before (terms_of terms.now.nodes.keys) found.old.keys → Causes (IsFault joined.now before (term_at (terms_of terms.now.nodes.keys) number)) e) }
+{
+    let count = terms.at(number).args.len();
+    match joined.rules.get(rule as usize) {
+        Some(rule) if rule.formals == count as u64 => {
+            add_instance(alloc, joined, terms, found, number, &rule.name)
+        }
+        _ => Err(wrong_count(alloc, joined, terms, number)),
+    }
+}
+
+/// The number of an instance of the rule of this name; a new one is put behind the others, if it may be.
+fn add_instance(
+    alloc: Global,
+    joined: &Joined,
+    terms: &Terms,
+    found: &mut IndexSet<usize>,
+    number: usize,
+    rule: &Name,
+) -> Result<u32, ExpandFault>
+    requires number { number < length (terms_of terms.now.nodes.keys) }
+    requires few { length found.old.keys ≤ MAX_INSTANCES }
+    requires instance { IsInstance (term_at (terms_of terms.now.nodes.keys) number) }
+    requires fits { Fits joined.now (term_at (terms_of terms.now.nodes.keys) number) }
+    requires rule { rule.now ≡ head_name joined.now (head_of (term_at (terms_of terms.now.nodes.keys) number)) }
+    ensures few { IfOk result (λ _. length found.new.keys ≤ MAX_INSTANCES) }
+    ensures ok { IfOk result (λ p. (before : List Term) → IsSearch joined.now before (terms_of terms.now.nodes.keys) found.old.keys → Finds joined.now before (terms_of terms.now.nodes.keys) (term_at (terms_of terms.now.nodes.keys) number) found.old.keys found.new.keys (Part.Instance p)) }
+    ensures err { IfErr result (λ e. (before : List Term) → IsSearch joined.now before (terms_of terms.now.nodes.keys) found.old.keys → Causes (IsFault joined.now before (term_at (terms_of terms.now.nodes.keys) number)) e) }
+{
+    let known = found.len();
+    let at = place(found, number)?;
+    if at < known {
+        return Ok(at as u32);
+    }
+    if may_come(alloc, joined, terms, number, known)? {
+        Ok(at as u32)
+    } else {
+        Err(one_too_many(rule))
+    }
+}
+
+/// Whether a new instance may come after so many.
+fn may_come(
+    alloc: Global,
+    joined: &Joined,
+    terms: &Terms,
+    number: usize,
+    known: usize,
+) -> Result<bool, Memory>
+    requires { number < length (terms_of terms.now.nodes.keys) }
+    ensures { IfOk result (λ b. IsTrue b ↔ ((known < MAX_INSTANCES) × (length (text joined.now (term_at (terms_of terms.now.nodes.keys) number)) ≤ MAX_NAME))) }
+{
+    let name = text_within(alloc, joined, terms, number, MAX_NAME)?;
+    Ok(known < MAX_INSTANCES && name.is_some())
+}
+
+/// Where an instance stands; a new one is put behind the others.
+fn place(found: &mut IndexSet<usize>, number: usize) -> Result<usize, AllocFailed<usize>>
+    ensures { IfOk result (Placed found.old.keys found.new.keys number) }
+{
+    let (at, _) = found.insert_full(number)?;
+    Ok(at)
+}
+
+/// The fault of a term with too many or too few arguments.
+fn wrong_count(alloc: Global, joined: &Joined, terms: &Terms, number: usize) -> ExpandFault
+    requires number { number < length (terms_of terms.now.nodes.keys) }
+    requires count { Fits joined.now (term_at (terms_of terms.now.nodes.keys) number) → ⊥ }
+    ensures { (before : List Term) → Causes (IsFault joined.now before (term_at (terms_of terms.now.nodes.keys) number)) result }
+{
+    match text_within(alloc, joined, terms, number, usize::MAX - 1) {
+        Ok(Some(instance)) => ExpandFault::Arity { instance },
+        _ => ExpandFault::Memory,
+    }
+}
+
+/// The fault of an instance too many of the rule of this name.
+fn one_too_many(rule: &Name) -> ExpandFault
+    ensures { Causes (λ e. e ≡ ExpandFault.Expansion rule.now) result }
+{
+    match rule.clone() {
+        Ok(name) => ExpandFault::Expansion { name },
+        Err(_) => ExpandFault::Memory,
+    }
+}

@@ -1,0 +1,63 @@
+//! Terms whose parts are shared.
+ghost use Rattle.std.specs.Prelude.{◌≡◌, ◌<◌, [], length, slice_get, IfOk, OnErr};
+ghost use Rattle.std.specs.List.{All};
+ghost use Rattle.mh_grammar.specs.Placed.{Placed};
+ghost use Rattle.mh_expand.specs.Sharing.{AreNodes, terms_of, node_term};
+
+use indexmap::IndexSet;
+use mh_grammar::Sequence;
+use mh_join::Head;
+use std::alloc::{AllocError, AllocFailed, Global};
+
+/// A head with the numbers of its arguments.
+#[derive(Debug, Drop, PartialEq, Eq, Hash)]
+pub(crate) struct Application {
+    pub head: Head,
+    pub args: Sequence<usize>,
+}
+
+/// Terms by number, each once, their arguments before them.
+#[derive(Drop)]
+pub(crate) struct Terms {
+    pub nodes: IndexSet<Application>,
+    ghost nodes_ok: { AreNodes nodes.keys },
+}
+
+impl Terms {
+    pub(crate) fn new(alloc: Global) -> Terms
+        ensures { terms_of result.nodes.keys ≡ [] }
+    {
+        Terms {
+            nodes: IndexSet::new(alloc),
+        }
+    }
+
+    /// The head and the arguments of a term.
+    pub(crate) fn at(&self, number: usize) -> &Application
+        requires { number < length (terms_of self.now.nodes.keys) }
+        ensures means { slice_get (terms_of self.now.nodes.keys) number ≡ Some (node_term (terms_of self.now.nodes.keys) result.now) }
+        ensures below { All (λ a. a < number) result.now.args }
+    {
+        &self.nodes.as_slice()[number]
+    }
+
+    /// The number of a term, a new one where it was not there.
+    pub(crate) fn insert(&mut self, node: Application) -> Result<usize, AllocError>
+        requires { All (λ a. a < length (terms_of self.old.nodes.keys)) node.args }
+        ensures { IfOk result (Placed (terms_of self.old.nodes.keys) (terms_of self.new.nodes.keys) (node_term (terms_of self.old.nodes.keys) node)) }
+    {
+        Ok(place(&mut self.nodes, node)?)
+    }
+}
+
+/// Where a node stands; a new one is put behind the others.
+fn place(
+    nodes: &mut IndexSet<Application>,
+    node: Application,
+) -> Result<usize, AllocFailed<Application>>
+    ensures ok { IfOk result (Placed nodes.old.keys nodes.new.keys node) }
+    ensures err { OnErr result (nodes.new.keys ≡ nodes.old.keys) }
+{
+    let (number, _) = nodes.insert_full(node)?;
+    Ok(number)
+}

@@ -1,0 +1,6 @@
+//! What several grammar files give together.
+#![tactic(auto)]
+
+mod joined;
+
+pub use joined::{Applied, Head, Joined, JoinedAlternative, JoinedRule, Prec};
