@@ -20,7 +20,7 @@ row_of-requires-clause-rising c =
 pub returns : goal.returns
 returns c =
     mapped c.row_of.result
-        (λ row. IsRow (closed_state c.args.grammar.now c.index-kernel.result.now c.as_slice-edges.result.now) row.cells row.last row.stream)
-        (λ row. IsRow (state_of c.args.grammar.now c.args.automaton.now c.args.state) row.cells row.last row.stream)
-        (λ row is. row_at c.args.grammar.now c.args.automaton.now c.requires.automaton c.args.state c.index-kernel.result.now c.as_slice-edges.result.now c.index.result.now c.requires.state c.index-kernel.ensures c.index.ensures c.as_slice-edges.ensures row.cells row.last row.stream is)
-        c.row_of.ensures
+    (λ row. IsRow (closed_state c.args.grammar.now c.index-kernel.result.now c.as_slice-edges.result.now) row.cells row.last row.stream)
+    (λ row. IsRow (state_of c.args.grammar.now c.args.automaton.now c.args.state) row.cells row.last row.stream)
+    (λ row is. row_at c.args.grammar.now c.args.automaton.now c.requires.automaton c.args.state c.index-kernel.result.now c.as_slice-edges.result.now c.index.result.now c.requires.state c.index-kernel.ensures c.index.ensures c.as_slice-edges.ensures row.cells row.last row.stream is)
+    c.row_of.ensures
