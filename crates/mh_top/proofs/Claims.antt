@@ -1,20 +1,19 @@
 -- The claims follow from how a run ended.
-use Rattle.std.proofs.Common.{◌≡◌, ◌⊎◌, inl, inr, ℕ, ◌+◌, ◌<◌, ◌≤◌, List, [], ◌++◌, Bool, true, false, Option, None, Some, refl, sym, ◌∙◌, ap, subst, arith, if◌then◌else◌}
-use Rattle.std.specs.Prelude.{⊤}
+use Rattle.std.proofs.Common.{◌≡◌, ◌⊎◌, inl, inr, ℕ, List, [], Bool, true, false, Option, None, Some, refl, sym, ◌∙◌, ap, subst, arith, if◌then◌else◌}
 use Rattle.std.specs.Io.KnownBytes.{Appends}
 use Rattle.mh_grammar.specs.declared.types.Grammar.{Grammar}
 use Rattle.mh_tables.specs.Table.{TableData}
 use Rattle.mh_outside.specs.Faults.{Rose, IsCalm}
 use Rattle.mh_outside.specs.Shelf.{Files, NoFile, Long}
-use Rattle.mh_top.specs.Text.{Text, cannot_read_input}
+use Rattle.mh_top.specs.Text.{Text}
 use Rattle.mh_top.specs.Lines.{split, is_small}
 use Rattle.mh_top.specs.Causes.{status_of, Halt}
 use Rattle.mh_top.specs.Order.{order_of}
 use Rattle.mh_top.specs.Each.{Asks}
 use Rattle.std.proofs.lemmas.List.{append-nil}
 use Rattle.mh_top.specs.Work.{Work, Plan, Ends, AsksEach, Outcome, Gives, PlanGives, Over, interpreting, line_limit, max_lines}
-use Rattle.mh_top.specs.Run.{World, IsQuiet, MayEnd, Does, Holds, HoldsLines, IsOutPart, PartsWith, Ran, Finished, CannotReadFile, CannotReadInput, CannotWrite, NoMemory}
-use Rattle.mh_top.specs.Claims.{AskedBy, FileOf, HoldsFile, IsAbsent, IsLongFile, IsLongInput, IsPast, AsksLines, AllCalm, Completes, IsDone, Finishes, MisuseHasCause, ReadFaultHasCause, AbsentIsSaid, WriteFaultHasCause, TooBigHasCause, LongFileIsSaid, LongInputIsSaid, WritesPart, IsStatus}
+use Rattle.mh_top.specs.Run.{World, MayEnd, Does, HoldsLines, IsOutPart, PartsWith, Ran, Finished, CannotReadFile, CannotReadInput, CannotWrite, NoMemory}
+use Rattle.mh_top.specs.Claims.{AskedBy, FileOf, HoldsFile, IsAbsent, IsLongFile, IsLongInput, IsPast, AsksLines, Completes, IsDone, Finishes, MisuseHasCause, ReadFaultHasCause, AbsentIsSaid, WriteFaultHasCause, TooBigHasCause, LongFileIsSaid, LongInputIsSaid, WritesPart, IsStatus}
 use Rattle.mh_top.specs.declared.stop.Cause.{Cause}
 use Rattle.mh_top.specs.declared.stop.Cause.TheVariants.{Refused, Misused, Missing, TooBig}
 use Rattle.mh_top.proofs.Endings.{Ended, Misuse, NoSuchFile, LongFile, Refusal, Lines, asked_ended, missing_gives, long_gives}

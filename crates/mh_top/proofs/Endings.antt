@@ -1,5 +1,5 @@
 -- How the work that the words ask for ends, by its cause.
-use Rattle.std.proofs.Common.{◌≡◌, ◌⊎◌, inl, inr, ℕ, List, [], Bool, true, false, Option, None, Some, refl, sym, ◌∙◌, ap, subst, if◌then◌else◌}
+use Rattle.std.proofs.Common.{◌≡◌, List, [], Option, None, Some, refl, ◌∙◌, ap, subst}
 use Rattle.mh_grammar.specs.declared.types.Grammar.{Grammar}
 use Rattle.mh_tables.specs.Table.{TableData}
 use Rattle.mh_outside.specs.Shelf.{Files, Found, found, NoFile, Long, Bytes}

@@ -26,23 +26,22 @@ use Rattle.mh_tables.proofs.Ending.{one_ending}
 use Rattle.mh_run.specs.Exactness.{IsPrefixSentence, AllProductive}
 use Rattle.mh_run.proofs.Accepted.{accepted_sentence}
 use Rattle.mh_run.proofs.Telling.{overshoots, tells_prefix, tells_refused}
-use Rattle.mh_outside.specs.Shelf.{Files, found, within, file_at, Long, Bytes}
+use Rattle.mh_outside.specs.Shelf.{Files, within, file_at, Long, Bytes}
 use Rattle.mh_top.specs.Text.{Text, cannot_read, too_big}
 use Rattle.mh_top.specs.Causes.{Staged, Go, Halt}
 use Rattle.mh_top.specs.Order.{order_of}
 use Rattle.mh_top.specs.GrammarStage.{GrammarOf, IsGrammarStage}
 use Rattle.mh_top.specs.TableStage.{HasTooMany, HasTable, IsTableStage}
-use Rattle.mh_top.specs.Sentences.{LineFound, IsSentence, IsUnreadable, TokensFound, Tokens, Unknown, first_start, tokens_of, is_name, pieces, sentence_in}
-use Rattle.mh_top.specs.Verdicts.{FoundText, verdict_text, token_names}
+use Rattle.mh_top.specs.Sentences.{LineFound, IsSentence}
+use Rattle.mh_top.specs.Verdicts.{FoundText, verdict_text}
 use Rattle.mh_top.specs.Work.{Work, AsksEach, Verdicts, Then, IsWorkOfOrder, IsWorkOfFile, IsWorkOfGrammar, IsWorkOfTable, halted, interpreting, loaded_from, file_limit}
 use Rattle.mh_top.specs.Claims.{AskedBy}
 use Rattle.mh_top.specs.Exact.{IsLR1, AnswersSentence, AcceptsExactly, RejectsRightly, OvershootsRightly, AcceptsRightly}
 use Rattle.mh_top.specs.declared.order.Order.{Order}
 use Rattle.mh_top.specs.declared.stop.Cause.{Cause}
 use Rattle.mh_top.specs.declared.stop.Cause.TheVariants.{Missing, TooBig}
-use Rattle.mh_top.proofs.Starting.{has_start}
+use Rattle.mh_top.proofs.Answering.{sentence_start}
 use Rattle.mh_top.proofs.Ranging.{in_range}
-use Rattle.std.specs.List.{list_all}
 
 -- ---- the grammar and the table that verdicts go by
 
@@ -125,26 +124,24 @@ module _ (g : Grammar) (t : TableData) (is : IsTabled g t) where
       let whole : table_data g t.states ≡ t = (λ i. record { grammar = sym grammar i; states = t.states }) in
       subst Facts whole (facts_of g is.table.automaton Canonical t.states (in_range is.bytes g is.short is.given) automaton table.states)
 
-  start : 0 < length g.starts
-  start = has_start is.bytes g is.given
-
   clear : IsLR1 g → HasNoConflicts g is.table.automaton
   clear lr1 = subst (HasNoConflicts g) (one_canonical (plain_of g) lr1.automaton is.table.automaton lr1.canonical is.table.canonical) lr1.clear
 
-  accepts : IsLR1 g → (w : List ℕ) (read : ℕ) → VerdictOf t 0 w (Accepted read) ↔ IsPrefixSentence (plain_of g) 0 w read
-  accepts lr1 w read = tells_prefix g is.table.automaton Canonical t facts automaton is.table.table (clear lr1) 0 w read start
+  module _ (start : ℕ) (known : start < length g.starts) where
+    accepts : IsLR1 g → (w : List ℕ) (read : ℕ) → VerdictOf t start w (Accepted read) ↔ IsPrefixSentence (plain_of g) start w read
+    accepts lr1 w read = tells_prefix g is.table.automaton Canonical t facts automaton is.table.table (clear lr1) start w read known
 
-  accepts_rightly : (w : List ℕ) (read : ℕ) → VerdictOf t 0 w (Accepted read) → IsPrefixSentence (plain_of g) 0 w read
-  accepts_rightly w read v =
-      let grammar : t.grammar ≡ plain_of g = is.table.table.grammar in
-      let some : 0 < length t.grammar.starts = subst (λ (p : PlainGrammar). 0 < length p.starts) (sym grammar) start in
-      subst (λ (p : PlainGrammar). IsPrefixSentence p 0 w read) grammar (accepted_sentence t facts 0 w read some v)
+    accepts_rightly : (w : List ℕ) (read : ℕ) → VerdictOf t start w (Accepted read) → IsPrefixSentence (plain_of g) start w read
+    accepts_rightly w read v =
+        let grammar : t.grammar ≡ plain_of g = is.table.table.grammar in
+        let some : start < length t.grammar.starts = subst (λ (p : PlainGrammar). start < length p.starts) (sym grammar) known in
+        subst (λ (p : PlainGrammar). IsPrefixSentence p start w read) grammar (accepted_sentence t facts start w read some v)
 
-  rejects : IsLR1 g → (w : List ℕ) (at s : ℕ) → VerdictOf t 0 w (Rejected at s) → BeginsSentence (plain_of g) 0 (take (at + 1) w) → ⊥
-  rejects lr1 w at s v = tells_refused g is.table.automaton Canonical t facts automaton is.table.table (clear lr1) 0 w at s start v
+    rejects : IsLR1 g → (w : List ℕ) (at s : ℕ) → VerdictOf t start w (Rejected at s) → BeginsSentence (plain_of g) start (take (at + 1) w) → ⊥
+    rejects lr1 w at s v = tells_refused g is.table.automaton Canonical t facts automaton is.table.table (clear lr1) start w at s known v
 
-  overshot : AllProductive (plain_of g) → (w : List ℕ) (s : ℕ) → VerdictOf t 0 w (Overshot s) → BeginsSentence (plain_of g) 0 w
-  overshot productive w s v = overshoots g is.table.automaton Canonical t facts automaton is.table.table productive 0 w s start v
+    overshot : AllProductive (plain_of g) → (w : List ℕ) (s : ℕ) → VerdictOf t start w (Overshot s) → BeginsSentence (plain_of g) start w
+    overshot productive w s v = overshoots g is.table.automaton Canonical t facts automaton is.table.table productive start w s known v
 
 -- ---- the texts
 
@@ -175,60 +172,47 @@ overshot_how (Accepted read) e = absurd (accept_not_overshoot e)
 overshot_how (Overshot s) e = (s, refl)
 overshot_how (Rejected at s) e = absurd (overshoot_not_reject (sym e))
 
--- a sentence line is one of the first start
-from_first : (found : TokensFound) (s : Sentence) → first_start found ≡ IsSentence s → s.start ≡ 0
-from_first (Tokens tokens) s e = let same : record { start = 0; tokens = tokens } ≡ s = cc in ap (λ (x : Sentence). x.start) (sym same)
-from_first (Unknown name) s e = cc
-
-of_first : (readable : Bool) (found : TokensFound) (s : Sentence) → (if readable then first_start found else IsUnreadable) ≡ IsSentence s → s.start ≡ 0
-of_first true found s e = from_first found s e
-of_first false found s e = cc
-
-starts_first : (names : List Text) (line : Text) (s : Sentence) → sentence_in names line ≡ IsSentence s → s.start ≡ 0
-starts_first names line s e = of_first (list_all is_name (pieces line)) (tokens_of names (pieces line)) s e
-
 -- ---- the laws
 
 module _ (words : List Text) (files : Option Files) (g : Grammar) (s : Sentence) (text : Text) (by : AnswersSentence words files g s text) where
   is : IsTabled g by.table
   is = asked_tabled g by.table words files by.asked
 
-  first : 0 ≡ s.start
-  first = sym (starts_first (token_names g) by.line s by.sentence)
+  known : s.start < length g.starts
+  known = sentence_start g by.line s by.sentence
 
   said : FoundText by.table (IsSentence s) text
   said = subst (λ (f : LineFound). FoundText by.table f text) by.sentence by.answer
 
-  says : (how : Ending) → said.0 ≡ how → VerdictOf by.table 0 s.tokens how
-  says how e = subst (λ (n : ℕ). VerdictOf by.table n s.tokens how) (sym first) (subst (λ (h : Ending). VerdictOf by.table s.start s.tokens h) e said.1)
+  says : (how : Ending) → said.0 ≡ how → VerdictOf by.table s.start s.tokens how
+  says how e = subst (λ (h : Ending). VerdictOf by.table s.start s.tokens h) e said.1
 
   accepts_read : IsLR1 g → text ≡ codes "ACCEPT\n" → (read : ℕ) × IsPrefixSentence (plain_of g) s.start s.tokens read
   accepts_read lr1 e =
       let p = accepted_how said.0 (sym said.2 ∙ e) in
-      (p.0, subst (λ (n : ℕ). IsPrefixSentence (plain_of g) n s.tokens p.0) first ((accepts g by.table is lr1 s.tokens p.0).0 (says (Accepted p.0) p.1)))
+      (p.0, (accepts g by.table is s.start known lr1 s.tokens p.0).0 (says (Accepted p.0) p.1))
 
   sentence_accepts : IsLR1 g → (read : ℕ) × IsPrefixSentence (plain_of g) s.start s.tokens read → text ≡ codes "ACCEPT\n"
   sentence_accepts lr1 p =
-      let here = subst (λ (n : ℕ). IsPrefixSentence (plain_of g) n s.tokens p.0) (sym first) p.1 in
-      let v = (accepts g by.table is lr1 s.tokens p.0).1 here in
-      let same = one_ending by.table (initial 0 s.tokens) said.0 (Accepted p.0) (says said.0 refl) v in
+      let v = (accepts g by.table is s.start known lr1 s.tokens p.0).1 p.1 in
+      let same = one_ending by.table (initial s.start s.tokens) said.0 (Accepted p.0) said.1 v in
       said.2 ∙ ap verdict_text same
 
   rightly : text ≡ codes "ACCEPT\n" → (read : ℕ) × IsPrefixSentence (plain_of g) s.start s.tokens read
   rightly e =
       let p = accepted_how said.0 (sym said.2 ∙ e) in
-      (p.0, subst (λ (n : ℕ). IsPrefixSentence (plain_of g) n s.tokens p.0) first (accepts_rightly g by.table is s.tokens p.0 (says (Accepted p.0) p.1)))
+      (p.0, accepts_rightly g by.table is s.start known s.tokens p.0 (says (Accepted p.0) p.1))
 
   refused : IsLR1 g → text ≡ codes "REJECT\n" → (at : ℕ) × (at < length s.tokens) × (BeginsSentence (plain_of g) s.start (take (at + 1) s.tokens) → ⊥)
   refused lr1 e =
       let p = rejected_how said.0 (sym said.2 ∙ e) in
       let v = says (Rejected p.0 p.1) p.2 in
-      (p.0, (verdict_cut by.table 0 s.tokens p.0 p.1 v).0, λ b. rejects g by.table is lr1 s.tokens p.0 p.1 v (subst (λ (n : ℕ). BeginsSentence (plain_of g) n (take (p.0 + 1) s.tokens)) (sym first) b))
+      (p.0, (verdict_cut by.table s.start s.tokens p.0 p.1 v).0, λ b. rejects g by.table is s.start known lr1 s.tokens p.0 p.1 v b)
 
   begun : AllProductive (plain_of g) → text ≡ codes "OVERSHOOT\n" → BeginsSentence (plain_of g) s.start s.tokens
   begun productive e =
       let p = overshot_how said.0 (sym said.2 ∙ e) in
-      subst (λ (n : ℕ). BeginsSentence (plain_of g) n s.tokens) first (overshot g by.table is productive s.tokens p.0 (says (Overshot p.0) p.1))
+      overshot g by.table is s.start known productive s.tokens p.0 (says (Overshot p.0) p.1)
 
 module _ (words : List Text) (files : Option Files) where
   pub accepts_exactly : AcceptsExactly words files

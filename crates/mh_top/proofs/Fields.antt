@@ -1,6 +1,5 @@
 -- The pieces of a line, one after another.
-use Rattle.std.proofs.Common.{◌≡◌, ◌+◌, ◌-◌, ◌<◌, ◌≤◌, ℕ, zero, suc, Bool, true, false, List, [], ◌∷◌, ◌++◌, length, take, drop, filter, refl, sym, ◌∙◌, ap, subst, if◌then◌else◌, arith, add-one, length-drop}
-use Rattle.std.specs.List.{list_all}
+use Rattle.std.proofs.Common.{◌≡◌, ◌+◌, ◌<◌, ◌≤◌, ℕ, Bool, true, false, List, [], ◌∷◌, length, take, drop, filter, refl, sym, ◌∙◌, ap, subst, if◌then◌else◌, arith, add-one, length-drop}
 use Rattle.mh_top.specs.Text.{Text}
 use Rattle.mh_top.specs.Lines.{put_first}
 use Rattle.mh_top.specs.Sentences.{is_blank, fields, is_some_text, pieces, blank_count, piece_size}

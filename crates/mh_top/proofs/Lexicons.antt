@@ -1,11 +1,11 @@
 -- The numbers of the tokens, while they are put in one after another.
-use Rattle.std.proofs.Common.{◌≡◌, ◌+◌, ◌<◌, ◌≤◌, ℕ, zero, suc, Bool, true, false, List, [], ◌∷◌, ◌++◌, length, map, take, Option, None, Some, refl, sym, ◌∙◌, ap, subst, if◌then◌else◌, is_some, option_copied, Bor, true≢false, get_or, arith, add-one, Vec}
-use Rattle.std.proofs.lemmas.List.{map-append, length-map, length-take-le, take_all}
-use Rattle.std.proofs.lemmas.Slice.Eq.{bytes_eq-Decides}
+use Rattle.std.proofs.Common.{◌≡◌, ◌+◌, ◌<◌, ◌≤◌, ℕ, Bool, true, false, List, [], ◌∷◌, ◌++◌, length, map, take, Option, None, Some, refl, sym, ◌∙◌, ap, subst, if◌then◌else◌, is_some, option_copied, Bor, true≢false, get_or, arith, add-one, Vec}
+use Rattle.std.proofs.lemmas.List.{map-append, length-map, length-take-le, take_all, get_or_default, get_or-map}
 use Rattle.std.proofs.Math.Seq.{take-suc}
-use Rattle.mh_grammar.specs.declared.types.TokenInfo.{TokenInfo}
-use Rattle.mh_top.specs.Sentences.{or_else, PutsName}
-use Rattle.std.specs.List.{position_from}
+use Rattle.mh_grammar.specs.declared.types.Grammar.{Grammar}
+use Rattle.mh_grammar.specs.declared.types.NontermInfo.{NontermInfo}
+use Rattle.mh_top.specs.Sentences.{or_else, AreNumbers, PutsName, start_name}
+use Rattle.std.specs.List.{position_from, All}
 use Rattle.std.specs.Map.{lookup}
 use Rattle.std.specs.Str.{bytes_eq}
 use Rattle.std.specs.declared.alloc.Global.{Global}
@@ -33,10 +33,6 @@ lookup_push t (e ∷ es) k v = by (t e.0) refl (lookup_push t es k v)
     by true is on = rw is refl
     by false is on = rw is on
 
--- the entries are those of these names
-abbrev pub AreNumbers : List Text → Entries → Type 0
-AreNumbers names es = (name : Text) → lookup (λ key. bytes_eq name key.items) es ≡ position_from (bytes_eq name) 0 names
-
 -- a name more
 pub numbers_push : (names : List Text) (name : Text) (number : ℕ) (es fs : Entries) → number ≡ length names → AreNumbers names es → PutsName name number es fs → AreNumbers (names ++ name ∷ []) fs
 numbers_push names name number es fs is are puts other =
@@ -47,20 +43,22 @@ numbers_push names name number es fs is are puts other =
     zero_more : (n : ℕ) → n ≡ 0 + n
     zero_more n = omega arith
 
-names_push : (tokens : List TokenInfo) (n : ℕ) (token : TokenInfo) → n < length tokens → token ≡ get_or tokens n token → map (λ t. t.name) (take (n + 1) tokens) ≡ map (λ t. t.name) (take n tokens) ++ token.name ∷ []
-names_push tokens n token lt is =
-    ap (λ (k : ℕ). map (λ t. t.name) (take k tokens)) (add-one n) ∙ ap (map (λ t. t.name)) (take-suc tokens n token lt ∙ ap (λ (t : TokenInfo). take n tokens ++ t ∷ []) (sym is)) ∙ map-append (λ t. t.name) (take n tokens) (token ∷ [])
+-- The names of some items, of which one more is put in.
+module _ {A : Type 0} (name_of : A → Text) (items : List A) where
+  names_push : (n : ℕ) (item : A) → n < length items → item ≡ get_or items n item → map name_of (take (n + 1) items) ≡ map name_of (take n items) ++ name_of item ∷ []
+  names_push n item lt is =
+      ap (λ (k : ℕ). map name_of (take k items)) (add-one n) ∙ ap (map name_of) (take-suc items n item lt ∙ ap (λ (t : A). take n items ++ t ∷ []) (sym is)) ∙ map-append name_of (take n items) (item ∷ [])
 
-names_count : (tokens : List TokenInfo) (n : ℕ) → n ≤ length tokens → n ≡ length (map {B = Text} (λ t. t.name) (take n tokens))
-names_count tokens n le = sym (length-map (take n tokens) (λ t. t.name) ∙ length-take-le n tokens le)
+  names_count : (n : ℕ) → n ≤ length items → n ≡ length (map {B = Text} name_of (take n items))
+  names_count n le = sym (length-map (take n items) name_of ∙ length-take-le n items le)
 
-pub token_put : (tokens : List TokenInfo) (n number : ℕ) (token : TokenInfo) (name : Text) (es fs : Entries) → n < length tokens → token ≡ get_or tokens n token → name ≡ token.name → number ≡ n → AreNumbers (map (λ t. t.name) (take n tokens)) es → PutsName name number es fs → AreNumbers (map (λ t. t.name) (take (n + 1) tokens)) fs
-token_put tokens n number token name es fs lt is named numbered are puts =
-    let pushed = numbers_push (map (λ t. t.name) (take n tokens)) name number es fs (numbered ∙ names_count tokens n (omega arith)) are puts in
-    subst (λ (names : List Text). AreNumbers names fs) (ap (λ (t : Text). map (λ t. t.name) (take n tokens) ++ t ∷ []) named ∙ sym (names_push tokens n token lt is)) pushed
+  pub item_put : (n number : ℕ) (item : A) (name : Text) (es fs : Entries) → n < length items → item ≡ get_or items n item → name ≡ name_of item → number ≡ n → AreNumbers (map name_of (take n items)) es → PutsName name number es fs → AreNumbers (map name_of (take (n + 1) items)) fs
+  item_put n number item name es fs lt is named numbered are puts =
+      let pushed = numbers_push (map name_of (take n items)) name number es fs (numbered ∙ names_count n (omega arith)) are puts in
+      subst (λ (names : List Text). AreNumbers names fs) (ap (λ (t : Text). map name_of (take n items) ++ t ∷ []) named ∙ sym (names_push n item lt is)) pushed
 
-pub all_put : (tokens : List TokenInfo) (n : ℕ) (es : Entries) → length tokens ≤ n → AreNumbers (map (λ t. t.name) (take n tokens)) es → AreNumbers (map (λ t. t.name) tokens) es
-all_put tokens n es le are = subst (λ (ts : List TokenInfo). AreNumbers (map (λ t. t.name) ts) es) (take_all n tokens le) are
+  pub all_put : (n : ℕ) (es : Entries) → length items ≤ n → AreNumbers (map name_of (take n items)) es → AreNumbers (map name_of items) es
+  all_put n es le are = subst (λ (ts : List A). AreNumbers (map name_of ts) es) (take_all n items le) are
 
 pub name_put : (es fs : Entries) (name : Text) (key : Vec ℕ Global) (number : ℕ) → fs ≡ es ++ (key, number) ∷ [] → key.items ≡ name → PutsName name number es fs
 name_put es fs name key number is named other =
@@ -70,3 +68,11 @@ name_put es fs name key number is named other =
 pub copied_none : (r : Option (Bor ℕ)) → is_some r ≡ false → option_copied r ≡ None
 copied_none None h = refl
 copied_none (Some x) h = absurd (true≢false h)
+
+-- the name of a start is put in
+pub start_put : (g : Grammar) (n number start : ℕ) (nonterminal : NontermInfo) (name : Text) (es fs : Entries) → n < length g.starts → start ≡ get_or g.starts n 0 → All (λ s. s < length g.nonterminals) g.starts → nonterminal ≡ get_or g.nonterminals start nonterminal → name ≡ nonterminal.name →
+    number ≡ n → AreNumbers (map (start_name g) (take n g.starts)) es → PutsName name number es fs → AreNumbers (map (start_name g) (take (n + 1) g.starts)) fs
+start_put g n number start nonterminal name es fs lt is known at named numbered are puts =
+    let within : start < length g.nonterminals = subst (λ (s : ℕ). s < length g.nonterminals) (sym is) (known n 0 lt) in
+    item_put (start_name g) g.starts n number start name es fs lt (is ∙ get_or_default g.starts n 0 start lt)
+    (named ∙ ap (λ (x : NontermInfo). x.name) at ∙ sym (get_or-map (λ (x : NontermInfo). x.name) g.nonterminals start nonterminal [] within)) numbered are puts

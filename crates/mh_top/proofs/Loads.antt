@@ -1,15 +1,13 @@
 -- What a load answers, where the files are told and where they are not.
-use Rattle.std.proofs.Common.{◌≡◌, ◌<◌, ◌≤◌, ◌+◌, ℕ, zero, suc, true, false, List, [], ◌∷◌, ◌++◌, length, replicate, Option, None, Some, Bool, if◌then◌else◌, nat_le, refl, sym, ◌∙◌, ap, subst, arith, Vec, Result, Ok, Err}
+use Rattle.std.proofs.Common.{◌≡◌, ◌<◌, ◌≤◌, ℕ, zero, suc, true, false, [], ◌∷◌, length, Option, None, Some, Bool, if◌then◌else◌, nat_le, refl, sym, ◌∙◌, ap, subst, arith, Vec, Ok, Err}
 use Rattle.std.proofs.lemmas.Bool.Decides.{nat_tests}
 use Rattle.std.proofs.lemmas.Slice.Eq.{bytes_eq-Decides}
-use Rattle.std.specs.Prelude.{codes, ⊤}
 use Rattle.std.specs.Str.{bytes_eq}
 use Rattle.std.specs.declared.alloc.Global.{Global}
-use Rattle.mh_outside.specs.Shelf.{Files, Found, NoFile, Long, Bytes, found, file_at, within, Reads}
-use Rattle.mh_outside.specs.declared.shelf.ShelfFault.{ShelfFault}
+use Rattle.mh_outside.specs.Shelf.{Files, Long, Bytes, found, file_at, within, Reads}
 use Rattle.mh_outside.specs.declared.shelf.ShelfFault.TheVariants as shelf_faults
 use Rattle.mh_top.specs.Text.{Text, cannot_read, too_big}
-use Rattle.mh_top.specs.Causes.{Staged, Go, Halt}
+use Rattle.mh_top.specs.Causes.{Halt}
 use Rattle.mh_top.specs.Work.{Over, loaded, loaded_from, file_limit}
 use Rattle.mh_top.specs.Load.{LoadHas}
 use Rattle.mh_top.specs.Run.{MayEnd}

@@ -1,5 +1,5 @@
 -- The work that the words ask for is one, as each of its stages gives one thing.
-use Rattle.std.proofs.Common.{◌≡◌, ◌⊎◌, inl, inr, ◌≤◌, ℕ, List, Bool, true, false, Option, None, Some, refl, sym, ◌∙◌, ap, ap₂, subst, arith}
+use Rattle.std.proofs.Common.{◌≡◌, ◌⊎◌, inl, inr, ◌≤◌, ℕ, List, Option, sym, ◌∙◌, ap, ap₂, subst, arith}
 use Rattle.mh_grammar.specs.declared.types.Grammar.{Grammar}
 use Rattle.mh_grammar.specs.Plain.{plain_of}
 use Rattle.mh_items.specs.declared.kernels.Automaton.{Automaton}
@@ -10,20 +10,17 @@ use Rattle.mh_resolve.specs.declared.kinds.Mode.TheVariants.{Canonical}
 use Rattle.mh_tables.specs.Table.{TableData}
 use Rattle.mh_tables.specs.Halting.{Halts, LoopsAt}
 use Rattle.mh_tables.proofs.Finding.{one_loop}
-use Rattle.mh_outside.specs.Shelf.{Files, Found, found, NoFile, Long, Bytes}
-use Rattle.mh_top.specs.Text.{Text, too_many_states, not_plain}
+use Rattle.mh_outside.specs.Shelf.{Files}
+use Rattle.mh_top.specs.Text.{Text, too_many_states}
 use Rattle.mh_top.specs.Causes.{Staged, Go, Halt}
 use Rattle.mh_top.specs.Order.{order_of}
-use Rattle.mh_top.specs.Verdicts.{token_names}
+use Rattle.mh_top.specs.Sentences.{token_names}
 use Rattle.mh_reader.proofs.Lines.{line_once, one_module}
-use Rattle.mh_reader.specs.declared.modules.Module.{Module}
 use Rattle.mh_top.specs.ModuleGrammars.{IsPlain}
 use Rattle.mh_top.specs.GrammarStage.{GrammarOf, IsGrammarStage, IsSyntaxFault, IsNotPlain, syntax_error}
 use Rattle.mh_top.specs.TableStage.{HasTooMany, HasTable, LoopsFirst, IsTableStage, loops_line}
-use Rattle.mh_top.specs.Work.{Work, Then, IsWork, IsWorkOfOrder, IsWorkOfFile, IsWorkOfGrammar, IsWorkOfTable, halted, loaded, loaded_from, file_limit}
-use Rattle.mh_top.specs.declared.order.Order.{Order}
+use Rattle.mh_top.specs.Work.{Work, Then, IsWork, IsWorkOfOrder, IsWorkOfFile, IsWorkOfGrammar, IsWorkOfTable, loaded}
 use Rattle.mh_top.specs.declared.stop.Cause.{Cause}
-use Rattle.mh_top.specs.declared.stop.Cause.TheVariants.{Refused}
 
 -- ---- a table
 

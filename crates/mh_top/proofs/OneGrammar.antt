@@ -20,7 +20,7 @@ use Rattle.mh_reader.specs.declared.modules.Module.{Module}
 use Rattle.mh_reader.proofs.Lines.{one_module}
 use Rattle.mh_top.specs.ModuleGrammars.{IsGrammarOfModule}
 use Rattle.mh_top.specs.GrammarStage.{GrammarOf}
-use Rattle.mh_top.proofs.PlainModules.{zip_once, IsFunction, file_once}
+use Rattle.mh_top.proofs.PlainModules.{zip_once, file_once}
 use Rattle.mh_top.proofs.Ranging.{firsts_there}
 
 -- ---- lists

@@ -1,11 +1,10 @@
 -- What a module means: words, rules, and the map of aliases.
-use Rattle.std.proofs.Common.{◌≡◌, ◌≢◌, ◌⊎◌, ℕ, ◌+◌, ◌<◌, Bool, true, false, List, [], ◌∷◌, ◌++◌, Option, Some, None, Result, Ok, Err, length, get_or, take, drop, refl, sym, ap, ap₂, subst, ◌∙◌, inl, inr, map, true≢false, append_assoc, arith, Vec}
-use Rattle.std.specs.List.{slice_get, AllZip, Contains}
+use Rattle.std.proofs.Common.{◌≡◌, ◌≢◌, ◌⊎◌, ℕ, ◌+◌, ◌<◌, Bool, true, false, List, [], ◌∷◌, ◌++◌, Some, None, Result, Ok, Err, length, get_or, take, drop, refl, sym, ap, ap₂, subst, ◌∙◌, inl, inr, true≢false, append_assoc, arith, Vec}
+use Rattle.std.specs.List.{AllZip}
 use Rattle.std.specs.Result.{is_err, OnOk}
 use Rattle.std.specs.Map.{lookup}
 use Rattle.std.specs.Str.{bytes_eq}
 use Rattle.std.specs.declared.alloc.Global.{Global}
-use Rattle.std.proofs.lemmas.List.{map-append}
 use Rattle.std.proofs.lemmas.List.Elements.{Contains-push_cases}
 use Rattle.std.proofs.lemmas.Slice.Eq.{bytes_eq-Decides}
 use Rattle.mh_reader.specs.declared.modules.Ref.{Ref}
@@ -21,7 +20,7 @@ use Rattle.mh_top.specs.declared.plain.files.PlainFault.{PlainFault}
 use Rattle.mh_top.specs.declared.plain.files.PlainFault.TheVariants as faults
 use Rattle.mh_top.specs.PlainModules.{StandsFor, HaveOneToken, IsNameOf, IsWordOf, AreWordsOf, IsRuleOf, IsFileOf, HoldsAliases, PutsAlias, Clashes, AliasEntries, token_by, Means}
 use Rattle.mh_grammar.proofs.Placing.{get_left, get_last, contains_at, at_contains}
-use Rattle.mh_top.proofs.PlainRules.{split_item, take_item}
+use Rattle.mh_top.proofs.PlainRules.{split_item}
 
 -- ---- what means nothing
 

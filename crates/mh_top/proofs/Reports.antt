@@ -1,15 +1,15 @@
 -- The last line on err.
-use Rattle.std.proofs.Common.{◌≡◌, ◌⊎◌, inl, inr, ◌≤◌, ◌+◌, ◌-◌, ◌^◌, min, ℕ, List, [], ◌∷◌, ◌++◌, Option, None, Some, refl, sym, ◌∙◌, ap, subst, append_assoc, arith}
+use Rattle.std.proofs.Common.{◌≡◌, ◌⊎◌, inl, inr, ℕ, [], ◌++◌, Option, None, Some, refl, sym, ◌∙◌, ap, subst, append_assoc, arith}
 use Rattle.std.proofs.lemmas.List.{append-nil}
-use Rattle.std.specs.Prelude.{Result, Ok, Err, ⊤}
+use Rattle.std.specs.Prelude.{Err}
 use Rattle.std.specs.Io.KnownBytes.{Appends}
 use Rattle.mh_outside.specs.Faults.{Rose}
 use Rattle.mh_outside.specs.Sink.{IsPrefix, AppendsPrefix}
 use Rattle.mh_outside.proofs.Pieces.{Appends-append}
 use Rattle.mh_top.specs.Text.{Text, cannot_read_input, out_of_memory}
-use Rattle.mh_top.specs.Causes.{status_of, code_of}
-use Rattle.mh_top.specs.Work.{Work, Plan, Ends, AsksEach, Outcome, Gives}
-use Rattle.mh_top.specs.Run.{World, Worked, Ran, Finished, CannotReadFile, CannotReadInput, CannotWrite, NoMemory, Does, Parts, PartsWith, WroteNothing, WroteParts, IsOutPart, EndsSo, IsQuiet, Holds, HoldsLines, IsLastLine, OfNone, OfWork, OfFile, OfInput, OfMemory, LastLine, Reported, Said, Failed, Says, MayEnd, Lined, CutLined}
+use Rattle.mh_top.specs.Causes.{status_of}
+use Rattle.mh_top.specs.Work.{Work, Plan, Ends, AsksEach}
+use Rattle.mh_top.specs.Run.{World, Worked, Ran, Finished, CannotReadFile, CannotReadInput, CannotWrite, NoMemory, Parts, PartsWith, IsOutPart, EndsSo, Holds, HoldsLines, OfNone, OfWork, OfFile, OfInput, OfMemory, LastLine, Reported, Said, Failed, Says, MayEnd, Lined, CutLined}
 use Rattle.mh_top.specs.declared.stop.Cause.{Cause}
 use Rattle.mh_top.specs.declared.stop.Stop.{Stop}
 use Rattle.mh_top.specs.declared.stop.Stop.TheVariants.{Halted, ShelfFailed, InputFailed, WriteFailed, OutOfMemory}

@@ -1,18 +1,17 @@
 -- The loop that answers each line, after some lines.
-use Rattle.std.proofs.Common.{◌≡◌, ◌≢◌, ◌⊎◌, ◌↔◌, inl, inr, ◌<◌, ◌≤◌, ◌+◌, ◌-◌, ℕ, zero, suc, true, false, List, [], ◌∷◌, ◌++◌, length, Option, None, Some, refl, sym, ◌∙◌, ap, subst, arith, get_or, append_assoc}
+use Rattle.std.proofs.Common.{◌≡◌, ◌↔◌, inl, inr, ◌<◌, ◌≤◌, ◌+◌, ℕ, suc, true, false, List, [], ◌∷◌, ◌++◌, length, Option, None, Some, refl, sym, ◌∙◌, ap, subst, arith, append_assoc}
 use Rattle.std.proofs.lemmas.List.{append-nil}
-use Rattle.std.specs.Prelude.{Vec, Result, Ok, Err, ⊤}
-use Rattle.std.specs.declared.alloc.Global.{Global}
-use Rattle.std.specs.Io.KnownBytes.{Appends, Consumes, Keeps, IsAtEnd}
+use Rattle.std.specs.Prelude.{Ok, Err}
+use Rattle.std.specs.Io.KnownBytes.{Appends, Keeps, IsAtEnd}
 use Rattle.mh_outside.specs.Lines.{HasNoEnd, ReadsLine, TakesLine, Loses}
-use Rattle.mh_outside.specs.Sink.{IsPrefix, AppendsPrefix}
+use Rattle.mh_outside.specs.Sink.{IsPrefix}
 use Rattle.mh_outside.proofs.Pieces.{Appends-append}
 use Rattle.mh_outside.specs.declared.lines.LineFault.{LineFault}
 use Rattle.mh_outside.specs.declared.lines.LineFault.TheVariants as line_faults
 use Rattle.mh_top.specs.Text.{Text, too_big_input}
 use Rattle.mh_top.specs.Stages.{Halts}
 use Rattle.mh_top.specs.Lines.{split, asked, is_small}
-use Rattle.mh_top.specs.Each.{Asks, AsksFirst, IsPart, FirstLines, GotBefore, GotLines, Finishes, Answered, AnsweredGot, AnsweredPart, EachRan, AnswersLine, LineRan, StopIs}
+use Rattle.mh_top.specs.Each.{Asks, AsksFirst, IsPart, GotLines, Finishes, EachRan, AnswersLine, LineRan, StopIs}
 use Rattle.mh_top.specs.declared.stop.Cause.TheVariants.{TooBig}
 use Rattle.mh_top.specs.declared.stop.Stop.{Stop}
 use Rattle.mh_top.specs.declared.stop.Stop.TheVariants.{Halted, ShelfFailed, InputFailed, WriteFailed, OutOfMemory}

@@ -1,6 +1,6 @@
 -- Each stage of the work, as it halts and as it goes on.
-use Rattle.std.proofs.Common.{◌≡◌, ℕ, List, [], Option, None, Some, refl, sym, ◌∙◌, subst}
-use Rattle.std.specs.Prelude.{Result, Ok, Err, ⊤}
+use Rattle.std.proofs.Common.{◌≡◌, ℕ, List, [], Option, None, Some, refl, sym, subst}
+use Rattle.std.specs.Prelude.{Result, Err}
 use Rattle.std.specs.Io.KnownBytes.{Appends}
 use Rattle.std.proofs.lemmas.List.{append-nil}
 use Rattle.mh_grammar.specs.declared.types.Grammar.{Grammar}
@@ -13,8 +13,9 @@ use Rattle.mh_top.specs.Stages.{StageHas, StageIs}
 use Rattle.mh_top.specs.GrammarStage.{IsGrammarStage}
 use Rattle.mh_top.specs.TableStage.{IsTableStage}
 use Rattle.mh_top.specs.Each.{EachRan, EachCounts}
-use Rattle.mh_top.specs.Verdicts.{AreVerdicts, token_names}
-use Rattle.mh_top.specs.Work.{Work, Verdicts, Over, Then, IsWork, IsWorkOfOrder, IsWorkOfFile, IsWorkOfGrammar, IsWorkOfTable, halted, line_limit, max_lines}
+use Rattle.mh_top.specs.Sentences.{vocabulary_of}
+use Rattle.mh_top.specs.Verdicts.{AreVerdicts}
+use Rattle.mh_top.specs.Work.{Verdicts, Over, IsWorkOfOrder, IsWorkOfFile, IsWorkOfGrammar, IsWorkOfTable, line_limit, max_lines}
 use Rattle.mh_top.specs.Run.{World, Worked, MayEnd}
 use Rattle.mh_top.specs.Claims.{AskedBy, FileOf}
 use Rattle.mh_top.specs.declared.order.Order.{Order}
@@ -51,6 +52,6 @@ pub table_on : (g : Grammar) (t : TableData) (b a : World) (r : Result (Unit {0}
 table_on g t b a r is worked = wider (IsWorkOfTable g t) (IsWorkOfGrammar g) (λ line. ⊥) (λ line. ⊥) (λ w here. (Go t, is, here)) (λ line none. none) b a r worked
 
 -- the verdicts of the lines
-pub verdicts_ran : (g : Grammar) (t : TableData) (b : World) (left out : Option Text) (n m : ℕ) (r : Result (Unit {0}) Stop) → EachRan line_limit max_lines (AreVerdicts (token_names g) t) b.left left b.out out r → EachCounts b.input_faults n b.out_faults m r
+pub verdicts_ran : (g : Grammar) (t : TableData) (b : World) (left out : Option Text) (n m : ℕ) (r : Result (Unit {0}) Stop) → EachRan line_limit max_lines (AreVerdicts (vocabulary_of g) t) b.left left b.out out r → EachCounts b.input_faults n b.out_faults m r
     → Worked (IsWorkOfTable g t) (λ line. ⊥) b (record b { left = left; input_faults = n; out = out; out_faults = m }) r
 verdicts_ran g t b left out n m r ran counts = each_ran b (record b { left = left; input_faults = n; out = out; out_faults = m }) [] (Verdicts g t) (Appends-nil b.err) refl refl r ran counts

@@ -1,24 +1,22 @@
 -- How the stages of the work go on.
-use Rattle.std.proofs.Common.{◌≡◌, ◌⊎◌, inl, inr, ◌≤◌, ℕ, true, false, List, [], ◌∷◌, ◌++◌, Option, None, Some, refl, sym, ◌∙◌, ap, subst, ap₂, append_assoc, ◌&&◌, not, codes}
+use Rattle.std.proofs.Common.{◌≡◌, inl, inr, ℕ, true, false, List, [], ◌∷◌, ◌++◌, Option, None, Some, refl, sym, ◌∙◌, ap, subst, ap₂, ◌&&◌, not, codes}
 use Rattle.std.proofs.lemmas.List.{append-nil}
-use Rattle.std.specs.Prelude.{Bool, if◌then◌else◌, Result, Ok, Err, ⊤}
+use Rattle.std.specs.Prelude.{Bool, if◌then◌else◌, Result, Ok, Err}
 use Rattle.std.specs.Io.KnownBytes.{Appends}
-use Rattle.mh_outside.specs.Faults.{Rose}
 use Rattle.mh_outside.specs.Shelf.{Files}
 use Rattle.mh_outside.specs.Sink.{IsPrefix}
 use Rattle.mh_top.specs.Text.{Text, bad_words, too_big_input, cannot_read}
-use Rattle.mh_top.specs.Lines.{split, asked, is_small}
 use Rattle.mh_top.specs.Causes.{Staged, Go, Halt}
 use Rattle.std.specs.Str.{bytes_eq}
 use Rattle.mh_top.specs.Order.{order_of, is_dashed}
 use Rattle.mh_top.specs.Stages.{StageHas}
 use Rattle.mh_top.specs.Load.{LoadHas, LoadCounts}
-use Rattle.mh_top.specs.Each.{Answered, AnsweredGot, AnsweredPart, EachRan, EachCounts, Finishes}
-use Rattle.mh_top.specs.Work.{Plan, Ends, AsksEach, Answering, Answers, Work, Outcome, Gives, GivesEach, Over, Then, IsWork, IsWorkOfOrder, IsWorkOfFile, halted, loaded, left_behind, line_limit, max_lines}
-use Rattle.mh_top.specs.Run.{World, Worked, Parts, PartsWith, WroteNothing, WroteParts, EndsSo, IsQuiet, Holds, LeftIs, MayEnd}
+use Rattle.mh_top.specs.Each.{Answered, AnsweredPart, EachRan, EachCounts, Finishes}
+use Rattle.mh_top.specs.Work.{AsksEach, Answering, Answers, Work, Over, Then, IsWork, IsWorkOfOrder, IsWorkOfFile, halted, loaded, left_behind, line_limit, max_lines}
+use Rattle.mh_top.specs.Run.{World, Worked, Parts, EndsSo, IsQuiet, LeftIs, MayEnd}
 use Rattle.mh_top.specs.declared.order.Order.{Order}
 use Rattle.mh_top.specs.declared.stop.Cause.{Cause}
-use Rattle.mh_top.specs.declared.stop.Cause.TheVariants.{Refused, Misused, Missing, TooBig}
+use Rattle.mh_top.specs.declared.stop.Cause.TheVariants.{Refused, Misused, TooBig}
 use Rattle.mh_top.specs.declared.stop.Stop.{Stop}
 use Rattle.mh_top.specs.declared.stop.Stop.TheVariants.{Halted, ShelfFailed, InputFailed, WriteFailed, OutOfMemory}
 

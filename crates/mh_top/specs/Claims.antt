@@ -1,9 +1,9 @@
 -- What the top call promises, one claim at a time.
-use Rattle.std.specs.Prelude.{◌≡◌, ◌⊎◌, ℕ, List, [], ◌++◌, Option, Some, None, false, ⊤}
+use Rattle.std.specs.Prelude.{◌≡◌, ◌⊎◌, ℕ, List, [], Option, Some, None, false, ⊤}
 use Rattle.std.specs.Io.KnownBytes.{Appends}
 use Rattle.mh_outside.specs.Faults.{Rose, IsCalm}
 use Rattle.mh_outside.specs.Shelf.{Files, Found, found, NoFile, Long}
-use Rattle.mh_top.specs.Text.{Text, bad_words, cannot_read, cannot_read_input}
+use Rattle.mh_top.specs.Text.{Text, cannot_read, cannot_read_input}
 use Rattle.mh_top.specs.Lines.{split, is_small}
 use Rattle.mh_top.specs.Causes.{Go, Halt}
 use Rattle.mh_top.specs.Order.{order_of}

@@ -10,8 +10,8 @@ use Rattle.mh_tables.specs.Table.{TableData}
 use Rattle.mh_run.specs.Exactness.{IsPrefixSentence, AllProductive}
 use Rattle.mh_outside.specs.Shelf.{Files}
 use Rattle.mh_top.specs.Text.{Text}
-use Rattle.mh_top.specs.Sentences.{IsSentence, sentence_in}
-use Rattle.mh_top.specs.Verdicts.{LineText, token_names}
+use Rattle.mh_top.specs.Sentences.{IsSentence, sentence_in, vocabulary_of}
+use Rattle.mh_top.specs.Verdicts.{LineText}
 use Rattle.mh_top.specs.Work.{interpreting}
 use Rattle.mh_top.specs.Claims.{AskedBy}
 
@@ -26,8 +26,8 @@ pub record AnswersSentence (words : List Text) (files : Option Files) (g : Gramm
   pub table : TableData
   pub asked : AskedBy words files (interpreting g table)
   pub line : Text
-  pub sentence : sentence_in (token_names g) line ≡ IsSentence s
-  pub answer : LineText (token_names g) table line text
+  pub sentence : sentence_in (vocabulary_of g) line ≡ IsSentence s
+  pub answer : LineText (vocabulary_of g) table line text
 
 -- By a grammar that is LR(1), ACCEPT answers exactly the lines whose tokens, or the first of them, are a sentence.
 abbrev pub AcceptsExactly : List Text → Option Files → Type 0

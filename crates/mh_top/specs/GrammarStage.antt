@@ -1,5 +1,5 @@
 -- The grammar of a file.
-use Rattle.std.specs.Prelude.{◌≡◌, ◌⊎◌, ◌++◌, ℕ, List, codes, decimal}
+use Rattle.std.specs.Prelude.{◌≡◌, ◌⊎◌, ◌++◌, ℕ, codes, decimal}
 use Rattle.mh_grammar.specs.declared.types.Grammar.{Grammar}
 use Rattle.mh_reader.specs.declared.modules.Module.{Module}
 use Rattle.mh_reader.specs.Spelling.{Spells}
@@ -7,7 +7,6 @@ use Rattle.mh_reader.specs.Faults.{IsSyntaxLine}
 use Rattle.mh_top.specs.Text.{Text, not_plain}
 use Rattle.mh_top.specs.Causes.{Staged, Go, Halt}
 use Rattle.mh_top.specs.ModuleGrammars.{IsGrammarOfModule, IsPlain}
-use Rattle.mh_top.specs.declared.stop.Cause.{Cause}
 use Rattle.mh_top.specs.declared.stop.Cause.TheVariants.{Refused}
 
 -- the bytes spell a module, which means this grammar

@@ -4,7 +4,7 @@ use Rattle.std.specs.declared.alloc.Global.{Global}
 use Rattle.mh_outside.specs.Faults.{Rose}
 use Rattle.mh_outside.specs.Shelf.{Files}
 use Rattle.mh_top.specs.Text.{Text, cannot_read}
-use Rattle.mh_top.specs.Causes.{Staged, Go, Halt}
+use Rattle.mh_top.specs.Causes.{Go, Halt}
 use Rattle.mh_top.specs.Work.{Over, loaded}
 use Rattle.mh_top.specs.Run.{MayEnd}
 use Rattle.mh_top.specs.declared.stop.Stop.{Stop}

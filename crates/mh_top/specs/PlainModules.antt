@@ -1,6 +1,6 @@
 -- The plain file that a module means: one without levels, precedences, inlining and parameters, in which an alias stands
 -- for its token (the Menhir manual's reading of declarations and aliases; this project's profile).
-use Rattle.std.specs.Prelude.{◌≡◌, ◌≢◌, ℕ, Bool, false, List, [], ◌∷◌, ◌++◌, Some, None, Option, map, Result, Ok, Err, Vec, ⊤}
+use Rattle.std.specs.Prelude.{◌≡◌, ◌≢◌, ℕ, false, List, [], Some, None, Option, map, Result, Ok, Err, Vec, ⊤}
 use Rattle.std.specs.List.{AllZip, Contains}
 use Rattle.std.specs.Map.{lookup}
 use Rattle.std.specs.Str.{bytes_eq}

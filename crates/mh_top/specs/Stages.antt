@@ -1,12 +1,10 @@
 -- What the code of a stage answers, by what its definition gives.
-use Rattle.std.specs.Prelude.{◌≡◌, ℕ, ◌≤◌, List, Option, None, Some, Result, Ok, Err, ⊤}
-use Rattle.mh_outside.specs.Faults.{Rose}
-use Rattle.mh_outside.specs.Shelf.{Files}
-use Rattle.mh_top.specs.Text.{Text, cannot_read}
+use Rattle.std.specs.Prelude.{◌≡◌, Result, Ok, Err, ⊤}
+use Rattle.mh_top.specs.Text.{Text}
 use Rattle.mh_top.specs.Causes.{Staged, Go, Halt}
 use Rattle.mh_top.specs.declared.stop.Cause.{Cause}
 use Rattle.mh_top.specs.declared.stop.Stop.{Stop}
-use Rattle.mh_top.specs.declared.stop.Stop.TheVariants.{Halted, ShelfFailed, InputFailed, WriteFailed, OutOfMemory}
+use Rattle.mh_top.specs.declared.stop.Stop.TheVariants.{Halted, OutOfMemory}
 
 -- this end, or want of memory
 abbrev pub Halts : Cause → Text → Stop → Type 0

@@ -1,5 +1,5 @@
 -- The texts that the program writes on err.
-use Rattle.std.specs.Prelude.{ℕ, List, [], ◌∷◌, ◌++◌, codes}
+use Rattle.std.specs.Prelude.{ℕ, List, ◌++◌, codes}
 
 abbrev pub Text : Type 0
 Text = List ℕ

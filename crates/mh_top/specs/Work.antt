@@ -1,14 +1,14 @@
 -- The whole work: what the words ask for over some files. Stages that are given by relations make it a relation.
-use Rattle.std.specs.Prelude.{◌≡◌, ℕ, Bool, true, false, List, [], ◌∷◌, ◌++◌, length, map, if◌then◌else◌, Option, None, Some}
+use Rattle.std.specs.Prelude.{◌≡◌, ℕ, Bool, List, [], ◌++◌, if◌then◌else◌, Option, None, Some}
 use Rattle.mh_grammar.specs.declared.types.Grammar.{Grammar}
 use Rattle.mh_tables.specs.Table.{TableData}
 use Rattle.mh_outside.specs.Shelf.{Files, Found, found, NoFile, Long, Bytes}
 use Rattle.mh_top.specs.Text.{Text, cannot_read, too_big, too_big_input}
-use Rattle.mh_top.specs.Lines.{split, asked, is_small}
 use Rattle.mh_top.specs.Causes.{Staged, Go, Halt}
 use Rattle.mh_top.specs.Order.{order_of}
 use Rattle.mh_top.specs.Each.{Asks}
-use Rattle.mh_top.specs.Verdicts.{AreVerdicts, token_names}
+use Rattle.mh_top.specs.Sentences.{vocabulary_of}
+use Rattle.mh_top.specs.Verdicts.{AreVerdicts}
 use Rattle.mh_top.specs.GrammarStage.{IsGrammarStage}
 use Rattle.mh_top.specs.TableStage.{IsTableStage}
 use Rattle.mh_top.specs.declared.order.Order.{Order}
@@ -29,7 +29,7 @@ pub data Answering : Type 0 where
 
 -- the text that answers these lines
 abbrev pub Answers : Answering → List Text → Text → Type 0
-Answers (Verdicts g t) = AreVerdicts (token_names g) t
+Answers (Verdicts g t) = AreVerdicts (vocabulary_of g) t
 
 pub data Plan : Type 0 where
   Ends : Ending → Plan

@@ -40,7 +40,6 @@ pub(crate) fn grammar_in(alloc: Global, name: &[u8], bytes: &[u8]) -> Result<Gra
     requires { length bytes.now < 2 ^ 31 }
     ensures grammar { StageHas (IsGrammarStage name.now bytes.now) result }
     ensures range { IfOk result (λ grammar. IsInRange (plain_of grammar)) }
-    ensures start { IfOk result (λ grammar. 0 < length grammar.starts) }
 {
     match read_module(alloc, bytes) {
         Ok(made) => match grammar_of_module(alloc, &made) {

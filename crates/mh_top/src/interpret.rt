@@ -1,13 +1,13 @@
 //! The verdicts of the input's lines.
 ghost use Rattle.std.specs.Prelude.{◌≡◌, ◌<◌, ◌^◌, ◌++◌, List, ℕ, length, IfOk};
 ghost use Rattle.std.specs.List.{All};
-ghost use Rattle.mh_grammar.specs.Plain.{plain_of};
+ghost use Rattle.mh_grammar.specs.Plain.{plain_of, IsInRange};
 ghost use Rattle.mh_tables.specs.Run.{VerdictOf};
 ghost use Rattle.mh_run.specs.Verdicts.{ending_for};
 ghost use Rattle.mh_top.specs.Each.{EachRan, EachCounts};
 ghost use Rattle.mh_top.specs.Work.{line_limit, max_lines};
-ghost use Rattle.mh_top.specs.Sentences.{HasNumbers};
-ghost use Rattle.mh_top.specs.Verdicts.{AreVerdicts, LineText, token_names, verdict_text as verdict_line};
+ghost use Rattle.mh_top.specs.Sentences.{HasNumbers, vocabulary_of};
+ghost use Rattle.mh_top.specs.Verdicts.{AreVerdicts, LineText, verdict_text as verdict_line};
 
 use crate::each::{Answer, answer_each};
 use crate::sentence::{Lexicon, SentenceFault, read_sentence};
@@ -29,9 +29,8 @@ struct Verdicts {
     grammar: Grammar,
     lexicon: Lexicon,
     halting: Halting,
-    ghost numbers: { HasNumbers (token_names grammar) lexicon },
+    ghost numbers: { HasNumbers (vocabulary_of grammar) lexicon },
     ghost same: { halting.grammar ≡ plain_of grammar },
-    ghost start: { 0 < length grammar.starts },
 }
 
 /// The word for a verdict.
@@ -53,11 +52,10 @@ fn line_text(
     halting: &Halting,
     line: &[u8],
 ) -> Result<Vec<u8>, Memory>
-    requires numbers { HasNumbers (token_names grammar.now) lexicon.now }
+    requires numbers { HasNumbers (vocabulary_of grammar.now) lexicon.now }
     requires same { halting.now.grammar ≡ plain_of grammar.now }
-    requires start { 0 < length grammar.now.starts }
     requires short { length line.now < 2 ^ 32 }
-    ensures { IfOk result (λ text. LineText (token_names grammar.now) halting.now line.now text.items) }
+    ensures { IfOk result (λ text. LineText (vocabulary_of grammar.now) halting.now line.now text.items) }
 {
     match read_sentence(alloc, grammar, lexicon, line) {
         Ok(sentence) => {
@@ -65,6 +63,11 @@ fn line_text(
             Ok(verdict_text(verdict).to_vec(alloc)?)
         }
         Err(SentenceFault::Unreadable) => Ok(b"ERROR unreadable\n".to_vec(alloc)?),
+        Err(SentenceFault::UnknownStart { name }) => {
+            let text = joined(alloc, b"ERROR unknown start ", name.as_slice(), b"\n")?;
+            Ok(text.into_vec())
+        }
+        Err(SentenceFault::MissingStart) => Ok(b"ERROR missing start\n".to_vec(alloc)?),
         Err(SentenceFault::UnknownToken { name }) => {
             let text = joined(alloc, b"ERROR unknown token ", name.as_slice(), b"\n")?;
             Ok(text.into_vec())
@@ -74,9 +77,10 @@ fn line_text(
 }
 
 impl Answer for Verdicts {
-    ghost use Rattle.mh_top.specs.Verdicts.{AreVerdicts, token_names};
+    ghost use Rattle.mh_top.specs.Sentences.{vocabulary_of};
+    ghost use Rattle.mh_top.specs.Verdicts.{AreVerdicts};
 
-    ghost Answers = { λ s. AreVerdicts (token_names s.grammar) s.halting };
+    ghost Answers = { λ s. AreVerdicts (vocabulary_of s.grammar) s.halting };
 
     ghost no_line = { λ s text. (λ h. h, λ h. h) };
 
@@ -95,12 +99,12 @@ pub(crate) fn interpret<I: Source, O: Sink>(
     out: &mut O,
 ) -> Result<(), Stop>
     requires same { halting.grammar ≡ plain_of grammar }
-    requires start { 0 < length grammar.starts }
-    ensures ran { EachRan line_limit max_lines (AreVerdicts (token_names grammar) halting) (I.left input.old) (I.left input.new) (O.written out.old) (O.written out.new) result }
+    requires range { IsInRange (plain_of grammar) }
+    ensures ran { EachRan line_limit max_lines (AreVerdicts (vocabulary_of grammar) halting) (I.left input.old) (I.left input.new) (O.written out.old) (O.written out.new) result }
     ensures counts { EachCounts (I.faults input.old) (I.faults input.new) (O.faults out.old) (O.faults out.new) result }
 {
     halting.table().facts();
-    let Ok(lexicon) = Lexicon::new(alloc, grammar.tokens.as_slice()) else {
+    let Ok(lexicon) = Lexicon::new(alloc, &grammar) else {
         return Err(Stop::OutOfMemory);
     };
     let mut verdicts = Verdicts {

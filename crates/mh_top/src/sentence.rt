@@ -1,8 +1,8 @@
-//! Sentence lines: names of tokens with blanks between and around them.
-ghost use Rattle.std.specs.Prelude.{◌≡◌, ◌<◌, ◌≤◌, length, map, IfOk, OnOk};
+//! Sentence lines: a start, which may be left out where there is one, and names of tokens.
+ghost use Rattle.std.specs.Prelude.{◌≡◌, ◌<◌, ◌≤◌, length, map, Some, None, IfOk, OnOk};
 ghost use Rattle.std.specs.List.{list_all, All};
-ghost use Rattle.mh_top.specs.Sentences.{is_blank as is_blank_byte, begins_name as begins, goes_on_name as goes_on, is_name as is_name_text, blank_count, piece_size, pieces, FirstPiece, HasNumbers, PutsName, ReadsTokens, tokens_of, token_of, sentence_in, ReadsSentence};
-ghost use Rattle.mh_top.specs.Verdicts.{token_names};
+ghost use Rattle.mh_grammar.specs.Plain.{plain_of, IsInRange};
+ghost use Rattle.mh_top.specs.Sentences.{is_blank as is_blank_byte, begins_name as begins, goes_on_name as goes_on, is_name as is_name_text, blank_count, piece_size, colon_place, pieces, FirstPiece, IsSole, AreNumbers, HasNumbers, PutsName, FindsStart, StartIs, with_start, ReadsTokens, tokens_of, start_by, start_names, token_names, vocabulary_of, sentence_in, sentence_from, ReadsSentence};
 ghost use Rattle.mh_top.specs.declared.sentence.SentenceFault.TheVariants.{Memory as Memory'};
 
 use indexmap::IndexMap;
@@ -14,6 +14,10 @@ use std::alloc::{AllocError, AllocFailed, Global};
 pub(crate) enum SentenceFault {
     /// It has another form.
     Unreadable,
+    /// It names this start, which is none.
+    UnknownStart { name: Name },
+    /// It names no start, and there is not just one.
+    MissingStart,
     /// This is the first name that is no token's.
     UnknownToken { name: Name },
     Memory,
@@ -27,18 +31,19 @@ impl From<Memory> for SentenceFault {
     }
 }
 
-/// The numbers of the tokens, by their names.
+/// The numbers of the starts and of the tokens, by their names.
 #[derive(Drop)]
 pub(crate) struct Lexicon {
+    starts: IndexMap<Vec<u8>, u16>,
     tokens: IndexMap<Vec<u8>, Token>,
 }
 
 /// Puts in a name with its number, where it has none yet.
 fn put_name(
     alloc: Global,
-    numbers: &mut IndexMap<Vec<u8>, Token>,
+    numbers: &mut IndexMap<Vec<u8>, u16>,
     name: &[u8],
-    number: Token,
+    number: u16,
 ) -> Result<(), Memory>
     ensures { OnOk result (PutsName name.now number numbers.old.entries numbers.new.entries) }
 {
@@ -50,17 +55,45 @@ fn put_name(
     Ok(())
 }
 
+/// The numbers of tokens. Of two with one name the first counts.
+fn token_numbers(alloc: Global, tokens: &[TokenInfo]) -> Result<IndexMap<Vec<u8>, Token>, Memory>
+    requires { length tokens.now ≤ 65535 }
+    ensures { IfOk result (λ numbers. AreNumbers (map (λ token. token.name) tokens.now) numbers.entries) }
+{
+    let mut numbers = IndexMap::new(alloc);
+    for (number, token) in tokens.iter().enumerate() {
+        put_name(alloc, &mut numbers, token.name.as_slice(), number as Token)?;
+    }
+    Ok(numbers)
+}
+
+/// The numbers of the starts. Of two with one name the first counts.
+fn start_numbers(alloc: Global, grammar: &Grammar) -> Result<IndexMap<Vec<u8>, u16>, Memory>
+    requires { IsInRange (plain_of grammar.now) }
+    ensures { IfOk result (λ numbers. AreNumbers (start_names grammar.now) numbers.entries) }
+{
+    let mut numbers = IndexMap::new(alloc);
+    for (number, start) in grammar.starts.as_slice().iter().enumerate() {
+        let nonterminal = &grammar.nonterminals[usize::from(*start)];
+        put_name(
+            alloc,
+            &mut numbers,
+            nonterminal.name.as_slice(),
+            number as u16,
+        )?;
+    }
+    Ok(numbers)
+}
+
 impl Lexicon {
-    /// The numbers of tokens. Of two with one name the first counts.
-    pub(crate) fn new(alloc: Global, tokens: &[TokenInfo]) -> Result<Lexicon, Memory>
-        requires { length tokens.now ≤ 65535 }
-        ensures { IfOk result (HasNumbers (map (λ token. token.name) tokens.now)) }
+    /// The numbers of a grammar's starts and tokens.
+    pub(crate) fn new(alloc: Global, grammar: &Grammar) -> Result<Lexicon, Memory>
+        requires { IsInRange (plain_of grammar.now) }
+        ensures { IfOk result (HasNumbers (vocabulary_of grammar.now)) }
     {
-        let mut numbers = IndexMap::new(alloc);
-        for (number, token) in tokens.iter().enumerate() {
-            put_name(alloc, &mut numbers, token.name.as_slice(), number as Token)?;
-        }
-        Ok(Lexicon { tokens: numbers })
+        let starts = start_numbers(alloc, grammar)?;
+        let tokens = token_numbers(alloc, grammar.tokens.as_slice())?;
+        Ok(Lexicon { starts, tokens })
     }
 }
 
@@ -127,6 +160,21 @@ fn size_of_piece(bytes: &[u8]) -> usize
     count
 }
 
+/// How many bytes stand before the first colon.
+fn place_of_colon(bytes: &[u8]) -> usize
+    ensures value { result ≡ colon_place bytes.now }
+    ensures within { result ≤ length bytes.now }
+{
+    let mut count = 0usize;
+    for byte in bytes {
+        if *byte == b':' {
+            return count;
+        }
+        count += 1;
+    }
+    count
+}
+
 /// The first piece between blanks, with what stands behind it.
 fn first_piece(bytes: &[u8]) -> Option<(&[u8], &[u8])>
     ensures { FirstPiece bytes.now result }
@@ -135,6 +183,19 @@ fn first_piece(bytes: &[u8]) -> Option<(&[u8], &[u8])>
     match size_of_piece(text) {
         0 => None,
         size => Some(text.split_at(size)),
+    }
+}
+
+/// The name that stands alone, with blanks round it.
+fn sole_name(bytes: &[u8]) -> Option<&[u8]>
+    ensures { IsSole bytes.now result }
+{
+    match first_piece(bytes) {
+        None => None,
+        Some((name, rest)) => match first_piece(rest) {
+            Some(_) => None,
+            None => if is_name(name) { Some(name) } else { None },
+        },
     }
 }
 
@@ -159,7 +220,7 @@ fn read_tokens(
     lexicon: &Lexicon,
     line: &[u8],
 ) -> Result<Vec<Token>, SentenceFault>
-    requires { HasNumbers (token_names grammar.now) lexicon.now }
+    requires { AreNumbers (token_names grammar.now) lexicon.now.tokens.entries }
     ensures tokens { ReadsTokens (tokens_of (token_names grammar.now) (pieces line.now)) result }
     ensures few { IfOk result (λ tokens. length tokens.items ≤ length line.now) }
 {
@@ -183,25 +244,121 @@ fn read_tokens(
     Ok(tokens)
 }
 
-/// The sentence that a line names, of the first start. `Unreadable` comes before `UnknownToken`.
+/// The number of the start of this name.
+fn find_start(
+    alloc: Global,
+    grammar: &Grammar,
+    lexicon: &Lexicon,
+    name: &[u8],
+) -> Result<u16, SentenceFault>
+    requires { AreNumbers (start_names grammar.now) lexicon.now.starts.entries }
+    ensures { FindsStart (start_by (start_names grammar.now) (Some name.now)) result }
+{
+    let _starts = &grammar.starts;
+    let _names = &grammar.nonterminals;
+    match lexicon.starts.get(name) {
+        Some(start) => Ok(*start),
+        None => {
+            let name = from_bytes(alloc, name)?;
+            Err(SentenceFault::UnknownStart { name })
+        }
+    }
+}
+
+/// The only start.
+fn only_start(grammar: &Grammar) -> Result<u16, SentenceFault>
+    ensures { FindsStart (start_by (start_names grammar.now) None) result }
+{
+    let _names = &grammar.nonterminals;
+    if grammar.starts.len() == 1 {
+        Ok(0)
+    } else {
+        Err(SentenceFault::MissingStart)
+    }
+}
+
+/// The sentence of these names of tokens, by this start.
+fn with_tokens(
+    alloc: Global,
+    grammar: &Grammar,
+    lexicon: &Lexicon,
+    start: u16,
+    names: &[u8],
+) -> Result<Sentence, SentenceFault>
+    requires { HasNumbers (vocabulary_of grammar.now) lexicon.now }
+    ensures sentence { ReadsSentence (with_start (StartIs start) (tokens_of (token_names grammar.now) (pieces names.now))) result }
+    ensures few { IfOk result (λ sentence. length sentence.tokens ≤ length names.now) }
+{
+    match read_tokens(alloc, grammar, lexicon, names) {
+        Ok(tokens) => Ok(Sentence {
+            start,
+            tokens: Sequence::from_vec(tokens),
+        }),
+        Err(fault) => Err(fault),
+    }
+}
+
+/// The sentence of these names of tokens, by the start of this name.
+fn named_sentence(
+    alloc: Global,
+    grammar: &Grammar,
+    lexicon: &Lexicon,
+    name: &[u8],
+    names: &[u8],
+) -> Result<Sentence, SentenceFault>
+    requires { HasNumbers (vocabulary_of grammar.now) lexicon.now }
+    ensures sentence { ReadsSentence (sentence_from (vocabulary_of grammar.now) (Some name.now) names.now) result }
+    ensures few { IfOk result (λ sentence. length sentence.tokens ≤ length names.now) }
+{
+    if !is_readable(names) {
+        return Err(SentenceFault::Unreadable);
+    }
+    match find_start(alloc, grammar, lexicon, name) {
+        Ok(start) => with_tokens(alloc, grammar, lexicon, start, names),
+        Err(fault) => Err(fault),
+    }
+}
+
+/// The sentence of these names of tokens, by the only start.
+fn unnamed_sentence(
+    alloc: Global,
+    grammar: &Grammar,
+    lexicon: &Lexicon,
+    names: &[u8],
+) -> Result<Sentence, SentenceFault>
+    requires { HasNumbers (vocabulary_of grammar.now) lexicon.now }
+    ensures sentence { ReadsSentence (sentence_from (vocabulary_of grammar.now) None names.now) result }
+    ensures few { IfOk result (λ sentence. length sentence.tokens ≤ length names.now) }
+{
+    if !is_readable(names) {
+        return Err(SentenceFault::Unreadable);
+    }
+    match only_start(grammar) {
+        Ok(start) => with_tokens(alloc, grammar, lexicon, start, names),
+        Err(fault) => Err(fault),
+    }
+}
+
+/// The sentence of a line: names of tokens, with blanks between and round them, behind a start and a colon. The start
+/// may be left out with the colon where there is just one. `Unreadable` comes for another form, then `UnknownStart` or
+/// `MissingStart`, then `UnknownToken` for the first name that is no token's. `Memory` only where there was none.
 pub(crate) fn read_sentence(
     alloc: Global,
     grammar: &Grammar,
     lexicon: &Lexicon,
     line: &[u8],
 ) -> Result<Sentence, SentenceFault>
-    requires { HasNumbers (token_names grammar.now) lexicon.now }
-    ensures sentence { ReadsSentence (sentence_in (token_names grammar.now) line.now) result }
+    requires { HasNumbers (vocabulary_of grammar.now) lexicon.now }
+    ensures sentence { ReadsSentence (sentence_in (vocabulary_of grammar.now) line.now) result }
     ensures few { IfOk result (λ sentence. length sentence.tokens ≤ length line.now) }
 {
-    if !is_readable(line) {
-        return Err(SentenceFault::Unreadable);
-    }
-    match read_tokens(alloc, grammar, lexicon, line) {
-        Ok(tokens) => Ok(Sentence {
-            start: 0,
-            tokens: Sequence::from_vec(tokens),
-        }),
-        Err(fault) => Err(fault),
+    let place = place_of_colon(line);
+    if place < line.len() {
+        match sole_name(&line[..place]) {
+            Some(name) => named_sentence(alloc, grammar, lexicon, name, &line[place + 1..]),
+            None => Err(SentenceFault::Unreadable),
+        }
+    } else {
+        unnamed_sentence(alloc, grammar, lexicon, line)
     }
 }

@@ -182,8 +182,13 @@ fn grammars_that_are_refused(rt: HostRuntime) -> Result<(), Fail> {
 #[test]
 fn grammars_in_other_words(rt: HostRuntime) -> Result<(), Fail> {
     let alloc = rt.alloc();
-    let table: [(&[u8], &[u8], &[u8]); 4] = [
+    let table: [(&[u8], &[u8], &[u8]); 5] = [
         (CODE, b"A EOF\n", b"ACCEPT\n"),
+        (
+            b"%token A %token B %start s %start t %% s: A {} t: B {}",
+            b"s:A\nt : B\nt:A\n",
+            b"ACCEPT\nACCEPT\nREJECT\n",
+        ),
         (
             b"%token A B EOF %start s %% s: A EOF {}",
             b"B\nA B\n",
@@ -198,6 +203,42 @@ fn grammars_in_other_words(rt: HostRuntime) -> Result<(), Fail> {
             b"%{ h %} %token <int> A [@cost 2] %token EOF %start <u> s %% %public s: | a EOF {} a: A {} %% }",
             b"A EOF\nEOF\n",
             b"ACCEPT\nREJECT\n",
+        ),
+    ];
+    for (file, input, text) in &table {
+        let got = verdicts(alloc, *file, *input, &NONE)?;
+        assert_eq!(rt; got.status, 0);
+        assert_eq!(rt; got.out.as_slice(), *text);
+    }
+    Ok(())
+}
+
+/// A grammar with two starts.
+const TWO_STARTS: &[u8] = b"%token A B C D\n%start p q\n%%\np: x A {}\nq: x B {}\nx: C D {}\n";
+
+#[test]
+fn sentences_with_starts(rt: HostRuntime) -> Result<(), Fail> {
+    let alloc = rt.alloc();
+    let table: [(&[u8], &[u8], &[u8]); 4] = [
+        (
+            TWO_STARTS,
+            b"C D A\np : C D A\nr: C\n",
+            b"ERROR missing start\nACCEPT\nERROR unknown start r\n",
+        ),
+        (
+            TWO_STARTS,
+            b"q:C D B\n\tq\r:C D A\nq:\np: C Z D Y\n\n",
+            b"ACCEPT\nREJECT\nOVERSHOOT\nERROR unknown token Z\nERROR missing start\n",
+        ),
+        (
+            TWO_STARTS,
+            b"r: Z 1\nr: Z\nC 1\nZ\np q: C\np: q: C\n: C\np:: C\n",
+            b"ERROR unreadable\nERROR unknown start r\nERROR unreadable\nERROR missing start\nERROR unreadable\nERROR unreadable\nERROR unreadable\nERROR unreadable\n",
+        ),
+        (
+            ONE_SENTENCE,
+            b"s:A EOF\ns: \nA:EOF\nA EOF\n",
+            b"ACCEPT\nOVERSHOOT\nERROR unknown start A\nACCEPT\n",
         ),
     ];
     for (file, input, text) in &table {

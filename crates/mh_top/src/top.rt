@@ -29,7 +29,7 @@ fn work_on_table<F: Shelf, I: Source, O: Sink, E: Sink>(
     _err: &mut E,
 ) -> Result<(), Stop>
     requires same { halting.grammar ≡ plain_of grammar }
-    requires start { 0 < length grammar.starts }
+    requires range { IsInRange (plain_of grammar) }
     ensures { Worked (IsWorkOfTable grammar halting) (λ line. ⊥)
         (world F.files F.faults I.left I.faults O.written O.faults E.written E.faults _shelf.old input.old out.old _err.old)
         (world F.files F.faults I.left I.faults O.written O.faults E.written E.faults _shelf.new input.new out.new _err.new)
@@ -48,7 +48,6 @@ fn work_on_grammar<F: Shelf, I: Source, O: Sink, E: Sink>(
     err: &mut E,
 ) -> Result<(), Stop>
     requires range { IsInRange (plain_of grammar) }
-    requires start { 0 < length grammar.starts }
     ensures { Worked (IsWorkOfGrammar grammar) (λ line. ⊥)
         (world F.files F.faults I.left I.faults O.written O.faults E.written E.faults shelf.old input.old out.old err.old)
         (world F.files F.faults I.left I.faults O.written O.faults E.written E.faults shelf.new input.new out.new err.new)

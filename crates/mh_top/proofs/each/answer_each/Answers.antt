@@ -1,4 +1,4 @@
-use Rattle.std.proofs.Common.{◌≡◌, List, ℕ, ◌++◌, ◌-◌, ◌+◌, length, arith, suc, refl, ◌∙◌, subst, rules}
+use Rattle.std.proofs.Common.{◌≡◌, ◌-◌, ◌+◌, arith, suc, refl, rules}
 use Rattle.mh_top.proofs.SoFar.{started, one_more, ends, too_much, faults, cut_short, long_line, past_bytes, past_line, none_left}
 use Rattle.mh_top.proofs.each.answer_each.Goals as goal
 

@@ -1,4 +1,3 @@
-use Rattle.std.proofs.Common.{rules, ◌≡◌, ℕ, List}
 use Rattle.mh_top.proofs.Loads.{loads, loads_short, is_too_big}
 use Rattle.mh_top.proofs.load.load.Goals as goal
 

@@ -1,4 +1,4 @@
-use Rattle.std.proofs.Common.{◌≡◌, ℕ, ◌+◌, drop}
+use Rattle.std.proofs.Common.{◌≡◌, ◌+◌, drop}
 use Rattle.mh_top.specs.Sentences.{blank_count}
 use Rattle.mh_top.proofs.sentence.count_blanks.Given as goal
 

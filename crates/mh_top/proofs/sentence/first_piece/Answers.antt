@@ -1,5 +1,4 @@
-use Rattle.std.proofs.Common.{◌≡◌, ◌<◌, ◌≤◌, length, ℕ, List, ◌∷◌, [], take, drop, arith, refl, sym, ◌∙◌, ap}
-use Rattle.mh_top.specs.Sentences.{pieces, blank_count, piece_size, FirstPiece}
+use Rattle.std.proofs.Common.{arith}
 use Rattle.mh_top.proofs.Fields.{first_none, first_some}
 use Rattle.mh_top.proofs.sentence.first_piece.Goals as goal
 

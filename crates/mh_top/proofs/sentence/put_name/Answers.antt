@@ -1,4 +1,4 @@
-use Rattle.std.proofs.Common.{◌≡◌, List, ℕ, ◌∙◌, sym, Bor}
+use Rattle.std.proofs.Common.{◌∙◌, sym}
 use Rattle.indexmap.proofs.CallerLemmas.{insert_entry-new}
 use Rattle.mh_top.proofs.Lexicons.{name_put, copied_none}
 use Rattle.mh_top.proofs.sentence.put_name.Goals as goal

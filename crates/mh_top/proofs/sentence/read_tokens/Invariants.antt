@@ -1,6 +1,5 @@
 use Rattle.std.proofs.Common.{◌≡◌, ◌+◌, ◌≤◌, length}
-use Rattle.mh_top.specs.Verdicts.{token_names}
-use Rattle.mh_top.specs.Sentences.{pieces, tokens_of, behind_tokens}
+use Rattle.mh_top.specs.Sentences.{token_names, pieces, tokens_of, behind_tokens}
 use Rattle.mh_top.proofs.sentence.read_tokens.Given as goal
 
 abbrev pub invariant-loop-name : goal.invariant-loop-name

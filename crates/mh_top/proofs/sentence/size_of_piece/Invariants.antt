@@ -1,4 +1,4 @@
-use Rattle.std.proofs.Common.{◌≡◌, ℕ, ◌+◌, drop}
+use Rattle.std.proofs.Common.{◌≡◌, ◌+◌, drop}
 use Rattle.mh_top.specs.Sentences.{piece_size}
 use Rattle.mh_top.proofs.sentence.size_of_piece.Given as goal
 

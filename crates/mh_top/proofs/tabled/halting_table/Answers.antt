@@ -1,4 +1,3 @@
-use Rattle.std.proofs.Common.{◌≡◌, sym}
 use Rattle.mh_top.proofs.Tabling.{halts_too}
 use Rattle.mh_top.proofs.tabled.halting_table.Goals as goal
 

@@ -1,4 +1,4 @@
-use Rattle.std.proofs.Common.{◌≡◌, refl}
+use Rattle.std.proofs.Common.{refl}
 use Rattle.mh_top.proofs.Reports.{reported, silent}
 use Rattle.mh_top.proofs.top.report.Goals as goal
 

@@ -1,4 +1,4 @@
-use Rattle.std.proofs.Common.{◌≡◌, refl}
+use Rattle.std.proofs.Common.{refl}
 use Rattle.mh_top.proofs.Reports.{ran, done}
 use Rattle.mh_top.proofs.top.run.Goals as goal
 

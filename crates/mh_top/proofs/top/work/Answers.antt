@@ -1,4 +1,4 @@
-use Rattle.std.proofs.Common.{◌≡◌, refl, List, ℕ, map}
+use Rattle.std.proofs.Common.{map}
 use Rattle.std.specs.String.{string_bytes}
 use Rattle.std.specs.declared.alloc.Global.{Global}
 use Rattle.mh_top.proofs.Steps.{words_halt, words_on}

@@ -1,6 +1,3 @@
-use Rattle.std.proofs.Common.{◌≡◌, refl, List, ℕ, map}
-use Rattle.std.specs.String.{string_bytes}
-use Rattle.std.specs.declared.alloc.Global.{Global}
 use Rattle.mh_top.proofs.Steps.{grammar_halts, grammar_on}
 use Rattle.mh_top.proofs.top.work_on_file.Goals as goal
 

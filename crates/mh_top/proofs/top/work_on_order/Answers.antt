@@ -1,6 +1,4 @@
-use Rattle.std.proofs.Common.{◌≡◌, refl, List, ℕ, map, length, ap, arith}
-use Rattle.std.specs.String.{string_bytes}
-use Rattle.std.specs.declared.alloc.Global.{Global}
+use Rattle.std.proofs.Common.{length, ap, arith}
 use Rattle.mh_top.proofs.Worked.{load_halts, load_on}
 use Rattle.mh_top.proofs.top.work_on_order.Goals as goal
 

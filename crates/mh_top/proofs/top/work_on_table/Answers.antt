@@ -1,6 +1,3 @@
-use Rattle.std.proofs.Common.{◌≡◌, refl, List, ℕ, map}
-use Rattle.std.specs.String.{string_bytes}
-use Rattle.std.specs.declared.alloc.Global.{Global}
 use Rattle.mh_top.proofs.Steps.{verdicts_ran}
 use Rattle.mh_top.proofs.top.work_on_table.Goals as goal
 

@@ -1,4 +1,4 @@
-use Rattle.std.proofs.Common.{◌≡◌, ◌∙◌, ◌∷◌, ◌++◌, [], sym, ap, true≢false, option_copied}
+use Rattle.std.proofs.Common.{◌∙◌, sym, ap, true≢false, option_copied}
 use Rattle.std.specs.Cmp.Lexicographic.{bytes_decides}
 use Rattle.indexmap.proofs.CallerLemmas.{insert_entry-new}
 use Rattle.mh_top.proofs.PlainModules.{alias_kept, alias_put}

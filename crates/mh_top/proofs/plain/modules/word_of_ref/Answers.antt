@@ -1,4 +1,4 @@
-use Rattle.std.proofs.Common.{◌≡◌, ◌∙◌, Bor, List, ℕ, Some, sym, ap, option_copied}
+use Rattle.std.proofs.Common.{◌∙◌, Bor, List, ℕ, Some, sym, ap, option_copied}
 use Rattle.mh_top.proofs.PlainModules.{name_plain, name_alias}
 use Rattle.mh_top.proofs.plain.modules.word_of_ref.Goals as goal
 use Rattle.mh_top.proofs.plain.modules.word_of_ref.Goals.{in-Plain, in-Alias+in-Some}

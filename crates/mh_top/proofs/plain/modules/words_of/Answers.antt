@@ -1,4 +1,4 @@
-use Rattle.std.proofs.Common.{◌≡◌, ◌∙◌, sym}
+use Rattle.std.proofs.Common.{◌∙◌, sym}
 use Rattle.mh_top.specs.PlainModules.{IsWordOf}
 use Rattle.mh_top.proofs.PlainRules as rules
 use Rattle.mh_top.proofs.PlainModules.{zip_fails, ok_of}
