@@ -1,0 +1,35 @@
+//! The command whose words are read.
+ghost use Rattle.std.specs.Prelude.{◌≡◌, IfOk};
+ghost use Rattle.clap.specs.Words.{app_of, rule_of, with_rule};
+ghost use Rattle.mh_opts.specs.App.{menhir_app, flag_rule, with_flag};
+
+use clap::{Arg, ArgAction, Command};
+use std::alloc::{AllocError, Global};
+
+/// An option without a value, by the name behind its two hyphens.
+fn with_option<'a>(
+    alloc: Global,
+    command: Command<'a>,
+    name: &'a str,
+) -> Result<Command<'a>, AllocError>
+    ensures { IfOk result (λ c. app_of c ≡ with_flag name.entry.now (app_of command.entry)) }
+{
+    let option = Arg::new(alloc, name).long(name).action(ArgAction::SetTrue);
+    command.arg(option)
+}
+
+/// The command, with a row for each option.
+pub fn menhir_command<'a>(alloc: Global) -> Result<Command<'a>, AllocError>
+    ensures { IfOk result (λ c. app_of c ≡ menhir_app) }
+{
+    let grammars = Arg::new(alloc, "grammars").action(ArgAction::Append);
+    let command = Command::new(alloc, "menhir")
+        .no_binary_name(true)
+        .arg(grammars)?;
+    let command = with_option(alloc, command, "interpret")?;
+    let command = with_option(alloc, command, "show-automaton")?;
+    let command = with_option(alloc, command, "interpret-show-cst")?;
+    let command = with_option(alloc, command, "strict")?;
+    let command = with_option(alloc, command, "no-stdlib")?;
+    Ok(command)
+}

@@ -1,0 +1,58 @@
+//! What the words of the command line ask for.
+ghost use Rattle.std.specs.Prelude.{◌≡◌};
+ghost use Rattle.mh_opts.specs.declared.order.UsageFault.TheVariants as faults;
+
+use mh_grammar::{Memory, Name, Sequence};
+use std::alloc::AllocError;
+
+/// What is to be done.
+#[derive(Clone, Copy, Debug, Drop, PartialEq, Eq)]
+pub enum Job {
+    /// `--interpret`: a verdict for each line of the input.
+    Interpret,
+    /// `--show-automaton`: the automaton as text.
+    ShowAutomaton,
+}
+
+/// A job, and what else the words say.
+#[derive(Debug, Drop)]
+pub struct Order {
+    pub job: Job,
+    /// The grammar files in the order of their words.
+    pub grammars: Sequence<Name>,
+    /// `--strict`: a conflict is a refusal.
+    pub strict: bool,
+    /// Whether the standard library may be used; `--no-stdlib` forbids it.
+    pub stdlib: bool,
+    /// `--interpret-show-cst`: trees of what is accepted.
+    pub show_cst: bool,
+}
+
+/// Why words are no order.
+#[derive(Debug, Drop)]
+pub enum UsageFault {
+    /// The command does not take the words.
+    Parse,
+    NoMode,
+    TwoModes,
+    Misplaced { option: Name },
+    /// There is no grammar file.
+    NoGrammar,
+    Memory,
+}
+
+impl From<AllocError> for UsageFault {
+    ghost from_gives = { λ _ fault. fault ≡ faults.Memory };
+
+    fn from(_error: AllocError) -> UsageFault {
+        UsageFault::Memory
+    }
+}
+
+impl From<Memory> for UsageFault {
+    ghost from_gives = { λ _ fault. fault ≡ faults.Memory };
+
+    fn from(_error: Memory) -> UsageFault {
+        UsageFault::Memory
+    }
+}
