@@ -19,3 +19,5 @@ pub use tree_run::{TreeOutcome, run_with_trees};
 
 #[cfg(test)]
 mod tests;
+#[cfg(test)]
+mod worked;
