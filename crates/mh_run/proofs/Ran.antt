@@ -50,7 +50,7 @@ grown_by t [] (Shifts j) ts = refl
 grown_by t (z ∷ left) (Shifts j) ts = refl
 grown_by t left (Reduces p) ts = refl
 
-trees_along : (t : TableData) (n : ℕ) (c : Config) (ts : List SyntaxTree) → along_after its_trees t n c ts ≡ trees_after t n c ts
+pub trees_along : (t : TableData) (n : ℕ) (c : Config) (ts : List SyntaxTree) → along_after its_trees t n c ts ≡ trees_after t n c ts
 trees_along t zero c ts = refl
 trees_along t (suc n) c ts =
     let m : Move = move_of t (top_of c.stack) c.left in

@@ -11,6 +11,8 @@ ghost use Rattle.mh_resolve.specs.Clear.{HasNoConflicts};
 ghost use Rattle.mh_resolve.specs.States.{IsTableOf};
 ghost use Rattle.mh_tables.specs.Run.{VerdictOf, Accepted, Overshot, Rejected};
 ghost use Rattle.mh_tree.specs.Trees.{SyntaxTree};
+ghost use Rattle.mh_run.specs.TreeRuns.{IsOutcome};
+ghost use Rattle.mh_run.specs.declared.tree_run.TreeOutcome.{TreeOutcome};
 ghost use Rattle.mh_run.specs.Exactness.{IsTreeOfRead, IsPrefixSentence, AllProductive};
 
 use mh_grammar::Grammar;
@@ -25,6 +27,13 @@ pub fn accepts_with_tree(table: &Table)
     ensures sentence { (start : ℕ) (w : List ℕ) (read : ℕ) → start < length table.now.grammar.starts → VerdictOf table.now start w (Accepted read) → IsPrefixSentence table.now.grammar start w read }
 {
     table.facts();
+}
+
+/// The run of a start with its trees has one outcome.
+pub fn one_outcome(table: &Table)
+    ensures { (start : ℕ) (w : List ℕ) (a b : TreeOutcome) → IsOutcome table.now start w a → IsOutcome table.now start w b → a ≡ b }
+{
+    let _table = table;
 }
 
 /// On the table of an automaton, with conflicts or without, where each nonterminal derives some word: where the run of a

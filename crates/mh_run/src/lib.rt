@@ -10,7 +10,7 @@ mod tracing;
 mod tree_run;
 
 pub use exactness::{
-    accepts_with_tree, overshoots_in_sentences, some_clean_table, verdicts_are_exact,
+    accepts_with_tree, one_outcome, overshoots_in_sentences, some_clean_table, verdicts_are_exact,
 };
 pub use outcome::Verdict;
 pub use runs::verdict;
@@ -19,3 +19,5 @@ pub use tree_run::{TreeOutcome, run_with_trees};
 
 #[cfg(test)]
 mod tests;
+#[cfg(test)]
+mod worked;
