@@ -36,11 +36,14 @@ takes_or j (Rule r) n = go (slice_get j.rules r)
     go None = inr (λ e. cc)
     go (Some q) = elim (cases_eq q.formals n) [ inl e ↦ inl (ap Some e) | inr f ↦ inr (λ e. let g : q.formals ≡ n = cc in f g) ]
 
+pub fits_or : (j : Joined) (t : Term) → Fits j t ⊎ (Fits j t → ⊥)
+fits_or j t = takes_or j (head_of t) (length (arguments t))
+
 -- an instance that was found has no fault
 pub IsFit-found : (j : Joined) (before ts : List Term) → IsClear j before → AreFound before ts → (k : ℕ) (t : Term) → slice_get ts k ≡ Some t → IsFit j t
 IsFit-found j before ts clear found k t e =
     let s = found.each k t e in
-    let fits : Fits j t = elim (takes_or j (head_of t) (length (arguments t))) [ inl f ↦ f | inr f ↦ absurd (clear s.front s.behind t (expansion_arity j t) s.split (expansion.IsFault.count f)) ] in
+    let fits : Fits j t = elim (fits_or j t) [ inl f ↦ f | inr f ↦ absurd (clear s.front s.behind t (expansion_arity j t) s.split (expansion.IsFault.count f)) ] in
     record {
       instance = s.instance;
       fits = fits;
@@ -83,14 +86,14 @@ contains_append (y ∷ xs) ys x c = elim (contains_cons y (xs ++ ys) x c) [
 ]
 
 -- the instance whose producer it is
-contains_flat : {X Y : Type 0} (f : X → List Y) (xs : List X) (y : Y) → Contains (flat_map f xs) y → (x : X) × Contains xs x × Contains (f x) y
+pub contains_flat : {X Y : Type 0} (f : X → List Y) (xs : List X) (y : Y) → Contains (flat_map f xs) y → (x : X) × Contains xs x × Contains (f x) y
 contains_flat f [] y c = absurd (contains_none y c)
 contains_flat f (x ∷ xs) y c = elim (contains_append (f x) (flat_map f xs) y c) [
   | inl d ↦ (x, contains_here x xs, d)
   | inr d ↦ (let r = contains_flat f xs y d in (r.0, contains_there x xs r.0 r.1, r.2))
 ]
 
-flat_contains : {X Y : Type 0} (f : X → List Y) (xs : List X) (x : X) (y : Y) → Contains xs x → Contains (f x) y → Contains (flat_map f xs) y
+pub flat_contains : {X Y : Type 0} (f : X → List Y) (xs : List X) (x : X) (y : Y) → Contains xs x → Contains (f x) y → Contains (flat_map f xs) y
 flat_contains f [] x y c d = absurd (contains_none x c)
 flat_contains f (z ∷ xs) x y c d = elim (contains_cons z xs x c) [
   | inl e ↦ Contains-append_left (f z) (flat_map f xs) y (rw e d)

@@ -122,7 +122,7 @@ not_full before fs a f =
     let le = length-distinct_in fs f.some f.distinct (λ x c. let w = f.found c.0 x c.1 in a.all x (rw c.2 at w).0 (rw c.2 at w).1) in
     omega (arith, le, f.full)
 
-some_of : {X Y : Type 0} (f : X → Y) (o : Option X) (y : Y) → option_map f o ≡ Some y → (x : X) × (o ≡ Some x) × (f x ≡ y)
+pub some_of : {X Y : Type 0} (f : X → Y) (o : Option X) (y : Y) → option_map f o ≡ Some y → (x : X) × (o ≡ Some x) × (f x ≡ y)
 some_of f None y e = cc
 some_of f (Some x) y e = let same : f x ≡ y = cc in (x, refl, same)
 

@@ -9,3 +9,4 @@ pub mod Ranking
 pub mod Expanding
 pub mod Simulating
 pub mod Same
+pub mod Ranged

@@ -20,13 +20,13 @@ use Rattle.mh_expand.proofs.Expanding.{start_rule}
 use Rattle.mh_expand.proofs.Simulating.{derivation_along}
 
 -- partners in zipped lists
-zip_left : {A B : Type 0} (R : A → B → Type 0) (xs : List A) (ys : List B) → AllZip R xs ys → (i : ℕ) (x : A) → slice_get xs i ≡ Some x → (y : B) × (slice_get ys i ≡ Some y) × R x y
+pub zip_left : {A B : Type 0} (R : A → B → Type 0) (xs : List A) (ys : List B) → AllZip R xs ys → (i : ℕ) (x : A) → slice_get xs i ≡ Some x → (y : B) × (slice_get ys i ≡ Some y) × R x y
 zip_left R [] ys z i x e = cc
 zip_left R (v ∷ xs) [] z i x e = absurd z
 zip_left R (v ∷ xs) (w ∷ ys) z zero x e = let same : v ≡ x = cc in (w, refl, rw (← same) z.0)
 zip_left R (v ∷ xs) (w ∷ ys) z (suc i) x e = zip_left R xs ys z.1 i x e
 
-zip_right : {A B : Type 0} (R : A → B → Type 0) (xs : List A) (ys : List B) → AllZip R xs ys → (i : ℕ) (y : B) → slice_get ys i ≡ Some y → (x : A) × (slice_get xs i ≡ Some x) × R x y
+pub zip_right : {A B : Type 0} (R : A → B → Type 0) (xs : List A) (ys : List B) → AllZip R xs ys → (i : ℕ) (y : B) → slice_get ys i ≡ Some y → (x : A) × (slice_get xs i ≡ Some x) × R x y
 zip_right R [] [] z i y e = cc
 zip_right R [] (w ∷ ys) z i y e = absurd z
 zip_right R (v ∷ xs) [] z i y e = absurd z
@@ -39,13 +39,13 @@ zip_flip R [] (w ∷ ys) z = absurd z
 zip_flip R (v ∷ xs) [] z = absurd z
 zip_flip R (v ∷ xs) (w ∷ ys) z = (z.0, zip_flip R xs ys z.1)
 
-zip_length : {A B : Type 0} (R : A → B → Type 0) (xs : List A) (ys : List B) → AllZip R xs ys → length xs ≡ length ys
+pub zip_length : {A B : Type 0} (R : A → B → Type 0) (xs : List A) (ys : List B) → AllZip R xs ys → length xs ≡ length ys
 zip_length R [] [] z = refl
 zip_length R [] (w ∷ ys) z = absurd z
 zip_length R (v ∷ xs) [] z = absurd z
 zip_length R (v ∷ xs) (w ∷ ys) z = ap suc (zip_length R xs ys z.1)
 
-reached_instance : (j : Joined) (t : Term) → IsReached j t → IsInstance t
+pub reached_instance : (j : Joined) (t : Term) → IsReached j t → IsInstance t
 reached_instance j t (expansion.IsReached.start c) = start_rule j t c
 reached_instance j t (expansion.IsReached.producer r c i) = i
 

@@ -1,4 +1,5 @@
 pub mod Expansion
+pub mod Ready
 pub mod Searching
 pub mod Sentences
 pub mod Sharing

@@ -4,6 +4,7 @@ ghost use Rattle.std.specs.List.{All};
 ghost use Rattle.indexmap.specs.IndexMap.{get};
 ghost use Rattle.mh_expand.specs.Terms.{Term, arguments, text};
 ghost use Rattle.mh_expand.specs.Expansion.{Fails, Causes, IsExpanded, IsFirstFault, producers_of, right_side, rule_at, start_terms};
+ghost use Rattle.mh_expand.specs.Ready.{IsReady, IsExpandedReady};
 ghost use Rattle.mh_expand.specs.Sentences.{HasSameSentences};
 ghost use Rattle.mh_expand.specs.Sharing.{terms_of, term_at, terms_at, Grows};
 ghost use Rattle.mh_expand.specs.Searching.{IsSearch, IsFit, AreRanks, WentStarts, WentInstance, WentAlternative, IsExpanding, AreExpanded};
@@ -23,6 +24,7 @@ use std::alloc::Global;
 /// The instances that the starts reach, found breadth first, with their alternatives.
 pub fn expand(alloc: Global, joined: &Joined) -> Result<Expanded, ExpandFault>
     ensures ok { IfOk result (IsExpanded joined.now) }
+    ensures ready { IfOk result (λ e. IsReady joined.now → IsExpandedReady e) }
     ensures sentences { IfOk result (HasSameSentences joined.now) }
     ensures err { IfErr result (Causes (IsFirstFault joined.now)) }
 {

@@ -1,12 +1,14 @@
-use Rattle.std.proofs.Common.{[], nat_eq, refl}
+use Rattle.std.proofs.Common.{[], nat_eq, refl, arith}
 use Rattle.indexmap.specs.IndexMap.{get}
 use Rattle.mh_grammar.specs.Numbering.{Names}
 use Rattle.mh_expand.specs.Expansion.{start_terms}
+use Rattle.mh_expand.specs.declared.instances.Expanded.{Expanded}
 use Rattle.mh_expand.specs.Sharing.{terms_of, terms_at}
 use Rattle.mh_expand.specs.Searching.{IsSearch, WentStarts, AreRanks}
 use Rattle.mh_expand.proofs.Shared.{terms_of-distinct}
 use Rattle.mh_expand.proofs.Expanding.{fault_start, IsSearch-none, IsExpanding-start, IsExpanded-done, Names-longer}
 use Rattle.mh_expand.proofs.Same.{has_same_sentences}
+use Rattle.mh_expand.proofs.Ranged.{IsExpandedReady-expanded}
 use Rattle.mh_expand.proofs.expansion.expand.Goals as goal
 
 pub expand_all-requires : goal.expand_all-requires
@@ -43,3 +45,9 @@ returns-in-Ok-expand_all-clause-ok c =
 
 pub returns-in-Ok-expand_all-clause-sentences : goal.returns-in-Ok-expand_all-clause-sentences
 returns-in-Ok-expand_all-clause-sentences c = has_same_sentences c.args.joined.now (record { tokens = c.in_ok-copy_of_tokens-in-Ok-expand_all.field-0; starts = c.in-Ok.starts; instances = c.in-Ok-expand_all.instances }) (returns-in-Ok-expand_all-clause-ok c)
+
+pub returns-in-Ok-expand_all-clause-ready : goal.returns-in-Ok-expand_all-clause-ready
+returns-in-Ok-expand_all-clause-ready c = λ ready.
+    let e : Expanded = record { tokens = c.in_ok-copy_of_tokens-in-Ok-expand_all.field-0; starts = c.in-Ok.starts; instances = c.in-Ok-expand_all.instances } in
+    let a = c.in-Ok-expand_all.ensures.ok in
+    IsExpandedReady-expanded c.args.joined.now e (returns-in-Ok-expand_all-clause-ok c) ready (omega (arith, a.expanding.few, a.expanding.within))
