@@ -21,3 +21,4 @@ pub mod Ranging
 pub mod Exactly
 pub mod OneGrammar
 pub mod OneOutcome
+pub mod Keeping

@@ -99,6 +99,26 @@ LongInputIsSaid words before now status = AllCalm before now → (input : Text) 
 abbrev pub WritesPart : List Text → World → World → Type 0
 WritesPart words before now = Appends before.out now.out [] ⊎ ((w : Work) × AskedBy words before.files w × ((text : Text) × Appends before.out now.out text × IsOutPart w.plan before.left text))
 
+-- Where the files are told, that holds of each work that is asked for: there is one.
+abbrev pub WritesPartOfEach : List Text → World → World → Type 0
+WritesPartOfEach words before now = (files : Files) → before.files ≡ Some files → (w : Work) → IsWork words files w
+    → Appends before.out now.out [] ⊎ ((text : Text) × Appends before.out now.out text × IsOutPart w.plan before.left text)
+
 -- The status is a known one.
 abbrev pub IsStatus : ℕ → Type 0
 IsStatus status = IsDone status ⊎ (status ≡ 3) ⊎ (status ≡ 4) ⊎ (status ≡ 6)
+
+-- All that the call promises of its end, of what it wrote and of the input that it left.
+pub record Keeps (words : List Text) (before now : World) (status : ℕ) : Type 0 where
+  pub complete : Completes words before now status
+  pub done : Finishes words before now status
+  pub known : IsStatus status
+  pub misuse : MisuseHasCause words before now status
+  pub read_fault : ReadFaultHasCause words before now status
+  pub absent : AbsentIsSaid words before now status
+  pub write_fault : WriteFaultHasCause before now status
+  pub too_big : TooBigHasCause words before now status
+  pub long_file : LongFileIsSaid words before now status
+  pub long_input : LongInputIsSaid words before now status
+  pub part : WritesPart words before now
+  pub each_part : WritesPartOfEach words before now

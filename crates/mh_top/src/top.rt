@@ -3,7 +3,7 @@ ghost use Rattle.std.specs.Prelude.{◌≡◌, ◌<◌, ◌^◌, length, map, st
 ghost use Rattle.mh_grammar.specs.Plain.{plain_of, IsInRange};
 ghost use Rattle.mh_top.specs.Text.{cannot_read};
 ghost use Rattle.mh_top.specs.Work.{IsWorkOfTable, IsWorkOfGrammar, IsWorkOfFile, IsWorkOfOrder, Over};
-ghost use Rattle.mh_top.specs.Claims.{AskedBy, FileOf, Completes, Finishes, IsStatus, MisuseHasCause, ReadFaultHasCause, AbsentIsSaid, WriteFaultHasCause, TooBigHasCause, LongFileIsSaid, LongInputIsSaid, WritesPart};
+ghost use Rattle.mh_top.specs.Claims.{AskedBy, FileOf, Keeps};
 ghost use Rattle.mh_top.specs.Exact.{AcceptsExactly, RejectsRightly, OvershootsRightly, AcceptsRightly};
 ghost use Rattle.mh_top.specs.Run.{world, Worked, Ran, Reported, Says};
 
@@ -175,37 +175,9 @@ pub fn menhir<F: Shelf, I: Source, O: Sink, E: Sink>(
     out: &mut O,
     err: &mut E,
 ) -> u8
-    ensures complete { Completes (map string_bytes words.now)
+    ensures kept { Keeps (map string_bytes words.now)
         (world F.files F.faults I.left I.faults O.written O.faults E.written E.faults shelf.old input.old out.old err.old)
         (world F.files F.faults I.left I.faults O.written O.faults E.written E.faults shelf.new input.new out.new err.new) result }
-    ensures done { Finishes (map string_bytes words.now)
-        (world F.files F.faults I.left I.faults O.written O.faults E.written E.faults shelf.old input.old out.old err.old)
-        (world F.files F.faults I.left I.faults O.written O.faults E.written E.faults shelf.new input.new out.new err.new) result }
-    ensures status { IsStatus result }
-    ensures misuse { MisuseHasCause (map string_bytes words.now)
-        (world F.files F.faults I.left I.faults O.written O.faults E.written E.faults shelf.old input.old out.old err.old)
-        (world F.files F.faults I.left I.faults O.written O.faults E.written E.faults shelf.new input.new out.new err.new) result }
-    ensures read_fault { ReadFaultHasCause (map string_bytes words.now)
-        (world F.files F.faults I.left I.faults O.written O.faults E.written E.faults shelf.old input.old out.old err.old)
-        (world F.files F.faults I.left I.faults O.written O.faults E.written E.faults shelf.new input.new out.new err.new) result }
-    ensures absent { AbsentIsSaid (map string_bytes words.now)
-        (world F.files F.faults I.left I.faults O.written O.faults E.written E.faults shelf.old input.old out.old err.old)
-        (world F.files F.faults I.left I.faults O.written O.faults E.written E.faults shelf.new input.new out.new err.new) result }
-    ensures write_fault { WriteFaultHasCause
-        (world F.files F.faults I.left I.faults O.written O.faults E.written E.faults shelf.old input.old out.old err.old)
-        (world F.files F.faults I.left I.faults O.written O.faults E.written E.faults shelf.new input.new out.new err.new) result }
-    ensures too_big { TooBigHasCause (map string_bytes words.now)
-        (world F.files F.faults I.left I.faults O.written O.faults E.written E.faults shelf.old input.old out.old err.old)
-        (world F.files F.faults I.left I.faults O.written O.faults E.written E.faults shelf.new input.new out.new err.new) result }
-    ensures long_file { LongFileIsSaid (map string_bytes words.now)
-        (world F.files F.faults I.left I.faults O.written O.faults E.written E.faults shelf.old input.old out.old err.old)
-        (world F.files F.faults I.left I.faults O.written O.faults E.written E.faults shelf.new input.new out.new err.new) result }
-    ensures long_input { LongInputIsSaid (map string_bytes words.now)
-        (world F.files F.faults I.left I.faults O.written O.faults E.written E.faults shelf.old input.old out.old err.old)
-        (world F.files F.faults I.left I.faults O.written O.faults E.written E.faults shelf.new input.new out.new err.new) result }
-    ensures part { WritesPart (map string_bytes words.now)
-        (world F.files F.faults I.left I.faults O.written O.faults E.written E.faults shelf.old input.old out.old err.old)
-        (world F.files F.faults I.left I.faults O.written O.faults E.written E.faults shelf.new input.new out.new err.new) }
     // What the answers to sentence lines say of the sentences of the grammar.
     ensures exact { AcceptsExactly (map string_bytes words.now) (F.files shelf.old) }
     ensures rejects { RejectsRightly (map string_bytes words.now) (F.files shelf.old) }
