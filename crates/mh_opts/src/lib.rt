@@ -7,3 +7,6 @@ mod words;
 
 pub use order::{Job, Order, UsageFault};
 pub use words::read_words;
+
+#[cfg(test)]
+mod tests;
