@@ -1,0 +1,91 @@
+-- Unfoldings of inline instances, each made from those of the instances that it is made of.
+use Rattle.std.proofs.Common.{◌≡◌, ℕ, zero, suc, ◌+◌, ◌<◌, ◌≤◌, true, min, List, [], ◌∷◌, ◌++◌, Option, Some, None, take, set, length, get_or, refl, sym, ap, ◌∙◌, arith, inl, inr, get_or-set_same, get_or-set_other, length-set, subst}
+use Rattle.std.specs.List.{slice_get, All, Contains}
+use Rattle.std.proofs.lemmas.Bool.{cases_eq, false≢true}
+use Rattle.std.proofs.lemmas.List.{take_more}
+use Rattle.std.proofs.lemmas.List.Elements.{Contains-push_cases}
+use Rattle.std.proofs.lemmas.Option.{same_Some, none-some, slice_get-get_or, slice_get_within, get_or_from_slice_get}
+use Rattle.mh_expand.specs.declared.instances.Part.{Part}
+use Rattle.mh_expand.specs.declared.instances.Part.TheVariants.{Instance as Applied}
+use Rattle.mh_expand.specs.declared.instances.InstanceProduction.{InstanceProduction}
+use Rattle.mh_expand.specs.declared.instances.Instance.{Instance}
+use Rattle.mh_expand.specs.declared.instances.Expanded.{Expanded}
+use Rattle.mh_grammar.proofs.Placing.{at_contains}
+use Rattle.mh_inline.specs.declared.unfoldings.Unfolding.{Unfolding}
+use Rattle.mh_inline.specs.declared.sizes.Size.{Size}
+use Rattle.mh_inline.specs.declared.sizes.Sizing.{Sizing}
+use Rattle.mh_inline.specs.Instances.{is_inlined, Inlines, IsReady, IsInstanceReady}
+use Rattle.mh_inline.specs.Unfoldings as unfoldings
+use Rattle.mh_inline.specs.Unfoldings.{UnfoldsPart, UnfoldsEach}
+use Rattle.mh_inline.specs.Sizes.{IsSize, IsPartSize, IsSizing, AreSmall}
+use Rattle.mh_inline.specs.Known.{IsKnown, AreKnown, AreEachKnown, IsNext, Knows}
+use Rattle.mh_inline.proofs.Same.{AreSome, part_same, small_part, small_alternative}
+
+pub some_ready : (e : Expanded) → IsReady e → AreSome e.instances
+some_ready e r = record { some = λ n i at. (subst (IsInstanceReady (length e.tokens) (length e.instances)) (get_or_from_slice_get e.instances n i i at) (r.instances n i (slice_get_within e.instances n i at))).some }
+
+pub small_size : (us : List Unfolding) (s : Size) → IsSize us s → s.count ≤ 20000 → s.longest ≤ 10000 → AreSmall us
+small_size us s z k l = let e = z.count in let f = z.longest in record { few = omega arith; short = omega arith }
+
+pub size_small : (us : List Unfolding) (s : Size) → IsSize us s → AreSmall us → (s.count ≤ 20000) × (s.longest ≤ 10000)
+size_small us s z a = let e = z.count in let f = z.longest in let few = a.few in let short = a.short in (omega arith, omega arith)
+
+pub get_taken : {X : Type 0} (xs : List X) (i j : ℕ) (x : X) → slice_get (take i xs) j ≡ Some x → slice_get xs j ≡ Some x
+get_taken xs zero j x e = absurd (none-some x e)
+get_taken [] (suc i) j x e = absurd (none-some x e)
+get_taken (y ∷ xs) (suc i) zero x e = e
+get_taken (y ∷ xs) (suc i) (suc j) x e = get_taken xs i j x e
+
+module _ (is : List Instance) where
+  -- the unfoldings of an inline instance are those of its alternatives
+  pub each_of_part : (n : ℕ) (i : Instance) (us : List Unfolding) → slice_get is n ≡ Some i → is_inlined is n ≡ true → UnfoldsPart is (Applied n) us → UnfoldsEach is i.productions us
+  each_of_part n i us at e (unfoldings.UnfoldsPart.kept k) = absurd (false≢true (sym k ∙ e))
+  each_of_part n i us at e (unfoldings.UnfoldsPart.inlined {i = j} at' e' r) = subst (λ (q : Instance). UnfoldsEach is q.productions us) (same_Some j i (sym at' ∙ at)) r
+
+  pub next_from : (s : Sizing) (known : List (List Unfolding)) (i n : ℕ) → IsSizing is s → Knows is (take i s.order.items) known → slice_get s.order.items i ≡ Some n → IsNext is s.sizes.items known n
+  next_from s known i n z k at =
+      let o = z.ordered i n at in
+      record {
+        inlined = o.inlined;
+        size = o.size;
+        sized = o.sized;
+        right = z.right.sound n o.size o.sized;
+        some = λ m inl.
+            let place = at_contains (take i s.order.items) m (o.behind m inl) in
+            let p = z.ordered place.0 m (get_taken s.order.items i place.0 m place.1) in
+            let right = z.right.sound m p.size p.sized in
+            (right.unfoldings, right.unfolds);
+        behind = λ m us inl u small. k.each m us (o.behind m inl) u small;
+      }
+
+  -- the alternatives of the next instance have known unfoldings where its own are within the limits
+  pub each_known : AreSome is → (sizes : List (Option Size)) (known : List (List Unfolding)) (n : ℕ) (i : Instance) → slice_get is n ≡ Some i → (next : IsNext is sizes known n) → next.size.count ≤ 20000 → next.size.longest ≤ 10000 → AreEachKnown is known i.productions
+  each_known h sizes known n i at next few short =
+      let each = each_of_part n i next.right.unfoldings at next.inlined next.right.unfolds in
+      let small = small_size next.right.unfoldings next.size next.right.size few short in
+      record {
+        each = λ k p here. record {
+          each = λ j m part inlined.
+              let inl : Inlines is n m = record { user = next.inlined; place = k; production = p; alternative = record { instance = i; at = at; alternative = here }; producer = j; at = part; used = inlined } in
+              let side = small_alternative is h i.productions next.right.unfoldings each small k p here in
+              let one = next.some m inl in
+              record {
+                unfoldings = one.0;
+                unfolds = one.1;
+                at = next.behind m one.0 inl one.1 (small_part is h p.rhs side.0 side.1 side.2 j (Applied m) one.0 part one.1);
+              };
+        };
+      }
+
+  pub Knows-more : (order : List ℕ) (known : List (List Unfolding)) (i n : ℕ) (new : List Unfolding) → i < length order → n ≡ get_or order i 0 → n < length known → ((us : List Unfolding) → UnfoldsPart is (Applied n) us → AreSmall us → new ≡ us) → Knows is (take i order) known → Knows is (take (i + 1) order) (set known n new)
+  Knows-more order known i n new l at within new_is k = record {
+    len = length-set known n new ∙ k.len;
+    each = λ m us c u small. elim (cases_eq m n) [
+      | inl same ↦ rw same (slice_get-get_or (set known n new) n new (rw (length-set known n new) within) ∙ ap Some (get_or-set_same known n new new within ∙ new_is us (rw same at u) small))
+      | inr other ↦ elim (Contains-push_cases (take i order) (get_or order i 0) m (rw (take_more order i 0 l) at c)) [
+        | inl before ↦ (let e = k.each m us before u small in let w = slice_get_within known m us e in
+            slice_get-get_or (set known n new) m us (rw (length-set known n new) w) ∙ ap Some (get_or-set_other known n m new us other ∙ get_or_from_slice_get known m us us e))
+        | inr last ↦ absurd (other (sym last ∙ sym at))
+      ]
+    ];
+  }

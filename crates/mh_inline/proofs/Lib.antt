@@ -1,0 +1,13 @@
+pub mod Building
+pub mod Choices
+pub mod Counting
+pub mod Limits
+pub mod Ordering
+pub mod Cycling
+pub mod Finding
+pub mod Knowing
+pub mod Productions
+pub mod Ranges
+pub mod Same
+pub mod Sentences
+pub mod Sourcing

@@ -1,0 +1,150 @@
+-- Grammars within and over the limits.
+use Rattle.std.proofs.Common.{◌≡◌, ℕ, zero, suc, ◌+◌, ◌<◌, ◌≤◌, ◌⊎◌, true, false, min, max, List, [], ◌∷◌, ◌++◌, Some, map, filter, length, get_or, refl, sym, ap, ◌∙◌, arith, inl, inr, subst, length-append}
+use Rattle.std.specs.List.{slice_get, All, Any, Contains}
+use Rattle.std.proofs.lemmas.Bool.{cases_lt}
+use Rattle.std.proofs.lemmas.List.{length-map}
+use Rattle.std.proofs.lemmas.List.Elements.{All-nil, All-cons, Contains-get_or}
+use Rattle.std.proofs.lemmas.Option.{none-some, same_Some, slice_get-get_or}
+use Rattle.mh_grammar.specs.declared.types.TokenInfo.{TokenInfo}
+use Rattle.mh_grammar.specs.declared.types.Production.{Production}
+use Rattle.mh_grammar.specs.declared.types.Grammar.{Grammar}
+use Rattle.mh_grammar.proofs.Placing.{at_contains}
+use Rattle.mh_join.specs.declared.joined.Prec.{Prec}
+use Rattle.mh_expand.specs.declared.instances.Part.{Part}
+use Rattle.mh_expand.specs.declared.instances.Part.TheVariants.{Instance as Applied}
+use Rattle.mh_expand.specs.declared.instances.InstanceProduction.{InstanceProduction}
+use Rattle.mh_expand.specs.declared.instances.Instance.{Instance}
+use Rattle.mh_expand.specs.declared.instances.Expanded.{Expanded}
+use Rattle.mh_inline.specs.declared.unfoldings.Unfolding.{Unfolding}
+use Rattle.mh_inline.specs.declared.sources.Source.{Source}
+use Rattle.mh_inline.specs.declared.sizes.Size.{Size}
+use Rattle.mh_inline.specs.declared.sizes.Sizing.{Sizing}
+use Rattle.mh_inline.specs.Instances.{is_inlined, IsAlternative, IsReady}
+use Rattle.mh_inline.specs.Unfoldings.{own, Unfolds, UnfoldsPart}
+use Rattle.mh_inline.specs.Sizes.{longest, AreSmall, AreAllSized, IsSizing, IsWithin}
+use Rattle.mh_inline.specs.Known.{IsKnown, AreKnown, Knows, IsSourceKnown}
+use Rattle.mh_inline.specs.Inlined as inlined
+use Rattle.mh_inline.specs.Inlined.{is_kept, nonterminal_of, number_of, symbol_of, production_of, IsSource, AreSources, AreProductions, IsInlined}
+use Rattle.mh_inline.specs.Making.{longest_side, IsSourcesSize, AreSourcesSmall}
+use Rattle.mh_inline.specs.Faults.{IsSmall, IsOver}
+use Rattle.mh_inline.proofs.Choices.{append_same}
+use Rattle.mh_inline.proofs.Same.{unfolds_same, small_part}
+use Rattle.mh_inline.proofs.Building.{some_ready}
+use Rattle.mh_inline.proofs.Productions.{longest_side-append, longest_side-made}
+
+pub alternative_same : (is : List Instance) (n k : ℕ) (p q : InstanceProduction) → IsAlternative is n k p → IsAlternative is n k q → p ≡ q
+alternative_same is n k p q a b =
+    let one : a.instance ≡ b.instance = same_Some _ _ (sym a.at ∙ b.at) in
+    same_Some p q (sym a.alternative ∙ ap (λ (i : Instance). slice_get i.productions k) one ∙ b.alternative)
+
+module _ (tokens : List TokenInfo) (is : List Instance) where
+  -- the productions are determined
+  pub made_same : (sources : List Source) (ps qs : List Production) → AreProductions tokens is sources ps → AreProductions tokens is sources qs → ps ≡ qs
+  made_same sources ps qs inlined.AreProductions.none inlined.AreProductions.none = refl
+  made_same sources ps qs (inlined.AreProductions.more {s = s} {p = p} {us = us} a f e r) (inlined.AreProductions.more {p = q} {us = vs} a' f' e' r') =
+      let one = alternative_same is s.instance s.alternative p q a a' in
+      let again : Unfolds is p.rhs vs = subst (λ (x : InstanceProduction). Unfolds is x.rhs vs) (sym one) f' in
+      let same : us ≡ vs = unfolds_same is p.rhs us vs f again in
+      e ∙ append_same _ _ _ _ (λ i. map (λ u. production_of tokens is s.instance (own (one i).prec u)) (same i)) (made_same _ _ _ r r') ∙ sym e'
+
+  -- what a source has
+  pub record HasUnfoldings (s : Source) (ps : List Production) : Type 0 where
+    pub production : InstanceProduction
+    pub alternative : IsAlternative is s.instance s.alternative production
+    pub unfoldings : List Unfolding
+    pub unfolds : Unfolds is production.rhs unfoldings
+    pub few : length unfoldings ≤ length ps
+    pub short : longest unfoldings ≤ longest_side ps
+
+  pub source_unfoldings : (sources : List Source) (ps : List Production) → AreProductions tokens is sources ps → (j : ℕ) (s : Source) → slice_get sources j ≡ Some s → HasUnfoldings s ps
+  source_unfoldings sources ps inlined.AreProductions.none j s at = absurd (none-some s at)
+  source_unfoldings sources ps (inlined.AreProductions.more {s = t} {p = p} {us = us} {ps = rest} a f e r) zero s at =
+      let one : t ≡ s = same_Some t s at in
+      let len = ap length e ∙ length-append (map (λ u. production_of tokens is t.instance (own p.prec u)) us) rest in
+      let same = length-map us (λ u. production_of tokens is t.instance (own p.prec u)) in
+      let long = ap longest_side e ∙ longest_side-append tokens is (map (λ u. production_of tokens is t.instance (own p.prec u)) us) rest in
+      let long' = longest_side-made tokens is t.instance p.prec us in
+      record { production = p; alternative = subst (λ (x : Source). IsAlternative is x.instance x.alternative p) one a; unfoldings = us; unfolds = f; few = omega arith; short = omega arith }
+  source_unfoldings sources ps (inlined.AreProductions.more {s = t} {p = p} {us = us} {ps = rest} a f e r) (suc j) s at =
+      let h = source_unfoldings _ rest r j s at in
+      let len = ap length e ∙ length-append (map (λ u. production_of tokens is t.instance (own p.prec u)) us) rest in
+      let long = ap longest_side e ∙ longest_side-append tokens is (map (λ u. production_of tokens is t.instance (own p.prec u)) us) rest in
+      let few = h.few in
+      let short = h.short in
+      record { production = h.production; alternative = h.alternative; unfoldings = h.unfoldings; unfolds = h.unfolds; few = omega arith; short = omega arith }
+
+pub all_sources : (is : List Instance) (sources : List Source) → AreSources is sources → All (IsSource is) sources
+all_sources is sources a k d l = (a.exact (get_or sources k d)).0 (Contains-get_or sources k d l)
+
+-- the inline producers of the sources are known
+pub sources_known : (e : Expanded) (s : Sizing) (known : List (List Unfolding)) (sources : List Source) → IsReady e → IsSizing e.instances s → AreAllSized e.instances s.sizes.items → Knows e.instances s.order.items known → AreSourcesSmall e.tokens e.instances sources → All (IsSourceKnown e.instances known) sources
+sources_known e s known sources ready z all k small i d l =
+    let x = get_or sources i d in
+    let h = source_unfoldings e.tokens e.instances sources small.productions small.made i x (slice_get-get_or sources i d l) in
+    let few = h.few in
+    let short = h.short in
+    let few' = small.few in
+    let short' = small.short in
+    let within : AreSmall h.unfoldings = record { few = omega arith; short = omega arith } in
+    record {
+      each = λ p a.
+          let one = alternative_same e.instances x.instance x.alternative h.production p h.alternative a in
+          let f : Unfolds e.instances p.rhs h.unfoldings = subst (λ (q : InstanceProduction). Unfolds e.instances q.rhs h.unfoldings) one h.unfolds in
+          record {
+            each = λ j m at inline.
+                let size = all m inline in
+                let right = z.right.sound m size.0 size.1 in
+                let listed = z.listed m size.0 size.1 in
+                let part_small = small_part e.instances (some_ready e ready) p.rhs h.unfoldings f within j (Applied m) right.unfoldings at right.unfolds in
+                record { unfoldings = right.unfoldings; unfolds = right.unfolds; at = k.each m right.unfoldings listed right.unfolds part_small };
+          };
+    }
+
+-- LIMITS
+
+all_short : (n : ℕ) (ps : List Production) → longest_side ps ≤ n → All (λ (p : Production). length p.rhs ≤ n) ps
+all_short n [] l = All-nil (λ (p : Production). length p.rhs ≤ n)
+all_short n (p ∷ ps) l = All-cons (λ (q : Production). length q.rhs ≤ n) p ps (omega arith) (all_short n ps (omega arith))
+
+any_long : (n : ℕ) (ps : List Production) → n < longest_side ps → Any (λ (p : Production). n < length p.rhs) ps
+any_long n [] l = absurd (omega arith)
+any_long n (p ∷ ps) l = elim (cases_lt n (length p.rhs)) [
+  | inl long ↦ (zero, p, omega arith, refl, long)
+  | inr short ↦ (let a = any_long n ps (omega arith) in let w = a.2 in (suc a.0, a.1, omega arith, a.3, a.4))
+]
+
+pub small_grammar : (tokens : List TokenInfo) (is : List Instance) (sources : List Source) (g : Grammar) → AreSourcesSmall tokens is sources → AreProductions tokens is sources g.productions → IsSmall g
+small_grammar tokens is sources g s m =
+    let one = made_same tokens is sources s.productions g.productions s.made m in
+    let few = s.few in
+    let short = s.short in
+    let len = ap length one in
+    let long = ap longest_side one in
+    record { few = omega arith; short = all_short 10000 g.productions (omega arith) }
+
+pub small_sources : (tokens : List TokenInfo) (is : List Instance) (sources : List Source) (z : Size) → IsSourcesSize tokens is sources z → IsWithin (Some z) → AreSourcesSmall tokens is sources
+small_sources tokens is sources z s w =
+    let a = s.count in
+    let b = s.longest in
+    let l = w.0 in
+    let m = w.1 in
+    record { productions = s.productions; made = s.made; few = omega arith; short = omega arith }
+
+grammar_with : Expanded → List Production → Grammar
+grammar_with e ps = record { tokens = e.tokens; nonterminals = map nonterminal_of (filter is_kept e.instances); productions = ps; starts = map (number_of e.instances) e.starts }
+
+pub over_sources : (e : Expanded) (sources : List Source) (z : Size) → AreSources e.instances sources → IsSourcesSize e.tokens e.instances sources z → (IsWithin (Some z) → ⊥) → (g : Grammar) × IsInlined e g × IsOver g
+unfolding grammar_with
+over_sources e sources z o s w =
+    let a = s.count in
+    let b = s.longest in (
+      grammar_with e s.productions,
+      record { tokens = refl; nonterminals = refl; starts = refl; sources = sources; ordered = o; productions = s.made },
+      (elim (cases_lt 20000 (length s.productions)) [
+        | inl many ↦ inl many
+        | inr few ↦ elim (cases_lt 10000 (longest_side s.productions)) [
+          | inl long ↦ inr (any_long 10000 s.productions long)
+          | inr short ↦ absurd (w (omega arith, omega arith))
+        ]
+      ]),
+    )

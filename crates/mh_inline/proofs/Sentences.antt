@@ -1,0 +1,363 @@
+-- Trees over instances, inline ones too, and trees over the grammar have the same leaves.
+use Rattle.std.proofs.Common.{◌≡◌, ℕ, zero, suc, ◌+◌, ◌<◌, ◌≤◌, ◌⊎◌, ◌↔◌, true, false, List, [], ◌∷◌, ◌++◌, Option, Some, None, map, length, get_or, refl, sym, ap, ◌∙◌, arith, inl, inr, append_assoc, subst}
+use Rattle.std.specs.List.{slice_get, All, Contains}
+use Rattle.std.proofs.lemmas.Bool.{false≢true}
+use Rattle.std.proofs.lemmas.List.{append-nil, map-append}
+use Rattle.std.proofs.lemmas.List.Elements.{All-nil, All-cons, All-head, All-tail, All-contains, Contains-append_left, Contains-append_right, Contains-append_cases}
+use Rattle.std.proofs.lemmas.Option.{none-some, same_Some, slice_get_within, slice_get-get_or, get_or_from_slice_get, slice_get_cases}
+use Rattle.mh_grammar.specs.declared.types.TokenInfo.{TokenInfo}
+use Rattle.mh_grammar.specs.declared.types.Production.{Production}
+use Rattle.mh_grammar.specs.declared.types.Grammar.{Grammar}
+use Rattle.mh_grammar.specs.declared.types.Symbol.{Symbol}
+use Rattle.mh_grammar.specs.declared.types.Symbol.TheVariants.{T, N}
+use Rattle.mh_grammar.specs.Derivations as trees
+use Rattle.mh_grammar.specs.Derivations.{Derivation, Derivations}
+use Rattle.mh_grammar.specs.Plain.{PlainGrammar, plain_of, IsToken, Produces, Derives, DerivesAll, IsSentence}
+use Rattle.mh_grammar.proofs.Numbered.{produces_at, listed_from_for}
+use Rattle.mh_grammar.proofs.Placing.{at_contains, contains_at}
+use Rattle.mh_join.specs.declared.joined.Prec.{Prec}
+use Rattle.mh_expand.specs.declared.instances.Part.{Part}
+use Rattle.mh_expand.specs.declared.instances.Part.TheVariants.{Token, Instance as Applied}
+use Rattle.mh_expand.specs.declared.instances.InstanceProduction.{InstanceProduction}
+use Rattle.mh_expand.specs.declared.instances.Instance.{Instance}
+use Rattle.mh_expand.specs.declared.instances.Expanded.{Expanded}
+use Rattle.mh_inline.specs.declared.unfoldings.Unfolding.{Unfolding}
+use Rattle.mh_inline.specs.declared.sources.Source.{Source}
+use Rattle.mh_inline.specs.Instances.{is_inlined, IsAlternative, IsKept, IsPartBelow, IsReady}
+use Rattle.mh_inline.specs.Unfoldings as unfoldings
+use Rattle.mh_inline.specs.Unfoldings.{only, own, joined, choices, UnfoldsPart, Unfolds, UnfoldsEach}
+use Rattle.mh_inline.specs.Inlined as inlined
+use Rattle.mh_inline.specs.Inlined.{number_of, symbol_of, production_of, rank_of, IsSource, AreSources, AreProductions, IsInlined}
+use Rattle.mh_inline.specs.InstanceTrees.{IsTokenPart, PartProduces, PartDerives, PartsDerive, IsInstanceSentence, KeepsSentences}
+use Rattle.mh_inline.specs.Faults.{HasNoInlineStart}
+use Rattle.mh_inline.proofs.Sourcing.{contains_here, contains_there, contains_cases, contains_none}
+use Rattle.mh_inline.proofs.Limits.{alternative_same}
+use Rattle.mh_inline.proofs.Productions.{AreBelow, below_ready}
+use Rattle.mh_inline.proofs.Ranges.{IsNonterminal, IsGood, number_apart, side_good, start_at, start_nonterminal}
+
+-- MEMBERS
+
+contains_map : {X Y : Type 0} (f : X → Y) (xs : List X) (x : X) → Contains xs x → Contains (map f xs) (f x)
+contains_map f [] x c = absurd (contains_none x c)
+contains_map f (y ∷ xs) x c = elim (contains_cases y xs x c) [
+  | inl e ↦ rw (← e) (contains_here (f y) (map f xs))
+  | inr d ↦ contains_there (f y) (map f xs) (f x) (contains_map f xs x d)
+]
+
+map_contains : {X Y : Type 0} (f : X → Y) (xs : List X) (y : Y) → Contains (map f xs) y → (x : X) × Contains xs x × (f x ≡ y)
+map_contains f [] y c = absurd (contains_none y c)
+map_contains f (x ∷ xs) y c = elim (contains_cases (f x) (map f xs) y c) [
+  | inl e ↦ (x, contains_here x xs, e)
+  | inr d ↦ (let m = map_contains f xs y d in (m.0, contains_there x xs m.0 m.1, m.2))
+]
+
+contains_choices : (us vs : List Unfolding) (u v : Unfolding) → Contains us u → Contains vs v → Contains (choices us vs) (joined u v)
+contains_choices [] vs u v c d = absurd (contains_none u c)
+contains_choices (x ∷ us) vs u v c d = elim (contains_cases x us u c) [
+  | inl e ↦ rw (← e) (Contains-append_left (map (joined x) vs) (choices us vs) (joined x v) (contains_map (joined x) vs v d))
+  | inr f ↦ Contains-append_right (map (joined x) vs) (choices us vs) (joined u v) (contains_choices us vs u v f d)
+]
+
+record IsChoice (us vs : List Unfolding) (w : Unfolding) : Type 0 where
+  left : Unfolding
+  right : Unfolding
+  from_left : Contains us left
+  from_right : Contains vs right
+  same : joined left right ≡ w
+
+choices_contains : (us vs : List Unfolding) (w : Unfolding) → Contains (choices us vs) w → IsChoice us vs w
+choices_contains [] vs w c = absurd (contains_none w c)
+choices_contains (x ∷ us) vs w c = elim (Contains-append_cases (map (joined x) vs) (choices us vs) w c) [
+  | inl d ↦ (let m = map_contains (joined x) vs w d in record { left = x; right = m.0; from_left = contains_here x us; from_right = m.1; same = m.2 })
+  | inr d ↦ (let i = choices_contains us vs w d in record { left = i.left; right = i.right; from_left = contains_there x us i.left i.from_left; from_right = i.from_right; same = i.same })
+]
+
+-- FORESTS
+
+module _ {S : Type 0} (IsLeaf : S → ℕ → Type 0) (Makes : S → List S → Type 0) where
+  forest_append : (Xs Ys : List S) (u v : List ℕ) → Derivations IsLeaf Makes Xs u → Derivations IsLeaf Makes Ys v → Derivations IsLeaf Makes (Xs ++ Ys) (u ++ v)
+  forest_append Xs Ys u v trees.Derivations.none g = g
+  forest_append Xs Ys u v (trees.Derivations.more {u = a} {v = b} e t f) g = trees.Derivations.more (ap (λ l. l ++ v) e ∙ append_assoc a b v) t (forest_append _ Ys b v f g)
+
+  record Split (Xs Ys : List S) (w : List ℕ) : Type 0 where
+    front : List ℕ
+    back : List ℕ
+    same : w ≡ front ++ back
+    left : Derivations IsLeaf Makes Xs front
+    right : Derivations IsLeaf Makes Ys back
+
+  forest_split : (Xs Ys : List S) (w : List ℕ) → Derivations IsLeaf Makes (Xs ++ Ys) w → Split Xs Ys w
+  forest_split [] Ys w f = record { front = []; back = w; same = refl; left = trees.Derivations.none; right = f }
+  forest_split (X ∷ Xs) Ys w (trees.Derivations.more {u = a} {v = b} e t f) =
+      let s = forest_split Xs Ys b f in
+      record { front = a ++ s.front; back = s.back; same = e ∙ ap (λ l. a ++ l) s.same ∙ sym (append_assoc a s.front s.back); left = trees.Derivations.more refl t s.left; right = s.right }
+
+  no_more : (w : List ℕ) → Derivations IsLeaf Makes [] w → w ≡ []
+  no_more w trees.Derivations.none = refl
+
+  single_tree : (X : S) (w : List ℕ) → Derivations IsLeaf Makes (X ∷ []) w → Derivation IsLeaf Makes X w
+  single_tree X w (trees.Derivations.more {u = a} {v = b} e t f) = subst (Derivation IsLeaf Makes X) (sym (e ∙ ap (λ l. a ++ l) (no_more b f) ∙ append-nil a)) t
+
+  one_tree : (X : S) (w : List ℕ) → Derivation IsLeaf Makes X w → Derivations IsLeaf Makes (X ∷ []) w
+  one_tree X w t = trees.Derivations.more (sym (append-nil w)) t trees.Derivations.none
+
+-- FROM A TREE OF AN UNFOLDING TO ONE OF ITS PRODUCERS
+
+module _ (is : List Instance) where
+  record FromAlternative (ps : List InstanceProduction) (w : List ℕ) : Type 0 where
+    place : ℕ
+    production : InstanceProduction
+    at : slice_get ps place ≡ Some production
+    forest : PartsDerive is production.rhs w
+
+  mutual
+    folded_part : (X : Part) (us : List Unfolding) → UnfoldsPart is X us → (u : Unfolding) (w : List ℕ) → Contains us u → PartsDerive is u.rhs w → PartDerives is X w
+    folded_part X us (unfoldings.UnfoldsPart.kept k) u w c f = elim (contains_cases (only X) [] u c) [
+      | inl e ↦ single_tree IsTokenPart (PartProduces is) X w (subst (λ (x : Unfolding). PartsDerive is x.rhs w) (sym e) f)
+      | inr d ↦ absurd (contains_none u d)
+    ]
+    folded_part X us (unfoldings.UnfoldsPart.inlined {n = n} {i = i} at e r) u w c f =
+        let a = folded_each i.productions us r u w c f in
+        trees.Derivation.node (a.place, a.production, record { instance = i; at = at; alternative = a.at }, refl) a.forest
+
+    pub folded_side : (Xs : List Part) (us : List Unfolding) → Unfolds is Xs us → (u : Unfolding) (w : List ℕ) → Contains us u → PartsDerive is u.rhs w → PartsDerive is Xs w
+    folded_side Xs us unfoldings.Unfolds.none u w c f = elim (contains_cases unfoldings.nothing [] u c) [
+      | inl e ↦ subst (λ (x : Unfolding). PartsDerive is x.rhs w) (sym e) f
+      | inr d ↦ absurd (contains_none u d)
+    ]
+    folded_side Xs us (unfoldings.Unfolds.more {X = X} {us = firsts} {vs = rests} e p g) u w c f =
+        let i = choices_contains firsts rests u (rw e at c) in
+        let s = forest_split IsTokenPart (PartProduces is) i.left.rhs i.right.rhs w (subst (λ (x : Unfolding). PartsDerive is x.rhs w) (sym i.same) f) in
+        trees.Derivations.more s.same (folded_part X firsts p i.left s.front i.from_left s.left) (folded_side _ rests g i.right s.back i.from_right s.right)
+
+    folded_each : (ps : List InstanceProduction) (us : List Unfolding) → UnfoldsEach is ps us → (u : Unfolding) (w : List ℕ) → Contains us u → PartsDerive is u.rhs w → FromAlternative ps w
+    folded_each ps us unfoldings.UnfoldsEach.no_alternative u w c f = absurd (contains_none u c)
+    folded_each ps us (unfoldings.UnfoldsEach.alternative {p = p} {us = firsts} {vs = rests} e g r) u w c f = elim (Contains-append_cases (map (own p.prec) firsts) rests u (rw e at c)) [
+      | inl d ↦ (let m = map_contains (own p.prec) firsts u d in record { place = zero; production = p; at = refl; forest = folded_side p.rhs firsts g m.0 w m.1 (subst (λ (x : Unfolding). PartsDerive is x.rhs w) (sym m.2) f) })
+      | inr d ↦ (let h = folded_each _ rests r u w d f in record { place = suc h.place; production = h.production; at = h.at; forest = h.forest })
+    ]
+
+  -- the unfoldings of an alternative stand among those of its instance
+  record AmongEach (us : List Unfolding) (p : InstanceProduction) : Type 0 where
+    unfoldings : List Unfolding
+    unfolds : Unfolds is p.rhs unfoldings
+    among : (u : Unfolding) → Contains unfoldings u → Contains us (own p.prec u)
+
+  among_each : (ps : List InstanceProduction) (us : List Unfolding) → UnfoldsEach is ps us → (k : ℕ) (p : InstanceProduction) → slice_get ps k ≡ Some p → AmongEach us p
+  among_each ps us unfoldings.UnfoldsEach.no_alternative k p at = absurd (none-some p at)
+  among_each ps us (unfoldings.UnfoldsEach.alternative {p = q} {us = firsts} {vs = rests} e g r) zero p at =
+      let one : q ≡ p = same_Some q p at in
+      subst (AmongEach us) one (record { unfoldings = firsts; unfolds = g; among = λ u c. rw e (Contains-append_left (map (own q.prec) firsts) rests (own q.prec u) (contains_map (own q.prec) firsts u c)) })
+  among_each ps us (unfoldings.UnfoldsEach.alternative {p = q} {us = firsts} {vs = rests} e g r) (suc k) p at =
+      let h = among_each _ rests r k p at in
+      record { unfoldings = h.unfoldings; unfolds = h.unfolds; among = λ u c. rw e (Contains-append_right (map (own q.prec) firsts) rests (own p.prec u) (h.among u c)) }
+
+-- THE PRODUCTIONS OF THE GRAMMAR
+
+module _ (tokens : List TokenInfo) (is : List Instance) where
+  -- those of a source
+  record FromSource (s : Source) (ps : List Production) : Type 0 where
+    production : InstanceProduction
+    alternative : IsAlternative is s.instance s.alternative production
+    unfoldings : List Unfolding
+    unfolds : Unfolds is production.rhs unfoldings
+    made : (u : Unfolding) → Contains unfoldings u → Contains ps (production_of tokens is s.instance (own production.prec u))
+
+  from_source : (sources : List Source) (ps : List Production) → AreProductions tokens is sources ps → (s : Source) → Contains sources s → FromSource s ps
+  from_source sources ps inlined.AreProductions.none s c = absurd (contains_none s c)
+  from_source sources ps (inlined.AreProductions.more {s = t} {sources = rest} {p = p} {us = us} {ps = qs} a f e r) s c = elim (contains_cases t rest s c) [
+    | inl same ↦ subst (λ (x : Source). FromSource x ps) same (record {
+      production = p;
+      alternative = a;
+      unfoldings = us;
+      unfolds = f;
+      made = λ u d. rw e (Contains-append_left (map (λ x. production_of tokens is t.instance (own p.prec x)) us) qs (production_of tokens is t.instance (own p.prec u)) (contains_map (λ x. production_of tokens is t.instance (own p.prec x)) us u d));
+    })
+    | inr d ↦ (let h = from_source rest qs r s d in record {
+      production = h.production;
+      alternative = h.alternative;
+      unfoldings = h.unfoldings;
+      unfolds = h.unfolds;
+      made = λ u x. rw e (Contains-append_right (map (λ y. production_of tokens is t.instance (own p.prec y)) us) qs (production_of tokens is s.instance (own h.production.prec u)) (h.made u x));
+    })
+  ]
+
+  -- where a production comes from
+  record Origin (sources : List Source) (q : Production) : Type 0 where
+    source : Source
+    among : Contains sources source
+    production : InstanceProduction
+    alternative : IsAlternative is source.instance source.alternative production
+    unfoldings : List Unfolding
+    unfolds : Unfolds is production.rhs unfoldings
+    unfolding_ : Unfolding
+    chosen : Contains unfoldings unfolding_
+    made : production_of tokens is source.instance (own production.prec unfolding_) ≡ q
+
+  origin : (sources : List Source) (ps : List Production) → AreProductions tokens is sources ps → (q : Production) → Contains ps q → Origin sources q
+  origin sources ps inlined.AreProductions.none q c = absurd (contains_none q c)
+  origin sources ps (inlined.AreProductions.more {s = t} {sources = rest} {p = p} {us = us} {ps = qs} a f e r) q c = elim (Contains-append_cases (map (λ x. production_of tokens is t.instance (own p.prec x)) us) qs q (rw e at c)) [
+    | inl d ↦ (let m = map_contains (λ x. production_of tokens is t.instance (own p.prec x)) us q d in record { source = t; among = contains_here t rest; production = p; alternative = a; unfoldings = us; unfolds = f; unfolding_ = m.0; chosen = m.1; made = m.2 })
+    | inr d ↦ (let o = origin rest qs r q d in record { source = o.source; among = contains_there t rest o.source o.among; production = o.production; alternative = o.alternative; unfoldings = o.unfoldings; unfolds = o.unfolds; unfolding_ = o.unfolding_; chosen = o.chosen; made = o.made })
+  ]
+
+module _ (e : Expanded) (ready : IsReady e) (g : Grammar) (i : IsInlined e g) where
+  abbrev is : List Instance
+  is = e.instances
+
+  -- an alternative of a nonterminal has its unfoldings among the productions
+  of_alternative : (n k : ℕ) (p : InstanceProduction) → is_inlined is n ≡ false → IsAlternative is n k p → (us : List Unfolding) × Unfolds is p.rhs us × ((u : Unfolding) → Contains us u → Contains g.productions (production_of e.tokens is n (own p.prec u)))
+  of_alternative n k p kept a =
+      let s : Source = record { rank = rank_of p.file; place = p.place; instance = n; alternative = k } in
+      let c = (i.ordered.exact s).1 (record { kept = kept; production = p; alternative = a; rank = refl; place = refl }) in
+      let h = from_source e.tokens is i.sources g.productions i.productions s c in
+      let one = alternative_same is n k h.production p h.alternative a in (
+        h.unfoldings,
+        subst (λ (q : InstanceProduction). Unfolds is q.rhs h.unfoldings) one h.unfolds,
+        λ u d. subst (λ (q : InstanceProduction). Contains g.productions (production_of e.tokens is n (own q.prec u))) one (h.made u d),
+      )
+
+  -- a production of the grammar with a forest makes a tree
+  node_at : (n : ℕ) (u : Unfolding) (w : List ℕ) → Contains g.productions (production_of e.tokens is n u) → DerivesAll (plain_of g) (map (symbol_of is) u.rhs) w → Derives (plain_of g) (N (number_of is n)) w
+  node_at n u w c f = let at = at_contains g.productions (production_of e.tokens is n u) c in trees.Derivation.node (produces_at (plain_of g) at.0 (production_of e.tokens is n u) (number_of is n) at.1 refl) f
+
+  -- FROM INSTANCES TO THE GRAMMAR
+
+  record Unfolded (us : List Unfolding) (w : List ℕ) : Type 0 where
+    unfolding_ : Unfolding
+    chosen : Contains us unfolding_
+    forest : DerivesAll (plain_of g) (map (symbol_of is) unfolding_.rhs) w
+
+  kept_leaf : (X : Part) (a : ℕ) → IsTokenPart X a → IsKept is X → Unfolded (only X ∷ []) (a ∷ [])
+  kept_leaf (Token b) a t k = record { unfolding_ = only (Token b); chosen = contains_here (only (Token b)) []; forest = one_tree IsToken (Produces (plain_of g)) (T b) (a ∷ []) (trees.Derivation.leaf t) }
+  kept_leaf (Applied n) a t k = absurd t
+
+  kept_node : (X : Part) (rhs : List Part) (w : List ℕ) → PartProduces is X rhs → IsKept is X → ((us : List Unfolding) → Unfolds is rhs us → Unfolded us w) → Unfolded (only X ∷ []) w
+  kept_node (Token a) rhs w m k below = absurd m
+  kept_node (Applied n) rhs w m k below =
+      let a = of_alternative n m.0 m.1 k m.2 in
+      let h = below a.0 (subst (λ Xs. Unfolds is Xs a.0) m.3 a.1) in
+      record {
+        unfolding_ = only (Applied n);
+        chosen = contains_here (only (Applied n)) [];
+        forest = one_tree IsToken (Produces (plain_of g)) (N (number_of is n)) w (node_at n (own m.1.prec h.unfolding_) w (a.2 h.unfolding_ h.chosen) h.forest);
+      }
+
+  mutual
+    unfolded_part : (X : Part) (w : List ℕ) → PartDerives is X w → (us : List Unfolding) → UnfoldsPart is X us → Unfolded us w
+    unfolded_part X w (trees.Derivation.leaf {a = a} t) us (unfoldings.UnfoldsPart.kept k) = kept_leaf X a t k
+    unfolded_part X w (trees.Derivation.leaf t) us (unfoldings.UnfoldsPart.inlined at inline r) = absurd t
+    unfolded_part X w (trees.Derivation.node {rhs = rhs} made f) us (unfoldings.UnfoldsPart.kept k) = kept_node X rhs w made k (λ vs side. unfolded_side rhs w f vs side)
+    unfolded_part X w (trees.Derivation.node {rhs = rhs} made f) us (unfoldings.UnfoldsPart.inlined {n = n} {i = j} at inline r) =
+        let same : made.2.instance ≡ j = same_Some _ _ (sym made.2.at ∙ at) in
+        let there : slice_get j.productions made.0 ≡ Some made.1 = ap (λ (x : Instance). slice_get x.productions made.0) (sym same) ∙ made.2.alternative in
+        let a = among_each is j.productions us r made.0 made.1 there in
+        let side : Unfolds is rhs a.unfoldings = subst (λ Xs. Unfolds is Xs a.unfoldings) made.3 a.unfolds in
+        let h = unfolded_side rhs w f a.unfoldings side in
+        record { unfolding_ = own made.1.prec h.unfolding_; chosen = a.among h.unfolding_ h.chosen; forest = h.forest }
+
+    unfolded_side : (Xs : List Part) (w : List ℕ) → PartsDerive is Xs w → (us : List Unfolding) → Unfolds is Xs us → Unfolded us w
+    unfolded_side Xs w trees.Derivations.none us unfoldings.Unfolds.none = record { unfolding_ = unfoldings.nothing; chosen = contains_here unfoldings.nothing []; forest = trees.Derivations.none }
+    unfolded_side Xs w (trees.Derivations.more {u = a} {v = b} split t f) us (unfoldings.Unfolds.more {us = firsts} {vs = rests} same p q) =
+        let x = unfolded_part _ a t firsts p in
+        let y = unfolded_side _ b f rests q in
+        record {
+          unfolding_ = joined x.unfolding_ y.unfolding_;
+          chosen = rw same (contains_choices firsts rests x.unfolding_ y.unfolding_ x.chosen y.chosen);
+          forest = subst (λ l. DerivesAll (plain_of g) (map (symbol_of is) (joined x.unfolding_ y.unfolding_).rhs) l) (sym split)
+              (subst (λ l. DerivesAll (plain_of g) l (a ++ b)) (sym (map-append (symbol_of is) x.unfolding_.rhs y.unfolding_.rhs))
+              (forest_append IsToken (Produces (plain_of g)) (map (symbol_of is) x.unfolding_.rhs) (map (symbol_of is) y.unfolding_.rhs) a b x.forest y.forest));
+        }
+
+  pub to_grammar : (X : Part) (w : List ℕ) → IsKept is X → PartDerives is X w → Derives (plain_of g) (symbol_of is X) w
+  to_grammar X w k t =
+      let h = unfolded_part X w t (only X ∷ []) (unfoldings.UnfoldsPart.kept k) in
+      elim (contains_cases (only X) [] h.unfolding_ h.chosen) [
+        | inl e ↦ single_tree IsToken (Produces (plain_of g)) (symbol_of is X) w (subst (λ (u : Unfolding). DerivesAll (plain_of g) (map (symbol_of is) u.rhs) w) (sym e) h.forest)
+        | inr d ↦ absurd (contains_none h.unfolding_ d)
+      ]
+
+  -- FROM THE GRAMMAR TO INSTANCES
+
+  abbrev good : Part → Type 0
+  good = IsGood (length e.tokens) is
+
+  nonterminal_of_good : (n : ℕ) → good (Applied n) → IsNonterminal is n
+  nonterminal_of_good n h = record { kept = h.kept; within = h.below }
+
+  leaf_back : (X : Part) (S : Symbol) (a : ℕ) → symbol_of is X ≡ S → IsToken S a → PartDerives is X (a ∷ [])
+  leaf_back (Token b) (T c) a same t = let one : b ≡ c = cc in trees.Derivation.leaf (one ∙ t)
+  leaf_back (Token b) (N n) a same t = absurd t
+  leaf_back (Applied n) (T c) a same t = let u : N (number_of is n) ≡ T c = same in cc
+  leaf_back (Applied n) (N m) a same t = absurd t
+
+  -- what a production with this right side is made from
+  record MadeFrom (n : ℕ) (rhs : List Symbol) : Type 0 where
+    place : ℕ
+    production : InstanceProduction
+    alternative : IsAlternative is n place production
+    unfoldings : List Unfolding
+    unfolds : Unfolds is production.rhs unfoldings
+    unfolding_ : Unfolding
+    chosen : Contains unfoldings unfolding_
+    side : map (symbol_of is) unfolding_.rhs ≡ rhs
+    good_side : All good unfolding_.rhs
+
+  made_from : (n : ℕ) (rhs : List Symbol) → good (Applied n) → Produces (plain_of g) (N (number_of is n)) rhs → MadeFrom n rhs
+  made_from n rhs h p =
+      let l = listed_from_for (plain_of g) (number_of is n) p.0 p.1 in
+      let o = origin e.tokens is i.sources g.productions i.productions l.production (contains_at g.productions l.place l.production l.at) in
+      let source = (i.ordered.exact o.source).0 o.among in
+      let other : IsNonterminal is o.source.instance = record { kept = source.kept; within = slice_get_within is o.source.instance o.alternative.instance o.alternative.at } in
+      let one : o.source.instance ≡ n = number_apart is o.source.instance n other (nonterminal_of_good n h) (ap (λ (q : Production). q.lhs) o.made ∙ l.lhs) in
+      let b = below_ready e ready in
+      record {
+        place = o.source.alternative;
+        production = o.production;
+        alternative = subst (λ m. IsAlternative is m o.source.alternative o.production) one o.alternative;
+        unfoldings = o.unfoldings;
+        unfolds = o.unfolds;
+        unfolding_ = o.unfolding_;
+        chosen = o.chosen;
+        side = ap (λ (q : Production). q.rhs) o.made ∙ sym l.rhs ∙ p.2;
+        good_side = All-contains (λ u. All good u.rhs) o.unfoldings o.unfolding_ (side_good (length e.tokens) is b o.production.rhs o.unfoldings o.unfolds (b.each o.source.instance o.source.alternative o.production o.alternative)) o.chosen;
+      }
+
+  node_back : (X : Part) (S : Symbol) (rhs : List Symbol) (w : List ℕ) → good X → symbol_of is X ≡ S → Produces (plain_of g) S rhs → ((Xs : List Part) → All good Xs → map (symbol_of is) Xs ≡ rhs → PartsDerive is Xs w) → PartDerives is X w
+  node_back (Token a) S rhs w h same p below = absurd (subst (λ x. Produces (plain_of g) x rhs) (sym same) p)
+  node_back (Applied n) S rhs w h same p below =
+      let m = made_from n rhs h (subst (λ x. Produces (plain_of g) x rhs) (sym same) p) in
+      trees.Derivation.node (m.place, m.production, m.alternative, refl) (folded_side is m.production.rhs m.unfoldings m.unfolds m.unfolding_ w m.chosen (below m.unfolding_.rhs m.good_side m.side))
+
+  mutual
+    from_tree : (S : Symbol) (w : List ℕ) → Derives (plain_of g) S w → (X : Part) → good X → symbol_of is X ≡ S → PartDerives is X w
+    from_tree S w (trees.Derivation.leaf {a = a} t) X h same = leaf_back X S a same t
+    from_tree S w (trees.Derivation.node {rhs = rhs} p f) X h same = node_back X S rhs w h same p (λ Xs hs e'. from_forest rhs w f Xs hs e')
+
+    from_forest : (Ss : List Symbol) (w : List ℕ) → DerivesAll (plain_of g) Ss w → (Xs : List Part) → All good Xs → map (symbol_of is) Xs ≡ Ss → PartsDerive is Xs w
+    from_forest Ss w trees.Derivations.none [] h same = trees.Derivations.none
+    from_forest Ss w trees.Derivations.none (X ∷ Xs) h same = cc
+    from_forest Ss w (trees.Derivations.more split t f) [] h same = cc
+    from_forest Ss w (trees.Derivations.more {X = S} {Xs = Ss'} {u = a} {v = b} split t f) (X ∷ Xs) h same =
+        let one : symbol_of is X ≡ S = cc in
+        let rest : map (symbol_of is) Xs ≡ Ss' = cc in
+        trees.Derivations.more split (from_tree S a t X (All-head good X Xs h) one) (from_forest Ss' b f Xs (All-tail good X Xs h) rest)
+
+  pub from_grammar : (X : Part) (w : List ℕ) → good X → Derives (plain_of g) (symbol_of is X) w → PartDerives is X w
+  from_grammar X w h t = from_tree (symbol_of is X) w t X h refl
+
+  -- SENTENCES
+
+  pub keeps_sentences : HasNoInlineStart e → KeepsSentences e g
+  keeps_sentences kept start w l =
+      let n = get_or e.starts start 0 in
+      let at = slice_get-get_or e.starts start 0 l in
+      let k = start_nonterminal e ready kept start n at in
+      let there = ap (λ xs. slice_get xs start) i.starts ∙ start_there start n at in
+      let same : get_or g.starts start 0 ≡ number_of is n = get_or_from_slice_get g.starts start (number_of is n) 0 there in (
+        (λ t. subst (λ m. Derives (plain_of g) (N m) w) (sym same) (to_grammar (Applied n) w k.kept t)),
+        (λ t. from_grammar (Applied n) w (record { kept = k.kept; below = k.within }) (subst (λ m. Derives (plain_of g) (N m) w) same t)),
+      )
+    where
+      start_there : (j m : ℕ) → slice_get e.starts j ≡ Some m → slice_get (map (number_of is) e.starts) j ≡ Some (number_of is m)
+      start_there j m at = start_at e ready kept j m at

@@ -1,0 +1,14 @@
+use Rattle.std.proofs.Common.{sym, ◌∙◌, length, ◌≤◌, arith}
+use Rattle.mh_inline.proofs.Sourcing.{AreSourcesBelow-inline, AreSources-all}
+use Rattle.mh_inline.proofs.sources.sources_of.Goals as goal
+use Rattle.mh_inline.proofs.sources.sources_of.Goals.{then-not-is_inline+in_ok-add_sources, else-not-is_inline}
+
+pub loop-number-preserved : goal.loop-number-preserved
+loop-number-preserved c =
+    elim c.if-not-is_inline.branch [
+      | then-not-is_inline+in_ok-add_sources w ↦ rw w.sources-is w.in_ok-add_sources.ensures
+      | else-not-is_inline w ↦ rw w.sources-is (AreSourcesBelow-inline c.args.expanded.now.instances c.loop-number.number c.loop-number.sources.keys (sym c.is_inline.ensures ∙ w.if-not-is_inline.false) c.loop-number.invariant)
+    ]
+
+pub returns : goal.returns
+returns c = rw c.in_ok-in_order.ensures (AreSources-all c.args.expanded.now.instances c.loop-number.number c.loop-number.sources.keys (omega (arith, c.loop-number-test.false, c.len-number-end.ensures)) c.loop-number.invariant)

@@ -1,0 +1,19 @@
+use Rattle.std.proofs.Common.{◌≡◌, length, sym, ap, ◌∙◌, arith, ◌∷◌, []}
+use Rattle.std.proofs.lemmas.Option.{slice_get_within}
+use Rattle.std.proofs.lemmas.Result.{IfOk-weaker}
+use Rattle.mh_inline.specs.Unfoldings.{choices, only}
+use Rattle.mh_inline.specs.Known.{Extends}
+use Rattle.mh_inline.proofs.Knowing.{known_part, extends_known, extends_kept}
+use Rattle.mh_inline.proofs.unfoldings.unfold_part.Goals as goal
+
+pub bounds-known-number : goal.bounds-known-number
+bounds-known-number c = let k = known_part c.args.expanded.now.instances c.args.known.now c.args.part c.in-Some.number c.requires (sym c.inline_part.ensures ∙ c.in-Some.is) in slice_get_within c.args.known.now c.in-Some.number k.unfoldings k.at
+
+pub returns-in-Some : goal.returns-in-Some
+returns-in-Some c = IfOk-weaker c.all_choices.result (λ all. all.items ≡ choices c.as_slice.result.now c.as_slice-in-Some.result.now) (λ more. Extends c.args.expanded.now.instances c.args.part c.args.all.items more.items)
+    (λ v e. extends_known c.args.expanded.now.instances c.args.known.now c.args.part c.in-Some.number c.args.all.items v.items c.index-known-number.result c.requires (sym c.inline_part.ensures ∙ c.in-Some.is) c.index-known-number.is
+    (e ∙ ap (λ l. choices l c.as_slice-in-Some.result.now) c.as_slice.ensures.value ∙ ap (choices c.args.all.items) c.as_slice-in-Some.ensures)) c.all_choices.ensures
+
+pub returns-in-None : goal.returns-in-None
+returns-in-None c = IfOk-weaker c.with_part.result (λ more. more.items ≡ choices c.args.all.items (only c.args.part ∷ [])) (λ more. Extends c.args.expanded.now.instances c.args.part c.args.all.items more.items)
+    (λ v e. extends_kept c.args.expanded.now.instances c.args.part c.args.all.items v.items (sym c.inline_part.ensures ∙ c.in-None.is) e) c.with_part.ensures

@@ -1,0 +1,103 @@
+-- Why instances give no grammar: the first cause in this order.
+use Rattle.std.specs.Prelude.{◌≡◌, ◌<◌, ◌≤◌, ◌⊎◌, ℕ, Bool, true, false, List, Some, length, slice_get, slice_index_or}
+use Rattle.std.specs.List.{All, Any}
+use Rattle.mh_grammar.specs.declared.types.Production.{Production}
+use Rattle.mh_grammar.specs.declared.types.Grammar.{Grammar}
+use Rattle.mh_grammar.specs.Plain.{plain_of, IsProductive}
+use Rattle.mh_expand.specs.declared.instances.Instance.{Instance}
+use Rattle.mh_expand.specs.declared.instances.Expanded.{Expanded}
+use Rattle.mh_inline.specs.declared.fault.InlineFault.{InlineFault}
+use Rattle.mh_inline.specs.declared.fault.InlineFault.TheVariants.{InlineCycle, InlineStart, TooManyProductions, EmptyLanguage, Memory}
+use Rattle.mh_inline.specs.Instances.{is_inlined, Reaches}
+use Rattle.mh_inline.specs.Inlined.{IsInlined, number_of}
+
+-- the name of an instance
+pub record IsNamed (e : Expanded) (n : ℕ) (name : List ℕ) : Type 0 where
+  pub instance : Instance
+  pub at : slice_get e.instances n ≡ Some instance
+  pub is : instance.name ≡ name
+
+-- an inline instance reaches itself through inline instances
+abbrev pub IsCyclic : Expanded → ℕ → Type 0
+IsCyclic e n = Reaches e.instances n n
+
+-- the first found such
+pub record IsFirstCyclicAt (e : Expanded) (n : ℕ) : Type 0 where
+  pub cyclic : IsCyclic e n
+  pub first : (m : ℕ) → m < n → IsCyclic e m → ⊥
+
+pub record IsFirstCyclic (e : Expanded) (name : List ℕ) : Type 0 where
+  pub number : ℕ
+  pub named : IsNamed e number name
+  pub first : IsFirstCyclicAt e number
+
+abbrev pub HasNoCycle : Expanded → Type 0
+HasNoCycle e = (n : ℕ) → IsCyclic e n → ⊥
+
+-- the first start that is inline
+pub record IsFirstInlineStartAt (e : Expanded) (n : ℕ) : Type 0 where
+  pub place : ℕ
+  pub at : slice_get e.starts place ≡ Some n
+  pub inlined : is_inlined e.instances n ≡ true
+  pub first : (k m : ℕ) → k < place → slice_get e.starts k ≡ Some m → is_inlined e.instances m ≡ false
+
+pub record IsFirstInlineStart (e : Expanded) (name : List ℕ) : Type 0 where
+  pub number : ℕ
+  pub named : IsNamed e number name
+  pub first : IsFirstInlineStartAt e number
+
+abbrev pub HasNoInlineStart : Expanded → Type 0
+HasNoInlineStart e = All (λ s. is_inlined e.instances s ≡ false) e.starts
+
+-- within the limits
+pub record IsSmall (g : Grammar) : Type 0 where
+  pub few : length g.productions ≤ 20000
+  pub short : All (λ (p : Production). length p.rhs ≤ 10000) g.productions
+
+abbrev pub IsOver : Grammar → Type 0
+IsOver g = (20000 < length g.productions) ⊎ Any (λ (p : Production). 10000 < length p.rhs) g.productions
+
+-- the first start that has no finite tree
+pub record IsFirstEmptyAt (e : Expanded) (g : Grammar) (n : ℕ) : Type 0 where
+  pub place : ℕ
+  pub at : slice_get e.starts place ≡ Some n
+  pub empty : IsProductive (plain_of g) (number_of e.instances n) → ⊥
+  pub first : (k m : ℕ) → k < place → slice_get e.starts k ≡ Some m → IsProductive (plain_of g) (number_of e.instances m)
+
+pub record IsFirstEmpty (e : Expanded) (g : Grammar) (name : List ℕ) : Type 0 where
+  pub number : ℕ
+  pub named : IsNamed e number name
+  pub first : IsFirstEmptyAt e g number
+
+-- the first place that is not marked
+pub record IsFirstUnmarked (marks : List Bool) (starts : List ℕ) (place : ℕ) : Type 0 where
+  pub start : ℕ
+  pub at : slice_get starts place ≡ Some start
+  pub unmarked : slice_index_or marks start false ≡ false
+  pub first : (k s : ℕ) → k < place → slice_get starts k ≡ Some s → slice_index_or marks s false ≡ true
+
+-- the grammar, where there is no fault
+pub record IsGrammarOf (e : Expanded) (g : Grammar) : Type 0 where
+  pub acyclic : HasNoCycle e
+  pub kept : HasNoInlineStart e
+  pub inlined : IsInlined e g
+  pub small : IsSmall g
+  pub productive : All (IsProductive (plain_of g)) g.starts
+
+-- all is well but that the start at a place is the first without a finite tree
+pub record HasEmptyStart (e : Expanded) (place : ℕ) : Type 0 where
+  pub acyclic : HasNoCycle e
+  pub kept : HasNoInlineStart e
+  pub grammar : Grammar
+  pub inlined : IsInlined e grammar
+  pub small : IsSmall grammar
+  pub number : ℕ
+  pub at : slice_get e.starts place ≡ Some number
+  pub first : IsFirstEmptyAt e grammar number
+
+abbrev pub IsFault : Expanded → InlineFault → Type 0
+IsFault e (InlineCycle name) = IsFirstCyclic e name
+IsFault e (InlineStart name) = HasNoCycle e × IsFirstInlineStart e name
+IsFault e TooManyProductions = HasNoCycle e × HasNoInlineStart e × (g : Grammar) × IsInlined e g × IsOver g
+IsFault e (EmptyLanguage name) = HasNoCycle e × HasNoInlineStart e × (g : Grammar) × IsInlined e g × IsSmall g × IsFirstEmpty e g name
+IsFault e Memory = Unit {0}

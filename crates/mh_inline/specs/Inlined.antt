@@ -1,0 +1,92 @@
+-- The grammar that instances give when the inline ones are replaced by their alternatives.
+use Rattle.std.specs.Prelude.{◌≡◌, ◌<◌, ◌↔◌, ◌⊎◌, ◌-◌, ◌++◌, ◌^◌, ℕ, zero, suc, Bool, not, false, List, [], ◌∷◌, Option, Some, None, length, slice_get, take, map, filter, count_by, unwrap_or}
+use Rattle.std.specs.Option.{option_map, option_and_then}
+use Rattle.std.specs.List.{Contains}
+use Rattle.mh_grammar.specs.declared.types.Level.{Level}
+use Rattle.mh_grammar.specs.declared.types.TokenInfo.{TokenInfo}
+use Rattle.mh_grammar.specs.declared.types.NontermInfo.{NontermInfo}
+use Rattle.mh_grammar.specs.declared.types.Production.{Production}
+use Rattle.mh_grammar.specs.declared.types.Grammar.{Grammar}
+use Rattle.mh_grammar.specs.declared.types.Symbol.{Symbol}
+use Rattle.mh_grammar.specs.declared.types.Symbol.TheVariants.{T, N}
+use Rattle.mh_grammar.specs.Edges.{IsRising}
+use Rattle.mh_join.specs.declared.joined.Prec.{Prec}
+use Rattle.mh_join.specs.declared.joined.Prec.TheVariants.{Absent, Given}
+use Rattle.mh_expand.specs.declared.instances.Part.{Part}
+use Rattle.mh_expand.specs.declared.instances.Part.TheVariants.{Token, Instance as Applied}
+use Rattle.mh_expand.specs.declared.instances.InstanceProduction.{InstanceProduction}
+use Rattle.mh_expand.specs.declared.instances.Instance.{Instance}
+use Rattle.mh_expand.specs.declared.instances.Expanded.{Expanded}
+use Rattle.mh_inline.specs.declared.unfoldings.Unfolding.{Unfolding}
+use Rattle.mh_inline.specs.declared.sources.Source.{Source}
+use Rattle.mh_inline.specs.Instances.{is_inlined, IsAlternative}
+use Rattle.mh_inline.specs.Unfoldings.{own, Unfolds}
+
+-- the nonterminals are the instances that are not inline, in order
+abbrev pub is_kept : Instance → Bool
+is_kept i = not i.inlined
+
+abbrev pub nonterminal_of : Instance → NontermInfo
+nonterminal_of i = record { name = i.name; on_error = i.on_error }
+
+abbrev pub number_of : List Instance → ℕ → ℕ
+number_of is n = count_by is_kept (take n is)
+
+abbrev pub symbol_of : List Instance → Part → Symbol
+symbol_of is (Token a) = T a
+symbol_of is (Applied n) = N (number_of is n)
+
+-- the rightmost token
+abbrev pub token_behind : Part → Option ℕ → Option ℕ
+token_behind X (Some a) = Some a
+token_behind (Token a) None = Some a
+token_behind (Applied n) None = None
+
+abbrev pub last_token : List Part → Option ℕ
+last_token [] = None
+last_token (X ∷ Xs) = token_behind X (last_token Xs)
+
+abbrev pub token_level : List TokenInfo → ℕ → Option Level
+token_level tokens a = option_and_then (λ t. t.level) (slice_get tokens a)
+
+-- the level of its %prec, which may be none; else that of its rightmost token
+abbrev pub level_of : List TokenInfo → Prec → List Part → Option Level
+level_of tokens (Given level) rhs = level
+level_of tokens Absent rhs = option_and_then (token_level tokens) (last_token rhs)
+
+abbrev pub production_of : List TokenInfo → List Instance → ℕ → Unfolding → Production
+production_of tokens is n u = record { lhs = number_of is n; rhs = map (symbol_of is) u.rhs; level = level_of tokens u.prec u.rhs }
+
+-- the files in order of the command line, the prelude, which is file 0, last
+abbrev pub rank_of : ℕ → ℕ
+rank_of zero = 2 ^ 64 - 1
+rank_of (suc k) = k
+
+-- an alternative of an instance that is not inline, with the rank of its file and its place there
+pub record IsSource (is : List Instance) (s : Source) : Type 0 where
+  pub kept : is_inlined is s.instance ≡ false
+  pub production : InstanceProduction
+  pub alternative : IsAlternative is s.instance s.alternative production
+  pub rank : s.rank ≡ rank_of production.file
+  pub place : s.place ≡ production.place
+
+-- by file, place there, instance, and place among the alternatives of the instance
+abbrev pub IsSourceBefore : Source → Source → Type 0
+IsSourceBefore s t = (s.rank < t.rank) ⊎ ((s.rank ≡ t.rank) × ((s.place < t.place) ⊎ ((s.place ≡ t.place) × ((s.instance < t.instance) ⊎ ((s.instance ≡ t.instance) × (s.alternative < t.alternative))))))
+
+pub record AreSources (is : List Instance) (sources : List Source) : Type 0 where
+  pub rising : IsRising IsSourceBefore sources
+  pub exact : (s : Source) → Contains sources s ↔ IsSource is s
+
+-- for each source in order the productions of its unfoldings, in their order
+pub data AreProductions (tokens : List TokenInfo) (is : List Instance) : List Source → List Production → Type 0 where
+  none : AreProductions tokens is [] []
+  more : {s : Source} {sources : List Source} {p : InstanceProduction} {us : List Unfolding} {ps qs : List Production} → IsAlternative is s.instance s.alternative p → Unfolds is p.rhs us → qs ≡ map (λ u. production_of tokens is s.instance (own p.prec u)) us ++ ps → AreProductions tokens is sources ps → AreProductions tokens is (s ∷ sources) qs
+
+pub record IsInlined (e : Expanded) (g : Grammar) : Type 0 where
+  pub tokens : g.tokens ≡ e.tokens
+  pub nonterminals : g.nonterminals ≡ map nonterminal_of (filter is_kept e.instances)
+  pub starts : g.starts ≡ map (number_of e.instances) e.starts
+  pub sources : List Source
+  pub ordered : AreSources e.instances sources
+  pub productions : AreProductions e.tokens e.instances sources g.productions

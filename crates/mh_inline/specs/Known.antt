@@ -1,0 +1,50 @@
+-- Unfoldings that are known, by the numbers of their instances.
+use Rattle.std.specs.Prelude.{◌≡◌, ◌≤◌, ℕ, true, List, Option, Some, length, slice_get}
+use Rattle.std.specs.List.{Contains}
+use Rattle.mh_expand.specs.declared.instances.Part.{Part}
+use Rattle.mh_expand.specs.declared.instances.Part.TheVariants.{Instance as Applied}
+use Rattle.mh_expand.specs.declared.instances.InstanceProduction.{InstanceProduction}
+use Rattle.mh_expand.specs.declared.instances.Instance.{Instance}
+use Rattle.mh_inline.specs.declared.unfoldings.Unfolding.{Unfolding}
+use Rattle.mh_inline.specs.declared.sizes.Size.{Size}
+use Rattle.mh_inline.specs.declared.sources.Source.{Source}
+use Rattle.mh_inline.specs.Instances.{is_inlined, Inlines, IsAlternative}
+use Rattle.mh_inline.specs.Unfoldings.{choices, UnfoldsPart}
+use Rattle.mh_inline.specs.Sizes.{AreSmall, IsPartSize}
+
+pub record IsKnown (is : List Instance) (known : List (List Unfolding)) (n : ℕ) : Type 0 where
+  pub unfoldings : List Unfolding
+  pub unfolds : UnfoldsPart is (Applied n) unfoldings
+  pub at : slice_get known n ≡ Some unfoldings
+
+-- those of the inline ones among some producers
+pub record AreKnown (is : List Instance) (known : List (List Unfolding)) (Xs : List Part) : Type 0 where
+  pub each : (j n : ℕ) → slice_get Xs j ≡ Some (Applied n) → is_inlined is n ≡ true → IsKnown is known n
+
+-- those of the inline ones in some alternatives
+pub record AreEachKnown (is : List Instance) (known : List (List Unfolding)) (ps : List InstanceProduction) : Type 0 where
+  pub each : (k : ℕ) (p : InstanceProduction) → slice_get ps k ≡ Some p → AreKnown is known p.rhs
+
+-- each unfolding goes on with each unfolding of a producer
+pub record Extends (is : List Instance) (X : Part) (old new : List Unfolding) : Type 0 where
+  pub unfoldings : List Unfolding
+  pub unfolds : UnfoldsPart is X unfoldings
+  pub same : new ≡ choices old unfoldings
+
+-- those of some instances, where they are within the limits
+pub record Knows (is : List Instance) (numbers : List ℕ) (known : List (List Unfolding)) : Type 0 where
+  pub len : length known ≡ length is
+  pub each : (n : ℕ) (us : List Unfolding) → Contains numbers n → UnfoldsPart is (Applied n) us → AreSmall us → slice_get known n ≡ Some us
+
+-- an inline instance with a size, where those of the inline instances that it is made of are known
+pub record IsNext (is : List Instance) (sizes : List (Option Size)) (known : List (List Unfolding)) (n : ℕ) : Type 0 where
+  pub inlined : is_inlined is n ≡ true
+  pub size : Size
+  pub sized : slice_get sizes n ≡ Some (Some size)
+  pub right : IsPartSize is (Applied n) size
+  pub some : (m : ℕ) → Inlines is n m → (us : List Unfolding) × UnfoldsPart is (Applied m) us
+  pub behind : (m : ℕ) (us : List Unfolding) → Inlines is n m → UnfoldsPart is (Applied m) us → AreSmall us → slice_get known m ≡ Some us
+
+-- those of the inline ones in the alternative of a source
+pub record IsSourceKnown (is : List Instance) (known : List (List Unfolding)) (s : Source) : Type 0 where
+  pub each : (p : InstanceProduction) → IsAlternative is s.instance s.alternative p → AreKnown is known p.rhs

@@ -1,0 +1,140 @@
+//! Inline instances that reach themselves.
+ghost use Rattle.std.specs.Prelude.{◌≡◌, ◌<◌, ◌↔◌, ◌∷◌, [], true, false, length, replicate, IfNone, IfOk, OnOk, IsTrue, MatchOption};
+ghost use Rattle.mh_inline.specs.Instances.{is_inlined, IsReady, Reaches};
+ghost use Rattle.mh_inline.specs.Faults.{HasNoCycle, IsFirstCyclicAt};
+ghost use Rattle.mh_inline.specs.Found.{Adds, AreQueued, IsAmong, IsIn, IsMadeOf, IsSame, IsTable};
+ghost use Rattle.mh_inline.specs.Sizes.{AreAllSized, AreSettled, IsSizing};
+
+use crate::instances::{inline_part, is_inline};
+use crate::sizes::Sizing;
+use mh_expand::{Expanded, InstanceProduction, Part};
+use mh_grammar::Memory;
+use std::alloc::Global;
+
+/// The instances that were found, as flags and in the order in which they came.
+#[derive(Debug, Drop)]
+pub struct Found {
+    pub flags: Vec<bool>,
+    pub queue: Vec<usize>,
+}
+
+fn nothing_found(alloc: Global, count: usize) -> Result<Found, Memory>
+    ensures flags { IfOk result (λ f. f.flags.items ≡ replicate count false) }
+    ensures queue { IfOk result (λ f. f.queue.items ≡ []) }
+{
+    Ok(Found {
+        flags: vec![in alloc; false; count]?,
+        queue: Vec::new(alloc),
+    })
+}
+
+fn add_one(found: &mut Found, number: usize) -> Result<(), Memory>
+    requires number { number < length found.old.flags.items }
+    requires sets { AreQueued found.old }
+    ensures { OnOk result (Adds (IsSame number) found.old found.new) }
+{
+    if !found.flags[number] {
+        found.queue.push(number)?;
+        found.flags[number] = true;
+    }
+    Ok(())
+}
+
+fn add_part(expanded: &Expanded, part: Part, found: &mut Found) -> Result<(), Memory>
+    requires { IsTable expanded.now.instances found.old }
+    ensures { OnOk result (Adds (IsAmong expanded.now.instances (part ∷ [])) found.old found.new) }
+{
+    match inline_part(expanded, part) {
+        Some(number) => add_one(found, number),
+        None => Ok(()),
+    }
+}
+
+fn add_side(expanded: &Expanded, producers: &[Part], found: &mut Found) -> Result<(), Memory>
+    requires { IsTable expanded.now.instances found.old }
+    ensures { OnOk result (Adds (IsAmong expanded.now.instances producers.now) found.old found.new) }
+{
+    for part in producers {
+        add_part(expanded, *part, found)?;
+    }
+    Ok(())
+}
+
+fn add_each(
+    expanded: &Expanded,
+    productions: &[InstanceProduction],
+    found: &mut Found,
+) -> Result<(), Memory>
+    requires { IsTable expanded.now.instances found.old }
+    ensures { OnOk result (Adds (IsIn expanded.now.instances productions.now) found.old found.new) }
+{
+    for production in productions {
+        add_side(expanded, production.rhs.as_slice(), found)?;
+    }
+    Ok(())
+}
+
+/// Adds the inline instances that an instance is made of.
+fn add_inlined(expanded: &Expanded, number: usize, found: &mut Found) -> Result<(), Memory>
+    requires table { IsTable expanded.now.instances found.old }
+    requires number { number < length expanded.now.instances }
+    ensures { OnOk result (Adds (IsMadeOf expanded.now.instances number) found.old found.new) }
+{
+    add_each(
+        expanded,
+        expanded.instances[number].productions.as_slice(),
+        found,
+    )
+}
+
+/// Whether an inline instance reaches itself through inline instances.
+fn is_cyclic(alloc: Global, expanded: &Expanded, number: usize) -> Result<bool, Memory>
+    requires { is_inlined expanded.now.instances number ≡ true }
+    ensures { IfOk result (λ cyclic. IsTrue cyclic ↔ Reaches expanded.now.instances number number) }
+{
+    let mut found = nothing_found(alloc, expanded.instances.len())?;
+    add_inlined(expanded, number, &mut found)?;
+    let mut done = 0;
+    while done < found.queue.len() {
+        let next = found.queue[done];
+        add_inlined(expanded, next, &mut found)?;
+        done += 1;
+    }
+    Ok(found.flags[number])
+}
+
+/// Whether an instance reaches itself. One that is not inline or has a size does not.
+fn reaches_itself(
+    alloc: Global,
+    expanded: &Expanded,
+    sizing: &Sizing,
+    number: usize,
+) -> Result<bool, Memory>
+    requires sizing { IsSizing expanded.now.instances sizing.now }
+    requires number { number < length expanded.now.instances }
+    ensures { IfOk result (λ cyclic. IsTrue cyclic ↔ Reaches expanded.now.instances number number) }
+{
+    if !is_inline(expanded, number) || sizing.sizes[number].is_some() {
+        return Ok(false);
+    }
+    is_cyclic(alloc, expanded, number)
+}
+
+/// The first inline instance that reaches itself.
+pub(crate) fn first_cyclic(
+    alloc: Global,
+    expanded: &Expanded,
+    sizing: &Sizing,
+) -> Result<Option<usize>, Memory>
+    requires sizing { IsSizing expanded.now.instances sizing.now }
+    requires settled { AreSettled expanded.now.instances sizing.now.sizes.items }
+    ensures first { IfOk result (λ found. MatchOption found (HasNoCycle expanded.now) (IsFirstCyclicAt expanded.now)) }
+    ensures sized { IfOk result (λ found. IfNone found (AreAllSized expanded.now.instances sizing.now.sizes.items)) }
+{
+    for number in 0..expanded.instances.len() {
+        if reaches_itself(alloc, expanded, sizing, number)? {
+            return Ok(Some(number));
+        }
+    }
+    Ok(None)
+}

@@ -1,0 +1,46 @@
+//! Why instances give no grammar.
+use mh_grammar::{Memory, Name};
+use std::alloc::{AllocError, AllocFailed};
+use thiserror::Error;
+
+/// The first fault of the instances, in the order of these variants.
+#[derive(Debug, Drop, PartialEq, Eq, Error)]
+pub enum InlineFault {
+    /// This inline instance, the first found such, reaches itself through inline instances.
+    #[error("inline cycle")]
+    InlineCycle { instance: Name },
+    /// This start symbol, the first such, is inline.
+    #[error("inline start")]
+    InlineStart { name: Name },
+    /// There are more than 20,000 productions, or one has more than 10,000 symbols.
+    #[error("too many productions")]
+    TooManyProductions,
+    /// This start symbol, the first such, has no finite tree.
+    #[error("empty language")]
+    EmptyLanguage { name: Name },
+    /// Memory ran out.
+    #[error("out of memory")]
+    Memory,
+}
+
+impl From<Memory> for InlineFault {
+    ghost use Rattle.std.specs.Prelude.{◌≡◌};
+    ghost use Rattle.mh_inline.specs.declared.fault.InlineFault.TheVariants.{Memory as memory};
+
+    ghost from_gives = { λ _ e. e ≡ memory };
+
+    fn from(_: Memory) -> InlineFault {
+        InlineFault::Memory
+    }
+}
+
+impl From<AllocError> for InlineFault {
+    ghost use Rattle.std.specs.Prelude.{◌≡◌};
+    ghost use Rattle.mh_inline.specs.declared.fault.InlineFault.TheVariants.{Memory as memory};
+
+    ghost from_gives = { λ _ e. e ≡ memory };
+
+    fn from(_: AllocError) -> InlineFault {
+        InlineFault::Memory
+    }
+}

@@ -1,0 +1,194 @@
+//! The grammar of instances, or the first fault.
+ghost use Rattle.std.specs.Prelude.{◌≡◌, ◌<◌, true, false, length, slice_index_or, IfOk, IfErr, MatchOption};
+ghost use Rattle.std.specs.List.{All};
+ghost use Rattle.mh_grammar.specs.Plain.{plain_of, IsInRange};
+ghost use Rattle.mh_grammar.specs.Numbering.{AreDistinct};
+ghost use Rattle.mh_inline.specs.Instances.{IsReady};
+ghost use Rattle.mh_inline.specs.Sizes.{AreAllSized, IsSizing};
+ghost use Rattle.mh_inline.specs.Inlined.{AreSources, IsInlined};
+ghost use Rattle.mh_inline.specs.Making.{AreSourcesSmall};
+ghost use Rattle.mh_inline.specs.Faults.{HasEmptyStart, HasNoCycle, HasNoInlineStart, IsFault, IsFirstCyclicAt, IsFirstInlineStartAt, IsFirstUnmarked, IsGrammarOf, IsNamed, IsSmall};
+ghost use Rattle.mh_inline.specs.InstanceTrees.{KeepsSentences};
+
+use crate::cycles::first_cyclic;
+use crate::fault::InlineFault;
+use crate::grammars::{productions_of, size_of_sources};
+use crate::instances::is_inline;
+use crate::nonterminals::{nonterminals_of, numbers_of, starts_of};
+use crate::sizes::{Sizing, inline_sizes, is_small};
+use crate::sources::{Source, sources_of};
+use crate::unfoldings::unfold_inline;
+use mh_expand::Expanded;
+use mh_grammar::{Grammar, Memory, Name, Sequence, TokenInfo, productive};
+use std::alloc::Global;
+
+fn name_of(expanded: &Expanded, number: usize) -> Result<Name, Memory>
+    requires { number < length expanded.now.instances }
+    ensures { IfOk result (IsNamed expanded.now number) }
+{
+    Ok(expanded.instances[number].name.clone()?)
+}
+
+/// The first start that is inline.
+fn first_inline_start(expanded: &Expanded) -> Option<u32>
+    ensures { MatchOption result (HasNoInlineStart expanded.now) (IsFirstInlineStartAt expanded.now) }
+{
+    for start in expanded.starts.as_slice() {
+        if is_inline(expanded, *start as usize) {
+            return Some(*start);
+        }
+    }
+    None
+}
+
+/// The place of the first start that is not marked.
+fn first_empty(marks: &[bool], starts: &[u16]) -> Option<usize>
+    requires { All (λ s. s < length marks.now) starts.now }
+    ensures { MatchOption result (All (λ s. slice_index_or marks.now s false ≡ true) starts.now) (IsFirstUnmarked marks.now starts.now) }
+{
+    for (place, start) in starts.iter().enumerate() {
+        if !marks[usize::from(*start)] {
+            return Some(place);
+        }
+    }
+    None
+}
+
+fn cycle_fault(expanded: &Expanded, number: usize) -> InlineFault
+    requires { IsFirstCyclicAt expanded.now number }
+    ensures { IsFault expanded.now result }
+{
+    match name_of(expanded, number) {
+        Ok(instance) => InlineFault::InlineCycle { instance },
+        Err(_) => InlineFault::Memory,
+    }
+}
+
+fn start_fault(expanded: &Expanded, number: usize) -> InlineFault
+    requires ready { IsReady expanded.now }
+    requires acyclic { HasNoCycle expanded.now }
+    requires first { IsFirstInlineStartAt expanded.now number }
+    ensures { IsFault expanded.now result }
+{
+    match name_of(expanded, number) {
+        Ok(name) => InlineFault::InlineStart { name },
+        Err(_) => InlineFault::Memory,
+    }
+}
+
+fn empty_fault(expanded: &Expanded, place: usize) -> InlineFault
+    requires ready { IsReady expanded.now }
+    requires empty { HasEmptyStart expanded.now place }
+    ensures { IsFault expanded.now result }
+{
+    match name_of(expanded, expanded.starts[place] as usize) {
+        Ok(name) => InlineFault::EmptyLanguage { name },
+        Err(_) => InlineFault::Memory,
+    }
+}
+
+fn tokens_of(expanded: &Expanded) -> Result<Sequence<TokenInfo>, Memory>
+    ensures { IfOk result (λ tokens. tokens ≡ expanded.now.tokens) }
+{
+    Ok(expanded.tokens.clone()?)
+}
+
+/// The grammar from the alternatives in their order.
+fn grammar_of(
+    alloc: Global,
+    expanded: &Expanded,
+    sizing: &Sizing,
+    sources: &[Source],
+) -> Result<Grammar, Memory>
+    requires ready { IsReady expanded.now }
+    requires sizing { IsSizing expanded.now.instances sizing.now }
+    requires sized { AreAllSized expanded.now.instances sizing.now.sizes.items }
+    requires sources { AreSources expanded.now.instances sources.now }
+    requires small { AreSourcesSmall expanded.now.tokens expanded.now.instances sources.now }
+    ensures inlined { IfOk result (IsInlined expanded.now) }
+    ensures small { IfOk result IsSmall }
+{
+    let known = unfold_inline(alloc, expanded, sizing)?;
+    let numbers = numbers_of(alloc, expanded.instances.as_slice())?;
+    let productions = productions_of(alloc, expanded, &known, numbers.as_slice(), sources)?;
+    let nonterminals = nonterminals_of(alloc, expanded.instances.as_slice())?;
+    let starts = starts_of(alloc, expanded.starts.as_slice(), numbers.as_slice())?;
+    Ok(Grammar {
+        tokens: tokens_of(expanded)?,
+        nonterminals: Sequence::from_vec(nonterminals),
+        productions: Sequence::from_vec(productions),
+        starts: Sequence::from_vec(starts),
+    })
+}
+
+/// The grammar, if each start has a finite tree.
+fn with_trees(alloc: Global, expanded: &Expanded, grammar: Grammar) -> Result<Grammar, InlineFault>
+    requires ready { IsReady expanded.now }
+    requires acyclic { HasNoCycle expanded.now }
+    requires kept { HasNoInlineStart expanded.now }
+    requires inlined { IsInlined expanded.now grammar }
+    requires small { IsSmall grammar }
+    ensures grammar { IfOk result (IsGrammarOf expanded.now) }
+    ensures fault { IfErr result (IsFault expanded.now) }
+{
+    let marks = productive(alloc, &grammar)?;
+    match first_empty(marks.as_slice(), grammar.starts.as_slice()) {
+        Some(place) => Err(empty_fault(expanded, place)),
+        None => Ok(grammar),
+    }
+}
+
+/// The grammar, where no start is inline.
+fn inline_kept(alloc: Global, expanded: &Expanded, sizing: &Sizing) -> Result<Grammar, InlineFault>
+    requires ready { IsReady expanded.now }
+    requires sizing { IsSizing expanded.now.instances sizing.now }
+    requires sized { AreAllSized expanded.now.instances sizing.now.sizes.items }
+    requires acyclic { HasNoCycle expanded.now }
+    requires kept { HasNoInlineStart expanded.now }
+    ensures grammar { IfOk result (IsGrammarOf expanded.now) }
+    ensures fault { IfErr result (IsFault expanded.now) }
+{
+    let sources = sources_of(alloc, expanded)?;
+    let size = size_of_sources(expanded, sizing, sources.as_slice());
+    if !is_small(Some(size)) {
+        return Err(InlineFault::TooManyProductions);
+    }
+    let grammar = grammar_of(alloc, expanded, sizing, sources.as_slice())?;
+    with_trees(alloc, expanded, grammar)
+}
+
+/// The grammar, where no inline instance reaches itself.
+fn inline_acyclic(
+    alloc: Global,
+    expanded: &Expanded,
+    sizing: &Sizing,
+) -> Result<Grammar, InlineFault>
+    requires ready { IsReady expanded.now }
+    requires sizing { IsSizing expanded.now.instances sizing.now }
+    requires sized { AreAllSized expanded.now.instances sizing.now.sizes.items }
+    requires acyclic { HasNoCycle expanded.now }
+    ensures grammar { IfOk result (IsGrammarOf expanded.now) }
+    ensures fault { IfErr result (IsFault expanded.now) }
+{
+    match first_inline_start(expanded) {
+        Some(number) => Err(start_fault(expanded, number as usize)),
+        None => inline_kept(alloc, expanded, sizing),
+    }
+}
+
+/// The grammar that the instances give when each inline producer is replaced by each of its own alternatives, or the
+/// first fault. Each start has the same sentences as before.
+pub fn inline_rules(alloc: Global, expanded: &Expanded) -> Result<Grammar, InlineFault>
+    requires { IsReady expanded.now }
+    ensures grammar { IfOk result (IsGrammarOf expanded.now) }
+    ensures fault { IfErr result (IsFault expanded.now) }
+    ensures range { IfOk result (λ g. IsInRange (plain_of g)) }
+    ensures distinct { IfOk result (λ g. AreDistinct g.starts) }
+    ensures sentences { IfOk result (KeepsSentences expanded.now) }
+{
+    let sizing = inline_sizes(alloc, expanded)?;
+    match first_cyclic(alloc, expanded, &sizing)? {
+        Some(number) => Err(cycle_fault(expanded, number)),
+        None => inline_acyclic(alloc, expanded, &sizing),
+    }
+}

@@ -1,0 +1,16 @@
+//! The grammar that instances give: each inline producer is replaced by each of its own alternatives, and what is left
+//! is numbered.
+#![tactic(auto)]
+
+mod cycles;
+mod fault;
+mod grammars;
+mod inlining;
+mod instances;
+mod nonterminals;
+mod sizes;
+mod sources;
+mod unfoldings;
+
+pub use fault::InlineFault;
+pub use inlining::inline_rules;

@@ -1,0 +1,76 @@
+//! The alternatives of the instances that are not inline, in the order of their productions.
+ghost use Rattle.std.specs.Prelude.{◌≡◌, ◌+◌, ◌<◌, ◌≤◌, false, length, IfOk, OnOk};
+ghost use Rattle.mh_inline.specs.Instances.{is_inlined, IsReady};
+ghost use Rattle.mh_inline.specs.Inlined.{rank_of, AreSources};
+ghost use Rattle.mh_inline.specs.Making.{AreSourcesBelow};
+
+use crate::instances::is_inline;
+use mh_expand::{Expanded, InstanceProduction};
+use mh_grammar::Memory;
+use std::alloc::{AllocError, Global};
+use std::collections::BTreeSet;
+
+/// An alternative: the rank of its file and its place there, its instance and its place among the alternatives of it.
+#[derive(Clone, Copy, Debug, PartialEq, Eq, PartialOrd, Ord)]
+pub struct Source {
+    pub rank: u64,
+    pub place: u64,
+    pub instance: u32,
+    pub alternative: u64,
+}
+
+/// The prelude, which is file 0, comes last.
+fn rank(file: u64) -> u64
+    ensures { result ≡ rank_of file }
+{
+    if file == 0 { u64::MAX } else { file - 1 }
+}
+
+fn source_of(number: u32, alternative: u64, production: &InstanceProduction) -> Source
+    ensures { result ≡ record { rank = rank_of production.now.file; place = production.now.place; instance = number; alternative = alternative } }
+{
+    Source {
+        rank: rank(production.file),
+        place: production.place,
+        instance: number,
+        alternative,
+    }
+}
+
+/// Adds the alternatives of an instance.
+fn add_sources(
+    expanded: &Expanded,
+    number: usize,
+    sources: &mut BTreeSet<Source>,
+) -> Result<(), Memory>
+    requires few { length expanded.now.instances ≤ 20000 }
+    requires number { number < length expanded.now.instances }
+    requires kept { is_inlined expanded.now.instances number ≡ false }
+    requires below { AreSourcesBelow expanded.now.instances number 0 sources.old.keys }
+    ensures { OnOk result (AreSourcesBelow expanded.now.instances (number + 1) 0 sources.new.keys) }
+{
+    let productions = expanded.instances[number].productions.as_slice();
+    for (alternative, production) in productions.iter().enumerate() {
+        sources.insert(source_of(number as u32, alternative as u64, production))?;
+    }
+    Ok(())
+}
+
+fn in_order(alloc: Global, sources: BTreeSet<Source>) -> Result<Vec<Source>, AllocError>
+    ensures { IfOk result (λ v. v.items ≡ sources.keys) }
+{
+    sources.into_iter().collect(alloc)
+}
+
+pub(crate) fn sources_of(alloc: Global, expanded: &Expanded) -> Result<Vec<Source>, Memory>
+    requires { length expanded.now.instances ≤ 20000 }
+    ensures { IfOk result (λ v. AreSources expanded.now.instances v.items) }
+{
+    let mut sources = BTreeSet::new(alloc);
+    for number in 0..expanded.instances.len() {
+        if !is_inline(expanded, number) {
+            add_sources(expanded, number, &mut sources)?;
+        }
+    }
+    Ok(in_order(alloc, sources)?)
+}

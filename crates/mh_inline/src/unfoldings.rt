@@ -1,0 +1,212 @@
+//! What producers become when each inline one is replaced by one of its own alternatives.
+ghost use Rattle.std.specs.Prelude.{◌≡◌, ◌++◌, ◌∷◌, [], List, map, IfOk, OnOk, length};
+ghost use Rattle.mh_inline.specs.declared.unfoldings.Unfolding.{Unfolding as Unfolded};
+ghost use Rattle.mh_inline.specs.Instances.{IsReady};
+ghost use Rattle.mh_inline.specs.Unfoldings.{choices, joined, nothing, only, own, rightmost, Unfolds, UnfoldsEach, UnfoldsPart};
+ghost use Rattle.mh_inline.specs.Known.{AreKnown, AreEachKnown, Extends, IsNext, Knows};
+ghost use Rattle.mh_inline.specs.Sizes.{AreSmall, IsSizing};
+
+use crate::instances::inline_part;
+use crate::sizes::{Sizing, is_small};
+use mh_expand::{Expanded, InstanceProduction, Part};
+use mh_grammar::{Memory, Sequence};
+use mh_join::Prec;
+use std::alloc::Global;
+
+/// Producers none of which is inline, and the `%prec` that came with what was inlined.
+#[derive(Debug, Drop)]
+pub struct Unfolding {
+    pub rhs: Sequence<Part>,
+    pub prec: Prec,
+}
+
+pub(crate) fn rightmost_prec(left: Prec, right: Prec) -> Prec
+    ensures { result ≡ rightmost left right }
+{
+    match right {
+        Prec::Absent => left,
+        Prec::Given(level) => Prec::Given(level),
+    }
+}
+
+/// One unfolding behind the other.
+fn join(alloc: Global, left: &Unfolding, right: &Unfolding) -> Result<Unfolding, Memory>
+    ensures { IfOk result (λ u. u ≡ joined left.now right.now) }
+{
+    let mut rhs = Vec::from_slice(alloc, left.rhs.as_slice())?;
+    rhs.extend_from_slice(right.rhs.as_slice())?;
+    Ok(Unfolding {
+        rhs: Sequence::from_vec(rhs),
+        prec: rightmost_prec(left.prec, right.prec),
+    })
+}
+
+fn add_joined(
+    alloc: Global,
+    all: &mut Vec<Unfolding>,
+    first: &Unfolding,
+    rest: &[Unfolding],
+) -> Result<(), Memory>
+    ensures { OnOk result (all.new.items ≡ all.old.items ++ map (joined first.now) rest.now) }
+{
+    for second in rest {
+        all.push(join(alloc, first, second)?)?;
+    }
+    Ok(())
+}
+
+/// Each of the first with each of the second; the choice from the first varies slowest.
+fn all_choices(
+    alloc: Global,
+    left: &[Unfolding],
+    right: &[Unfolding],
+) -> Result<Vec<Unfolding>, Memory>
+    ensures { IfOk result (λ all. all.items ≡ choices left.now right.now) }
+{
+    let mut all = Vec::new(alloc);
+    for first in left {
+        add_joined(alloc, &mut all, first, right)?;
+    }
+    Ok(all)
+}
+
+/// Puts a producer behind each unfolding.
+fn push_part(all: &mut [Unfolding], part: Part) -> Result<(), Memory>
+    ensures { OnOk result (all.new ≡ map (λ u. joined u (only part)) all.old) }
+{
+    for unfolding in all.iter_mut() {
+        unfolding.rhs.push(part)?;
+    }
+    Ok(())
+}
+
+fn with_part(mut all: Vec<Unfolding>, part: Part) -> Result<Vec<Unfolding>, Memory>
+    ensures { IfOk result (λ more. more.items ≡ choices all.items (only part ∷ [])) }
+{
+    push_part(&mut all, part)?;
+    Ok(all)
+}
+
+fn unfold_part(
+    alloc: Global,
+    expanded: &Expanded,
+    known: &[Sequence<Unfolding>],
+    all: Vec<Unfolding>,
+    part: Part,
+) -> Result<Vec<Unfolding>, Memory>
+    requires { AreKnown expanded.now.instances known.now (part ∷ []) }
+    ensures { IfOk result (λ more. Extends expanded.now.instances part all.items more.items) }
+{
+    match inline_part(expanded, part) {
+        Some(number) => all_choices(alloc, all.as_slice(), known[number].as_slice()),
+        None => with_part(all, part),
+    }
+}
+
+/// All unfoldings of some producers, in order. Those of the inline ones among them are known.
+pub(crate) fn unfold_side(
+    alloc: Global,
+    expanded: &Expanded,
+    known: &[Sequence<Unfolding>],
+    producers: &[Part],
+) -> Result<Vec<Unfolding>, Memory>
+    requires { AreKnown expanded.now.instances known.now producers.now }
+    ensures { IfOk result (λ all. Unfolds expanded.now.instances producers.now all.items) }
+{
+    let mut all = just_nothing(alloc)?;
+    for part in producers {
+        all = unfold_part(alloc, expanded, known, all, *part)?;
+    }
+    Ok(all)
+}
+
+fn just_nothing(alloc: Global) -> Result<Vec<Unfolding>, Memory>
+    ensures { IfOk result (λ all. all.items ≡ nothing ∷ []) }
+{
+    let mut all = Vec::new(alloc);
+    all.push(Unfolding {
+        rhs: Sequence::new(alloc),
+        prec: Prec::Absent,
+    })?;
+    Ok(all)
+}
+
+fn add_own(all: &mut Vec<Unfolding>, prec: Prec, unfoldings: Vec<Unfolding>) -> Result<(), Memory>
+    ensures { OnOk result (all.new.items ≡ all.old.items ++ map (own prec) unfoldings.items) }
+{
+    for unfolding in unfoldings {
+        let Unfolding { rhs, prec: inlined } = unfolding;
+        all.push(Unfolding {
+            rhs,
+            prec: rightmost_prec(inlined, prec),
+        })?;
+    }
+    Ok(())
+}
+
+/// All unfoldings of some alternatives, in order.
+fn unfold_each(
+    alloc: Global,
+    expanded: &Expanded,
+    known: &[Sequence<Unfolding>],
+    productions: &[InstanceProduction],
+) -> Result<Vec<Unfolding>, Memory>
+    requires { AreEachKnown expanded.now.instances known.now productions.now }
+    ensures { IfOk result (λ all. UnfoldsEach expanded.now.instances productions.now all.items) }
+{
+    let mut all = Vec::new(alloc);
+    for production in productions {
+        let side = unfold_side(alloc, expanded, known, production.rhs.as_slice())?;
+        add_own(&mut all, production.prec, side)?;
+    }
+    Ok(all)
+}
+
+fn no_unfoldings(alloc: Global, count: usize) -> Result<Vec<Sequence<Unfolding>>, Memory>
+    ensures { IfOk result (λ known. length known.items ≡ count) }
+{
+    let mut known = Vec::new(alloc);
+    while known.len() < count {
+        known.push(Sequence::new(alloc))?;
+    }
+    Ok(known)
+}
+
+/// The unfoldings of an inline instance, if it has no more and no longer ones than a grammar may have; else none.
+fn unfold_one(
+    alloc: Global,
+    expanded: &Expanded,
+    sizing: &Sizing,
+    known: &[Sequence<Unfolding>],
+    number: usize,
+) -> Result<Sequence<Unfolding>, Memory>
+    requires ready { IsReady expanded.now }
+    requires next { IsNext expanded.now.instances sizing.now.sizes.items known.now number }
+    ensures { IfOk result (λ all. (us : List Unfolded) → UnfoldsPart expanded.now.instances (Part.Instance number) us → AreSmall us → all ≡ us) }
+{
+    if !is_small(sizing.sizes[number]) {
+        return Ok(Sequence::new(alloc));
+    }
+    let productions = expanded.instances[number].productions.as_slice();
+    let all = unfold_each(alloc, expanded, known, productions)?;
+    Ok(Sequence::from_vec(all))
+}
+
+/// The unfoldings of each inline instance that has no more and no longer ones than a grammar may have.
+pub(crate) fn unfold_inline(
+    alloc: Global,
+    expanded: &Expanded,
+    sizing: &Sizing,
+) -> Result<Vec<Sequence<Unfolding>>, Memory>
+    requires ready { IsReady expanded.now }
+    requires sizing { IsSizing expanded.now.instances sizing.now }
+    ensures { IfOk result (λ known. Knows expanded.now.instances sizing.now.order.items known.items) }
+{
+    let mut known = no_unfoldings(alloc, expanded.instances.len())?;
+    for number in sizing.order.as_slice() {
+        let at = *number as usize;
+        let all = unfold_one(alloc, expanded, sizing, &known, at)?;
+        known[at] = all;
+    }
+    Ok(known)
+}
