@@ -1,5 +1,5 @@
 -- Sizes of unfoldings without the unfoldings.
-use Rattle.std.proofs.Common.{◌≡◌, ℕ, zero, suc, ◌+◌, ◌*◌, ◌<◌, ◌≤◌, true, min, max, List, [], ◌∷◌, ◌++◌, Option, Some, None, map, take, length, get_or, refl, sym, ap, ◌∙◌, arith, inl, inr, length-append, subst, zero-mul, mul-zero, MatchOption, OnSome}
+use Rattle.std.proofs.Common.{◌≡◌, ℕ, zero, suc, ◌+◌, ◌*◌, ◌<◌, true, min, max, List, [], ◌∷◌, ◌++◌, Option, Some, None, map, take, length, get_or, sym, ap, ◌∙◌, arith, inl, inr, length-append, subst, zero-mul, mul-zero, MatchOption, OnSome}
 use Rattle.std.specs.List.{slice_get}
 use Rattle.std.proofs.lemmas.List.{take_more, length-map}
 use Rattle.std.proofs.lemmas.Bool.{cases_lt, false≢true}
@@ -8,12 +8,11 @@ use Rattle.mh_expand.specs.declared.instances.Part.{Part}
 use Rattle.mh_expand.specs.declared.instances.Part.TheVariants.{Instance as Applied}
 use Rattle.mh_expand.specs.declared.instances.InstanceProduction.{InstanceProduction}
 use Rattle.mh_expand.specs.declared.instances.Instance.{Instance}
-use Rattle.mh_inline.specs.declared.unfoldings.Unfolding.{Unfolding}
 use Rattle.mh_inline.specs.declared.sizes.Size.{Size}
 use Rattle.mh_inline.specs.Instances.{inline_number, is_inlined, IsKept}
 use Rattle.mh_inline.specs.Unfoldings as unfoldings
 use Rattle.mh_inline.specs.Unfoldings.{only, own, nothing, choices}
-use Rattle.mh_inline.specs.Sizes.{longest, IsSize, IsPartSize, IsSideSize, IsEachSize, IsBlocked, IsEachBlocked, AreSizes, AreSized, AreEachSized}
+use Rattle.mh_inline.specs.Sizes.{IsPartSize, IsSideSize, IsEachSize, IsBlocked, AreSizes, AreSized, AreEachSized}
 use Rattle.mh_grammar.proofs.Placing.{get_cases}
 use Rattle.mh_inline.proofs.Choices.{Unfolds-push, UnfoldsEach-push}
 use Rattle.mh_inline.proofs.Same.{length-choices, longest-choices, longest-append, longest-own, times_some}

@@ -1,5 +1,5 @@
 -- Inline instances that reach themselves: how a search finds them, and that they have no unfoldings.
-use Rattle.std.proofs.Common.{◌≡◌, ℕ, zero, suc, ◌+◌, ◌<◌, ◌≤◌, ◌⊎◌, Bool, true, false, not, eqb, List, [], ◌∷◌, ◌++◌, Option, Some, None, length, get_or, count_by, refl, sym, ap, ◌∙◌, arith, inl, inr, subst, is_some}
+use Rattle.std.proofs.Common.{◌≡◌, ℕ, zero, suc, ◌+◌, ◌<◌, ◌≤◌, ◌⊎◌, Bool, true, false, List, [], ◌∷◌, ◌++◌, Option, Some, None, length, get_or, refl, sym, ap, ◌∙◌, arith, inl, inr, subst, is_some}
 use Rattle.std.specs.List.{slice_get, All, Contains}
 use Rattle.std.proofs.lemmas.Bool.{false≢true, cases_eq}
 use Rattle.std.proofs.lemmas.Option.{none-some, same_Some, slice_get_within, slice_get-get_or}
@@ -7,12 +7,11 @@ use Rattle.std.proofs.lemmas.List.{length_push, get_or_default}
 use Rattle.std.proofs.lemmas.List.Elements.{All-push, All-contains, Contains-push, Contains-append_left}
 use Rattle.mh_grammar.specs.Numbering.{AreDistinct}
 use Rattle.mh_grammar.proofs.Pigeon.{length-distinct_in}
-use Rattle.mh_grammar.proofs.Placing.{AreDistinct-push, get_left, contains_at, at_contains}
+use Rattle.mh_grammar.proofs.Placing.{AreDistinct-push, contains_at, at_contains}
 use Rattle.mh_expand.specs.declared.instances.Part.{Part}
 use Rattle.mh_expand.specs.declared.instances.Part.TheVariants.{Instance as Applied}
 use Rattle.mh_expand.specs.declared.instances.InstanceProduction.{InstanceProduction}
 use Rattle.mh_expand.specs.declared.instances.Instance.{Instance}
-use Rattle.mh_expand.specs.declared.instances.Expanded.{Expanded}
 use Rattle.mh_inline.specs.declared.cycles.Found.{Found}
 use Rattle.mh_inline.specs.declared.unfoldings.Unfolding.{Unfolding}
 use Rattle.mh_inline.specs.declared.sizes.Size.{Size}
@@ -20,8 +19,8 @@ use Rattle.mh_inline.specs.Instances.{is_inlined, Inlines, Reaches}
 use Rattle.mh_inline.specs.Instances as instances
 use Rattle.mh_inline.specs.Unfoldings as unfoldings
 use Rattle.mh_inline.specs.Unfoldings.{UnfoldsPart, Unfolds, UnfoldsEach}
-use Rattle.mh_inline.specs.Sizes.{IsSettled, AreSettled, AreSizes, AreAllSized}
-use Rattle.mh_inline.specs.Found.{IsMadeOf, AreQueued, Adds, IsTable}
+use Rattle.mh_inline.specs.Sizes.{AreSettled, AreSizes, AreAllSized}
+use Rattle.mh_inline.specs.Found.{IsMadeOf, Adds, IsTable}
 use Rattle.mh_inline.proofs.Knowing.{inline_instance}
 use Rattle.mh_inline.proofs.Finding.{kept_contains}
 

@@ -1,10 +1,10 @@
 -- How what a search has found grows.
-use Rattle.std.proofs.Common.{◌≡◌, ℕ, zero, suc, ◌+◌, ◌<◌, ◌≤◌, ◌⊎◌, Bool, true, false, not, List, [], ◌∷◌, ◌++◌, Some, None, length, get_or, set, take, count_by, refl, sym, ap, ◌∙◌, arith, inl, inr, get_or-set_same, length-set, length-append, subst, replicate}
+use Rattle.std.proofs.Common.{◌≡◌, ℕ, zero, suc, ◌+◌, ◌<◌, ◌⊎◌, true, false, not, List, [], ◌∷◌, ◌++◌, Some, None, length, get_or, set, take, count_by, refl, sym, ap, ◌∙◌, arith, inl, inr, get_or-set_same, length-set, subst, replicate}
 use Rattle.std.specs.List.{slice_get, Contains}
 use Rattle.std.proofs.lemmas.Bool.{false≢true}
 use Rattle.std.proofs.lemmas.List.{take_more, length_push, length-replicate}
 use Rattle.std.proofs.lemmas.List.Elements.{Contains-push, Contains-push_cases, Contains-append_left}
-use Rattle.std.proofs.lemmas.Option.{none-some, same_Some, slice_get_within, slice_get-get_or}
+use Rattle.std.proofs.lemmas.Option.{none-some, same_Some}
 use Rattle.mh_grammar.proofs.Flags.{kept-set, set-cases}
 use Rattle.mh_grammar.proofs.LeastMarks.{unmarked-set}
 use Rattle.mh_grammar.proofs.Placing.{get_left, get_last, get_cases, contains_at, at_contains}

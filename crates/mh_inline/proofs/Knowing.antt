@@ -1,7 +1,7 @@
 -- Producers and the unfoldings that are known of them.
-use Rattle.std.proofs.Common.{◌≡◌, ℕ, zero, suc, inl, inr, ◌+◌, ◌<◌, Bool, true, false, cond, List, [], ◌∷◌, ◌++◌, Option, Some, None, length, get_or, refl, sym, ap, ◌∙◌, arith, take, map, subst}
+use Rattle.std.proofs.Common.{◌≡◌, ℕ, zero, suc, inl, inr, ◌+◌, ◌<◌, Bool, true, false, cond, List, [], ◌∷◌, ◌++◌, Some, None, length, get_or, refl, sym, ap, ◌∙◌, take, map, subst}
 use Rattle.std.specs.List.{slice_get}
-use Rattle.std.proofs.lemmas.Option.{cond_some, none-some, same_Some, slice_get-get_or, slice_get_within, get_or_from_slice_get, slice_get_cases}
+use Rattle.std.proofs.lemmas.Option.{cond_some, none-some, slice_get-get_or, get_or_from_slice_get, slice_get_cases}
 use Rattle.std.proofs.lemmas.Bool.{false≢true}
 use Rattle.std.proofs.lemmas.List.{take_more}
 use Rattle.mh_inline.proofs.Choices.{Unfolds-push, UnfoldsEach-push}
@@ -13,7 +13,7 @@ use Rattle.mh_inline.specs.declared.unfoldings.Unfolding.{Unfolding}
 use Rattle.mh_inline.specs.Instances.{is_inlined, inline_number, IsKept}
 use Rattle.mh_inline.specs.Unfoldings as unfoldings
 use Rattle.mh_inline.specs.Unfoldings.{only, own, choices, UnfoldsPart, Unfolds, UnfoldsEach}
-use Rattle.mh_inline.specs.Known.{IsKnown, AreKnown, AreEachKnown, Extends}
+use Rattle.mh_inline.specs.Known.{IsKnown, AreKnown, Extends}
 
 pub record IsInline (is : List Instance) (X : Part) (n : ℕ) : Type 0 where
   pub same : X ≡ Applied n

@@ -1,6 +1,6 @@
 -- Grammars within and over the limits.
-use Rattle.std.proofs.Common.{◌≡◌, ℕ, zero, suc, ◌+◌, ◌<◌, ◌≤◌, ◌⊎◌, true, false, min, max, List, [], ◌∷◌, ◌++◌, Some, map, filter, length, get_or, refl, sym, ap, ◌∙◌, arith, inl, inr, subst, length-append}
-use Rattle.std.specs.List.{slice_get, All, Any, Contains}
+use Rattle.std.proofs.Common.{◌≡◌, ℕ, zero, suc, ◌<◌, ◌≤◌, List, [], ◌∷◌, Some, map, filter, length, get_or, refl, sym, ap, ◌∙◌, arith, inl, inr, subst, length-append}
+use Rattle.std.specs.List.{slice_get, All, Any}
 use Rattle.std.proofs.lemmas.Bool.{cases_lt}
 use Rattle.std.proofs.lemmas.List.{length-map}
 use Rattle.std.proofs.lemmas.List.Elements.{All-nil, All-cons, Contains-get_or}
@@ -8,9 +8,6 @@ use Rattle.std.proofs.lemmas.Option.{none-some, same_Some, slice_get-get_or}
 use Rattle.mh_grammar.specs.declared.types.TokenInfo.{TokenInfo}
 use Rattle.mh_grammar.specs.declared.types.Production.{Production}
 use Rattle.mh_grammar.specs.declared.types.Grammar.{Grammar}
-use Rattle.mh_grammar.proofs.Placing.{at_contains}
-use Rattle.mh_join.specs.declared.joined.Prec.{Prec}
-use Rattle.mh_expand.specs.declared.instances.Part.{Part}
 use Rattle.mh_expand.specs.declared.instances.Part.TheVariants.{Instance as Applied}
 use Rattle.mh_expand.specs.declared.instances.InstanceProduction.{InstanceProduction}
 use Rattle.mh_expand.specs.declared.instances.Instance.{Instance}
@@ -19,10 +16,11 @@ use Rattle.mh_inline.specs.declared.unfoldings.Unfolding.{Unfolding}
 use Rattle.mh_inline.specs.declared.sources.Source.{Source}
 use Rattle.mh_inline.specs.declared.sizes.Size.{Size}
 use Rattle.mh_inline.specs.declared.sizes.Sizing.{Sizing}
-use Rattle.mh_inline.specs.Instances.{is_inlined, IsAlternative, IsReady}
-use Rattle.mh_inline.specs.Unfoldings.{own, Unfolds, UnfoldsPart}
+use Rattle.mh_inline.specs.Instances.{IsAlternative}
+use Rattle.mh_expand.specs.Ready.{IsExpandedReady}
+use Rattle.mh_inline.specs.Unfoldings.{own, Unfolds}
 use Rattle.mh_inline.specs.Sizes.{longest, AreSmall, AreAllSized, IsSizing, IsWithin}
-use Rattle.mh_inline.specs.Known.{IsKnown, AreKnown, Knows, IsSourceKnown}
+use Rattle.mh_inline.specs.Known.{Knows, IsSourceKnown}
 use Rattle.mh_inline.specs.Inlined as inlined
 use Rattle.mh_inline.specs.Inlined.{is_kept, nonterminal_of, number_of, symbol_of, production_of, IsSource, AreSources, AreProductions, IsInlined}
 use Rattle.mh_inline.specs.Making.{longest_side, IsSourcesSize, AreSourcesSmall}
@@ -77,7 +75,7 @@ pub all_sources : (is : List Instance) (sources : List Source) → AreSources is
 all_sources is sources a k d l = (a.exact (get_or sources k d)).0 (Contains-get_or sources k d l)
 
 -- the inline producers of the sources are known
-pub sources_known : (e : Expanded) (s : Sizing) (known : List (List Unfolding)) (sources : List Source) → IsReady e → IsSizing e.instances s → AreAllSized e.instances s.sizes.items → Knows e.instances s.order.items known → AreSourcesSmall e.tokens e.instances sources → All (IsSourceKnown e.instances known) sources
+pub sources_known : (e : Expanded) (s : Sizing) (known : List (List Unfolding)) (sources : List Source) → IsExpandedReady e → IsSizing e.instances s → AreAllSized e.instances s.sizes.items → Knows e.instances s.order.items known → AreSourcesSmall e.tokens e.instances sources → All (IsSourceKnown e.instances known) sources
 sources_known e s known sources ready z all k small i d l =
     let x = get_or sources i d in
     let h = source_unfoldings e.tokens e.instances sources small.productions small.made i x (slice_get-get_or sources i d l) in

@@ -1,19 +1,17 @@
 -- Sizes that come in an order in which each instance stands behind those that it is made of.
-use Rattle.std.proofs.Common.{◌≡◌, ◌≢◌, ℕ, zero, suc, ◌+◌, ◌-◌, ◌<◌, ◌≤◌, Bool, true, false, ◌||◌, List, [], ◌∷◌, ◌++◌, Option, Some, None, take, set, length, refl, sym, ap, ◌∙◌, arith, inl, inr, length-set, subst, cond, is_some}
-use Rattle.std.specs.List.{slice_get, Contains}
+use Rattle.std.proofs.Common.{◌≡◌, ◌≢◌, ℕ, zero, suc, ◌+◌, ◌<◌, ◌≤◌, Bool, true, false, ◌||◌, List, [], ◌∷◌, ◌++◌, Option, Some, None, take, set, length, refl, sym, ap, ◌∙◌, arith, inl, inr, length-set, cond, is_some}
+use Rattle.std.specs.List.{slice_get}
 use Rattle.std.proofs.lemmas.Bool.{cases_eq, false≢true}
 use Rattle.std.proofs.lemmas.List.{take_at, take-append-le}
 use Rattle.std.proofs.lemmas.List.Elements.{Contains-append_left, Contains-push}
 use Rattle.std.proofs.lemmas.Option.{same_Some, none-some, slice_get_within}
 use Rattle.mh_grammar.proofs.Placing.{get_cases}
-use Rattle.mh_expand.specs.declared.instances.Part.{Part}
 use Rattle.mh_expand.specs.declared.instances.Part.TheVariants.{Instance as Applied}
-use Rattle.mh_expand.specs.declared.instances.InstanceProduction.{InstanceProduction}
 use Rattle.mh_expand.specs.declared.instances.Instance.{Instance}
 use Rattle.mh_inline.specs.declared.sizes.Size.{Size}
-use Rattle.mh_inline.specs.Instances.{is_inlined, Inlines, IsAlternative}
+use Rattle.mh_inline.specs.Instances.{is_inlined}
 use Rattle.mh_inline.specs.Unfoldings as unfoldings
-use Rattle.mh_inline.specs.Sizes.{IsSize, IsPartSize, IsEachSize, AreEachSized, IsEachBlocked, AreOrdered, IsOrdered, IsSettled}
+use Rattle.mh_inline.specs.Sizes.{IsPartSize, IsEachSize, AreEachSized, IsEachBlocked, AreOrdered, IsOrdered, IsSettled}
 use Rattle.mh_inline.proofs.Same.{AreSome}
 
 module _ {X : Type 0} where

@@ -1,14 +1,12 @@
 -- The productions that unfoldings give, their sizes and ranges.
-use Rattle.std.proofs.Common.{◌≡◌, ℕ, zero, suc, ◌+◌, ◌<◌, ◌≤◌, ◌⊎◌, true, false, min, max, List, [], ◌∷◌, ◌++◌, Option, Some, None, map, take, length, get_or, refl, sym, ap, ◌∙◌, arith, inl, inr, length-append, append_assoc, subst}
-use Rattle.std.specs.List.{slice_get, All, Contains}
-use Rattle.std.proofs.lemmas.Bool.{false≢true}
-use Rattle.std.proofs.lemmas.List.{take_more, append-nil, map-append, length-map}
-use Rattle.std.proofs.lemmas.List.Elements.{All-nil, All-cons, All-head, All-tail, All-append, All-map, All-weaker, All-get_or}
+use Rattle.std.proofs.Common.{◌≡◌, ℕ, zero, suc, ◌+◌, ◌<◌, ◌≤◌, min, max, List, [], ◌∷◌, ◌++◌, Option, Some, None, map, take, length, get_or, refl, sym, ap, ◌∙◌, arith, length-append, append_assoc, subst}
+use Rattle.std.specs.List.{slice_get, All}
+use Rattle.std.proofs.lemmas.List.{take_more, append-nil, length-map}
+use Rattle.std.proofs.lemmas.List.Elements.{All-nil, All-cons, All-head, All-tail, All-append, All-map, All-weaker}
 use Rattle.std.proofs.lemmas.Option.{none-some, same_Some, slice_get_within, get_or_from_slice_get}
 use Rattle.mh_grammar.specs.declared.types.TokenInfo.{TokenInfo}
 use Rattle.mh_grammar.specs.declared.types.Production.{Production}
-use Rattle.mh_grammar.specs.declared.types.Symbol.{Symbol}
-use Rattle.mh_grammar.specs.declared.types.Symbol.TheVariants.{T, N}
+use Rattle.mh_grammar.specs.declared.types.Symbol.TheVariants.{N}
 use Rattle.mh_join.specs.declared.joined.Prec.{Prec}
 use Rattle.mh_expand.specs.declared.instances.Part.{Part}
 use Rattle.mh_expand.specs.declared.instances.Part.TheVariants.{Token, Instance as Applied}
@@ -18,7 +16,8 @@ use Rattle.mh_expand.specs.declared.instances.Expanded.{Expanded}
 use Rattle.mh_inline.specs.declared.unfoldings.Unfolding.{Unfolding}
 use Rattle.mh_inline.specs.declared.sources.Source.{Source}
 use Rattle.mh_inline.specs.declared.sizes.Size.{Size}
-use Rattle.mh_inline.specs.Instances.{is_inlined, IsAlternative, IsPartBelow, IsProductionReady, IsInstanceReady, IsReady}
+use Rattle.mh_inline.specs.Instances.{IsAlternative}
+use Rattle.mh_expand.specs.Ready.{IsPartBelow, IsInstanceReady, IsExpandedReady}
 use Rattle.mh_inline.specs.Unfoldings as unfoldings
 use Rattle.mh_inline.specs.Unfoldings.{only, own, joined, choices, UnfoldsPart, Unfolds, UnfoldsEach}
 use Rattle.mh_inline.specs.Sizes.{longest, IsSideSize, IsBlocked, AreAllSized}
@@ -89,11 +88,11 @@ module _ (tokens : List TokenInfo) (is : List Instance) where
 pub record AreBelow (tokens : ℕ) (is : List Instance) : Type 0 where
   pub each : (n k : ℕ) (p : InstanceProduction) → IsAlternative is n k p → All (IsPartBelow tokens (length is)) p.rhs
 
-pub below_ready : (e : Expanded) → IsReady e → AreBelow (length e.tokens) e.instances
+pub below_ready : (e : Expanded) → IsExpandedReady e → AreBelow (length e.tokens) e.instances
 below_ready e r = record {
   each = λ n k p a.
-      let one = subst (IsInstanceReady (length e.tokens) (length e.instances)) (get_or_from_slice_get e.instances n a.instance a.instance a.at) (r.instances n a.instance (slice_get_within e.instances n a.instance a.at)) in
-      subst (IsProductionReady (length e.tokens) (length e.instances)) (get_or_from_slice_get a.instance.productions k p p a.alternative) (one.productions k p (slice_get_within a.instance.productions k p a.alternative));
+      let one = subst (IsInstanceReady (length e.tokens) (length e.instances)) (get_or_from_slice_get e.instances n a.instance a.instance a.at) (r.instances_ready n a.instance (slice_get_within e.instances n a.instance a.at)) in
+      subst (λ (q : InstanceProduction). All (IsPartBelow (length e.tokens) (length e.instances)) q.rhs) (get_or_from_slice_get a.instance.productions k p p a.alternative) (one.parts_below k p (slice_get_within a.instance.productions k p a.alternative));
 }
 
 part_wider : (s t n : ℕ) (X : Part) → s ≤ t → IsPartBelow s n X → IsPartBelow t n X
@@ -149,9 +148,9 @@ module _ (t : ℕ) (is : List Instance) (numbers : List ℕ) (n : AreNumbers is 
   productions_same tokens m lhs prec (u ∷ us) e p = (λ i. production_same tokens m lhs (own prec u) e (All-head (IsUnfoldingBelow t (length is)) u us p) i ∷ productions_same tokens m lhs prec us e (All-tail (IsUnfoldingBelow t (length is)) u us p) i)
 
 -- the unfoldings of an alternative are in range
-pub alternative_below : (e : Expanded) → IsReady e → (n k : ℕ) (p : InstanceProduction) (us : List Unfolding) → IsAlternative e.instances n k p → Unfolds e.instances p.rhs us → All (IsUnfoldingBelow 65536 (length e.instances)) us
+pub alternative_below : (e : Expanded) → IsExpandedReady e → (n k : ℕ) (p : InstanceProduction) (us : List Unfolding) → IsAlternative e.instances n k p → Unfolds e.instances p.rhs us → All (IsUnfoldingBelow 65536 (length e.instances)) us
 alternative_below e r n k p us a f =
-    let b = below_wider (length e.tokens) 65536 e.instances (let l = r.tokens in omega arith) (below_ready e r) in
+    let b = below_wider (length e.tokens) 65536 e.instances (let l = r.few_tokens in omega arith) (below_ready e r) in
     side_below 65536 e.instances b p.rhs us f (b.each n k p a)
 
 -- a source that is never there

@@ -1,17 +1,15 @@
 -- The numbers of the grammar are in range, and no start stands twice.
-use Rattle.std.proofs.Common.{◌≡◌, ℕ, zero, suc, ◌+◌, ◌^◌, ◌<◌, ◌≤◌, ◌⊎◌, Bool, true, false, not, cond, min, max, List, [], ◌∷◌, ◌++◌, Some, map, filter, count_by, take, length, get_or, refl, sym, ap, ◌∙◌, arith, inl, inr, length-append, subst}
+use Rattle.std.proofs.Common.{◌≡◌, ℕ, zero, suc, ◌^◌, ◌<◌, ◌≤◌, Bool, true, false, not, cond, List, [], ◌∷◌, Some, map, filter, count_by, take, length, get_or, refl, sym, ap, ◌∙◌, arith, inl, inr, subst}
 use Rattle.std.specs.Option.{option_map, unwrap_or}
-use Rattle.std.specs.List.{slice_get, All, Any, Contains}
+use Rattle.std.specs.List.{slice_get, All, Contains}
 use Rattle.std.proofs.lemmas.Bool.{false≢true, cases_lt}
 use Rattle.std.proofs.lemmas.List.{take_all, take-take, length-take, length-map, get_or-take}
 use Rattle.std.proofs.lemmas.List.Sums.{sum_by_more_le, length-filter, count_by-le-length}
 use Rattle.std.proofs.lemmas.List.Elements.{All-nil, All-cons, All-head, All-tail, All-append, All-map, All-weaker, All-same, All-contains}
-use Rattle.std.proofs.lemmas.Option.{none-some, same_Some, slice_get_within, slice_get-get_or, get_or_from_slice_get, slice_get-map}
+use Rattle.std.proofs.lemmas.Option.{same_Some, slice_get_within, slice_get-get_or, get_or_from_slice_get, slice_get-map}
 use Rattle.mh_grammar.specs.declared.types.TokenInfo.{TokenInfo}
 use Rattle.mh_grammar.specs.declared.types.Production.{Production}
 use Rattle.mh_grammar.specs.declared.types.Grammar.{Grammar}
-use Rattle.mh_grammar.specs.declared.types.Symbol.{Symbol}
-use Rattle.mh_grammar.specs.declared.types.Symbol.TheVariants.{T, N}
 use Rattle.mh_grammar.specs.Numbering.{AreDistinct}
 use Rattle.mh_grammar.specs.Plain.{plain_of, IsInRange, IsProductive, IsSymbolBelow, IsProductionBelow}
 use Rattle.mh_grammar.proofs.Pigeon.{length-distinct_in}
@@ -23,7 +21,8 @@ use Rattle.mh_expand.specs.declared.instances.Instance.{Instance}
 use Rattle.mh_expand.specs.declared.instances.Expanded.{Expanded}
 use Rattle.mh_inline.specs.declared.unfoldings.Unfolding.{Unfolding}
 use Rattle.mh_inline.specs.declared.sources.Source.{Source}
-use Rattle.mh_inline.specs.Instances.{is_inlined, IsAlternative, IsKept, IsPartBelow, IsReady}
+use Rattle.mh_inline.specs.Instances.{is_inlined, IsKept}
+use Rattle.mh_expand.specs.Ready.{IsPartBelow, IsExpandedReady}
 use Rattle.mh_inline.specs.Unfoldings as unfoldings
 use Rattle.mh_inline.specs.Unfoldings.{only, own, joined, choices, UnfoldsPart, Unfolds, UnfoldsEach}
 use Rattle.mh_inline.specs.Inlined as inlined
@@ -131,12 +130,12 @@ module _ (t : ℕ) (is : List Instance) (b : AreBelow t is) where
 
 -- THE GRAMMAR
 
-module _ (e : Expanded) (ready : IsReady e) (kept : HasNoInlineStart e) where
+module _ (e : Expanded) (ready : IsExpandedReady e) (kept : HasNoInlineStart e) where
   pub start_nonterminal : (k n : ℕ) → slice_get e.starts k ≡ Some n → IsNonterminal e.instances n
   start_nonterminal k n at =
       let l = slice_get_within e.starts k n at in
       let same = get_or_from_slice_get e.starts k n n at in
-      record { kept = subst (λ s. is_inlined e.instances s ≡ false) same (kept k n l); within = subst (λ s. s < length e.instances) same (ready.starts k n l) }
+      record { kept = subst (λ s. is_inlined e.instances s ≡ false) same (kept k n l); within = subst (λ s. s < length e.instances) same (ready.starts_below k n l) }
 
   starts_below : (k d : ℕ) → k < length (map (number_of e.instances) e.starts) → get_or (map (number_of e.instances) e.starts) k d < length (map nonterminal_of (filter is_kept e.instances))
   starts_below k d l =
@@ -152,18 +151,35 @@ module _ (e : Expanded) (ready : IsReady e) (kept : HasNoInlineStart e) where
       let there = slice_get-map (number_of e.instances) e.starts k ∙ ap (option_map (number_of e.instances)) here in
       (get_or e.starts k 0, here, same_Some _ _ (sym there ∙ at))
 
+  -- no start stands twice
+  once : AreDistinct e.starts
+  once = record {
+    same = λ i j x a b.
+        let k = slice_get_within e.starts i x a in
+        let l = slice_get_within e.starts j x b in
+        let at = get_or_from_slice_get e.starts i x x a in
+        let at' = get_or_from_slice_get e.starts j x x b in
+        elim (cases_lt i j) [
+          | inl below ↦ absurd (ready.starts_distinct i j x below l (at ∙ sym at'))
+          | inr above ↦ elim (cases_lt j i) [
+            | inl below ↦ absurd (ready.starts_distinct j i x below k (at' ∙ sym at))
+            | inr both ↦ omega arith
+          ]
+        ];
+  }
+
   pub distinct_starts : AreDistinct (map (number_of e.instances) e.starts)
   distinct_starts = record {
     same = λ i j x a b.
         let p = mapped_at i x a in
         let q = mapped_at j x b in
-        let one = number_apart e.instances p.0 q.0 (start_nonterminal i p.0 p.1) (start_nonterminal j q.0 q.1) (p.2 ∙ sym q.2) in
-        ready.distinct.same i j p.0 p.1 (q.1 ∙ ap Some (sym one));
+        let same = number_apart e.instances p.0 q.0 (start_nonterminal i p.0 p.1) (start_nonterminal j q.0 q.1) (p.2 ∙ sym q.2) in
+        once.same i j p.0 p.1 (q.1 ∙ ap Some (sym same));
   }
 
   few_starts : length e.starts ≤ length e.instances
   few_starts =
-      let few = length-distinct_in (numbers (length e.instances)) e.starts ready.distinct (λ x c. numbers_at (length e.instances) x (All-contains (λ s. s < length e.instances) e.starts x ready.starts c)) in
+      let few = length-distinct_in (numbers (length e.instances)) e.starts once (λ x c. numbers_at (length e.instances) x (All-contains (λ s. s < length e.instances) e.starts x ready.starts_below c)) in
       let len = length-numbers (length e.instances) in
       omega arith
 
@@ -175,8 +191,8 @@ module _ (e : Expanded) (ready : IsReady e) (kept : HasNoInlineStart e) where
       let kept_few = length-map (filter is_kept e.instances) nonterminal_of ∙ length-filter is_kept e.instances in
       let most = count_by-le-length is_kept e.instances in
       let few = few_starts in
-      let limit = ready.few in
-      let t = ready.tokens in
+      let limit = ready.few_instances in
+      let t = ready.few_tokens in
       let f = s.few in
       record {
         productions = subst (λ n. All (IsProductionBelow n (length g.nonterminals)) g.productions) (sym tokens) (subst (λ n. All (IsProductionBelow (length e.tokens) n) g.productions) (sym nonterminals)

@@ -1,5 +1,5 @@
 -- The unfoldings are determined, there are some, and a part of them is no more and no longer.
-use Rattle.std.proofs.Common.{◌≡◌, ℕ, zero, suc, ◌+◌, ◌*◌, ◌<◌, ◌≤◌, true, false, min, max, List, [], ◌∷◌, ◌++◌, Some, map, length, refl, sym, ap, ◌∙◌, arith, length-append, subst, zero-mul}
+use Rattle.std.proofs.Common.{◌≡◌, ℕ, zero, suc, ◌+◌, ◌*◌, ◌<◌, ◌≤◌, true, false, max, List, [], ◌∷◌, ◌++◌, Some, map, length, refl, sym, ap, ◌∙◌, arith, length-append, subst, zero-mul}
 use Rattle.std.specs.List.{slice_get}
 use Rattle.std.proofs.lemmas.Bool.{false≢true}
 use Rattle.std.proofs.lemmas.Option.{same_Some, none-some}
@@ -7,7 +7,6 @@ use Rattle.std.proofs.lemmas.List.{length-map}
 use Rattle.mh_inline.proofs.Choices.{append_same}
 use Rattle.mh_join.specs.declared.joined.Prec.{Prec}
 use Rattle.mh_expand.specs.declared.instances.Part.{Part}
-use Rattle.mh_expand.specs.declared.instances.Part.TheVariants.{Token, Instance as Applied}
 use Rattle.mh_expand.specs.declared.instances.InstanceProduction.{InstanceProduction}
 use Rattle.mh_expand.specs.declared.instances.Instance.{Instance}
 use Rattle.mh_inline.specs.declared.unfoldings.Unfolding.{Unfolding}

@@ -1,10 +1,9 @@
 -- Trees over instances, inline ones too, and trees over the grammar have the same leaves.
-use Rattle.std.proofs.Common.{◌≡◌, ℕ, zero, suc, ◌+◌, ◌<◌, ◌≤◌, ◌⊎◌, ◌↔◌, true, false, List, [], ◌∷◌, ◌++◌, Option, Some, None, map, length, get_or, refl, sym, ap, ◌∙◌, arith, inl, inr, append_assoc, subst}
+use Rattle.std.proofs.Common.{◌≡◌, ℕ, zero, suc, false, List, [], ◌∷◌, ◌++◌, Some, map, length, get_or, refl, sym, ap, ◌∙◌, inl, inr, append_assoc, subst}
 use Rattle.std.specs.List.{slice_get, All, Contains}
-use Rattle.std.proofs.lemmas.Bool.{false≢true}
 use Rattle.std.proofs.lemmas.List.{append-nil, map-append}
-use Rattle.std.proofs.lemmas.List.Elements.{All-nil, All-cons, All-head, All-tail, All-contains, Contains-append_left, Contains-append_right, Contains-append_cases}
-use Rattle.std.proofs.lemmas.Option.{none-some, same_Some, slice_get_within, slice_get-get_or, get_or_from_slice_get, slice_get_cases}
+use Rattle.std.proofs.lemmas.List.Elements.{All-head, All-tail, All-contains, Contains-append_left, Contains-append_right, Contains-append_cases}
+use Rattle.std.proofs.lemmas.Option.{none-some, same_Some, slice_get_within, get_or_from_slice_get}
 use Rattle.mh_grammar.specs.declared.types.TokenInfo.{TokenInfo}
 use Rattle.mh_grammar.specs.declared.types.Production.{Production}
 use Rattle.mh_grammar.specs.declared.types.Grammar.{Grammar}
@@ -12,10 +11,9 @@ use Rattle.mh_grammar.specs.declared.types.Symbol.{Symbol}
 use Rattle.mh_grammar.specs.declared.types.Symbol.TheVariants.{T, N}
 use Rattle.mh_grammar.specs.Derivations as trees
 use Rattle.mh_grammar.specs.Derivations.{Derivation, Derivations}
-use Rattle.mh_grammar.specs.Plain.{PlainGrammar, plain_of, IsToken, Produces, Derives, DerivesAll, IsSentence}
+use Rattle.mh_grammar.specs.Plain.{plain_of, IsToken, Produces, Derives, DerivesAll}
 use Rattle.mh_grammar.proofs.Numbered.{produces_at, listed_from_for}
 use Rattle.mh_grammar.proofs.Placing.{at_contains, contains_at}
-use Rattle.mh_join.specs.declared.joined.Prec.{Prec}
 use Rattle.mh_expand.specs.declared.instances.Part.{Part}
 use Rattle.mh_expand.specs.declared.instances.Part.TheVariants.{Token, Instance as Applied}
 use Rattle.mh_expand.specs.declared.instances.InstanceProduction.{InstanceProduction}
@@ -23,16 +21,18 @@ use Rattle.mh_expand.specs.declared.instances.Instance.{Instance}
 use Rattle.mh_expand.specs.declared.instances.Expanded.{Expanded}
 use Rattle.mh_inline.specs.declared.unfoldings.Unfolding.{Unfolding}
 use Rattle.mh_inline.specs.declared.sources.Source.{Source}
-use Rattle.mh_inline.specs.Instances.{is_inlined, IsAlternative, IsKept, IsPartBelow, IsReady}
+use Rattle.mh_inline.specs.Instances.{is_inlined, IsAlternative, IsKept}
+use Rattle.mh_expand.specs.Ready.{IsExpandedReady}
 use Rattle.mh_inline.specs.Unfoldings as unfoldings
 use Rattle.mh_inline.specs.Unfoldings.{only, own, joined, choices, UnfoldsPart, Unfolds, UnfoldsEach}
 use Rattle.mh_inline.specs.Inlined as inlined
 use Rattle.mh_inline.specs.Inlined.{number_of, symbol_of, production_of, rank_of, IsSource, AreSources, AreProductions, IsInlined}
-use Rattle.mh_inline.specs.InstanceTrees.{IsTokenPart, PartProduces, PartDerives, PartsDerive, IsInstanceSentence, KeepsSentences}
+use Rattle.mh_expand.specs.Sentences.{IsTokenPart, PartProduces}
+use Rattle.mh_inline.specs.Sentences.{KeepsSentences}
 use Rattle.mh_inline.specs.Faults.{HasNoInlineStart}
 use Rattle.mh_inline.proofs.Sourcing.{contains_here, contains_there, contains_cases, contains_none}
 use Rattle.mh_inline.proofs.Limits.{alternative_same}
-use Rattle.mh_inline.proofs.Productions.{AreBelow, below_ready}
+use Rattle.mh_inline.proofs.Productions.{below_ready}
 use Rattle.mh_inline.proofs.Ranges.{IsNonterminal, IsGood, number_apart, side_good, start_at, start_nonterminal}
 
 -- MEMBERS
@@ -103,40 +103,47 @@ module _ {S : Type 0} (IsLeaf : S → ℕ → Type 0) (Makes : S → List S → 
 
 -- FROM A TREE OF AN UNFOLDING TO ONE OF ITS PRODUCERS
 
-module _ (is : List Instance) where
+abbrev PartDerives : Expanded → Part → List ℕ → Type 0
+PartDerives e X w = Derivation IsTokenPart (PartProduces e) X w
+
+abbrev PartsDerive : Expanded → List Part → List ℕ → Type 0
+PartsDerive e Xs w = Derivations IsTokenPart (PartProduces e) Xs w
+
+module _ (input : Expanded) where
   record FromAlternative (ps : List InstanceProduction) (w : List ℕ) : Type 0 where
     place : ℕ
     production : InstanceProduction
     at : slice_get ps place ≡ Some production
-    forest : PartsDerive is production.rhs w
+    forest : PartsDerive input production.rhs w
 
   mutual
-    folded_part : (X : Part) (us : List Unfolding) → UnfoldsPart is X us → (u : Unfolding) (w : List ℕ) → Contains us u → PartsDerive is u.rhs w → PartDerives is X w
+    folded_part : (X : Part) (us : List Unfolding) → UnfoldsPart input.instances X us → (u : Unfolding) (w : List ℕ) → Contains us u → PartsDerive input u.rhs w → PartDerives input X w
     folded_part X us (unfoldings.UnfoldsPart.kept k) u w c f = elim (contains_cases (only X) [] u c) [
-      | inl e ↦ single_tree IsTokenPart (PartProduces is) X w (subst (λ (x : Unfolding). PartsDerive is x.rhs w) (sym e) f)
+      | inl e ↦ single_tree IsTokenPart (PartProduces input) X w (subst (λ (x : Unfolding). PartsDerive input x.rhs w) (sym e) f)
       | inr d ↦ absurd (contains_none u d)
     ]
     folded_part X us (unfoldings.UnfoldsPart.inlined {n = n} {i = i} at e r) u w c f =
         let a = folded_each i.productions us r u w c f in
-        trees.Derivation.node (a.place, a.production, record { instance = i; at = at; alternative = a.at }, refl) a.forest
+        trees.Derivation.node (i, a.production, at, contains_at i.productions a.place a.production a.at, refl) a.forest
 
-    pub folded_side : (Xs : List Part) (us : List Unfolding) → Unfolds is Xs us → (u : Unfolding) (w : List ℕ) → Contains us u → PartsDerive is u.rhs w → PartsDerive is Xs w
+    pub folded_side : (Xs : List Part) (us : List Unfolding) → Unfolds input.instances Xs us → (u : Unfolding) (w : List ℕ) → Contains us u → PartsDerive input u.rhs w → PartsDerive input Xs w
     folded_side Xs us unfoldings.Unfolds.none u w c f = elim (contains_cases unfoldings.nothing [] u c) [
-      | inl e ↦ subst (λ (x : Unfolding). PartsDerive is x.rhs w) (sym e) f
+      | inl e ↦ subst (λ (x : Unfolding). PartsDerive input x.rhs w) (sym e) f
       | inr d ↦ absurd (contains_none u d)
     ]
     folded_side Xs us (unfoldings.Unfolds.more {X = X} {us = firsts} {vs = rests} e p g) u w c f =
         let i = choices_contains firsts rests u (rw e at c) in
-        let s = forest_split IsTokenPart (PartProduces is) i.left.rhs i.right.rhs w (subst (λ (x : Unfolding). PartsDerive is x.rhs w) (sym i.same) f) in
+        let s = forest_split IsTokenPart (PartProduces input) i.left.rhs i.right.rhs w (subst (λ (x : Unfolding). PartsDerive input x.rhs w) (sym i.same) f) in
         trees.Derivations.more s.same (folded_part X firsts p i.left s.front i.from_left s.left) (folded_side _ rests g i.right s.back i.from_right s.right)
 
-    folded_each : (ps : List InstanceProduction) (us : List Unfolding) → UnfoldsEach is ps us → (u : Unfolding) (w : List ℕ) → Contains us u → PartsDerive is u.rhs w → FromAlternative ps w
+    folded_each : (ps : List InstanceProduction) (us : List Unfolding) → UnfoldsEach input.instances ps us → (u : Unfolding) (w : List ℕ) → Contains us u → PartsDerive input u.rhs w → FromAlternative ps w
     folded_each ps us unfoldings.UnfoldsEach.no_alternative u w c f = absurd (contains_none u c)
     folded_each ps us (unfoldings.UnfoldsEach.alternative {p = p} {us = firsts} {vs = rests} e g r) u w c f = elim (Contains-append_cases (map (own p.prec) firsts) rests u (rw e at c)) [
-      | inl d ↦ (let m = map_contains (own p.prec) firsts u d in record { place = zero; production = p; at = refl; forest = folded_side p.rhs firsts g m.0 w m.1 (subst (λ (x : Unfolding). PartsDerive is x.rhs w) (sym m.2) f) })
+      | inl d ↦ (let m = map_contains (own p.prec) firsts u d in record { place = zero; production = p; at = refl; forest = folded_side p.rhs firsts g m.0 w m.1 (subst (λ (x : Unfolding). PartsDerive input x.rhs w) (sym m.2) f) })
       | inr d ↦ (let h = folded_each _ rests r u w d f in record { place = suc h.place; production = h.production; at = h.at; forest = h.forest })
     ]
 
+module _ (is : List Instance) where
   -- the unfoldings of an alternative stand among those of its instance
   record AmongEach (us : List Unfolding) (p : InstanceProduction) : Type 0 where
     unfoldings : List Unfolding
@@ -201,7 +208,7 @@ module _ (tokens : List TokenInfo) (is : List Instance) where
     | inr d ↦ (let o = origin rest qs r q d in record { source = o.source; among = contains_there t rest o.source o.among; production = o.production; alternative = o.alternative; unfoldings = o.unfoldings; unfolds = o.unfolds; unfolding_ = o.unfolding_; chosen = o.chosen; made = o.made })
   ]
 
-module _ (e : Expanded) (ready : IsReady e) (g : Grammar) (i : IsInlined e g) where
+module _ (e : Expanded) (ready : IsExpandedReady e) (g : Grammar) (i : IsInlined e g) where
   abbrev is : List Instance
   is = e.instances
 
@@ -232,11 +239,12 @@ module _ (e : Expanded) (ready : IsReady e) (g : Grammar) (i : IsInlined e g) wh
   kept_leaf (Token b) a t k = record { unfolding_ = only (Token b); chosen = contains_here (only (Token b)) []; forest = one_tree IsToken (Produces (plain_of g)) (T b) (a ∷ []) (trees.Derivation.leaf t) }
   kept_leaf (Applied n) a t k = absurd t
 
-  kept_node : (X : Part) (rhs : List Part) (w : List ℕ) → PartProduces is X rhs → IsKept is X → ((us : List Unfolding) → Unfolds is rhs us → Unfolded us w) → Unfolded (only X ∷ []) w
+  kept_node : (X : Part) (rhs : List Part) (w : List ℕ) → PartProduces e X rhs → IsKept is X → ((us : List Unfolding) → Unfolds is rhs us → Unfolded us w) → Unfolded (only X ∷ []) w
   kept_node (Token a) rhs w m k below = absurd m
   kept_node (Applied n) rhs w m k below =
-      let a = of_alternative n m.0 m.1 k m.2 in
-      let h = below a.0 (subst (λ Xs. Unfolds is Xs a.0) m.3 a.1) in
+      let place = at_contains m.0.productions m.1 m.3 in
+      let a = of_alternative n place.0 m.1 k (record { instance = m.0; at = m.2; alternative = place.1 }) in
+      let h = below a.0 (subst (λ Xs. Unfolds is Xs a.0) m.4 a.1) in
       record {
         unfolding_ = only (Applied n);
         chosen = contains_here (only (Applied n)) [];
@@ -244,19 +252,20 @@ module _ (e : Expanded) (ready : IsReady e) (g : Grammar) (i : IsInlined e g) wh
       }
 
   mutual
-    unfolded_part : (X : Part) (w : List ℕ) → PartDerives is X w → (us : List Unfolding) → UnfoldsPart is X us → Unfolded us w
+    unfolded_part : (X : Part) (w : List ℕ) → PartDerives e X w → (us : List Unfolding) → UnfoldsPart is X us → Unfolded us w
     unfolded_part X w (trees.Derivation.leaf {a = a} t) us (unfoldings.UnfoldsPart.kept k) = kept_leaf X a t k
     unfolded_part X w (trees.Derivation.leaf t) us (unfoldings.UnfoldsPart.inlined at inline r) = absurd t
     unfolded_part X w (trees.Derivation.node {rhs = rhs} made f) us (unfoldings.UnfoldsPart.kept k) = kept_node X rhs w made k (λ vs side. unfolded_side rhs w f vs side)
     unfolded_part X w (trees.Derivation.node {rhs = rhs} made f) us (unfoldings.UnfoldsPart.inlined {n = n} {i = j} at inline r) =
-        let same : made.2.instance ≡ j = same_Some _ _ (sym made.2.at ∙ at) in
-        let there : slice_get j.productions made.0 ≡ Some made.1 = ap (λ (x : Instance). slice_get x.productions made.0) (sym same) ∙ made.2.alternative in
-        let a = among_each is j.productions us r made.0 made.1 there in
-        let side : Unfolds is rhs a.unfoldings = subst (λ Xs. Unfolds is Xs a.unfoldings) made.3 a.unfolds in
+        let same : made.0 ≡ j = same_Some _ _ (sym made.2 ∙ at) in
+        let place = at_contains made.0.productions made.1 made.3 in
+        let there : slice_get j.productions place.0 ≡ Some made.1 = ap (λ (x : Instance). slice_get x.productions place.0) (sym same) ∙ place.1 in
+        let a = among_each is j.productions us r place.0 made.1 there in
+        let side : Unfolds is rhs a.unfoldings = subst (λ Xs. Unfolds is Xs a.unfoldings) made.4 a.unfolds in
         let h = unfolded_side rhs w f a.unfoldings side in
         record { unfolding_ = own made.1.prec h.unfolding_; chosen = a.among h.unfolding_ h.chosen; forest = h.forest }
 
-    unfolded_side : (Xs : List Part) (w : List ℕ) → PartsDerive is Xs w → (us : List Unfolding) → Unfolds is Xs us → Unfolded us w
+    unfolded_side : (Xs : List Part) (w : List ℕ) → PartsDerive e Xs w → (us : List Unfolding) → Unfolds is Xs us → Unfolded us w
     unfolded_side Xs w trees.Derivations.none us unfoldings.Unfolds.none = record { unfolding_ = unfoldings.nothing; chosen = contains_here unfoldings.nothing []; forest = trees.Derivations.none }
     unfolded_side Xs w (trees.Derivations.more {u = a} {v = b} split t f) us (unfoldings.Unfolds.more {us = firsts} {vs = rests} same p q) =
         let x = unfolded_part _ a t firsts p in
@@ -269,7 +278,7 @@ module _ (e : Expanded) (ready : IsReady e) (g : Grammar) (i : IsInlined e g) wh
               (forest_append IsToken (Produces (plain_of g)) (map (symbol_of is) x.unfolding_.rhs) (map (symbol_of is) y.unfolding_.rhs) a b x.forest y.forest));
         }
 
-  pub to_grammar : (X : Part) (w : List ℕ) → IsKept is X → PartDerives is X w → Derives (plain_of g) (symbol_of is X) w
+  pub to_grammar : (X : Part) (w : List ℕ) → IsKept is X → PartDerives e X w → Derives (plain_of g) (symbol_of is X) w
   to_grammar X w k t =
       let h = unfolded_part X w t (only X ∷ []) (unfoldings.UnfoldsPart.kept k) in
       elim (contains_cases (only X) [] h.unfolding_ h.chosen) [
@@ -285,7 +294,7 @@ module _ (e : Expanded) (ready : IsReady e) (g : Grammar) (i : IsInlined e g) wh
   nonterminal_of_good : (n : ℕ) → good (Applied n) → IsNonterminal is n
   nonterminal_of_good n h = record { kept = h.kept; within = h.below }
 
-  leaf_back : (X : Part) (S : Symbol) (a : ℕ) → symbol_of is X ≡ S → IsToken S a → PartDerives is X (a ∷ [])
+  leaf_back : (X : Part) (S : Symbol) (a : ℕ) → symbol_of is X ≡ S → IsToken S a → PartDerives e X (a ∷ [])
   leaf_back (Token b) (T c) a same t = let one : b ≡ c = cc in trees.Derivation.leaf (one ∙ t)
   leaf_back (Token b) (N n) a same t = absurd t
   leaf_back (Applied n) (T c) a same t = let u : N (number_of is n) ≡ T c = same in cc
@@ -323,18 +332,18 @@ module _ (e : Expanded) (ready : IsReady e) (g : Grammar) (i : IsInlined e g) wh
         good_side = All-contains (λ u. All good u.rhs) o.unfoldings o.unfolding_ (side_good (length e.tokens) is b o.production.rhs o.unfoldings o.unfolds (b.each o.source.instance o.source.alternative o.production o.alternative)) o.chosen;
       }
 
-  node_back : (X : Part) (S : Symbol) (rhs : List Symbol) (w : List ℕ) → good X → symbol_of is X ≡ S → Produces (plain_of g) S rhs → ((Xs : List Part) → All good Xs → map (symbol_of is) Xs ≡ rhs → PartsDerive is Xs w) → PartDerives is X w
+  node_back : (X : Part) (S : Symbol) (rhs : List Symbol) (w : List ℕ) → good X → symbol_of is X ≡ S → Produces (plain_of g) S rhs → ((Xs : List Part) → All good Xs → map (symbol_of is) Xs ≡ rhs → PartsDerive e Xs w) → PartDerives e X w
   node_back (Token a) S rhs w h same p below = absurd (subst (λ x. Produces (plain_of g) x rhs) (sym same) p)
   node_back (Applied n) S rhs w h same p below =
       let m = made_from n rhs h (subst (λ x. Produces (plain_of g) x rhs) (sym same) p) in
-      trees.Derivation.node (m.place, m.production, m.alternative, refl) (folded_side is m.production.rhs m.unfoldings m.unfolds m.unfolding_ w m.chosen (below m.unfolding_.rhs m.good_side m.side))
+      trees.Derivation.node (m.alternative.instance, m.production, m.alternative.at, contains_at m.alternative.instance.productions m.place m.production m.alternative.alternative, refl) (folded_side e m.production.rhs m.unfoldings m.unfolds m.unfolding_ w m.chosen (below m.unfolding_.rhs m.good_side m.side))
 
   mutual
-    from_tree : (S : Symbol) (w : List ℕ) → Derives (plain_of g) S w → (X : Part) → good X → symbol_of is X ≡ S → PartDerives is X w
+    from_tree : (S : Symbol) (w : List ℕ) → Derives (plain_of g) S w → (X : Part) → good X → symbol_of is X ≡ S → PartDerives e X w
     from_tree S w (trees.Derivation.leaf {a = a} t) X h same = leaf_back X S a same t
     from_tree S w (trees.Derivation.node {rhs = rhs} p f) X h same = node_back X S rhs w h same p (λ Xs hs e'. from_forest rhs w f Xs hs e')
 
-    from_forest : (Ss : List Symbol) (w : List ℕ) → DerivesAll (plain_of g) Ss w → (Xs : List Part) → All good Xs → map (symbol_of is) Xs ≡ Ss → PartsDerive is Xs w
+    from_forest : (Ss : List Symbol) (w : List ℕ) → DerivesAll (plain_of g) Ss w → (Xs : List Part) → All good Xs → map (symbol_of is) Xs ≡ Ss → PartsDerive e Xs w
     from_forest Ss w trees.Derivations.none [] h same = trees.Derivations.none
     from_forest Ss w trees.Derivations.none (X ∷ Xs) h same = cc
     from_forest Ss w (trees.Derivations.more split t f) [] h same = cc
@@ -343,21 +352,16 @@ module _ (e : Expanded) (ready : IsReady e) (g : Grammar) (i : IsInlined e g) wh
         let rest : map (symbol_of is) Xs ≡ Ss' = cc in
         trees.Derivations.more split (from_tree S a t X (All-head good X Xs h) one) (from_forest Ss' b f Xs (All-tail good X Xs h) rest)
 
-  pub from_grammar : (X : Part) (w : List ℕ) → good X → Derives (plain_of g) (symbol_of is X) w → PartDerives is X w
+  pub from_grammar : (X : Part) (w : List ℕ) → good X → Derives (plain_of g) (symbol_of is X) w → PartDerives e X w
   from_grammar X w h t = from_tree (symbol_of is X) w t X h refl
 
   -- SENTENCES
 
   pub keeps_sentences : HasNoInlineStart e → KeepsSentences e g
-  keeps_sentences kept start w l =
-      let n = get_or e.starts start 0 in
-      let at = slice_get-get_or e.starts start 0 l in
+  keeps_sentences kept start n w at =
       let k = start_nonterminal e ready kept start n at in
-      let there = ap (λ xs. slice_get xs start) i.starts ∙ start_there start n at in
+      let there = ap (λ xs. slice_get xs start) i.starts ∙ start_at e ready kept start n at in
       let same : get_or g.starts start 0 ≡ number_of is n = get_or_from_slice_get g.starts start (number_of is n) 0 there in (
         (λ t. subst (λ m. Derives (plain_of g) (N m) w) (sym same) (to_grammar (Applied n) w k.kept t)),
         (λ t. from_grammar (Applied n) w (record { kept = k.kept; below = k.within }) (subst (λ m. Derives (plain_of g) (N m) w) same t)),
       )
-    where
-      start_there : (j m : ℕ) → slice_get e.starts j ≡ Some m → slice_get (map (number_of is) e.starts) j ≡ Some (number_of is m)
-      start_there j m at = start_at e ready kept j m at

@@ -1,6 +1,6 @@
 -- Sources in their order, as they are put among others.
-use Rattle.std.proofs.Common.{◌≡◌, ℕ, zero, suc, ◌+◌, ◌-◌, ◌<◌, ◌≤◌, ◌⊎◌, ◌↔◌, true, false, List, [], ◌∷◌, ◌++◌, Some, length, get_or, refl, sym, ap, ◌∙◌, arith, inl, inr, subst}
-use Rattle.std.specs.List.{slice_get, All, Contains}
+use Rattle.std.proofs.Common.{◌≡◌, ℕ, zero, suc, ◌+◌, ◌<◌, ◌≤◌, ◌⊎◌, ◌↔◌, true, false, List, [], ◌∷◌, Some, length, get_or, refl, sym, ap, ◌∙◌, arith, inl, inr, subst}
+use Rattle.std.specs.List.{slice_get, Contains}
 use Rattle.std.specs.declared.cmp.Ordering.{Ordering}
 use Rattle.std.specs.declared.cmp.Ordering.TheVariants.{Less, Equal, Greater}
 use Rattle.std.specs.Ordering.{match_ordering, nat_cmp, ordering_then}
@@ -17,10 +17,9 @@ use Rattle.mh_expand.specs.declared.instances.InstanceProduction.{InstanceProduc
 use Rattle.mh_expand.specs.declared.instances.Instance.{Instance}
 use Rattle.mh_inline.specs.declared.sources.Source.{Source}
 use Rattle.mh_inline.specs.contracts.sources.SourceOrd.TheImpl as order
-use Rattle.mh_inline.specs.Instances.{is_inlined, IsAlternative}
+use Rattle.mh_inline.specs.Instances.{is_inlined}
 use Rattle.mh_inline.specs.Inlined.{rank_of, IsSource, IsSourceBefore, AreSources}
 use Rattle.mh_inline.specs.Making.{IsBelow, AreSourcesBelow}
-use Rattle.mh_inline.proofs.Knowing.{inline_instance}
 
 less : (a b : ℕ) → nat_cmp a b ≡ Less → a < b
 less a b e = grind (arith, nat_tests)

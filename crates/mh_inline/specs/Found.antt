@@ -1,5 +1,5 @@
 -- Inline instances that a search has found, as flags and in the order in which they came, and how they grow.
-use Rattle.std.specs.Prelude.{◌≡◌, ◌+◌, ◌⊎◌, ℕ, true, false, not, count_by, List, [], Some, length, slice_get, slice_index_or}
+use Rattle.std.specs.Prelude.{◌≡◌, ◌+◌, ◌⊎◌, ℕ, true, false, not, count_by, List, Some, length, slice_get, slice_index_or}
 use Rattle.std.specs.List.{Contains}
 use Rattle.mh_expand.specs.declared.instances.Part.{Part}
 use Rattle.mh_expand.specs.declared.instances.Part.TheVariants.{Instance as Applied}

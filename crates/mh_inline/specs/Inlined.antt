@@ -1,6 +1,6 @@
 -- The grammar that instances give when the inline ones are replaced by their alternatives.
-use Rattle.std.specs.Prelude.{◌≡◌, ◌<◌, ◌↔◌, ◌⊎◌, ◌-◌, ◌++◌, ◌^◌, ℕ, zero, suc, Bool, not, false, List, [], ◌∷◌, Option, Some, None, length, slice_get, take, map, filter, count_by, unwrap_or}
-use Rattle.std.specs.Option.{option_map, option_and_then}
+use Rattle.std.specs.Prelude.{◌≡◌, ◌<◌, ◌↔◌, ◌⊎◌, ◌-◌, ◌++◌, ◌^◌, ℕ, zero, suc, Bool, not, false, List, [], ◌∷◌, Option, Some, None, slice_get, take, map, filter, count_by}
+use Rattle.std.specs.Option.{option_and_then}
 use Rattle.std.specs.List.{Contains}
 use Rattle.mh_grammar.specs.declared.types.Level.{Level}
 use Rattle.mh_grammar.specs.declared.types.TokenInfo.{TokenInfo}

@@ -1,13 +1,10 @@
 -- Instances by their numbers, their alternatives, and which of them are inline.
-use Rattle.std.specs.Prelude.{◌≡◌, ◌<◌, ◌≤◌, ℕ, Bool, true, false, List, Option, Some, None, length, slice_get, unwrap_or, if◌then◌else◌}
+use Rattle.std.specs.Prelude.{◌≡◌, ℕ, Bool, true, false, List, Option, Some, None, slice_get, unwrap_or, if◌then◌else◌}
 use Rattle.std.specs.Option.{option_map}
-use Rattle.std.specs.List.{All}
 use Rattle.mh_expand.specs.declared.instances.Part.{Part}
 use Rattle.mh_expand.specs.declared.instances.Part.TheVariants.{Token, Instance as Applied}
 use Rattle.mh_expand.specs.declared.instances.InstanceProduction.{InstanceProduction}
 use Rattle.mh_expand.specs.declared.instances.Instance.{Instance}
-use Rattle.mh_expand.specs.declared.instances.Expanded.{Expanded}
-use Rattle.mh_grammar.specs.Numbering.{AreDistinct}
 
 abbrev pub is_inlined : List Instance → ℕ → Bool
 is_inlined is n = unwrap_or (option_map (λ i. i.inlined) (slice_get is n)) false
@@ -42,22 +39,3 @@ pub record Inlines (is : List Instance) (n m : ℕ) : Type 0 where
 pub data Reaches (is : List Instance) (n : ℕ) : ℕ → Type 0 where
   one : {m : ℕ} → Inlines is n m → Reaches is n m
   more : {m k : ℕ} → Reaches is n m → Inlines is m k → Reaches is n k
-
-abbrev pub IsPartBelow : ℕ → ℕ → Part → Type 0
-IsPartBelow tokens instances (Token a) = a < tokens
-IsPartBelow tokens instances (Applied n) = n < instances
-
-abbrev pub IsProductionReady : ℕ → ℕ → InstanceProduction → Type 0
-IsProductionReady tokens instances p = All (IsPartBelow tokens instances) p.rhs
-
-pub record IsInstanceReady (tokens instances : ℕ) (i : Instance) : Type 0 where
-  pub some : 0 < length i.productions
-  pub productions : All (IsProductionReady tokens instances) i.productions
-
--- numbers are in range, every instance has a production, no start stands twice, and there are not too many of anything
-pub record IsReady (e : Expanded) : Type 0 where
-  pub instances : All (IsInstanceReady (length e.tokens) (length e.instances)) e.instances
-  pub starts : All (λ s. s < length e.instances) e.starts
-  pub distinct : AreDistinct e.starts
-  pub tokens : length e.tokens ≤ 65535
-  pub few : length e.instances ≤ 20000

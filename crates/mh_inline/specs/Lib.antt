@@ -1,9 +1,9 @@
 pub mod Faults
 pub mod Found
 pub mod Inlined
-pub mod InstanceTrees
 pub mod Instances
 pub mod Known
 pub mod Making
+pub mod Sentences
 pub mod Sizes
 pub mod Unfoldings

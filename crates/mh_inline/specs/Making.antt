@@ -13,7 +13,8 @@ use Rattle.mh_expand.specs.declared.instances.InstanceProduction.{InstanceProduc
 use Rattle.mh_inline.specs.declared.unfoldings.Unfolding.{Unfolding}
 use Rattle.mh_inline.specs.declared.sources.Source.{Source}
 use Rattle.mh_inline.specs.declared.sizes.Size.{Size}
-use Rattle.mh_inline.specs.Instances.{IsPartBelow, IsAlternative}
+use Rattle.mh_inline.specs.Instances.{IsAlternative}
+use Rattle.mh_expand.specs.Ready.{IsPartBelow}
 use Rattle.mh_inline.specs.Unfoldings.{own, Unfolds}
 use Rattle.mh_inline.specs.Inlined.{number_of, level_of, production_of, IsSource, IsSourceBefore, AreProductions}
 

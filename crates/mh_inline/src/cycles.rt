@@ -1,6 +1,7 @@
 //! Inline instances that reach themselves.
 ghost use Rattle.std.specs.Prelude.{◌≡◌, ◌<◌, ◌↔◌, ◌∷◌, [], true, false, length, replicate, IfNone, IfOk, OnOk, IsTrue, MatchOption};
-ghost use Rattle.mh_inline.specs.Instances.{is_inlined, IsReady, Reaches};
+ghost use Rattle.mh_inline.specs.Instances.{is_inlined, Reaches};
+ghost use Rattle.mh_expand.specs.Ready.{IsExpandedReady};
 ghost use Rattle.mh_inline.specs.Faults.{HasNoCycle, IsFirstCyclicAt};
 ghost use Rattle.mh_inline.specs.Found.{Adds, AreQueued, IsAmong, IsIn, IsMadeOf, IsSame, IsTable};
 ghost use Rattle.mh_inline.specs.Sizes.{AreAllSized, AreSettled, IsSizing};

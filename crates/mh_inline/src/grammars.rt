@@ -1,7 +1,8 @@
 //! The productions of the grammar.
 ghost use Rattle.std.specs.Prelude.{◌≡◌, ◌++◌, length, map, IfOk, OnOk};
 ghost use Rattle.std.specs.List.{All};
-ghost use Rattle.mh_inline.specs.Instances.{IsAlternative, IsReady};
+ghost use Rattle.mh_inline.specs.Instances.{IsAlternative};
+ghost use Rattle.mh_expand.specs.Ready.{IsExpandedReady};
 ghost use Rattle.mh_inline.specs.Unfoldings.{own};
 ghost use Rattle.mh_inline.specs.Known.{IsSourceKnown};
 ghost use Rattle.mh_inline.specs.Sizes.{AreAllSized, IsSizing};
@@ -132,7 +133,7 @@ fn add_source(
     source: &Source,
     productions: &mut Vec<Production>,
 ) -> Result<(), Memory>
-    requires ready { IsReady expanded.now }
+    requires ready { IsExpandedReady expanded.now }
     requires numbers { AreNumbers expanded.now.instances numbers.now }
     requires source { IsSource expanded.now.instances source.now }
     requires known { IsSourceKnown expanded.now.instances known.now source.now }
@@ -160,7 +161,7 @@ pub(crate) fn productions_of(
     numbers: &[u16],
     sources: &[Source],
 ) -> Result<Vec<Production>, Memory>
-    requires ready { IsReady expanded.now }
+    requires ready { IsExpandedReady expanded.now }
     requires numbers { AreNumbers expanded.now.instances numbers.now }
     requires sources { All (IsSource expanded.now.instances) sources.now }
     requires known { All (IsSourceKnown expanded.now.instances known.now) sources.now }

@@ -3,12 +3,12 @@ ghost use Rattle.std.specs.Prelude.{◌≡◌, ◌<◌, true, false, length, sli
 ghost use Rattle.std.specs.List.{All};
 ghost use Rattle.mh_grammar.specs.Plain.{plain_of, IsInRange};
 ghost use Rattle.mh_grammar.specs.Numbering.{AreDistinct};
-ghost use Rattle.mh_inline.specs.Instances.{IsReady};
+ghost use Rattle.mh_expand.specs.Ready.{IsExpandedReady};
 ghost use Rattle.mh_inline.specs.Sizes.{AreAllSized, IsSizing};
 ghost use Rattle.mh_inline.specs.Inlined.{AreSources, IsInlined};
 ghost use Rattle.mh_inline.specs.Making.{AreSourcesSmall};
 ghost use Rattle.mh_inline.specs.Faults.{HasEmptyStart, HasNoCycle, HasNoInlineStart, IsFault, IsFirstCyclicAt, IsFirstInlineStartAt, IsFirstUnmarked, IsGrammarOf, IsNamed, IsSmall};
-ghost use Rattle.mh_inline.specs.InstanceTrees.{KeepsSentences};
+ghost use Rattle.mh_inline.specs.Sentences.{KeepsSentences};
 
 use crate::cycles::first_cyclic;
 use crate::fault::InlineFault;
@@ -65,7 +65,7 @@ fn cycle_fault(expanded: &Expanded, number: usize) -> InlineFault
 }
 
 fn start_fault(expanded: &Expanded, number: usize) -> InlineFault
-    requires ready { IsReady expanded.now }
+    requires ready { IsExpandedReady expanded.now }
     requires acyclic { HasNoCycle expanded.now }
     requires first { IsFirstInlineStartAt expanded.now number }
     ensures { IsFault expanded.now result }
@@ -77,7 +77,7 @@ fn start_fault(expanded: &Expanded, number: usize) -> InlineFault
 }
 
 fn empty_fault(expanded: &Expanded, place: usize) -> InlineFault
-    requires ready { IsReady expanded.now }
+    requires ready { IsExpandedReady expanded.now }
     requires empty { HasEmptyStart expanded.now place }
     ensures { IsFault expanded.now result }
 {
@@ -100,7 +100,7 @@ fn grammar_of(
     sizing: &Sizing,
     sources: &[Source],
 ) -> Result<Grammar, Memory>
-    requires ready { IsReady expanded.now }
+    requires ready { IsExpandedReady expanded.now }
     requires sizing { IsSizing expanded.now.instances sizing.now }
     requires sized { AreAllSized expanded.now.instances sizing.now.sizes.items }
     requires sources { AreSources expanded.now.instances sources.now }
@@ -123,7 +123,7 @@ fn grammar_of(
 
 /// The grammar, if each start has a finite tree.
 fn with_trees(alloc: Global, expanded: &Expanded, grammar: Grammar) -> Result<Grammar, InlineFault>
-    requires ready { IsReady expanded.now }
+    requires ready { IsExpandedReady expanded.now }
     requires acyclic { HasNoCycle expanded.now }
     requires kept { HasNoInlineStart expanded.now }
     requires inlined { IsInlined expanded.now grammar }
@@ -140,7 +140,7 @@ fn with_trees(alloc: Global, expanded: &Expanded, grammar: Grammar) -> Result<Gr
 
 /// The grammar, where no start is inline.
 fn inline_kept(alloc: Global, expanded: &Expanded, sizing: &Sizing) -> Result<Grammar, InlineFault>
-    requires ready { IsReady expanded.now }
+    requires ready { IsExpandedReady expanded.now }
     requires sizing { IsSizing expanded.now.instances sizing.now }
     requires sized { AreAllSized expanded.now.instances sizing.now.sizes.items }
     requires acyclic { HasNoCycle expanded.now }
@@ -163,7 +163,7 @@ fn inline_acyclic(
     expanded: &Expanded,
     sizing: &Sizing,
 ) -> Result<Grammar, InlineFault>
-    requires ready { IsReady expanded.now }
+    requires ready { IsExpandedReady expanded.now }
     requires sizing { IsSizing expanded.now.instances sizing.now }
     requires sized { AreAllSized expanded.now.instances sizing.now.sizes.items }
     requires acyclic { HasNoCycle expanded.now }
@@ -179,7 +179,7 @@ fn inline_acyclic(
 /// The grammar that the instances give when each inline producer is replaced by each of its own alternatives, or the
 /// first fault. Each start has the same sentences as before.
 pub fn inline_rules(alloc: Global, expanded: &Expanded) -> Result<Grammar, InlineFault>
-    requires { IsReady expanded.now }
+    requires { IsExpandedReady expanded.now }
     ensures grammar { IfOk result (IsGrammarOf expanded.now) }
     ensures fault { IfErr result (IsFault expanded.now) }
     ensures range { IfOk result (λ g. IsInRange (plain_of g)) }

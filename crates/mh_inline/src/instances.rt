@@ -1,6 +1,7 @@
 //! Which producers are inline.
 ghost use Rattle.std.specs.Prelude.{◌≡◌, length};
-ghost use Rattle.mh_inline.specs.Instances.{inline_number, is_inlined, IsPartBelow, IsReady};
+ghost use Rattle.mh_inline.specs.Instances.{inline_number, is_inlined};
+ghost use Rattle.mh_expand.specs.Ready.{IsPartBelow, IsExpandedReady};
 
 use mh_expand::{Expanded, Part};
 

@@ -1,7 +1,7 @@
 //! The nonterminals of the grammar, and their numbers.
 ghost use Rattle.std.specs.Prelude.{◌≡◌, ◌<◌, ◌≤◌, length, map, filter, slice_index, IfOk};
 ghost use Rattle.std.specs.List.{All};
-ghost use Rattle.mh_inline.specs.Instances.{IsPartBelow};
+ghost use Rattle.mh_expand.specs.Ready.{IsPartBelow};
 ghost use Rattle.mh_inline.specs.Inlined.{is_kept, nonterminal_of};
 ghost use Rattle.mh_inline.specs.Making.{symbol_by, AreNumbers};
 

@@ -1,6 +1,6 @@
 //! How many unfoldings there are, and how long they are, without making them: there may be exponentially many.
 ghost use Rattle.std.specs.Prelude.{◌≡◌, ◌+◌, ◌*◌, ◌<◌, ◌↔◌, [], ◌∷◌, false, min, max, length, IfOk, OnOk, OnSome, IsTrue, MatchOption};
-ghost use Rattle.mh_inline.specs.Instances.{IsReady};
+ghost use Rattle.mh_expand.specs.Ready.{IsExpandedReady};
 ghost use Rattle.mh_inline.specs.Sizes.{AreEachSized, AreSettled, AreSized, AreSizes, IsBlocked, IsEachBlocked, IsEachSize, IsPartSize, IsSettled, IsSideSize, IsSizing, IsWithin, unsized_count};
 
 use crate::instances::{inline_part, is_inline};
@@ -127,7 +127,7 @@ fn size_of_each(
 
 /// Sizes an inline instance, if it has no size yet and those of the inline instances that it is made of are known.
 fn size_one(expanded: &Expanded, sizing: &mut Sizing, number: usize) -> Result<bool, Memory>
-    requires ready { IsReady expanded.now }
+    requires ready { IsExpandedReady expanded.now }
     requires sizing { IsSizing expanded.now.instances sizing.old }
     requires number { number < length expanded.now.instances }
     ensures sizing { OnOk result (IsSizing expanded.now.instances sizing.new) }
@@ -148,7 +148,7 @@ fn size_one(expanded: &Expanded, sizing: &mut Sizing, number: usize) -> Result<b
 
 /// One pass over the instances, from the last, since what an instance is made of is mostly found later.
 fn size_once(expanded: &Expanded, sizing: &mut Sizing) -> Result<bool, Memory>
-    requires ready { IsReady expanded.now }
+    requires ready { IsExpandedReady expanded.now }
     requires sizing { IsSizing expanded.now.instances sizing.old }
     ensures sizing { OnOk result (IsSizing expanded.now.instances sizing.new) }
     ensures more { IfOk result (λ changed. IsTrue changed → unsized_count sizing.new < unsized_count sizing.old) }
@@ -164,7 +164,7 @@ fn size_once(expanded: &Expanded, sizing: &mut Sizing) -> Result<bool, Memory>
 
 /// The sizes of the inline instances; those that reach a cycle have none.
 pub(crate) fn inline_sizes(alloc: Global, expanded: &Expanded) -> Result<Sizing, Memory>
-    requires { IsReady expanded.now }
+    requires { IsExpandedReady expanded.now }
     ensures sizing { IfOk result (IsSizing expanded.now.instances) }
     ensures settled { IfOk result (λ s. AreSettled expanded.now.instances s.sizes.items) }
 {

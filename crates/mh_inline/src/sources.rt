@@ -1,6 +1,7 @@
 //! The alternatives of the instances that are not inline, in the order of their productions.
 ghost use Rattle.std.specs.Prelude.{◌≡◌, ◌+◌, ◌<◌, ◌≤◌, false, length, IfOk, OnOk};
-ghost use Rattle.mh_inline.specs.Instances.{is_inlined, IsReady};
+ghost use Rattle.mh_inline.specs.Instances.{is_inlined};
+ghost use Rattle.mh_expand.specs.Ready.{IsExpandedReady};
 ghost use Rattle.mh_inline.specs.Inlined.{rank_of, AreSources};
 ghost use Rattle.mh_inline.specs.Making.{AreSourcesBelow};
 

@@ -1,7 +1,7 @@
 //! What producers become when each inline one is replaced by one of its own alternatives.
 ghost use Rattle.std.specs.Prelude.{◌≡◌, ◌++◌, ◌∷◌, [], List, map, IfOk, OnOk, length};
 ghost use Rattle.mh_inline.specs.declared.unfoldings.Unfolding.{Unfolding as Unfolded};
-ghost use Rattle.mh_inline.specs.Instances.{IsReady};
+ghost use Rattle.mh_expand.specs.Ready.{IsExpandedReady};
 ghost use Rattle.mh_inline.specs.Unfoldings.{choices, joined, nothing, only, own, rightmost, Unfolds, UnfoldsEach, UnfoldsPart};
 ghost use Rattle.mh_inline.specs.Known.{AreKnown, AreEachKnown, Extends, IsNext, Knows};
 ghost use Rattle.mh_inline.specs.Sizes.{AreSmall, IsSizing};
@@ -180,7 +180,7 @@ fn unfold_one(
     known: &[Sequence<Unfolding>],
     number: usize,
 ) -> Result<Sequence<Unfolding>, Memory>
-    requires ready { IsReady expanded.now }
+    requires ready { IsExpandedReady expanded.now }
     requires next { IsNext expanded.now.instances sizing.now.sizes.items known.now number }
     ensures { IfOk result (λ all. (us : List Unfolded) → UnfoldsPart expanded.now.instances (Part.Instance number) us → AreSmall us → all ≡ us) }
 {
@@ -198,7 +198,7 @@ pub(crate) fn unfold_inline(
     expanded: &Expanded,
     sizing: &Sizing,
 ) -> Result<Vec<Sequence<Unfolding>>, Memory>
-    requires ready { IsReady expanded.now }
+    requires ready { IsExpandedReady expanded.now }
     requires sizing { IsSizing expanded.now.instances sizing.now }
     ensures { IfOk result (λ known. Knows expanded.now.instances sizing.now.order.items known.items) }
 {

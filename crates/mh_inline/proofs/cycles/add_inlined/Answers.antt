@@ -1,7 +1,6 @@
 use Rattle.std.proofs.Common.{length, refl}
 use Rattle.std.proofs.lemmas.Option.{slice_get_read}
 use Rattle.std.proofs.lemmas.Result.{on_ok_weaker}
-use Rattle.mh_inline.specs.Found.{Adds, IsIn, IsMadeOf}
 use Rattle.mh_inline.proofs.Finding.{made_of}
 use Rattle.mh_inline.proofs.cycles.add_inlined.Goals as goal
 

@@ -1,4 +1,4 @@
-use Rattle.std.proofs.Common.{◌≡◌, refl, sym, false}
+use Rattle.std.proofs.Common.{refl, sym}
 use Rattle.mh_inline.proofs.Finding.{Adds-new}
 use Rattle.mh_inline.proofs.cycles.add_one.Goals as goal
 

@@ -1,8 +1,7 @@
-use Rattle.std.proofs.Common.{◌≡◌, ◌<◌, ◌∷◌, [], length, sym, ◌∙◌, arith}
+use Rattle.std.proofs.Common.{sym, ◌∙◌, arith}
 use Rattle.std.proofs.lemmas.Result.{on_ok_weaker}
 use Rattle.mh_inline.proofs.Knowing.{inline_some, inline_instance}
 use Rattle.mh_inline.proofs.Finding.{part_inline, part_kept}
-use Rattle.mh_inline.specs.Found.{Adds, IsAmong, IsSame}
 use Rattle.mh_inline.proofs.cycles.add_part.Goals as goal
 
 pub add_one-requires-clause-number : goal.add_one-requires-clause-number

@@ -1,5 +1,4 @@
-use Rattle.std.proofs.Common.{◌<◌, ℕ, length, arith}
-use Rattle.mh_inline.specs.Instances.{Reaches}
+use Rattle.std.proofs.Common.{arith}
 use Rattle.mh_inline.proofs.Knowing.{inline_instance}
 use Rattle.mh_inline.proofs.Cycling.{reaches_user, all_sized}
 use Rattle.mh_inline.proofs.cycles.first_cyclic.Goals as goal

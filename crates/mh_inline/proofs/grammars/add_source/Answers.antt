@@ -1,11 +1,6 @@
-use Rattle.std.proofs.Common.{◌≡◌, ◌<◌, ◌++◌, ℕ, length, get_or, refl, sym, ap, ◌∙◌, arith, map, subst}
-use Rattle.std.specs.List.{All}
+use Rattle.std.proofs.Common.{◌++◌, ap, ◌∙◌}
 use Rattle.std.proofs.lemmas.Option.{slice_get_within}
 use Rattle.std.proofs.lemmas.Result.{on_ok_weaker}
-use Rattle.mh_inline.specs.declared.unfoldings.Unfolding.{Unfolding}
-use Rattle.mh_inline.specs.Unfoldings.{own, Unfolds}
-use Rattle.mh_inline.specs.Inlined.{number_of}
-use Rattle.mh_inline.specs.Making.{IsUnfoldingBelow, production_by}
 use Rattle.mh_inline.proofs.Productions.{alternative_below, productions_same}
 use Rattle.mh_inline.proofs.grammars.add_source.Goals as goal
 

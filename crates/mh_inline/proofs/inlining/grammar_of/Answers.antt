@@ -1,5 +1,4 @@
-use Rattle.std.proofs.Common.{◌≡◌, length, map, sym, ap, ◌∙◌, get_or, subst}
-use Rattle.mh_inline.specs.Inlined.{number_of, AreProductions}
+use Rattle.std.proofs.Common.{◌∙◌}
 use Rattle.mh_inline.specs.Making.{AreNumbers}
 use Rattle.mh_inline.proofs.Limits.{all_sources, sources_known, small_grammar}
 use Rattle.mh_inline.proofs.Productions.{starts_same}
@@ -19,7 +18,7 @@ returns-clause-inlined c =
     record {
       tokens = c.in_ok-tokens_of.ensures;
       nonterminals = c.from_vec.ensures ∙ rw c.as_slice-3.ensures at c.in_ok-nonterminals.ensures;
-      starts = c.from_vec-3.ensures ∙ rw (c.as_slice-4.ensures, c.as_slice-5.ensures.value) at c.in_ok-starts.ensures ∙ starts_same e.instances numbers e.starts right c.requires.ready.starts;
+      starts = c.from_vec-3.ensures ∙ rw (c.as_slice-4.ensures, c.as_slice-5.ensures.value) at c.in_ok-starts.ensures ∙ starts_same e.instances numbers e.starts right c.requires.ready.starts_below;
       sources = c.args.sources.now;
       ordered = c.requires.sources;
       productions = rw c.from_vec-2.ensures c.in_ok-productions.ensures;

@@ -1,6 +1,5 @@
-use Rattle.std.proofs.Common.{◌≡◌, sym, ap, ◌∙◌}
 use Rattle.std.proofs.lemmas.Bool.{false≢true}
-use Rattle.mh_inline.proofs.Limits.{all_sources, over_sources, small_sources}
+use Rattle.mh_inline.proofs.Limits.{all_sources, over_sources}
 use Rattle.mh_inline.proofs.inlining.inline_kept.Goals as goal
 
 pub size_of_sources-size-requires-clause-sources : goal.size_of_sources-size-requires-clause-sources

@@ -1,5 +1,3 @@
-use Rattle.std.proofs.Common.{◌≡◌, ◌<◌, length, sym, ap, ◌∙◌, subst, arith, get_or, true}
-use Rattle.std.specs.List.{All}
 use Rattle.mh_inline.proofs.Ranges.{in_range, empty_start, productive_starts}
 use Rattle.mh_inline.proofs.inlining.with_trees.Goals as goal
 

@@ -1,4 +1,4 @@
-use Rattle.std.proofs.Common.{◌≡◌, ◌≤◌, ◌<◌, ℕ, length, take, get_or}
+use Rattle.std.proofs.Common.{◌≡◌, ◌≤◌, ◌<◌, ℕ, length, get_or}
 use Rattle.mh_inline.specs.Inlined.{number_of}
 use Rattle.mh_inline.proofs.nonterminals.numbers_of.Given as goal
 

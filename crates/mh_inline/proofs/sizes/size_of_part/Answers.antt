@@ -1,4 +1,4 @@
-use Rattle.std.proofs.Common.{◌≡◌, ◌<◌, length, refl, sym, ◌∙◌, arith}
+use Rattle.std.proofs.Common.{◌<◌, length, refl, sym, ◌∙◌, arith}
 use Rattle.mh_inline.proofs.Knowing.{inline_some, inline_instance}
 use Rattle.mh_inline.proofs.Counting.{kept_size, part_sized, sized_inline, sized_kept}
 use Rattle.mh_inline.proofs.sizes.size_of_part.Goals as goal

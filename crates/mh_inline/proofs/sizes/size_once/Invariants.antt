@@ -1,4 +1,4 @@
-use Rattle.std.proofs.Common.{◌≡◌, ◌<◌, ◌≤◌, ◌+◌, ◌-◌, ℕ, true, false, length}
+use Rattle.std.proofs.Common.{◌≡◌, ◌<◌, ◌≤◌, ◌+◌, ℕ, true, false, length}
 use Rattle.mh_inline.specs.Sizes.{IsSettled, IsSizing, unsized_count}
 use Rattle.mh_inline.proofs.sizes.size_once.Given as goal
 

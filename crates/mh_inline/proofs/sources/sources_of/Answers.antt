@@ -1,4 +1,4 @@
-use Rattle.std.proofs.Common.{sym, ◌∙◌, length, ◌≤◌, arith}
+use Rattle.std.proofs.Common.{sym, ◌∙◌, arith}
 use Rattle.mh_inline.proofs.Sourcing.{AreSourcesBelow-inline, AreSources-all}
 use Rattle.mh_inline.proofs.sources.sources_of.Goals as goal
 use Rattle.mh_inline.proofs.sources.sources_of.Goals.{then-not-is_inline+in_ok-add_sources, else-not-is_inline}

@@ -1,7 +1,6 @@
-use Rattle.std.proofs.Common.{◌≡◌, ◌<◌, length, get_or, set, sym, ap, ◌∙◌, arith}
+use Rattle.std.proofs.Common.{◌<◌, length, get_or, set, ap, ◌∙◌, arith}
 use Rattle.std.proofs.lemmas.List.{get_or_default}
 use Rattle.std.proofs.lemmas.List.Edits.{map_over_more}
-use Rattle.mh_inline.specs.declared.unfoldings.Unfolding.{Unfolding}
 use Rattle.mh_inline.specs.Unfoldings.{joined, only}
 use Rattle.mh_inline.proofs.unfoldings.push_part.Goals as goal
 

@@ -1,4 +1,4 @@
-use Rattle.std.proofs.Common.{◌≡◌, length, sym, ap, ◌∙◌, refl}
+use Rattle.std.proofs.Common.{length, refl}
 use Rattle.std.proofs.lemmas.Option.{slice_get_read}
 use Rattle.mh_inline.specs.Unfoldings as unfoldings
 use Rattle.mh_inline.proofs.Knowing.{UnfoldsEach-more}

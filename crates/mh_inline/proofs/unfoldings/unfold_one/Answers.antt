@@ -1,10 +1,7 @@
-use Rattle.std.proofs.Common.{◌≡◌, ◌<◌, ◌≤◌, ℕ, List, Some, Option, length, get_or, refl, sym, ap, ◌∙◌, arith, subst}
-use Rattle.std.specs.List.{slice_get}
+use Rattle.std.proofs.Common.{◌≡◌, ◌<◌, Some, length, refl, sym, ◌∙◌, subst}
 use Rattle.std.proofs.lemmas.Bool.{false≢true}
 use Rattle.std.proofs.lemmas.Option.{slice_get_read, get_or_from_slice_get}
-use Rattle.mh_inline.specs.declared.sizes.Size.{Size}
 use Rattle.mh_inline.specs.Sizes.{IsWithin}
-use Rattle.mh_inline.specs.Unfoldings.{UnfoldsEach}
 use Rattle.mh_inline.proofs.Same.{part_same, each_same}
 use Rattle.mh_inline.proofs.Knowing.{inline_instance}
 use Rattle.mh_inline.proofs.Building.{some_ready, size_small, each_known, each_of_part}
