@@ -100,7 +100,7 @@ flat_contains f (z ∷ xs) x y c d = elim (contains_cons z xs x c) [
   | inr b ↦ Contains-append_right (f z) (flat_map f xs) y (flat_contains f xs x y b d)
 ]
 
-found_reached : (j : Joined) (ts : List Term) → ((t : Term) → Contains ts t → IsReached j t) → (x : Term) → Contains (finds j ts) x → IsInstance x → IsReached j x
+pub found_reached : (j : Joined) (ts : List Term) → ((t : Term) → Contains ts t → IsReached j t) → (x : Term) → Contains (finds j ts) x → IsInstance x → IsReached j x
 found_reached j ts h x c i = elim (contains_append (start_terms j) (flat_map (producers_of j) ts) x c) [
   | inl d ↦ expansion.IsReached.start d
   | inr d ↦ (let r = contains_flat (producers_of j) ts x d in expansion.IsReached.producer (h r.0 r.1) r.2 i)

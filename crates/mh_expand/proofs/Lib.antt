@@ -10,3 +10,4 @@ pub mod Expanding
 pub mod Simulating
 pub mod Same
 pub mod Ranged
+pub mod Order

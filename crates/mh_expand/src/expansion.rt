@@ -2,6 +2,7 @@
 ghost use Rattle.std.specs.Prelude.{◌≡◌, ◌<◌, ◌≤◌, ◌++◌, ℕ, List, [], length, slice_index, nat_eq, IsSome, IfOk, IfErr};
 ghost use Rattle.std.specs.List.{All};
 ghost use Rattle.indexmap.specs.IndexMap.{get};
+ghost use Rattle.mh_expand.specs.declared.fault.ExpandFault.{ExpandFault};
 ghost use Rattle.mh_expand.specs.Terms.{Term, arguments, text};
 ghost use Rattle.mh_expand.specs.Expansion.{Fails, Causes, IsExpanded, IsFirstFault, producers_of, right_side, rule_at, start_terms};
 ghost use Rattle.mh_expand.specs.Ready.{IsReady, IsExpandedReady};
@@ -27,6 +28,7 @@ pub fn expand(alloc: Global, joined: &Joined) -> Result<Expanded, ExpandFault>
     ensures ready { IfOk result (λ e. IsReady joined.now → IsExpandedReady e) }
     ensures sentences { IfOk result (HasSameSentences joined.now) }
     ensures err { IfErr result (Causes (IsFirstFault joined.now)) }
+    ensures exact { IfOk result (λ _. (fault : ExpandFault) → IsFirstFault joined.now fault → ⊥) }
 {
     let mut terms = Terms::new(alloc);
     let ranks = ranks_of(alloc, &mut terms, joined.on_error.as_slice())?;

@@ -4,6 +4,7 @@
 mod expansion;
 mod fault;
 mod instances;
+mod laws;
 mod ranks;
 mod replacing;
 mod search;
@@ -15,4 +16,5 @@ mod texts;
 pub use expansion::expand;
 pub use fault::ExpandFault;
 pub use instances::{Expanded, Instance, InstanceProduction, Part};
+pub use laws::{is_one_expansion, is_one_fault};
 pub use search::{MAX_INSTANCES, MAX_NAME};

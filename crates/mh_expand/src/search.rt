@@ -12,7 +12,7 @@ use crate::terms::Terms;
 use crate::texts::text_within;
 use indexmap::IndexSet;
 use mh_grammar::{Memory, Name};
-use mh_join::{Head, Joined};
+use mh_join::{Head, Joined, JoinedRule};
 use std::alloc::{AllocFailed, Global};
 
 /// The most instances that there may be.
@@ -64,11 +64,18 @@ pub(crate) fn find_instance(
 {
     let count = terms.at(number).args.len();
     match joined.rules.get(rule as usize) {
-        Some(rule) if rule.formals == count as u64 => {
+        Some(rule) if takes(rule, count) => {
             add_instance(alloc, joined, terms, found, number, &rule.name)
         }
         _ => Err(wrong_count(alloc, joined, terms, number)),
     }
+}
+
+/// Whether the rule takes so many arguments.
+fn takes(rule: &JoinedRule, count: usize) -> bool
+    ensures { IsTrue result ↔ (rule.now.formals ≡ count) }
+{
+    rule.formals == count as u64
 }
 
 /// The number of an instance of the rule of this name; a new one is put behind the others, if it may be.

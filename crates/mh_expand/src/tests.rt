@@ -1,7 +1,7 @@
 //! Grammars that were expanded by hand.
 use crate::expansion::expand;
-use crate::fault::ExpandFault;
-use crate::instances::{Expanded, Instance, Part};
+use crate::instances::Expanded;
+use crate::laws::is_one_expansion;
 use mh_grammar::{Memory, Name, Sequence, TokenInfo, from_bytes};
 use mh_join::{Applied, Head, Joined, JoinedAlternative, JoinedRule, Prec};
 use std::alloc::Global;
@@ -19,12 +19,6 @@ fn alone(alloc: Global, head: Head) -> Applied {
         head,
         args: Sequence::new(alloc),
     }
-}
-
-fn with(alloc: Global, head: Head, arg: Applied) -> Result<Applied, Memory> {
-    let mut args = Sequence::new(alloc);
-    args.push(arg)?;
-    Ok(Applied { head, args })
 }
 
 fn rule(
@@ -74,41 +68,54 @@ fn joined(alloc: Global, rules: Vec<JoinedRule>) -> Result<Joined, Memory> {
     })
 }
 
-// main: p(A) EOF, p(X): X | p(option(X)), option(X): | X. The name of p applied to k options of A has 8k + 4 bytes.
+// The names of the instances, each behind a space.
+fn names_of(alloc: Global, expanded: &Expanded) -> Result<Vec<u8>, Memory> {
+    let mut names = Vec::new(alloc);
+    for instance in expanded.instances.as_slice() {
+        names.push(b' ')?;
+        names.extend_from_slice(instance.name.as_slice())?;
+    }
+    Ok(names)
+}
+
+// main: p q, p: r, q: A, r: B. Breadth first q comes before r.
 #[test]
-fn without_end(rt: HostRuntime) -> Result<(), Fail> {
+fn breadth_first(rt: HostRuntime) -> Result<(), Fail> {
     let alloc = rt.alloc();
-    let a = alone(alloc, Head::Token(0));
     let main = two(
         alloc,
-        with(alloc, Head::Rule(1), a)?,
-        alone(alloc, Head::Token(2)),
+        alone(alloc, Head::Rule(1)),
+        alone(alloc, Head::Rule(2)),
     )?;
-    let x = alone(alloc, Head::Formal(0));
-    let option = with(alloc, Head::Rule(2), x)?;
-    let again = with(alloc, Head::Rule(1), option)?;
-    let p = two(
-        alloc,
-        alternative(1, one(alloc, alone(alloc, Head::Formal(0)))?),
-        alternative(2, one(alloc, again)?),
-    )?;
+    let to = |head: Head| one(alloc, alone(alloc, head));
     let mut rules = two(
         alloc,
         rule(alloc, b"main", 0, one(alloc, alternative(0, main))?)?,
-        rule(alloc, b"p", 1, p)?,
+        rule(
+            alloc,
+            b"p",
+            0,
+            one(alloc, alternative(1, to(Head::Rule(3))?))?,
+        )?,
     )?;
-    let either = two(
+    rules.push(rule(
         alloc,
-        alternative(3, Vec::new(alloc)),
-        alternative(4, one(alloc, alone(alloc, Head::Formal(0)))?),
-    )?;
-    rules.push(rule(alloc, b"option", 1, either)?)?;
-    let result = expand(alloc, &joined(alloc, rules)?);
+        b"q",
+        0,
+        one(alloc, alternative(2, to(Head::Token(0))?))?,
+    )?)?;
+    rules.push(rule(
+        alloc,
+        b"r",
+        0,
+        one(alloc, alternative(3, to(Head::Token(1))?))?,
+    )?)?;
+    let grammar = joined(alloc, rules)?;
+    let expanded = expand(alloc, &grammar)?;
+    is_one_expansion(&grammar, &expanded, &expanded);
     assert_eq!(rt;
-        result.err(),
-        Some(ExpandFault::Expansion {
-            name: from_bytes(alloc, b"p")?
-        })
+        names_of(alloc, &expanded)?.as_slice(),
+        b" main p q r".as_slice()
     );
     Ok(())
 }

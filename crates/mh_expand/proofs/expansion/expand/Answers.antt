@@ -9,6 +9,7 @@ use Rattle.mh_expand.proofs.Shared.{terms_of-distinct}
 use Rattle.mh_expand.proofs.Expanding.{fault_start, IsSearch-none, IsExpanding-start, IsExpanded-done, Names-longer}
 use Rattle.mh_expand.proofs.Same.{has_same_sentences}
 use Rattle.mh_expand.proofs.Ranged.{IsExpandedReady-expanded}
+use Rattle.mh_expand.proofs.Order.{no_fault}
 use Rattle.mh_expand.proofs.expansion.expand.Goals as goal
 
 pub expand_all-requires : goal.expand_all-requires
@@ -51,3 +52,8 @@ returns-in-Ok-expand_all-clause-ready c = λ ready.
     let e : Expanded = record { tokens = c.in_ok-copy_of_tokens-in-Ok-expand_all.field-0; starts = c.in-Ok.starts; instances = c.in-Ok-expand_all.instances } in
     let a = c.in-Ok-expand_all.ensures.ok in
     IsExpandedReady-expanded c.args.joined.now e (returns-in-Ok-expand_all-clause-ok c) ready (omega (arith, a.expanding.few, a.expanding.within))
+
+pub returns-in-Ok-expand_all-clause-exact : goal.returns-in-Ok-expand_all-clause-exact
+returns-in-Ok-expand_all-clause-exact c =
+    let e : Expanded = record { tokens = c.in_ok-copy_of_tokens-in-Ok-expand_all.field-0; starts = c.in-Ok.starts; instances = c.in-Ok-expand_all.instances } in
+    no_fault c.args.joined.now e (returns-in-Ok-expand_all-clause-ok c)

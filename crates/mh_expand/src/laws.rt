@@ -1,0 +1,29 @@
+//! Joined rules have one expansion, or one first fault.
+ghost use Rattle.std.specs.Prelude.{◌≡◌};
+ghost use Rattle.mh_expand.specs.Expansion.{IsExpanded, IsFirstFault};
+
+use crate::fault::ExpandFault;
+use crate::instances::Expanded;
+use mh_join::Joined;
+
+/// Two expansions of the same rules are one, with the same numbers and the same order of productions.
+pub fn is_one_expansion(joined: &Joined, left: &Expanded, right: &Expanded)
+    requires left { IsExpanded joined.now left.now }
+    requires right { IsExpanded joined.now right.now }
+    ensures { left.now ≡ right.now }
+{
+    let _joined = joined;
+    let _left = left;
+    let _right = right;
+}
+
+/// Two first faults of the same rules are one.
+pub fn is_one_fault(joined: &Joined, left: &ExpandFault, right: &ExpandFault)
+    requires left { IsFirstFault joined.now left.now }
+    requires right { IsFirstFault joined.now right.now }
+    ensures { left.now ≡ right.now }
+{
+    let _joined = joined;
+    let _left = left;
+    let _right = right;
+}
