@@ -2,6 +2,7 @@ pub mod Building
 pub mod Choices
 pub mod Counting
 pub mod Limits
+pub mod Only
 pub mod Ordering
 pub mod Cycling
 pub mod Finding

@@ -101,3 +101,11 @@ IsFault e (InlineStart name) = HasNoCycle e × IsFirstInlineStart e name
 IsFault e TooManyProductions = HasNoCycle e × HasNoInlineStart e × (g : Grammar) × IsInlined e g × IsOver g
 IsFault e (EmptyLanguage name) = HasNoCycle e × HasNoInlineStart e × (g : Grammar) × IsInlined e g × IsSmall g × IsFirstEmpty e g name
 IsFault e Memory = Unit {0}
+
+-- another answer than want of memory
+abbrev pub IsNoMemory : InlineFault → Type 0
+IsNoMemory (InlineCycle name) = Unit {0}
+IsNoMemory (InlineStart name) = Unit {0}
+IsNoMemory TooManyProductions = Unit {0}
+IsNoMemory (EmptyLanguage name) = Unit {0}
+IsNoMemory Memory = ⊥

@@ -7,6 +7,7 @@ mod fault;
 mod grammars;
 mod inlining;
 mod instances;
+mod laws;
 mod nonterminals;
 mod sizes;
 mod sources;
@@ -14,3 +15,4 @@ mod unfoldings;
 
 pub use fault::InlineFault;
 pub use inlining::inline_rules;
+pub use laws::{is_grammar_or_fault, is_one_fault, is_one_grammar};
