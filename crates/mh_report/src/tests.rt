@@ -111,7 +111,9 @@ fn with_a_hole(rt: HostRuntime) -> Result<(), Fail> {
         assoc: Assoc::Nonassoc,
     };
     let mut tokens = tokens_of(alloc, &["INT", "EQ", "EOF"])?;
-    tokens[1].level = Some(level);
+    if let Some(token) = tokens.get_mut(1) {
+        token.level = Some(level);
+    }
     let (main, e) = (Symbol::N(0), Symbol::N(1));
     let (int, eq, eof) = (Symbol::T(0), Symbol::T(1), Symbol::T(2));
     let mut productions = Vec::new(alloc);
