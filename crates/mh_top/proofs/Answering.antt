@@ -8,35 +8,41 @@ use Rattle.mh_grammar.specs.declared.types.Sentence.{Sentence}
 use Rattle.mh_grammar.specs.declared.types.Grammar.{Grammar}
 use Rattle.mh_grammar.specs.Plain.{PlainGrammar, plain_of}
 use Rattle.mh_tables.specs.Table.{TableData}
-use Rattle.mh_tables.specs.Run.{Ending, VerdictOf}
+use Rattle.mh_tables.specs.Run.{initial}
+use Rattle.mh_tables.proofs.Ending.{one_ending}
+use Rattle.mh_run.proofs.OneOutcome.{one_outcome}
 use Rattle.mh_top.specs.Text.{Text}
 use Rattle.mh_top.specs.Each.{AnswersLine}
 use Rattle.mh_top.specs.Sentences.{Vocabulary, vocabulary_of, token_names, start_name, TokensFound, Tokens, Unknown, StartFound, StartIs, NoSuchStart, NoStart, LineFound, IsSentence, IsUnreadable, NamesNoStart, LacksStart, NamesUnknown, put_token, number_of, tokens_of, start_or, only_start, start_by, with_start, sole, colon_place, is_name, pieces, sentence_from, sentence_behind, sentence_in, FindsStart, ReadsSentence}
-use Rattle.mh_top.specs.Verdicts.{AreVerdicts, LineText, FoundText, verdict_text}
+use Rattle.mh_top.specs.Verdicts.{Answering, Answers, AnswersOne, FoundBy, SentenceText, verdict_text, outcome_text}
 use Rattle.mh_top.specs.declared.sentence.SentenceFault.{SentenceFault}
 use Rattle.mh_top.specs.declared.sentence.SentenceFault.TheVariants as faults
 
 -- ---- a line has one text
 
-abbrev OneVerdict : TableData → Type 0
-OneVerdict t = (start : ℕ) (w : List ℕ) (a b : Ending) → VerdictOf t start w a → VerdictOf t start w b → a ≡ b
+sentence_once : (trees : Bool) (g : Grammar) (t : TableData) (s : Sentence) (a b : Text) → SentenceText trees g t s a → SentenceText trees g t s b → a ≡ b
+sentence_once false g t s a b p q = p.2 ∙ ap verdict_text (one_ending t (initial s.start s.tokens) p.0 q.0 p.1 q.1) ∙ sym q.2
+sentence_once true g t s a b p q = p.2 ∙ ap (outcome_text g) (one_outcome t s.start s.tokens p.0 q.0 p.1 q.1) ∙ sym q.2
 
-one_found : (t : TableData) → OneVerdict t → (found : LineFound) (a b : Text) → FoundText t found a → FoundText t found b → a ≡ b
-one_found t once (IsSentence s) a b p q = p.2 ∙ ap verdict_text (once s.start s.tokens p.0 q.0 p.1 q.1) ∙ sym q.2
-one_found t once IsUnreadable a b p q = p ∙ sym q
-one_found t once (NamesNoStart name) a b p q = p ∙ sym q
-one_found t once LacksStart a b p q = p ∙ sym q
-one_found t once (NamesUnknown name) a b p q = p ∙ sym q
+found_once : (Says : Sentence → Text → Type 0) → ((s : Sentence) (a b : Text) → Says s a → Says s b → a ≡ b) → (found : LineFound) (a b : Text) → FoundBy Says found a → FoundBy Says found b → a ≡ b
+found_once Says once (IsSentence s) a b p q = once s a b p q
+found_once Says once IsUnreadable a b p q = p ∙ sym q
+found_once Says once (NamesNoStart name) a b p q = p ∙ sym q
+found_once Says once LacksStart a b p q = p ∙ sym q
+found_once Says once (NamesUnknown name) a b p q = p ∙ sym q
 
-pub answers_line : (names : Vocabulary) (t : TableData) → OneVerdict t → (line text : Text) → LineText names t line text → AnswersLine (AreVerdicts names t) (AreVerdicts names t) line text
-answers_line names t once line text is lines whole = (
-  λ h. (h.1, h.3 ∙ ap (λ (l : Text). l ++ h.1) (one_found t once (sentence_in names line) h.0 text h.2 is), h.4),
+pub one_once : (by : Answering) (line a b : Text) → AnswersOne by line a → AnswersOne by line b → a ≡ b
+one_once by line a b p q = found_once (SentenceText by.trees by.grammar by.table) (sentence_once by.trees by.grammar by.table) (sentence_in (vocabulary_of by.grammar) line) a b p q
+
+pub answers_line : (by : Answering) (line text : Text) → AnswersOne by line text → AnswersLine (Answers by) (Answers by) line text
+answers_line by line text is lines whole = (
+  λ h. (h.1, h.3 ∙ ap (λ (l : Text). l ++ h.1) (one_once by line h.0 text h.2 is), h.4),
   λ h. (text, h.0, is, h.1, h.2),
 )
 
-pub answers_ok : {E : Type 0} (names : Vocabulary) (t : TableData) → OneVerdict t → (line : Text) (r : Result (Vec ℕ Global) E) → IfOk r (λ text. LineText names t line text.items) → IfOk r (λ text. AnswersLine (AreVerdicts names t) (AreVerdicts names t) line text.items)
-answers_ok names t once line (Ok text) is = answers_line names t once line text.items is
-answers_ok names t once line (Err e) is = is
+pub answers_ok : {E : Type 0} (by : Answering) (line : Text) (r : Result (Vec ℕ Global) E) → IfOk r (λ text. AnswersOne by line text.items) → IfOk r (λ text. AnswersLine (Answers by) (Answers by) line text.items)
+answers_ok by line (Ok text) is = answers_line by line text.items is
+answers_ok by line (Err e) is = is
 
 -- ---- its tokens are those of the grammar
 

@@ -1,5 +1,5 @@
 -- How the work that the words ask for ends, by its cause.
-use Rattle.std.proofs.Common.{◌≡◌, List, [], Option, None, Some, refl, ◌∙◌, ap, subst}
+use Rattle.std.proofs.Common.{◌≡◌, Bool, List, [], Option, None, Some, refl, ◌∙◌, ap, subst}
 use Rattle.mh_grammar.specs.declared.types.Grammar.{Grammar}
 use Rattle.mh_tables.specs.Table.{TableData}
 use Rattle.mh_outside.specs.Shelf.{Files, Found, found, NoFile, Long, Bytes}
@@ -8,7 +8,7 @@ use Rattle.mh_top.specs.Causes.{Staged, Go, Halt}
 use Rattle.mh_top.specs.Order.{order_of}
 use Rattle.mh_top.specs.GrammarStage.{IsGrammarStage}
 use Rattle.mh_top.specs.TableStage.{IsTableStage}
-use Rattle.mh_top.specs.Work.{Work, Outcome, Gives, Over, Then, IsWork, IsWorkOfOrder, IsWorkOfFile, IsWorkOfGrammar, IsWorkOfTable, halted, interpreting, loaded_from, file_limit}
+use Rattle.mh_top.specs.Work.{Work, Outcome, Gives, Over, Then, IsWork, IsWorkOfOrder, IsWorkOfFile, IsWorkOfGrammar, IsWorkOfTable, halted, answering, loaded_from, file_limit}
 use Rattle.mh_top.specs.Claims.{AskedBy, HoldsFile}
 use Rattle.mh_top.specs.declared.order.Order.{Order}
 use Rattle.mh_top.specs.declared.stop.Cause.{Cause}
@@ -21,7 +21,7 @@ pub data Ended (words : List Text) (Has : Found → Type 0) (w : Work) (o : Outc
   NoSuchFile : o.cause ≡ Some Missing → Has NoFile → Ended words Has w o
   LongFile : o.cause ≡ Some TooBig → Has Long → Ended words Has w o
   Refusal : o.cause ≡ Some Refused → Ended words Has w o
-  Lines : (g : Grammar) → (t : TableData) → w ≡ interpreting g t → Ended words Has w o
+  Lines : (trees : Bool) → (g : Grammar) → (t : TableData) → w ≡ answering trees g t → Ended words Has w o
 
 -- the outcome of a work that halts
 cause_halted : (w : Work) (input : Option Text) (o : Outcome) (cause : Cause) (line : Text) → w ≡ halted cause line → Gives w input o → (o.cause ≡ Some cause) × (o.err ≡ line)
@@ -35,18 +35,18 @@ module _ (words : List Text) (files : Files) (w : Work) (input : Option Text) (o
   refusal : (cause : Cause) (line : Text) → w ≡ halted cause line → cause ≡ Refused → Ended words Has w o
   refusal cause line is refused = Refusal ((cause_halted w input o cause line is gives).0 ∙ ap Some refused)
 
-  of_table : (g : Grammar) (s : Staged TableData) → IsTableStage g s → Then s (IsWorkOfTable g) w → Ended words Has w o
-  of_table g (Go t) stage is = Lines g t is
-  of_table g (Halt cause line) stage is = refusal cause line is stage.0
+  of_table : (order : Order) (g : Grammar) (s : Staged TableData) → IsTableStage g s → Then s (IsWorkOfTable order g) w → Ended words Has w o
+  of_table order g (Go t) stage is = Lines order.trees g t is
+  of_table order g (Halt cause line) stage is = refusal cause line is stage.0
 
-  of_grammar : (name bytes : Text) (s : Staged Grammar) → IsGrammarStage name bytes s → Then s IsWorkOfGrammar w → Ended words Has w o
-  of_grammar name bytes (Go g) stage is = of_table g is.0 is.1 is.2
-  of_grammar name bytes (Halt cause line) stage is = refusal cause line is stage.0
+  of_grammar : (order : Order) (bytes : Text) (s : Staged Grammar) → IsGrammarStage order.file bytes s → Then s (IsWorkOfGrammar order) w → Ended words Has w o
+  of_grammar order bytes (Go g) stage is = of_table order g is.0 is.1 is.2
+  of_grammar order bytes (Halt cause line) stage is = refusal cause line is stage.0
 
-  of_found : (order : Order) → order_of words ≡ Go order → (what : Found) → found files order.file file_limit ≡ what → Then (loaded_from order.file what) (IsWorkOfFile order.file) w → Ended words Has w o
+  of_found : (order : Order) → order_of words ≡ Go order → (what : Found) → found files order.file file_limit ≡ what → Then (loaded_from order.file what) (IsWorkOfFile order) w → Ended words Has w o
   of_found order on NoFile here is = NoSuchFile ((cause_halted w input o Missing _ is gives).0) (order, on, here)
   of_found order on Long here is = LongFile ((cause_halted w input o TooBig _ is gives).0) (order, on, here)
-  of_found order on (Bytes bytes) here is = of_grammar order.file bytes is.0 is.1 is.2
+  of_found order on (Bytes bytes) here is = of_grammar order bytes is.0 is.1 is.2
 
   of_words : (s : Staged Order) → order_of words ≡ s → Then s (IsWorkOfOrder files) w → Ended words Has w o
   of_words (Go order) here is = of_found order here (found files order.file file_limit) refl is
@@ -61,7 +61,7 @@ ended_wider words Has Has' w o next (Misuse is cause line here err) = Misuse is 
 ended_wider words Has Has' w o next (NoSuchFile is has) = NoSuchFile is (next NoFile has)
 ended_wider words Has Has' w o next (LongFile is has) = LongFile is (next Long has)
 ended_wider words Has Has' w o next (Refusal is) = Refusal is
-ended_wider words Has Has' w o next (Lines g t is) = Lines g t is
+ended_wider words Has Has' w o next (Lines trees g t is) = Lines trees g t is
 
 pub asked_ended : (words : List Text) (files : Option Files) (w : Work) (input : Option Text) (o : Outcome) → Gives w input o → AskedBy words files w → Ended words (λ what. Over files (HoldsFile words what)) w o
 asked_ended words None w input o gives asked = ended_wider words (λ what. HoldsFile words what asked.0) (λ what. Over None (HoldsFile words what)) w o (λ what has. (asked.0, has)) (ended words asked.0 w input o gives asked.1)
@@ -69,10 +69,10 @@ asked_ended words (Some fs) w input o gives asked = ended words fs w input o giv
 
 -- ---- and what follows of the files
 
-pub file_gives : (words : List Text) (files : Files) (w : Work) (what : Found) → IsWork words files w → HoldsFile words what files → (name : Text) × Then (loaded_from name what) (IsWorkOfFile name) w
+pub file_gives : (words : List Text) (files : Files) (w : Work) (what : Found) → IsWork words files w → HoldsFile words what files → (order : Order) × Then (loaded_from order.file what) (IsWorkOfFile order) w
 file_gives words files w what is has =
     let order = has.0 in
-    let here : IsWorkOfOrder files order w = subst (λ (s : Staged Order). Then s (IsWorkOfOrder files) w) has.1 is in (order.file, subst (λ (f : Found). Then (loaded_from order.file f) (IsWorkOfFile order.file) w) has.2 here)
+    let here : IsWorkOfOrder files order w = subst (λ (s : Staged Order). Then s (IsWorkOfOrder files) w) has.1 is in (order, subst (λ (f : Found). Then (loaded_from order.file f) (IsWorkOfFile order) w) has.2 here)
 
 pub missing_gives : (words : List Text) (files : Files) (w : Work) (input : Option Text) (o : Outcome) → Gives w input o → IsWork words files w → HoldsFile words NoFile files → o.cause ≡ Some Missing
 missing_gives words files w input o gives is has = let p = file_gives words files w NoFile is has in (cause_halted w input o Missing _ p.1 gives).0

@@ -33,8 +33,8 @@ use Rattle.mh_top.specs.Order.{order_of}
 use Rattle.mh_top.specs.GrammarStage.{GrammarOf, IsGrammarStage}
 use Rattle.mh_top.specs.TableStage.{HasTooMany, HasTable, IsTableStage}
 use Rattle.mh_top.specs.Sentences.{LineFound, IsSentence}
-use Rattle.mh_top.specs.Verdicts.{FoundText, verdict_text}
-use Rattle.mh_top.specs.Work.{Work, AsksEach, Verdicts, Then, IsWorkOfOrder, IsWorkOfFile, IsWorkOfGrammar, IsWorkOfTable, halted, interpreting, loaded_from, file_limit}
+use Rattle.mh_top.specs.Verdicts.{Answering, FoundText, verdict_text}
+use Rattle.mh_top.specs.Work.{Work, AsksEach, Then, IsWorkOfOrder, IsWorkOfFile, IsWorkOfGrammar, IsWorkOfTable, halted, answering, interpreting, loaded_from, file_limit}
 use Rattle.mh_top.specs.Claims.{AskedBy}
 use Rattle.mh_top.specs.Exact.{IsLR1, AnswersSentence, AcceptsExactly, RejectsRightly, OvershootsRightly, AcceptsRightly}
 use Rattle.mh_top.specs.declared.order.Order.{Order}
@@ -52,35 +52,39 @@ pub record IsTabled (g : Grammar) (t : TableData) : Type 0 where
   few : HasTooMany g → ⊥
   table : HasTable g t
 
+abbrev by : Bool → Grammar → TableData → Answering
+by trees g t = record { trees = trees; grammar = g; table = t }
+
 module _ (g : Grammar) (t : TableData) where
   not_halted : (cause : Cause) (line : Text) → interpreting g t ≡ halted cause line → ⊥
   not_halted cause line e = let p = ap (λ (w : Work). w.plan) e in cc
 
-  same_tabled : (h : Grammar) (u : TableData) → interpreting g t ≡ interpreting h u → IsTabled h u → IsTabled g t
-  same_tabled h u e is =
-      let p : AsksEach (Verdicts g t) ≡ AsksEach (Verdicts h u) = ap (λ (w : Work). w.plan) e in
-      let grammar : h ≡ g = cc in
-      let table : u ≡ t = cc in
+  same_tabled : (trees : Bool) (h : Grammar) (u : TableData) → interpreting g t ≡ answering trees h u → IsTabled h u → IsTabled g t
+  same_tabled trees h u e is =
+      let p : AsksEach (by false g t) ≡ AsksEach (by trees h u) = ap (λ (w : Work). w.plan) e in
+      let same : by trees h u ≡ by false g t = cc in
+      let grammar : h ≡ g = ap (λ (a : Answering). a.grammar) same in
+      let table : u ≡ t = ap (λ (a : Answering). a.table) same in
       subst (λ (x : TableData). IsTabled g x) table (subst (λ (x : Grammar). IsTabled x u) grammar is)
 
-  of_table : (bytes : Text) → length bytes ≤ file_limit → (h : Grammar) → GrammarOf bytes h → (s : Staged TableData) → IsTableStage h s → Then s (IsWorkOfTable h) (interpreting g t) → IsTabled g t
-  of_table bytes short h given (Go u) stage is = same_tabled h u is (record { bytes = bytes; short = short; given = given; few = stage.0; table = stage.1 })
-  of_table bytes short h given (Halt cause line) stage is = absurd (not_halted cause line is)
+  of_table : (order : Order) (bytes : Text) → length bytes ≤ file_limit → (h : Grammar) → GrammarOf bytes h → (s : Staged TableData) → IsTableStage h s → Then s (IsWorkOfTable order h) (interpreting g t) → IsTabled g t
+  of_table order bytes short h given (Go u) stage is = same_tabled order.trees h u is (record { bytes = bytes; short = short; given = given; few = stage.0; table = stage.1 })
+  of_table order bytes short h given (Halt cause line) stage is = absurd (not_halted cause line is)
 
-  of_grammar : (name bytes : Text) → length bytes ≤ file_limit → (s : Staged Grammar) → IsGrammarStage name bytes s → Then s IsWorkOfGrammar (interpreting g t) → IsTabled g t
-  of_grammar name bytes short (Go h) stage is = of_table bytes short h stage is.0 is.1 is.2
-  of_grammar name bytes short (Halt cause line) stage is = absurd (not_halted cause line is)
+  of_grammar : (order : Order) (bytes : Text) → length bytes ≤ file_limit → (s : Staged Grammar) → IsGrammarStage order.file bytes s → Then s (IsWorkOfGrammar order) (interpreting g t) → IsTabled g t
+  of_grammar order bytes short (Go h) stage is = of_table order bytes short h stage is.0 is.1 is.2
+  of_grammar order bytes short (Halt cause line) stage is = absurd (not_halted cause line is)
 
-  of_bytes : (name bytes : Text) (small : Bool) → leb (length bytes) file_limit ≡ small → Then (loaded_from name (if small then Bytes bytes else Long)) (IsWorkOfFile name) (interpreting g t) → IsTabled g t
-  of_bytes name bytes true e is = of_grammar name bytes (grind (arith, e)) is.0 is.1 is.2
-  of_bytes name bytes false e is = absurd (not_halted TooBig (too_big name) is)
+  of_bytes : (order : Order) (bytes : Text) (small : Bool) → leb (length bytes) file_limit ≡ small → Then (loaded_from order.file (if small then Bytes bytes else Long)) (IsWorkOfFile order) (interpreting g t) → IsTabled g t
+  of_bytes order bytes true e is = of_grammar order bytes (grind (arith, e)) is.0 is.1 is.2
+  of_bytes order bytes false e is = absurd (not_halted TooBig (too_big order.file) is)
 
-  of_found : (name : Text) (what : Option Text) → Then (loaded_from name (within file_limit what)) (IsWorkOfFile name) (interpreting g t) → IsTabled g t
-  of_found name None is = absurd (not_halted Missing (cannot_read name) is)
-  of_found name (Some bytes) is = of_bytes name bytes (leb (length bytes) file_limit) refl is
+  of_found : (order : Order) (what : Option Text) → Then (loaded_from order.file (within file_limit what)) (IsWorkOfFile order) (interpreting g t) → IsTabled g t
+  of_found order None is = absurd (not_halted Missing (cannot_read order.file) is)
+  of_found order (Some bytes) is = of_bytes order bytes (leb (length bytes) file_limit) refl is
 
   of_words : (files : Files) (s : Staged Order) → Then s (IsWorkOfOrder files) (interpreting g t) → IsTabled g t
-  of_words files (Go order) is = of_found order.file (file_at files order.file) is
+  of_words files (Go order) is = of_found order (file_at files order.file) is
   of_words files (Halt cause line) is = absurd (not_halted cause line is)
 
   pub asked_tabled : (words : List Text) (files : Option Files) → AskedBy words files (interpreting g t) → IsTabled g t

@@ -20,6 +20,7 @@ use Rattle.mh_top.specs.ModuleGrammars.{IsPlain}
 use Rattle.mh_top.specs.GrammarStage.{GrammarOf, IsGrammarStage, IsSyntaxFault, IsNotPlain, syntax_error}
 use Rattle.mh_top.specs.TableStage.{HasTooMany, HasTable, LoopsFirst, IsTableStage, loops_line}
 use Rattle.mh_top.specs.Work.{Work, Then, IsWork, IsWorkOfOrder, IsWorkOfFile, IsWorkOfGrammar, IsWorkOfTable, loaded}
+use Rattle.mh_top.specs.declared.order.Order.{Order}
 use Rattle.mh_top.specs.declared.stop.Cause.{Cause}
 
 -- ---- a table
@@ -99,19 +100,19 @@ then_once : {A : Type 0} (s : Staged A) (Next : A → Work → Type 0) → ((x :
 then_once (Go x) Next once w v p q = once x w v p q
 then_once (Halt cause line) Next once w v p q = p ∙ sym q
 
-table_work_once : (g : Grammar) (t : TableData) → IsOne (IsWorkOfTable g t)
-table_work_once g t w v p q = p ∙ sym q
+table_work_once : (order : Order) (g : Grammar) (t : TableData) → IsOne (IsWorkOfTable order g t)
+table_work_once order g t w v p q = p ∙ sym q
 
-grammar_work_once : (g : Grammar) → IsOne (IsWorkOfGrammar g)
-grammar_work_once g w v p q =
+grammar_work_once : (order : Order) (g : Grammar) → IsOne (IsWorkOfGrammar order g)
+grammar_work_once order g w v p q =
     let same : q.0 ≡ p.0 = table_stage_once g q.0 p.0 q.1 p.1 in
-    then_once p.0 (IsWorkOfTable g) (table_work_once g) w v p.2 (subst (λ (s : Staged TableData). Then s (IsWorkOfTable g) v) same q.2)
+    then_once p.0 (IsWorkOfTable order g) (table_work_once order g) w v p.2 (subst (λ (s : Staged TableData). Then s (IsWorkOfTable order g) v) same q.2)
 
-file_work_once : OneGrammar → (name bytes : Text) → IsOne (IsWorkOfFile name bytes)
-file_work_once once name bytes w v p q =
-    let same : q.0 ≡ p.0 = grammar_stage_once once name bytes q.0 p.0 q.1 p.1 in
-    then_once p.0 IsWorkOfGrammar grammar_work_once w v p.2 (subst (λ (s : Staged Grammar). Then s IsWorkOfGrammar v) same q.2)
+file_work_once : OneGrammar → (order : Order) (bytes : Text) → IsOne (IsWorkOfFile order bytes)
+file_work_once once order bytes w v p q =
+    let same : q.0 ≡ p.0 = grammar_stage_once once order.file bytes q.0 p.0 q.1 p.1 in
+    then_once p.0 (IsWorkOfGrammar order) (grammar_work_once order) w v p.2 (subst (λ (s : Staged Grammar). Then s (IsWorkOfGrammar order) v) same q.2)
 
 -- The words ask for one work over the same files.
 pub work_once : OneGrammar → (words : List Text) (files : Files) (w v : Work) → IsWork words files w → IsWork words files v → w ≡ v
-work_once once words files w v p q = then_once (order_of words) (IsWorkOfOrder files) (λ order. then_once (loaded files order.file) (IsWorkOfFile order.file) (file_work_once once order.file)) w v p q
+work_once once words files w v p q = then_once (order_of words) (IsWorkOfOrder files) (λ order. then_once (loaded files order.file) (IsWorkOfFile order) (file_work_once once order)) w v p q

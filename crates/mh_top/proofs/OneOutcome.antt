@@ -1,28 +1,14 @@
 -- A work has one outcome on an input that is told.
 use Rattle.std.proofs.Common.{◌≡◌, List, [], ◌∷◌, ◌++◌, Bool, None, Some, sym, ap, ap₂, subst, ◌∙◌, if◌then◌else◌}
-use Rattle.mh_tables.specs.Table.{TableData}
-use Rattle.mh_tables.specs.Run.{initial}
-use Rattle.mh_tables.proofs.Ending.{one_ending}
 use Rattle.mh_top.specs.Text.{Text, too_big_input}
-use Rattle.mh_top.specs.Sentences.{Vocabulary, LineFound, IsSentence, IsUnreadable, NamesNoStart, LacksStart, NamesUnknown, sentence_in, vocabulary_of}
-use Rattle.mh_top.specs.Verdicts.{FoundText, AreVerdicts, verdict_text}
-use Rattle.mh_top.specs.Work.{Work, Plan, Ends, AsksEach, Answering, Verdicts, Answers, Outcome, Gives, GivesEach, PlanGives, left_behind}
+use Rattle.mh_top.specs.Verdicts.{Answering, Answers}
+use Rattle.mh_top.specs.Work.{Work, Plan, Ends, AsksEach, Outcome, Gives, GivesEach, PlanGives, left_behind}
 use Rattle.mh_top.specs.declared.stop.Cause.TheVariants.{TooBig}
+use Rattle.mh_top.proofs.Answering.{one_once}
 
-found_once : (t : TableData) (f : LineFound) (a b : Text) → FoundText t f a → FoundText t f b → a ≡ b
-found_once t (IsSentence s) a b p q = p.2 ∙ ap verdict_text (one_ending t (initial s.start s.tokens) p.0 q.0 p.1 q.1) ∙ sym q.2
-found_once t IsUnreadable a b p q = p ∙ sym q
-found_once t (NamesNoStart name) a b p q = p ∙ sym q
-found_once t LacksStart a b p q = p ∙ sym q
-found_once t (NamesUnknown name) a b p q = p ∙ sym q
-
-verdicts_once : (names : Vocabulary) (t : TableData) (lines : List Text) (a b : Text) → AreVerdicts names t lines a → AreVerdicts names t lines b → a ≡ b
-verdicts_once names t [] a b p q = p ∙ sym q
-verdicts_once names t (line ∷ lines) a b p q =
-    p.3 ∙ ap₂ (λ (x y : Text). x ++ y) (found_once t (sentence_in names line) p.0 q.0 p.2 q.2) (verdicts_once names t lines p.1 q.1 p.4 q.4) ∙ sym q.3
-
-answers_once : (answering : Answering) (lines : List Text) (a b : Text) → Answers answering lines a → Answers answering lines b → a ≡ b
-answers_once (Verdicts g t) lines a b p q = verdicts_once (vocabulary_of g) t lines a b p q
+answers_once : (by : Answering) (lines : List Text) (a b : Text) → Answers by lines a → Answers by lines b → a ≡ b
+answers_once by [] a b p q = p ∙ sym q
+answers_once by (line ∷ lines) a b p q = p.3 ∙ ap₂ (λ (x y : Text). x ++ y) (one_once by line p.0 q.0 p.2 q.2) (answers_once by lines p.1 q.1 p.4 q.4) ∙ sym q.3
 
 each_once : (warnings : Text) (answering : Answering) (input : Text) (o r : Outcome) → GivesEach warnings answering (Some input) o → GivesEach warnings answering (Some input) r → o ≡ r
 each_once warnings answering input o r p q =

@@ -13,9 +13,8 @@ use Rattle.mh_top.specs.Stages.{StageHas, StageIs}
 use Rattle.mh_top.specs.GrammarStage.{IsGrammarStage}
 use Rattle.mh_top.specs.TableStage.{IsTableStage}
 use Rattle.mh_top.specs.Each.{EachRan, EachCounts}
-use Rattle.mh_top.specs.Sentences.{vocabulary_of}
-use Rattle.mh_top.specs.Verdicts.{AreVerdicts}
-use Rattle.mh_top.specs.Work.{Verdicts, Over, IsWorkOfOrder, IsWorkOfFile, IsWorkOfGrammar, IsWorkOfTable, line_limit, max_lines}
+use Rattle.mh_top.specs.Verdicts.{Answering, Answers}
+use Rattle.mh_top.specs.Work.{Over, IsWorkOfOrder, IsWorkOfFile, IsWorkOfGrammar, IsWorkOfTable, line_limit, max_lines}
 use Rattle.mh_top.specs.Run.{World, Worked, MayEnd}
 use Rattle.mh_top.specs.Claims.{AskedBy, FileOf}
 use Rattle.mh_top.specs.declared.order.Order.{Order}
@@ -39,19 +38,26 @@ pub words_on : (words : List Text) (order : Order) (b a : World) (r : Result (Un
 words_on words order b a r is worked =
     wider (λ w. Over b.files (λ fs. IsWorkOfOrder fs order w)) (AskedBy words b.files) (λ line. line ≡ cannot_read order.file) (FileOf words) (λ w here. order_on words order b.files w is here) (λ line named. (order, is, named)) b a r worked
 
-pub grammar_halts : (name bytes : Text) (b : World) (stop : Stop) → StageHas {A = Grammar} (IsGrammarStage name bytes) (Err stop) → Worked (IsWorkOfFile name bytes) (λ line. ⊥) b b (Err stop)
-grammar_halts name bytes b stop is = stage_halts (IsGrammarStage name bytes) (IsWorkOfFile name bytes) (λ line. ⊥) b stop (λ cause line here. ((Halt cause line, here, refl), may_refuse b.files cause here.0)) is
+halts_named : (order : Order) (bytes : Text) (b : World) (stop : Stop) → StageHas {A = Grammar} (IsGrammarStage order.file bytes) (Err stop) → Worked (IsWorkOfFile order bytes) (λ line. ⊥) b b (Err stop)
+halts_named order bytes b stop is = stage_halts (IsGrammarStage order.file bytes) (IsWorkOfFile order bytes) (λ line. ⊥) b stop (λ cause line here. ((Halt cause line, here, refl), may_refuse b.files cause here.0)) is
 
-pub grammar_on : (name bytes : Text) (g : Grammar) (b a : World) (r : Result (Unit {0}) Stop) → IsGrammarStage name bytes (Go g) → Worked (IsWorkOfGrammar g) (λ line. ⊥) b a r → Worked (IsWorkOfFile name bytes) (λ line. ⊥) b a r
-grammar_on name bytes g b a r is worked = wider (IsWorkOfGrammar g) (IsWorkOfFile name bytes) (λ line. ⊥) (λ line. ⊥) (λ w here. (Go g, is, here)) (λ line none. none) b a r worked
+pub grammar_halts : (order : Order) (name bytes : Text) (b : World) (stop : Stop) → name ≡ order.file → StageHas {A = Grammar} (IsGrammarStage name bytes) (Err stop) → Worked (IsWorkOfFile order bytes) (λ line. ⊥) b b (Err stop)
+grammar_halts order name bytes b stop same is = halts_named order bytes b stop (subst (λ (n : Text). StageHas {A = Grammar} (IsGrammarStage n bytes) (Err stop)) same is)
 
-pub table_halts : (g : Grammar) (b : World) (stop : Stop) → StageHas {A = TableData} (IsTableStage g) (Err stop) → Worked (IsWorkOfGrammar g) (λ line. ⊥) b b (Err stop)
-table_halts g b stop is = stage_halts (IsTableStage g) (IsWorkOfGrammar g) (λ line. ⊥) b stop (λ cause line here. ((Halt cause line, here, refl), may_refuse b.files cause here.0)) is
+pub grammar_on : (order : Order) (name bytes : Text) (g : Grammar) (b a : World) (r : Result (Unit {0}) Stop) → name ≡ order.file → IsGrammarStage name bytes (Go g) → Worked (IsWorkOfGrammar order g) (λ line. ⊥) b a r → Worked (IsWorkOfFile order bytes) (λ line. ⊥) b a r
+grammar_on order name bytes g b a r same is worked = wider (IsWorkOfGrammar order g) (IsWorkOfFile order bytes) (λ line. ⊥) (λ line. ⊥) (λ w here. (Go g, subst (λ (n : Text). IsGrammarStage n bytes (Go g)) same is, here)) (λ line none. none) b a r worked
 
-pub table_on : (g : Grammar) (t : TableData) (b a : World) (r : Result (Unit {0}) Stop) → IsTableStage g (Go t) → Worked (IsWorkOfTable g t) (λ line. ⊥) b a r → Worked (IsWorkOfGrammar g) (λ line. ⊥) b a r
-table_on g t b a r is worked = wider (IsWorkOfTable g t) (IsWorkOfGrammar g) (λ line. ⊥) (λ line. ⊥) (λ w here. (Go t, is, here)) (λ line none. none) b a r worked
+pub table_halts : (order : Order) (g : Grammar) (b : World) (stop : Stop) → StageHas {A = TableData} (IsTableStage g) (Err stop) → Worked (IsWorkOfGrammar order g) (λ line. ⊥) b b (Err stop)
+table_halts order g b stop is = stage_halts (IsTableStage g) (IsWorkOfGrammar order g) (λ line. ⊥) b stop (λ cause line here. ((Halt cause line, here, refl), may_refuse b.files cause here.0)) is
 
--- the verdicts of the lines
-pub verdicts_ran : (g : Grammar) (t : TableData) (b : World) (left out : Option Text) (n m : ℕ) (r : Result (Unit {0}) Stop) → EachRan line_limit max_lines (AreVerdicts (vocabulary_of g) t) b.left left b.out out r → EachCounts b.input_faults n b.out_faults m r
-    → Worked (IsWorkOfTable g t) (λ line. ⊥) b (record b { left = left; input_faults = n; out = out; out_faults = m }) r
-verdicts_ran g t b left out n m r ran counts = each_ran b (record b { left = left; input_faults = n; out = out; out_faults = m }) [] (Verdicts g t) (Appends-nil b.err) refl refl r ran counts
+pub table_on : (order : Order) (g : Grammar) (t : TableData) (b a : World) (r : Result (Unit {0}) Stop) → IsTableStage g (Go t) → Worked (IsWorkOfTable order g t) (λ line. ⊥) b a r → Worked (IsWorkOfGrammar order g) (λ line. ⊥) b a r
+table_on order g t b a r is worked = wider (IsWorkOfTable order g t) (IsWorkOfGrammar order g) (λ line. ⊥) (λ line. ⊥) (λ w here. (Go t, is, here)) (λ line none. none) b a r worked
+
+-- the answers to the lines
+module _ (order : Order) (g : Grammar) (t : TableData) where
+  abbrev by : Answering
+  by = record { trees = order.trees; grammar = g; table = t }
+
+  pub answers_ran : (b : World) (left out : Option Text) (n m : ℕ) (r : Result (Unit {0}) Stop) → EachRan line_limit max_lines (Answers by) b.left left b.out out r → EachCounts b.input_faults n b.out_faults m r
+      → Worked (IsWorkOfTable order g t) (λ line. ⊥) b (record b { left = left; input_faults = n; out = out; out_faults = m }) r
+  answers_ran b left out n m r ran counts = each_ran b (record b { left = left; input_faults = n; out = out; out_faults = m }) [] by (Appends-nil b.err) refl refl r ran counts

@@ -1,18 +1,21 @@
 -- How the stages of the work go on.
-use Rattle.std.proofs.Common.{◌≡◌, inl, inr, ℕ, true, false, List, [], ◌∷◌, ◌++◌, Option, None, Some, refl, sym, ◌∙◌, ap, subst, ap₂, ◌&&◌, not, codes}
+use Rattle.std.proofs.Common.{◌≡◌, inl, inr, ℕ, true, false, List, [], ◌∷◌, ◌++◌, Option, None, Some, refl, sym, ◌∙◌, ap, subst, ap₂}
 use Rattle.std.proofs.lemmas.List.{append-nil}
 use Rattle.std.specs.Prelude.{Bool, if◌then◌else◌, Result, Ok, Err}
 use Rattle.std.specs.Io.KnownBytes.{Appends}
 use Rattle.mh_outside.specs.Shelf.{Files}
 use Rattle.mh_outside.specs.Sink.{IsPrefix}
-use Rattle.mh_top.specs.Text.{Text, bad_words, too_big_input, cannot_read}
+use Rattle.mh_top.specs.Text.{Text, too_big_input, cannot_read}
 use Rattle.mh_top.specs.Causes.{Staged, Go, Halt}
-use Rattle.std.specs.Str.{bytes_eq}
-use Rattle.mh_top.specs.Order.{order_of, is_dashed}
+use Rattle.mh_opts.specs.Orders as spelled
+use Rattle.mh_opts.specs.declared.order.Order.{Order as Spelled}
+use Rattle.mh_opts.specs.declared.order.UsageFault.{UsageFault}
+use Rattle.mh_top.specs.Order.{order_of, order_by, order_for, is_known, staged}
 use Rattle.mh_top.specs.Stages.{StageHas}
 use Rattle.mh_top.specs.Load.{LoadHas, LoadCounts}
 use Rattle.mh_top.specs.Each.{Answered, AnsweredPart, EachRan, EachCounts, Finishes}
-use Rattle.mh_top.specs.Work.{AsksEach, Answering, Answers, Work, Over, Then, IsWork, IsWorkOfOrder, IsWorkOfFile, halted, loaded, left_behind, line_limit, max_lines}
+use Rattle.mh_top.specs.Verdicts.{Answering, Answers}
+use Rattle.mh_top.specs.Work.{AsksEach, Work, Over, Then, IsWork, IsWorkOfOrder, IsWorkOfFile, halted, loaded, left_behind, line_limit, max_lines}
 use Rattle.mh_top.specs.Run.{World, Worked, Parts, EndsSo, IsQuiet, LeftIs, MayEnd}
 use Rattle.mh_top.specs.declared.order.Order.{Order}
 use Rattle.mh_top.specs.declared.stop.Cause.{Cause}
@@ -108,18 +111,21 @@ abbrev cause_or_misused : Staged Order → Cause
 cause_or_misused (Go order) = Misused
 cause_or_misused (Halt cause line) = cause
 
-either_misused : (c : Bool) (order : Order) (line : Text) → cause_or_misused (if c then Go order else Halt Misused line) ≡ Misused
-either_misused true order line = refl
-either_misused false order line = refl
+files_misused : (trees : Bool) (files : List Text) → cause_or_misused (order_by trees files) ≡ Misused
+files_misused trees [] = refl
+files_misused trees (file ∷ []) = refl
+files_misused trees (file ∷ more ∷ files) = refl
 
-all_misused : (words : List Text) → cause_or_misused (order_of words) ≡ Misused
-all_misused [] = refl
-all_misused (mode ∷ []) = refl
-all_misused (mode ∷ file ∷ []) = either_misused (bytes_eq mode (codes "--interpret") && not (is_dashed file)) (record { file = file }) bad_words
-all_misused (mode ∷ file ∷ more ∷ words) = refl
+known_misused : (known : Bool) (order : Spelled) → cause_or_misused (order_for known order) ≡ Misused
+known_misused true order = files_misused order.show_cst order.grammars
+known_misused false order = refl
+
+staged_misused : (spelled : Result Spelled UsageFault) → cause_or_misused (staged spelled) ≡ Misused
+staged_misused (Ok order) = known_misused (is_known order) order
+staged_misused (Err fault) = refl
 
 pub words_misused : (words : List Text) (cause : Cause) (line : Text) → order_of words ≡ Halt cause line → cause ≡ Misused
-words_misused words cause line is = ap cause_or_misused (sym is) ∙ all_misused words
+words_misused words cause line is = ap cause_or_misused (sym is) ∙ staged_misused (spelled.order_of words)
 
 -- ---- a file
 
@@ -150,8 +156,8 @@ order_halts words files cause line is = (
 )
 
 -- a file was read
-file_on : (order : Order) (bytes : Text) (files : Option Files) (w : Work) → Over files (λ fs. loaded fs order.file ≡ Go bytes) → IsWorkOfFile order.file bytes w → Over files (λ fs. IsWorkOfOrder fs order w)
-file_on order bytes files w over is = over_next files (λ fs. loaded fs order.file ≡ Go bytes) (λ fs. IsWorkOfOrder fs order w) (λ fs h. subst (λ (s : Staged Text). Then s (IsWorkOfFile order.file) w) (sym h) is) over
+file_on : (order : Order) (bytes : Text) (files : Option Files) (w : Work) → Over files (λ fs. loaded fs order.file ≡ Go bytes) → IsWorkOfFile order bytes w → Over files (λ fs. IsWorkOfOrder fs order w)
+file_on order bytes files w over is = over_next files (λ fs. loaded fs order.file ≡ Go bytes) (λ fs. IsWorkOfOrder fs order w) (λ fs h. subst (λ (s : Staged Text). Then s (IsWorkOfFile order) w) (sym h) is) over
 
 module _ (b : World) (order : Order) (files : Option Files) (n : ℕ) where
   abbrev m : World
@@ -163,7 +169,7 @@ module _ (b : World) (order : Order) (files : Option Files) (n : ℕ) where
   pub load_halts : (name : Text) (stop : Stop) → name ≡ order.file → LoadHas b.files name (Err stop) → LoadCounts {A = Text} b.shelf_faults n (Err stop) → Worked Asked (λ line. line ≡ cannot_read order.file) b m (Err stop)
   load_halts name (Halted cause line) same has counts =
       halts Asked b m cause line
-      (over_next b.files (λ fs. loaded fs name ≡ Halt cause line) (λ fs. IsWorkOfOrder fs order (halted cause line)) (λ fs h. subst (λ (s : Staged Text). Then s (IsWorkOfFile order.file) (halted cause line)) (sym (ap (loaded fs) (sym same) ∙ h)) refl) has.1)
+      (over_next b.files (λ fs. loaded fs name ≡ Halt cause line) (λ fs. IsWorkOfOrder fs order (halted cause line)) (λ fs h. subst (λ (s : Staged Text). Then s (IsWorkOfFile order) (halted cause line)) (sym (ap (loaded fs) (sym same) ∙ h)) refl) has.1)
       has.0
       refl
       refl
@@ -175,15 +181,15 @@ module _ (b : World) (order : Order) (files : Option Files) (n : ℕ) where
   load_halts name WriteFailed same has counts = absurd counts
 
   -- the work on the bytes goes on in the world that the load left
-  pub load_on : (name bytes : Text) (a : World) (r : Result (Unit {0}) Stop) → name ≡ order.file → files ≡ b.files → n ≡ b.shelf_faults → Over b.files (λ fs. loaded fs name ≡ Go bytes) → Worked (IsWorkOfFile order.file bytes) (λ line. ⊥) m a r → Worked Asked (λ line. line ≡ cannot_read order.file) b a r
+  pub load_on : (name bytes : Text) (a : World) (r : Result (Unit {0}) Stop) → name ≡ order.file → files ≡ b.files → n ≡ b.shelf_faults → Over b.files (λ fs. loaded fs name ≡ Go bytes) → Worked (IsWorkOfFile order bytes) (λ line. ⊥) m a r → Worked Asked (λ line. line ≡ cannot_read order.file) b a r
   load_on name bytes a r same kept calm has worked =
-      wider (IsWorkOfFile order.file bytes) Asked (λ line. ⊥) (λ line. line ≡ cannot_read order.file)
+      wider (IsWorkOfFile order bytes) Asked (λ line. ⊥) (λ line. line ≡ cannot_read order.file)
       (λ w is. file_on order bytes b.files w (over_next b.files (λ fs. loaded fs name ≡ Go bytes) (λ fs. loaded fs order.file ≡ Go bytes) (λ fs h. ap (loaded fs) (sym same) ∙ h) has) is)
       (λ line none. absurd none)
       b
       a
       r
-      (subst (λ (w : World). Worked (IsWorkOfFile order.file bytes) (λ line. ⊥) w a r) (ap₂ (λ (x : Option Files) (k : ℕ). record b { files = x; shelf_faults = k }) kept calm) worked)
+      (subst (λ (w : World). Worked (IsWorkOfFile order bytes) (λ line. ⊥) w a r) (ap₂ (λ (x : Option Files) (k : ℕ). record b { files = x; shelf_faults = k }) kept calm) worked)
 
 -- ---- a plan that asks for each line
 

@@ -7,7 +7,8 @@ use Rattle.mh_outside.specs.Sink.{IsPrefix, AppendsPrefix}
 use Rattle.mh_top.specs.Text.{Text, cannot_read_input, out_of_memory}
 use Rattle.mh_top.specs.Causes.{status_of, code_of}
 use Rattle.mh_top.specs.Each.{IsPart, AnsweredGot}
-use Rattle.mh_top.specs.Work.{Outcome, Plan, Ends, AsksEach, Answers, Work, Gives, line_limit, max_lines}
+use Rattle.mh_top.specs.Verdicts.{Answers}
+use Rattle.mh_top.specs.Work.{Outcome, Plan, Ends, AsksEach, Work, Gives, line_limit, max_lines}
 use Rattle.mh_top.specs.declared.stop.Cause.{Cause}
 use Rattle.mh_top.specs.declared.stop.Cause.TheVariants.{Missing}
 use Rattle.mh_top.specs.declared.stop.Stop.{Stop}

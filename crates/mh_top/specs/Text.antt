@@ -7,6 +7,18 @@ Text = List ℕ
 abbrev pub bad_words : Text
 bad_words = codes "menhir: usage: bad words\n"
 
+abbrev pub no_mode : Text
+no_mode = codes "menhir: usage: no mode\n"
+
+abbrev pub two_modes : Text
+two_modes = codes "menhir: usage: two modes\n"
+
+abbrev pub misplaced : Text → Text
+misplaced option = codes "menhir: usage: misplaced " ++ option ++ codes "\n"
+
+abbrev pub no_grammar : Text
+no_grammar = codes "menhir: usage: no grammar\n"
+
 abbrev pub cannot_read : Text → Text
 cannot_read name = codes "menhir: cannot read " ++ name ++ codes "\n"
 

@@ -1,5 +1,5 @@
 -- The whole work: what the words ask for over some files. Stages that are given by relations make it a relation.
-use Rattle.std.specs.Prelude.{◌≡◌, ℕ, Bool, List, [], ◌++◌, if◌then◌else◌, Option, None, Some}
+use Rattle.std.specs.Prelude.{◌≡◌, ℕ, Bool, false, List, [], ◌++◌, if◌then◌else◌, Option, None, Some}
 use Rattle.mh_grammar.specs.declared.types.Grammar.{Grammar}
 use Rattle.mh_tables.specs.Table.{TableData}
 use Rattle.mh_outside.specs.Shelf.{Files, Found, found, NoFile, Long, Bytes}
@@ -7,8 +7,7 @@ use Rattle.mh_top.specs.Text.{Text, cannot_read, too_big, too_big_input}
 use Rattle.mh_top.specs.Causes.{Staged, Go, Halt}
 use Rattle.mh_top.specs.Order.{order_of}
 use Rattle.mh_top.specs.Each.{Asks}
-use Rattle.mh_top.specs.Sentences.{vocabulary_of}
-use Rattle.mh_top.specs.Verdicts.{AreVerdicts}
+use Rattle.mh_top.specs.Verdicts.{Answering, Answers}
 use Rattle.mh_top.specs.GrammarStage.{IsGrammarStage}
 use Rattle.mh_top.specs.TableStage.{IsTableStage}
 use Rattle.mh_top.specs.declared.order.Order.{Order}
@@ -22,14 +21,6 @@ pub record Ending : Type 0 where
   pub cause : Option Cause
   pub out : Text
   pub err : Text
-
--- what answers the lines of the input: verdicts by a grammar and its table
-pub data Answering : Type 0 where
-  Verdicts : Grammar → TableData → Answering
-
--- the text that answers these lines
-abbrev pub Answers : Answering → List Text → Text → Type 0
-Answers (Verdicts g t) = AreVerdicts (vocabulary_of g) t
 
 pub data Plan : Type 0 where
   Ends : Ending → Plan
@@ -62,22 +53,26 @@ loaded_from name (Bytes bytes) = Go bytes
 abbrev pub loaded : Files → Text → Staged Text
 loaded files name = loaded_from name (found files name file_limit)
 
--- the verdicts of the input's lines
+-- the verdicts of the input's lines, with trees or without
+abbrev pub answering : Bool → Grammar → TableData → Work
+answering trees g t = record { warnings = []; plan = AsksEach (record { trees = trees; grammar = g; table = t }) }
+
+-- the verdicts alone
 abbrev pub interpreting : Grammar → TableData → Work
-interpreting g t = record { warnings = []; plan = AsksEach (Verdicts g t) }
+interpreting g t = answering false g t
 
-abbrev pub IsWorkOfTable : Grammar → TableData → Work → Type 0
-IsWorkOfTable g t w = w ≡ interpreting g t
+abbrev pub IsWorkOfTable : Order → Grammar → TableData → Work → Type 0
+IsWorkOfTable order g t w = w ≡ answering order.trees g t
 
-abbrev pub IsWorkOfGrammar : Grammar → Work → Type 0
-IsWorkOfGrammar g w = (s : Staged TableData) × IsTableStage g s × Then s (IsWorkOfTable g) w
+abbrev pub IsWorkOfGrammar : Order → Grammar → Work → Type 0
+IsWorkOfGrammar order g w = (s : Staged TableData) × IsTableStage g s × Then s (IsWorkOfTable order g) w
 
--- the work on the file that has this name and these bytes
-abbrev pub IsWorkOfFile : Text → Text → Work → Type 0
-IsWorkOfFile name bytes w = (s : Staged Grammar) × IsGrammarStage name bytes s × Then s IsWorkOfGrammar w
+-- the work on the order's file, of these bytes
+abbrev pub IsWorkOfFile : Order → Text → Work → Type 0
+IsWorkOfFile order bytes w = (s : Staged Grammar) × IsGrammarStage order.file bytes s × Then s (IsWorkOfGrammar order) w
 
 abbrev pub IsWorkOfOrder : Files → Order → Work → Type 0
-IsWorkOfOrder files order w = Then (loaded files order.file) (IsWorkOfFile order.file) w
+IsWorkOfOrder files order w = Then (loaded files order.file) (IsWorkOfFile order) w
 
 abbrev pub IsWork : List Text → Files → Work → Type 0
 IsWork words files w = Then (order_of words) (IsWorkOfOrder files) w

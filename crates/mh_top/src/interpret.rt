@@ -1,4 +1,4 @@
-//! The verdicts of the input's lines.
+//! The answers to the input's lines.
 ghost use Rattle.std.specs.Prelude.{◌≡◌, ◌<◌, ◌^◌, ◌++◌, List, ℕ, length, IfOk};
 ghost use Rattle.std.specs.List.{All};
 ghost use Rattle.mh_grammar.specs.Plain.{plain_of, IsInRange};
@@ -7,15 +7,16 @@ ghost use Rattle.mh_run.specs.Verdicts.{ending_for};
 ghost use Rattle.mh_top.specs.Each.{EachRan, EachCounts};
 ghost use Rattle.mh_top.specs.Work.{line_limit, max_lines};
 ghost use Rattle.mh_top.specs.Sentences.{HasNumbers, vocabulary_of};
-ghost use Rattle.mh_top.specs.Verdicts.{AreVerdicts, LineText, verdict_text as verdict_line};
+ghost use Rattle.mh_top.specs.Verdicts.{Answers, AnswersOne, IsOutcomeText, IsVerdictText, SentenceText, outcome_text as outcome_line, verdict_text as verdict_line};
 
 use crate::each::{Answer, answer_each};
 use crate::sentence::{Lexicon, SentenceFault, read_sentence};
 use crate::stop::{Stop, joined};
-use mh_grammar::{Grammar, Memory, Token};
+use mh_grammar::{Grammar, Memory, Sentence, Token};
 use mh_outside::{Sink, Source};
-use mh_run::{Verdict, verdict};
+use mh_run::{TreeOutcome, Verdict, run_with_trees, verdict};
 use mh_tables::Halting;
+use mh_tree::print_tree;
 use std::alloc::Global;
 
 /// An input line has at most 1 MiB.
@@ -23,9 +24,11 @@ const LINE_LIMIT: usize = 1024 * 1024;
 
 const MAX_LINES: usize = 1_000_000;
 
-/// What answers a line with its verdict.
+/// What answers a line.
 #[derive(Drop)]
-struct Verdicts {
+struct Answering {
+    /// Whether what is accepted has its tree.
+    trees: bool,
     grammar: Grammar,
     lexicon: Lexicon,
     halting: Halting,
@@ -44,24 +47,76 @@ fn verdict_text(verdict: Verdict) -> &'static [u8]
     }
 }
 
-/// The text that answers a line.
-fn line_text(
+/// The answer to a sentence by its verdict.
+fn verdict_answer(alloc: Global, halting: &Halting, sentence: &Sentence) -> Result<Vec<u8>, Memory>
+    requires start { sentence.now.start < length halting.now.grammar.starts }
+    requires tokens { All (λ z. z < halting.now.grammar.tokens) sentence.now.tokens }
+    requires few { length sentence.now.tokens < 2 ^ 32 }
+    ensures { IfOk result (λ text. IsVerdictText halting.now sentence.now text.items) }
+{
+    let verdict = verdict(alloc, halting, sentence.start, sentence.tokens.as_slice())?;
+    Ok(verdict_text(verdict).to_vec(alloc)?)
+}
+
+/// The words for how a run with its trees ends, and the tree.
+fn outcome_text(alloc: Global, grammar: &Grammar, outcome: &TreeOutcome) -> Result<Vec<u8>, Memory>
+    ensures { IfOk result (λ text. text.items ≡ outcome_line grammar.now outcome.now) }
+{
+    match outcome {
+        TreeOutcome::Accept { tree, .. } => {
+            let tree = print_tree(alloc, grammar, tree)?;
+            let text = joined(alloc, b"ACCEPT\n", &tree, b"\n")?;
+            Ok(text.into_vec())
+        }
+        TreeOutcome::Overshoot { .. } => Ok(b"OVERSHOOT\n".to_vec(alloc)?),
+        TreeOutcome::Reject { .. } => Ok(b"REJECT\n".to_vec(alloc)?),
+        TreeOutcome::TooDeep => Ok(b"TOODEEP\n".to_vec(alloc)?),
+    }
+}
+
+/// The answer to a sentence by its run with trees.
+fn tree_answer(
     alloc: Global,
     grammar: &Grammar,
-    lexicon: &Lexicon,
     halting: &Halting,
-    line: &[u8],
+    sentence: &Sentence,
 ) -> Result<Vec<u8>, Memory>
-    requires numbers { HasNumbers (vocabulary_of grammar.now) lexicon.now }
-    requires same { halting.now.grammar ≡ plain_of grammar.now }
-    requires short { length line.now < 2 ^ 32 }
-    ensures { IfOk result (λ text. LineText (vocabulary_of grammar.now) halting.now line.now text.items) }
+    requires start { sentence.now.start < length halting.now.grammar.starts }
+    requires tokens { All (λ z. z < halting.now.grammar.tokens) sentence.now.tokens }
+    requires few { length sentence.now.tokens < 2 ^ 32 }
+    ensures { IfOk result (λ text. IsOutcomeText grammar.now halting.now sentence.now text.items) }
 {
-    match read_sentence(alloc, grammar, lexicon, line) {
-        Ok(sentence) => {
-            let verdict = verdict(alloc, halting, sentence.start, sentence.tokens.as_slice())?;
-            Ok(verdict_text(verdict).to_vec(alloc)?)
-        }
+    let outcome = run_with_trees(alloc, halting, sentence.start, sentence.tokens.as_slice())?;
+    outcome_text(alloc, grammar, &outcome)
+}
+
+/// The answer to a sentence.
+fn sentence_text(
+    alloc: Global,
+    trees: bool,
+    grammar: &Grammar,
+    halting: &Halting,
+    sentence: &Sentence,
+) -> Result<Vec<u8>, Memory>
+    requires start { sentence.now.start < length halting.now.grammar.starts }
+    requires tokens { All (λ z. z < halting.now.grammar.tokens) sentence.now.tokens }
+    requires few { length sentence.now.tokens < 2 ^ 32 }
+    ensures { IfOk result (λ text. SentenceText trees grammar.now halting.now sentence.now text.items) }
+{
+    if trees {
+        tree_answer(alloc, grammar, halting, sentence)
+    } else {
+        verdict_answer(alloc, halting, sentence)
+    }
+}
+
+/// The text that answers a line.
+fn line_text(alloc: Global, by: &Answering, line: &[u8]) -> Result<Vec<u8>, Memory>
+    requires short { length line.now < 2 ^ 32 }
+    ensures { IfOk result (λ text. AnswersOne (record { trees = by.now.trees; grammar = by.now.grammar; table = by.now.halting }) line.now text.items) }
+{
+    match read_sentence(alloc, &by.grammar, &by.lexicon, line) {
+        Ok(sentence) => sentence_text(alloc, by.trees, &by.grammar, &by.halting, &sentence),
         Err(SentenceFault::Unreadable) => Ok(b"ERROR unreadable\n".to_vec(alloc)?),
         Err(SentenceFault::UnknownStart { name }) => {
             let text = joined(alloc, b"ERROR unknown start ", name.as_slice(), b"\n")?;
@@ -76,23 +131,22 @@ fn line_text(
     }
 }
 
-impl Answer for Verdicts {
-    ghost use Rattle.mh_top.specs.Sentences.{vocabulary_of};
-    ghost use Rattle.mh_top.specs.Verdicts.{AreVerdicts};
+impl Answer for Answering {
+    ghost use Rattle.mh_top.specs.Verdicts.{Answers};
 
-    ghost Answers = { λ s. AreVerdicts (vocabulary_of s.grammar) s.halting };
+    ghost Answers = { λ s. Answers (record { trees = s.trees; grammar = s.grammar; table = s.halting }) };
 
     ghost no_line = { λ s text. (λ h. h, λ h. h) };
 
     fn answer(&mut self, alloc: Global, line: &[u8]) -> Result<Vec<u8>, Memory> {
-        self.halting.table().one_verdict();
-        line_text(alloc, &self.grammar, &self.lexicon, &self.halting, line)
+        line_text(alloc, self, line)
     }
 }
 
-/// Answers each line of the input with its verdict.
+/// Answers each line of the input: with its verdict, or with how its run with trees ends.
 pub(crate) fn interpret<I: Source, O: Sink>(
     alloc: Global,
+    trees: bool,
     grammar: Grammar,
     halting: Halting,
     input: &mut I,
@@ -100,17 +154,18 @@ pub(crate) fn interpret<I: Source, O: Sink>(
 ) -> Result<(), Stop>
     requires same { halting.grammar ≡ plain_of grammar }
     requires range { IsInRange (plain_of grammar) }
-    ensures ran { EachRan line_limit max_lines (AreVerdicts (vocabulary_of grammar) halting) (I.left input.old) (I.left input.new) (O.written out.old) (O.written out.new) result }
+    ensures ran { EachRan line_limit max_lines (Answers (record { trees = trees; grammar = grammar; table = halting })) (I.left input.old) (I.left input.new) (O.written out.old) (O.written out.new) result }
     ensures counts { EachCounts (I.faults input.old) (I.faults input.new) (O.faults out.old) (O.faults out.new) result }
 {
     halting.table().facts();
     let Ok(lexicon) = Lexicon::new(alloc, &grammar) else {
         return Err(Stop::OutOfMemory);
     };
-    let mut verdicts = Verdicts {
+    let mut by = Answering {
+        trees,
         grammar,
         lexicon,
         halting,
     };
-    answer_each(alloc, LINE_LIMIT, MAX_LINES, input, out, &mut verdicts)
+    answer_each(alloc, LINE_LIMIT, MAX_LINES, input, out, &mut by)
 }

@@ -59,28 +59,42 @@ fn run(
 #[test]
 fn words_that_ask_for_nothing(rt: HostRuntime) -> Result<(), Fail> {
     let alloc = rt.alloc();
-    let usage = b"menhir: usage: bad words\n".as_slice();
-    let got = run(alloc, &[], b"", Vec::new(alloc), &NONE)?;
-    assert_eq!(rt; got.status, 2);
-    assert_eq!(rt; got.err.as_slice(), usage);
-    let got = run(
-        alloc,
-        &["--interpret", "-g.mly"],
-        b"",
-        Vec::new(alloc),
-        &NONE,
-    )?;
-    assert_eq!(rt; got.status, 2);
-    assert_eq!(rt; got.err.as_slice(), usage);
-    let got = run(
-        alloc,
-        &["--interpret", "g.mly", "g.mly"],
-        b"",
-        Vec::new(alloc),
-        &NONE,
-    )?;
-    assert_eq!(rt; got.status, 2);
-    assert_eq!(rt; got.out.as_slice(), b"".as_slice());
+    let table: [(&[&str], &[u8]); 9] = [
+        (&[], b"menhir: usage: no mode\n"),
+        (&["g.mly"], b"menhir: usage: no mode\n"),
+        (&["--interpret"], b"menhir: usage: no grammar\n"),
+        (&["--what", "g.mly"], b"menhir: usage: bad words\n"),
+        (&["--interpret", "-g.mly"], b"menhir: usage: bad words\n"),
+        (
+            &["--interpret", "--show-automaton", "g.mly"],
+            b"menhir: usage: two modes\n",
+        ),
+        (
+            &["--show-automaton", "--interpret-show-cst", "g.mly"],
+            b"menhir: usage: misplaced --interpret-show-cst\n",
+        ),
+        // Not carried out yet.
+        (
+            &["--interpret", "g.mly", "g.mly"],
+            b"menhir: usage: bad words\n",
+        ),
+        (
+            &["--interpret", "--strict", "g.mly"],
+            b"menhir: usage: bad words\n",
+        ),
+    ];
+    for (words, line) in &table {
+        let got = run(
+            alloc,
+            *words,
+            ONE_SENTENCE,
+            b"A EOF\n".to_vec(alloc)?,
+            &NONE,
+        )?;
+        assert_eq!(rt; got.status, 2);
+        assert_eq!(rt; got.out.as_slice(), b"".as_slice());
+        assert_eq!(rt; got.err.as_slice(), *line);
+    }
     Ok(())
 }
 
@@ -142,6 +156,72 @@ fn each_line_has_its_verdict(rt: HostRuntime) -> Result<(), Fail> {
         b"ACCEPT\nOVERSHOOT\nREJECT\nREJECT\nOVERSHOOT\nACCEPT\nERROR unknown token Z\nERROR unreadable\nACCEPT\n";
     assert_eq!(rt; got.out.as_slice(), text.as_slice());
     assert_eq!(rt; got.err.as_slice(), b"".as_slice());
+    Ok(())
+}
+
+/// Runs the verdicts of these lines, with trees.
+fn trees(alloc: Global, file: &[u8], input: Vec<u8>) -> Result<Outcome, Fail> {
+    let words = ["--interpret", "--interpret-show-cst", "g.mly"];
+    run(alloc, &words, file, input, &NONE)
+}
+
+/// An ELSE goes to the inner IF, since a shift goes before a reduction.
+const IF_ELSE: &[u8] =
+    b"%token IF ELSE X EOF\n%start main\n%%\nmain: s EOF {}\ns: IF s {} | IF s ELSE s {} | X {}\n";
+
+#[test]
+fn what_is_accepted_has_its_tree(rt: HostRuntime) -> Result<(), Fail> {
+    let alloc = rt.alloc();
+    let input = b"IF IF X ELSE X EOF\nIF\nX X\nX EOF X\nY\n1\n";
+    let got = trees(alloc, IF_ELSE, input.to_vec(alloc)?)?;
+    assert_eq!(rt; got.status, 0);
+    let text =
+        b"ACCEPT\n[main: [s: IF [s: IF [s: X] ELSE [s: X]]] EOF]\nOVERSHOOT\nREJECT\nACCEPT\n[main: [s: X] EOF]\nERROR unknown token Y\nERROR unreadable\n";
+    assert_eq!(rt; got.out.as_slice(), text.as_slice());
+    assert_eq!(rt; got.err.as_slice(), b"".as_slice());
+    Ok(())
+}
+
+/// A grammar of right recursion.
+const NESTED: &[u8] = b"%token A B\n%start s\n%%\ns: A s {} | B {}\n";
+
+/// A line of so many times `A`, then `B`.
+fn nested(alloc: Global, count: usize) -> Result<Vec<u8>, Fail> {
+    let mut line = Vec::new(alloc);
+    for _ in 0..count {
+        line.extend_from_slice(b"A ")?;
+    }
+    line.extend_from_slice(b"B\n")?;
+    Ok(line)
+}
+
+/// Text that stands so many times.
+fn extend_times(text: &mut Vec<u8>, part: &[u8], count: usize) -> Result<(), Fail> {
+    for _ in 0..count {
+        text.extend_from_slice(part)?;
+    }
+    Ok(())
+}
+
+// B makes a tree of height 2, and each A one that is higher by 1; 4,000 is the greatest height.
+#[test]
+fn trees_have_a_greatest_depth(rt: HostRuntime) -> Result<(), Fail> {
+    let alloc = rt.alloc();
+    let got = trees(alloc, NESTED, nested(alloc, 3998)?)?;
+    let mut text = b"ACCEPT\n".to_vec(alloc)?;
+    extend_times(&mut text, b"[s: A ", 3998)?;
+    text.extend_from_slice(b"[s: B]")?;
+    extend_times(&mut text, b"]", 3998)?;
+    text.push(b'\n')?;
+    assert_eq!(rt; got.status, 0);
+    assert_eq!(rt; got.out.as_slice(), text.as_slice());
+    let got = trees(alloc, NESTED, nested(alloc, 3999)?)?;
+    assert_eq!(rt; got.status, 0);
+    assert_eq!(rt; got.out.as_slice(), b"TOODEEP\n".as_slice());
+    for count in [3998, 3999] {
+        let got = verdicts(alloc, NESTED, nested(alloc, count)?.as_slice(), &NONE)?;
+        assert_eq!(rt; got.out.as_slice(), b"ACCEPT\n".as_slice());
+    }
     Ok(())
 }
 

@@ -10,7 +10,7 @@ ghost use Rattle.mh_top.specs.Run.{world, Worked, Ran, Reported, Says};
 use crate::grammar::grammar_in;
 use crate::interpret::interpret;
 use crate::load::load;
-use crate::order::{Order, read_words};
+use crate::order::{Order, order_in};
 use crate::stop::Stop;
 use crate::tabled::table_of;
 use mh_grammar::Grammar;
@@ -21,6 +21,7 @@ use std::alloc::Global;
 /// The work on a table.
 fn work_on_table<F: Shelf, I: Source, O: Sink, E: Sink>(
     alloc: Global,
+    order: &Order,
     grammar: Grammar,
     halting: Halting,
     _shelf: &mut F,
@@ -30,17 +31,18 @@ fn work_on_table<F: Shelf, I: Source, O: Sink, E: Sink>(
 ) -> Result<(), Stop>
     requires same { halting.grammar ≡ plain_of grammar }
     requires range { IsInRange (plain_of grammar) }
-    ensures { Worked (IsWorkOfTable grammar halting) (λ line. ⊥)
+    ensures { Worked (IsWorkOfTable order.now grammar halting) (λ line. ⊥)
         (world F.files F.faults I.left I.faults O.written O.faults E.written E.faults _shelf.old input.old out.old _err.old)
         (world F.files F.faults I.left I.faults O.written O.faults E.written E.faults _shelf.new input.new out.new _err.new)
         result }
 {
-    interpret(alloc, grammar, halting, input, out)
+    interpret(alloc, order.trees, grammar, halting, input, out)
 }
 
 /// The work on a grammar.
 fn work_on_grammar<F: Shelf, I: Source, O: Sink, E: Sink>(
     alloc: Global,
+    order: &Order,
     grammar: Grammar,
     shelf: &mut F,
     input: &mut I,
@@ -48,21 +50,21 @@ fn work_on_grammar<F: Shelf, I: Source, O: Sink, E: Sink>(
     err: &mut E,
 ) -> Result<(), Stop>
     requires range { IsInRange (plain_of grammar) }
-    ensures { Worked (IsWorkOfGrammar grammar) (λ line. ⊥)
+    ensures { Worked (IsWorkOfGrammar order.now grammar) (λ line. ⊥)
         (world F.files F.faults I.left I.faults O.written O.faults E.written E.faults shelf.old input.old out.old err.old)
         (world F.files F.faults I.left I.faults O.written O.faults E.written E.faults shelf.new input.new out.new err.new)
         result }
 {
     match table_of(alloc, &grammar) {
-        Ok(halting) => work_on_table(alloc, grammar, halting, shelf, input, out, err),
+        Ok(halting) => work_on_table(alloc, order, grammar, halting, shelf, input, out, err),
         Err(stop) => Err(stop),
     }
 }
 
-/// The work on a file of this name and these bytes.
+/// The work on the order's file, of these bytes.
 fn work_on_file<F: Shelf, I: Source, O: Sink, E: Sink>(
     alloc: Global,
-    name: &[u8],
+    order: &Order,
     bytes: &[u8],
     shelf: &mut F,
     input: &mut I,
@@ -70,13 +72,13 @@ fn work_on_file<F: Shelf, I: Source, O: Sink, E: Sink>(
     err: &mut E,
 ) -> Result<(), Stop>
     requires { length bytes.now < 2 ^ 31 }
-    ensures { Worked (IsWorkOfFile name.now bytes.now) (λ line. ⊥)
+    ensures { Worked (IsWorkOfFile order.now bytes.now) (λ line. ⊥)
         (world F.files F.faults I.left I.faults O.written O.faults E.written E.faults shelf.old input.old out.old err.old)
         (world F.files F.faults I.left I.faults O.written O.faults E.written E.faults shelf.new input.new out.new err.new)
         result }
 {
-    match grammar_in(alloc, name, bytes) {
-        Ok(grammar) => work_on_grammar(alloc, grammar, shelf, input, out, err),
+    match grammar_in(alloc, order.file.as_slice(), bytes) {
+        Ok(grammar) => work_on_grammar(alloc, order, grammar, shelf, input, out, err),
         Err(stop) => Err(stop),
     }
 }
@@ -96,7 +98,7 @@ fn work_on_order<F: Shelf, I: Source, O: Sink, E: Sink>(
         result }
 {
     match load(alloc, shelf, order.file.as_slice()) {
-        Ok(bytes) => work_on_file(alloc, order.file.as_slice(), &bytes, shelf, input, out, err),
+        Ok(bytes) => work_on_file(alloc, order, &bytes, shelf, input, out, err),
         Err(stop) => Err(stop),
     }
 }
@@ -115,7 +117,7 @@ fn work<F: Shelf, I: Source, O: Sink, E: Sink>(
         (world F.files F.faults I.left I.faults O.written O.faults E.written E.faults shelf.new input.new out.new err.new)
         result }
 {
-    match read_words(alloc, words) {
+    match order_in(alloc, words) {
         Ok(order) => work_on_order(alloc, &order, shelf, input, out, err),
         Err(stop) => Err(stop),
     }
