@@ -1,6 +1,27 @@
-//! What several grammar files give together.
+//! The files of a grammar joined: names resolved, public rules put together, the prelude beside them.
 #![tactic(auto)]
 
+mod aliases;
+mod building;
+mod definers;
+mod duplicates;
+mod errors;
+mod fault;
+mod formals;
 mod joined;
+mod joining;
+mod kinds;
+mod levels;
+mod maps;
+mod names;
+mod numbering;
+mod prelude;
+mod printing;
+#[cfg(test)]
+mod tests;
+mod tokens;
+mod undefined;
 
+pub use fault::JoinFault;
 pub use joined::{Applied, Head, Joined, JoinedAlternative, JoinedRule, Prec};
+pub use joining::join;

@@ -1,0 +1,11 @@
+pub mod Prelude
+pub mod Names
+pub mod Puts
+pub mod Definers
+pub mod Numbering
+pub mod Faults
+pub mod Once
+pub mod Maps
+pub mod Joining
+pub mod Standing
+pub mod Ready

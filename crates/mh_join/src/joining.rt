@@ -1,0 +1,80 @@
+//! Several files as one list of rules.
+ghost use Rattle.std.specs.Prelude.{◌≡◌, IfOk};
+ghost use Rattle.mh_join.specs.Joining.{IsJoinedBy, Joins};
+ghost use Rattle.mh_join.specs.Maps.{meanings_in, elsewhere_in, HasMeanings};
+ghost use Rattle.mh_join.specs.Prelude as spec;
+ghost use Rattle.mh_join.specs.Standing.{CanJoin, definitions_by};
+
+use crate::building::{joined_on_error, joined_rules, joined_starts, joined_tokens};
+use crate::errors::check;
+use crate::fault::JoinFault;
+use crate::joined::Joined;
+use crate::names::Names;
+use crate::prelude::prelude_rules;
+use mh_grammar::Memory;
+use mh_reader::{Module, Rule};
+use std::alloc::Global;
+
+/// The files joined, where nothing is in the way.
+fn joined(
+    alloc: Global,
+    names: &Names,
+    modules: &[Module],
+    library: &[Rule],
+) -> Result<Joined, Memory>
+    requires { CanJoin names.now modules.now library.now }
+    ensures { IfOk result (IsJoinedBy (meanings_in names.now) (elsewhere_in names.now) names.now.numbering.rules.items (definitions_by names.now modules.now library.now) modules.now) }
+{
+    let tokens = joined_tokens(alloc, names)?;
+    let starts = joined_starts(alloc, names)?;
+    let on_error = joined_on_error(alloc, names, modules)?;
+    let rules = joined_rules(alloc, names, modules, library)?;
+    Ok(Joined {
+        tokens,
+        starts,
+        on_error,
+        rules,
+    })
+}
+
+/// Joins files whose names are known.
+fn join_named(
+    alloc: Global,
+    names: &Names,
+    modules: &[Module],
+    prelude: bool,
+    library: &[Rule],
+) -> Result<Joined, JoinFault>
+    requires named { HasMeanings prelude modules.now names.now }
+    requires library { library.now ≡ spec.prelude_rules prelude }
+    ensures { Joins prelude modules.now result }
+{
+    match check(alloc, names, modules) {
+        Ok(()) => match joined(alloc, names, modules, library) {
+            Ok(joined) => Ok(joined),
+            Err(_) => Err(JoinFault::Memory),
+        },
+        Err(fault) => Err(fault),
+    }
+}
+
+/// Joins the files of a grammar. Tokens of all files are shared and numbered in order of first declaration. A rule is
+/// public where it is marked so, or its name is a start symbol of any file, or another definition of its name in the
+/// file is public; public definitions of one name are joined, and other rules are their file's own. A name in a file
+/// stands for the first that is there of a formal, a token, a rule of the file's own, a public rule, a rule of the
+/// prelude; names in the prelude stand for its own rules. Rules come in the order of their first definitions, those of
+/// the prelude last; starts in order of first naming. With `prelude` false there is no prelude. Answers the first fault
+/// where there is one: all names and strings stand for something; nothing has two meanings; some start symbol is named;
+/// no rule speaks of `error`; each `%prec` is of a token or has a level; there are at most 256 tokens. Answers `Memory`
+/// only where memory runs out. (The Menhir manual on grammars split into files; this project's profile.)
+pub fn join(alloc: Global, modules: &[Module], prelude: bool) -> Result<Joined, JoinFault>
+    ensures { Joins prelude modules.now result }
+{
+    let Ok(library) = prelude_rules(alloc, prelude) else {
+        return Err(JoinFault::Memory);
+    };
+    let Ok(names) = Names::of(alloc, modules, prelude, library.as_slice()) else {
+        return Err(JoinFault::Memory);
+    };
+    join_named(alloc, &names, modules, prelude, library.as_slice())
+}
