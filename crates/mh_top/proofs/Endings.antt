@@ -1,5 +1,5 @@
 -- How the work that the words ask for ends, by its cause.
-use Rattle.std.proofs.Common.{◌≡◌, Bool, List, [], ◌∷◌, ◌++◌, Option, None, Some, refl, sym, ◌∙◌, ap, subst}
+use Rattle.std.proofs.Common.{◌≡◌, Bool, List, [], ◌∷◌, ◌++◌, Option, None, Some, refl, sym, ◌∙◌, ap, ap₂, subst}
 use Rattle.std.specs.List.{All}
 use Rattle.std.proofs.lemmas.List.Elements.{All-head, All-tail}
 use Rattle.mh_grammar.specs.declared.types.Grammar.{Grammar}
@@ -60,9 +60,12 @@ module _ (words : List Text) (files : Option Files) (w : Work) (input : Option T
     of_found name turn (Bytes bytes) here cause line from is = absurd (cc)
 
     of_read : (name : Text) → IsTurn files order.grammars name → (read : Staged Text) → IsLoaded files name read → (cause : Cause) (line : Text) → Behind read (IsModuleStage name) (Halt cause line) → w ≡ halted cause line → Ended words Has w o
-    of_read name turn (Go bytes) loaded cause line behind is = refusal cause line is behind.0
-    of_read name turn (Halt cause' line') loaded cause line behind is =
-        let p = over_found files name (Halt cause' line') loaded in of_found name turn p.0 p.1 cause line (p.2 ∙ sym behind) is
+    of_read name turn (Go bytes) told cause line behind is = refusal cause line is behind.0
+    of_read name turn (Halt cause' line') told cause line behind is =
+        let p = over_found files name (Halt cause' line') told in
+        let same_cause : cause ≡ cause' = cc in
+        let same_line : line ≡ line' = cc in
+        of_found name turn p.0 p.1 cause' line' p.2 (is ∙ ap₂ halted same_cause same_line)
 
     of_file : (name : Text) → IsTurn files order.grammars name → (Next : Module → Work → Type 0) (s : Staged Module) → IsFileStage files name s → ((m : Module) → IsFileStage files name (Go m) → Next m w → Ended words Has w o) → Then s Next w → Ended words Has w o
     of_file name turn Next (Go m) stage next is = next m stage is

@@ -1,7 +1,9 @@
 -- The files of an order: each is read and spelled, one after the other.
-use Rattle.std.proofs.Common.{◌≡◌, ◌<◌, List, length, [], ◌∷◌, ◌++◌, Option, None, Some, refl, sym, ◌∙◌, ap, ap₂, subst, Ok, Err}
+use Rattle.std.proofs.Common.{◌≡◌, ◌<◌, ◌≤◌, ◌+◌, ℕ, List, length, drop, get_or, [], ◌∷◌, ◌++◌, Option, None, Some, refl, sym, ◌∙◌, ap, ap₂, subst, Ok, Err}
 use Rattle.std.specs.Prelude.{Result}
+use Rattle.std.proofs.lemmas.List.{drop_more}
 use Rattle.std.specs.List.{All}
+use Rattle.mh_front.proofs.Reading.{push_spelled}
 use Rattle.std.proofs.lemmas.List.Elements.{All-nil, All-cons}
 use Rattle.mh_reader.specs.declared.modules.Module.{Module}
 use Rattle.mh_reader.specs.declared.modules.Rule.{Rule}
@@ -109,3 +111,19 @@ module _ (files : Option Files) (order : Order) where
   so_far_stops modules name names OutOfMemory so_far has = tt
   so_far_stops modules name names InputFailed so_far has = absurd has
   so_far_stops modules name names WriteFailed so_far has = absurd has
+
+  -- ---- at a place in the list of names
+
+  pub so_far_next : (told : Option Files) (modules : List Module) (names : List Text) (i : ℕ) (d name : Text) (m : Module) → told ≡ files → name ≡ get_or names i d → i < length names → IsSoFar modules (drop i names) → FileHas told name (Ok m) → IsSoFar (modules ++ m ∷ []) (drop (i + 1) names)
+  so_far_next told modules names i d name m kept same lt so_far has =
+      let here : FileHas files (get_or names i d) (Ok m) = subst (λ (n : Text). FileHas files n (Ok m)) same (subst (λ (t : Option Files). FileHas t name (Ok m)) kept has) in
+      so_far_more modules (get_or names i d) (drop (i + 1) names) m (subst (IsSoFar modules) (drop_more names i d lt) so_far) here
+
+  pub so_far_halts : (told : Option Files) (modules : List Module) (names : List Text) (i : ℕ) (d name : Text) (stop : Stop) → told ≡ files → name ≡ get_or names i d → i < length names → IsSoFar modules (drop i names) → FileHas told name (Err stop) → FilesHave files order (Err stop)
+  so_far_halts told modules names i d name stop kept same lt so_far has =
+      let here : FileHas files (get_or names i d) (Err stop) = subst (λ (n : Text). FileHas files n (Err stop)) same (subst (λ (t : Option Files). FileHas t name (Err stop)) kept has) in
+      so_far_stops modules (get_or names i d) (drop (i + 1) names) stop (subst (IsSoFar modules) (drop_more names i d lt) so_far) here
+
+-- and what is spelled has alternatives
+pub file_pushed : (files : Option Files) (name : Text) (modules : List Module) (m : Module) → HaveAlternatives modules → IsFileStage files name (Go m) → HaveAlternatives (modules ++ m ∷ [])
+file_pushed files name modules m some has = let p = file_spelled files name m has in push_spelled modules p.0 m some p.1
