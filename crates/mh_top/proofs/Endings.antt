@@ -1,16 +1,19 @@
 -- How the work that the words ask for ends, by its cause.
-use Rattle.std.proofs.Common.{◌≡◌, Bool, List, [], Option, None, Some, refl, ◌∙◌, ap, subst}
+use Rattle.std.proofs.Common.{◌≡◌, Bool, true, false, ◌&&◌, List, [], Option, None, Some, refl, ◌∙◌, ap, subst}
 use Rattle.mh_grammar.specs.declared.types.Grammar.{Grammar}
-use Rattle.mh_tables.specs.Table.{TableData}
+use Rattle.mh_opts.specs.declared.order.Job.{Job}
+use Rattle.mh_opts.specs.declared.order.Job.TheVariants.{Interpret, ShowAutomaton}
 use Rattle.mh_outside.specs.Shelf.{Files, Found, found, NoFile, Long, Bytes}
 use Rattle.mh_top.specs.Text.{Text}
 use Rattle.mh_top.specs.Causes.{Staged, Go, Halt}
 use Rattle.mh_top.specs.Order.{order_of}
 use Rattle.mh_top.specs.GrammarStage.{IsGrammarStage}
 use Rattle.mh_top.specs.TableStage.{IsTableStage}
-use Rattle.mh_top.specs.Work.{Work, Outcome, Gives, Over, Then, IsWork, IsWorkOfOrder, IsWorkOfFile, IsWorkOfGrammar, IsWorkOfTable, halted, answering, loaded_from, file_limit}
+use Rattle.mh_top.specs.Verdicts.{Answering}
+use Rattle.mh_top.specs.Work.{Work, Plan, Ending, Ends, AsksEach, Outcome, Gives, PlanGives, Over, Then, IsWork, IsWorkOfOrder, IsWorkOfFile, IsWorkOfGrammar, IsWorkOfTable, IsPlanOfJob, IsPlanUnless, has_warning, halted, loaded_from, file_limit}
 use Rattle.mh_top.specs.Claims.{AskedBy, HoldsFile}
 use Rattle.mh_top.specs.declared.order.Order.{Order}
+use Rattle.mh_top.specs.declared.tabled.Tabled.{Tabled}
 use Rattle.mh_top.specs.declared.stop.Cause.{Cause}
 use Rattle.mh_top.specs.declared.stop.Cause.TheVariants.{Refused, Misused, Missing, TooBig}
 use Rattle.mh_top.proofs.Worked.{words_misused}
@@ -21,7 +24,8 @@ pub data Ended (words : List Text) (Has : Found → Type 0) (w : Work) (o : Outc
   NoSuchFile : o.cause ≡ Some Missing → Has NoFile → Ended words Has w o
   LongFile : o.cause ≡ Some TooBig → Has Long → Ended words Has w o
   Refusal : o.cause ≡ Some Refused → Ended words Has w o
-  Lines : (trees : Bool) → (g : Grammar) → (t : TableData) → w ≡ answering trees g t → Ended words Has w o
+  Done : o.cause ≡ None → Ended words Has w o
+  Lines : (by : Answering) → w.plan ≡ AsksEach by → Ended words Has w o
 
 -- the outcome of a work that halts
 cause_halted : (w : Work) (input : Option Text) (o : Outcome) (cause : Cause) (line : Text) → w ≡ halted cause line → Gives w input o → (o.cause ≡ Some cause) × (o.err ≡ line)
@@ -35,8 +39,21 @@ module _ (words : List Text) (files : Files) (w : Work) (input : Option Text) (o
   refusal : (cause : Cause) (line : Text) → w ≡ halted cause line → cause ≡ Refused → Ended words Has w o
   refusal cause line is refused = Refusal ((cause_halted w input o cause line is gives).0 ∙ ap Some refused)
 
-  of_table : (order : Order) (g : Grammar) (s : Staged TableData) → IsTableStage g s → Then s (IsWorkOfTable order g) w → Ended words Has w o
-  of_table order g (Go t) stage is = Lines order.trees g t is
+  -- the outcome of a plan that asks for no line
+  cause_ended : (e : Ending) → w.plan ≡ Ends e → o.cause ≡ e.cause
+  cause_ended e is =
+      let same : PlanGives w.warnings (Ends e) input o = subst (λ (p : Plan). PlanGives w.warnings p input o) is gives in ap (λ (x : Outcome). x.cause) same
+
+  of_job : (job : Job) (trees : Bool) (g : Grammar) (tabled : Tabled) → IsPlanOfJob job trees g tabled w.plan → Ended words Has w o
+  of_job Interpret trees g tabled is = Lines (record { trees = trees; grammar = g; table = tabled.halting }) is
+  of_job ShowAutomaton trees g tabled is = Done (cause_ended _ is.2)
+
+  of_plan : (refused : Bool) (order : Order) (g : Grammar) (tabled : Tabled) → IsPlanUnless refused order g tabled w.plan → Ended words Has w o
+  of_plan true order g tabled is = Refusal (cause_ended _ is)
+  of_plan false order g tabled is = of_job order.job order.show_cst g tabled is
+
+  of_table : (order : Order) (g : Grammar) (s : Staged Tabled) → IsTableStage g s → Then s (IsWorkOfTable order g) w → Ended words Has w o
+  of_table order g (Go tabled) stage is = of_plan (order.strict && has_warning tabled.conflicts) order g tabled is.1
   of_table order g (Halt cause line) stage is = refusal cause line is stage.0
 
   of_grammar : (order : Order) (bytes : Text) (s : Staged Grammar) → IsGrammarStage order.file bytes s → Then s (IsWorkOfGrammar order) w → Ended words Has w o
@@ -61,7 +78,8 @@ ended_wider words Has Has' w o next (Misuse is cause line here err) = Misuse is 
 ended_wider words Has Has' w o next (NoSuchFile is has) = NoSuchFile is (next NoFile has)
 ended_wider words Has Has' w o next (LongFile is has) = LongFile is (next Long has)
 ended_wider words Has Has' w o next (Refusal is) = Refusal is
-ended_wider words Has Has' w o next (Lines trees g t is) = Lines trees g t is
+ended_wider words Has Has' w o next (Done is) = Done is
+ended_wider words Has Has' w o next (Lines by is) = Lines by is
 
 pub asked_ended : (words : List Text) (files : Option Files) (w : Work) (input : Option Text) (o : Outcome) → Gives w input o → AskedBy words files w → Ended words (λ what. Over files (HoldsFile words what)) w o
 asked_ended words None w input o gives asked = ended_wider words (λ what. HoldsFile words what asked.0) (λ what. Over None (HoldsFile words what)) w o (λ what has. (asked.0, has)) (ended words asked.0 w input o gives asked.1)

@@ -4,6 +4,7 @@ pub mod Loads
 pub mod Reports
 pub mod Worked
 pub mod Steps
+pub mod Following
 pub mod Endings
 pub mod Claims
 pub mod Answering

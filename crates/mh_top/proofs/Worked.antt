@@ -10,7 +10,7 @@ use Rattle.mh_top.specs.Causes.{Staged, Go, Halt}
 use Rattle.mh_opts.specs.Orders as spelled
 use Rattle.mh_opts.specs.declared.order.Order.{Order as Spelled}
 use Rattle.mh_opts.specs.declared.order.UsageFault.{UsageFault}
-use Rattle.mh_top.specs.Order.{order_of, order_by, order_for, is_known, staged}
+use Rattle.mh_top.specs.Order.{order_of, order_by, staged}
 use Rattle.mh_top.specs.Stages.{StageHas}
 use Rattle.mh_top.specs.Load.{LoadHas, LoadCounts}
 use Rattle.mh_top.specs.Each.{Answered, AnsweredPart, EachRan, EachCounts, Finishes}
@@ -111,17 +111,13 @@ abbrev cause_or_misused : Staged Order → Cause
 cause_or_misused (Go order) = Misused
 cause_or_misused (Halt cause line) = cause
 
-files_misused : (trees : Bool) (files : List Text) → cause_or_misused (order_by trees files) ≡ Misused
-files_misused trees [] = refl
-files_misused trees (file ∷ []) = refl
-files_misused trees (file ∷ more ∷ files) = refl
-
-known_misused : (known : Bool) (order : Spelled) → cause_or_misused (order_for known order) ≡ Misused
-known_misused true order = files_misused order.show_cst order.grammars
-known_misused false order = refl
+files_misused : (order : Spelled) (files : List Text) → cause_or_misused (order_by order files) ≡ Misused
+files_misused order [] = refl
+files_misused order (file ∷ []) = refl
+files_misused order (file ∷ more ∷ files) = refl
 
 staged_misused : (spelled : Result Spelled UsageFault) → cause_or_misused (staged spelled) ≡ Misused
-staged_misused (Ok order) = known_misused (is_known order) order
+staged_misused (Ok order) = files_misused order order.grammars
 staged_misused (Err fault) = refl
 
 pub words_misused : (words : List Text) (cause : Cause) (line : Text) → order_of words ≡ Halt cause line → cause ≡ Misused

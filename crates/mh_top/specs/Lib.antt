@@ -8,6 +8,7 @@ pub mod Verdicts
 pub mod GrammarStage
 pub mod TableStage
 pub mod Work
+pub mod Modes
 pub mod Run
 pub mod Load
 pub mod Claims

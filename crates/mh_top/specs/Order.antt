@@ -1,5 +1,5 @@
 -- What the words of the command line mean: an order that is carried out, or misuse.
-use Rattle.std.specs.Prelude.{Bool, true, false, List, [], ◌∷◌, ◌&&◌, not, ◌≡◌, Result, Ok, Err}
+use Rattle.std.specs.Prelude.{List, [], ◌∷◌, ◌≡◌, Result, Ok, Err}
 use Rattle.mh_opts.specs.Orders as words
 use Rattle.mh_opts.specs.declared.order.Order.{Order as Spelled}
 use Rattle.mh_opts.specs.declared.order.UsageFault.{UsageFault}
@@ -22,20 +22,12 @@ usage_line NoGrammar = no_grammar
 usage_line Memory = out_of_memory
 
 -- until several files are joined, one has a meaning
-abbrev pub order_by : Bool → List Text → Staged Order
-order_by trees (file ∷ []) = Go (record { file = file; trees = trees })
-order_by trees _ = Halt Misused bad_words
-
--- until the other orders are carried out, verdicts have a meaning, with trees or without
-abbrev pub is_known : Spelled → Bool
-is_known order = words.is_interpret order.job && not order.strict
-
-abbrev pub order_for : Bool → Spelled → Staged Order
-order_for false order = Halt Misused bad_words
-order_for true order = order_by order.show_cst order.grammars
+abbrev pub order_by : Spelled → List Text → Staged Order
+order_by order (file ∷ []) = Go (record { file = file; job = order.job; strict = order.strict; show_cst = order.show_cst })
+order_by order _ = Halt Misused bad_words
 
 abbrev pub staged : Result Spelled UsageFault → Staged Order
-staged (Ok order) = order_for (is_known order) order
+staged (Ok order) = order_by order order.grammars
 staged (Err fault) = Halt Misused (usage_line fault)
 
 -- what the words ask for: the order that they spell, by clap's definition of the words that a command takes

@@ -1,6 +1,6 @@
 //! The words of the command line.
 ghost use Rattle.std.specs.Prelude.{◌≡◌, map, string_bytes};
-ghost use Rattle.mh_top.specs.Order.{HaltsBy, is_known as is_known_order, order_by, order_of};
+ghost use Rattle.mh_top.specs.Order.{HaltsBy, order_by, order_of};
 ghost use Rattle.mh_top.specs.Stages.{Halts, StageIs};
 ghost use Rattle.mh_top.specs.Text.{bad_words as bad_words_line};
 ghost use Rattle.mh_top.specs.declared.stop.Cause.TheVariants.{Misused};
@@ -10,12 +10,15 @@ use mh_grammar::{Name, from_bytes};
 use mh_opts::{Job, UsageFault, read_words};
 use std::alloc::Global;
 
-/// What the words ask for: the verdicts of the input's lines, by the grammar of this file.
+/// What the words ask for, by the grammar of this file.
 #[derive(Drop)]
 pub(crate) struct Order {
     pub(crate) file: Name,
+    pub(crate) job: Job,
+    /// Whether a conflict is a refusal.
+    pub(crate) strict: bool,
     /// Whether what is accepted has its tree.
-    pub(crate) trees: bool,
+    pub(crate) show_cst: bool,
 }
 
 fn misused(alloc: Global, line: &[u8]) -> Stop
@@ -50,19 +53,18 @@ fn usage(alloc: Global, fault: &UsageFault) -> Stop
     }
 }
 
-fn is_known(order: &mh_opts::Order) -> bool
-    ensures { result ≡ is_known_order order.now }
-{
-    order.job == Job::Interpret && !order.strict
-}
-
-fn order_with(alloc: Global, trees: bool, files: &[Name]) -> Result<Order, Stop>
-    ensures { StageIs (order_by trees files.now) result }
+fn order_with(alloc: Global, order: &mh_opts::Order, files: &[Name]) -> Result<Order, Stop>
+    ensures { StageIs (order_by order.now files.now) result }
 {
     match files {
         [file] => {
             let file = from_bytes(alloc, file.as_slice())?;
-            Ok(Order { file, trees })
+            Ok(Order {
+                file,
+                job: order.job,
+                strict: order.strict,
+                show_cst: order.show_cst,
+            })
         }
         _ => Err(bad_words(alloc)),
     }
@@ -73,13 +75,7 @@ pub(crate) fn order_in(alloc: Global, words: &[String]) -> Result<Order, Stop>
     ensures { StageIs (order_of (map string_bytes words.now)) result }
 {
     match read_words(alloc, words) {
-        Ok(order) => {
-            if is_known(&order) {
-                order_with(alloc, order.show_cst, order.grammars.as_slice())
-            } else {
-                Err(bad_words(alloc))
-            }
-        }
+        Ok(order) => order_with(alloc, &order, order.grammars.as_slice()),
         Err(fault) => Err(usage(alloc, &fault)),
     }
 }
