@@ -8,9 +8,10 @@ use Rattle.mh_tables.specs.Table.{TableData}
 use Rattle.mh_outside.specs.Shelf.{Files}
 use Rattle.mh_outside.specs.Sink.{IsPrefix, AppendsPrefix}
 use Rattle.mh_report.specs.Warnings.{warning_lines}
+use Rattle.mh_resolve.specs.declared.conflicts.Conflict.{Conflict}
 use Rattle.mh_top.specs.Text.{Text}
 use Rattle.mh_top.specs.Each.{AsksFirst, IsPart}
-use Rattle.mh_top.specs.Modes.{Wrote, EndRan, PlanRan, plan_of}
+use Rattle.mh_top.specs.Modes.{Wrote, Warned, EndRan, PlanRan, plan_of}
 use Rattle.mh_top.specs.Run.{World, Worked, Parts, EndsSo, IsOutPart, LeftIs, MayEnd}
 use Rattle.mh_top.specs.Stages.{Halts}
 use Rattle.mh_top.specs.Verdicts.{Answering, Answers}
@@ -23,7 +24,7 @@ use Rattle.mh_top.specs.declared.stop.Cause.TheVariants.{Refused}
 use Rattle.mh_top.specs.declared.stop.Stop.{Stop}
 use Rattle.mh_top.specs.declared.stop.Stop.TheVariants.{Halted, ShelfFailed, InputFailed, WriteFailed, OutOfMemory}
 use Rattle.mh_top.specs.declared.tabled.Tabled.{Tabled}
-use Rattle.mh_top.proofs.Worked.{wider, stage_halts, each_ran}
+use Rattle.mh_top.proofs.Worked.{wider, each_ran}
 
 Appends-nil : (out : Option Text) → Appends out out []
 Appends-nil None = tt
@@ -128,8 +129,8 @@ module _ (warnings : Text) (b a : World) where
   plan_ran (Ends e) may on_err shelf err r ran = end_ran b a warnings e on_err shelf err ran.0 ran.1 may r ran.2
   plan_ran (AsksEach by) may on_err shelf err r ran = each_ran b a warnings by on_err shelf err r ran.0 ran.1
 
--- the warnings could not be written whole
-cut : (plan : Plan) (warnings : Text) (b : World) (err : Option Text) (n : ℕ) (stop : Stop) → Wrote warnings b.err err b.err_faults n (Err stop) → Worked (λ w. w ≡ record { warnings = warnings; plan = plan }) (λ line. ⊥) b (record b { err = err; err_faults = n }) (Err stop)
+-- the warnings were not written whole
+cut : (plan : Plan) (warnings : Text) (b : World) (err : Option Text) (n : ℕ) (stop : Stop) → Warned warnings b.err err b.err_faults n (Err stop) → Worked (λ w. w ≡ record { warnings = warnings; plan = plan }) (λ line. ⊥) b (record b { err = err; err_faults = n }) (Err stop)
 cut plan warnings b err n WriteFailed wrote = (inr wrote.1, inr (record {
   work = record { warnings = warnings; plan = plan };
   is_asked = refl;
@@ -143,26 +144,25 @@ cut plan warnings b err n WriteFailed wrote = (inr wrote.1, inr (record {
 cut plan warnings b err n (Halted cause line) wrote = absurd wrote
 cut plan warnings b err n (ShelfFailed line) wrote = absurd wrote
 cut plan warnings b err n InputFailed wrote = absurd wrote
-cut plan warnings b err n OutOfMemory wrote = absurd wrote
+cut plan warnings b err n OutOfMemory wrote = (wrote.1, inl (record { on_out = Appends-nil b.out; on_err = subst (λ x. Appends b.err x []) (sym wrote.0) (Appends-nil b.err) }))
 
--- memory ran out before anything was written
-pub lacked : (Asked : Work → Type 0) (Names : Text → Type 0) (b : World) (stop : Stop) → stop ≡ OutOfMemory → Worked Asked Names b b (Err stop)
-lacked Asked Names b stop is = subst (λ (s : Stop). Worked Asked Names b b (Err s)) (sym is) (stage_halts {A = Text} (λ s. ⊥) Asked Names b OutOfMemory (λ cause line none. absurd none) tt)
+module _ (order : Order) (g : Grammar) (tabled : Tabled) (next : Next) (listed : List Conflict) (is_list : listed ≡ tabled.conflicts) (is_plan : IsPlanOf order g tabled (plan_of next order.show_cst g tabled.halting)) where
+  abbrev text : Text
+  text = warning_lines g listed
 
-module _ (order : Order) (g : Grammar) (tabled : Tabled) (next : Next) (text lines : Text) (is_text : text ≡ lines) (is_lines : lines ≡ warning_lines g tabled.conflicts) (is_plan : IsPlanOf order g tabled (plan_of next order.show_cst g tabled.halting)) where
   abbrev plan : Plan
   plan = plan_of next order.show_cst g tabled.halting
 
   asked : (w : Work) → w ≡ record { warnings = text; plan = plan } → IsWorkOfTable order g tabled w
-  asked w is = subst (IsWorkOfTable order g tabled) (sym is) (is_text ∙ is_lines, is_plan)
+  asked w is = subst (IsWorkOfTable order g tabled) (sym is) (ap (warning_lines g) is_list, is_plan)
 
-  pub warned : (b : World) (left out err : Option Text) (n m k : ℕ) (r : Result (Unit {0}) Stop) → Wrote text b.err err b.err_faults k (Ok tt) → PlanRan plan b.left left b.input_faults n b.out out b.out_faults m r
+  pub warned : (b : World) (left out err : Option Text) (n m k : ℕ) (r : Result (Unit {0}) Stop) → Warned text b.err err b.err_faults k (Ok tt) → PlanRan plan b.left left b.input_faults n b.out out b.out_faults m r
       → Worked (IsWorkOfTable order g tabled) (λ line. ⊥) b (record b { left = left; input_faults = n; out = out; out_faults = m; err = err; err_faults = k }) r
   warned b left out err n m k r wrote ran =
       let a : World = record b { left = left; input_faults = n; out = out; out_faults = m; err = err; err_faults = k } in
       wider (IsSo text b a plan) (IsWorkOfTable order g tabled) (λ line. ⊥) (λ line. ⊥) asked (λ line none. none) b a r
       (plan_ran text b a plan (may_follow b.files next order.show_cst g tabled.halting) wrote.0 refl wrote.1 r ran)
 
-  pub warning_cut : (b : World) (err : Option Text) (k : ℕ) (stop : Stop) → Wrote text b.err err b.err_faults k (Err stop) → Worked (IsWorkOfTable order g tabled) (λ line. ⊥) b (record b { err = err; err_faults = k }) (Err stop)
+  pub warning_cut : (b : World) (err : Option Text) (k : ℕ) (stop : Stop) → Warned text b.err err b.err_faults k (Err stop) → Worked (IsWorkOfTable order g tabled) (λ line. ⊥) b (record b { err = err; err_faults = k }) (Err stop)
   warning_cut b err k stop wrote =
       wider (λ w. w ≡ record { warnings = text; plan = plan }) (IsWorkOfTable order g tabled) (λ line. ⊥) (λ line. ⊥) asked (λ line none. none) b (record b { err = err; err_faults = k }) (Err stop) (cut plan text b err k stop wrote)

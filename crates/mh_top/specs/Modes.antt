@@ -20,6 +20,11 @@ Wrote text old new before now (Ok _) = Appends old new text × (now ≡ before)
 Wrote text old new before now (Err WriteFailed) = AppendsPrefix old new text × Rose before now
 Wrote text old new before now (Err _) = ⊥
 
+-- so it was, or there was no memory for it
+abbrev pub Warned : Text → Option Text → Option Text → ℕ → ℕ → Result (Unit {0}) Stop → Type 0
+Warned text old new before now (Err OutOfMemory) = (new ≡ old) × (now ≡ before)
+Warned text old new before now r = Wrote text old new before now r
+
 -- what follows, as a plan
 abbrev pub plan_of : Next → Bool → Grammar → TableData → Plan
 plan_of Refuse trees g t = refusing

@@ -5,7 +5,8 @@ ghost use Rattle.mh_items.specs.Automaton.{IsAutomaton};
 ghost use Rattle.mh_report.specs.Automata.{IsAutomatonText};
 ghost use Rattle.mh_resolve.specs.States.{IsTableOf};
 ghost use Rattle.mh_resolve.specs.declared.kinds.Mode.TheVariants.{Canonical};
-ghost use Rattle.mh_top.specs.Modes.{Wrote, PlanRan, plan_of};
+ghost use Rattle.mh_report.specs.Warnings.{warning_lines};
+ghost use Rattle.mh_top.specs.Modes.{Wrote, Warned, PlanRan, plan_of};
 ghost use Rattle.mh_top.specs.Run.{world, Worked};
 ghost use Rattle.mh_top.specs.Work.{IsPlanOf, IsWorkOfTable, has_warning as has_warning_in, is_warned as is_warned_of};
 
@@ -66,7 +67,8 @@ fn shown(alloc: Global, grammar: &Grammar, tabled: &Tabled) -> Result<Sequence<u
     Ok(Sequence::from_vec(text))
 }
 
-/// What follows the warnings, with its text whole: once they are written, no more of the work can lack memory for it.
+/// What follows the warnings. A text is made whole before they are written, so that what stands on err is always that of
+/// one work.
 fn next_of(alloc: Global, order: &Order, grammar: &Grammar, tabled: &Tabled) -> Result<Next, Memory>
     requires range { IsInRange (plain_of grammar.now) }
     requires automaton { IsAutomaton (plain_of grammar.now) tabled.now.automaton }
@@ -92,6 +94,19 @@ fn write_text<S: Sink>(sink: &mut S, text: &[u8]) -> Result<(), Stop>
         Ok(()) => Ok(()),
         Err(_) => Err(Stop::WriteFailed),
     }
+}
+
+/// Writes the warnings on the conflicts.
+fn warn<E: Sink>(
+    alloc: Global,
+    grammar: &Grammar,
+    conflicts: &[Conflict],
+    err: &mut E,
+) -> Result<(), Stop>
+    ensures { Warned (warning_lines grammar.now conflicts.now) (E.written err.old) (E.written err.new) (E.faults err.old) (E.faults err.new) result }
+{
+    let text = warning_text(alloc, grammar, conflicts)?;
+    write_text(err, &text)
 }
 
 /// Does what follows the warnings.
@@ -135,9 +150,8 @@ pub(crate) fn work_on_table<F: Shelf, I: Source, O: Sink, E: Sink>(
         (world F.files F.faults I.left I.faults O.written O.faults E.written E.faults _shelf.new input.new out.new err.new)
         result }
 {
-    let warnings = warning_text(alloc, &grammar, tabled.conflicts.as_slice())?;
     let next = next_of(alloc, order, &grammar, &tabled)?;
-    match write_text(err, &warnings) {
+    match warn(alloc, &grammar, tabled.conflicts.as_slice(), err) {
         Ok(()) => follow(
             alloc,
             next,
