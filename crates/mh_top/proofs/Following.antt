@@ -18,7 +18,7 @@ use Rattle.mh_top.specs.Verdicts.{Answering, Answers}
 use Rattle.mh_top.specs.Work.{Ending, Plan, Ends, AsksEach, Work, IsPlanOf, IsWorkOfTable, refusing, showing, line_limit, max_lines}
 use Rattle.mh_top.specs.declared.modes.Next.{Next}
 use Rattle.mh_top.specs.declared.modes.Next.TheVariants.{Refuse, Answer, Show}
-use Rattle.mh_top.specs.declared.order.Order.{Order}
+use Rattle.mh_opts.specs.declared.order.Order.{Order}
 use Rattle.mh_top.specs.declared.stop.Cause.{Cause}
 use Rattle.mh_top.specs.declared.stop.Cause.TheVariants.{Refused}
 use Rattle.mh_top.specs.declared.stop.Stop.{Stop}
@@ -131,16 +131,19 @@ module _ (warnings : Text) (b a : World) where
 
 -- the warnings were not written whole
 cut : (plan : Plan) (warnings : Text) (b : World) (err : Option Text) (n : ℕ) (stop : Stop) → Warned warnings b.err err b.err_faults n (Err stop) → Worked (λ w. w ≡ record { warnings = warnings; plan = plan }) (λ line. ⊥) b (record b { err = err; err_faults = n }) (Err stop)
-cut plan warnings b err n WriteFailed wrote = (inr wrote.1, inr (record {
-  work = record { warnings = warnings; plan = plan };
-  is_asked = refl;
-  text = [];
-  on_out = Appends-nil b.out;
-  is_part = nothing plan b.left;
-  front = wrote.0.0;
-  is_front = wrote.0.2;
-  on_err = wrote.0.1;
-}))
+cut plan warnings b err n WriteFailed wrote = (
+  inr wrote.1,
+  inr (record {
+    work = record { warnings = warnings; plan = plan };
+    is_asked = refl;
+    text = [];
+    on_out = Appends-nil b.out;
+    is_part = nothing plan b.left;
+    front = wrote.0.0;
+    is_front = wrote.0.2;
+    on_err = wrote.0.1;
+  }),
+)
 cut plan warnings b err n (Halted cause line) wrote = absurd wrote
 cut plan warnings b err n (ShelfFailed line) wrote = absurd wrote
 cut plan warnings b err n InputFailed wrote = absurd wrote

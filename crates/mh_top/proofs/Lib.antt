@@ -1,6 +1,8 @@
 pub mod Splits
 pub mod SoFar
 pub mod Loads
+pub mod Turns
+pub mod Refusing
 pub mod Reports
 pub mod Worked
 pub mod Steps
@@ -10,14 +12,6 @@ pub mod Claims
 pub mod Answering
 pub mod Tabling
 pub mod Once
-pub mod Starting
-pub mod PlainTables
-pub mod PlainRules
-pub mod PlainNumbers
-pub mod PlainMeaning
-pub mod PlainModules
-pub mod Ranging
 pub mod Exactly
-pub mod OneGrammar
 pub mod OneOutcome
 pub mod Keeping

@@ -12,8 +12,7 @@ use Rattle.mh_outside.specs.Shelf.{Files}
 use Rattle.mh_top.specs.Text.{Text}
 use Rattle.mh_msgfile.specs.Sentences.{IsSentence, sentence_in, vocabulary_of}
 use Rattle.mh_top.specs.Verdicts.{LineText}
-use Rattle.mh_top.specs.Work.{answering}
-use Rattle.mh_top.specs.Claims.{AskedBy}
+use Rattle.mh_top.specs.Work.{IsWork, answering}
 
 -- The grammar is LR(1) (Knuth 1965): its canonical automaton has no conflict, that with the end of the stream included.
 pub record IsLR1 (g : Grammar) : Type 0 where
@@ -25,7 +24,7 @@ pub record IsLR1 (g : Grammar) : Type 0 where
 pub record AnswersSentence (words : List Text) (files : Option Files) (g : Grammar) (s : Sentence) (text : Text) : Type 0 where
   pub table : TableData
   pub warnings : Text
-  pub asked : AskedBy words files (record { warnings = warnings; plan = answering false g table })
+  pub asked : IsWork words files (record { warnings = warnings; plan = answering false g table })
   pub line : Text
   pub sentence : sentence_in (vocabulary_of g) line ≡ IsSentence s
   pub answer : LineText (vocabulary_of g) table line text

@@ -5,6 +5,7 @@ pub mod Lines
 pub mod Stages
 pub mod Each
 pub mod Verdicts
+pub mod FileStage
 pub mod GrammarStage
 pub mod TableStage
 pub mod Work
@@ -12,8 +13,4 @@ pub mod Modes
 pub mod Run
 pub mod Load
 pub mod Claims
-pub mod PlainModules
-pub mod PlainGrammars
-pub mod ModuleGrammars
-pub mod Places
 pub mod Exact

@@ -1,13 +1,12 @@
--- What the words of the command line mean: an order that is carried out, or misuse.
-use Rattle.std.specs.Prelude.{List, [], ◌∷◌, ◌≡◌, Result, Ok, Err}
+-- What the words of the command line mean: an order, or misuse.
+use Rattle.std.specs.Prelude.{List, ◌≡◌, Result, Ok, Err}
 use Rattle.mh_opts.specs.Orders as words
-use Rattle.mh_opts.specs.declared.order.Order.{Order as Spelled}
+use Rattle.mh_opts.specs.declared.order.Order.{Order}
 use Rattle.mh_opts.specs.declared.order.UsageFault.{UsageFault}
 use Rattle.mh_opts.specs.declared.order.UsageFault.TheVariants.{Parse, NoMode, TwoModes, Misplaced, NoGrammar, Memory}
 use Rattle.mh_top.specs.Text.{Text, bad_words, no_mode, two_modes, misplaced, no_grammar, out_of_memory}
 use Rattle.mh_top.specs.Causes.{Staged, Go, Halt}
 use Rattle.mh_top.specs.Stages.{Halts}
-use Rattle.mh_top.specs.declared.order.Order.{Order}
 use Rattle.mh_top.specs.declared.stop.Cause.TheVariants.{Misused}
 use Rattle.mh_top.specs.declared.stop.Stop.{Stop}
 use Rattle.mh_top.specs.declared.stop.Stop.TheVariants.{OutOfMemory}
@@ -21,13 +20,8 @@ usage_line (Misplaced option) = misplaced option
 usage_line NoGrammar = no_grammar
 usage_line Memory = out_of_memory
 
--- until several files are joined, one has a meaning
-abbrev pub order_by : Spelled → List Text → Staged Order
-order_by order (file ∷ []) = Go (record { file = file; job = order.job; strict = order.strict; show_cst = order.show_cst })
-order_by order _ = Halt Misused bad_words
-
-abbrev pub staged : Result Spelled UsageFault → Staged Order
-staged (Ok order) = order_by order order.grammars
+abbrev pub staged : Result Order UsageFault → Staged Order
+staged (Ok order) = Go order
 staged (Err fault) = Halt Misused (usage_line fault)
 
 -- what the words ask for: the order that they spell, by clap's definition of the words that a command takes

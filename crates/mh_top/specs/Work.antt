@@ -1,5 +1,5 @@
--- The whole work: what the words ask for over some files. Stages that are given by relations make it a relation.
-use Rattle.std.specs.Prelude.{◌≡◌, ℕ, Bool, true, false, ◌&&◌, List, [], ◌++◌, if◌then◌else◌, Option, None, Some}
+-- The whole work: what the words ask for over files. Stages that are given by relations make it a relation.
+use Rattle.std.specs.Prelude.{◌≡◌, ℕ, Bool, true, false, ◌&&◌, List, [], ◌∷◌, ◌++◌, if◌then◌else◌, Option, None, Some}
 use Rattle.std.specs.List.{list_any}
 use Rattle.mh_grammar.specs.declared.types.Grammar.{Grammar}
 use Rattle.mh_tables.specs.Table.{TableData}
@@ -11,17 +11,19 @@ use Rattle.mh_report.specs.Automata.{IsAutomatonText}
 use Rattle.mh_report.specs.Warnings.{warning_lines}
 use Rattle.mh_opts.specs.declared.order.Job.{Job}
 use Rattle.mh_opts.specs.declared.order.Job.TheVariants.{Interpret, ShowAutomaton}
-use Rattle.mh_outside.specs.Shelf.{Files, Found, found, NoFile, Long, Bytes}
-use Rattle.mh_top.specs.Text.{Text, cannot_read, too_big, too_big_input}
+use Rattle.mh_opts.specs.declared.order.Order.{Order}
+use Rattle.mh_reader.specs.declared.modules.Module.{Module}
+use Rattle.mh_outside.specs.Shelf.{Files}
+use Rattle.mh_top.specs.Text.{Text, too_big_input}
 use Rattle.mh_top.specs.Causes.{Staged, Go, Halt}
 use Rattle.mh_top.specs.Order.{order_of}
 use Rattle.mh_top.specs.Each.{Asks}
 use Rattle.mh_top.specs.Verdicts.{Answering, Answers}
+use Rattle.mh_top.specs.FileStage.{IsFileStage}
 use Rattle.mh_top.specs.GrammarStage.{IsGrammarStage}
 use Rattle.mh_top.specs.TableStage.{IsTableStage}
-use Rattle.mh_top.specs.declared.order.Order.{Order}
 use Rattle.mh_top.specs.declared.stop.Cause.{Cause}
-use Rattle.mh_top.specs.declared.stop.Cause.TheVariants.{Refused, Missing, TooBig}
+use Rattle.mh_top.specs.declared.stop.Cause.TheVariants.{Refused, TooBig}
 use Rattle.mh_top.specs.declared.tabled.Tabled.{Tabled}
 
 -- ---- plans
@@ -50,18 +52,6 @@ halted cause line = record { warnings = []; plan = Ends (record { cause = Some c
 abbrev pub Then : {A : Type 0} → Staged A → (A → Work → Type 0) → Work → Type 0
 Then (Go x) Next w = Next x w
 Then (Halt cause line) Next w = w ≡ halted cause line
-
-abbrev pub file_limit : ℕ
-file_limit = 16777216
-
-abbrev pub loaded_from : Text → Found → Staged Text
-loaded_from name NoFile = Halt Missing (cannot_read name)
-loaded_from name Long = Halt TooBig (too_big name)
-loaded_from name (Bytes bytes) = Go bytes
-
--- the bytes of a file
-abbrev pub loaded : Files → Text → Staged Text
-loaded files name = loaded_from name (found files name file_limit)
 
 -- a conflict that levels do not solve is warned of
 abbrev pub is_warned : ConflictKind → Bool
@@ -105,20 +95,22 @@ IsWorkOfTable order g tabled w = (w.warnings ≡ warning_lines g tabled.conflict
 abbrev pub IsWorkOfGrammar : Order → Grammar → Work → Type 0
 IsWorkOfGrammar order g w = (s : Staged Tabled) × IsTableStage g s × Then s (IsWorkOfTable order g) w
 
--- the work on the order's file, of these bytes
-abbrev pub IsWorkOfFile : Order → Text → Work → Type 0
-IsWorkOfFile order bytes w = (s : Staged Grammar) × IsGrammarStage order.file bytes s × Then s (IsWorkOfGrammar order) w
+-- the work on the modules of all files
+abbrev pub IsWorkOfModules : Order → List Module → Work → Type 0
+IsWorkOfModules order modules w = (s : Staged Grammar) × IsGrammarStage order.stdlib modules s × Then s (IsWorkOfGrammar order) w
 
-abbrev pub IsWorkOfOrder : Files → Order → Work → Type 0
-IsWorkOfOrder files order w = Then (loaded files order.file) (IsWorkOfFile order) w
+-- the work on these files, each read and spelled before the next, behind those that spell these modules
+abbrev pub IsWorkOfFiles : Option Files → Order → List Module → List Text → Work → Type 0
+IsWorkOfFiles files order modules [] w = IsWorkOfModules order modules w
+IsWorkOfFiles files order modules (name ∷ names) w =
+    (s : Staged Module) × IsFileStage files name s × Then s (λ m. IsWorkOfFiles files order (modules ++ m ∷ []) names) w
 
-abbrev pub IsWork : List Text → Files → Work → Type 0
+abbrev pub IsWorkOfOrder : Option Files → Order → Work → Type 0
+IsWorkOfOrder files order w = IsWorkOfFiles files order [] order.grammars w
+
+-- the work that the words ask for, over these files, or over some where they are not told
+abbrev pub IsWork : List Text → Option Files → Work → Type 0
 IsWork words files w = Then (order_of words) (IsWorkOfOrder files) w
-
--- the files that are told, or some files
-abbrev pub Over : Option Files → (Files → Type 0) → Type 0
-Over None Holds = (files : Files) × Holds files
-Over (Some files) Holds = Holds files
 
 -- ---- what comes out
 

@@ -11,11 +11,10 @@ ghost use Rattle.mh_top.specs.Run.{world, Worked};
 ghost use Rattle.mh_top.specs.Work.{IsPlanOf, IsWorkOfTable, has_warning as has_warning_in, is_warned as is_warned_of};
 
 use crate::interpret::interpret;
-use crate::order::Order;
 use crate::stop::{Cause, Stop, halted};
 use crate::tabled::Tabled;
 use mh_grammar::{Grammar, Memory, Sequence};
-use mh_opts::Job;
+use mh_opts::{Job, Order};
 use mh_outside::{Shelf, Sink, Source, write_whole};
 use mh_report::{automaton_text, warning_text};
 use mh_resolve::{Conflict, ConflictKind, Mode};
