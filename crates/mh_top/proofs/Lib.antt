@@ -6,6 +6,7 @@ pub mod Refusing
 pub mod Reports
 pub mod Worked
 pub mod Steps
+pub mod Following
 pub mod Endings
 pub mod Claims
 pub mod Answering
