@@ -2,7 +2,6 @@ pub mod Splits
 pub mod SoFar
 pub mod Loads
 pub mod Turns
-pub mod Refusing
 pub mod Reports
 pub mod Worked
 pub mod Steps

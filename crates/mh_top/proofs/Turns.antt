@@ -1,6 +1,5 @@
 -- The files of an order: each is read and spelled, one after the other.
-use Rattle.std.proofs.Common.{◌≡◌, ◌<◌, ◌≤◌, ◌+◌, ℕ, List, length, drop, get_or, [], ◌∷◌, ◌++◌, Option, None, Some, refl, sym, ◌∙◌, ap, ap₂, subst, Ok, Err}
-use Rattle.std.specs.Prelude.{Result}
+use Rattle.std.proofs.Common.{◌≡◌, ◌<◌, ◌+◌, ℕ, List, length, drop, get_or, [], ◌∷◌, ◌++◌, Option, None, Some, refl, sym, ◌∙◌, ap, ap₂, subst, Ok, Err}
 use Rattle.std.proofs.lemmas.List.{drop_more}
 use Rattle.std.specs.List.{All}
 use Rattle.mh_front.proofs.Reading.{push_spelled}
@@ -14,10 +13,9 @@ use Rattle.mh_opts.specs.declared.order.Order.{Order}
 use Rattle.mh_outside.specs.Shelf.{Files}
 use Rattle.mh_top.specs.Text.{Text}
 use Rattle.mh_top.specs.Causes.{Staged, Go, Halt}
-use Rattle.mh_top.specs.FileStage.{IsLoaded, IsModuleStage, IsFileStage, IsSpelled, IsTurn, Behind, syntax_error}
-use Rattle.mh_top.specs.Stages.{StageHas}
+use Rattle.mh_top.specs.FileStage.{IsModuleStage, IsFileStage, IsSpelled, IsTurn, Behind, syntax_error}
 use Rattle.mh_top.specs.Work.{Work, IsWorkOfFiles, IsWorkOfOrder, halted}
-use Rattle.mh_top.specs.Load.{LoadHas, FileHas, FilesHave}
+use Rattle.mh_top.specs.Load.{FileHas, FilesHave}
 use Rattle.mh_top.specs.Run.{MayEnd}
 use Rattle.mh_top.specs.declared.stop.Cause.{Cause}
 use Rattle.mh_top.specs.declared.stop.Cause.TheVariants.{Refused}
@@ -29,23 +27,6 @@ may_refuse None cause is = subst (λ (c : Cause). MayEnd None (Some c)) (sym is)
 may_refuse (Some fs) cause is = tt
 
 -- ---- one file
-
--- a file was read
-pub file_has : (files : Option Files) (name bytes : Text) (r : Result Module Stop) → IsLoaded files name (Go bytes) → StageHas {A = Module} (IsModuleStage name bytes) r → FileHas files name r
-file_has files name bytes (Ok m) read has = (Go bytes, read, has)
-file_has files name bytes (Err (Halted cause line)) read has = (may_refuse files cause has.0, (Go bytes, read, has))
-file_has files name bytes (Err OutOfMemory) read has = tt
-file_has files name bytes (Err (ShelfFailed line)) read has = absurd has
-file_has files name bytes (Err InputFailed) read has = absurd has
-file_has files name bytes (Err WriteFailed) read has = absurd has
-
--- it could not be read
-pub file_stops : (files : Option Files) (name : Text) (stop : Stop) → LoadHas files name (Err stop) → FileHas files name (Err stop)
-file_stops files name (Halted cause line) has = (has.0, (Halt cause line, has.1, refl))
-file_stops files name OutOfMemory has = tt
-file_stops files name (ShelfFailed line) has = has
-file_stops files name InputFailed has = absurd has
-file_stops files name WriteFailed has = absurd has
 
 -- some bytes spell its module
 pub file_spelled : (files : Option Files) (name : Text) (m : Module) → IsFileStage files name (Go m) → (bytes : Text) × Spells bytes m
