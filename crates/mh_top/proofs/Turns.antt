@@ -77,9 +77,6 @@ module _ (files : Option Files) (order : Order) where
     pub work : (w : Work) → IsWorkOfFiles files order modules names w → IsWorkOfOrder files order w
     pub turn : (name : Text) → IsTurn files names name → IsTurn files order.grammars name
 
-  pub so_far_start : IsSoFar [] order.grammars
-  so_far_start = record { work = λ w is. is; turn = λ name is. is }
-
   pub so_far_more : (modules : List Module) (first : Text) (names : List Text) (m : Module) → IsSoFar modules (first ∷ names) → IsFileStage files first (Go m) → IsSoFar (modules ++ m ∷ []) names
   so_far_more modules first names m so_far has = record {
     work = λ w is. so_far.work w (Go m, has, is);
@@ -95,15 +92,17 @@ module _ (files : Option Files) (order : Order) where
 
   -- ---- at a place in the list of names
 
-  pub so_far_next : (told : Option Files) (modules : List Module) (names : List Text) (i : ℕ) (d name : Text) (m : Module) → told ≡ files → name ≡ get_or names i d → i < length names → IsSoFar modules (drop i names) → FileHas told name (Ok m) → IsSoFar (modules ++ m ∷ []) (drop (i + 1) names)
-  so_far_next told modules names i d name m kept same lt so_far has =
-      let here : FileHas files (get_or names i d) (Ok m) = subst (λ (n : Text). FileHas files n (Ok m)) same (subst (λ (t : Option Files). FileHas t name (Ok m)) kept has) in
-      so_far_more modules (get_or names i d) (drop (i + 1) names) m (subst (IsSoFar modules) (drop_more names i d lt) so_far) here
+  module _ (told : Option Files) (names : List Text) (i : ℕ) (d name : Text) (kept : told ≡ files) (listed : names ≡ order.grammars) (item : name ≡ get_or names i d) (lt : i < length names) where
+    at_place : (modules : List Module) → IsSoFar modules (drop i order.grammars) → IsSoFar modules (name ∷ drop (i + 1) order.grammars)
+    at_place modules so_far =
+        let named : IsSoFar modules (get_or names i d ∷ drop (i + 1) names) = subst (IsSoFar modules) (drop_more names i d lt) (subst (λ (l : List Text). IsSoFar modules (drop i l)) (sym listed) so_far) in
+        subst (λ (l : List Text). IsSoFar modules (name ∷ drop (i + 1) l)) listed (subst (λ (n : Text). IsSoFar modules (n ∷ drop (i + 1) names)) (sym item) named)
 
-  pub so_far_halts : (told : Option Files) (modules : List Module) (names : List Text) (i : ℕ) (d name : Text) (stop : Stop) → told ≡ files → name ≡ get_or names i d → i < length names → IsSoFar modules (drop i names) → FileHas told name (Err stop) → FilesHave files order (Err stop)
-  so_far_halts told modules names i d name stop kept same lt so_far has =
-      let here : FileHas files (get_or names i d) (Err stop) = subst (λ (n : Text). FileHas files n (Err stop)) same (subst (λ (t : Option Files). FileHas t name (Err stop)) kept has) in
-      so_far_stops modules (get_or names i d) (drop (i + 1) names) stop (subst (IsSoFar modules) (drop_more names i d lt) so_far) here
+    pub so_far_next : (modules : List Module) (m : Module) → IsSoFar modules (drop i order.grammars) → FileHas told name (Ok m) → IsSoFar (modules ++ m ∷ []) (drop (i + 1) order.grammars)
+    so_far_next modules m so_far has = so_far_more modules name (drop (i + 1) order.grammars) m (at_place modules so_far) (subst (λ (t : Option Files). FileHas t name (Ok m)) kept has)
+
+    pub so_far_halts : (modules : List Module) (stop : Stop) → IsSoFar modules (drop i order.grammars) → FileHas told name (Err stop) → FilesHave files order (Err stop)
+    so_far_halts modules stop so_far has = so_far_stops modules name (drop (i + 1) order.grammars) stop (at_place modules so_far) (subst (λ (t : Option Files). FileHas t name (Err stop)) kept has)
 
 -- and what is spelled has alternatives
 pub file_pushed : (files : Option Files) (name : Text) (modules : List Module) (m : Module) → HaveAlternatives modules → IsFileStage files name (Go m) → HaveAlternatives (modules ++ m ∷ [])
