@@ -65,10 +65,7 @@ fn push_prec(out: &mut Vec<u8>, prec: Prec) -> Result<(), AllocError> {
     Ok(())
 }
 
-fn push_production(
-    out: &mut Vec<u8>,
-    production: &InstanceProduction,
-) -> Result<(), AllocError> {
+fn push_production(out: &mut Vec<u8>, production: &InstanceProduction) -> Result<(), AllocError> {
     out.push(b'|')?;
     push_digit(out, production.file)?;
     out.push(b'.')?;

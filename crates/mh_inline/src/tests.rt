@@ -36,36 +36,26 @@ fn is_part_below(tokens: usize, instances: usize, part: Part) -> bool
 }
 
 fn are_parts_below(tokens: usize, instances: usize, production: &InstanceProduction) -> bool
-    ensures { IsTrue result → All (IsPartBelow tokens instances) production.now.rhs }
+    ensures { IsTrue result ↔ All (IsPartBelow tokens instances) production.now.rhs }
 {
-    for part in production.rhs.as_slice() {
-        if !is_part_below(tokens, instances, *part) {
-            return false;
-        }
-    }
-    true
+    let parts = production.rhs.as_slice();
+    parts
+        .iter()
+        .all(|part| is_part_below(tokens, instances, *part))
 }
 
 fn is_instance_ready(tokens: usize, instances: usize, instance: &Instance) -> bool
-    ensures { IsTrue result → IsInstanceReady tokens instances instance.now }
+    ensures { IsTrue result ↔ IsInstanceReady tokens instances instance.now }
 {
-    for production in instance.productions.as_slice() {
-        if !are_parts_below(tokens, instances, production) {
-            return false;
-        }
-    }
-    !instance.productions.is_empty()
+    let productions = instance.productions.as_slice();
+    !productions.is_empty()
+        && productions.iter().all(|production| are_parts_below(tokens, instances, production))
 }
 
 fn are_instances_ready(tokens: usize, instances: &[Instance]) -> bool
-    ensures { IsTrue result → All (IsInstanceReady tokens (length instances.now)) instances.now }
+    ensures { IsTrue result ↔ All (IsInstanceReady tokens (length instances.now)) instances.now }
 {
-    for instance in instances {
-        if !is_instance_ready(tokens, instances.len(), instance) {
-            return false;
-        }
-    }
-    true
+    instances.iter().all(|instance| is_instance_ready(tokens, instances.len(), instance))
 }
 
 /// Whether the starts are the first instances, as expansion has them.
