@@ -1,0 +1,4 @@
+pub mod Passing
+pub mod Composing
+pub mod Readying
+pub mod Reading
