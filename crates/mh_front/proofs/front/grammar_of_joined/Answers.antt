@@ -1,16 +1,10 @@
 use Rattle.std.proofs.Common.{sym, subst}
-use Rattle.mh_front.specs.Stages.{IsJoinedFault}
+use Rattle.mh_front.specs.Stages.{Causes, IsJoinedFault}
 use Rattle.mh_front.proofs.Passing.{inline_fault}
-use Rattle.mh_front.proofs.Composing.{has_sentences}
 use Rattle.mh_front.proofs.front.grammar_of_joined.Goals as goal
-
-pub returns-in-Ok-inline_rules-clause-sentences : goal.returns-in-Ok-inline_rules-clause-sentences
-returns-in-Ok-inline_rules-clause-sentences c =
-    let kept = c.in-Ok-inline_rules.ensures in
-    has_sentences c.args.joined.now c.in-Ok.expanded c.in-Ok-inline_rules.grammar c.in-Ok.ensures.sentences kept.grammar.inlined kept.sentences
 
 pub returns-in-Ok-clause-fault : goal.returns-in-Ok-clause-fault
 returns-in-Ok-clause-fault c =
     let j = c.args.joined.now in
     let fault = inline_fault j c.in-Ok.expanded c.in-Err-inline_rules.fault c.in-Ok.ensures.ok c.in-Err-inline_rules.ensures.fault in
-    subst (IsJoinedFault j) (sym c.from.ensures) fault
+    subst (Causes (IsJoinedFault j)) (sym c.from.ensures) fault
