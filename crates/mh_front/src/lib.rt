@@ -4,6 +4,8 @@
 mod fault;
 mod front;
 mod laws;
+#[cfg(test)]
+mod tests;
 mod texts;
 
 pub use fault::GrammarFault;
