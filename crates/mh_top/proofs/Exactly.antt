@@ -32,7 +32,7 @@ use Rattle.mh_top.specs.Causes.{Staged, Go, Halt}
 use Rattle.mh_top.specs.Order.{order_of}
 use Rattle.mh_top.specs.GrammarStage.{GrammarOf, IsGrammarStage}
 use Rattle.mh_top.specs.TableStage.{HasTooMany, HasTable, IsTableStage}
-use Rattle.mh_top.specs.Sentences.{LineFound, IsSentence}
+use Rattle.mh_msgfile.specs.Sentences.{LineFound, IsSentence}
 use Rattle.mh_top.specs.Verdicts.{Answering, FoundText, verdict_text}
 use Rattle.mh_top.specs.Work.{Work, AsksEach, Then, IsWorkOfOrder, IsWorkOfFile, IsWorkOfGrammar, IsWorkOfTable, halted, answering, interpreting, loaded_from, file_limit}
 use Rattle.mh_top.specs.Claims.{AskedBy}
@@ -40,7 +40,7 @@ use Rattle.mh_top.specs.Exact.{IsLR1, AnswersSentence, AcceptsExactly, RejectsRi
 use Rattle.mh_top.specs.declared.order.Order.{Order}
 use Rattle.mh_top.specs.declared.stop.Cause.{Cause}
 use Rattle.mh_top.specs.declared.stop.Cause.TheVariants.{Missing, TooBig}
-use Rattle.mh_top.proofs.Answering.{sentence_start}
+use Rattle.mh_msgfile.proofs.Below.{sentence_start}
 use Rattle.mh_top.proofs.Ranging.{in_range}
 
 -- ---- the grammar and the table that verdicts go by

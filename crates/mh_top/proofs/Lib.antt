@@ -6,8 +6,6 @@ pub mod Worked
 pub mod Steps
 pub mod Endings
 pub mod Claims
-pub mod Fields
-pub mod Lexicons
 pub mod Answering
 pub mod Tabling
 pub mod Once

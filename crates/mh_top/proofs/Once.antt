@@ -14,7 +14,7 @@ use Rattle.mh_outside.specs.Shelf.{Files}
 use Rattle.mh_top.specs.Text.{Text, too_many_states}
 use Rattle.mh_top.specs.Causes.{Staged, Go, Halt}
 use Rattle.mh_top.specs.Order.{order_of}
-use Rattle.mh_top.specs.Sentences.{token_names}
+use Rattle.mh_msgfile.specs.Sentences.{token_names}
 use Rattle.mh_reader.proofs.Lines.{line_once, one_module}
 use Rattle.mh_top.specs.ModuleGrammars.{IsPlain}
 use Rattle.mh_top.specs.GrammarStage.{GrammarOf, IsGrammarStage, IsSyntaxFault, IsNotPlain, syntax_error}

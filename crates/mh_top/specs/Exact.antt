@@ -10,7 +10,7 @@ use Rattle.mh_tables.specs.Table.{TableData}
 use Rattle.mh_run.specs.Exactness.{IsPrefixSentence, AllProductive}
 use Rattle.mh_outside.specs.Shelf.{Files}
 use Rattle.mh_top.specs.Text.{Text}
-use Rattle.mh_top.specs.Sentences.{IsSentence, sentence_in, vocabulary_of}
+use Rattle.mh_msgfile.specs.Sentences.{IsSentence, sentence_in, vocabulary_of}
 use Rattle.mh_top.specs.Verdicts.{LineText}
 use Rattle.mh_top.specs.Work.{interpreting}
 use Rattle.mh_top.specs.Claims.{AskedBy}

@@ -11,7 +11,6 @@ pub mod Work
 pub mod Run
 pub mod Load
 pub mod Claims
-pub mod Sentences
 pub mod PlainModules
 pub mod PlainGrammars
 pub mod ModuleGrammars

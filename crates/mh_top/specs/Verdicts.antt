@@ -9,7 +9,7 @@ use Rattle.mh_run.specs.TreeRuns.{IsOutcome}
 use Rattle.mh_run.specs.declared.tree_run.TreeOutcome.{TreeOutcome}
 use Rattle.mh_run.specs.declared.tree_run.TreeOutcome.TheVariants as outcomes
 use Rattle.mh_top.specs.Text.{Text}
-use Rattle.mh_top.specs.Sentences.{Vocabulary, LineFound, IsSentence, IsUnreadable, NamesNoStart, LacksStart, NamesUnknown, sentence_in, vocabulary_of}
+use Rattle.mh_msgfile.specs.Sentences.{Vocabulary, LineFound, IsSentence, IsUnreadable, NamesNoStart, LacksStart, NamesUnknown, sentence_in, vocabulary_of}
 
 -- ---- a sentence
 

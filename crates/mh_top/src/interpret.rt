@@ -6,13 +6,13 @@ ghost use Rattle.mh_tables.specs.Run.{VerdictOf};
 ghost use Rattle.mh_run.specs.Verdicts.{ending_for};
 ghost use Rattle.mh_top.specs.Each.{EachRan, EachCounts};
 ghost use Rattle.mh_top.specs.Work.{line_limit, max_lines};
-ghost use Rattle.mh_top.specs.Sentences.{HasNumbers, vocabulary_of};
+ghost use Rattle.mh_msgfile.specs.Sentences.{HasNumbers, vocabulary_of};
 ghost use Rattle.mh_top.specs.Verdicts.{Answers, AnswersOne, IsOutcomeText, IsVerdictText, SentenceText, outcome_text as outcome_line, verdict_text as verdict_line};
 
 use crate::each::{Answer, answer_each};
-use crate::sentence::{Lexicon, SentenceFault, read_sentence};
 use crate::stop::{Stop, joined};
-use mh_grammar::{Grammar, Memory, Sentence, Token};
+use mh_grammar::{Grammar, Memory, Sentence};
+use mh_msgfile::{Lexicon, SentenceFault, read_sentence};
 use mh_outside::{Sink, Source};
 use mh_run::{TreeOutcome, Verdict, run_with_trees, verdict};
 use mh_tables::Halting;

@@ -9,7 +9,6 @@ mod laws;
 mod load;
 mod order;
 mod plain;
-mod sentence;
 mod stop;
 mod tabled;
 mod top;

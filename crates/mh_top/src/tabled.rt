@@ -4,7 +4,7 @@ ghost use Rattle.mh_grammar.specs.Plain.{plain_of, IsInRange};
 ghost use Rattle.mh_tables.specs.Halting.{LoopsAt};
 ghost use Rattle.mh_top.specs.TableStage.{IsTableStage, HasTooMany, HasTable, GivesTable, loop_place, look_text, loops_line};
 ghost use Rattle.mh_top.specs.Stages.{Halts, StageHas};
-ghost use Rattle.mh_top.specs.Sentences.{token_names};
+ghost use Rattle.mh_msgfile.specs.Sentences.{token_names};
 ghost use Rattle.mh_top.specs.declared.stop.Cause.TheVariants.{Refused};
 
 use crate::stop::{Cause, Stop, halted};

@@ -1,5 +1,5 @@
 use Rattle.std.proofs.Common.{refl}
-use Rattle.mh_top.proofs.Answering.{sentence_below, start_known}
+use Rattle.mh_msgfile.proofs.Below.{sentence_below, start_known}
 use Rattle.mh_top.proofs.interpret.line_text.Goals as goal
 
 pub sentence_text-requires-clause-start : goal.sentence_text-requires-clause-start

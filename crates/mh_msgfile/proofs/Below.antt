@@ -1,0 +1,126 @@
+-- A sentence that is read is one of the grammar: its start and its tokens are known.
+use Rattle.std.proofs.Common.{◌≡◌, ◌<◌, ◌+◌, ℕ, zero, suc, Bool, true, false, List, [], ◌∷◌, length, Option, None, Some, refl, sym, ◌∙◌, ap, subst, if◌then◌else◌, arith, take, drop, nat_lt, Err, is_some, true≢false}
+use Rattle.std.proofs.lemmas.List.{length-map}
+use Rattle.std.specs.List.{list_all, position_from, All}
+use Rattle.std.specs.Str.{bytes_eq}
+use Rattle.mh_grammar.specs.declared.types.Sentence.{Sentence}
+use Rattle.mh_grammar.specs.declared.types.Grammar.{Grammar}
+use Rattle.mh_grammar.specs.Plain.{PlainGrammar, plain_of}
+use Rattle.mh_msgfile.specs.Sentences.{Text, Vocabulary, vocabulary_of, token_names, start_name, TokensFound, Tokens, Unknown, StartFound, StartIs, NoSuchStart, NoStart, IsSentence, IsUnreadable, put_token, number_of, tokens_of, start_or, only_start, start_by, with_start, sole, colon_place, is_name, pieces, sentence_from, sentence_behind, sentence_in, FindsStart, ReadsSentence}
+use Rattle.mh_msgfile.specs.declared.sentence.SentenceFault.{SentenceFault}
+use Rattle.mh_msgfile.specs.declared.sentence.SentenceFault.TheVariants as faults
+
+-- ---- its tokens are those of the grammar
+
+abbrev value_or : ℕ → Option ℕ → ℕ
+value_or none None = none
+value_or none (Some k) = k
+
+no_some : (k : ℕ) → None ≡ Some k → ⊥
+no_some k is = true≢false (sym (ap is_some is))
+
+position_on : (p : Text → Bool) (i k : ℕ) (x : Text) (xs : List Text) (c : Bool) → p x ≡ c → (position_from p (i + 1) xs ≡ Some k → k < i + 1 + length xs) → position_from p i (x ∷ xs) ≡ Some k → k < i + suc (length xs)
+position_on p i k x xs true here next is =
+    let same : Some i ≡ Some k = rw here at is in
+    let number : i ≡ k = ap (value_or i) same in omega arith
+position_on p i k x xs false here next is =
+    let later : position_from p (i + 1) xs ≡ Some k = rw here at is in omega (arith, next later)
+
+position_below : (p : Text → Bool) (i k : ℕ) (xs : List Text) → position_from p i xs ≡ Some k → k < i + length xs
+position_below p i k [] is = absurd (no_some k is)
+position_below p i k (x ∷ xs) is = position_on p i k x xs (p x) refl (position_below p (i + 1) k xs) is
+
+abbrev AreBelow : ℕ → TokensFound → Type 0
+AreBelow n (Tokens tokens) = All (λ z. z < n) tokens
+AreBelow n (Unknown name) = Unit {0}
+
+below_one : (n token : ℕ) (tokens : List ℕ) → token < n → All (λ z. z < n) tokens → All (λ z. z < n) (token ∷ tokens)
+below_one n token tokens lt all zero d within = lt
+below_one n token tokens lt all (suc k) d within = all k d (omega arith)
+
+put_below : (names : List Text) (name : Text) (o : Option ℕ) (found : TokensFound) → number_of names name ≡ o → AreBelow (length names) found → AreBelow (length names) (put_token name o found)
+put_below names name None found is below = tt
+put_below names name (Some token) (Unknown other) is below = tt
+put_below names name (Some token) (Tokens tokens) is below =
+    let lt : token < 0 + length names = position_below (bytes_eq name) 0 token names is in below_one (length names) token tokens (omega (arith, lt)) below
+
+all_below : (names ps : List Text) → AreBelow (length names) (tokens_of names ps)
+all_below names [] = λ k d within. absurd (omega arith)
+all_below names (name ∷ ps) = put_below names name (number_of names name) (tokens_of names ps) refl (all_below names ps)
+
+-- the start that was found is one of so many
+abbrev IsStartBelow : ℕ → StartFound → Type 0
+IsStartBelow n (StartIs start) = start < n
+IsStartBelow n (NoSuchStart name) = Unit {0}
+IsStartBelow n NoStart = Unit {0}
+
+only_below : (names : List Text) → IsStartBelow (length names) (only_start names)
+only_below [] = tt
+only_below (name ∷ []) = omega arith
+only_below (name ∷ other ∷ names) = tt
+
+named_below : (names : List Text) (name : Text) (o : Option ℕ) → number_of names name ≡ o → IsStartBelow (length names) (start_or name o)
+named_below names name None is = tt
+named_below names name (Some start) is = let lt : start < 0 + length names = position_below (bytes_eq name) 0 start names is in omega (arith, lt)
+
+start_below : (names : List Text) (o : Option Text) → IsStartBelow (length names) (start_by names o)
+start_below names None = only_below names
+start_below names (Some name) = named_below names name (number_of names name) refl
+
+-- a sentence of this start and these tokens
+record IsBelow (n m : ℕ) (s : Sentence) : Type 0 where
+  start : s.start < n
+  tokens : All (λ z. z < m) s.tokens
+
+with_below : (n m : ℕ) (start : StartFound) (found : TokensFound) (s : Sentence) → with_start start found ≡ IsSentence s → IsStartBelow n start → AreBelow m found → IsBelow n m s
+with_below n m (StartIs start) (Tokens tokens) s is lt below =
+    let same : record { start = start; tokens = tokens } ≡ s = cc in
+    subst (IsBelow n m) same (record { start = lt; tokens = below })
+with_below n m (StartIs start) (Unknown name) s is lt below = absurd (cc)
+with_below n m (NoSuchStart name) found s is lt below = absurd (cc)
+with_below n m NoStart found s is lt below = absurd (cc)
+
+module _ (v : Vocabulary) where
+  if_below : (start : Option Text) (text : Text) (s : Sentence) (c : Bool) → (if c then with_start (start_by v.starts start) (tokens_of v.tokens (pieces text)) else IsUnreadable) ≡ IsSentence s → IsBelow (length v.starts) (length v.tokens) s
+  if_below start text s true is = with_below (length v.starts) (length v.tokens) (start_by v.starts start) (tokens_of v.tokens (pieces text)) s is (start_below v.starts start) (all_below v.tokens (pieces text))
+  if_below start text s false is = absurd (cc)
+
+  from_below : (start : Option Text) (text : Text) (s : Sentence) → sentence_from v start text ≡ IsSentence s → IsBelow (length v.starts) (length v.tokens) s
+  from_below start text s is = if_below start text s (list_all is_name (pieces text)) is
+
+  behind_below : (start : Option Text) (text : Text) (s : Sentence) → sentence_behind v start text ≡ IsSentence s → IsBelow (length v.starts) (length v.tokens) s
+  behind_below None text s is = absurd (cc)
+  behind_below (Some name) text s is = from_below (Some name) text s is
+
+  colon_below : (line : Text) (s : Sentence) (c : Bool) →
+      (if c then sentence_behind v (sole (pieces (take (colon_place line) line))) (drop (colon_place line + 1) line) else sentence_from v None line) ≡ IsSentence s → IsBelow (length v.starts) (length v.tokens) s
+  colon_below line s true is = behind_below (sole (pieces (take (colon_place line) line))) (drop (colon_place line + 1) line) s is
+  colon_below line s false is = from_below None line s is
+
+  in_below : (line : Text) (s : Sentence) → sentence_in v line ≡ IsSentence s → IsBelow (length v.starts) (length v.tokens) s
+  in_below line s is = colon_below line s (nat_lt (colon_place line) (length line)) is
+
+pub sentence_start : (g : Grammar) (line : Text) (s : Sentence) → sentence_in (vocabulary_of g) line ≡ IsSentence s → s.start < length g.starts
+sentence_start g line s is = let below = in_below (vocabulary_of g) line s is in omega (arith, below.start, length-map g.starts (start_name g))
+
+pub start_known : (g : Grammar) (h : PlainGrammar) (line : Text) (s : Sentence) → sentence_in (vocabulary_of g) line ≡ IsSentence s → h ≡ plain_of g → s.start < length h.starts
+start_known g h line s is same = subst (λ (x : PlainGrammar). s.start < length x.starts) (sym same) (sentence_start g line s is)
+
+pub sentence_below : (g : Grammar) (h : PlainGrammar) (line : Text) (s : Sentence) (tokens : List ℕ) → sentence_in (vocabulary_of g) line ≡ IsSentence s → h ≡ plain_of g → tokens ≡ s.tokens → All (λ z. z < h.tokens) tokens
+sentence_below g h line s tokens is same given =
+    let below = in_below (vocabulary_of g) line s is in
+    let count : length (token_names g) ≡ h.tokens = length-map g.tokens (λ token. token.name) ∙ sym (ap (λ (x : PlainGrammar). x.tokens) same) in
+    subst (λ (ts : List ℕ). All (λ z. z < h.tokens) ts) (sym given) (subst (λ (n : ℕ). All (λ z. z < n) s.tokens) count below.tokens)
+
+-- a start that was not found
+pub no_start : (start : StartFound) (found : TokensFound) (fault : SentenceFault) → FindsStart start (Err fault) → ReadsSentence (with_start start found) (Err fault)
+no_start start found (faults.UnknownStart name) is = ap (λ (x : StartFound). with_start x found) is
+no_start start found faults.MissingStart is = ap (λ (x : StartFound). with_start x found) is
+no_start start found faults.Memory is = tt
+no_start start found faults.Unreadable is = absurd is
+no_start start found (faults.UnknownToken name) is = absurd is
+
+pub from_no_start : (v : Vocabulary) (start : Option Text) (text : Text) (fault : SentenceFault) → list_all is_name (pieces text) ≡ true → FindsStart (start_by v.starts start) (Err fault) → ReadsSentence (sentence_from v start text) (Err fault)
+from_no_start v start text fault readable is =
+    subst (λ (b : Bool). ReadsSentence (if b then with_start (start_by v.starts start) (tokens_of v.tokens (pieces text)) else IsUnreadable) (Err fault)) (sym readable)
+    (no_start (start_by v.starts start) (tokens_of v.tokens (pieces text)) fault is)
