@@ -8,7 +8,7 @@ use Rattle.mh_outside.specs.Shelf.{Files, Long, Bytes, found, file_at, within, R
 use Rattle.mh_outside.specs.declared.shelf.ShelfFault.TheVariants as shelf_faults
 use Rattle.mh_top.specs.Text.{Text, cannot_read, too_big}
 use Rattle.mh_top.specs.Causes.{Halt}
-use Rattle.mh_top.specs.Work.{Over, loaded, loaded_from, file_limit}
+use Rattle.mh_top.specs.FileStage.{IsLoaded, loaded_from, file_limit}
 use Rattle.mh_top.specs.Load.{LoadHas}
 use Rattle.mh_top.specs.Run.{MayEnd}
 use Rattle.mh_top.specs.Stages.{Halts}
@@ -38,7 +38,7 @@ pub loads : (files : Option Files) (name : Text) (v : Vec ℕ Global) → Reads 
 loads None name v reads = ((name, v.items) ∷ [], ap (loaded_from name) (found_alone name v.items file_limit ∙ fits file_limit v.items reads))
 loads (Some fs) name v reads = ap (loaded_from name) reads
 
-halts_so : (files : Option Files) (name : Text) (cause : Cause) (line : Text) (stop : Stop) → (Over files (λ known. loaded known name ≡ Halt cause line)) → MayEnd files (Some cause) → Halts cause line stop → LoadHas files name (Err stop)
+halts_so : (files : Option Files) (name : Text) (cause : Cause) (line : Text) (stop : Stop) → IsLoaded files name (Halt cause line) → MayEnd files (Some cause) → Halts cause line stop → LoadHas files name (Err stop)
 halts_so files name cause line (Halted cause' line') over may is = (subst (λ (c : Cause). MayEnd files (Some c)) (sym is.0) may, rw (is.0, is.1) over)
 halts_so files name cause line OutOfMemory over may is = tt
 halts_so files name cause line (ShelfFailed line') over may is = absurd is

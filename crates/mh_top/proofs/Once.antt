@@ -1,11 +1,16 @@
 -- The work that the words ask for is one, as each of its stages gives one thing.
-use Rattle.std.proofs.Common.{◌≡◌, ◌⊎◌, inl, inr, ◌≤◌, ℕ, List, Option, sym, ◌∙◌, ap, ap₂, subst, arith}
+use Rattle.std.proofs.Common.{◌≡◌, ◌⊎◌, inl, inr, ◌≤◌, ℕ, Bool, true, false, ◌&&◌, List, [], ◌∷◌, ◌++◌, Option, Some, sym, ◌∙◌, ap, ap₂, subst, arith}
 use Rattle.mh_grammar.specs.declared.types.Grammar.{Grammar}
 use Rattle.mh_grammar.specs.Plain.{plain_of}
 use Rattle.mh_items.specs.declared.kernels.Automaton.{Automaton}
 use Rattle.mh_canon.proofs.Only.{one_canonical}
-use Rattle.mh_resolve.proofs.Once.{one_table}
+use Rattle.mh_opts.specs.declared.order.Job.{Job}
+use Rattle.mh_opts.specs.declared.order.Job.TheVariants.{Interpret, ShowAutomaton}
+use Rattle.mh_report.proofs.OneText.{text_once}
+use Rattle.mh_resolve.proofs.Once.{one_table, conflicts_once}
 use Rattle.mh_resolve.specs.States.{IsTableOf}
+use Rattle.mh_resolve.specs.Conflicts.{AreConflicts}
+use Rattle.mh_resolve.specs.declared.conflicts.Conflict.{Conflict}
 use Rattle.mh_resolve.specs.declared.kinds.Mode.TheVariants.{Canonical}
 use Rattle.mh_tables.specs.Table.{TableData}
 use Rattle.mh_tables.specs.Halting.{Halts, LoopsAt}
@@ -15,13 +20,15 @@ use Rattle.mh_top.specs.Text.{Text, too_many_states}
 use Rattle.mh_top.specs.Causes.{Staged, Go, Halt}
 use Rattle.mh_top.specs.Order.{order_of}
 use Rattle.mh_msgfile.specs.Sentences.{token_names}
-use Rattle.mh_reader.proofs.Lines.{line_once, one_module}
-use Rattle.mh_top.specs.ModuleGrammars.{IsPlain}
-use Rattle.mh_top.specs.GrammarStage.{GrammarOf, IsGrammarStage, IsSyntaxFault, IsNotPlain, syntax_error}
-use Rattle.mh_top.specs.TableStage.{HasTooMany, HasTable, LoopsFirst, IsTableStage, loops_line}
-use Rattle.mh_top.specs.Work.{Work, Then, IsWork, IsWorkOfOrder, IsWorkOfFile, IsWorkOfGrammar, IsWorkOfTable, loaded}
-use Rattle.mh_top.specs.declared.order.Order.{Order}
+use Rattle.mh_front.proofs.OneGrammar.{one_grammar, one_fault, grammar_or_fault}
+use Rattle.mh_reader.specs.declared.modules.Module.{Module}
+use Rattle.mh_opts.specs.declared.order.Order.{Order}
+use Rattle.mh_top.specs.GrammarStage.{IsGrammarStage, refusal}
+use Rattle.mh_top.specs.TableStage.{HasTooMany, HasTable, AreTabled, LoopsFirst, IsTableStage, loops_line}
+use Rattle.mh_top.specs.Work.{Work, Plan, Then, IsWork, IsWorkOfOrder, IsWorkOfFiles, IsWorkOfModules, IsWorkOfGrammar, IsWorkOfTable, IsPlanOfJob, IsPlanUnless, has_warning, showing}
 use Rattle.mh_top.specs.declared.stop.Cause.{Cause}
+use Rattle.mh_top.specs.declared.tabled.Tabled.{Tabled}
+use Rattle.mh_top.proofs.Turns.{file_once}
 
 -- ---- a table
 
@@ -55,41 +62,35 @@ refusal_once g a b (inl p) (inr q) = absurd (q.0 p.0)
 refusal_once g a b (inr p) (inl q) = absurd (p.0 q.0)
 refusal_once g a b (inr p) (inr q) = loop_once g a b p.1 q.1
 
-not_refused : (g : Grammar) (t : TableData) (line : Text) → IsTableStage g (Go t) → Refusal g line → ⊥
-not_refused g t line go (inl p) = go.0 p.0
-not_refused g t line go (inr p) = loops_not g t line go.1 go.2 p.1
+has_table : (g : Grammar) (a : Automaton) (t : TableData) (conflicts : List Conflict) → AreTabled g a t conflicts → HasTable g t
+has_table g a t conflicts are = record { automaton = a; canonical = are.canonical; table = are.table }
 
-pub table_stage_once : (g : Grammar) (s s' : Staged TableData) → IsTableStage g s → IsTableStage g s' → s ≡ s'
-table_stage_once g (Go t) (Go u) p q = ap Go (table_once g t u p.1 q.1)
-table_stage_once g (Go t) (Halt cause line) p q = absurd (not_refused g t line p q.1)
-table_stage_once g (Halt cause line) (Go t) p q = absurd (not_refused g t line q p.1)
+not_refused : (g : Grammar) (tabled : Tabled) (line : Text) → IsTableStage g (Go tabled) → Refusal g line → ⊥
+not_refused g tabled line go (inl p) = go.0 p.0
+not_refused g tabled line go (inr p) = loops_not g tabled.halting line (has_table g tabled.automaton tabled.halting tabled.conflicts go.1) go.2 p.1
+
+tabled_once : (g : Grammar) (x y : Tabled) → AreTabled g x.automaton x.halting x.conflicts → AreTabled g y.automaton y.halting y.conflicts → x ≡ y
+tabled_once g x y p q =
+    let same : y.automaton ≡ x.automaton = one_canonical (plain_of g) y.automaton x.automaton q.canonical p.canonical in
+    let automaton : x.automaton ≡ y.automaton = sym same in
+    let halting : x.halting ≡ y.halting = one_table g x.automaton Canonical x.halting y.halting p.table (subst (λ (a : Automaton). IsTableOf g a Canonical y.halting) same q.table) in
+    let conflicts : x.conflicts ≡ y.conflicts = conflicts_once g x.automaton x.conflicts y.conflicts p.conflicts (subst (λ (a : Automaton). AreConflicts g a y.conflicts) same q.conflicts) in
+    λ i. record { automaton = automaton i; halting = halting i; conflicts = conflicts i }
+
+pub table_stage_once : (g : Grammar) (s s' : Staged Tabled) → IsTableStage g s → IsTableStage g s' → s ≡ s'
+table_stage_once g (Go x) (Go y) p q = ap Go (tabled_once g x y p.1 q.1)
+table_stage_once g (Go x) (Halt cause line) p q = absurd (not_refused g x line p q.1)
+table_stage_once g (Halt cause line) (Go y) p q = absurd (not_refused g y line q p.1)
 table_stage_once g (Halt cause line) (Halt cause' line') p q = ap₂ (λ (c : Cause) (l : Text). Halt c l) (p.0 ∙ sym q.0) (refusal_once g line line' p.1 q.1)
 
 -- ---- a grammar
 
-abbrev pub OneGrammar : Type 0
-OneGrammar = (bytes : Text) (g h : Grammar) → GrammarOf bytes g → GrammarOf bytes h → g ≡ h
-
-abbrev NoGrammar : Text → Text → Text → Type 0
-NoGrammar name bytes line = IsSyntaxFault name bytes line ⊎ IsNotPlain bytes line
-
-has_none : (name bytes : Text) (g : Grammar) (line : Text) → GrammarOf bytes g → NoGrammar name bytes line → ⊥
-has_none name bytes g line p (inl q) = q.spelled p.made p.spelled
-has_none name bytes g line p (inr q) =
-    let plain : IsPlain p.made = record { file = p.grammar.file; meaning = p.grammar.meaning; acceptable = p.grammar.grammar.acceptable } in
-    q.meaning (subst IsPlain (one_module bytes p.made q.made p.spelled q.spelled) plain)
-
-none_once : (name bytes a b : Text) → NoGrammar name bytes a → NoGrammar name bytes b → a ≡ b
-none_once name bytes a b (inl p) (inl q) = p.text_is ∙ ap (syntax_error name) (line_once bytes p.line q.line p.stops q.stops) ∙ sym q.text_is
-none_once name bytes a b (inl p) (inr q) = absurd (p.spelled q.made q.spelled)
-none_once name bytes a b (inr p) (inl q) = absurd (q.spelled p.made p.spelled)
-none_once name bytes a b (inr p) (inr q) = p.text_is ∙ sym q.text_is
-
-pub grammar_stage_once : OneGrammar → (name bytes : Text) (s s' : Staged Grammar) → IsGrammarStage name bytes s → IsGrammarStage name bytes s' → s ≡ s'
-grammar_stage_once once name bytes (Go g) (Go h) p q = ap Go (once bytes g h p q)
-grammar_stage_once once name bytes (Go g) (Halt cause line) p q = absurd (has_none name bytes g line p q.1)
-grammar_stage_once once name bytes (Halt cause line) (Go g) p q = absurd (has_none name bytes g line q p.1)
-grammar_stage_once once name bytes (Halt cause line) (Halt cause' line') p q = ap₂ (λ (c : Cause) (l : Text). Halt c l) (p.0 ∙ sym q.0) (none_once name bytes line line' p.1 q.1)
+pub grammar_stage_once : (prelude : Bool) (modules : List Module) (s s' : Staged Grammar) → IsGrammarStage prelude modules s → IsGrammarStage prelude modules s' → s ≡ s'
+grammar_stage_once prelude modules (Go g) (Go h) p q = ap Go (one_grammar prelude modules g h p q)
+grammar_stage_once prelude modules (Go g) (Halt cause line) p q = absurd (grammar_or_fault prelude modules g q.1.0 p q.1.1)
+grammar_stage_once prelude modules (Halt cause line) (Go g) p q = absurd (grammar_or_fault prelude modules g p.1.0 q p.1.1)
+grammar_stage_once prelude modules (Halt cause line) (Halt cause' line') p q =
+    ap₂ (λ (c : Cause) (l : Text). Halt c l) (p.0 ∙ sym q.0) (p.1.2 ∙ ap refusal (one_fault prelude modules p.1.0 q.1.0 p.1.1 q.1.1) ∙ sym q.1.2)
 
 -- ---- the work
 
@@ -100,19 +101,37 @@ then_once : {A : Type 0} (s : Staged A) (Next : A → Work → Type 0) → ((x :
 then_once (Go x) Next once w v p q = once x w v p q
 then_once (Halt cause line) Next once w v p q = p ∙ sym q
 
-table_work_once : (order : Order) (g : Grammar) (t : TableData) → IsOne (IsWorkOfTable order g t)
-table_work_once order g t w v p q = p ∙ sym q
+job_once : (job : Job) (trees : Bool) (g : Grammar) (tabled : Tabled) (x y : Plan) → IsPlanOfJob job trees g tabled x → IsPlanOfJob job trees g tabled y → x ≡ y
+job_once Interpret trees g tabled x y p q = p ∙ sym q
+job_once ShowAutomaton trees g tabled x y p q = p.2 ∙ ap showing (text_once g tabled.automaton Canonical tabled.halting p.0 q.0 p.1 q.1) ∙ sym q.2
+
+plan_once : (refused : Bool) (order : Order) (g : Grammar) (tabled : Tabled) (x y : Plan) → IsPlanUnless refused order g tabled x → IsPlanUnless refused order g tabled y → x ≡ y
+plan_once true order g tabled x y p q = p ∙ sym q
+plan_once false order g tabled x y p q = job_once order.job order.show_cst g tabled x y p q
+
+table_work_once : (order : Order) (g : Grammar) (tabled : Tabled) → IsOne (IsWorkOfTable order g tabled)
+table_work_once order g tabled w v p q =
+    let warnings : w.warnings ≡ v.warnings = p.0 ∙ sym q.0 in
+    let plan : w.plan ≡ v.plan = plan_once (order.strict && has_warning tabled.conflicts) order g tabled w.plan v.plan p.1 q.1 in
+    λ i. record { warnings = warnings i; plan = plan i }
 
 grammar_work_once : (order : Order) (g : Grammar) → IsOne (IsWorkOfGrammar order g)
 grammar_work_once order g w v p q =
     let same : q.0 ≡ p.0 = table_stage_once g q.0 p.0 q.1 p.1 in
-    then_once p.0 (IsWorkOfTable order g) (table_work_once order g) w v p.2 (subst (λ (s : Staged TableData). Then s (IsWorkOfTable order g) v) same q.2)
+    then_once p.0 (IsWorkOfTable order g) (table_work_once order g) w v p.2 (subst (λ (s : Staged Tabled). Then s (IsWorkOfTable order g) v) same q.2)
 
-file_work_once : OneGrammar → (order : Order) (bytes : Text) → IsOne (IsWorkOfFile order bytes)
-file_work_once once order bytes w v p q =
-    let same : q.0 ≡ p.0 = grammar_stage_once once order.file bytes q.0 p.0 q.1 p.1 in
+modules_work_once : (order : Order) (modules : List Module) → IsOne (IsWorkOfModules order modules)
+modules_work_once order modules w v p q =
+    let same : q.0 ≡ p.0 = grammar_stage_once order.stdlib modules q.0 p.0 q.1 p.1 in
     then_once p.0 (IsWorkOfGrammar order) (grammar_work_once order) w v p.2 (subst (λ (s : Staged Grammar). Then s (IsWorkOfGrammar order) v) same q.2)
 
+files_work_once : (files : Files) (order : Order) (modules : List Module) (names : List Text) → IsOne (IsWorkOfFiles (Some files) order modules names)
+files_work_once files order modules [] w v p q = modules_work_once order modules w v p q
+files_work_once files order modules (name ∷ names) w v p q =
+    let same : q.0 ≡ p.0 = file_once files name q.0 p.0 q.1 p.1 in
+    then_once p.0 (λ m. IsWorkOfFiles (Some files) order (modules ++ m ∷ []) names) (λ m. files_work_once files order (modules ++ m ∷ []) names) w v p.2
+    (subst (λ (s : Staged Module). Then s (λ m. IsWorkOfFiles (Some files) order (modules ++ m ∷ []) names) v) same q.2)
+
 -- The words ask for one work over the same files.
-pub work_once : OneGrammar → (words : List Text) (files : Files) (w v : Work) → IsWork words files w → IsWork words files v → w ≡ v
-work_once once words files w v p q = then_once (order_of words) (IsWorkOfOrder files) (λ order. then_once (loaded files order.file) (IsWorkOfFile order) (file_work_once once order)) w v p q
+pub work_once : (words : List Text) (files : Files) (w v : Work) → IsWork words (Some files) w → IsWork words (Some files) v → w ≡ v
+work_once words files w v p q = then_once (order_of words) (IsWorkOfOrder (Some files)) (λ order. files_work_once files order [] order.grammars) w v p q

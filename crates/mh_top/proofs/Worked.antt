@@ -5,21 +5,22 @@ use Rattle.std.specs.Prelude.{Bool, if◌then◌else◌, Result, Ok, Err}
 use Rattle.std.specs.Io.KnownBytes.{Appends}
 use Rattle.mh_outside.specs.Shelf.{Files}
 use Rattle.mh_outside.specs.Sink.{IsPrefix}
-use Rattle.mh_top.specs.Text.{Text, too_big_input, cannot_read}
+use Rattle.mh_top.specs.Text.{Text, too_big_input}
 use Rattle.mh_top.specs.Causes.{Staged, Go, Halt}
 use Rattle.mh_opts.specs.Orders as spelled
-use Rattle.mh_opts.specs.declared.order.Order.{Order as Spelled}
+use Rattle.mh_opts.specs.declared.order.Order.{Order}
+use Rattle.mh_reader.specs.declared.modules.Module.{Module}
 use Rattle.mh_opts.specs.declared.order.UsageFault.{UsageFault}
-use Rattle.mh_top.specs.Order.{order_of, order_by, order_for, is_known, staged}
+use Rattle.mh_top.specs.Order.{order_of, staged}
 use Rattle.mh_top.specs.Stages.{StageHas}
-use Rattle.mh_top.specs.Load.{LoadHas, LoadCounts}
+use Rattle.mh_top.specs.Load.{FilesHave, LoadCounts}
 use Rattle.mh_top.specs.Each.{Answered, AnsweredPart, EachRan, EachCounts, Finishes}
 use Rattle.mh_top.specs.Verdicts.{Answering, Answers}
-use Rattle.mh_top.specs.Work.{AsksEach, Work, Over, Then, IsWork, IsWorkOfOrder, IsWorkOfFile, halted, loaded, left_behind, line_limit, max_lines}
+use Rattle.mh_top.specs.FileStage.{IsFileLine}
+use Rattle.mh_top.specs.Work.{AsksEach, Work, Then, IsWork, IsWorkOfOrder, IsWorkOfModules, halted, left_behind, line_limit, max_lines}
 use Rattle.mh_top.specs.Run.{World, Worked, Parts, EndsSo, IsQuiet, LeftIs, MayEnd}
-use Rattle.mh_top.specs.declared.order.Order.{Order}
 use Rattle.mh_top.specs.declared.stop.Cause.{Cause}
-use Rattle.mh_top.specs.declared.stop.Cause.TheVariants.{Refused, Misused, TooBig}
+use Rattle.mh_top.specs.declared.stop.Cause.TheVariants.{Misused, TooBig}
 use Rattle.mh_top.specs.declared.stop.Stop.{Stop}
 use Rattle.mh_top.specs.declared.stop.Stop.TheVariants.{Halted, ShelfFailed, InputFailed, WriteFailed, OutOfMemory}
 
@@ -111,87 +112,53 @@ abbrev cause_or_misused : Staged Order → Cause
 cause_or_misused (Go order) = Misused
 cause_or_misused (Halt cause line) = cause
 
-files_misused : (trees : Bool) (files : List Text) → cause_or_misused (order_by trees files) ≡ Misused
-files_misused trees [] = refl
-files_misused trees (file ∷ []) = refl
-files_misused trees (file ∷ more ∷ files) = refl
-
-known_misused : (known : Bool) (order : Spelled) → cause_or_misused (order_for known order) ≡ Misused
-known_misused true order = files_misused order.show_cst order.grammars
-known_misused false order = refl
-
-staged_misused : (spelled : Result Spelled UsageFault) → cause_or_misused (staged spelled) ≡ Misused
-staged_misused (Ok order) = known_misused (is_known order) order
+staged_misused : (spelled : Result Order UsageFault) → cause_or_misused (staged spelled) ≡ Misused
+staged_misused (Ok order) = refl
 staged_misused (Err fault) = refl
 
 pub words_misused : (words : List Text) (cause : Cause) (line : Text) → order_of words ≡ Halt cause line → cause ≡ Misused
 words_misused words cause line is = ap cause_or_misused (sym is) ∙ staged_misused (spelled.order_of words)
 
--- ---- a file
+-- ---- the order
 
 may_misuse : (files : Option Files) → MayEnd files (Some Misused)
 may_misuse None = tt
 may_misuse (Some fs) = tt
 
-may_refuse : (files : Option Files) → MayEnd files (Some Refused)
-may_refuse None = tt
-may_refuse (Some fs) = tt
-
-over_next : (files : Option Files) (Here Next : Files → Type 0) → ((fs : Files) → Here fs → Next fs) → Over files Here → Over files Next
-over_next None Here Next next over = (over.0, next over.0 over.1)
-over_next (Some fs) Here Next next over = next fs over
-
-over_some : (files : Option Files) (Here : Files → Type 0) → ((fs : Files) → Here fs) → Over files Here
-over_some None Here here = ([], here [])
-over_some (Some fs) Here here = here fs
-
 -- the words went on to an order
-pub order_on : (words : List Text) (order : Order) (files : Option Files) (w : Work) → order_of words ≡ Go order → Over files (λ fs. IsWorkOfOrder fs order w) → Over files (λ fs. IsWork words fs w)
-order_on words order files w is over = over_next files (λ fs. IsWorkOfOrder fs order w) (λ fs. IsWork words fs w) (λ fs h. subst (λ (s : Staged Order). Then s (IsWorkOfOrder fs) w) (sym is) h) over
+pub order_on : (words : List Text) (order : Order) (files : Option Files) (w : Work) → order_of words ≡ Go order → IsWorkOfOrder files order w → IsWork words files w
+order_on words order files w is here = subst (λ (s : Staged Order). Then s (IsWorkOfOrder files) w) (sym is) here
 
-pub order_halts : (words : List Text) (files : Option Files) (cause : Cause) (line : Text) → order_of words ≡ Halt cause line → Over files (λ fs. IsWork words fs (halted cause line)) × MayEnd files (Some cause)
+pub order_halts : (words : List Text) (files : Option Files) (cause : Cause) (line : Text) → order_of words ≡ Halt cause line → IsWork words files (halted cause line) × MayEnd files (Some cause)
 order_halts words files cause line is = (
-  over_some files (λ fs. IsWork words fs (halted cause line)) (λ fs. subst (λ (s : Staged Order). Then s (IsWorkOfOrder fs) (halted cause line)) (sym is) refl),
+  subst (λ (s : Staged Order). Then s (IsWorkOfOrder files) (halted cause line)) (sym is) refl,
   subst (λ (c : Cause). MayEnd files (Some c)) (sym (words_misused words cause line is)) (may_misuse files),
 )
 
--- a file was read
-file_on : (order : Order) (bytes : Text) (files : Option Files) (w : Work) → Over files (λ fs. loaded fs order.file ≡ Go bytes) → IsWorkOfFile order bytes w → Over files (λ fs. IsWorkOfOrder fs order w)
-file_on order bytes files w over is = over_next files (λ fs. loaded fs order.file ≡ Go bytes) (λ fs. IsWorkOfOrder fs order w) (λ fs h. subst (λ (s : Staged Text). Then s (IsWorkOfFile order) w) (sym h) is) over
+-- ---- its files
 
 module _ (b : World) (order : Order) (files : Option Files) (n : ℕ) where
   abbrev m : World
   m = record b { files = files; shelf_faults = n }
 
   abbrev Asked : Work → Type 0
-  Asked w = Over b.files (λ fs. IsWorkOfOrder fs order w)
+  Asked = IsWorkOfOrder b.files order
 
-  pub load_halts : (name : Text) (stop : Stop) → name ≡ order.file → LoadHas b.files name (Err stop) → LoadCounts {A = Text} b.shelf_faults n (Err stop) → Worked Asked (λ line. line ≡ cannot_read order.file) b m (Err stop)
-  load_halts name (Halted cause line) same has counts =
-      halts Asked b m cause line
-      (over_next b.files (λ fs. loaded fs name ≡ Halt cause line) (λ fs. IsWorkOfOrder fs order (halted cause line)) (λ fs h. subst (λ (s : Staged Text). Then s (IsWorkOfFile order) (halted cause line)) (sym (ap (loaded fs) (sym same) ∙ h)) refl) has.1)
-      has.0
-      refl
-      refl
-      refl
-      (record { shelf = counts; input = refl; out = refl; err = refl })
-  load_halts name (ShelfFailed line) same has counts = (has ∙ ap cannot_read same, counts.1, refl, silent_parts Asked b m refl refl)
-  load_halts name OutOfMemory same has counts = (refl, silent_parts Asked b m refl refl)
-  load_halts name InputFailed same has counts = absurd counts
-  load_halts name WriteFailed same has counts = absurd counts
+  abbrev Names : Text → Type 0
+  Names = IsFileLine b.files order.grammars
 
-  -- the work on the bytes goes on in the world that the load left
-  pub load_on : (name bytes : Text) (a : World) (r : Result (Unit {0}) Stop) → name ≡ order.file → files ≡ b.files → n ≡ b.shelf_faults → Over b.files (λ fs. loaded fs name ≡ Go bytes) → Worked (IsWorkOfFile order bytes) (λ line. ⊥) m a r → Worked Asked (λ line. line ≡ cannot_read order.file) b a r
-  load_on name bytes a r same kept calm has worked =
-      wider (IsWorkOfFile order bytes) Asked (λ line. ⊥) (λ line. line ≡ cannot_read order.file)
-      (λ w is. file_on order bytes b.files w (over_next b.files (λ fs. loaded fs name ≡ Go bytes) (λ fs. loaded fs order.file ≡ Go bytes) (λ fs h. ap (loaded fs) (sym same) ∙ h) has) is)
-      (λ line none. absurd none)
-      b
-      a
-      r
-      (subst (λ (w : World). Worked (IsWorkOfFile order bytes) (λ line. ⊥) w a r) (ap₂ (λ (x : Option Files) (k : ℕ). record b { files = x; shelf_faults = k }) kept calm) worked)
+  pub files_halt : (stop : Stop) → FilesHave b.files order (Err stop) → LoadCounts {A = List Module} b.shelf_faults n (Err stop) → Worked Asked Names b m (Err stop)
+  files_halt (Halted cause line) has counts = halts Asked b m cause line has.1 has.0 refl refl refl (record { shelf = counts; input = refl; out = refl; err = refl })
+  files_halt (ShelfFailed line) has counts = (has, counts.1, refl, silent_parts Asked b m refl refl)
+  files_halt OutOfMemory has counts = (refl, silent_parts Asked b m refl refl)
+  files_halt InputFailed has counts = absurd counts
+  files_halt WriteFailed has counts = absurd counts
 
--- ---- a plan that asks for each line
+  -- the work on the modules goes on in the world that the reading left
+  pub files_on : (modules : List Module) (a : World) (r : Result (Unit {0}) Stop) → files ≡ b.files → n ≡ b.shelf_faults → ((w : Work) → IsWorkOfModules order modules w → Asked w) → Worked (IsWorkOfModules order modules) (λ line. ⊥) m a r → Worked Asked Names b a r
+  files_on modules a r kept calm has worked =
+      wider (IsWorkOfModules order modules) Asked (λ line. ⊥) Names has (λ line none. absurd none) b a r
+      (subst (λ (w : World). Worked (IsWorkOfModules order modules) (λ line. ⊥) w a r) (ap₂ (λ (x : Option Files) (k : ℕ). record b { files = x; shelf_faults = k }) kept calm) worked)
 
 module _ (b a : World) (warnings : Text) (answering : Answering) (on_err : Appends b.err a.err warnings) (shelf_calm : a.shelf_faults ≡ b.shelf_faults) (err_calm : a.err_faults ≡ b.err_faults) where
   abbrev work : Work

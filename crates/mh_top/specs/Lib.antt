@@ -5,14 +5,12 @@ pub mod Lines
 pub mod Stages
 pub mod Each
 pub mod Verdicts
+pub mod FileStage
 pub mod GrammarStage
 pub mod TableStage
 pub mod Work
+pub mod Modes
 pub mod Run
 pub mod Load
 pub mod Claims
-pub mod PlainModules
-pub mod PlainGrammars
-pub mod ModuleGrammars
-pub mod Places
 pub mod Exact

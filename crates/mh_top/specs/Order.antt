@@ -1,13 +1,12 @@
--- What the words of the command line mean: an order that is carried out, or misuse.
-use Rattle.std.specs.Prelude.{Bool, true, false, List, [], ◌∷◌, ◌&&◌, not, ◌≡◌, Result, Ok, Err}
+-- What the words of the command line mean: an order, or misuse.
+use Rattle.std.specs.Prelude.{List, ◌≡◌, Result, Ok, Err}
 use Rattle.mh_opts.specs.Orders as words
-use Rattle.mh_opts.specs.declared.order.Order.{Order as Spelled}
+use Rattle.mh_opts.specs.declared.order.Order.{Order}
 use Rattle.mh_opts.specs.declared.order.UsageFault.{UsageFault}
 use Rattle.mh_opts.specs.declared.order.UsageFault.TheVariants.{Parse, NoMode, TwoModes, Misplaced, NoGrammar, Memory}
 use Rattle.mh_top.specs.Text.{Text, bad_words, no_mode, two_modes, misplaced, no_grammar, out_of_memory}
 use Rattle.mh_top.specs.Causes.{Staged, Go, Halt}
 use Rattle.mh_top.specs.Stages.{Halts}
-use Rattle.mh_top.specs.declared.order.Order.{Order}
 use Rattle.mh_top.specs.declared.stop.Cause.TheVariants.{Misused}
 use Rattle.mh_top.specs.declared.stop.Stop.{Stop}
 use Rattle.mh_top.specs.declared.stop.Stop.TheVariants.{OutOfMemory}
@@ -21,21 +20,8 @@ usage_line (Misplaced option) = misplaced option
 usage_line NoGrammar = no_grammar
 usage_line Memory = out_of_memory
 
--- until several files are joined, one has a meaning
-abbrev pub order_by : Bool → List Text → Staged Order
-order_by trees (file ∷ []) = Go (record { file = file; trees = trees })
-order_by trees _ = Halt Misused bad_words
-
--- until the other orders are carried out, verdicts have a meaning, with trees or without
-abbrev pub is_known : Spelled → Bool
-is_known order = words.is_interpret order.job && not order.strict
-
-abbrev pub order_for : Bool → Spelled → Staged Order
-order_for false order = Halt Misused bad_words
-order_for true order = order_by order.show_cst order.grammars
-
-abbrev pub staged : Result Spelled UsageFault → Staged Order
-staged (Ok order) = order_for (is_known order) order
+abbrev pub staged : Result Order UsageFault → Staged Order
+staged (Ok order) = Go order
 staged (Err fault) = Halt Misused (usage_line fault)
 
 -- what the words ask for: the order that they spell, by clap's definition of the words that a command takes

@@ -31,9 +31,6 @@ too_big name = codes "menhir: too big: " ++ name ++ codes "\n"
 abbrev pub too_big_input : Text
 too_big_input = codes "menhir: too big: the input\n"
 
-abbrev pub not_plain : Text
-not_plain = codes "menhir: not plain\n"
-
 abbrev pub too_many_states : Text
 too_many_states = codes "menhir: too many states\n"
 

@@ -1,18 +1,30 @@
--- The whole work: what the words ask for over some files. Stages that are given by relations make it a relation.
-use Rattle.std.specs.Prelude.{◌≡◌, ℕ, Bool, false, List, [], ◌++◌, if◌then◌else◌, Option, None, Some}
+-- The whole work: what the words ask for over files. Stages that are given by relations make it a relation.
+use Rattle.std.specs.Prelude.{◌≡◌, ℕ, Bool, true, false, ◌&&◌, List, [], ◌∷◌, ◌++◌, if◌then◌else◌, Option, None, Some}
+use Rattle.std.specs.List.{list_any}
 use Rattle.mh_grammar.specs.declared.types.Grammar.{Grammar}
 use Rattle.mh_tables.specs.Table.{TableData}
-use Rattle.mh_outside.specs.Shelf.{Files, Found, found, NoFile, Long, Bytes}
-use Rattle.mh_top.specs.Text.{Text, cannot_read, too_big, too_big_input}
+use Rattle.mh_resolve.specs.declared.kinds.ConflictKind.{ConflictKind}
+use Rattle.mh_resolve.specs.declared.kinds.ConflictKind.TheVariants.{Solved, Unsolved, Stream}
+use Rattle.mh_resolve.specs.declared.kinds.Mode.TheVariants.{Canonical}
+use Rattle.mh_resolve.specs.declared.conflicts.Conflict.{Conflict}
+use Rattle.mh_report.specs.Automata.{IsAutomatonText}
+use Rattle.mh_report.specs.Warnings.{warning_lines}
+use Rattle.mh_opts.specs.declared.order.Job.{Job}
+use Rattle.mh_opts.specs.declared.order.Job.TheVariants.{Interpret, ShowAutomaton}
+use Rattle.mh_opts.specs.declared.order.Order.{Order}
+use Rattle.mh_reader.specs.declared.modules.Module.{Module}
+use Rattle.mh_outside.specs.Shelf.{Files}
+use Rattle.mh_top.specs.Text.{Text, too_big_input}
 use Rattle.mh_top.specs.Causes.{Staged, Go, Halt}
 use Rattle.mh_top.specs.Order.{order_of}
 use Rattle.mh_top.specs.Each.{Asks}
 use Rattle.mh_top.specs.Verdicts.{Answering, Answers}
+use Rattle.mh_top.specs.FileStage.{IsFileStage}
 use Rattle.mh_top.specs.GrammarStage.{IsGrammarStage}
 use Rattle.mh_top.specs.TableStage.{IsTableStage}
-use Rattle.mh_top.specs.declared.order.Order.{Order}
 use Rattle.mh_top.specs.declared.stop.Cause.{Cause}
-use Rattle.mh_top.specs.declared.stop.Cause.TheVariants.{Missing, TooBig}
+use Rattle.mh_top.specs.declared.stop.Cause.TheVariants.{Refused, TooBig}
+use Rattle.mh_top.specs.declared.tabled.Tabled.{Tabled}
 
 -- ---- plans
 
@@ -41,46 +53,64 @@ abbrev pub Then : {A : Type 0} → Staged A → (A → Work → Type 0) → Work
 Then (Go x) Next w = Next x w
 Then (Halt cause line) Next w = w ≡ halted cause line
 
-abbrev pub file_limit : ℕ
-file_limit = 16777216
+-- a conflict that levels do not solve is warned of
+abbrev pub is_warned : ConflictKind → Bool
+is_warned Solved = false
+is_warned Unsolved = true
+is_warned Stream = true
 
-abbrev pub loaded_from : Text → Found → Staged Text
-loaded_from name NoFile = Halt Missing (cannot_read name)
-loaded_from name Long = Halt TooBig (too_big name)
-loaded_from name (Bytes bytes) = Go bytes
+abbrev pub has_warning : List Conflict → Bool
+has_warning conflicts = list_any (λ c. is_warned c.kind) conflicts
 
--- the bytes of a file
-abbrev pub loaded : Files → Text → Staged Text
-loaded files name = loaded_from name (found files name file_limit)
+-- the grammar is refused for its conflicts: no line stands behind the warnings
+abbrev pub refusing : Plan
+refusing = Ends (record { cause = Some Refused; out = []; err = [] })
 
 -- the verdicts of the input's lines, with trees or without
-abbrev pub answering : Bool → Grammar → TableData → Work
-answering trees g t = record { warnings = []; plan = AsksEach (record { trees = trees; grammar = g; table = t }) }
+abbrev pub answering : Bool → Grammar → TableData → Plan
+answering trees g t = AsksEach (record { trees = trees; grammar = g; table = t })
 
--- the verdicts alone
-abbrev pub interpreting : Grammar → TableData → Work
-interpreting g t = answering false g t
+-- this text alone
+abbrev pub showing : Text → Plan
+showing text = Ends (record { cause = None; out = text; err = [] })
 
-abbrev pub IsWorkOfTable : Order → Grammar → TableData → Work → Type 0
-IsWorkOfTable order g t w = w ≡ answering order.trees g t
+-- the plan of a mode
+abbrev pub IsPlanOfJob : Job → Bool → Grammar → Tabled → Plan → Type 0
+IsPlanOfJob Interpret trees g tabled plan = plan ≡ answering trees g tabled.halting
+IsPlanOfJob ShowAutomaton trees g tabled plan = (text : Text) × IsAutomatonText g tabled.automaton Canonical tabled.halting text × (plan ≡ showing text)
+
+-- or that of a refusal
+abbrev pub IsPlanUnless : Bool → Order → Grammar → Tabled → Plan → Type 0
+IsPlanUnless true order g tabled plan = plan ≡ refusing
+IsPlanUnless false order g tabled plan = IsPlanOfJob order.job order.show_cst g tabled plan
+
+-- under `--strict` a grammar is refused for what is warned of
+abbrev pub IsPlanOf : Order → Grammar → Tabled → Plan → Type 0
+IsPlanOf order g tabled plan = IsPlanUnless (order.strict && has_warning tabled.conflicts) order g tabled plan
+
+-- the warnings, and then the mode
+abbrev pub IsWorkOfTable : Order → Grammar → Tabled → Work → Type 0
+IsWorkOfTable order g tabled w = (w.warnings ≡ warning_lines g tabled.conflicts) × IsPlanOf order g tabled w.plan
 
 abbrev pub IsWorkOfGrammar : Order → Grammar → Work → Type 0
-IsWorkOfGrammar order g w = (s : Staged TableData) × IsTableStage g s × Then s (IsWorkOfTable order g) w
+IsWorkOfGrammar order g w = (s : Staged Tabled) × IsTableStage g s × Then s (IsWorkOfTable order g) w
 
--- the work on the order's file, of these bytes
-abbrev pub IsWorkOfFile : Order → Text → Work → Type 0
-IsWorkOfFile order bytes w = (s : Staged Grammar) × IsGrammarStage order.file bytes s × Then s (IsWorkOfGrammar order) w
+-- the work on the modules of all files
+abbrev pub IsWorkOfModules : Order → List Module → Work → Type 0
+IsWorkOfModules order modules w = (s : Staged Grammar) × IsGrammarStage order.stdlib modules s × Then s (IsWorkOfGrammar order) w
 
-abbrev pub IsWorkOfOrder : Files → Order → Work → Type 0
-IsWorkOfOrder files order w = Then (loaded files order.file) (IsWorkOfFile order) w
+-- the work on these files, each read and spelled before the next, behind those that spell these modules
+abbrev pub IsWorkOfFiles : Option Files → Order → List Module → List Text → Work → Type 0
+IsWorkOfFiles files order modules [] w = IsWorkOfModules order modules w
+IsWorkOfFiles files order modules (name ∷ names) w =
+    (s : Staged Module) × IsFileStage files name s × Then s (λ m. IsWorkOfFiles files order (modules ++ m ∷ []) names) w
 
-abbrev pub IsWork : List Text → Files → Work → Type 0
+abbrev pub IsWorkOfOrder : Option Files → Order → Work → Type 0
+IsWorkOfOrder files order w = IsWorkOfFiles files order [] order.grammars w
+
+-- the work that the words ask for, over these files, or over some where they are not told
+abbrev pub IsWork : List Text → Option Files → Work → Type 0
 IsWork words files w = Then (order_of words) (IsWorkOfOrder files) w
-
--- the files that are told, or some files
-abbrev pub Over : Option Files → (Files → Type 0) → Type 0
-Over None Holds = (files : Files) × Holds files
-Over (Some files) Holds = Holds files
 
 -- ---- what comes out
 

@@ -1,6 +1,6 @@
 //! Files are read from a shelf.
 ghost use Rattle.std.specs.Prelude.{◌≡◌, ◌≤◌, IfOk, length};
-ghost use Rattle.mh_top.specs.Work.{file_limit};
+ghost use Rattle.mh_top.specs.FileStage.{file_limit};
 ghost use Rattle.mh_top.specs.Load.{LoadHas, LoadCounts};
 
 use crate::stop::{Cause, Stop, halted, joined};

@@ -1,22 +1,12 @@
 //! The words of the command line.
 ghost use Rattle.std.specs.Prelude.{◌≡◌, map, string_bytes};
-ghost use Rattle.mh_top.specs.Order.{HaltsBy, is_known as is_known_order, order_by, order_of};
+ghost use Rattle.mh_top.specs.Order.{HaltsBy, order_of};
 ghost use Rattle.mh_top.specs.Stages.{Halts, StageIs};
-ghost use Rattle.mh_top.specs.Text.{bad_words as bad_words_line};
 ghost use Rattle.mh_top.specs.declared.stop.Cause.TheVariants.{Misused};
 
 use crate::stop::{Cause, Stop, halted};
-use mh_grammar::{Name, from_bytes};
-use mh_opts::{Job, UsageFault, read_words};
+use mh_opts::{Order, UsageFault, read_words};
 use std::alloc::Global;
-
-/// What the words ask for: the verdicts of the input's lines, by the grammar of this file.
-#[derive(Drop)]
-pub(crate) struct Order {
-    pub(crate) file: Name,
-    /// Whether what is accepted has its tree.
-    pub(crate) trees: bool,
-}
 
 fn misused(alloc: Global, line: &[u8]) -> Stop
     ensures { Halts Misused line.now result }
@@ -24,18 +14,12 @@ fn misused(alloc: Global, line: &[u8]) -> Stop
     halted(alloc, Cause::Misused, line, b"", b"")
 }
 
-fn bad_words(alloc: Global) -> Stop
-    ensures { Halts Misused bad_words_line result }
-{
-    misused(alloc, b"menhir: usage: bad words\n")
-}
-
 /// Why the words are no order.
 fn usage(alloc: Global, fault: &UsageFault) -> Stop
     ensures { HaltsBy fault.now result }
 {
     match fault {
-        UsageFault::Parse => bad_words(alloc),
+        UsageFault::Parse => misused(alloc, b"menhir: usage: bad words\n"),
         UsageFault::NoMode => misused(alloc, b"menhir: usage: no mode\n"),
         UsageFault::TwoModes => misused(alloc, b"menhir: usage: two modes\n"),
         UsageFault::Misplaced { option } => halted(
@@ -50,36 +34,12 @@ fn usage(alloc: Global, fault: &UsageFault) -> Stop
     }
 }
 
-fn is_known(order: &mh_opts::Order) -> bool
-    ensures { result ≡ is_known_order order.now }
-{
-    order.job == Job::Interpret && !order.strict
-}
-
-fn order_with(alloc: Global, trees: bool, files: &[Name]) -> Result<Order, Stop>
-    ensures { StageIs (order_by trees files.now) result }
-{
-    match files {
-        [file] => {
-            let file = from_bytes(alloc, file.as_slice())?;
-            Ok(Order { file, trees })
-        }
-        _ => Err(bad_words(alloc)),
-    }
-}
-
-/// The order that the words spell. Until several files are joined, an order names one.
+/// The order that the words spell.
 pub(crate) fn order_in(alloc: Global, words: &[String]) -> Result<Order, Stop>
     ensures { StageIs (order_of (map string_bytes words.now)) result }
 {
     match read_words(alloc, words) {
-        Ok(order) => {
-            if is_known(&order) {
-                order_with(alloc, order.show_cst, order.grammars.as_slice())
-            } else {
-                Err(bad_words(alloc))
-            }
-        }
+        Ok(order) => Ok(order),
         Err(fault) => Err(usage(alloc, &fault)),
     }
 }

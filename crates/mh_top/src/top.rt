@@ -1,43 +1,24 @@
 //! All that the program does.
-ghost use Rattle.std.specs.Prelude.{◌≡◌, ◌<◌, ◌^◌, length, map, string_bytes};
+ghost use Rattle.std.specs.Prelude.{◌≡◌, map, string_bytes};
 ghost use Rattle.mh_grammar.specs.Plain.{plain_of, IsInRange};
-ghost use Rattle.mh_top.specs.Text.{cannot_read};
-ghost use Rattle.mh_top.specs.Work.{IsWorkOfTable, IsWorkOfGrammar, IsWorkOfFile, IsWorkOfOrder, Over};
-ghost use Rattle.mh_top.specs.Claims.{AskedBy, FileOf, Keeps};
+ghost use Rattle.mh_join.specs.Ready.{HaveAlternatives};
+ghost use Rattle.mh_top.specs.FileStage.{IsFileLine};
+ghost use Rattle.mh_top.specs.Work.{IsWorkOfGrammar, IsWorkOfModules, IsWorkOfOrder, IsWork};
+ghost use Rattle.mh_top.specs.Claims.{FileOf, Keeps};
 ghost use Rattle.mh_top.specs.Exact.{AcceptsExactly, RejectsRightly, OvershootsRightly, AcceptsRightly};
 ghost use Rattle.mh_top.specs.Run.{world, Worked, Ran, Reported, Says};
 
+use crate::files::read_files;
 use crate::grammar::grammar_in;
-use crate::interpret::interpret;
-use crate::load::load;
-use crate::order::{Order, order_in};
+use crate::modes::work_on_table;
+use crate::order::order_in;
 use crate::stop::Stop;
 use crate::tabled::table_of;
 use mh_grammar::Grammar;
+use mh_opts::Order;
 use mh_outside::{Shelf, Sink, Source, write_whole};
-use mh_tables::Halting;
+use mh_reader::Module;
 use std::alloc::Global;
-
-/// The work on a table.
-fn work_on_table<F: Shelf, I: Source, O: Sink, E: Sink>(
-    alloc: Global,
-    order: &Order,
-    grammar: Grammar,
-    halting: Halting,
-    _shelf: &mut F,
-    input: &mut I,
-    out: &mut O,
-    _err: &mut E,
-) -> Result<(), Stop>
-    requires same { halting.grammar ≡ plain_of grammar }
-    requires range { IsInRange (plain_of grammar) }
-    ensures { Worked (IsWorkOfTable order.now grammar halting) (λ line. ⊥)
-        (world F.files F.faults I.left I.faults O.written O.faults E.written E.faults _shelf.old input.old out.old _err.old)
-        (world F.files F.faults I.left I.faults O.written O.faults E.written E.faults _shelf.new input.new out.new _err.new)
-        result }
-{
-    interpret(alloc, order.trees, grammar, halting, input, out)
-}
 
 /// The work on a grammar.
 fn work_on_grammar<F: Shelf, I: Source, O: Sink, E: Sink>(
@@ -56,28 +37,28 @@ fn work_on_grammar<F: Shelf, I: Source, O: Sink, E: Sink>(
         result }
 {
     match table_of(alloc, &grammar) {
-        Ok(halting) => work_on_table(alloc, order, grammar, halting, shelf, input, out, err),
+        Ok(tabled) => work_on_table(alloc, order, grammar, tabled, shelf, input, out, err),
         Err(stop) => Err(stop),
     }
 }
 
-/// The work on the order's file, of these bytes.
-fn work_on_file<F: Shelf, I: Source, O: Sink, E: Sink>(
+/// The work on the modules of all files.
+fn work_on_modules<F: Shelf, I: Source, O: Sink, E: Sink>(
     alloc: Global,
     order: &Order,
-    bytes: &[u8],
+    modules: &[Module],
     shelf: &mut F,
     input: &mut I,
     out: &mut O,
     err: &mut E,
 ) -> Result<(), Stop>
-    requires { length bytes.now < 2 ^ 31 }
-    ensures { Worked (IsWorkOfFile order.now bytes.now) (λ line. ⊥)
+    requires { HaveAlternatives modules.now }
+    ensures { Worked (IsWorkOfModules order.now modules.now) (λ line. ⊥)
         (world F.files F.faults I.left I.faults O.written O.faults E.written E.faults shelf.old input.old out.old err.old)
         (world F.files F.faults I.left I.faults O.written O.faults E.written E.faults shelf.new input.new out.new err.new)
         result }
 {
-    match grammar_in(alloc, order.file.as_slice(), bytes) {
+    match grammar_in(alloc, modules, order.stdlib) {
         Ok(grammar) => work_on_grammar(alloc, order, grammar, shelf, input, out, err),
         Err(stop) => Err(stop),
     }
@@ -92,13 +73,13 @@ fn work_on_order<F: Shelf, I: Source, O: Sink, E: Sink>(
     out: &mut O,
     err: &mut E,
 ) -> Result<(), Stop>
-    ensures { Worked (λ w. Over (F.files shelf.old) (λ files. IsWorkOfOrder files order.now w)) (λ line. line ≡ cannot_read order.now.file)
+    ensures { Worked (IsWorkOfOrder (F.files shelf.old) order.now) (IsFileLine (F.files shelf.old) order.now.grammars)
         (world F.files F.faults I.left I.faults O.written O.faults E.written E.faults shelf.old input.old out.old err.old)
         (world F.files F.faults I.left I.faults O.written O.faults E.written E.faults shelf.new input.new out.new err.new)
         result }
 {
-    match load(alloc, shelf, order.file.as_slice()) {
-        Ok(bytes) => work_on_file(alloc, order, &bytes, shelf, input, out, err),
+    match read_files(alloc, shelf, order) {
+        Ok(modules) => work_on_modules(alloc, order, &modules, shelf, input, out, err),
         Err(stop) => Err(stop),
     }
 }
@@ -112,7 +93,7 @@ fn work<F: Shelf, I: Source, O: Sink, E: Sink>(
     out: &mut O,
     err: &mut E,
 ) -> Result<(), Stop>
-    ensures { Worked (AskedBy (map string_bytes words.now) (F.files shelf.old)) (FileOf (map string_bytes words.now))
+    ensures { Worked (IsWork (map string_bytes words.now) (F.files shelf.old)) (FileOf (map string_bytes words.now) (F.files shelf.old))
         (world F.files F.faults I.left I.faults O.written O.faults E.written E.faults shelf.old input.old out.old err.old)
         (world F.files F.faults I.left I.faults O.written O.faults E.written E.faults shelf.new input.new out.new err.new)
         result }
@@ -155,7 +136,7 @@ fn run<F: Shelf, I: Source, O: Sink, E: Sink>(
     out: &mut O,
     err: &mut E,
 ) -> u8
-    ensures ran { Ran (AskedBy (map string_bytes words.now) (F.files shelf.old)) (FileOf (map string_bytes words.now))
+    ensures ran { Ran (IsWork (map string_bytes words.now) (F.files shelf.old)) (FileOf (map string_bytes words.now) (F.files shelf.old))
         (world F.files F.faults I.left I.faults O.written O.faults E.written E.faults shelf.old input.old out.old err.old)
         (world F.files F.faults I.left I.faults O.written O.faults E.written E.faults shelf.new input.new out.new err.new)
         result }
@@ -186,7 +167,7 @@ pub fn menhir<F: Shelf, I: Source, O: Sink, E: Sink>(
     ensures overshoots { OvershootsRightly (map string_bytes words.now) (F.files shelf.old) }
     ensures accepts { AcceptsRightly (map string_bytes words.now) (F.files shelf.old) }
     // How each run ended, in one piece.
-    ensures ran { Ran (AskedBy (map string_bytes words.now) (F.files shelf.old)) (FileOf (map string_bytes words.now))
+    ensures ran { Ran (IsWork (map string_bytes words.now) (F.files shelf.old)) (FileOf (map string_bytes words.now) (F.files shelf.old))
         (world F.files F.faults I.left I.faults O.written O.faults E.written E.faults shelf.old input.old out.old err.old)
         (world F.files F.faults I.left I.faults O.written O.faults E.written E.faults shelf.new input.new out.new err.new) result }
 {

@@ -1,10 +1,9 @@
 use Rattle.mh_top.proofs.Once.{work_once}
-use Rattle.mh_top.proofs.OneGrammar.{one_grammar}
 use Rattle.mh_top.proofs.OneOutcome.{one_outcome}
 use Rattle.mh_top.proofs.laws.work_is_one.Goals as goal
 
 pub returns-clause-work : goal.returns-clause-work
-returns-clause-work c = work_once one_grammar
+returns-clause-work c = work_once
 
 pub returns-clause-outcome : goal.returns-clause-outcome
 returns-clause-outcome c = one_outcome

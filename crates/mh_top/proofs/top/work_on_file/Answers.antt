@@ -1,8 +1,0 @@
-use Rattle.mh_top.proofs.Steps.{grammar_halts, grammar_on}
-use Rattle.mh_top.proofs.top.work_on_file.Goals as goal
-
-pub returns-in-Ok : goal.returns-in-Ok
-returns-in-Ok g c = grammar_on c.args.order.now _ c.args.bytes.now c.in-Ok.grammar _ _ c.work_on_grammar.result c.as_slice.ensures c.in-Ok.ensures.grammar c.work_on_grammar.ensures
-
-pub returns-in-Err : goal.returns-in-Err
-returns-in-Err g c = grammar_halts c.args.order.now _ c.args.bytes.now _ c.in-Err.stop c.as_slice.ensures c.in-Err.ensures.grammar
