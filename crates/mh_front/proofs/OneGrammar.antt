@@ -1,5 +1,5 @@
 -- Modules give one grammar or one first fault, and the numbers of the grammar are in range.
-use Rattle.std.proofs.Common.{◌≡◌, ◌<◌, ◌⊎◌, Bool, true, false, List, [], ◌∷◌, ◌++◌, None, Some, Ok, map, flat_map, length, refl, sym, ap, subst, ◌∙◌, inl, inr, arith}
+use Rattle.std.proofs.Common.{◌≡◌, ◌<◌, ◌⊎◌, Bool, List, [], ◌∷◌, ◌++◌, None, Some, Ok, flat_map, length, refl, sym, ap, subst, ◌∙◌, inl, inr, arith}
 use Rattle.std.proofs.lemmas.List.{length-map}
 use Rattle.mh_grammar.specs.declared.types.Grammar.{Grammar}
 use Rattle.mh_grammar.specs.Numbering.{AreDistinct}
@@ -16,8 +16,7 @@ use Rattle.mh_join.proofs.Readying as joins
 use Rattle.mh_join.proofs.Resolving.{front_nil, back_nil}
 use Rattle.mh_expand.specs.declared.fault.ExpandFault.{ExpandFault}
 use Rattle.mh_expand.specs.declared.fault.ExpandFault.TheVariants as expanding
-use Rattle.mh_expand.specs.declared.instances.Expanded.{Expanded}
-use Rattle.mh_expand.specs.Expansion.{IsExpanded, IsFirstFault}
+use Rattle.mh_expand.specs.Expansion.{IsFirstFault}
 use Rattle.mh_expand.specs.Ready.{IsExpandedReady}
 use Rattle.mh_expand.proofs.Few.{few_instances}
 use Rattle.mh_expand.proofs.Order as order
@@ -94,9 +93,9 @@ module _ (j : Joined) where
   joined_or_fault g f a b = elim (stage j f b) [
     | inl x ↦ order.no_fault j a.expanded a.expands x.fault x.first
     | inr x ↦ (
-      let same = order.one_expanded j x.faulty.expanded a.expanded x.faulty.expands a.expands in
-      only.no_fault a.expanded g x.fault a.grammar (subst (λ e. IsFault e x.fault) same x.faulty.faulty) x.told
-    )
+        let same = order.one_expanded j x.faulty.expanded a.expanded x.faulty.expands a.expands in
+        only.no_fault a.expanded g x.fault a.grammar (subst (λ e. IsFault e x.fault) same x.faulty.faulty) x.told
+        )
   ]
 
 -- OF MODULES
@@ -140,9 +139,9 @@ module _ (p : Bool) (ms : List Module) where
     | inr x ↦ elim (stage_of_modules f b) [
       | inl y ↦ absurd (no_join_fault x.joined y.fault x.joins y.is_first)
       | inr y ↦ (
-        let same = joins.one_joined p ms y.joined x.joined y.joins x.joins in
-        one_joined_fault x.joined e f x.faulty (subst (λ j. IsJoinedFault j f) same y.faulty)
-      )
+          let same = joins.one_joined p ms y.joined x.joined y.joins x.joins in
+          one_joined_fault x.joined e f x.faulty (subst (λ j. IsJoinedFault j f) same y.faulty)
+          )
     ]
   ]
 
@@ -150,9 +149,9 @@ module _ (p : Bool) (ms : List Module) where
   grammar_or_fault g f a b = elim (stage_of_modules f b) [
     | inl x ↦ no_join_fault a.joined x.fault a.joins x.is_first
     | inr x ↦ (
-      let same = joins.one_joined p ms x.joined a.joined x.joins a.joins in
-      joined_or_fault a.joined g f a.grammar (subst (λ j. IsJoinedFault j f) same x.faulty)
-    )
+        let same = joins.one_joined p ms x.joined a.joined x.joins a.joins in
+        joined_or_fault a.joined g f a.grammar (subst (λ j. IsJoinedFault j f) same x.faulty)
+        )
   ]
 
   -- WHAT THE GRAMMAR HAS

@@ -1,5 +1,5 @@
 -- The fault of a stage is the fault of the whole.
-use Rattle.std.proofs.Common.{◌≡◌, Bool, List, Some, Ok, Err, inl, inr}
+use Rattle.std.proofs.Common.{Bool, List, Ok, Err, inl, inr}
 use Rattle.mh_reader.specs.declared.modules.Module.{Module}
 use Rattle.mh_join.specs.declared.fault.JoinFault.{JoinFault}
 use Rattle.mh_join.specs.declared.fault.JoinFault.TheVariants as joining
@@ -15,7 +15,7 @@ use Rattle.mh_inline.specs.declared.fault.InlineFault.TheVariants as inlining
 use Rattle.mh_inline.specs.Faults.{IsFault}
 use Rattle.mh_front.specs.declared.fault.GrammarFault.{GrammarFault}
 use Rattle.mh_front.specs.declared.fault.GrammarFault.TheVariants.{Undefined, Duplicate, NoStart, ErrorToken, UnknownLevel, TooManyTokens, Arity, Expansion, InlineCycle, InlineStart, TooManyProductions, EmptyLanguage, Memory}
-use Rattle.mh_front.specs.Stages.{Causes, of_join, of_expand, of_inline, IsJoinedFault, IsInstancesFault, IsGrammarFault, IsLaterFault}
+use Rattle.mh_front.specs.Stages.{Causes, of_join, of_expand, of_inline, IsJoinedFault, IsGrammarFault}
 
 pub join_fault : (p : Bool) (ms : List Module) (f : JoinFault) → Joins p ms (Err f) → Causes (IsGrammarFault p ms) (of_join f)
 join_fault p ms (joining.Undefined name) (inl e) = cc

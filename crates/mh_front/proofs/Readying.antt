@@ -1,5 +1,5 @@
 -- Joined rules are ready for expansion.
-use Rattle.std.proofs.Common.{◌≤◌, length, arith}
+use Rattle.std.proofs.Common.{arith}
 use Rattle.mh_join.specs.declared.joined.Joined.{Joined}
 use Rattle.mh_join.specs.Ready as join
 use Rattle.mh_expand.specs.Ready as expand

@@ -10,7 +10,11 @@ use std::test::Fail;
 
 /// A number below 10 as its digit, and a greater one as `?`.
 fn digit(number: u16) -> u8 {
-    if number < 10 { b'0' + number as u8 } else { b'?' }
+    if number < 10 {
+        b'0' + number as u8
+    } else {
+        b'?'
+    }
 }
 
 fn push_symbol(out: &mut Vec<u8>, symbol: Symbol) -> Result<(), Memory> {
@@ -124,7 +128,10 @@ fn one_token_too_many(rt: HostRuntime) -> Result<(), Fail> {
         text.push_str(&name)?;
     }
     text.push_str(" %start s %% s: T0 {}")?;
-    assert_eq!(rt; answer(alloc, &text, true)?.as_slice(), b"too many tokens: 257".as_slice());
+    assert_eq!(rt;
+        answer(alloc, &text, true)?.as_slice(),
+        b"too many tokens: 257".as_slice()
+    );
     Ok(())
 }
 
@@ -139,7 +146,10 @@ fn one_production_too_long(rt: HostRuntime) -> Result<(), Fail> {
         let rule = format!(in alloc; " %inline x{number}: x{below} x{below} {{}}")?;
         text.push_str(&rule)?;
     }
-    assert_eq!(rt; answer(alloc, &text, true)?.as_slice(), b"too many productions".as_slice());
+    assert_eq!(rt;
+        answer(alloc, &text, true)?.as_slice(),
+        b"too many productions".as_slice()
+    );
     Ok(())
 }
 
