@@ -1,22 +1,29 @@
 //! Files and what they give together, worked out by hand.
 ghost use Rattle.std.specs.Prelude.{◌<◌, ◌^◌, length};
 
+use crate::laws::{is_one_fault, is_one_joined};
+use crate::prelude::prelude_rules;
 use crate::{Applied, Head, JoinFault, Joined, JoinedAlternative, JoinedRule, Prec, join};
 use mh_grammar::Name;
-use mh_reader::{Module, read_module};
+use mh_reader::{Actual, Module, Ref, Rule, read_module};
 use std::alloc::{AllocError, Global};
 use std::test::Fail;
+
+/// The module that a short text spells.
+fn module_of(alloc: Global, text: &[u8]) -> Option<Module> {
+    if text.len() >= 10_000 {
+        return None;
+    }
+    read_module(alloc, text).ok()
+}
 
 /// The modules of texts with `#` between them, which all spell one.
 fn modules_of(alloc: Global, texts: &str) -> Result<Option<Vec<Module>>, AllocError> {
     let mut modules = Vec::new(alloc);
     for text in texts.split('#') {
-        if text.len() >= 1000 {
-            return Ok(None);
-        }
-        match read_module(alloc, text.as_bytes()) {
-            Ok(found) => modules.push(found)?,
-            Err(_) => return Ok(None),
+        match module_of(alloc, text.as_bytes()) {
+            Some(found) => modules.push(found)?,
+            None => return Ok(None),
         }
     }
     Ok(Some(modules))
@@ -39,6 +46,14 @@ fn push_digit(out: &mut Vec<u8>, number: u64) -> Result<(), AllocError> {
     Ok(())
 }
 
+/// A number below 100.
+fn push_number(out: &mut Vec<u8>, number: u64) -> Result<(), AllocError> {
+    if number >= 10 {
+        push_digit(out, number / 10)?;
+    }
+    push_digit(out, number % 10)
+}
+
 fn push_applied(out: &mut Vec<u8>, applied: &Applied) -> Result<(), AllocError> {
     match applied.head {
         Head::Formal(number) => {
@@ -51,7 +66,7 @@ fn push_applied(out: &mut Vec<u8>, applied: &Applied) -> Result<(), AllocError> 
         }
         Head::Rule(number) => {
             out.push(b'r')?;
-            push_digit(out, number)?;
+            push_number(out, number)?;
         }
     }
     if !applied.args.is_empty() {
@@ -67,7 +82,7 @@ fn push_applied(out: &mut Vec<u8>, applied: &Applied) -> Result<(), AllocError> 
 fn push_alternative(out: &mut Vec<u8>, alternative: &JoinedAlternative) -> Result<(), AllocError> {
     push_digit(out, alternative.file)?;
     out.push(b'.')?;
-    push_digit(out, alternative.place)?;
+    push_number(out, alternative.place)?;
     for producer in alternative.producers.as_slice() {
         out.push(b' ')?;
         push_applied(out, producer)?;
@@ -98,7 +113,19 @@ fn push_rule(out: &mut Vec<u8>, rule: &JoinedRule) -> Result<(), AllocError> {
     Ok(())
 }
 
-/// The tokens, starts, on-error declarations and rules in short.
+/// Whether a rule is the prelude's and has its own name.
+fn is_plain_prelude(rule: &JoinedRule) -> bool {
+    let mut is_of_files = rule.alternatives.is_empty();
+    for alternative in rule.alternatives.as_slice() {
+        is_of_files = is_of_files || alternative.file > 0;
+    }
+    for byte in rule.name.as_slice() {
+        is_of_files = is_of_files || *byte == b'@';
+    }
+    !is_of_files
+}
+
+/// The tokens, starts, on-error declarations and rules in short. Of the prelude's rules only those that a file's hide.
 fn push_joined(out: &mut Vec<u8>, joined: &Joined) -> Result<(), AllocError> {
     for token in joined.tokens.as_slice() {
         push_text(out, token.name.as_slice())?;
@@ -121,7 +148,9 @@ fn push_joined(out: &mut Vec<u8>, joined: &Joined) -> Result<(), AllocError> {
     }
     out.push(b':')?;
     for rule in joined.rules.as_slice() {
-        push_rule(out, rule)?;
+        if !is_plain_prelude(rule) {
+            push_rule(out, rule)?;
+        }
     }
     Ok(())
 }
@@ -142,7 +171,11 @@ fn answer(alloc: Global, modules: &[Module], prelude: bool) -> Result<Vec<u8>, A
         Err(JoinFault::NoStart) => push_text(&mut out, b"no start")?,
         Err(JoinFault::ErrorToken) => push_text(&mut out, b"error")?,
         Err(JoinFault::UnknownLevel { name }) => push_named(&mut out, b'L', &name)?,
-        Err(JoinFault::TooManyTokens { count: _ }) => push_text(&mut out, b"too many")?,
+        Err(JoinFault::TooManyTokens { count }) => {
+            push_text(&mut out, b"too many ")?;
+            push_number(&mut out, count / 100)?;
+            push_number(&mut out, count % 100)?;
+        }
         Err(JoinFault::Memory) => return Err(AllocError),
     }
     Ok(out)
@@ -152,6 +185,9 @@ fn answer(alloc: Global, modules: &[Module], prelude: bool) -> Result<Vec<u8>, A
 fn cases() -> &'static str {
     "%token A EOF %start s %% s: A EOF {}~A EOF >0:s0|1.0 t0 t1;^\
      %% s: {}~no start^\
+     %token A %%#%% s: {}~no start^\
+     %% s: x {}~U x^\
+     %% s: {} s: {}~D s^\
      %start s %%~U s^\
      %start s %% s: b {}~U b^\
      %start s %% s: zz? {}~U option^\
@@ -162,16 +198,46 @@ fn cases() -> &'static str {
      %start s %on_error_reduce error %% s: {}~U error^\
      %start s %% s: {} %prec x~L x^\
      %start s %% s: {} %prec \"x\"~U x^\
+     %start s %% s: b {}#%% b: a {}~U b^\
+     %start s %% s: t {}#%% t: {}~U t^\
+     %left \"x\" %on_error_reduce y %start q %% s: z {}~U q^\
+     %left \"x\" %on_error_reduce y %start s %% s: z {}~U x^\
+     %on_error_reduce y %start s %% s: z {}~U y^\
      %token A A B %start s %% s: {} B: {} A: {}~D B^\
+     %token A %start s %% s: {}#%% A: {}~D A^\
      %token A \"a\" B \"a\" %start s %% s: {}~D a^\
+     %token A \"a\" %start s %% s: {}#%token B \"a\" %%~D a^\
+     %token A \"a\" B \"a\" %start s %% s: {} B: {}~D B^\
+     %token A \"a\" A \"b\" %start s %% s: \"a\" \"b\" {}#%token A \"a\" %%~A >0:s0|1.0 t0 t0;^\
+     %token A \"a\" %start s %% s: t {}#%% %public t: \"a\" {}~A >0:s0|1.0 r1;t0|2.0 t0;^\
      %start s %% s: {} b: {} b: {}~D b^\
+     %start s %% s: {} t: {}#%% t: {} t: {}~D t^\
      %start s %% s: {} b(x, y, x): {}~D x^\
+     %start s %% s: {} b: {} b: {}#%% p(x, x): {}~D b^\
+     %start s %% s: {}#%% %public p(y, y): {}~D y^\
      %start s %% s: {} %public b(x): {} b: {}~D b^\
      %start s %% s: {} %public b: {} %inline b: {}~D b^\
+     %start s %% s: {}#%% %inline s: {}~D s^\
+     %start s %% s: {} %public t(x): {}#%% %public t: {} p(x, x): {}~D x^\
+     %start s %% s: {} %public t(x): {}#%% %public t: {}~D t^\
      %token A \"a\" %left A A %right \"a\" %start s %% s: {}~D A^\
+     %token A %left A %start s %% s: {}#%right A %%~D A^\
+     %left x %right x %start s %% s: {}~D x^\
+     %token A %left A A %start s %% s: {}~A%10 >0:s0|1.0;^\
+     %token A B %left A %start s %% s: {}#%left B %%~A%10 B%20 >0:s0|1.0;^\
      %token A \"a\" %left b \"a\" %right c %start s %% s: \"a\" {} %prec c | A {} %prec A | {} %prec b~\
      A%10 >0:s0|1.0 t0%11|1.1 t0%10|1.2%10;^\
      %token A %start s %% s: {} %prec A~A >0:s0|1.0-;^\
+     %token A %start s %% s: A {} %prec A#%% t: {} %prec y~L y^\
+     %start s %% s: {} %prec y#%left y %%~>0:s0|1.0%20;^\
+     %start s %% s: {} %prec y | error {}~error^\
+     %start s %% s: {} p(error): error {}~error^\
+     %start s %% s: {} p(error): {}~>0:s0|1.0;p1|1.1;^\
+     %start s %% s: p(error) {} p(x): x {}~error^\
+     %start s %% s: error {} error: {}~error^\
+     %start s %on_error_reduce error %% s: {} error: {}~>0<r1:s0|1.0;error0|1.1;^\
+     %token A %start s %% s: p(A) {} p(A): A {}~A >0:s0|1.0 r1(t0);p1|1.1 f0;^\
+     %start s %% s: {}#%% s: {} t: s {}~>0:s0|1.0|2.0;t0|2.1 r0;^\
      %start s t s %% t: s {} s: p(t, p(s)) {} p(x): x(x) {} | {}~\
      >1>0:t0|1.0 r1;s0|1.1 r2(r0r2(r1));p1|1.2 f0(f0)|1.3;^\
      %start s %on_error_reduce s t %on_error_reduce t %% s: {} t: {}~>0<r0r1<r1:s0|1.0;t0|1.1;^\
@@ -181,13 +247,193 @@ fn cases() -> &'static str {
      >0:s0|1.0 r1;b0|1.1|3.0|3.1;b@20|2.0 r0;"
 }
 
+/// The same with the prelude. Its rules stand behind those of the files: `option` first, `list` and `nonempty_list` as the
+/// tenth and eleventh.
+fn cases_with_prelude() -> &'static str {
+    "%token A %start s %% s: A? A* A+ {}~A >0:s0|1.0 r1(t0) r10(t0) r11(t0);^\
+     %start option %%~U option^\
+     %start s %% s: optional {}~U optional^\
+     %start s %% s: error? {}~error^\
+     %token A %start s %% s: A? {} option(X): X {}~A >0:s0|1.0 r1(t0);option1|1.1 f0;option@01|0.0|0.1 f0;^\
+     %token A %start s %% s: A? {}#%% option(X): X X {}~\
+     A >0:s0|1.0 r2(t0);option1|2.0 f0 f0;option@01|0.0|0.1 f0;^\
+     %token A %start s %% s: A? {}#%% %public option(X): X {}~\
+     A >0:s0|1.0 r1(t0);option1|2.0 f0;option@01|0.0|0.1 f0;^\
+     %token A %start s %% s: A* {} %public list(X): X {}~\
+     A >0:s0|1.0 r1(t0);list1|1.1 f0;list@01|0.13|0.14 f0 r11(f0);^\
+     %start s %% s: {} %public pair: {}~>0:s0|1.0;pair0|1.1;pair@0!2|0.8 f0 f1;^\
+     %token X Y EOF %start main %% main: unit nonempty_list(item) EOF {} %public item: X {} unit: {}\
+     #%% %public item: Y {} unit: Y {}~\
+     X Y EOF >0:main0|1.0 r2 r14(r1) t2;item0|1.1 t0|2.0 t1;unit@10|1.2;unit@20|2.1 t1;"
+}
+
+/// Whether the files of a case give what it says.
+fn is_right(alloc: Global, case: &str, prelude: bool) -> Result<bool, AllocError> {
+    let Some((texts, expected)) = case.split_once('~') else {
+        return Ok(false);
+    };
+    let Some(modules) = modules_of(alloc, texts)? else {
+        return Ok(false);
+    };
+    let found = answer(alloc, modules.as_slice(), prelude)?;
+    Ok(found.as_slice() == expected.as_bytes())
+}
+
+/// The first case whose files give something else.
+fn first_wrong<'a>(
+    alloc: Global,
+    cases: &'a str,
+    prelude: bool,
+) -> Result<Option<&'a str>, AllocError> {
+    for case in cases.split('^') {
+        if !is_right(alloc, case, prelude)? {
+            return Ok(Some(case));
+        }
+    }
+    Ok(None)
+}
+
 #[test]
 fn files(rt: HostRuntime) -> Result<(), Fail> {
-    for case in cases().split('^') {
-        let (texts, expected) = case.split_once('~').ok_or("a case without a `~`")?;
-        let modules = modules_of(rt.alloc(), texts)?.ok_or("a text that spells nothing")?;
-        let found = answer(rt.alloc(), modules.as_slice(), false)?;
-        assert_eq!(rt; found.as_slice(), expected.as_bytes(), "at {texts:?}");
+    assert_eq!(rt; first_wrong(rt.alloc(), cases(), false)?, None);
+    assert_eq!(rt; first_wrong(rt.alloc(), cases_with_prelude(), true)?, None);
+    Ok(())
+}
+
+#[test]
+fn one_answer(rt: HostRuntime) -> Result<(), Fail> {
+    let modules = modules_of(rt.alloc(), "%start s %% s: {}")?.ok_or("a text that spells nothing")?;
+    match join(rt.alloc(), modules.as_slice(), false) {
+        Ok(joined) => is_one_joined(false, modules.as_slice(), &joined, &joined),
+        Err(fault) => is_one_fault(false, modules.as_slice(), &fault, &fault),
     }
+    Ok(())
+}
+
+/// 256 tokens.
+fn push_tokens(out: &mut Vec<u8>) -> Result<(), AllocError> {
+    push_text(out, b"%token")?;
+    for first in b'A'..b'Q' {
+        for second in b'a'..b'q' {
+            out.push(b' ')?;
+            out.push(first)?;
+            out.push(second)?;
+        }
+    }
+    Ok(())
+}
+
+/// What a file with 256 tokens and this text gives.
+fn with_tokens(alloc: Global, more: &str) -> Result<Vec<u8>, AllocError> {
+    let mut text = Vec::new(alloc);
+    push_tokens(&mut text)?;
+    push_text(&mut text, more.as_bytes())?;
+    let mut modules = Vec::new(alloc);
+    if let Some(found) = module_of(alloc, text.as_slice()) {
+        modules.push(found)?;
+    }
+    answer(alloc, modules.as_slice(), false)
+}
+
+#[test]
+fn counts_of_tokens(rt: HostRuntime) -> Result<(), Fail> {
+    let most = with_tokens(rt.alloc(), " %start s %% s: {}")?;
+    assert_eq!(rt; most.len(), 256 * 3 + 10);
+    assert!(rt; most.ends_with(b"Pp >0:s0|1.0;"));
+    let more = with_tokens(rt.alloc(), " Z %start s %% s: {}")?;
+    assert_eq!(rt; more.as_slice(), b"too many 257".as_slice());
+    let repeated = with_tokens(rt.alloc(), " Z Aa Z Y %start s %% s: {}")?;
+    assert_eq!(rt; repeated.as_slice(), b"too many 258".as_slice());
+    Ok(())
+}
+
+/// The standard library as a file.
+fn prelude_text() -> &'static str {
+    "%%\n\
+     %public option(X): {} | X {}\n\
+     %public %inline ioption(X): {} | X {}\n\
+     %public boption(X): {} | X {}\n\
+     %public loption(X): {} | X {}\n\
+     %public %inline pair(X, Y): X Y {}\n\
+     %public %inline separated_pair(X, sep, Y): X sep Y {}\n\
+     %public %inline preceded(opening, X): opening X {}\n\
+     %public %inline terminated(X, closing): X closing {}\n\
+     %public %inline delimited(opening, X, closing): opening X closing {}\n\
+     %public list(X): {} | X list(X) {}\n\
+     %public nonempty_list(X): X {} | X nonempty_list(X) {}\n\
+     %public %inline separated_list(separator, X):\n\
+     \x20 loption(separated_nonempty_list(separator, X)) {}\n\
+     %public separated_nonempty_list(separator, X):\n\
+     \x20 X {} | X separator separated_nonempty_list(separator, X) {}\n\
+     %public %inline rev(XS): XS {}\n\
+     %public %inline flatten(XSS): XSS {}\n\
+     %public %inline append(XS, YS): XS YS {}\n\
+     %public %inline endrule(X): X {}\n\
+     %public midrule(X): X {}\n"
+}
+
+fn push_reference(out: &mut Vec<u8>, reference: &Ref) -> Result<(), AllocError> {
+    match reference {
+        Ref::Plain(name) => push_text(out, name.as_slice()),
+        Ref::Alias(alias) => {
+            out.push(b'"')?;
+            push_text(out, alias.as_slice())
+        }
+    }
+}
+
+fn push_actual(out: &mut Vec<u8>, actual: &Actual) -> Result<(), AllocError> {
+    push_reference(out, &actual.head)?;
+    out.push(b'(')?;
+    for arg in actual.args.as_slice() {
+        push_actual(out, arg)?;
+    }
+    out.push(b')')?;
+    Ok(())
+}
+
+/// Everything that a rule holds, each part with an end of its own.
+fn push_source(out: &mut Vec<u8>, rule: &Rule) -> Result<(), AllocError> {
+    out.push(if rule.public { b'p' } else { b'o' })?;
+    out.push(if rule.inlined { b'i' } else { b'o' })?;
+    push_text(out, rule.name.as_slice())?;
+    for formal in rule.formals.as_slice() {
+        out.push(b',')?;
+        push_text(out, formal.as_slice())?;
+    }
+    for alternative in rule.alternatives.as_slice() {
+        out.push(b'|')?;
+        for producer in alternative.producers.as_slice() {
+            push_actual(out, producer)?;
+        }
+        if let Some(reference) = &alternative.prec {
+            out.push(b'%')?;
+            push_reference(out, reference)?;
+        }
+    }
+    out.push(b';')?;
+    Ok(())
+}
+
+fn sources(alloc: Global, rules: &[Rule]) -> Result<Vec<u8>, AllocError> {
+    let mut out = Vec::new(alloc);
+    for rule in rules {
+        push_source(&mut out, rule)?;
+    }
+    Ok(out)
+}
+
+#[test]
+fn prelude_is_what_its_text_spells(rt: HostRuntime) -> Result<(), Fail> {
+    let text = prelude_text().as_bytes();
+    let found = module_of(rt.alloc(), text).ok_or("a text that spells nothing")?;
+    let rules = prelude_rules(rt.alloc(), true).ok().ok_or("no memory")?;
+    assert_eq!(rt; rules.len(), 18);
+    assert_eq!(rt;
+        sources(rt.alloc(), found.rules.as_slice())?,
+        sources(rt.alloc(), rules.as_slice())?
+    );
+    assert!(rt; found.tokens.is_empty() && found.starts.is_empty());
+    assert!(rt; found.levels.is_empty() && found.on_error.is_empty());
     Ok(())
 }
