@@ -11,3 +11,4 @@ pub mod Simulating
 pub mod Same
 pub mod Ranged
 pub mod Order
+pub mod Few

@@ -26,7 +26,7 @@ use Rattle.mh_expand.proofs.Expanding.{found_reached, first_reached}
 use Rattle.mh_expand.proofs.Same.{reached_instance}
 
 -- two places in one list
-split_compare : {X : Type 0} (b c : List X) (t u : X) (a d : List X) → b ++ t ∷ a ≡ c ++ u ∷ d → ((b ≡ c) × (t ≡ u)) ⊎ (((rest : List X) × (c ≡ b ++ t ∷ rest)) ⊎ ((rest : List X) × (b ≡ c ++ u ∷ rest)))
+pub split_compare : {X : Type 0} (b c : List X) (t u : X) (a d : List X) → b ++ t ∷ a ≡ c ++ u ∷ d → ((b ≡ c) × (t ≡ u)) ⊎ (((rest : List X) × (c ≡ b ++ t ∷ rest)) ⊎ ((rest : List X) × (b ≡ c ++ u ∷ rest)))
 split_compare [] [] t u a d e = let same : t ≡ u = cc in inl (refl, same)
 split_compare [] (y ∷ c) t u a d e = let same : t ≡ y = cc in inr (inl (c, ap (λ z. z ∷ c) (sym same)))
 split_compare (x ∷ b) [] t u a d e = let same : x ≡ u = cc in inr (inr (b, ap (λ z. z ∷ b) same))
@@ -50,7 +50,7 @@ record IsNext (j : Joined) (ts : List Term) (t : Term) : Type 0 where
   new : Contains ts t → ⊥
   others : (x : Term) → Contains before x → IsInstance x → Contains ts x
 
-inside : {X : Type 0} (b : List X) (t : X) (rest c : List X) → c ≡ b ++ t ∷ rest → Contains c t
+pub inside : {X : Type 0} (b : List X) (t : X) (rest c : List X) → c ≡ b ++ t ∷ rest → Contains c t
 inside b t rest c e = rw e (Contains-append_right b (t ∷ rest) t (contains_here t rest))
 
 one_next : (j : Joined) (ts : List Term) (t u : Term) → IsNext j ts t → IsNext j ts u → t ≡ u
@@ -85,7 +85,7 @@ fronts j xs (expansion.AreFirst.more {ts = us} {t} before after a split i new ot
         let same = one_next j us u t (front_next j ys b us u m e) mine in
         inl (m, e ∙ ap (λ v. us ++ v ∷ m) same ∙ sym (append_assoc us (t ∷ []) m))
 
-finds-append : (j : Joined) (xs ys : List Term) → finds j (xs ++ ys) ≡ finds j xs ++ flat_map (producers_of j) ys
+pub finds-append : (j : Joined) (xs ys : List Term) → finds j (xs ++ ys) ≡ finds j xs ++ flat_map (producers_of j) ys
 finds-append j xs ys = ap (λ l. start_terms j ++ l) (flat_map-append (producers_of j) xs ys) ∙ sym (append_assoc (start_terms j) (flat_map (producers_of j) xs) (flat_map (producers_of j) ys))
 
 -- nothing comes after all instances
@@ -148,7 +148,7 @@ one_terms j a b v w = elim (fronts j v.terms v.order w.terms w.order) [
   | inr r ↦ not_after j b w v.terms v.order r.0 r.1
 ]
 
-first_distinct : (j : Joined) (ts : List Term) → AreFirst j ts → AreDistinct ts
+pub first_distinct : (j : Joined) (ts : List Term) → AreFirst j ts → AreDistinct ts
 first_distinct j [] expansion.AreFirst.none = record { same = λ i k x e f. cc }
 first_distinct j ts (expansion.AreFirst.more {ts = us} {t} before after a split i new others) = AreDistinct-push us t (first_distinct j us a) new
 

@@ -27,7 +27,8 @@ use Rattle.mh_expand.specs.Expansion.{IsInstance, IsRule, Takes, Fits, IsReached
 use Rattle.mh_expand.proofs.Going.{split_at, alternatives_there}
 use Rattle.mh_expand.proofs.Expanding.{fits_or, flat_contains, contains_flat}
 use Rattle.mh_grammar.proofs.Placing.{contains_at, at_contains}
-use Rattle.mh_expand.specs.Ready.{IsHeadBelow, IsAppliedBelow, IsRuleReady, IsReady, IsPartBelow, IsInstanceReady, IsExpandedReady}
+use Rattle.mh_join.specs.Ready.{IsHeadBelow, IsAppliedBelow, IsRuleReady}
+use Rattle.mh_expand.specs.Ready.{IsReady, IsPartBelow, IsInstanceReady, IsExpandedReady}
 
 -- each head in a term is there
 abbrev pub IsTermBelow : ℕ → ℕ → ℕ → Term → Type 0

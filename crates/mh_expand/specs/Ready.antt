@@ -1,33 +1,13 @@
 -- What is asked of joined rules, so that the layers above may ask as much of their instances.
 use Rattle.std.specs.Prelude.{◌≡◌, ◌<◌, ◌≤◌, ◌≢◌, ℕ, List, length, AllPairs}
 use Rattle.std.specs.List.{All}
-use Rattle.mh_join.specs.declared.joined.Head.{Head}
-use Rattle.mh_join.specs.declared.joined.Head.TheVariants as heads
-use Rattle.mh_join.specs.declared.joined.Applied.{Applied}
-use Rattle.mh_join.specs.declared.joined.Applied.TheFolds.{every-Applied}
-use Rattle.mh_join.specs.declared.joined.JoinedAlternative.{JoinedAlternative}
-use Rattle.mh_join.specs.declared.joined.JoinedRule.{JoinedRule}
 use Rattle.mh_join.specs.declared.joined.Joined.{Joined}
+use Rattle.mh_join.specs.Ready.{IsRuleReady}
 use Rattle.mh_expand.specs.declared.instances.Part.{Part}
 use Rattle.mh_expand.specs.declared.instances.Part.TheVariants as parts
 use Rattle.mh_expand.specs.declared.instances.InstanceProduction.{InstanceProduction}
 use Rattle.mh_expand.specs.declared.instances.Instance.{Instance}
 use Rattle.mh_expand.specs.declared.instances.Expanded.{Expanded}
-
--- a formal, a token or a rule that is there, of so many
-abbrev pub IsHeadBelow : ℕ → ℕ → ℕ → Head → Type 0
-IsHeadBelow formals tokens rules (heads.Formal n) = n < formals
-IsHeadBelow formals tokens rules (heads.Token n) = n < tokens
-IsHeadBelow formals tokens rules (heads.Rule n) = n < rules
-
--- each head in an applied head is there
-abbrev pub IsAppliedBelow : ℕ → ℕ → ℕ → Applied → Type 0
-IsAppliedBelow formals tokens rules = every-Applied (λ a. IsHeadBelow formals tokens rules a.head)
-
--- a rule has an alternative, and the heads in it are there
-pub record IsRuleReady (tokens rules : ℕ) (r : JoinedRule) : Type 0 where
-  pub has_some : 0 < length r.alternatives
-  pub heads_below : All (λ (a : JoinedAlternative). All (IsAppliedBelow r.formals tokens rules) a.producers) r.alternatives
 
 -- All numbers are in range, each rule has an alternative, no start stands twice, and there are at most 65,535 tokens.
 pub record IsReady (j : Joined) : Type 0 where

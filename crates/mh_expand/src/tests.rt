@@ -1,121 +1,181 @@
-//! Grammars that were expanded by hand.
-use crate::expansion::expand;
-use crate::instances::Expanded;
-use crate::laws::is_one_expansion;
-use mh_grammar::{Memory, Name, Sequence, TokenInfo, from_bytes};
-use mh_join::{Applied, Head, Joined, JoinedAlternative, JoinedRule, Prec};
-use std::alloc::Global;
+//! Files and the instances of their rules, worked out by hand.
+use crate::{
+    ExpandFault, Expanded, Instance, InstanceProduction, Part, expand, is_one_expansion,
+    is_one_fault,
+};
+use mh_grammar::Name;
+use mh_join::{Joined, Prec, join};
+use mh_reader::read_module;
+use std::alloc::{AllocError, Global};
 use std::test::Fail;
 
-fn token(alloc: Global, name: &[u8]) -> Result<TokenInfo, Memory> {
-    Ok(TokenInfo {
-        name: from_bytes(alloc, name)?,
-        level: None,
-    })
+/// The rules of a file that is spelled and has no fault.
+fn joined_of(alloc: Global, text: &str) -> Result<Option<Joined>, AllocError> {
+    if text.len() >= 1000 {
+        return Ok(None);
+    }
+    let Ok(module) = read_module(alloc, text.as_bytes()) else {
+        return Ok(None);
+    };
+    let mut modules = Vec::new(alloc);
+    modules.push(module)?;
+    Ok(join(alloc, modules.as_slice(), false).ok())
 }
 
-fn alone(alloc: Global, head: Head) -> Applied {
-    Applied {
-        head,
-        args: Sequence::new(alloc),
+fn push_text(out: &mut Vec<u8>, text: &[u8]) -> Result<(), AllocError> {
+    for byte in text {
+        out.push(*byte)?;
+    }
+    Ok(())
+}
+
+/// A number below 10 as its digit, and a greater one as `?`.
+fn push_digit(out: &mut Vec<u8>, number: u64) -> Result<(), AllocError> {
+    out.push(if number < 10 {
+        b'0' + number as u8
+    } else {
+        b'?'
+    })?;
+    Ok(())
+}
+
+fn push_part(out: &mut Vec<u8>, part: Part) -> Result<(), AllocError> {
+    match part {
+        Part::Token(number) => {
+            out.push(b't')?;
+            push_digit(out, u64::from(number))
+        }
+        Part::Instance(number) => {
+            out.push(b'i')?;
+            push_digit(out, u64::from(number))
+        }
     }
 }
 
-fn rule(
-    alloc: Global,
-    name: &[u8],
-    formals: u64,
-    alternatives: Vec<JoinedAlternative>,
-) -> Result<JoinedRule, Memory> {
-    Ok(JoinedRule {
-        name: from_bytes(alloc, name)?,
-        inlined: false,
-        formals,
-        alternatives: Sequence::from_vec(alternatives),
-    })
-}
-
-fn alternative(place: u64, producers: Vec<Applied>) -> JoinedAlternative {
-    JoinedAlternative {
-        file: 1,
-        place,
-        producers: Sequence::from_vec(producers),
-        prec: Prec::Absent,
+fn push_prec(out: &mut Vec<u8>, prec: Prec) -> Result<(), AllocError> {
+    match prec {
+        Prec::Absent => {}
+        Prec::Given(None) => out.push(b'-')?,
+        Prec::Given(Some(level)) => {
+            out.push(b'%')?;
+            push_digit(out, level.file)?;
+            push_digit(out, level.rank)?;
+        }
     }
+    Ok(())
 }
 
-fn one<T: Drop>(alloc: Global, item: T) -> Result<Vec<T>, Memory> {
-    let mut items = Vec::new(alloc);
-    items.push(item)?;
-    Ok(items)
+fn push_production(out: &mut Vec<u8>, production: &InstanceProduction) -> Result<(), AllocError> {
+    out.push(b'|')?;
+    push_digit(out, production.file)?;
+    out.push(b'.')?;
+    push_digit(out, production.place)?;
+    for part in production.rhs.as_slice() {
+        out.push(b' ')?;
+        push_part(out, *part)?;
+    }
+    push_prec(out, production.prec)
 }
 
-fn two<T: Drop>(alloc: Global, first: T, second: T) -> Result<Vec<T>, Memory> {
-    let mut items = one(alloc, first)?;
-    items.push(second)?;
-    Ok(items)
+fn push_instance(out: &mut Vec<u8>, instance: &Instance) -> Result<(), AllocError> {
+    push_text(out, instance.name.as_slice())?;
+    if instance.inlined {
+        out.push(b'!')?;
+    }
+    if let Some(rank) = instance.on_error {
+        out.push(b'<')?;
+        push_digit(out, rank)?;
+    }
+    for production in instance.productions.as_slice() {
+        push_production(out, production)?;
+    }
+    out.push(b';')?;
+    Ok(())
 }
 
-// Tokens A, B and EOF; rule 0 is the start.
-fn joined(alloc: Global, rules: Vec<JoinedRule>) -> Result<Joined, Memory> {
-    let mut tokens = two(alloc, token(alloc, b"A")?, token(alloc, b"B")?)?;
-    tokens.push(token(alloc, b"EOF")?)?;
-    Ok(Joined {
-        tokens: Sequence::from_vec(tokens),
-        starts: Sequence::from_vec(one(alloc, 0)?),
-        on_error: Sequence::new(alloc),
-        rules: Sequence::from_vec(rules),
-    })
-}
-
-// The names of the instances, each behind a space.
-fn names_of(alloc: Global, expanded: &Expanded) -> Result<Vec<u8>, Memory> {
-    let mut names = Vec::new(alloc);
+/// The starts and the instances in short.
+fn push_expanded(out: &mut Vec<u8>, expanded: &Expanded) -> Result<(), AllocError> {
+    for start in expanded.starts.as_slice() {
+        out.push(b'>')?;
+        push_digit(out, u64::from(*start))?;
+    }
+    out.push(b':')?;
     for instance in expanded.instances.as_slice() {
-        names.push(b' ')?;
-        names.extend_from_slice(instance.name.as_slice())?;
+        push_instance(out, instance)?;
     }
-    Ok(names)
+    Ok(())
 }
 
-// main: p q, p: r, q: A, r: B. Breadth first q comes before r.
+fn push_named(out: &mut Vec<u8>, kind: u8, name: &Name) -> Result<(), AllocError> {
+    out.push(kind)?;
+    out.push(b' ')?;
+    push_text(out, name.as_slice())
+}
+
+/// The instances of the rules, or their fault.
+fn answer(alloc: Global, joined: &Joined) -> Result<Vec<u8>, AllocError> {
+    let mut out = Vec::new(alloc);
+    match expand(alloc, joined) {
+        Ok(expanded) => push_expanded(&mut out, &expanded)?,
+        Err(ExpandFault::Arity { instance }) => push_named(&mut out, b'A', &instance)?,
+        Err(ExpandFault::Expansion { name }) => push_named(&mut out, b'E', &name)?,
+        Err(ExpandFault::Memory) => return Err(AllocError),
+    }
+    Ok(out)
+}
+
+/// Files and their instances: `~` between the two and `^` between cases.
+///
+/// In the last two names grow without end: that of `p` with k options around A has 8k + 4 bytes, and where the name of
+/// an argument has n bytes, that of the next one has 2n + 4, so the ninth is the first with more than 1,000.
+fn cases() -> &'static str {
+    "%token A B EOF %start s %% s: option(A) option(B) option(A) EOF {} option(x): {} | x {}~\
+     >0:s|1.0 i1 i2 i1 t2;option(A)|1.1|1.2 t0;option(B)|1.1|1.2 t1;^\
+     %token A B %start s %% s: p q {} p: r {} q: A {} r: B {}~\
+     >0:s|1.0 i1 i2;p|1.1 i3;q|1.2 t0;r|1.3 t1;^\
+     %token A B %start s %% s: twice(pair(A)) {} twice(f): f(B) {} pair(x, y): x y {}~\
+     >0:s|1.0 i1;twice(pair(A))|1.1 i2;pair(A,B)|1.2 t0 t1;^\
+     %token A B %start s %on_error_reduce B %on_error_reduce option(B) option(A) \
+     %on_error_reduce option(A) %% s: option(A) {} option(x): {} | x {}~\
+     >0:s|1.0 i1;option(A)<1|1.1|1.2 t0;^\
+     %token A %left A %start s t %% t: x s {} %inline x: A {} | {} %prec A s: A {} u: t {}~\
+     >0>1:s|1.3 t0;t|1.0 i2 i0;x!|1.1 t0|1.2%10;^\
+     %start s %% s: option {} option(x): {}~A option^\
+     %token A B EOF %start s %% s: A(B, EOF) {}~A A(B,EOF)^\
+     %start s %% s(x): {}~A s^\
+     %token A %start s %% s: p(A) q {} p(x): x(x) {} q(x): {}~A q^\
+     %token A %start s %% s: p(A) {} p(x): x {} | p(option(x)) {} option(x): {} | x {}~E p^\
+     %token A %start s %% s: a(A) {} a(x): b(p(x, x)) {} b(x): c(p(x, x)) {} c(x): d(p(x, x)) {} \
+     d(x): e(p(x, x)) {} e(x): f(p(x, x)) {} f(x): g(p(x, x)) {} g(x): h(p(x, x)) {} \
+     h(x): i(p(x, x)) {} i(x): {} p(x, y): {}~E i"
+}
+
 #[test]
-fn breadth_first(rt: HostRuntime) -> Result<(), Fail> {
-    let alloc = rt.alloc();
-    let main = two(
-        alloc,
-        alone(alloc, Head::Rule(1)),
-        alone(alloc, Head::Rule(2)),
-    )?;
-    let to = |head: Head| one(alloc, alone(alloc, head));
-    let mut rules = two(
-        alloc,
-        rule(alloc, b"main", 0, one(alloc, alternative(0, main))?)?,
-        rule(
-            alloc,
-            b"p",
-            0,
-            one(alloc, alternative(1, to(Head::Rule(3))?))?,
-        )?,
-    )?;
-    rules.push(rule(
-        alloc,
-        b"q",
-        0,
-        one(alloc, alternative(2, to(Head::Token(0))?))?,
-    )?)?;
-    rules.push(rule(
-        alloc,
-        b"r",
-        0,
-        one(alloc, alternative(3, to(Head::Token(1))?))?,
-    )?)?;
-    let grammar = joined(alloc, rules)?;
-    let expanded = expand(alloc, &grammar)?;
-    is_one_expansion(&grammar, &expanded, &expanded);
-    assert_eq!(rt;
-        names_of(alloc, &expanded)?.as_slice(),
-        b" main p q r".as_slice()
-    );
+fn files(rt: HostRuntime) -> Result<(), Fail> {
+    for case in cases().split('^') {
+        let (text, expected) = case.split_once('~').ok_or("a case without a `~`")?;
+        let joined = joined_of(rt.alloc(), text)?.ok_or("a file with a fault")?;
+        let found = answer(rt.alloc(), &joined)?;
+        assert_eq!(rt; found.as_slice(), expected.as_bytes(), "at {text:?}");
+    }
+    Ok(())
+}
+
+#[test]
+fn one_expansion(rt: HostRuntime) -> Result<(), Fail> {
+    let joined = joined_of(rt.alloc(), "%token A %start s %% s: A {}")?.ok_or("a fault")?;
+    let expanded = expand(rt.alloc(), &joined)?;
+    is_one_expansion(&joined, &expanded, &expanded);
+    Ok(())
+}
+
+#[test]
+fn one_fault(rt: HostRuntime) -> Result<(), Fail> {
+    let joined = joined_of(rt.alloc(), "%start s %% s(x): {}")?.ok_or("a fault")?;
+    let Err(ExpandFault::Arity { instance }) = expand(rt.alloc(), &joined) else {
+        return Err("no fault".into());
+    };
+    let fault = ExpandFault::Arity { instance };
+    is_one_fault(&joined, &fault, &fault);
     Ok(())
 }

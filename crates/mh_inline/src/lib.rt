@@ -11,6 +11,8 @@ mod laws;
 mod nonterminals;
 mod sizes;
 mod sources;
+#[cfg(test)]
+mod tests;
 mod unfoldings;
 
 pub use fault::InlineFault;

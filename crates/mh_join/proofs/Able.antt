@@ -87,7 +87,7 @@ kept_nil {B = B} f ks (x ∷ xs) p q = kept_nil f (insert_key same ks x) xs (go 
     go true = p
     go false = flat_map-append f ks (x ∷ []) ∙ ap (λ k. k ++ (f x ++ [])) p ∙ ap (λ k. k ++ []) (front_nil (f x) (flat_map f xs) q)
 
-few_tokens : (n : ℕ) → many_tokens n ≡ [] → n ≤ 256
+pub few_tokens : (n : ℕ) → many_tokens n ≡ [] → n ≤ 256
 few_tokens n h = go (cases_lt 256 n)
   where
     go : (256 < n) ⊎ (n ≤ 256) → n ≤ 256

@@ -9,3 +9,4 @@ pub mod Resolving
 pub mod Adding
 pub mod Library
 pub mod Able
+pub mod Readying

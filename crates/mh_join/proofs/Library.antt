@@ -71,15 +71,15 @@ module _ (p : Outline → Bool) (respects : (a b : Outline) → same_rule a b �
   any_firsts ks [] h = sym (or_false (list_any p ks)) ∙ h
   any_firsts ks (x ∷ xs) h = any_firsts (insert_key same_rule ks x) xs (step ks x (list_any p xs) h)
 
-and_left : (a b : Bool) → (a && b) ≡ true → a ≡ true
+pub and_left : (a b : Bool) → (a && b) ≡ true → a ≡ true
 and_left true b h = refl
 and_left false b h = h
 
-and_right : (a b : Bool) → (a && b) ≡ true → b ≡ true
+pub and_right : (a b : Bool) → (a && b) ≡ true → b ≡ true
 and_right true b h = h
 and_right false b h = let bad : false ≡ true = h in cc
 
-owner_is : (m n : Option ℕ) → same_owner m n ≡ true → m ≡ n
+pub owner_is : (m n : Option ℕ) → same_owner m n ≡ true → m ≡ n
 owner_is None None h = refl
 owner_is None (Some n) h = let bad : false ≡ true = h in cc
 owner_is (Some m) None h = let bad : false ≡ true = h in cc

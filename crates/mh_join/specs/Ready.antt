@@ -1,12 +1,18 @@
--- What the layers above ask of joined files.
-use Rattle.std.specs.Prelude.{◌<◌, ◌≤◌, ◌≢◌, ℕ, length, AllPairs}
+-- What the layers above ask of joined files, and what that asks of the files.
+use Rattle.std.specs.Prelude.{◌<◌, ◌≤◌, ◌≢◌, ℕ, List, length, AllPairs}
 use Rattle.std.specs.List.{All}
+use Rattle.mh_reader.specs.declared.modules.Rule.{Rule}
+use Rattle.mh_reader.specs.declared.modules.Module.{Module}
 use Rattle.mh_join.specs.declared.joined.Head.{Head}
 use Rattle.mh_join.specs.declared.joined.Head.TheVariants as heads
 use Rattle.mh_join.specs.declared.joined.Applied.{Applied}
 use Rattle.mh_join.specs.declared.joined.Applied.TheFolds.{every-Applied}
 use Rattle.mh_join.specs.declared.joined.JoinedRule.{JoinedRule}
 use Rattle.mh_join.specs.declared.joined.Joined.{Joined}
+
+-- each rule of each module has an alternative
+abbrev pub HaveAlternatives : List Module → Type 0
+HaveAlternatives modules = All (λ (m : Module). All (λ (r : Rule). 0 < length r.alternatives) m.rules) modules
 
 -- a formal, a token or a rule that is there, of so many
 abbrev pub IsHeadBelow : ℕ → ℕ → ℕ → Head → Type 0

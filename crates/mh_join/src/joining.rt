@@ -3,6 +3,7 @@ ghost use Rattle.std.specs.Prelude.{◌≡◌, IfOk};
 ghost use Rattle.mh_join.specs.Joining.{IsJoinedBy, Joins};
 ghost use Rattle.mh_join.specs.Maps.{meanings_in, elsewhere_in, HasMeanings};
 ghost use Rattle.mh_join.specs.Prelude as spec;
+ghost use Rattle.mh_join.specs.Ready.{HaveAlternatives, IsReady};
 ghost use Rattle.mh_join.specs.Standing.{CanJoin, definitions_by};
 
 use crate::building::{joined_on_error, joined_rules, joined_starts, joined_tokens};
@@ -68,7 +69,8 @@ fn join_named(
 /// no rule speaks of `error`; each `%prec` is of a token or has a level; there are at most 256 tokens. Answers `Memory`
 /// only where memory runs out. (The Menhir manual on grammars split into files; this project's profile.)
 pub fn join(alloc: Global, modules: &[Module], prelude: bool) -> Result<Joined, JoinFault>
-    ensures { Joins prelude modules.now result }
+    ensures joins { Joins prelude modules.now result }
+    ensures ready { HaveAlternatives modules.now → IfOk result IsReady }
 {
     let Ok(library) = prelude_rules(alloc, prelude) else {
         return Err(JoinFault::Memory);

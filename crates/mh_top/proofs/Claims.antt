@@ -11,12 +11,13 @@ use Rattle.mh_top.specs.Causes.{status_of, Halt}
 use Rattle.mh_top.specs.Order.{order_of}
 use Rattle.mh_top.specs.Each.{Asks}
 use Rattle.std.proofs.lemmas.List.{append-nil}
-use Rattle.mh_top.specs.Work.{Work, Plan, Ends, AsksEach, Outcome, Gives, PlanGives, IsWork, answering, line_limit, max_lines}
+use Rattle.mh_top.specs.Verdicts.{Answering}
+use Rattle.mh_top.specs.Work.{Work, Plan, Ends, AsksEach, Outcome, Gives, GivesEach, PlanGives, IsWork, line_limit, max_lines}
 use Rattle.mh_top.specs.Run.{World, MayEnd, Does, HoldsLines, IsOutPart, PartsWith, Ran, Finished, CannotReadFile, CannotReadInput, CannotWrite, NoMemory}
 use Rattle.mh_top.specs.Claims.{FileOf, HoldsFile, IsAbsent, IsLongFile, IsLongInput, IsPast, AsksLines, Completes, IsDone, Finishes, MisuseHasCause, ReadFaultHasCause, AbsentIsSaid, WriteFaultHasCause, TooBigHasCause, LongFileIsSaid, LongInputIsSaid, WritesPart, IsStatus}
 use Rattle.mh_top.specs.declared.stop.Cause.{Cause}
 use Rattle.mh_top.specs.declared.stop.Cause.TheVariants.{Refused, Misused, Missing, TooBig}
-use Rattle.mh_top.proofs.Endings.{Ended, Misuse, NoSuchFile, LongFile, Refusal, Lines, ended, missing_gives, long_gives}
+use Rattle.mh_top.proofs.Endings.{Ended, Misuse, NoSuchFile, LongFile, Refusal, Done, Lines, ended, missing_gives, long_gives}
 
 calm_not : (a b : ℕ) → IsCalm a b → Rose a b → ⊥
 calm_not a b calm rose = omega arith
@@ -39,11 +40,11 @@ lines_end : (whole : Bool) (o : Outcome) (status : ℕ) → status ≡ status_of
 lines_end true o status is cause = inl (is ∙ ap status_of cause)
 lines_end false o status is cause = inr (is ∙ ap status_of cause, refl)
 
-gives_lines : (w : Work) (trees : Bool) (g : Grammar) (t : TableData) (input : Option Text) (o : Outcome) → w ≡ answering trees g t → Gives w input o → Gives (answering trees g t) input o
-gives_lines w trees g t input o is gives = subst (λ (x : Work). Gives x input o) is gives
+gives_lines : (w : Work) (by : Answering) (input : Option Text) (o : Outcome) → w.plan ≡ AsksEach by → Gives w input o → GivesEach w.warnings by input o
+gives_lines w by input o is gives = subst (λ (p : Plan). PlanGives w.warnings p input o) is gives
 
-asks_lines : (w : Work) (trees : Bool) (g : Grammar) (t : TableData) → w ≡ answering trees g t → AsksLines w.plan
-asks_lines w trees g t is = subst (λ (x : Work). AsksLines x.plan) (sym is) tt
+asks_lines : (w : Work) (by : Answering) → w.plan ≡ AsksEach by → AsksLines w.plan
+asks_lines w by is = subst AsksLines (sym is) tt
 
 past : (input : Option Text) (lines : List Text) (whole : Bool) → whole ≡ false → Asks line_limit max_lines input lines whole → IsPast input
 past None lines whole is asks = tt
@@ -85,8 +86,8 @@ module _ (words : List Text) (b a : World) (status : ℕ) where
     other : (n m : ℕ) (cause : Option Cause) → status ≡ n → does.outcome.cause ≡ cause → status_of cause ≡ m → (n ≡ m → ⊥) → ⊥
     other n m cause at same code differ = differs status n m does.outcome cause does.status_is at same code differ
 
-    lines : (trees : Bool) (g : Grammar) (t : TableData) → does.work ≡ answering trees g t → (status ≡ 0) ⊎ ((status ≡ 5) × IsPast b.left)
-    lines trees g t is = let gives = gives_lines does.work trees g t b.left does.outcome is does.gives in lines_at gives.lines gives.whole gives.asks (lines_end gives.whole does.outcome status does.status_is gives.cause_is)
+    lines : (by : Answering) → does.work.plan ≡ AsksEach by → (status ≡ 0) ⊎ ((status ≡ 5) × IsPast b.left)
+    lines by is = let gives = gives_lines does.work by b.left does.outcome is does.gives in lines_at gives.lines gives.whole gives.asks (lines_end gives.whole does.outcome status does.status_is gives.cause_is)
       where
         lines_at : (ls : List Text) (whole : Bool) → Asks line_limit max_lines b.left ls whole → (status ≡ 0) ⊎ ((status ≡ 5) × (whole ≡ false)) → (status ≡ 0) ⊎ ((status ≡ 5) × IsPast b.left)
         lines_at ls whole asks (inl h) = inl h
@@ -101,7 +102,8 @@ module _ (words : List Text) (b a : World) (status : ℕ) where
     misuse_at two (NoSuchFile is has) = absurd (other 2 3 (Some Missing) two is refl (λ h. omega arith))
     misuse_at two (LongFile is has) = absurd (other 2 5 (Some TooBig) two is refl (λ h. omega arith))
     misuse_at two (Refusal is) = absurd (other 2 1 (Some Refused) two is refl (λ h. omega arith))
-    misuse_at two (Lines trees g t is) = absurd (zero_or_five 2 two (λ h. omega arith) (λ h. omega arith) (lines trees g t is))
+    misuse_at two (Done is) = absurd (other 2 0 None two is refl (λ h. omega arith))
+    misuse_at two (Lines by is) = absurd (zero_or_five 2 two (λ h. omega arith) (λ h. omega arith) (lines by is))
 
     absent_told : (files : Option Files) → MayEnd files (Some Missing) → HoldsFile words NoFile files → IsAbsent words files
     absent_told None may has = absurd may
@@ -112,7 +114,8 @@ module _ (words : List Text) (b a : World) (status : ℕ) where
     absent_at three (Misuse is cause line here err) = absurd (other 3 2 (Some Misused) three is refl (λ h. omega arith))
     absent_at three (LongFile is has) = absurd (other 3 5 (Some TooBig) three is refl (λ h. omega arith))
     absent_at three (Refusal is) = absurd (other 3 1 (Some Refused) three is refl (λ h. omega arith))
-    absent_at three (Lines trees g t is) = absurd (zero_or_five 3 three (λ h. omega arith) (λ h. omega arith) (lines trees g t is))
+    absent_at three (Done is) = absurd (other 3 0 None three is refl (λ h. omega arith))
+    absent_at three (Lines by is) = absurd (zero_or_five 3 three (λ h. omega arith) (λ h. omega arith) (lines by is))
 
     four_not : status ≡ 4 → (cause : Option Cause) → does.outcome.cause ≡ cause → ⊥
     four_not four None is = other 4 0 None four is refl (λ h. omega arith)
@@ -121,13 +124,14 @@ module _ (words : List Text) (b a : World) (status : ℕ) where
     four_not four (Some Missing) is = other 4 3 (Some Missing) four is refl (λ h. omega arith)
     four_not four (Some TooBig) is = other 4 5 (Some TooBig) four is refl (λ h. omega arith)
 
-    big_lines : (trees : Bool) (g : Grammar) (t : TableData) → does.work ≡ answering trees g t → status ≡ 5 → (status ≡ 0) ⊎ ((status ≡ 5) × IsPast b.left) → IsLongInput words b
-    big_lines trees g t is five (inl zero) = absurd (omega arith)
-    big_lines trees g t is five (inr h) = (does.work, does.is_asked, asks_lines does.work trees g t is, h.1)
+    big_lines : (by : Answering) → does.work.plan ≡ AsksEach by → status ≡ 5 → (status ≡ 0) ⊎ ((status ≡ 5) × IsPast b.left) → IsLongInput words b
+    big_lines by is five (inl zero) = absurd (omega arith)
+    big_lines by is five (inr h) = (does.work, does.is_asked, asks_lines does.work by is, h.1)
 
     big_at : status ≡ 5 → Ended words (λ what. HoldsFile words what b.files) does.work does.outcome → IsLongFile words b.files ⊎ IsLongInput words b
     big_at five (LongFile is has) = inl has
-    big_at five (Lines trees g t is) = inr (big_lines trees g t is five (lines trees g t is))
+    big_at five (Done is) = absurd (other 5 0 None five is refl (λ h. omega arith))
+    big_at five (Lines by is) = inr (big_lines by is five (lines by is))
     big_at five (Misuse is cause line here err) = absurd (other 5 2 (Some Misused) five is refl (λ h. omega arith))
     big_at five (NoSuchFile is has) = absurd (other 5 3 (Some Missing) five is refl (λ h. omega arith))
     big_at five (Refusal is) = absurd (other 5 1 (Some Refused) five is refl (λ h. omega arith))

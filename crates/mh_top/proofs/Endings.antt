@@ -1,9 +1,10 @@
 -- How the work that the words ask for ends, by its cause.
-use Rattle.std.proofs.Common.{◌≡◌, Bool, List, [], ◌∷◌, ◌++◌, Option, None, Some, refl, sym, ◌∙◌, ap, subst}
+use Rattle.std.proofs.Common.{◌≡◌, Bool, true, false, ◌&&◌, List, [], ◌∷◌, ◌++◌, Option, None, Some, refl, sym, ◌∙◌, ap, ap₂, subst}
 use Rattle.std.specs.List.{All}
 use Rattle.std.proofs.lemmas.List.Elements.{All-head, All-tail}
 use Rattle.mh_grammar.specs.declared.types.Grammar.{Grammar}
-use Rattle.mh_tables.specs.Table.{TableData}
+use Rattle.mh_opts.specs.declared.order.Job.{Job}
+use Rattle.mh_opts.specs.declared.order.Job.TheVariants.{Interpret, ShowAutomaton}
 use Rattle.mh_outside.specs.Shelf.{Files, Found, found, NoFile, Long, Bytes}
 use Rattle.mh_reader.specs.declared.modules.Module.{Module}
 use Rattle.mh_opts.specs.declared.order.Order.{Order}
@@ -13,8 +14,10 @@ use Rattle.mh_top.specs.Order.{order_of}
 use Rattle.mh_top.specs.FileStage.{IsLoaded, IsModuleStage, IsFileStage, IsSpelled, IsTurn, Behind, Over, loaded, loaded_from, file_limit}
 use Rattle.mh_top.specs.GrammarStage.{IsGrammarStage}
 use Rattle.mh_top.specs.TableStage.{IsTableStage}
-use Rattle.mh_top.specs.Work.{Work, Outcome, Gives, Then, IsWork, IsWorkOfOrder, IsWorkOfFiles, IsWorkOfGrammar, IsWorkOfTable, halted, answering}
+use Rattle.mh_top.specs.Verdicts.{Answering}
+use Rattle.mh_top.specs.Work.{Work, Plan, Ending, Ends, AsksEach, Outcome, Gives, PlanGives, Then, IsWork, IsWorkOfOrder, IsWorkOfFiles, IsWorkOfGrammar, IsWorkOfTable, IsPlanOfJob, IsPlanUnless, has_warning, halted}
 use Rattle.mh_top.specs.Claims.{HoldsFile}
+use Rattle.mh_top.specs.declared.tabled.Tabled.{Tabled}
 use Rattle.mh_top.specs.declared.stop.Cause.{Cause}
 use Rattle.mh_top.specs.declared.stop.Cause.TheVariants.{Refused, Misused, Missing, TooBig}
 use Rattle.mh_top.proofs.Turns.{turn_first, turn_later, file_once}
@@ -26,7 +29,8 @@ pub data Ended (words : List Text) (Has : Found → Type 0) (w : Work) (o : Outc
   NoSuchFile : o.cause ≡ Some Missing → Has NoFile → Ended words Has w o
   LongFile : o.cause ≡ Some TooBig → Has Long → Ended words Has w o
   Refusal : o.cause ≡ Some Refused → Ended words Has w o
-  Lines : (trees : Bool) → (g : Grammar) → (t : TableData) → w ≡ answering trees g t → Ended words Has w o
+  Done : o.cause ≡ None → Ended words Has w o
+  Lines : (by : Answering) → w.plan ≡ AsksEach by → Ended words Has w o
 
 -- the outcome of a work that halts
 cause_halted : (w : Work) (input : Option Text) (o : Outcome) (cause : Cause) (line : Text) → w ≡ halted cause line → Gives w input o → (o.cause ≡ Some cause) × (o.err ≡ line)
@@ -45,8 +49,21 @@ module _ (words : List Text) (files : Option Files) (w : Work) (input : Option T
   refusal : (cause : Cause) (line : Text) → w ≡ halted cause line → cause ≡ Refused → Ended words Has w o
   refusal cause line is refused = Refusal ((cause_halted w input o cause line is gives).0 ∙ ap Some refused)
 
-  of_table : (order : Order) (g : Grammar) (s : Staged TableData) → IsTableStage g s → Then s (IsWorkOfTable order g) w → Ended words Has w o
-  of_table order g (Go t) stage is = Lines order.show_cst g t is
+  -- the outcome of a plan that asks for no line
+  cause_ended : (e : Ending) → w.plan ≡ Ends e → o.cause ≡ e.cause
+  cause_ended e is =
+      let same : PlanGives w.warnings (Ends e) input o = subst (λ (p : Plan). PlanGives w.warnings p input o) is gives in ap (λ (x : Outcome). x.cause) same
+
+  of_job : (job : Job) (trees : Bool) (g : Grammar) (tabled : Tabled) → IsPlanOfJob job trees g tabled w.plan → Ended words Has w o
+  of_job Interpret trees g tabled is = Lines (record { trees = trees; grammar = g; table = tabled.halting }) is
+  of_job ShowAutomaton trees g tabled is = Done (cause_ended _ is.2)
+
+  of_plan : (refused : Bool) (order : Order) (g : Grammar) (tabled : Tabled) → IsPlanUnless refused order g tabled w.plan → Ended words Has w o
+  of_plan true order g tabled is = Refusal (cause_ended _ is)
+  of_plan false order g tabled is = of_job order.job order.show_cst g tabled is
+
+  of_table : (order : Order) (g : Grammar) (s : Staged Tabled) → IsTableStage g s → Then s (IsWorkOfTable order g) w → Ended words Has w o
+  of_table order g (Go tabled) stage is = of_plan (order.strict && has_warning tabled.conflicts) order g tabled is.1
   of_table order g (Halt cause line) stage is = refusal cause line is stage.0
 
   of_modules : (order : Order) (modules : List Module) (s : Staged Grammar) → IsGrammarStage order.stdlib modules s → Then s (IsWorkOfGrammar order) w → Ended words Has w o
@@ -60,9 +77,12 @@ module _ (words : List Text) (files : Option Files) (w : Work) (input : Option T
     of_found name turn (Bytes bytes) here cause line from is = absurd (cc)
 
     of_read : (name : Text) → IsTurn files order.grammars name → (read : Staged Text) → IsLoaded files name read → (cause : Cause) (line : Text) → Behind read (IsModuleStage name) (Halt cause line) → w ≡ halted cause line → Ended words Has w o
-    of_read name turn (Go bytes) loaded cause line behind is = refusal cause line is behind.0
-    of_read name turn (Halt cause' line') loaded cause line behind is =
-        let p = over_found files name (Halt cause' line') loaded in of_found name turn p.0 p.1 cause line (p.2 ∙ sym behind) is
+    of_read name turn (Go bytes) told cause line behind is = refusal cause line is behind.0
+    of_read name turn (Halt cause' line') told cause line behind is =
+        let p = over_found files name (Halt cause' line') told in
+        let same_cause : cause ≡ cause' = cc in
+        let same_line : line ≡ line' = cc in
+        of_found name turn p.0 p.1 cause' line' p.2 (is ∙ ap₂ halted same_cause same_line)
 
     of_file : (name : Text) → IsTurn files order.grammars name → (Next : Module → Work → Type 0) (s : Staged Module) → IsFileStage files name s → ((m : Module) → IsFileStage files name (Go m) → Next m w → Ended words Has w o) → Then s Next w → Ended words Has w o
     of_file name turn Next (Go m) stage next is = next m stage is

@@ -1,5 +1,5 @@
 -- The answers of sentence lines, over the work that the words ask for.
-use Rattle.std.proofs.Common.{◌≡◌, ◌↔◌, ℕ, ◌+◌, ◌<◌, ◌≤◌, List, [], ◌∷◌, ◌++◌, length, take, get_or, Bool, false, Option, None, Some, refl, sym, ◌∙◌, ap, subst, arith, inl, inr}
+use Rattle.std.proofs.Common.{◌≡◌, ◌↔◌, ℕ, ◌+◌, ◌<◌, ◌≤◌, List, [], ◌∷◌, ◌++◌, length, take, get_or, Bool, true, false, ◌&&◌, Option, None, Some, refl, sym, ◌∙◌, ap, subst, arith, inl, inr}
 use Rattle.std.specs.Prelude.{codes}
 use Rattle.std.proofs.lemmas.Bool.{cases_lt}
 use Rattle.std.proofs.lemmas.Option.{slice_get_within, slice_get-get_or}
@@ -20,7 +20,7 @@ use Rattle.mh_resolve.specs.declared.kinds.Mode.TheVariants.{Canonical}
 use Rattle.mh_resolve.proofs.Resolving.{facts_of}
 use Rattle.mh_tables.specs.Table.{TableData, table_data}
 use Rattle.mh_tables.specs.Facts.{Facts}
-use Rattle.mh_tables.specs.Run.{Ending, Accepted, Overshot, Rejected, VerdictOf, initial}
+use Rattle.mh_tables.specs.Run.{Ending as Ended, Accepted, Overshot, Rejected, VerdictOf, initial}
 use Rattle.mh_tables.proofs.Cut.{verdict_cut}
 use Rattle.mh_tables.proofs.Ending.{one_ending}
 use Rattle.mh_run.specs.Exactness.{IsPrefixSentence, AllProductive}
@@ -32,7 +32,10 @@ use Rattle.mh_reader.specs.Spelling.{Spells}
 use Rattle.mh_join.specs.Ready.{HaveAlternatives}
 use Rattle.mh_front.proofs.OneGrammar.{in_range}
 use Rattle.mh_front.proofs.Reading.{push_spelled}
+use Rattle.mh_opts.specs.declared.order.Job.{Job}
+use Rattle.mh_opts.specs.declared.order.Job.TheVariants.{Interpret, ShowAutomaton}
 use Rattle.mh_opts.specs.declared.order.Order.{Order}
+use Rattle.mh_top.specs.declared.tabled.Tabled.{Tabled}
 use Rattle.mh_top.specs.Text.{Text}
 use Rattle.mh_top.specs.Causes.{Staged, Go, Halt}
 use Rattle.mh_top.specs.Order.{order_of}
@@ -41,7 +44,7 @@ use Rattle.mh_top.specs.GrammarStage.{IsGrammarStage}
 use Rattle.mh_top.specs.TableStage.{HasTooMany, HasTable, IsTableStage}
 use Rattle.mh_msgfile.specs.Sentences.{LineFound, IsSentence}
 use Rattle.mh_top.specs.Verdicts.{Answering, FoundText, verdict_text}
-use Rattle.mh_top.specs.Work.{Work, AsksEach, Then, IsWork, IsWorkOfOrder, IsWorkOfFiles, IsWorkOfGrammar, IsWorkOfTable, halted, answering, interpreting}
+use Rattle.mh_top.specs.Work.{Work, Ending, Ends, AsksEach, Then, IsWork, IsWorkOfOrder, IsWorkOfFiles, IsWorkOfGrammar, IsWorkOfTable, IsPlanOfJob, IsPlanUnless, has_warning, halted, answering}
 use Rattle.mh_top.specs.Exact.{IsLR1, AnswersSentence, AcceptsExactly, RejectsRightly, OvershootsRightly, AcceptsRightly}
 use Rattle.mh_top.specs.declared.stop.Cause.{Cause}
 use Rattle.mh_msgfile.proofs.Below.{sentence_start}
@@ -57,41 +60,59 @@ pub record IsTabled (g : Grammar) (t : TableData) : Type 0 where
 abbrev by : Bool → Grammar → TableData → Answering
 by trees g t = record { trees = trees; grammar = g; table = t }
 
-module _ (g : Grammar) (t : TableData) where
-  not_halted : (cause : Cause) (line : Text) → interpreting g t ≡ halted cause line → ⊥
-  not_halted cause line e = let p = ap (λ (w : Work). w.plan) e in cc
+same_answering : (x y : Answering) → AsksEach x ≡ AsksEach y → y ≡ x
+same_answering x y e = cc
 
-  same_tabled : (trees : Bool) (h : Grammar) (u : TableData) → interpreting g t ≡ answering trees h u → IsTabled h u → IsTabled g t
+no_end : (x : Answering) (e : Ending) → AsksEach x ≡ Ends e → ⊥
+no_end x e is = cc
+
+module _ (warnings : Text) (g : Grammar) (t : TableData) where
+  abbrev work : Work
+  work = record { warnings = warnings; plan = answering false g t }
+
+  not_halted : (cause : Cause) (line : Text) → work ≡ halted cause line → ⊥
+  not_halted cause line e = no_end (by false g t) _ (ap (λ (w : Work). w.plan) e)
+
+  same_tabled : (trees : Bool) (h : Grammar) (u : TableData) → answering false g t ≡ answering trees h u → IsTabled h u → IsTabled g t
   same_tabled trees h u e is =
-      let p : AsksEach (by false g t) ≡ AsksEach (by trees h u) = ap (λ (w : Work). w.plan) e in
-      let same : by trees h u ≡ by false g t = cc in
+      let same : by trees h u ≡ by false g t = same_answering (by false g t) (by trees h u) e in
       let grammar : h ≡ g = ap (λ (a : Answering). a.grammar) same in
       let table : u ≡ t = ap (λ (a : Answering). a.table) same in
       subst (λ (x : TableData). IsTabled g x) table (subst (λ (x : Grammar). IsTabled x u) grammar is)
 
-  of_table : (order : Order) (h : Grammar) → IsInRange (plain_of h) → (s : Staged TableData) → IsTableStage h s → Then s (IsWorkOfTable order h) (interpreting g t) → IsTabled g t
-  of_table order h range (Go u) stage is = same_tabled order.show_cst h u is (record { range = range; few = stage.0; table = stage.1 })
+  of_job : (job : Job) (trees : Bool) (h : Grammar) (tabled : Tabled) → IsTabled h tabled.halting → IsPlanOfJob job trees h tabled (answering false g t) → IsTabled g t
+  of_job Interpret trees h tabled has is = same_tabled trees h tabled.halting is has
+  of_job ShowAutomaton trees h tabled has is = absurd (no_end (by false g t) _ is.2)
+
+  of_plan : (refused : Bool) (order : Order) (h : Grammar) (tabled : Tabled) → IsTabled h tabled.halting → IsPlanUnless refused order h tabled (answering false g t) → IsTabled g t
+  of_plan true order h tabled has is = absurd (no_end (by false g t) _ is)
+  of_plan false order h tabled has is = of_job order.job order.show_cst h tabled has is
+
+  of_table : (order : Order) (h : Grammar) → IsInRange (plain_of h) → (s : Staged Tabled) → IsTableStage h s → Then s (IsWorkOfTable order h) work → IsTabled g t
+  of_table order h range (Go tabled) stage is =
+      of_plan (order.strict && has_warning tabled.conflicts) order h tabled
+      (record { range = range; few = stage.0; table = record { automaton = tabled.automaton; canonical = stage.1.canonical; table = stage.1.table } }) is.1
   of_table order h range (Halt cause line) stage is = absurd (not_halted cause line is)
 
-  of_modules : (order : Order) (modules : List Module) → HaveAlternatives modules → (s : Staged Grammar) → IsGrammarStage order.stdlib modules s → Then s (IsWorkOfGrammar order) (interpreting g t) → IsTabled g t
+  of_modules : (order : Order) (modules : List Module) → HaveAlternatives modules → (s : Staged Grammar) → IsGrammarStage order.stdlib modules s → Then s (IsWorkOfGrammar order) work → IsTabled g t
   of_modules order modules some (Go h) stage is = of_table order h (in_range order.stdlib modules h some stage) is.0 is.1 is.2
   of_modules order modules some (Halt cause line) stage is = absurd (not_halted cause line is)
 
-  of_file : (files : Option Files) (name : Text) (Next : Module → Work → Type 0) (s : Staged Module) → IsFileStage files name s → ((m : Module) → (bytes : Text) × Spells bytes m → Next m (interpreting g t) → IsTabled g t) → Then s Next (interpreting g t) → IsTabled g t
+  of_file : (files : Option Files) (name : Text) (Next : Module → Work → Type 0) (s : Staged Module) → IsFileStage files name s → ((m : Module) → (bytes : Text) × Spells bytes m → Next m work → IsTabled g t) → Then s Next work → IsTabled g t
   of_file files name Next (Go m) stage next is = next m (file_spelled files name m stage) is
   of_file files name Next (Halt cause line) stage next is = absurd (not_halted cause line is)
 
-  of_files : (files : Option Files) (order : Order) (modules : List Module) → HaveAlternatives modules → (names : List Text) → IsWorkOfFiles files order modules names (interpreting g t) → IsTabled g t
+  of_files : (files : Option Files) (order : Order) (modules : List Module) → HaveAlternatives modules → (names : List Text) → IsWorkOfFiles files order modules names work → IsTabled g t
   of_files files order modules some [] is = of_modules order modules some is.0 is.1 is.2
   of_files files order modules some (name ∷ names) is =
       of_file files name (λ m. IsWorkOfFiles files order (modules ++ m ∷ []) names) is.0 is.1
       (λ m spelled rest. of_files files order (modules ++ m ∷ []) (push_spelled modules spelled.0 m some spelled.1) names rest) is.2
 
-  of_words : (files : Option Files) (s : Staged Order) → Then s (IsWorkOfOrder files) (interpreting g t) → IsTabled g t
+  of_words : (files : Option Files) (s : Staged Order) → Then s (IsWorkOfOrder files) work → IsTabled g t
   of_words files (Go order) is = of_files files order [] none_spelled order.grammars is
   of_words files (Halt cause line) is = absurd (not_halted cause line is)
 
-  pub asked_tabled : (words : List Text) (files : Option Files) → IsWork words files (interpreting g t) → IsTabled g t
+  pub asked_tabled : (words : List Text) (files : Option Files) → IsWork words files work → IsTabled g t
   asked_tabled words files asked = of_words files (order_of words) asked
 
 -- ---- the automaton of the table
@@ -164,17 +185,17 @@ accept_not_reject e = no_same 65 82 (omega arith) (ap (λ (text : Text). get_or 
 overshoot_not_reject : codes "OVERSHOOT\n" ≡ codes "REJECT\n" → ⊥
 overshoot_not_reject e = no_same 79 82 (omega arith) (ap (λ (text : Text). get_or text 0 0) e)
 
-accepted_how : (how : Ending) → verdict_text how ≡ codes "ACCEPT\n" → (read : ℕ) × (how ≡ Accepted read)
+accepted_how : (how : Ended) → verdict_text how ≡ codes "ACCEPT\n" → (read : ℕ) × (how ≡ Accepted read)
 accepted_how (Accepted read) e = (read, refl)
 accepted_how (Overshot s) e = absurd (accept_not_overshoot (sym e))
 accepted_how (Rejected at s) e = absurd (accept_not_reject (sym e))
 
-rejected_how : (how : Ending) → verdict_text how ≡ codes "REJECT\n" → (at : ℕ) × (s : ℕ) × (how ≡ Rejected at s)
+rejected_how : (how : Ended) → verdict_text how ≡ codes "REJECT\n" → (at : ℕ) × (s : ℕ) × (how ≡ Rejected at s)
 rejected_how (Accepted read) e = absurd (accept_not_reject e)
 rejected_how (Overshot s) e = absurd (overshoot_not_reject e)
 rejected_how (Rejected at s) e = (at, s, refl)
 
-overshot_how : (how : Ending) → verdict_text how ≡ codes "OVERSHOOT\n" → (s : ℕ) × (how ≡ Overshot s)
+overshot_how : (how : Ended) → verdict_text how ≡ codes "OVERSHOOT\n" → (s : ℕ) × (how ≡ Overshot s)
 overshot_how (Accepted read) e = absurd (accept_not_overshoot e)
 overshot_how (Overshot s) e = (s, refl)
 overshot_how (Rejected at s) e = absurd (overshoot_not_reject (sym e))
@@ -183,7 +204,7 @@ overshot_how (Rejected at s) e = absurd (overshoot_not_reject (sym e))
 
 module _ (words : List Text) (files : Option Files) (g : Grammar) (s : Sentence) (text : Text) (by : AnswersSentence words files g s text) where
   is : IsTabled g by.table
-  is = asked_tabled g by.table words files by.asked
+  is = asked_tabled by.warnings g by.table words files by.asked
 
   known : s.start < length g.starts
   known = sentence_start g by.line s by.sentence
@@ -191,8 +212,8 @@ module _ (words : List Text) (files : Option Files) (g : Grammar) (s : Sentence)
   said : FoundText by.table (IsSentence s) text
   said = subst (λ (f : LineFound). FoundText by.table f text) by.sentence by.answer
 
-  says : (how : Ending) → said.0 ≡ how → VerdictOf by.table s.start s.tokens how
-  says how e = subst (λ (h : Ending). VerdictOf by.table s.start s.tokens h) e said.1
+  says : (how : Ended) → said.0 ≡ how → VerdictOf by.table s.start s.tokens how
+  says how e = subst (λ (h : Ended). VerdictOf by.table s.start s.tokens h) e said.1
 
   accepts_read : IsLR1 g → text ≡ codes "ACCEPT\n" → (read : ℕ) × IsPrefixSentence (plain_of g) s.start s.tokens read
   accepts_read lr1 e =

@@ -2,10 +2,10 @@ pub mod Splits
 pub mod SoFar
 pub mod Loads
 pub mod Turns
-pub mod Refusing
 pub mod Reports
 pub mod Worked
 pub mod Steps
+pub mod Following
 pub mod Endings
 pub mod Claims
 pub mod Answering

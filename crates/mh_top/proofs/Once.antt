@@ -1,11 +1,16 @@
 -- The work that the words ask for is one, as each of its stages gives one thing.
-use Rattle.std.proofs.Common.{◌≡◌, ◌⊎◌, inl, inr, ◌≤◌, ℕ, Bool, List, [], ◌∷◌, ◌++◌, Option, Some, sym, ◌∙◌, ap, ap₂, subst, arith}
+use Rattle.std.proofs.Common.{◌≡◌, ◌⊎◌, inl, inr, ◌≤◌, ℕ, Bool, true, false, ◌&&◌, List, [], ◌∷◌, ◌++◌, Option, Some, sym, ◌∙◌, ap, ap₂, subst, arith}
 use Rattle.mh_grammar.specs.declared.types.Grammar.{Grammar}
 use Rattle.mh_grammar.specs.Plain.{plain_of}
 use Rattle.mh_items.specs.declared.kernels.Automaton.{Automaton}
 use Rattle.mh_canon.proofs.Only.{one_canonical}
-use Rattle.mh_resolve.proofs.Once.{one_table}
+use Rattle.mh_opts.specs.declared.order.Job.{Job}
+use Rattle.mh_opts.specs.declared.order.Job.TheVariants.{Interpret, ShowAutomaton}
+use Rattle.mh_report.proofs.OneText.{text_once}
+use Rattle.mh_resolve.proofs.Once.{one_table, conflicts_once}
 use Rattle.mh_resolve.specs.States.{IsTableOf}
+use Rattle.mh_resolve.specs.Conflicts.{AreConflicts}
+use Rattle.mh_resolve.specs.declared.conflicts.Conflict.{Conflict}
 use Rattle.mh_resolve.specs.declared.kinds.Mode.TheVariants.{Canonical}
 use Rattle.mh_tables.specs.Table.{TableData}
 use Rattle.mh_tables.specs.Halting.{Halts, LoopsAt}
@@ -19,9 +24,10 @@ use Rattle.mh_front.proofs.OneGrammar.{one_grammar, one_fault, grammar_or_fault}
 use Rattle.mh_reader.specs.declared.modules.Module.{Module}
 use Rattle.mh_opts.specs.declared.order.Order.{Order}
 use Rattle.mh_top.specs.GrammarStage.{IsGrammarStage, refusal}
-use Rattle.mh_top.specs.TableStage.{HasTooMany, HasTable, LoopsFirst, IsTableStage, loops_line}
-use Rattle.mh_top.specs.Work.{Work, Then, IsWork, IsWorkOfOrder, IsWorkOfFiles, IsWorkOfModules, IsWorkOfGrammar, IsWorkOfTable}
+use Rattle.mh_top.specs.TableStage.{HasTooMany, HasTable, AreTabled, LoopsFirst, IsTableStage, loops_line}
+use Rattle.mh_top.specs.Work.{Work, Plan, Then, IsWork, IsWorkOfOrder, IsWorkOfFiles, IsWorkOfModules, IsWorkOfGrammar, IsWorkOfTable, IsPlanOfJob, IsPlanUnless, has_warning, showing}
 use Rattle.mh_top.specs.declared.stop.Cause.{Cause}
+use Rattle.mh_top.specs.declared.tabled.Tabled.{Tabled}
 use Rattle.mh_top.proofs.Turns.{file_once}
 
 -- ---- a table
@@ -56,14 +62,25 @@ refusal_once g a b (inl p) (inr q) = absurd (q.0 p.0)
 refusal_once g a b (inr p) (inl q) = absurd (p.0 q.0)
 refusal_once g a b (inr p) (inr q) = loop_once g a b p.1 q.1
 
-not_refused : (g : Grammar) (t : TableData) (line : Text) → IsTableStage g (Go t) → Refusal g line → ⊥
-not_refused g t line go (inl p) = go.0 p.0
-not_refused g t line go (inr p) = loops_not g t line go.1 go.2 p.1
+has_table : (g : Grammar) (a : Automaton) (t : TableData) (conflicts : List Conflict) → AreTabled g a t conflicts → HasTable g t
+has_table g a t conflicts are = record { automaton = a; canonical = are.canonical; table = are.table }
 
-pub table_stage_once : (g : Grammar) (s s' : Staged TableData) → IsTableStage g s → IsTableStage g s' → s ≡ s'
-table_stage_once g (Go t) (Go u) p q = ap Go (table_once g t u p.1 q.1)
-table_stage_once g (Go t) (Halt cause line) p q = absurd (not_refused g t line p q.1)
-table_stage_once g (Halt cause line) (Go t) p q = absurd (not_refused g t line q p.1)
+not_refused : (g : Grammar) (tabled : Tabled) (line : Text) → IsTableStage g (Go tabled) → Refusal g line → ⊥
+not_refused g tabled line go (inl p) = go.0 p.0
+not_refused g tabled line go (inr p) = loops_not g tabled.halting line (has_table g tabled.automaton tabled.halting tabled.conflicts go.1) go.2 p.1
+
+tabled_once : (g : Grammar) (x y : Tabled) → AreTabled g x.automaton x.halting x.conflicts → AreTabled g y.automaton y.halting y.conflicts → x ≡ y
+tabled_once g x y p q =
+    let same : y.automaton ≡ x.automaton = one_canonical (plain_of g) y.automaton x.automaton q.canonical p.canonical in
+    let automaton : x.automaton ≡ y.automaton = sym same in
+    let halting : x.halting ≡ y.halting = one_table g x.automaton Canonical x.halting y.halting p.table (subst (λ (a : Automaton). IsTableOf g a Canonical y.halting) same q.table) in
+    let conflicts : x.conflicts ≡ y.conflicts = conflicts_once g x.automaton x.conflicts y.conflicts p.conflicts (subst (λ (a : Automaton). AreConflicts g a y.conflicts) same q.conflicts) in
+    λ i. record { automaton = automaton i; halting = halting i; conflicts = conflicts i }
+
+pub table_stage_once : (g : Grammar) (s s' : Staged Tabled) → IsTableStage g s → IsTableStage g s' → s ≡ s'
+table_stage_once g (Go x) (Go y) p q = ap Go (tabled_once g x y p.1 q.1)
+table_stage_once g (Go x) (Halt cause line) p q = absurd (not_refused g x line p q.1)
+table_stage_once g (Halt cause line) (Go y) p q = absurd (not_refused g y line q p.1)
 table_stage_once g (Halt cause line) (Halt cause' line') p q = ap₂ (λ (c : Cause) (l : Text). Halt c l) (p.0 ∙ sym q.0) (refusal_once g line line' p.1 q.1)
 
 -- ---- a grammar
@@ -84,13 +101,24 @@ then_once : {A : Type 0} (s : Staged A) (Next : A → Work → Type 0) → ((x :
 then_once (Go x) Next once w v p q = once x w v p q
 then_once (Halt cause line) Next once w v p q = p ∙ sym q
 
-table_work_once : (order : Order) (g : Grammar) (t : TableData) → IsOne (IsWorkOfTable order g t)
-table_work_once order g t w v p q = p ∙ sym q
+job_once : (job : Job) (trees : Bool) (g : Grammar) (tabled : Tabled) (x y : Plan) → IsPlanOfJob job trees g tabled x → IsPlanOfJob job trees g tabled y → x ≡ y
+job_once Interpret trees g tabled x y p q = p ∙ sym q
+job_once ShowAutomaton trees g tabled x y p q = p.2 ∙ ap showing (text_once g tabled.automaton Canonical tabled.halting p.0 q.0 p.1 q.1) ∙ sym q.2
+
+plan_once : (refused : Bool) (order : Order) (g : Grammar) (tabled : Tabled) (x y : Plan) → IsPlanUnless refused order g tabled x → IsPlanUnless refused order g tabled y → x ≡ y
+plan_once true order g tabled x y p q = p ∙ sym q
+plan_once false order g tabled x y p q = job_once order.job order.show_cst g tabled x y p q
+
+table_work_once : (order : Order) (g : Grammar) (tabled : Tabled) → IsOne (IsWorkOfTable order g tabled)
+table_work_once order g tabled w v p q =
+    let warnings : w.warnings ≡ v.warnings = p.0 ∙ sym q.0 in
+    let plan : w.plan ≡ v.plan = plan_once (order.strict && has_warning tabled.conflicts) order g tabled w.plan v.plan p.1 q.1 in
+    λ i. record { warnings = warnings i; plan = plan i }
 
 grammar_work_once : (order : Order) (g : Grammar) → IsOne (IsWorkOfGrammar order g)
 grammar_work_once order g w v p q =
     let same : q.0 ≡ p.0 = table_stage_once g q.0 p.0 q.1 p.1 in
-    then_once p.0 (IsWorkOfTable order g) (table_work_once order g) w v p.2 (subst (λ (s : Staged TableData). Then s (IsWorkOfTable order g) v) same q.2)
+    then_once p.0 (IsWorkOfTable order g) (table_work_once order g) w v p.2 (subst (λ (s : Staged Tabled). Then s (IsWorkOfTable order g) v) same q.2)
 
 modules_work_once : (order : Order) (modules : List Module) → IsOne (IsWorkOfModules order modules)
 modules_work_once order modules w v p q =

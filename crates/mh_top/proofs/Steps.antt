@@ -1,10 +1,7 @@
 -- Each stage of the work, as it halts and as it goes on.
-use Rattle.std.proofs.Common.{◌≡◌, ℕ, List, [], Option, None, Some, refl, sym}
+use Rattle.std.proofs.Common.{◌≡◌, List, refl}
 use Rattle.std.specs.Prelude.{Result, Err}
-use Rattle.std.specs.Io.KnownBytes.{Appends}
-use Rattle.std.proofs.lemmas.List.{append-nil}
 use Rattle.mh_grammar.specs.declared.types.Grammar.{Grammar}
-use Rattle.mh_tables.specs.Table.{TableData}
 use Rattle.mh_opts.specs.declared.order.Order.{Order}
 use Rattle.mh_reader.specs.declared.modules.Module.{Module}
 use Rattle.mh_top.specs.Text.{Text}
@@ -13,19 +10,14 @@ use Rattle.mh_top.specs.Order.{order_of}
 use Rattle.mh_top.specs.Stages.{StageHas, StageIs}
 use Rattle.mh_top.specs.GrammarStage.{IsGrammarStage}
 use Rattle.mh_top.specs.TableStage.{IsTableStage}
-use Rattle.mh_top.specs.Each.{EachRan, EachCounts}
-use Rattle.mh_top.specs.Verdicts.{Answering, Answers}
 use Rattle.mh_top.specs.FileStage.{IsFileLine}
-use Rattle.mh_top.specs.Work.{IsWork, IsWorkOfOrder, IsWorkOfModules, IsWorkOfGrammar, IsWorkOfTable, line_limit, max_lines}
+use Rattle.mh_top.specs.Work.{IsWork, IsWorkOfOrder, IsWorkOfModules, IsWorkOfGrammar, IsWorkOfTable}
 use Rattle.mh_top.specs.Run.{World, Worked}
 use Rattle.mh_top.specs.Claims.{FileOf}
 use Rattle.mh_top.specs.declared.stop.Stop.{Stop}
+use Rattle.mh_top.specs.declared.tabled.Tabled.{Tabled}
 use Rattle.mh_top.proofs.Turns.{may_refuse}
-use Rattle.mh_top.proofs.Worked.{wider, stage_halts, order_on, order_halts, each_ran}
-
-Appends-nil : (out : Option Text) → Appends out out []
-Appends-nil None = tt
-Appends-nil (Some out) = sym (append-nil out)
+use Rattle.mh_top.proofs.Worked.{wider, stage_halts, order_on, order_halts}
 
 pub words_halt : (words : List Text) (b : World) (stop : Stop) → StageIs (order_of words) (Err stop) → Worked (IsWork words b.files) (FileOf words b.files) b b (Err stop)
 words_halt words b stop is = stage_halts (λ (s : Staged Order). order_of words ≡ s) (IsWork words b.files) (FileOf words b.files) b stop (λ cause line here. order_halts words b.files cause line here) is
@@ -40,17 +32,8 @@ grammar_halts order modules b stop is = stage_halts (IsGrammarStage order.stdlib
 pub grammar_on : (order : Order) (modules : List Module) (g : Grammar) (b a : World) (r : Result (Unit {0}) Stop) → IsGrammarStage order.stdlib modules (Go g) → Worked (IsWorkOfGrammar order g) (λ line. ⊥) b a r → Worked (IsWorkOfModules order modules) (λ line. ⊥) b a r
 grammar_on order modules g b a r is worked = wider (IsWorkOfGrammar order g) (IsWorkOfModules order modules) (λ line. ⊥) (λ line. ⊥) (λ w here. (Go g, is, here)) (λ line none. none) b a r worked
 
-pub table_halts : (order : Order) (g : Grammar) (b : World) (stop : Stop) → StageHas {A = TableData} (IsTableStage g) (Err stop) → Worked (IsWorkOfGrammar order g) (λ line. ⊥) b b (Err stop)
+pub table_halts : (order : Order) (g : Grammar) (b : World) (stop : Stop) → StageHas {A = Tabled} (IsTableStage g) (Err stop) → Worked (IsWorkOfGrammar order g) (λ line. ⊥) b b (Err stop)
 table_halts order g b stop is = stage_halts (IsTableStage g) (IsWorkOfGrammar order g) (λ line. ⊥) b stop (λ cause line here. ((Halt cause line, here, refl), may_refuse b.files cause here.0)) is
 
-pub table_on : (order : Order) (g : Grammar) (t : TableData) (b a : World) (r : Result (Unit {0}) Stop) → IsTableStage g (Go t) → Worked (IsWorkOfTable order g t) (λ line. ⊥) b a r → Worked (IsWorkOfGrammar order g) (λ line. ⊥) b a r
-table_on order g t b a r is worked = wider (IsWorkOfTable order g t) (IsWorkOfGrammar order g) (λ line. ⊥) (λ line. ⊥) (λ w here. (Go t, is, here)) (λ line none. none) b a r worked
-
--- the answers to the lines
-module _ (order : Order) (g : Grammar) (t : TableData) where
-  abbrev by : Answering
-  by = record { trees = order.show_cst; grammar = g; table = t }
-
-  pub answers_ran : (b : World) (left out : Option Text) (n m : ℕ) (r : Result (Unit {0}) Stop) → EachRan line_limit max_lines (Answers by) b.left left b.out out r → EachCounts b.input_faults n b.out_faults m r
-      → Worked (IsWorkOfTable order g t) (λ line. ⊥) b (record b { left = left; input_faults = n; out = out; out_faults = m }) r
-  answers_ran b left out n m r ran counts = each_ran b (record b { left = left; input_faults = n; out = out; out_faults = m }) [] by (Appends-nil b.err) refl refl r ran counts
+pub table_on : (order : Order) (g : Grammar) (tabled : Tabled) (b a : World) (r : Result (Unit {0}) Stop) → IsTableStage g (Go tabled) → Worked (IsWorkOfTable order g tabled) (λ line. ⊥) b a r → Worked (IsWorkOfGrammar order g) (λ line. ⊥) b a r
+table_on order g tabled b a r is worked = wider (IsWorkOfTable order g tabled) (IsWorkOfGrammar order g) (λ line. ⊥) (λ line. ⊥) (λ w here. (Go tabled, is, here)) (λ line none. none) b a r worked

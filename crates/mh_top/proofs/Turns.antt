@@ -1,7 +1,8 @@
 -- The files of an order: each is read and spelled, one after the other.
-use Rattle.std.proofs.Common.{◌≡◌, ◌<◌, List, length, [], ◌∷◌, ◌++◌, Option, None, Some, refl, sym, ◌∙◌, ap, ap₂, subst, Ok, Err}
-use Rattle.std.specs.Prelude.{Result}
+use Rattle.std.proofs.Common.{◌≡◌, ◌<◌, ◌+◌, ℕ, List, length, drop, get_or, [], ◌∷◌, ◌++◌, Option, None, Some, refl, sym, ◌∙◌, ap, ap₂, subst, Ok, Err}
+use Rattle.std.proofs.lemmas.List.{drop_more}
 use Rattle.std.specs.List.{All}
+use Rattle.mh_front.proofs.Reading.{push_spelled}
 use Rattle.std.proofs.lemmas.List.Elements.{All-nil, All-cons}
 use Rattle.mh_reader.specs.declared.modules.Module.{Module}
 use Rattle.mh_reader.specs.declared.modules.Rule.{Rule}
@@ -12,10 +13,9 @@ use Rattle.mh_opts.specs.declared.order.Order.{Order}
 use Rattle.mh_outside.specs.Shelf.{Files}
 use Rattle.mh_top.specs.Text.{Text}
 use Rattle.mh_top.specs.Causes.{Staged, Go, Halt}
-use Rattle.mh_top.specs.FileStage.{IsLoaded, IsModuleStage, IsFileStage, IsSpelled, IsTurn, Behind, syntax_error}
-use Rattle.mh_top.specs.Stages.{StageHas}
+use Rattle.mh_top.specs.FileStage.{IsModuleStage, IsFileStage, IsSpelled, IsTurn, Behind, syntax_error}
 use Rattle.mh_top.specs.Work.{Work, IsWorkOfFiles, IsWorkOfOrder, halted}
-use Rattle.mh_top.specs.Load.{LoadHas, FileHas, FilesHave}
+use Rattle.mh_top.specs.Load.{FileHas, FilesHave}
 use Rattle.mh_top.specs.Run.{MayEnd}
 use Rattle.mh_top.specs.declared.stop.Cause.{Cause}
 use Rattle.mh_top.specs.declared.stop.Cause.TheVariants.{Refused}
@@ -27,23 +27,6 @@ may_refuse None cause is = subst (λ (c : Cause). MayEnd None (Some c)) (sym is)
 may_refuse (Some fs) cause is = tt
 
 -- ---- one file
-
--- a file was read
-pub file_has : (files : Option Files) (name bytes : Text) (r : Result Module Stop) → IsLoaded files name (Go bytes) → StageHas {A = Module} (IsModuleStage name bytes) r → FileHas files name r
-file_has files name bytes (Ok m) read has = (Go bytes, read, has)
-file_has files name bytes (Err (Halted cause line)) read has = (may_refuse files cause has.0, (Go bytes, read, has))
-file_has files name bytes (Err OutOfMemory) read has = tt
-file_has files name bytes (Err (ShelfFailed line)) read has = absurd has
-file_has files name bytes (Err InputFailed) read has = absurd has
-file_has files name bytes (Err WriteFailed) read has = absurd has
-
--- it could not be read
-pub file_stops : (files : Option Files) (name : Text) (stop : Stop) → LoadHas files name (Err stop) → FileHas files name (Err stop)
-file_stops files name (Halted cause line) has = (has.0, (Halt cause line, has.1, refl))
-file_stops files name OutOfMemory has = tt
-file_stops files name (ShelfFailed line) has = has
-file_stops files name InputFailed has = absurd has
-file_stops files name WriteFailed has = absurd has
 
 -- some bytes spell its module
 pub file_spelled : (files : Option Files) (name : Text) (m : Module) → IsFileStage files name (Go m) → (bytes : Text) × Spells bytes m
@@ -94,9 +77,6 @@ module _ (files : Option Files) (order : Order) where
     pub work : (w : Work) → IsWorkOfFiles files order modules names w → IsWorkOfOrder files order w
     pub turn : (name : Text) → IsTurn files names name → IsTurn files order.grammars name
 
-  pub so_far_start : IsSoFar [] order.grammars
-  so_far_start = record { work = λ w is. is; turn = λ name is. is }
-
   pub so_far_more : (modules : List Module) (first : Text) (names : List Text) (m : Module) → IsSoFar modules (first ∷ names) → IsFileStage files first (Go m) → IsSoFar (modules ++ m ∷ []) names
   so_far_more modules first names m so_far has = record {
     work = λ w is. so_far.work w (Go m, has, is);
@@ -109,3 +89,21 @@ module _ (files : Option Files) (order : Order) where
   so_far_stops modules name names OutOfMemory so_far has = tt
   so_far_stops modules name names InputFailed so_far has = absurd has
   so_far_stops modules name names WriteFailed so_far has = absurd has
+
+  -- ---- at a place in the list of names
+
+  module _ (told : Option Files) (names : List Text) (i : ℕ) (d name : Text) (kept : told ≡ files) (listed : names ≡ order.grammars) (item : name ≡ get_or names i d) (lt : i < length names) where
+    at_place : (modules : List Module) → IsSoFar modules (drop i order.grammars) → IsSoFar modules (name ∷ drop (i + 1) order.grammars)
+    at_place modules so_far =
+        let named : IsSoFar modules (get_or names i d ∷ drop (i + 1) names) = subst (IsSoFar modules) (drop_more names i d lt) (subst (λ (l : List Text). IsSoFar modules (drop i l)) (sym listed) so_far) in
+        subst (λ (l : List Text). IsSoFar modules (name ∷ drop (i + 1) l)) listed (subst (λ (n : Text). IsSoFar modules (n ∷ drop (i + 1) names)) (sym item) named)
+
+    pub so_far_next : (modules : List Module) (m : Module) → IsSoFar modules (drop i order.grammars) → FileHas told name (Ok m) → IsSoFar (modules ++ m ∷ []) (drop (i + 1) order.grammars)
+    so_far_next modules m so_far has = so_far_more modules name (drop (i + 1) order.grammars) m (at_place modules so_far) (subst (λ (t : Option Files). FileHas t name (Ok m)) kept has)
+
+    pub so_far_halts : (modules : List Module) (stop : Stop) → IsSoFar modules (drop i order.grammars) → FileHas told name (Err stop) → FilesHave files order (Err stop)
+    so_far_halts modules stop so_far has = so_far_stops modules name (drop (i + 1) order.grammars) stop (at_place modules so_far) (subst (λ (t : Option Files). FileHas t name (Err stop)) kept has)
+
+-- and what is spelled has alternatives
+pub file_pushed : (files : Option Files) (name : Text) (modules : List Module) (m : Module) → HaveAlternatives modules → IsFileStage files name (Go m) → HaveAlternatives (modules ++ m ∷ [])
+file_pushed files name modules m some has = let p = file_spelled files name m has in push_spelled modules p.0 m some p.1

@@ -1,5 +1,5 @@
 -- What the answers of sentence lines say of the sentences of the grammar.
-use Rattle.std.specs.Prelude.{◌≡◌, ◌<◌, ◌+◌, ◌↔◌, ℕ, List, length, take, Option, codes}
+use Rattle.std.specs.Prelude.{◌≡◌, ◌<◌, ◌+◌, ◌↔◌, ℕ, false, List, length, take, Option, codes}
 use Rattle.mh_grammar.specs.declared.types.Grammar.{Grammar}
 use Rattle.mh_grammar.specs.declared.types.Sentence.{Sentence}
 use Rattle.mh_grammar.specs.Plain.{plain_of, BeginsSentence}
@@ -12,7 +12,7 @@ use Rattle.mh_outside.specs.Shelf.{Files}
 use Rattle.mh_top.specs.Text.{Text}
 use Rattle.mh_msgfile.specs.Sentences.{IsSentence, sentence_in, vocabulary_of}
 use Rattle.mh_top.specs.Verdicts.{LineText}
-use Rattle.mh_top.specs.Work.{IsWork, interpreting}
+use Rattle.mh_top.specs.Work.{IsWork, answering}
 
 -- The grammar is LR(1) (Knuth 1965): its canonical automaton has no conflict, that with the end of the stream included.
 pub record IsLR1 (g : Grammar) : Type 0 where
@@ -23,7 +23,8 @@ pub record IsLR1 (g : Grammar) : Type 0 where
 -- The words ask for verdicts by a table of the grammar, and the text answers a line that is this sentence.
 pub record AnswersSentence (words : List Text) (files : Option Files) (g : Grammar) (s : Sentence) (text : Text) : Type 0 where
   pub table : TableData
-  pub asked : IsWork words files (interpreting g table)
+  pub warnings : Text
+  pub asked : IsWork words files (record { warnings = warnings; plan = answering false g table })
   pub line : Text
   pub sentence : sentence_in (vocabulary_of g) line ≡ IsSentence s
   pub answer : LineText (vocabulary_of g) table line text

@@ -9,6 +9,7 @@ pub mod FileStage
 pub mod GrammarStage
 pub mod TableStage
 pub mod Work
+pub mod Modes
 pub mod Run
 pub mod Load
 pub mod Claims

@@ -1,10 +1,12 @@
--- The table of a grammar: that of its canonical automaton, where every run on it ends.
-use Rattle.std.specs.Prelude.{◌≡◌, ◌⊎◌, ℕ, List, [], ◌++◌, slice_index_or, Option, None, Some, codes, decimal, Result, Ok, Err, ⊤}
+-- The canonical automaton of a grammar with its table, where every run on it ends, and the list of its conflicts.
+use Rattle.std.specs.Prelude.{◌≡◌, ◌⊎◌, ℕ, List, [], ◌++◌, slice_index_or, Option, None, Some, codes, decimal}
 use Rattle.mh_grammar.specs.declared.types.Grammar.{Grammar}
 use Rattle.mh_grammar.specs.Plain.{plain_of}
 use Rattle.mh_items.specs.declared.kernels.Automaton.{Automaton}
 use Rattle.mh_canon.specs.Canonical.{IsCanonical, IsOver}
 use Rattle.mh_resolve.specs.States.{IsTableOf}
+use Rattle.mh_resolve.specs.Conflicts.{AreConflicts}
+use Rattle.mh_resolve.specs.declared.conflicts.Conflict.{Conflict}
 use Rattle.mh_resolve.specs.declared.kinds.Mode.TheVariants.{Canonical}
 use Rattle.mh_tables.specs.Table.{TableData}
 use Rattle.mh_tables.specs.Halting.{Halts, LoopsAt}
@@ -12,8 +14,7 @@ use Rattle.mh_top.specs.Text.{Text, too_many_states}
 use Rattle.mh_top.specs.Causes.{Staged, Go, Halt}
 use Rattle.mh_msgfile.specs.Sentences.{token_names}
 use Rattle.mh_top.specs.declared.stop.Cause.TheVariants.{Refused}
-use Rattle.mh_top.specs.declared.stop.Stop.{Stop}
-use Rattle.mh_top.specs.declared.stop.Stop.TheVariants.{Halted, OutOfMemory}
+use Rattle.mh_top.specs.declared.tabled.Tabled.{Tabled}
 
 -- an automaton has at most so many states
 abbrev pub max_states : ℕ
@@ -28,6 +29,12 @@ pub record HasTable (g : Grammar) (t : TableData) : Type 0 where
   pub automaton : Automaton
   pub canonical : IsCanonical (plain_of g) automaton
   pub table : IsTableOf g automaton Canonical t
+
+-- the grammar's canonical automaton, its table, and the list of its conflicts
+pub record AreTabled (g : Grammar) (a : Automaton) (t : TableData) (listed : List Conflict) : Type 0 where
+  pub canonical : IsCanonical (plain_of g) a
+  pub table : IsTableOf g a Canonical t
+  pub conflicts : AreConflicts g a listed
 
 -- the state, alone or above another one
 abbrev pub loop_place : Option ℕ → ℕ → Text
@@ -52,13 +59,6 @@ pub record LoopsFirst (g : Grammar) (line : Text) : Type 0 where
   pub loops : LoopsAt found below state look
   pub line_is : line ≡ loops_line (token_names g) below state look
 
-abbrev pub IsTableStage : Grammar → Staged TableData → Type 0
-IsTableStage g (Go t) = (HasTooMany g → ⊥) × HasTable g t × Halts t
+abbrev pub IsTableStage : Grammar → Staged Tabled → Type 0
+IsTableStage g (Go tabled) = (HasTooMany g → ⊥) × AreTabled g tabled.automaton tabled.halting tabled.conflicts × Halts tabled.halting
 IsTableStage g (Halt cause line) = (cause ≡ Refused) × ((HasTooMany g × (line ≡ too_many_states)) ⊎ ((HasTooMany g → ⊥) × LoopsFirst g line))
-
--- the table of the canonical automaton is given, or too many states are found
-abbrev pub GivesTable : Grammar → Result TableData Stop → Type 0
-GivesTable g (Ok t) = (HasTooMany g → ⊥) × HasTable g t
-GivesTable g (Err (Halted cause line)) = (cause ≡ Refused) × HasTooMany g × (line ≡ too_many_states)
-GivesTable g (Err OutOfMemory) = ⊤
-GivesTable g (Err _) = ⊥

@@ -1,7 +1,16 @@
 -- The whole work: what the words ask for over files. Stages that are given by relations make it a relation.
-use Rattle.std.specs.Prelude.{◌≡◌, ℕ, Bool, false, List, [], ◌∷◌, ◌++◌, if◌then◌else◌, Option, None, Some}
+use Rattle.std.specs.Prelude.{◌≡◌, ℕ, Bool, true, false, ◌&&◌, List, [], ◌∷◌, ◌++◌, if◌then◌else◌, Option, None, Some}
+use Rattle.std.specs.List.{list_any}
 use Rattle.mh_grammar.specs.declared.types.Grammar.{Grammar}
 use Rattle.mh_tables.specs.Table.{TableData}
+use Rattle.mh_resolve.specs.declared.kinds.ConflictKind.{ConflictKind}
+use Rattle.mh_resolve.specs.declared.kinds.ConflictKind.TheVariants.{Solved, Unsolved, Stream}
+use Rattle.mh_resolve.specs.declared.kinds.Mode.TheVariants.{Canonical}
+use Rattle.mh_resolve.specs.declared.conflicts.Conflict.{Conflict}
+use Rattle.mh_report.specs.Automata.{IsAutomatonText}
+use Rattle.mh_report.specs.Warnings.{warning_lines}
+use Rattle.mh_opts.specs.declared.order.Job.{Job}
+use Rattle.mh_opts.specs.declared.order.Job.TheVariants.{Interpret, ShowAutomaton}
 use Rattle.mh_opts.specs.declared.order.Order.{Order}
 use Rattle.mh_reader.specs.declared.modules.Module.{Module}
 use Rattle.mh_outside.specs.Shelf.{Files}
@@ -14,7 +23,8 @@ use Rattle.mh_top.specs.FileStage.{IsFileStage}
 use Rattle.mh_top.specs.GrammarStage.{IsGrammarStage}
 use Rattle.mh_top.specs.TableStage.{IsTableStage}
 use Rattle.mh_top.specs.declared.stop.Cause.{Cause}
-use Rattle.mh_top.specs.declared.stop.Cause.TheVariants.{TooBig}
+use Rattle.mh_top.specs.declared.stop.Cause.TheVariants.{Refused, TooBig}
+use Rattle.mh_top.specs.declared.tabled.Tabled.{Tabled}
 
 -- ---- plans
 
@@ -43,19 +53,47 @@ abbrev pub Then : {A : Type 0} → Staged A → (A → Work → Type 0) → Work
 Then (Go x) Next w = Next x w
 Then (Halt cause line) Next w = w ≡ halted cause line
 
+-- a conflict that levels do not solve is warned of
+abbrev pub is_warned : ConflictKind → Bool
+is_warned Solved = false
+is_warned Unsolved = true
+is_warned Stream = true
+
+abbrev pub has_warning : List Conflict → Bool
+has_warning conflicts = list_any (λ c. is_warned c.kind) conflicts
+
+-- the grammar is refused for its conflicts: no line stands behind the warnings
+abbrev pub refusing : Plan
+refusing = Ends (record { cause = Some Refused; out = []; err = [] })
+
 -- the verdicts of the input's lines, with trees or without
-abbrev pub answering : Bool → Grammar → TableData → Work
-answering trees g t = record { warnings = []; plan = AsksEach (record { trees = trees; grammar = g; table = t }) }
+abbrev pub answering : Bool → Grammar → TableData → Plan
+answering trees g t = AsksEach (record { trees = trees; grammar = g; table = t })
 
--- the verdicts alone
-abbrev pub interpreting : Grammar → TableData → Work
-interpreting g t = answering false g t
+-- this text alone
+abbrev pub showing : Text → Plan
+showing text = Ends (record { cause = None; out = text; err = [] })
 
-abbrev pub IsWorkOfTable : Order → Grammar → TableData → Work → Type 0
-IsWorkOfTable order g t w = w ≡ answering order.show_cst g t
+-- the plan of a mode
+abbrev pub IsPlanOfJob : Job → Bool → Grammar → Tabled → Plan → Type 0
+IsPlanOfJob Interpret trees g tabled plan = plan ≡ answering trees g tabled.halting
+IsPlanOfJob ShowAutomaton trees g tabled plan = (text : Text) × IsAutomatonText g tabled.automaton Canonical tabled.halting text × (plan ≡ showing text)
+
+-- or that of a refusal
+abbrev pub IsPlanUnless : Bool → Order → Grammar → Tabled → Plan → Type 0
+IsPlanUnless true order g tabled plan = plan ≡ refusing
+IsPlanUnless false order g tabled plan = IsPlanOfJob order.job order.show_cst g tabled plan
+
+-- under `--strict` a grammar is refused for what is warned of
+abbrev pub IsPlanOf : Order → Grammar → Tabled → Plan → Type 0
+IsPlanOf order g tabled plan = IsPlanUnless (order.strict && has_warning tabled.conflicts) order g tabled plan
+
+-- the warnings, and then the mode
+abbrev pub IsWorkOfTable : Order → Grammar → Tabled → Work → Type 0
+IsWorkOfTable order g tabled w = (w.warnings ≡ warning_lines g tabled.conflicts) × IsPlanOf order g tabled w.plan
 
 abbrev pub IsWorkOfGrammar : Order → Grammar → Work → Type 0
-IsWorkOfGrammar order g w = (s : Staged TableData) × IsTableStage g s × Then s (IsWorkOfTable order g) w
+IsWorkOfGrammar order g w = (s : Staged Tabled) × IsTableStage g s × Then s (IsWorkOfTable order g) w
 
 -- the work on the modules of all files
 abbrev pub IsWorkOfModules : Order → List Module → Work → Type 0

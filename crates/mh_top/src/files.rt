@@ -68,11 +68,7 @@ pub(crate) fn read_files<F: Shelf>(
     let mut modules = Vec::new(alloc);
     for name in order.grammars.as_slice() {
         match read_file(alloc, shelf, name.as_slice()) {
-            Ok(module) => {
-                if modules.push(module).is_err() {
-                    return Err(Stop::OutOfMemory);
-                }
-            }
+            Ok(module) => modules.push(module)?,
             Err(stop) => return Err(stop),
         }
     }

@@ -7,6 +7,7 @@ mod grammar;
 mod interpret;
 mod laws;
 mod load;
+mod modes;
 mod order;
 mod stop;
 mod tabled;

@@ -5,7 +5,7 @@ ghost use Rattle.mh_top.specs.Stages.{Halts};
 ghost use Rattle.mh_top.specs.declared.stop.Stop.TheVariants.{OutOfMemory};
 
 use mh_grammar::{Memory, Sequence};
-use std::alloc::{AllocError, Global};
+use std::alloc::{AllocError, AllocFailed, Global};
 
 /// Why the work ends by itself before its time. A fault of writing and want of memory are none of these.
 #[derive(Clone, Copy, Debug, PartialEq, Eq)]
@@ -49,6 +49,14 @@ impl From<AllocError> for Stop {
     ghost from_gives = { λ _ e. e ≡ OutOfMemory };
 
     fn from(_: AllocError) -> Self {
+        Stop::OutOfMemory
+    }
+}
+
+impl<T: Drop> From<AllocFailed<T>> for Stop {
+    ghost from_gives = { λ _ e. e ≡ OutOfMemory };
+
+    fn from(_: AllocFailed<T>) -> Self {
         Stop::OutOfMemory
     }
 }

@@ -1,39 +1,40 @@
-//! The table of a grammar: that of its canonical automaton, where every run on it ends.
-ghost use Rattle.std.specs.Prelude.{◌≡◌, ◌<◌, ◌++◌, length, IfOk, string_bytes, MatchOption, ⊤};
+//! The canonical automaton of a grammar with its table, where every run on it ends, and the list of its conflicts.
+ghost use Rattle.std.specs.Prelude.{◌≡◌, ◌<◌, length, IfOk, string_bytes, MatchOption, ⊤};
 ghost use Rattle.mh_grammar.specs.Plain.{plain_of, IsInRange};
-ghost use Rattle.mh_tables.specs.Halting.{LoopsAt};
-ghost use Rattle.mh_top.specs.TableStage.{IsTableStage, HasTooMany, HasTable, GivesTable, loop_place, look_text, loops_line};
+ghost use Rattle.mh_canon.specs.Canonical.{IsCanonical};
+ghost use Rattle.mh_items.specs.Automaton.{IsAutomaton};
+ghost use Rattle.mh_top.specs.TableStage.{IsTableStage, HasTooMany, loop_place, look_text, loops_line};
 ghost use Rattle.mh_top.specs.Stages.{Halts, StageHas};
 ghost use Rattle.mh_msgfile.specs.Sentences.{token_names};
+ghost use Rattle.mh_top.specs.Text.{too_many_states as too_many_states_line};
 ghost use Rattle.mh_top.specs.declared.stop.Cause.TheVariants.{Refused};
 
 use crate::stop::{Cause, Stop, halted};
 use mh_canon::canonical;
-use mh_grammar::{Grammar, Token};
-use mh_items::StatesFault;
-use mh_resolve::{Mode, resolve};
-use mh_tables::{HaltFault, Halting, Table, check_halts};
+use mh_grammar::{Grammar, Sequence, Token};
+use mh_items::{Automaton, StatesFault};
+use mh_resolve::{Conflict, Mode, resolve};
+use mh_tables::{HaltFault, Halting, check_halts};
 use std::alloc::{AllocError, Global};
 
-/// The table of the canonical automaton.
-fn canonical_table(alloc: Global, grammar: &Grammar) -> Result<Table, Stop>
-    requires { IsInRange (plain_of grammar.now) }
-    ensures { GivesTable grammar.now result }
+/// The canonical automaton of a grammar, its table, and the list of its conflicts.
+#[derive(Drop)]
+pub(crate) struct Tabled {
+    pub(crate) automaton: Automaton,
+    pub(crate) halting: Halting,
+    pub(crate) conflicts: Sequence<Conflict>,
+}
+
+fn too_many_states(alloc: Global) -> Stop
+    ensures { Halts Refused too_many_states_line result }
 {
-    match canonical(alloc, grammar) {
-        Ok(automaton) => {
-            let (table, _) = resolve(alloc, grammar, &automaton, Mode::Canonical)?;
-            Ok(table)
-        }
-        Err(StatesFault::TooManyStates) => Err(halted(
-            alloc,
-            Cause::Refused,
-            b"menhir: too many states\n",
-            b"",
-            b"",
-        )),
-        Err(StatesFault::Memory) => Err(Stop::OutOfMemory),
-    }
+    halted(
+        alloc,
+        Cause::Refused,
+        b"menhir: too many states\n",
+        b"",
+        b"",
+    )
 }
 
 /// The name of the next token, where there is one.
@@ -79,14 +80,22 @@ fn loops(
     }
 }
 
-/// The table, where every run on it ends.
-fn halting_table(alloc: Global, grammar: &Grammar, table: Table) -> Result<Halting, Stop>
+/// The canonical automaton with its table, where every run on it ends.
+fn with_table(alloc: Global, grammar: &Grammar, automaton: Automaton) -> Result<Tabled, Stop>
+    requires range { IsInRange (plain_of grammar.now) }
     requires few { HasTooMany grammar.now → ⊥ }
-    requires table { HasTable grammar.now table }
-    ensures { StageHas (IsTableStage grammar.now) result }
+    requires canonical { IsCanonical (plain_of grammar.now) automaton }
+    requires automaton { IsAutomaton (plain_of grammar.now) automaton }
+    ensures stage { StageHas (IsTableStage grammar.now) result }
+    ensures automaton { IfOk result (λ tabled. IsAutomaton (plain_of grammar.now) tabled.automaton) }
 {
+    let (table, conflicts) = resolve(alloc, grammar, &automaton, Mode::Canonical)?;
     match check_halts(alloc, table) {
-        Ok(halting) => Ok(halting),
+        Ok(halting) => Ok(Tabled {
+            automaton,
+            halting,
+            conflicts: Sequence::from_vec(conflicts),
+        }),
         Err(
             HaltFault::Loops {
                 below,
@@ -98,14 +107,16 @@ fn halting_table(alloc: Global, grammar: &Grammar, table: Table) -> Result<Halti
     }
 }
 
-/// The table of a grammar. It halts with the first of these: the canonical automaton has too many states; a run on the
-/// table never ends.
-pub(crate) fn table_of(alloc: Global, grammar: &Grammar) -> Result<Halting, Stop>
+/// The canonical automaton of a grammar with its table and its conflicts. It halts with the first of these: the
+/// automaton has too many states; a run on the table never ends.
+pub(crate) fn table_of(alloc: Global, grammar: &Grammar) -> Result<Tabled, Stop>
     requires { IsInRange (plain_of grammar.now) }
-    ensures { StageHas (IsTableStage grammar.now) result }
+    ensures stage { StageHas (IsTableStage grammar.now) result }
+    ensures automaton { IfOk result (λ tabled. IsAutomaton (plain_of grammar.now) tabled.automaton) }
 {
-    match canonical_table(alloc, grammar) {
-        Ok(table) => halting_table(alloc, grammar, table),
-        Err(stop) => Err(stop),
+    match canonical(alloc, grammar) {
+        Ok(automaton) => with_table(alloc, grammar, automaton),
+        Err(StatesFault::TooManyStates) => Err(too_many_states(alloc)),
+        Err(StatesFault::Memory) => Err(Stop::OutOfMemory),
     }
 }

@@ -3,14 +3,14 @@ ghost use Rattle.std.specs.Prelude.{◌≡◌, map, string_bytes};
 ghost use Rattle.mh_grammar.specs.Plain.{plain_of, IsInRange};
 ghost use Rattle.mh_join.specs.Ready.{HaveAlternatives};
 ghost use Rattle.mh_top.specs.FileStage.{IsFileLine};
-ghost use Rattle.mh_top.specs.Work.{IsWorkOfTable, IsWorkOfGrammar, IsWorkOfModules, IsWorkOfOrder, IsWork};
+ghost use Rattle.mh_top.specs.Work.{IsWorkOfGrammar, IsWorkOfModules, IsWorkOfOrder, IsWork};
 ghost use Rattle.mh_top.specs.Claims.{FileOf, Keeps};
 ghost use Rattle.mh_top.specs.Exact.{AcceptsExactly, RejectsRightly, OvershootsRightly, AcceptsRightly};
 ghost use Rattle.mh_top.specs.Run.{world, Worked, Ran, Reported, Says};
 
 use crate::files::read_files;
 use crate::grammar::grammar_in;
-use crate::interpret::interpret;
+use crate::modes::work_on_table;
 use crate::order::order_in;
 use crate::stop::Stop;
 use crate::tabled::table_of;
@@ -18,29 +18,7 @@ use mh_grammar::Grammar;
 use mh_opts::Order;
 use mh_outside::{Shelf, Sink, Source, write_whole};
 use mh_reader::Module;
-use mh_tables::Halting;
 use std::alloc::Global;
-
-/// The work on a table.
-fn work_on_table<F: Shelf, I: Source, O: Sink, E: Sink>(
-    alloc: Global,
-    order: &Order,
-    grammar: Grammar,
-    halting: Halting,
-    _shelf: &mut F,
-    input: &mut I,
-    out: &mut O,
-    _err: &mut E,
-) -> Result<(), Stop>
-    requires same { halting.grammar ≡ plain_of grammar }
-    requires range { IsInRange (plain_of grammar) }
-    ensures { Worked (IsWorkOfTable order.now grammar halting) (λ line. ⊥)
-        (world F.files F.faults I.left I.faults O.written O.faults E.written E.faults _shelf.old input.old out.old _err.old)
-        (world F.files F.faults I.left I.faults O.written O.faults E.written E.faults _shelf.new input.new out.new _err.new)
-        result }
-{
-    interpret(alloc, order.show_cst, grammar, halting, input, out)
-}
 
 /// The work on a grammar.
 fn work_on_grammar<F: Shelf, I: Source, O: Sink, E: Sink>(
@@ -59,7 +37,7 @@ fn work_on_grammar<F: Shelf, I: Source, O: Sink, E: Sink>(
         result }
 {
     match table_of(alloc, &grammar) {
-        Ok(halting) => work_on_table(alloc, order, grammar, halting, shelf, input, out, err),
+        Ok(tabled) => work_on_table(alloc, order, grammar, tabled, shelf, input, out, err),
         Err(stop) => Err(stop),
     }
 }

@@ -1,0 +1,22 @@
+use Rattle.std.proofs.lemmas.Result.{IfOk-weaker}
+use Rattle.mh_grammar.specs.Numbering.{AreDistinct}
+use Rattle.mh_grammar.specs.Plain.{plain_of, IsInRange}
+use Rattle.mh_front.specs.Sentences.{HasSentencesOfModules}
+use Rattle.mh_front.specs.Stages.{IsGrammarOfJoined}
+use Rattle.mh_front.proofs.OneGrammar as one
+use Rattle.mh_front.proofs.front.grammar_of.Goals as goal
+
+pub returns-in-Ok-clause-range : goal.returns-in-Ok-clause-range
+returns-in-Ok-clause-range c =
+    let ms = c.args.modules.now in
+    IfOk-weaker c.grammar_of_joined.result (IsGrammarOfJoined c.in-Ok.joined) (λ g. IsInRange (plain_of g)) (λ g o. one.in_range c.args.prelude ms g c.requires (record { joined = c.in-Ok.joined; joins = c.in-Ok.ensures.joins; grammar = o })) c.grammar_of_joined.ensures.grammar
+
+pub returns-in-Ok-clause-distinct : goal.returns-in-Ok-clause-distinct
+returns-in-Ok-clause-distinct c =
+    let ms = c.args.modules.now in
+    IfOk-weaker c.grammar_of_joined.result (IsGrammarOfJoined c.in-Ok.joined) (λ g. AreDistinct g.starts) (λ g o. one.distinct c.args.prelude ms g c.requires (record { joined = c.in-Ok.joined; joins = c.in-Ok.ensures.joins; grammar = o })) c.grammar_of_joined.ensures.grammar
+
+pub returns-in-Ok-clause-sentences : goal.returns-in-Ok-clause-sentences
+returns-in-Ok-clause-sentences c =
+    let ms = c.args.modules.now in
+    IfOk-weaker c.grammar_of_joined.result (IsGrammarOfJoined c.in-Ok.joined) (HasSentencesOfModules c.args.prelude ms) (λ g o. one.sentences c.args.prelude ms g c.requires (record { joined = c.in-Ok.joined; joins = c.in-Ok.ensures.joins; grammar = o })) c.grammar_of_joined.ensures.grammar

@@ -1,0 +1,17 @@
+-- What the whole of the stages keeps.
+use Rattle.std.specs.Prelude.{◌≡◌, ◌↔◌, ℕ, Bool, List, Some, Ok, length, slice_get}
+use Rattle.mh_grammar.specs.declared.types.Grammar.{Grammar}
+use Rattle.mh_grammar.specs.Plain.{plain_of, IsSentence}
+use Rattle.mh_reader.specs.declared.modules.Module.{Module}
+use Rattle.mh_join.specs.declared.joined.Joined.{Joined}
+use Rattle.mh_join.specs.Joining.{Joins}
+use Rattle.mh_expand.specs.Sentences.{IsTermSentence}
+
+-- each start symbol has the same sentences over the terms of the joined rules and over the grammar
+pub record HasSentencesOf (j : Joined) (g : Grammar) : Type 0 where
+  pub starts : length g.starts ≡ length j.starts
+  pub same : (start rule : ℕ) (w : List ℕ) → slice_get j.starts start ≡ Some rule → IsTermSentence j rule w ↔ IsSentence (plain_of g) start w
+
+-- so it is of the rules that the modules join to
+abbrev pub HasSentencesOfModules : Bool → List Module → Grammar → Type 0
+HasSentencesOfModules prelude modules g = (j : Joined) → Joins prelude modules (Ok j) → HasSentencesOf j g

@@ -1,0 +1,103 @@
+-- The grammar of several files and the faults, stage by stage: joining, expansion, inlining. Source: the Menhir manual on
+-- grammars split into files, parameterized rules and inline rules; this project's profile.
+use Rattle.std.specs.Prelude.{◌≡◌, Bool, List, Some, Ok}
+use Rattle.mh_grammar.specs.declared.types.Grammar.{Grammar}
+use Rattle.mh_reader.specs.declared.modules.Module.{Module}
+use Rattle.mh_join.specs.declared.fault.JoinFault.{JoinFault}
+use Rattle.mh_join.specs.declared.fault.JoinFault.TheVariants as joining
+use Rattle.mh_join.specs.declared.joined.Joined.{Joined}
+use Rattle.mh_join.specs.Faults.{join_faults, first}
+use Rattle.mh_join.specs.Joining.{Joins}
+use Rattle.mh_expand.specs.declared.fault.ExpandFault.{ExpandFault}
+use Rattle.mh_expand.specs.declared.fault.ExpandFault.TheVariants as expanding
+use Rattle.mh_expand.specs.declared.instances.Expanded.{Expanded}
+use Rattle.mh_expand.specs.Expansion.{IsExpanded, IsFirstFault}
+use Rattle.mh_inline.specs.declared.fault.InlineFault.{InlineFault}
+use Rattle.mh_inline.specs.declared.fault.InlineFault.TheVariants as inlining
+use Rattle.mh_inline.specs.Faults.{IsGrammarOf, IsFault}
+use Rattle.mh_front.specs.declared.fault.GrammarFault.{GrammarFault}
+use Rattle.mh_front.specs.declared.fault.GrammarFault.TheVariants.{Undefined, Duplicate, NoStart, ErrorToken, UnknownLevel, TooManyTokens, Arity, Expansion, InlineCycle, InlineStart, TooManyProductions, EmptyLanguage, Memory}
+
+-- THE FAULTS OF THE STAGES AS FAULTS OF THE WHOLE
+
+abbrev pub of_join : JoinFault → GrammarFault
+of_join (joining.Undefined name) = Undefined name
+of_join (joining.Duplicate name) = Duplicate name
+of_join joining.NoStart = NoStart
+of_join joining.ErrorToken = ErrorToken
+of_join (joining.UnknownLevel name) = UnknownLevel name
+of_join (joining.TooManyTokens count) = TooManyTokens count
+of_join joining.Memory = Memory
+
+abbrev pub of_expand : ExpandFault → GrammarFault
+of_expand (expanding.Arity instance) = Arity instance
+of_expand (expanding.Expansion name) = Expansion name
+of_expand expanding.Memory = Memory
+
+abbrev pub of_inline : InlineFault → GrammarFault
+of_inline (inlining.InlineCycle instance) = InlineCycle instance
+of_inline (inlining.InlineStart name) = InlineStart name
+of_inline inlining.TooManyProductions = TooManyProductions
+of_inline (inlining.EmptyLanguage name) = EmptyLanguage name
+of_inline inlining.Memory = Memory
+
+-- OF JOINED RULES
+
+-- the grammar of the instances
+pub record IsGrammarOfJoined (j : Joined) (g : Grammar) : Type 0 where
+  pub expanded : Expanded
+  pub expands : IsExpanded j expanded
+  pub grammar : IsGrammarOf expanded g
+
+-- the instances are there, and this is their fault
+pub record IsInstancesFault (j : Joined) (fault : InlineFault) : Type 0 where
+  pub expanded : Expanded
+  pub expands : IsExpanded j expanded
+  pub faulty : IsFault expanded fault
+
+-- The fault of expansion, or that of the instances. Joined rules have no fault of joining, and want of memory is no fault
+-- of theirs.
+abbrev pub IsJoinedFault : Joined → GrammarFault → Type 0
+IsJoinedFault j (Arity instance) = IsFirstFault j (expanding.Arity instance)
+IsJoinedFault j (Expansion name) = IsFirstFault j (expanding.Expansion name)
+IsJoinedFault j (InlineCycle instance) = IsInstancesFault j (inlining.InlineCycle instance)
+IsJoinedFault j (InlineStart name) = IsInstancesFault j (inlining.InlineStart name)
+IsJoinedFault j TooManyProductions = IsInstancesFault j inlining.TooManyProductions
+IsJoinedFault j (EmptyLanguage name) = IsInstancesFault j (inlining.EmptyLanguage name)
+IsJoinedFault j _ = ⊥
+
+-- OF MODULES
+
+-- the modules join, and this is the grammar of the joined rules
+pub record IsGrammarOfModules (prelude : Bool) (modules : List Module) (g : Grammar) : Type 0 where
+  pub joined : Joined
+  pub joins : Joins prelude modules (Ok joined)
+  pub grammar : IsGrammarOfJoined joined g
+
+-- the first fault of joining
+abbrev pub IsJoinFault : Bool → List Module → JoinFault → Type 0
+IsJoinFault prelude modules fault = first (join_faults prelude modules) ≡ Some fault
+
+-- the modules join, and this is the fault of the joined rules
+pub record IsLaterFault (prelude : Bool) (modules : List Module) (fault : GrammarFault) : Type 0 where
+  pub joined : Joined
+  pub joins : Joins prelude modules (Ok joined)
+  pub faulty : IsJoinedFault joined fault
+
+-- The fault of the first stage that has one; want of memory is no fault of the modules.
+abbrev pub IsGrammarFault : Bool → List Module → GrammarFault → Type 0
+IsGrammarFault prelude modules (Undefined name) = IsJoinFault prelude modules (joining.Undefined name)
+IsGrammarFault prelude modules (Duplicate name) = IsJoinFault prelude modules (joining.Duplicate name)
+IsGrammarFault prelude modules NoStart = IsJoinFault prelude modules joining.NoStart
+IsGrammarFault prelude modules ErrorToken = IsJoinFault prelude modules joining.ErrorToken
+IsGrammarFault prelude modules (UnknownLevel name) = IsJoinFault prelude modules (joining.UnknownLevel name)
+IsGrammarFault prelude modules (TooManyTokens count) = IsJoinFault prelude modules (joining.TooManyTokens count)
+IsGrammarFault prelude modules Memory = ⊥
+IsGrammarFault prelude modules fault = IsLaterFault prelude modules fault
+
+-- WANT OF MEMORY
+
+-- a fault has this cause; want of memory has none, and may come at any place
+abbrev pub Causes : (GrammarFault → Type 0) → GrammarFault → Type 0
+Causes P Memory = Unit {0}
+Causes P fault = P fault

@@ -1,0 +1,14 @@
+//! From the modules of a grammar to the grammar.
+#![tactic(auto)]
+
+mod fault;
+mod front;
+mod laws;
+#[cfg(test)]
+mod tests;
+mod texts;
+
+pub use fault::GrammarFault;
+pub use front::grammar_of;
+pub use laws::{is_grammar_or_fault, is_one_fault, is_one_grammar};
+pub use texts::fault_line;

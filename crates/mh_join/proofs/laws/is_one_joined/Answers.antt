@@ -1,0 +1,5 @@
+use Rattle.mh_join.proofs.Readying.{one_joined}
+use Rattle.mh_join.proofs.laws.is_one_joined.Goals as goal
+
+pub returns : goal.returns
+returns c = one_joined c.args.prelude c.args.modules.now c.args.left.now c.args.right.now c.requires.left c.requires.right
