@@ -52,7 +52,9 @@ attributed: NAME ioption(delimited("<", NAME, ">")) { () }
 
 function_name: separated_nonempty_list(".", NAME) ioption(preceded(":", NAME)) { () }
 
-names: separated_nonempty_list(",", NAME) { () }
+names:
+| NAME { () }
+| names "," NAME { () }
 
 expressions: separated_nonempty_list(",", expression) { () }
 
@@ -107,7 +109,7 @@ body: "(" parameters ")" block END { () }
 parameters:
 | { () }
 | "..." { () }
-| names ioption(preceded(",", "...")) { () }
+| names | names "," "..." { () }
 
 table: "{" fields "}" { () }
 

@@ -19,9 +19,7 @@ quantifier: | ALL | DISTINCT { () }
 result:
 | "*" { () }
 | NAME "." "*" { () }
-| expression named { () }
-
-%inline named: ioption(AS NAME { () }) { () }
+| expression ioption(preceded(AS, NAME)) { () }
 
 from: ioption(preceded(FROM, commas(joined))) { () }
 
@@ -44,16 +42,20 @@ source:
 | in_parentheses(query) alias { () }
 | in_parentheses(joined) { () }
 
-alias: ioption(AS) NAME | { () }
+alias:
+| { () }
+| ioption(AS) NAME { () }
 
 %public where: ioption(preceded(WHERE, expression)) { () }
 
-grouping: ioption(preceded(GROUP BY, commas(expression)) ioption(preceded(HAVING, expression))) { () }
+grouping: ioption(groups) ioption(preceded(HAVING, expression)) { () }
+
+groups: GROUP BY commas(expression) { () }
 
 ordering: ORDER BY commas(ordered) { () }
 
 ordered: expression ioption(direction) { () }
 
-direction: ASC | DESC { () }
+%public direction: ASC | DESC { () }
 
 limit: LIMIT expression ioption(preceded(OFFSET, expression)) { () }

@@ -1,7 +1,5 @@
 //! Texts of automata.
-use crate::runs::{NONE, check_cases, run};
-use std::alloc::Global;
-use std::process::Abort;
+use crate::runs::check_cases;
 use std::test::Fail;
 
 // The input is not read.
@@ -257,57 +255,101 @@ fn cells_of_automata(rt: HostRuntime) -> Result<(), Fail> {
     check_cases(&rt, rt.alloc(), CELLS)
 }
 
-/// The first line of the text of a grammar's automaton, of which nothing is to be said.
-fn first_line(rt: &impl Abort, alloc: Global, grammar: &[u8]) -> Result<Vec<u8>, Fail> {
-    let files = [("g.mly", grammar)];
-    let words = "--show-automaton --strict g.mly";
-    let got = run(rt, alloc, words, &files, Vec::new(alloc), &NONE)?;
-    assert_eq!(rt; got.status, 0);
-    assert_eq!(rt; got.err.as_slice(), b"".as_slice());
-    let line = got.out.split(|byte| *byte == b'\n').next().ok_or("no line")?;
-    Ok(line.to_vec(alloc)?)
-}
-
-const NAMED: &[u8] = b"%{ open Ast %}
+// Two uses of one rule before different tokens; sums by rules and by levels; branches by levels; a file as users write
+// it.
+const COUNTS: &str = r#"0 --show-automaton --strict g.mly
+~
+g.mly
+%token A B C D E
+%start s
+%%
+s: A x D {} | B y D {} | A y E {} | B x E {}
+x: C {}
+y: C {}
+~
+~
+canonical: 14 states
+state 0
+...
+~
+^
+0 --show-automaton --strict g.mly
+~
+g.mly
+%token INT PLUS TIMES EOF
+%start main
+%%
+main: e EOF {}
+e: e PLUS t {} | t {}
+t: t TIMES INT {} | INT {}
+~
+~
+canonical: 10 states
+state 0
+...
+~
+^
+0 --show-automaton --strict g.mly
+~
+g.mly
+%token IF ELSE X EOF
+%nonassoc THEN
+%nonassoc ELSE
+%start main
+%%
+main: s EOF {}
+s: IF s %prec THEN {} | IF s ELSE s {} | X {}
+~
+~
+canonical: 14 states
+state 0
+...
+~
+^
+0 --show-automaton --strict g.mly
+~
+g.mly
+%token EOF LP RP INT
+%token OP1
+%token OP2
+%start main
+%%
+main: e1 EOF {}
+e1: e1 OP1 e2 {} | e2 {}
+e2: e2 OP2 a {} | a {}
+a: INT {} | LP e1 RP {}
+~
+~
+canonical: 24 states
+state 0
+...
+~
+^
+0 --show-automaton --strict g.mly
+~
+g.mly
+%{ open Ast %}
 %token <int> INT
-%token PLUS \"+\" TIMES \"*\" LPAREN \"(\" RPAREN \")\" EOF
-%left \"+\"
-%left \"*\"
+%token PLUS "+" TIMES "*" LPAREN "(" RPAREN ")" EOF
+%left "+"
+%left "*"
 %start <Ast.expr> main
 %%
 main: e = expr; EOF { e }
 expr:
 | n = INT { Int n }
-| \"(\" e = expr \")\" { e }
-| a = expr \"+\" b = expr { Add (a, b) }
-| a = expr \"*\" b = expr { Mul (a, b) }
-";
+| "(" e = expr ")" { e }
+| a = expr "+" b = expr { Add (a, b) }
+| a = expr "*" b = expr { Mul (a, b) }
+~
+~
+canonical: 20 states
+state 0
+...
+~
+"#;
 
-// Two uses of one rule before different tokens; sums with levels of their own and by declarations; branches by levels; a
-// file as users write it.
 #[test]
 fn counts_of_states(rt: HostRuntime) -> Result<(), Fail> {
-    let alloc = rt.alloc();
-    for (grammar, line) in [
-        (
-            b"%token A B C D E %start s %% s: A x D {} | B y D {} | A y E {} | B x E {} x: C {} y: C {}".as_slice(),
-            b"canonical: 14 states".as_slice(),
-        ),
-        (
-            b"%token INT PLUS TIMES EOF %start m %% m: e EOF {} e: e PLUS t {} | t {} t: t TIMES INT {} | INT {}",
-            b"canonical: 10 states",
-        ),
-        (
-            b"%token IF ELSE X EOF %nonassoc THEN %nonassoc ELSE %start main %% main: s EOF {} s: IF s %prec THEN {} | IF s ELSE s {} | X {}",
-            b"canonical: 14 states",
-        ),
-        (
-            b"%token EOF LP RP INT %token O P %start m %% m: e EOF {} e: e O f {} | f {} f: f P a {} | a {} a: INT {} | LP e RP {}",
-            b"canonical: 24 states",
-        ),
-        (NAMED, b"canonical: 20 states"),
-    ] {
-        assert_eq!(rt; first_line(&rt, alloc, grammar)?.as_slice(), line);
-    }
-    Ok(())
+    check_cases(&rt, rt.alloc(), COUNTS)
 }

@@ -1,106 +1,263 @@
 //! Files, inputs and outputs that fail.
-use crate::runs::{Fails, NONE, ONE_SENTENCE, run};
+use crate::runs::{Fails, ONE_SENTENCE, check_cases, run};
 use std::test::Fail;
 
+const READS: &str = "3 --interpret h.mly
+~
+g.mly
+%token A EOF
+%start s
+%%
+s: A EOF {}
+~
+~
+~
+menhir: cannot read h.mly
+^
+3 --interpret g.mly
+shelf 1
+~
+g.mly
+%token A EOF
+%start s
+%%
+s: A EOF {}
+~
+~
+~
+menhir: cannot read g.mly
+^
+3 --interpret g.mly h.mly
+shelf 2
+~
+g.mly
+%token A EOF
+%start s
+%%
+s: A EOF {}
+~
+h.mly
+%%
+~
+~
+~
+menhir: cannot read h.mly
+^
+0 --interpret g.mly h.mly
+shelf 3
+~
+g.mly
+%token A EOF
+%start s
+%%
+s: A EOF {}
+~
+h.mly
+%%
+~
+~
+~
+^
+3 --interpret g.mly
+input 1
+~
+g.mly
+%token A EOF
+%start s
+%%
+s: A EOF {}
+~
+A EOF
+~
+~
+menhir: cannot read the input
+^
+0 --show-automaton g.mly
+input 1
+~
+g.mly
+%token A EOF
+%start s
+%%
+s: A EOF {}
+~
+A EOF
+~
+canonical: 4 states
+...
+~
+";
+
 #[test]
-fn files_that_cannot_be_read(rt: HostRuntime) -> Result<(), Fail> {
-    let alloc = rt.alloc();
-    let shelf = |fails| Fails {
-        shelf: fails,
-        ..NONE
-    };
-    for (words, fails, status, said) in [
-        ("--interpret h", NONE, 3, b"menhir: cannot read h\n".as_slice()),
-        ("--interpret g.mly", shelf(&[1]), 3, b"menhir: cannot read g.mly\n"),
-        ("--interpret g.mly h.mly", shelf(&[2]), 3, b"menhir: cannot read h.mly\n"),
-        ("--interpret g.mly h.mly", shelf(&[3]), 0, b""),
-        ("--interpret h", Fails { err: &[1], ..NONE }, 4, b""),
-        ("--what", Fails { err: &[1], ..NONE }, 4, b""),
-    ] {
-        let files = [("g.mly", ONE_SENTENCE), ("h.mly", b"%%".as_slice())];
-        let got = run(&rt, alloc, words, &files, Vec::new(alloc), &fails)?;
-        assert_eq!(rt; got.status, status);
-        assert_eq!(rt; got.out.as_slice(), b"".as_slice());
-        assert_eq!(rt; got.err.as_slice(), said);
-    }
-    Ok(())
+fn files_and_inputs_that_cannot_be_read(rt: HostRuntime) -> Result<(), Fail> {
+    check_cases(&rt, rt.alloc(), READS)
+}
+
+// What stands on out is a front of the text, and nothing is said.
+const WRITES: &str = "4 --interpret g.mly
+out 1
+~
+g.mly
+%token A EOF
+%start s
+%%
+s: A EOF {}
+~
+A EOF
+A
+~
+~
+^
+4 --interpret g.mly
+out 2
+~
+g.mly
+%token A EOF
+%start s
+%%
+s: A EOF {}
+~
+A EOF
+A
+~
+ACCEPT
+~
+^
+0 --interpret g.mly
+out 3
+~
+g.mly
+%token A EOF
+%start s
+%%
+s: A EOF {}
+~
+A EOF
+A
+~
+ACCEPT
+OVERSHOOT
+~
+^
+4 --show-automaton g.mly
+out 1
+~
+g.mly
+%token A EOF
+%start s
+%%
+s: A EOF {}
+~
+~
+~
+";
+
+#[test]
+fn outputs_that_cannot_be_written(rt: HostRuntime) -> Result<(), Fail> {
+    check_cases(&rt, rt.alloc(), WRITES)
+}
+
+// Where the line that says why the work ends cannot be written, the status is that of a write fault.
+const LAST_LINES: &str = "4 --interpret --what g.mly
+err 1
+~
+g.mly
+%token A EOF
+%start s
+%%
+s: A EOF {}
+~
+~
+~
+^
+4 --interpret h.mly
+err 1
+~
+g.mly
+%token A EOF
+%start s
+%%
+s: A EOF {}
+~
+~
+~
+^
+4 --interpret g.mly
+err 1
+~
+g.mly
+%token
+~
+~
+~
+^
+4 --interpret g.mly
+err 1
+~
+g.mly
+%start s
+%%
+s: A {}
+~
+~
+~
+^
+4 --interpret g.mly
+input 7
+err 1
+~
+g.mly
+%token A EOF
+%start s
+%%
+s: A EOF {}
+~
+A EOF
+A
+~
+ACCEPT
+~
+^
+0 --interpret g.mly
+err 1
+~
+g.mly
+%token A EOF
+%start s
+%%
+s: A EOF {}
+~
+A EOF
+~
+ACCEPT
+~
+";
+
+#[test]
+fn last_lines_that_cannot_be_written(rt: HostRuntime) -> Result<(), Fail> {
+    check_cases(&rt, rt.alloc(), LAST_LINES)
 }
 
 // Each read fails in turn: out holds the answers to the lines that came whole.
 #[test]
-fn reads_that_fail(rt: HostRuntime) -> Result<(), Fail> {
+fn each_read_fails_in_turn(rt: HostRuntime) -> Result<(), Fail> {
     let alloc = rt.alloc();
-    let files = [("g.mly", ONE_SENTENCE)];
     for read in 1..11 {
-        let fails = Fails {
-            input: &[read],
-            ..NONE
-        };
+        let mut fails = Fails::none(alloc);
+        fails.input.push(read)?;
+        let mut files = Vec::new(alloc);
+        files.push((b"g.mly".to_vec(alloc)?, ONE_SENTENCE.to_vec(alloc)?))?;
         let input = b"A EOF\nA\n".to_vec(alloc)?;
-        let got = run(&rt, alloc, "--interpret g.mly", &files, input, &fails)?;
+        let got = run(&rt, alloc, "--interpret g.mly", files, input, fails)?;
         let text = if read <= 6 {
-            b"".as_slice()
+            "".as_bytes()
         } else if read <= 8 {
-            b"ACCEPT\n".as_slice()
+            "ACCEPT\n".as_bytes()
         } else {
-            b"ACCEPT\nOVERSHOOT\n".as_slice()
+            "ACCEPT\nOVERSHOOT\n".as_bytes()
         };
-        assert_eq!(rt; got.out.as_slice(), text);
-        let (status, said) = if read <= 9 {
-            (3, b"menhir: cannot read the input\n".as_slice())
-        } else {
-            (0, b"".as_slice())
-        };
-        assert_eq!(rt; got.status, status);
-        assert_eq!(rt; got.err.as_slice(), said);
-    }
-    Ok(())
-}
-
-// Each write fails in turn: out holds a front of the text, and nothing is said.
-#[test]
-fn writes_that_fail(rt: HostRuntime) -> Result<(), Fail> {
-    let alloc = rt.alloc();
-    let files = [("g.mly", ONE_SENTENCE)];
-    for (words, write, status, length) in [
-        ("--interpret g.mly", 1, 4, 0),
-        ("--interpret g.mly", 2, 4, 7),
-        ("--interpret g.mly", 3, 0, 17),
-        ("--show-automaton g.mly", 1, 4, 0),
-    ] {
-        let fails = Fails {
-            out: &[write],
-            ..NONE
-        };
-        let input = b"A EOF\nA\n".to_vec(alloc)?;
-        let got = run(&rt, alloc, words, &files, input, &fails)?;
-        assert_eq!(rt; got.status, status);
-        assert_eq!(rt; got.out.len(), length);
-        assert_eq!(rt; got.err.as_slice(), b"".as_slice());
-    }
-    Ok(())
-}
-
-// A line that says why the work ends cannot be written: the status is that of a write fault.
-#[test]
-fn last_lines_that_fail(rt: HostRuntime) -> Result<(), Fail> {
-    let alloc = rt.alloc();
-    for (grammar, input) in [
-        (b"%token".as_slice(), &[] as &[u64]),
-        (b"%start s %% s: A {}", &[]),
-        (ONE_SENTENCE, &[1]),
-    ] {
-        let fails = Fails {
-            input,
-            err: &[1],
-            ..NONE
-        };
-        let files = [("g.mly", grammar)];
-        let given = b"A EOF\n".to_vec(alloc)?;
-        let got = run(&rt, alloc, "--interpret g.mly", &files, given, &fails)?;
-        assert_eq!(rt; got.status, 4);
-        assert_eq!(rt; got.out.as_slice(), b"".as_slice());
-        assert_eq!(rt; got.err.as_slice(), b"".as_slice());
+        assert_eq!(rt; got.out.as_slice(), text, "at {read}");
+        assert_eq!(rt; got.status, if read <= 9 { 3 } else { 0 }, "at {read}");
     }
     Ok(())
 }

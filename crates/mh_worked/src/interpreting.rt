@@ -1,6 +1,5 @@
 //! Verdicts on the lines of the input.
-use crate::runs::{NONE, check_cases, run};
-use std::alloc::Global;
+use crate::runs::{check_cases, run_on};
 use std::test::Fail;
 
 const VERDICTS: &str = "0 --interpret g.mly
@@ -378,10 +377,18 @@ fn push_sum(text: &mut Vec<u8>, number: u32) -> Result<(), Fail> {
     push_times(text, b"LP ", depth)?;
     text.extend_from_slice(b"INT ")?;
     for place in 1..=number % 5 {
-        let sign = if number * place % 2 == 0 { b"OP1 INT " } else { b"OP2 INT " };
+        let sign = if number % 2 == 0 || place % 2 == 0 {
+            b"OP1 INT "
+        } else {
+            b"OP2 INT "
+        };
         text.extend_from_slice(sign)?;
     }
-    let closed = if number % 3 == 0 && depth > 0 { depth - 1 } else { depth };
+    let closed = if number % 3 == 0 && depth > 0 {
+        depth - 1
+    } else {
+        depth
+    };
     push_times(text, b"RP ", closed)?;
     text.extend_from_slice(b"EOF\n")?;
     Ok(())
@@ -389,19 +396,20 @@ fn push_sum(text: &mut Vec<u8>, number: u32) -> Result<(), Fail> {
 
 /// How many lines are this one.
 fn count_lines(text: &[u8], line: &[u8]) -> usize {
-    text.split(|byte| *byte == b'\n').filter(|found| *found == line).count()
+    text.split(|byte| *byte == b'\n')
+        .filter(|found| *found == line)
+        .count()
 }
 
 // 1,000 of the numbers are multiples of 3, and 59 of these are multiples of 17.
 #[test]
 fn three_thousand_sums(rt: HostRuntime) -> Result<(), Fail> {
-    let alloc: Global = rt.alloc();
+    let alloc = rt.alloc();
     let mut input = Vec::new(alloc);
     for number in 0..3000 {
         push_sum(&mut input, number)?;
     }
-    let files = [("g.mly", SUMS)];
-    let got = run(&rt, alloc, "--interpret g.mly", &files, input, &NONE)?;
+    let got = run_on(&rt, alloc, "--interpret g.mly", SUMS, input)?;
     assert_eq!(rt; got.status, 0);
     assert_eq!(rt; count_lines(&got.out, b"ACCEPT"), 2059);
     assert_eq!(rt; count_lines(&got.out, b"REJECT"), 941);

@@ -1,5 +1,5 @@
 //! Limits of files, lines, inputs and automata.
-use crate::runs::{NONE, ONE_SENTENCE, Outcome, run};
+use crate::runs::{Fails, ONE_SENTENCE, Outcome, run, run_on};
 use std::alloc::Global;
 use std::process::Abort;
 use std::test::Fail;
@@ -15,8 +15,7 @@ fn repeated(alloc: Global, byte: u8, count: usize) -> Result<Vec<u8>, Fail> {
 
 /// Answers an input by the grammar of one sentence.
 fn answered(rt: &impl Abort, alloc: Global, input: Vec<u8>) -> Result<Outcome, Fail> {
-    let files = [("g.mly", ONE_SENTENCE)];
-    run(rt, alloc, "--interpret g.mly", &files, input, &NONE)
+    run_on(rt, alloc, "--interpret g.mly", ONE_SENTENCE, input)
 }
 
 const TOO_BIG: &[u8] = b"menhir: too big: the input\n";
@@ -59,10 +58,18 @@ fn as_many_lines_as_there_may_be(rt: HostRuntime) -> Result<(), Fail> {
 #[test]
 fn a_file_that_is_too_big(rt: HostRuntime) -> Result<(), Fail> {
     let alloc = rt.alloc();
-    let file = repeated(alloc, b' ', 16_777_217)?;
-    let files = [("a.mly", b"%%".as_slice()), ("g.mly", file.as_slice())];
+    let mut files = Vec::new(alloc);
+    files.push((b"a.mly".to_vec(alloc)?, b"%%".to_vec(alloc)?))?;
+    files.push((b"g.mly".to_vec(alloc)?, repeated(alloc, b' ', 16_777_217)?))?;
     let words = "--interpret a.mly g.mly";
-    let got = run(&rt, alloc, words, &files, Vec::new(alloc), &NONE)?;
+    let got = run(
+        &rt,
+        alloc,
+        words,
+        files,
+        Vec::new(alloc),
+        Fails::none(alloc),
+    )?;
     assert_eq!(rt; got.status, 5);
     assert_eq!(rt; got.err.as_slice(), b"menhir: too big: g.mly\n".as_slice());
     Ok(())
@@ -83,10 +90,10 @@ fn with_words_of(alloc: Global, last: u8) -> Result<Vec<u8>, Fail> {
     for number in 1..last {
         text.push(b'q')?;
         push_number(&mut text, number)?;
-        for token in [b": A q".as_slice(), b" {} | B q"] {
-            text.extend_from_slice(token)?;
-            push_number(&mut text, number + 1)?;
-        }
+        text.extend_from_slice(b": A q")?;
+        push_number(&mut text, number + 1)?;
+        text.extend_from_slice(b" {} | B q")?;
+        push_number(&mut text, number + 1)?;
         text.extend_from_slice(b" {}\n")?;
     }
     text.push(b'q')?;
@@ -100,9 +107,8 @@ fn with_words_of(alloc: Global, last: u8) -> Result<Vec<u8>, Fail> {
 fn too_many_states(rt: HostRuntime) -> Result<(), Fail> {
     let alloc = rt.alloc();
     let grammar = with_words_of(alloc, 18)?;
-    let files = [("g.mly", grammar.as_slice())];
     let input = b"A\n".to_vec(alloc)?;
-    let got = run(&rt, alloc, "--interpret g.mly", &files, input, &NONE)?;
+    let got = run_on(&rt, alloc, "--interpret g.mly", &grammar, input)?;
     assert_eq!(rt; got.status, 1);
     assert_eq!(rt; got.out.as_slice(), b"".as_slice());
     assert_eq!(rt; got.err.as_slice(), b"menhir: too many states\n".as_slice());
@@ -117,10 +123,10 @@ fn a_long_production(rt: HostRuntime) -> Result<(), Fail> {
     for number in 1..14 {
         grammar.extend_from_slice(b"%inline x")?;
         push_number(&mut grammar, number)?;
-        for part in [b": x".as_slice(), b" x"] {
-            grammar.extend_from_slice(part)?;
-            push_number(&mut grammar, number - 1)?;
-        }
+        grammar.extend_from_slice(b": x")?;
+        push_number(&mut grammar, number - 1)?;
+        grammar.extend_from_slice(b" x")?;
+        push_number(&mut grammar, number - 1)?;
         grammar.extend_from_slice(b" {}\n")?;
     }
     let mut input = Vec::new(alloc);
@@ -131,8 +137,7 @@ fn a_long_production(rt: HostRuntime) -> Result<(), Fail> {
     for _ in 0..8192 {
         input.extend_from_slice(b"A ")?;
     }
-    let files = [("g.mly", grammar.as_slice())];
-    let got = run(&rt, alloc, "--interpret g.mly", &files, input, &NONE)?;
+    let got = run_on(&rt, alloc, "--interpret g.mly", &grammar, input)?;
     assert_eq!(rt; got.status, 0);
     assert_eq!(rt; got.out.as_slice(), b"OVERSHOOT\nACCEPT\n".as_slice());
     Ok(())

@@ -1,5 +1,5 @@
 //! Trees of what is accepted.
-use crate::runs::{NONE, check_cases, run};
+use crate::runs::{check_cases, run_on};
 use std::alloc::Global;
 use std::test::Fail;
 
@@ -237,15 +237,19 @@ fn trees_have_a_greatest_height(rt: HostRuntime) -> Result<(), Fail> {
     push_times(&mut text, b"]", 3998)?;
     text.push(b'\n')?;
     let shown = "--interpret --interpret-show-cst g.mly";
-    for (words, count, out) in [
-        (shown, 3998, text.as_slice()),
-        (shown, 3999, b"TOODEEP\n"),
-        ("--interpret g.mly", 3999, b"ACCEPT\n"),
-    ] {
-        let files = [("g.mly", NESTED)];
-        let got = run(&rt, alloc, words, &files, nested(alloc, count)?, &NONE)?;
-        assert_eq!(rt; got.status, 0);
-        assert_eq!(rt; got.out.as_slice(), out);
-    }
+    let got = run_on(&rt, alloc, shown, NESTED, nested(alloc, 3998)?)?;
+    assert_eq!(rt; got.status, 0);
+    assert_eq!(rt; got.out.as_slice(), text.as_slice());
+    let got = run_on(&rt, alloc, shown, NESTED, nested(alloc, 3999)?)?;
+    assert_eq!(rt; got.status, 0);
+    assert_eq!(rt; got.out.as_slice(), b"TOODEEP\n".as_slice());
+    let got = run_on(
+        &rt,
+        alloc,
+        "--interpret g.mly",
+        NESTED,
+        nested(alloc, 3999)?,
+    )?;
+    assert_eq!(rt; got.out.as_slice(), b"ACCEPT\n".as_slice());
     Ok(())
 }

@@ -3,7 +3,8 @@ use crate::runs::check_cases;
 use std::test::Fail;
 
 // The first fault of: bad words, no mode, two modes, misplaced words, no grammar. No file is read.
-const MISUSES: &str = "2 ~
+const MISUSES: &str = "2
+~
 ~
 ~
 menhir: usage: no mode

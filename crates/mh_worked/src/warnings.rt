@@ -1,5 +1,5 @@
 //! Warnings, and what comes of them under `--strict`.
-use crate::runs::{Fails, NONE, check_cases, run};
+use crate::runs::check_cases;
 use std::test::Fail;
 
 // Under `--strict` the status is 1 and out is empty where there is a warning, in either mode; nothing is said behind it.
@@ -211,47 +211,171 @@ fn orders_of_warnings(rt: HostRuntime) -> Result<(), Fail> {
     check_cases(&rt, rt.alloc(), ORDERS)
 }
 
-const BRANCHES: &[u8] = b"%token IF ELSE X EOF
+// The warnings are written before the first line is read and before anything is written on out. Where they cannot be
+// written, nothing else is.
+const FAILING: &str = "3 --interpret g.mly
+input 1
+~
+g.mly
+%token IF ELSE X EOF
 %start main
 %%
 main: s EOF {}
 s: IF s {} | IF s ELSE s {} | X {}
+~
+X EOF
+
+~
+~
+menhir: warning: conflict in state 9 on ELSE
+menhir: cannot read the input
+^
+3 --interpret g.mly
+input 7
+~
+g.mly
+%token IF ELSE X EOF
+%start main
+%%
+main: s EOF {}
+s: IF s {} | IF s ELSE s {} | X {}
+~
+X EOF
+
+~
+ACCEPT
+~
+menhir: warning: conflict in state 9 on ELSE
+menhir: cannot read the input
+^
+4 --interpret g.mly
+out 1
+~
+g.mly
+%token IF ELSE X EOF
+%start main
+%%
+main: s EOF {}
+s: IF s {} | IF s ELSE s {} | X {}
+~
+X EOF
+
+~
+~
+menhir: warning: conflict in state 9 on ELSE
+^
+4 --interpret g.mly
+out 2
+~
+g.mly
+%token IF ELSE X EOF
+%start main
+%%
+main: s EOF {}
+s: IF s {} | IF s ELSE s {} | X {}
+~
+X EOF
+
+~
+ACCEPT
+~
+menhir: warning: conflict in state 9 on ELSE
+^
+4 --show-automaton g.mly
+out 1
+~
+g.mly
+%token IF ELSE X EOF
+%start main
+%%
+main: s EOF {}
+s: IF s {} | IF s ELSE s {} | X {}
+~
+X EOF
+
+~
+~
+menhir: warning: conflict in state 9 on ELSE
+^
+4 --interpret g.mly
+err 1
+~
+g.mly
+%token IF ELSE X EOF
+%start main
+%%
+main: s EOF {}
+s: IF s {} | IF s ELSE s {} | X {}
+~
+X EOF
+
+~
+~
+^
+4 --interpret --strict g.mly
+err 1
+~
+g.mly
+%token IF ELSE X EOF
+%start main
+%%
+main: s EOF {}
+s: IF s {} | IF s ELSE s {} | X {}
+~
+X EOF
+
+~
+~
+^
+4 --show-automaton g.mly
+err 1
+~
+g.mly
+%token IF ELSE X EOF
+%start main
+%%
+main: s EOF {}
+s: IF s {} | IF s ELSE s {} | X {}
+~
+X EOF
+
+~
+~
+^
+1 --interpret --strict g.mly
+input 1
+~
+g.mly
+%token IF ELSE X EOF
+%start main
+%%
+main: s EOF {}
+s: IF s {} | IF s ELSE s {} | X {}
+~
+X EOF
+
+~
+~
+menhir: warning: conflict in state 9 on ELSE
+^
+1 --show-automaton --strict g.mly
+out 1
+~
+g.mly
+%token IF ELSE X EOF
+%start main
+%%
+main: s EOF {}
+s: IF s {} | IF s ELSE s {} | X {}
+~
+X EOF
+
+~
+~
+menhir: warning: conflict in state 9 on ELSE
 ";
 
-// The warnings are written before the first line is read and before anything is written on out. Where they cannot be
-// written, nothing else is.
 #[test]
 fn devices_that_fail_behind_warnings(rt: HostRuntime) -> Result<(), Fail> {
-    let alloc = rt.alloc();
-    let warning = b"menhir: warning: conflict in state 9 on ELSE\n".as_slice();
-    let input = Fails {
-        input: &[1],
-        ..NONE
-    };
-    let late = Fails {
-        input: &[7],
-        ..NONE
-    };
-    let out = Fails { out: &[1], ..NONE };
-    let err = Fails { err: &[1], ..NONE };
-    let lines = b"menhir: warning: conflict in state 9 on ELSE\nmenhir: cannot read the input\n";
-    for (words, fails, status, text, said) in [
-        ("--interpret g.mly", &input, 3, b"".as_slice(), lines.as_slice()),
-        ("--interpret g.mly", &late, 3, b"ACCEPT\n", lines),
-        ("--interpret g.mly", &out, 4, b"", warning),
-        ("--show-automaton g.mly", &out, 4, b"", warning),
-        ("--interpret g.mly", &err, 4, b"", b""),
-        ("--interpret --strict g.mly", &err, 4, b"", b""),
-        ("--show-automaton g.mly", &err, 4, b"", b""),
-        ("--interpret --strict g.mly", &input, 1, b"", warning),
-        ("--interpret --strict g.mly", &out, 1, b"", warning),
-    ] {
-        let files = [("g.mly", BRANCHES)];
-        let given = b"X EOF\n\n".to_vec(alloc)?;
-        let got = run(&rt, alloc, words, &files, given, fails)?;
-        assert_eq!(rt; got.status, status);
-        assert_eq!(rt; got.out.as_slice(), text);
-        assert_eq!(rt; got.err.as_slice(), said);
-    }
-    Ok(())
+    check_cases(&rt, rt.alloc(), FAILING)
 }
