@@ -9,9 +9,8 @@ use Rattle.std.proofs.lemmas.List.Elements.{recursion_from_All, All-from_recursi
 use Rattle.mh_join.specs.declared.joined.Head.{Head}
 use Rattle.mh_join.specs.declared.joined.Head.TheVariants.{Formal, Token, Rule}
 use Rattle.mh_join.specs.declared.joined.Applied.{Applied, out-roll-Applied}
-use Rattle.mh_join.specs.declared.joined.Applied.TheOpen.{Applied-F}
-use Rattle.mh_join.specs.declared.joined.Applied.TheViews.{out-Applied, roll-Applied}
-use Rattle.mh_join.specs.declared.joined.Applied.TheFolds.{fold-roll-Applied, ind-Applied, every-Applied, every_here-Applied, every_held-Applied}
+use Rattle.mh_join.specs.declared.joined.Applied.TheViews.{roll-Applied}
+use Rattle.mh_join.specs.declared.joined.Applied.TheFolds.{fold-roll-Applied, ind-Applied, every_here-Applied, every_held-Applied}
 use Rattle.mh_join.specs.declared.joined.JoinedAlternative.{JoinedAlternative}
 use Rattle.mh_join.specs.declared.joined.JoinedRule.{JoinedRule}
 use Rattle.mh_join.specs.declared.joined.Joined.{Joined}
@@ -19,7 +18,6 @@ use Rattle.mh_expand.specs.declared.fault.ExpandFault.TheVariants.{Arity}
 use Rattle.mh_expand.specs.declared.instances.Part.{Part}
 use Rattle.mh_expand.specs.declared.instances.Part.TheVariants as parts
 use Rattle.mh_expand.specs.declared.instances.Instance.{Instance}
-use Rattle.mh_expand.specs.declared.instances.InstanceProduction.{InstanceProduction}
 use Rattle.mh_expand.specs.declared.instances.Expanded.{Expanded}
 use Rattle.mh_expand.specs.Terms.{Term, Atom, Apply, apply_all, head_of, arguments, term_step, term_of, replaced, text}
 use Rattle.mh_expand.specs.Expansion as expansion

@@ -1,10 +1,9 @@
 -- The sentences over terms are those over instances.
-use Rattle.std.proofs.Common.{◌≡◌, ℕ, zero, suc, List, [], ◌∷◌, Some, map, length, refl, sym, ap, ◌∙◌}
-use Rattle.std.specs.List.{slice_get, AllZip, Contains}
+use Rattle.std.proofs.Common.{◌≡◌, ℕ, zero, suc, List, [], ◌∷◌, Some, length, refl, sym, ap, ◌∙◌}
+use Rattle.std.specs.List.{slice_get, AllZip}
 use Rattle.std.specs.Option.{option_map}
 use Rattle.std.proofs.lemmas.Option.{slice_get-map}
 use Rattle.std.proofs.lemmas.List.{length-map}
-use Rattle.mh_grammar.specs.Numbering.{Names}
 use Rattle.mh_grammar.proofs.Placing.{contains_at, at_contains}
 use Rattle.mh_join.specs.declared.joined.Head.TheVariants.{Token}
 use Rattle.mh_join.specs.declared.joined.Joined.{Joined}

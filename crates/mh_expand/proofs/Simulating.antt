@@ -1,5 +1,5 @@
 -- A derivation over one family of productions is one over another that answers each of its steps.
-use Rattle.std.proofs.Common.{◌≡◌, ℕ, List, [], ◌∷◌, ◌++◌}
+use Rattle.std.proofs.Common.{ℕ, List, [], ◌∷◌}
 use Rattle.std.specs.List.{AllZip}
 use Rattle.mh_grammar.specs.Derivations as derivations
 use Rattle.mh_grammar.specs.Derivations.{Derivation, Derivations}

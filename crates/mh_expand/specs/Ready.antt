@@ -1,5 +1,5 @@
 -- What is asked of joined rules, so that the layers above may ask as much of their instances.
-use Rattle.std.specs.Prelude.{◌≡◌, ◌<◌, ◌≤◌, ◌≢◌, ℕ, List, length, AllPairs}
+use Rattle.std.specs.Prelude.{◌<◌, ◌≤◌, ◌≢◌, ℕ, length, AllPairs}
 use Rattle.std.specs.List.{All}
 use Rattle.mh_join.specs.declared.joined.Joined.{Joined}
 use Rattle.mh_join.specs.Ready.{IsRuleReady}

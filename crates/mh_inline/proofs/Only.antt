@@ -1,7 +1,7 @@
 -- Instances give one grammar, or one first fault.
-use Rattle.std.proofs.Common.{◌≡◌, ℕ, zero, suc, ◌<◌, ◌≤◌, ◌⊎◌, ◌↔◌, true, false, List, [], ◌∷◌, Some, map, length, get_or, refl, sym, ap, ◌∙◌, arith, inl, inr, subst}
+use Rattle.std.proofs.Common.{◌≡◌, ℕ, ◌≤◌, false, List, [], ◌∷◌, length, refl, sym, ap, ◌∙◌, arith, inl, inr, subst}
 use Rattle.std.specs.Option.{option_map}
-use Rattle.std.specs.List.{slice_get, All, Any, AllByRecursion, Contains}
+use Rattle.std.specs.List.{slice_get, All, AllByRecursion, Contains}
 use Rattle.std.proofs.lemmas.Bool.{false≢true, cases_lt}
 use Rattle.std.proofs.lemmas.List.Elements.{All-contains, All-from_recursion}
 use Rattle.std.proofs.lemmas.Option.{same_Some, slice_get_within, get_or_from_slice_get, slice_get-map}
@@ -16,8 +16,8 @@ use Rattle.mh_inline.specs.declared.fault.InlineFault.{InlineFault}
 use Rattle.mh_inline.specs.declared.fault.InlineFault.TheVariants.{InlineCycle, InlineStart, TooManyProductions, EmptyLanguage, Memory}
 use Rattle.mh_inline.specs.declared.sources.Source.{Source}
 use Rattle.mh_inline.specs.Instances.{is_inlined}
-use Rattle.mh_inline.specs.Inlined.{number_of, IsSourceBefore, AreSources, AreProductions, IsInlined}
-use Rattle.mh_inline.specs.Faults.{HasNoCycle, HasNoInlineStart, IsFault, IsFirstCyclicAt, IsFirstInlineStartAt, IsFirstEmptyAt, IsGrammarOf, IsNamed, IsNoMemory, IsOver, IsSmall}
+use Rattle.mh_inline.specs.Inlined.{number_of, IsSourceBefore, AreProductions, IsInlined}
+use Rattle.mh_inline.specs.Faults.{HasNoInlineStart, IsFault, IsFirstCyclicAt, IsFirstInlineStartAt, IsFirstEmptyAt, IsGrammarOf, IsNamed, IsNoMemory, IsOver, IsSmall}
 use Rattle.mh_inline.proofs.Sourcing.{contains_here, contains_there, contains_cases, contains_none}
 use Rattle.mh_inline.proofs.Limits.{made_same}
 

@@ -1,8 +1,6 @@
 -- The claims follow from how a run ended.
 use Rattle.std.proofs.Common.{◌≡◌, ◌⊎◌, inl, inr, ℕ, List, [], Bool, true, false, Option, None, Some, refl, sym, ◌∙◌, ap, subst, arith, if◌then◌else◌}
 use Rattle.std.specs.Io.KnownBytes.{Appends}
-use Rattle.mh_grammar.specs.declared.types.Grammar.{Grammar}
-use Rattle.mh_tables.specs.Table.{TableData}
 use Rattle.mh_outside.specs.Faults.{Rose, IsCalm}
 use Rattle.mh_outside.specs.Shelf.{Files, NoFile, Long}
 use Rattle.mh_top.specs.Text.{Text}

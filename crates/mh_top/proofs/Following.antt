@@ -1,5 +1,5 @@
 -- The warnings are written, and what follows them is done.
-use Rattle.std.proofs.Common.{◌≡◌, inl, inr, ℕ, List, [], ◌++◌, Option, None, Some, refl, sym, ◌∙◌, ap, subst}
+use Rattle.std.proofs.Common.{◌≡◌, inl, inr, ℕ, List, [], ◌++◌, Option, None, Some, refl, sym, ap, subst}
 use Rattle.std.proofs.lemmas.List.{append-nil}
 use Rattle.std.specs.Prelude.{Bool, Result, Ok, Err}
 use Rattle.std.specs.Io.KnownBytes.{Appends}
@@ -10,7 +10,7 @@ use Rattle.mh_outside.specs.Sink.{IsPrefix, AppendsPrefix}
 use Rattle.mh_report.specs.Warnings.{warning_lines}
 use Rattle.mh_resolve.specs.declared.conflicts.Conflict.{Conflict}
 use Rattle.mh_top.specs.Text.{Text}
-use Rattle.mh_top.specs.Each.{AsksFirst, IsPart}
+use Rattle.mh_top.specs.Each.{AsksFirst}
 use Rattle.mh_top.specs.Modes.{Wrote, Warned, EndRan, PlanRan, plan_of}
 use Rattle.mh_top.specs.Run.{World, Worked, Parts, EndsSo, IsOutPart, LeftIs, MayEnd}
 use Rattle.mh_top.specs.Stages.{Halts}

@@ -1,5 +1,5 @@
 -- The table stage, by what the code found.
-use Rattle.std.proofs.Common.{◌≡◌, List, Option, ℕ, inr, refl, sym, ◌∙◌, subst}
+use Rattle.std.proofs.Common.{◌≡◌, List, Option, ℕ, inr, sym, subst}
 use Rattle.std.specs.Prelude.{Err}
 use Rattle.mh_grammar.specs.declared.types.Grammar.{Grammar}
 use Rattle.mh_grammar.specs.Plain.{plain_of}
@@ -12,11 +12,9 @@ use Rattle.mh_resolve.specs.declared.kinds.Mode.TheVariants.{Canonical}
 use Rattle.mh_tables.specs.Table.{TableData}
 use Rattle.mh_tables.specs.Halting.{Halts, LoopsAt}
 use Rattle.mh_msgfile.specs.Sentences.{token_names}
-use Rattle.mh_top.specs.Text.{Text}
 use Rattle.mh_top.specs.Causes.{Go}
 use Rattle.mh_top.specs.Stages.{StageHas, Halts as HaltsWith}
 use Rattle.mh_top.specs.TableStage.{HasTooMany, AreTabled, IsTableStage, loops_line}
-use Rattle.mh_top.specs.declared.stop.Cause.{Cause}
 use Rattle.mh_top.specs.declared.stop.Cause.TheVariants.{Refused}
 use Rattle.mh_top.specs.declared.stop.Stop.{Stop}
 use Rattle.mh_top.specs.declared.stop.Stop.TheVariants.{Halted, ShelfFailed, InputFailed, WriteFailed, OutOfMemory}

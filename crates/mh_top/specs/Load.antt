@@ -1,5 +1,5 @@
 -- What the reading of files answers.
-use Rattle.std.specs.Prelude.{◌≡◌, ℕ, ◌≤◌, List, [], Option, Some, Result, Ok, Err, Vec, ⊤}
+use Rattle.std.specs.Prelude.{◌≡◌, ℕ, ◌≤◌, Option, Some, Result, Ok, Err, Vec, ⊤}
 use Rattle.std.specs.declared.alloc.Global.{Global}
 use Rattle.mh_reader.specs.declared.modules.Module.{Module}
 use Rattle.mh_opts.specs.declared.order.Order.{Order}
