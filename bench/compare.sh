@@ -1,46 +1,73 @@
 #!/usr/bin/env bash
-# Times the built program beside Menhir itself (Debian's package `menhir`) and prints the ratios.
+# Compares the built program with Menhir itself (Debian's package `menhir`): states, verdicts and trees on real grammars,
+# which must be the same, and times, which are printed as ratios.
 # Usage: bench/compare.sh PATH-OF-OUR-PROGRAM   (after a run of the gate: crates/menhir/out/menhir)
 set -eu
 ours=$(readlink -f "${1:?the path of the built program}")
+bench=$(dirname "$(readlink -f "$0")")
 folder=$(mktemp -d)
 trap 'rm -rf "$folder"' EXIT
 cd "$folder"
-python3 - <<'PY'
-import random
-random.seed(1)
-text = ("%token INT PLUS TIMES LPAREN RPAREN EOF\n%start{0} main\n%%\nmain: e EOF {1}\ne: e PLUS t {1} | t {1}\n"
-        "t: t TIMES f {1} | f {1}\nf: LPAREN e RPAREN {1} | INT {1}\n")
-open("sums.mly", "w").write(text.format("", "{}"))
-open("sums_menhir.mly", "w").write(text.format(" <unit>", "{ () }"))
-with open("sums.in", "w") as out:
-    for _ in range(5):
-        words = ["INT"]
-        for _ in range(40000):
-            words += [random.choice(["PLUS", "TIMES"]), "INT"]
-        out.write(" ".join(words) + " EOF\n")
-def chain(depth, action, kind, name):
-    lines = ["%token A B", f"%start{kind} q0", "%%", f"q0: A q0 {action} | B q0 {action} | A q1 {action}"]
-    lines += [f"q{i}: A q{i + 1} {action} | B q{i + 1} {action}" for i in range(1, depth)]
-    lines.append(f"q{depth}: A {action} | B {action}")
-    open(name, "w").write("\n".join(lines) + "\n")
-chain(12, "{}", "", "states.mly")
-chain(12, "{ () }", " <unit>", "states_menhir.mly")
-chain(18, "{}", "", "many.mly")
-open("one.in", "w").write("A\n")
-PY
-seconds() { # processor seconds of a command
+# Menhir's parser of the 16 MiB file wants a deep stack.
+ulimit -s unlimited
+
+seconds() { # processor seconds of a command; what it writes lies in out.txt and err.txt
     local TIMEFORMAT=%U
     { time "$@" >out.txt 2>err.txt || true; } 2>&1
 }
 ratio() { python3 -c "import sys; print(f'{float(sys.argv[1]) / max(float(sys.argv[2]), 0.001):.1f}')" "$1" "$2"; }
-ours_runs=$(seconds "$ours" --interpret sums.mly <sums.in)
-ours_states=$(seconds "$ours" --interpret states.mly <one.in)
-ours_many=$(seconds "$ours" --interpret many.mly <one.in)
-echo "400,000 tokens: $ours_runs s; too many states (262,144 cores): $ours_many s"
-if command -v menhir >/dev/null; then
-    theirs_runs=$(seconds menhir --interpret sums_menhir.mly <sums.in)
-    theirs_states=$(seconds menhir --canonical --interpret states_menhir.mly <one.in)
-    echo "Menhir takes $(ratio "$theirs_runs" "$ours_runs") times as long for the tokens,"
-    echo "and $(ratio "$theirs_states" "$ours_states") times as long for a canonical automaton of 8,000 states"
+menhir_there() { command -v menhir >/dev/null; }
+same() { # whether two files hold the same words, blanks apart
+    cmp -s <(tr -d ' \n' <"$1") <(tr -d ' \n' <"$2") || { echo "$3: NOT THE SAME" && return 1; }
+}
+
+# A thousand random sentences of a real grammar, every second one with a token changed.
+compare_grammar() {
+    local name=$1 sentences=$1.in files file
+    mkdir "$name"
+    for file in "$bench/grammars/$name"/*.mly; do
+        # Menhir's interpreter puts EOF behind each sentence by itself, so the token has another name here.
+        sed 's/\<EOF\>/STOP/g' "$file" >"$name/$(basename "$file")"
+    done
+    files=("$name"/*.mly)
+    menhir --base "$name" --only-preprocess-u "${files[@]}" 2>/dev/null | python3 "$bench/sentences.py" 1 1000 14 >"$sentences"
+    local states their_states
+    states=$("$ours" --show-automaton "${files[@]}" | head -1 | tr -dc 0-9)
+    their_states=$(menhir --base "$name" --canonical --interpret -la 2 "${files[@]}" 2>&1 </dev/null | sed -n 's/^Built an LR(1) automaton with \([0-9]*\) states.*/\1/p')
+    echo "$name: $(wc -w <"$sentences") tokens in 1,000 sentences; $states canonical states, Menhir has $their_states"
+    local words our_time canonical_time their_time
+    for words in "--interpret" "--interpret --interpret-show-cst"; do
+        our_time=$(seconds "$ours" $words "${files[@]}" <"$sentences")
+        mv out.txt ours.txt
+        canonical_time=$(seconds menhir --base "$name" --canonical $words "${files[@]}" <"$sentences")
+        sed '/^Ready!$/d' out.txt >canonical.txt
+        their_time=$(seconds menhir --base "$name" $words "${files[@]}" <"$sentences")
+        sed '/^Ready!$/d' out.txt >theirs.txt
+        same ours.txt canonical.txt "$name, canonical" && same ours.txt theirs.txt "$name" &&
+            echo "    $words: same answers; Menhir takes $(ratio "$canonical_time" "$our_time") times as long with its canonical automaton, $(ratio "$their_time" "$our_time") with its merged one"
+    done
+}
+
+# Our time for a command, and Menhir's as a ratio.
+compare_time() { # NAME INPUT WORD..
+    local name=$1 input=$2 our_time their_time=
+    shift 2
+    our_time=$(seconds "$ours" "$@" <"$input")
+    mv out.txt ours.txt
+    if menhir_there; then
+        their_time=$(seconds timeout 100 menhir --base g --canonical "$@" <"$input")
+        [ -s out.txt ] && ! grep -q 'Fatal error' err.txt || their_time=
+    fi
+    echo "$name: $our_time s${their_time:+; Menhir takes $(ratio "$their_time" "$our_time") times as long}"
+}
+
+if menhir_there; then
+    for name in json c lua sql; do compare_grammar "$name"; done
 fi
+python3 "$bench/inputs.py"
+compare_time "1,001,000 tokens of sums" sums.in --interpret sums.mly
+compare_time "the same, with trees" sums.in --interpret --interpret-show-cst sums.mly
+compare_time "a canonical automaton of 8,000 states" one.in --interpret states.mly
+compare_time "a file of 16 MiB of small rules" one.in --interpret rules.mly
+compare_time "1,000 files of 1,000 rules" one.in --interpret files/*.mly
+echo "262,144 cores, of which 200,000 are too many: $(seconds "$ours" --interpret many.mly <one.in) s"

@@ -1,7 +1,25 @@
-//! Worked examples over many crates: grammars, inputs and tables that were worked out by hand.
+//! Worked runs of the whole tool, and worked tables: grammars, words and inputs whose answers were worked out by hand.
 #![tactic(auto)]
 
 #[cfg(test)]
-mod rows;
+mod automata;
 #[cfg(test)]
-mod tests;
+mod devices;
+#[cfg(test)]
+mod interpreting;
+#[cfg(test)]
+mod limits;
+#[cfg(test)]
+mod refused;
+#[cfg(test)]
+mod runs;
+#[cfg(test)]
+mod several_files;
+#[cfg(test)]
+mod tables;
+#[cfg(test)]
+mod trees;
+#[cfg(test)]
+mod usage;
+#[cfg(test)]
+mod warnings;

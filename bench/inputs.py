@@ -1,0 +1,65 @@
+#!/usr/bin/env python3
+"""Writes the generated inputs of bench/compare.sh into the current folder."""
+import os
+import random
+
+random.seed(1)
+
+SUMS = """%token INT PLUS TIMES LPAREN RPAREN EOF
+%start <unit> main
+%%
+main: e EOF { () }
+e: e PLUS t { () } | t { () }
+t: t TIMES f { () } | f { () }
+f: LPAREN e RPAREN { () } | INT { () }
+"""
+
+# The largest file that is read.
+MOST_BYTES = 16_777_216
+
+
+def write(name, text):
+    with open(name, "w", encoding="ascii") as file:
+        file.write(text)
+
+
+def sums(lines, signs):
+    """Lines of sums, each with so many signs between its numbers."""
+    for _ in range(lines):
+        words = ["INT"]
+        for _ in range(signs):
+            words += [random.choice(["PLUS", "TIMES"]), "INT"]
+        yield " ".join(words) + " EOF\n"
+
+
+def chain(last):
+    """A grammar whose words of so many tokens lead to states of their own."""
+    rules = ["q0: A q0 { () } | B q0 { () } | A q1 { () }"]
+    rules += [f"q{i}: A q{i + 1} {{ () }} | B q{i + 1} {{ () }}" for i in range(1, last)]
+    rules.append(f"q{last}: A {{ () }} | B {{ () }}")
+    return "%token A B\n%start <unit> q0\n%%\n" + "\n".join(rules) + "\n"
+
+
+def small_rules(most):
+    """A file of small rules, up to so many bytes."""
+    head = "%token A EOF\n%start <unit> s\n%%\ns: A EOF { () }\n"
+    rules, size, number = [head], len(head), 0
+    while True:
+        rule = f"r{number}: A {{ () }}\n"
+        size += len(rule)
+        if size > most:
+            return "".join(rules)
+        rules.append(rule)
+        number += 1
+
+
+write("sums.mly", SUMS)
+write("sums.in", "".join(sums(1000, 500)))
+write("states.mly", chain(12))
+write("many.mly", chain(18))
+write("one.in", "A EOF\n")
+write("rules.mly", small_rules(MOST_BYTES))
+os.mkdir("files")
+for number in range(1000):
+    head = "%token A EOF\n%start <unit> s\n%%\ns: A EOF { () }\n" if number == 0 else "%%\n"
+    write(f"files/f{number}.mly", head + "".join(f"r{it}: A {{ () }}\n" for it in range(1000)))

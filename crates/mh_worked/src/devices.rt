@@ -1,0 +1,263 @@
+//! Files, inputs and outputs that fail.
+use crate::runs::{Fails, ONE_SENTENCE, check_cases, run};
+use std::test::Fail;
+
+const READS: &str = "3 --interpret h.mly
+~
+g.mly
+%token A EOF
+%start s
+%%
+s: A EOF {}
+~
+~
+~
+menhir: cannot read h.mly
+^
+3 --interpret g.mly
+shelf 1
+~
+g.mly
+%token A EOF
+%start s
+%%
+s: A EOF {}
+~
+~
+~
+menhir: cannot read g.mly
+^
+3 --interpret g.mly h.mly
+shelf 2
+~
+g.mly
+%token A EOF
+%start s
+%%
+s: A EOF {}
+~
+h.mly
+%%
+~
+~
+~
+menhir: cannot read h.mly
+^
+0 --interpret g.mly h.mly
+shelf 3
+~
+g.mly
+%token A EOF
+%start s
+%%
+s: A EOF {}
+~
+h.mly
+%%
+~
+~
+~
+^
+3 --interpret g.mly
+input 1
+~
+g.mly
+%token A EOF
+%start s
+%%
+s: A EOF {}
+~
+A EOF
+~
+~
+menhir: cannot read the input
+^
+0 --show-automaton g.mly
+input 1
+~
+g.mly
+%token A EOF
+%start s
+%%
+s: A EOF {}
+~
+A EOF
+~
+canonical: 4 states
+...
+~
+";
+
+#[test]
+fn files_and_inputs_that_cannot_be_read(rt: HostRuntime) -> Result<(), Fail> {
+    check_cases(&rt, rt.alloc(), READS)
+}
+
+// What stands on out is a front of the text, and nothing is said.
+const WRITES: &str = "4 --interpret g.mly
+out 1
+~
+g.mly
+%token A EOF
+%start s
+%%
+s: A EOF {}
+~
+A EOF
+A
+~
+~
+^
+4 --interpret g.mly
+out 2
+~
+g.mly
+%token A EOF
+%start s
+%%
+s: A EOF {}
+~
+A EOF
+A
+~
+ACCEPT
+~
+^
+0 --interpret g.mly
+out 3
+~
+g.mly
+%token A EOF
+%start s
+%%
+s: A EOF {}
+~
+A EOF
+A
+~
+ACCEPT
+OVERSHOOT
+~
+^
+4 --show-automaton g.mly
+out 1
+~
+g.mly
+%token A EOF
+%start s
+%%
+s: A EOF {}
+~
+~
+~
+";
+
+#[test]
+fn outputs_that_cannot_be_written(rt: HostRuntime) -> Result<(), Fail> {
+    check_cases(&rt, rt.alloc(), WRITES)
+}
+
+// Where the line that says why the work ends cannot be written, the status is that of a write fault.
+const LAST_LINES: &str = "4 --interpret --what g.mly
+err 1
+~
+g.mly
+%token A EOF
+%start s
+%%
+s: A EOF {}
+~
+~
+~
+^
+4 --interpret h.mly
+err 1
+~
+g.mly
+%token A EOF
+%start s
+%%
+s: A EOF {}
+~
+~
+~
+^
+4 --interpret g.mly
+err 1
+~
+g.mly
+%token
+~
+~
+~
+^
+4 --interpret g.mly
+err 1
+~
+g.mly
+%start s
+%%
+s: A {}
+~
+~
+~
+^
+4 --interpret g.mly
+input 7
+err 1
+~
+g.mly
+%token A EOF
+%start s
+%%
+s: A EOF {}
+~
+A EOF
+A
+~
+ACCEPT
+~
+^
+0 --interpret g.mly
+err 1
+~
+g.mly
+%token A EOF
+%start s
+%%
+s: A EOF {}
+~
+A EOF
+~
+ACCEPT
+~
+";
+
+#[test]
+fn last_lines_that_cannot_be_written(rt: HostRuntime) -> Result<(), Fail> {
+    check_cases(&rt, rt.alloc(), LAST_LINES)
+}
+
+// Each read fails in turn: out holds the answers to the lines that came whole.
+#[test]
+fn each_read_fails_in_turn(rt: HostRuntime) -> Result<(), Fail> {
+    let alloc = rt.alloc();
+    for read in 1..11 {
+        let mut fails = Fails::none(alloc);
+        fails.input.push(read)?;
+        let mut files = Vec::new(alloc);
+        files.push((b"g.mly".to_vec(alloc)?, ONE_SENTENCE.to_vec(alloc)?))?;
+        let input = b"A EOF\nA\n".to_vec(alloc)?;
+        let got = run(&rt, alloc, "--interpret g.mly", files, input, fails)?;
+        let text = if read <= 6 {
+            "".as_bytes()
+        } else if read <= 8 {
+            "ACCEPT\n".as_bytes()
+        } else {
+            "ACCEPT\nOVERSHOOT\n".as_bytes()
+        };
+        assert_eq!(rt; got.out.as_slice(), text, "at {read}");
+        assert_eq!(rt; got.status, if read <= 9 { 3 } else { 0 }, "at {read}");
+    }
+    Ok(())
+}

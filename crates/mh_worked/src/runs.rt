@@ -1,0 +1,168 @@
+//! Runs of the whole tool over devices in memory.
+ghost use Rattle.std.specs.Prelude.{◌≡◌, IsTrue, IsFalse, None};
+ghost use Rattle.mh_outside.specs.Shelf.{file_at, files_of, HasDistinctNames};
+
+use mh_outside::{MemShelf, MemSink, MemSource};
+use mh_top::menhir;
+use std::alloc::Global;
+use std::process::Abort;
+use std::test::Fail;
+
+/// A grammar of one sentence, `A EOF`.
+pub const ONE_SENTENCE: &[u8] = b"%token A EOF\n%start s\n%%\ns: A EOF {}\n";
+
+/// The status, and the texts on out and err.
+#[derive(Drop)]
+pub struct Outcome {
+    pub status: u8,
+    pub out: Vec<u8>,
+    pub err: Vec<u8>,
+}
+
+/// Which calls of the devices fail, by their numbers from 1.
+#[derive(Drop)]
+pub struct Fails {
+    pub shelf: Vec<u64>,
+    pub input: Vec<u64>,
+    pub out: Vec<u64>,
+    pub err: Vec<u64>,
+}
+
+impl Fails {
+    pub fn none(alloc: Global) -> Fails {
+        Fails {
+            shelf: Vec::new(alloc),
+            input: Vec::new(alloc),
+            out: Vec::new(alloc),
+            err: Vec::new(alloc),
+        }
+    }
+
+    /// Adds a line of a device and the number of a call.
+    fn add(&mut self, line: &str) -> Result<(), Fail> {
+        let (device, call) = line.split_once(' ').ok_or("a device without a call")?;
+        let call = call.parse()?;
+        match device {
+            "shelf" => self.shelf.push(call)?,
+            "input" => self.input.push(call)?,
+            "out" => self.out.push(call)?,
+            "err" => self.err.push(call)?,
+            _ => return Err(Fail::from("an unknown device")),
+        }
+        Ok(())
+    }
+}
+
+/// Whether a file has this name.
+fn is_there(files: &[(Vec<u8>, Vec<u8>)], name: &[u8]) -> bool
+    ensures { IsFalse result → file_at (files_of files.now) name.now ≡ None }
+{
+    match files {
+        [] => false,
+        [file, rest @ ..] => name == file.0.as_slice() || is_there(rest, name),
+    }
+}
+
+/// Whether no two files have one name.
+fn are_distinct(files: &[(Vec<u8>, Vec<u8>)]) -> bool
+    ensures { IsTrue result → HasDistinctNames (files_of files.now) }
+{
+    match files {
+        [] => true,
+        [file, rest @ ..] => !is_there(rest, file.0.as_slice()) && are_distinct(rest),
+    }
+}
+
+/// Runs the tool on the words of a text.
+pub fn run(
+    rt: &impl Abort,
+    alloc: Global,
+    words: &str,
+    files: Vec<(Vec<u8>, Vec<u8>)>,
+    input: Vec<u8>,
+    fails: Fails,
+) -> Result<Outcome, Fail> {
+    let mut given = Vec::new(alloc);
+    for word in words.split_ascii_whitespace() {
+        given.push(String::from_str(alloc, word)?)?;
+    }
+    assert!(rt; are_distinct(&files));
+    let mut shelf = MemShelf::new(files, fails.shelf);
+    let mut input = MemSource::new(input, fails.input);
+    let mut out = MemSink::new(alloc, fails.out);
+    let mut err = MemSink::new(alloc, fails.err);
+    let status = menhir(alloc, &given, &mut shelf, &mut input, &mut out, &mut err);
+    Ok(Outcome {
+        status,
+        out: out.written().to_vec(alloc)?,
+        err: err.written().to_vec(alloc)?,
+    })
+}
+
+/// Runs the tool on the file `g.mly` with this text.
+pub fn run_on(
+    rt: &impl Abort,
+    alloc: Global,
+    words: &str,
+    grammar: &[u8],
+    input: Vec<u8>,
+) -> Result<Outcome, Fail> {
+    let mut files = Vec::new(alloc);
+    files.push((b"g.mly".to_vec(alloc)?, grammar.to_vec(alloc)?))?;
+    run(rt, alloc, words, files, input, Fails::none(alloc))
+}
+
+/// Compares a text with the one that is wanted, or with its front where the last line of that is `...`.
+fn check_text(rt: &impl Abort, found: &[u8], wanted: &str, case: &str) -> Result<(), Fail> {
+    let found = str::from_utf8(found)?;
+    match wanted.strip_suffix("...\n") {
+        Some(front) => assert!(rt; found.starts_with(front), "{found}\nin\n{case}"),
+        None => assert_eq!(rt; found, wanted, "in\n{case}"),
+    }
+    Ok(())
+}
+
+/// The files of the parts of a case, each behind a line with its name.
+fn files_of_parts(alloc: Global, parts: &[&str]) -> Result<Vec<(Vec<u8>, Vec<u8>)>, Fail> {
+    let mut files = Vec::new(alloc);
+    for part in parts {
+        let (name, text) = part.split_once('\n').ok_or("a file without a name")?;
+        let name = name.as_bytes().to_vec(alloc)?;
+        files.push((name, text.as_bytes().to_vec(alloc)?))?;
+    }
+    Ok(files)
+}
+
+/// Runs one case of a text.
+fn check_case(rt: &impl Abort, alloc: Global, case: &str) -> Result<(), Fail> {
+    let mut parts = Vec::new(alloc);
+    for part in case.split("~\n") {
+        parts.push(part)?;
+    }
+    let [head, named @ .., input, out, err] = parts.as_slice() else {
+        return Err(Fail::from("a case lacks a part"));
+    };
+    let (order, calls) = head.split_once('\n').ok_or("a case without words")?;
+    let (status, words) = order.split_once(' ').unwrap_or((order, ""));
+    let mut fails = Fails::none(alloc);
+    for line in calls.lines() {
+        fails.add(line)?;
+    }
+    let files = files_of_parts(alloc, named)?;
+    let input = input.as_bytes().to_vec(alloc)?;
+    let got = run(rt, alloc, words, files, input, fails)?;
+    check_text(rt, &got.err, *err, case)?;
+    check_text(rt, &got.out, *out, case)?;
+    assert_eq!(rt; got.status, status.parse()?, "in\n{case}");
+    Ok(())
+}
+
+/// Runs each case of a text. Lines `^` stand between cases, and lines `~` between their parts. These are: the status and
+/// the words, with a line for each call of a device that is to fail; each file, behind a line with its name; the input;
+/// what is written on out; and what is written on err. Of a text that ends with the line `...` the front alone is told.
+pub fn check_cases(rt: &impl Abort, alloc: Global, cases: &str) -> Result<(), Fail> {
+    for case in cases.split("^\n") {
+        check_case(rt, alloc, case)?;
+    }
+    Ok(())
+}

@@ -1,0 +1,393 @@
+//! Grammars of several files.
+use crate::runs::check_cases;
+use std::test::Fail;
+
+// Tokens, aliases and public rules are of all files. Other rules are of their own; where another file has one of the name,
+// the printed name tells the file.
+const JOINED: &str = r#"0 --interpret a.mly b.mly
+~
+a.mly
+%token X Y EOF
+%start main
+%%
+main: unit nonempty_list(item) EOF {}
+%public item: X {}
+unit: {}
+~
+b.mly
+%%
+%public item: Y {}
+unit: Y {}
+~
+X Y EOF
+EOF
+Y
+~
+ACCEPT
+REJECT
+OVERSHOOT
+~
+^
+0 --interpret --interpret-show-cst b.mly a.mly
+~
+a.mly
+%token X Y EOF
+%start main
+%%
+main: unit nonempty_list(item) EOF {}
+%public item: X {}
+unit: {}
+~
+b.mly
+%%
+%public item: Y {}
+unit: Y {}
+~
+X Y EOF
+~
+ACCEPT
+[main: [unit@2:] [nonempty_list(item): [item: X] [nonempty_list(item): [item: Y]]] EOF]
+~
+^
+0 --interpret --interpret-show-cst a.mly b.mly
+~
+a.mly
+%token PLUS "+" INT EOF
+%start main
+%%
+main: e EOF {}
+~
+b.mly
+%left "+"
+%%
+%public e: INT {} | e "+" e {}
+~
+INT PLUS INT PLUS INT EOF
+~
+ACCEPT
+[main: [e: [e: [e: INT] PLUS [e: INT]] PLUS [e: INT]] EOF]
+~
+^
+0 --interpret a.mly b.mly
+~
+a.mly
+%token A B
+%%
+s: A {}
+~
+b.mly
+%start s
+%%
+s: B {}
+~
+A
+B
+~
+ACCEPT
+ACCEPT
+~
+"#;
+
+#[test]
+fn files_that_are_joined(rt: HostRuntime) -> Result<(), Fail> {
+    check_cases(&rt, rt.alloc(), JOINED)
+}
+
+// A file's own rule goes before the public one, and that before the standard library's. Where a file defines a rule of
+// the library, the library's has `@0` behind its name.
+const SHADOWED: &str = r#"0 --interpret --interpret-show-cst a.mly b.mly
+~
+a.mly
+%token A B EOF
+%start main
+%%
+main: B* items EOF {}
+list(E): E E {}
+~
+b.mly
+%%
+%public items: A* {}
+~
+B B A EOF
+B A EOF
+~
+ACCEPT
+[main: [list(B): B B] [items: [list@0(A): A [list@0(A):]]] EOF]
+REJECT
+~
+^
+0 --interpret --interpret-show-cst g.mly
+~
+g.mly
+%token A EOF
+%start s
+%%
+s: A? EOF {}
+%public option(X): X X {}
+~
+A A EOF
+EOF
+~
+ACCEPT
+[s: [option(A): A A] EOF]
+REJECT
+~
+^
+0 --interpret --interpret-show-cst a.mly b.mly c.mly
+~
+a.mly
+%token A B C EOF
+%start main
+%%
+main: x y z EOF {}
+%public x: w {}
+%public w: A {}
+~
+b.mly
+%%
+%public y: w {}
+w: B {}
+~
+c.mly
+%%
+%public z: w {}
+w: C {}
+~
+A B C EOF
+~
+ACCEPT
+[main: [x: [w: A]] [y: [w@2: B]] [z: [w@3: C]] EOF]
+~
+"#;
+
+#[test]
+fn rules_that_hide_others(rt: HostRuntime) -> Result<(), Fail> {
+    check_cases(&rt, rt.alloc(), SHADOWED)
+}
+
+// Levels of two files are not compared, so the token is shifted, with a warning. A file that stands twice is two files,
+// whose own rules are apart.
+const APART: &str = "0 --interpret --interpret-show-cst a.mly b.mly
+~
+a.mly
+%token INT PLUS TIMES EOF
+%left PLUS
+%start main
+%%
+main: e EOF {}
+%public e: INT {} | e PLUS e {}
+~
+b.mly
+%left TIMES
+%%
+%public e: e TIMES e {}
+~
+INT PLUS INT PLUS INT EOF
+INT PLUS INT TIMES INT EOF
+INT TIMES INT PLUS INT EOF
+~
+ACCEPT
+[main: [e: [e: [e: INT] PLUS [e: INT]] PLUS [e: INT]] EOF]
+ACCEPT
+[main: [e: [e: INT] PLUS [e: [e: INT] TIMES [e: INT]]] EOF]
+ACCEPT
+[main: [e: [e: INT] TIMES [e: [e: INT] PLUS [e: INT]]] EOF]
+~
+menhir: warning: conflict in state 7 on TIMES
+menhir: warning: conflict in state 8 on PLUS
+^
+0 --interpret --interpret-show-cst g.mly g.mly
+~
+g.mly
+%token A EOF
+%start s
+%%
+s: A EOF {}
+~
+A EOF
+~
+ACCEPT
+[s: A EOF]
+~
+menhir: warning: conflict in state 3 on #
+^
+0 --interpret --interpret-show-cst g.mly g.mly
+~
+g.mly
+%token A EOF
+%start s
+%%
+s: t EOF {}
+t: A {}
+~
+A EOF
+~
+ACCEPT
+[s: [t@1: A] EOF]
+~
+menhir: warning: conflict in state 1 on EOF
+";
+
+#[test]
+fn files_with_things_of_their_own(rt: HostRuntime) -> Result<(), Fail> {
+    check_cases(&rt, rt.alloc(), APART)
+}
+
+const REFUSED: &str = r#"1 --interpret a.mly b.mly
+~
+a.mly
+%token A
+%start s
+%%
+s: u {}
+t: A {}
+~
+b.mly
+%%
+%public u: t {}
+~
+~
+~
+menhir: undefined: t
+^
+1 --interpret a.mly b.mly
+~
+a.mly
+%token A "x"
+%start s
+%%
+s: A {}
+~
+b.mly
+%token B "x"
+%%
+~
+~
+~
+menhir: duplicate: x
+^
+1 --interpret a.mly b.mly
+~
+a.mly
+%token A B
+%start s
+%%
+s: A {}
+~
+b.mly
+%%
+B: A {}
+~
+~
+~
+menhir: duplicate: B
+^
+1 --interpret a.mly b.mly
+~
+a.mly
+%token A
+%start s
+%%
+s: t {}
+%public t: A {}
+~
+b.mly
+%%
+%public t(X): X {}
+~
+~
+~
+menhir: duplicate: t
+^
+1 --interpret a.mly b.mly
+~
+a.mly
+%token A
+%left A
+%start s
+%%
+s: A {}
+~
+b.mly
+%left A
+%%
+~
+~
+~
+menhir: duplicate: A
+^
+1 --interpret a.mly b.mly
+~
+a.mly
+%token A
+%%
+s: A {}
+~
+b.mly
+%%
+t: A {}
+~
+~
+~
+menhir: no start symbol
+"#;
+
+#[test]
+fn files_that_do_not_go_together(rt: HostRuntime) -> Result<(), Fail> {
+    check_cases(&rt, rt.alloc(), REFUSED)
+}
+
+// Each file is read and spelled before the next, and all of them before they are joined.
+const IN_TURN: &str = "3 --interpret a.mly b.mly
+~
+a.mly
+%token A
+%start s
+%%
+s: A {}
+~
+~
+~
+menhir: cannot read b.mly
+^
+1 --interpret a.mly b.mly
+~
+a.mly
+%token A
+%start s
+s: A {}
+~
+~
+~
+menhir: a.mly:3: syntax error
+^
+3 --interpret a.mly b.mly
+~
+b.mly
+%token
+~
+~
+~
+menhir: cannot read a.mly
+^
+1 --interpret a.mly b.mly
+~
+a.mly
+%start s
+%%
+s: A {}
+~
+b.mly
+%token
++
+%%
+~
+~
+~
+menhir: b.mly:2: syntax error
+";
+
+#[test]
+fn one_file_after_another(rt: HostRuntime) -> Result<(), Fail> {
+    check_cases(&rt, rt.alloc(), IN_TURN)
+}

@@ -1,0 +1,255 @@
+//! Trees of what is accepted.
+use crate::runs::{check_cases, run_on};
+use std::alloc::Global;
+use std::test::Fail;
+
+const TREES: &str = "0 --interpret --interpret-show-cst g.mly
+~
+g.mly
+%token COMMA X Y EOF
+%start main
+%%
+main: separated_list(COMMA, X) Y* EOF {}
+list(E): E E {}
+~
+X COMMA X Y Y EOF
+EOF
+X COMMA Y Y EOF
+Y Y EOF
+~
+ACCEPT
+[main: [loption(separated_nonempty_list(COMMA,X)): [separated_nonempty_list(COMMA,X): X COMMA [separated_nonempty_list(COMMA,X): X]]] [list(Y): Y Y] EOF]
+REJECT
+REJECT
+ACCEPT
+[main: [loption(separated_nonempty_list(COMMA,X)):] [list(Y): Y Y] EOF]
+~
+^
+0 --interpret --interpret-show-cst g.mly
+~
+g.mly
+%start s
+%%
+s: {}
+~
+
+~
+ACCEPT
+[s:]
+~
+^
+0 --interpret --interpret-show-cst g.mly
+~
+g.mly
+%token A B C D
+%start p q
+%%
+p: x A {}
+q: x B {}
+x: C D {}
+~
+q: C D B
+C D B
+p: C D A
+~
+ACCEPT
+[q: [x: C D] B]
+ERROR missing start
+ACCEPT
+[p: [x: C D] A]
+~
+";
+
+#[test]
+fn trees_of_lines(rt: HostRuntime) -> Result<(), Fail> {
+    check_cases(&rt, rt.alloc(), TREES)
+}
+
+// An ELSE goes to the inner IF, since a shift goes before a reduction, with a warning, and since its level is higher.
+const BRANCHES: &str = "0 --interpret --interpret-show-cst g.mly
+~
+g.mly
+%token IF ELSE X EOF
+%start main
+%%
+main: s EOF {}
+s: IF s {} | IF s ELSE s {} | X {}
+~
+IF IF X ELSE X EOF
+IF
+X X
+X EOF X
+Y
+1
+~
+ACCEPT
+[main: [s: IF [s: IF [s: X] ELSE [s: X]]] EOF]
+OVERSHOOT
+REJECT
+ACCEPT
+[main: [s: X] EOF]
+ERROR unknown token Y
+ERROR unreadable
+~
+menhir: warning: conflict in state 9 on ELSE
+^
+0 --interpret --interpret-show-cst --strict g.mly
+~
+g.mly
+%token IF ELSE X EOF
+%nonassoc THEN
+%nonassoc ELSE
+%start main
+%%
+main: s EOF {}
+s: IF s %prec THEN {} | IF s ELSE s {} | X {}
+~
+IF IF X ELSE X EOF
+~
+ACCEPT
+[main: [s: IF [s: IF [s: X] ELSE [s: X]]] EOF]
+~
+";
+
+#[test]
+fn a_branch_of_two(rt: HostRuntime) -> Result<(), Fail> {
+    check_cases(&rt, rt.alloc(), BRANCHES)
+}
+
+// Left and right, higher and lower levels; a sign that is inlined gives its level; the sign of a number binds most.
+const LEVELS: &str = r#"0 --interpret --interpret-show-cst --strict g.mly
+~
+g.mly
+%token INT PLUS "+" MINUS "-" TIMES "*" ARROW EOF
+%right ARROW
+%left "+" "-"
+%left "*"
+%nonassoc SIGN
+%start main
+%%
+main: e EOF {}
+e: INT {} | e sign e {} | "-" e %prec SIGN {} | e ARROW e {}
+%inline sign: "+" {} | "-" {} | "*" {}
+~
+INT MINUS INT PLUS INT EOF
+INT PLUS INT TIMES INT EOF
+INT TIMES INT PLUS INT EOF
+MINUS INT TIMES INT EOF
+INT ARROW INT ARROW INT PLUS INT EOF
+~
+ACCEPT
+[main: [e: [e: [e: INT] MINUS [e: INT]] PLUS [e: INT]] EOF]
+ACCEPT
+[main: [e: [e: INT] PLUS [e: [e: INT] TIMES [e: INT]]] EOF]
+ACCEPT
+[main: [e: [e: [e: INT] TIMES [e: INT]] PLUS [e: INT]] EOF]
+ACCEPT
+[main: [e: [e: MINUS [e: INT]] TIMES [e: INT]] EOF]
+ACCEPT
+[main: [e: [e: INT] ARROW [e: [e: INT] ARROW [e: [e: INT] PLUS [e: INT]]]] EOF]
+~
+"#;
+
+#[test]
+fn levels_of_signs(rt: HostRuntime) -> Result<(), Fail> {
+    check_cases(&rt, rt.alloc(), LEVELS)
+}
+
+// The rules of the standard library, those that are inlined leaving nothing.
+const LIBRARY: &str = "0 --interpret --interpret-show-cst g.mly
+~
+g.mly
+%token A B C COMMA EOF
+%start main
+%%
+main: delimited(A, pair(B?, C), A) preceded(B, separated_pair(C, COMMA, C)) terminated(A, B) ioption(C) EOF {}
+~
+A C A B C COMMA C A B EOF
+A B C A B C COMMA C A B C EOF
+~
+ACCEPT
+[main: A [option(B):] C A B C COMMA C A B EOF]
+ACCEPT
+[main: A [option(B): B] C A B C COMMA C A B C EOF]
+~
+^
+0 --interpret --interpret-show-cst g.mly
+~
+g.mly
+%token A B C D COMMA EOF
+%start main
+%%
+main: A+ separated_nonempty_list(COMMA, B*) boption(C) endrule(D) midrule(B) rev(append(flatten(B), A)) EOF {}
+~
+A A COMMA B C D B B A EOF
+~
+ACCEPT
+[main: [nonempty_list(A): A [nonempty_list(A): A]] [separated_nonempty_list(COMMA,list(B)): [list(B):] COMMA [separated_nonempty_list(COMMA,list(B)): [list(B): B [list(B):]]]] [boption(C): C] D [midrule(B): B] B A EOF]
+~
+^
+0 --interpret --interpret-show-cst g.mly
+~
+g.mly
+%token A B EOF
+%start main
+%%
+main: twice(twice2, A) both(A, B) EOF {}
+twice(F, X): F(X) F(X) {}
+twice2(X): X X {}
+both(X, Y): p = X q = Y {}
+~
+A A A A A B EOF
+~
+ACCEPT
+[main: [twice(twice2,A): [twice2(A): A A] [twice2(A): A A]] [both(A,B): A B] EOF]
+~
+";
+
+#[test]
+fn rules_of_the_standard_library(rt: HostRuntime) -> Result<(), Fail> {
+    check_cases(&rt, rt.alloc(), LIBRARY)
+}
+
+/// A line of so many times `A`, then `B`.
+fn nested(alloc: Global, count: usize) -> Result<Vec<u8>, Fail> {
+    let mut line = Vec::new(alloc);
+    push_times(&mut line, b"A ", count)?;
+    line.extend_from_slice(b"B\n")?;
+    Ok(line)
+}
+
+fn push_times(text: &mut Vec<u8>, part: &[u8], count: usize) -> Result<(), Fail> {
+    for _ in 0..count {
+        text.extend_from_slice(part)?;
+    }
+    Ok(())
+}
+
+const NESTED: &[u8] = b"%token A B\n%start s\n%%\ns: A s {} | B {}\n";
+
+// B makes a tree of height 2, and each A one that is higher by 1; 4,000 is the greatest height.
+#[test]
+fn trees_have_a_greatest_height(rt: HostRuntime) -> Result<(), Fail> {
+    let alloc = rt.alloc();
+    let mut text = b"ACCEPT\n".to_vec(alloc)?;
+    push_times(&mut text, b"[s: A ", 3998)?;
+    text.extend_from_slice(b"[s: B]")?;
+    push_times(&mut text, b"]", 3998)?;
+    text.push(b'\n')?;
+    let shown = "--interpret --interpret-show-cst g.mly";
+    let got = run_on(&rt, alloc, shown, NESTED, nested(alloc, 3998)?)?;
+    assert_eq!(rt; got.status, 0);
+    assert_eq!(rt; got.out.as_slice(), text.as_slice());
+    let got = run_on(&rt, alloc, shown, NESTED, nested(alloc, 3999)?)?;
+    assert_eq!(rt; got.status, 0);
+    assert_eq!(rt; got.out.as_slice(), b"TOODEEP\n".as_slice());
+    let got = run_on(
+        &rt,
+        alloc,
+        "--interpret g.mly",
+        NESTED,
+        nested(alloc, 3999)?,
+    )?;
+    assert_eq!(rt; got.out.as_slice(), b"ACCEPT\n".as_slice());
+    Ok(())
+}

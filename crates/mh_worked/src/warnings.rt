@@ -1,0 +1,381 @@
+//! Warnings, and what comes of them under `--strict`.
+use crate::runs::check_cases;
+use std::test::Fail;
+
+// Under `--strict` the status is 1 and out is empty where there is a warning, in either mode; nothing is said behind it.
+const WARNINGS: &str = "0 --interpret g.mly
+~
+g.mly
+%token INT PLUS
+%start e
+%%
+e: INT {} | e PLUS INT {}
+~
+INT
+INT PLUS INT
+INT INT
+~
+OVERSHOOT
+OVERSHOOT
+REJECT
+~
+menhir: warning: end-of-stream conflict in state 2
+^
+1 --strict --interpret g.mly
+~
+g.mly
+%token INT PLUS
+%start e
+%%
+e: INT {} | e PLUS INT {}
+~
+INT
+~
+~
+menhir: warning: end-of-stream conflict in state 2
+^
+1 --show-automaton --strict g.mly
+~
+g.mly
+%token INT PLUS
+%start e
+%%
+e: INT {} | e PLUS INT {}
+~
+~
+~
+menhir: warning: end-of-stream conflict in state 2
+^
+0 --interpret g.mly
+~
+g.mly
+%token IF ELSE X EOF
+%start main
+%%
+main: s EOF {}
+s: IF s {} | IF s ELSE s {} | X {}
+~
+IF IF X ELSE X EOF
+~
+ACCEPT
+~
+menhir: warning: conflict in state 9 on ELSE
+^
+1 --interpret --strict g.mly
+~
+g.mly
+%token IF ELSE X EOF
+%start main
+%%
+main: s EOF {}
+s: IF s {} | IF s ELSE s {} | X {}
+~
+IF IF X ELSE X EOF
+~
+~
+menhir: warning: conflict in state 9 on ELSE
+^
+0 --interpret --strict g.mly
+~
+g.mly
+%token IF ELSE X EOF
+%nonassoc THEN
+%nonassoc ELSE
+%start main
+%%
+main: s EOF {}
+s: IF s %prec THEN {} | IF s ELSE s {} | X {}
+~
+IF IF X ELSE X EOF
+~
+ACCEPT
+~
+^
+0 --interpret --strict g.mly
+~
+g.mly
+%token A B C D E
+%start s
+%%
+s: A x D {} | B y D {} | A y E {} | B x E {}
+x: C {}
+y: C {}
+~
+A C D
+B C D
+A C E
+B C C
+~
+ACCEPT
+ACCEPT
+ACCEPT
+REJECT
+~
+";
+
+#[test]
+fn warnings_and_strictness(rt: HostRuntime) -> Result<(), Fail> {
+    check_cases(&rt, rt.alloc(), WARNINGS)
+}
+
+// By state, within a state by token, then the end, then the conflict of the end with a token. Of two reductions the first
+// is taken. A reduction that beats the token stays alone, without a warning, whatever the others do.
+const ORDERS: &str = "0 --interpret --interpret-show-cst g.mly
+~
+g.mly
+%token A
+%start e
+%%
+e: e e {} | A {}
+~
+A A
+~
+OVERSHOOT
+~
+menhir: warning: end-of-stream conflict in state 2
+menhir: warning: conflict in state 3 on A
+menhir: warning: end-of-stream conflict in state 3
+^
+0 --interpret --interpret-show-cst g.mly
+~
+g.mly
+%token A
+%start s
+%%
+s: A {} | t {}
+t: A {}
+~
+A
+~
+ACCEPT
+[s: A]
+~
+menhir: warning: conflict in state 1 on #
+^
+0 --interpret --interpret-show-cst --strict g.mly
+~
+g.mly
+%token B
+%nonassoc LOW
+%nonassoc B
+%nonassoc HIGH
+%start s
+%%
+s: x B {} | y B {} | B {}
+x: %prec HIGH {}
+y: %prec LOW {}
+~
+B
+~
+ACCEPT
+[s: [x:] B]
+~
+^
+0 --interpret --interpret-show-cst g.mly
+~
+g.mly
+%token B
+%start s
+%%
+s: x B {} | y B {} | B {}
+x: {}
+y: {}
+~
+B
+~
+ACCEPT
+[s: B]
+~
+menhir: warning: conflict in state 0 on B
+^
+1 --interpret --strict g.mly
+~
+g.mly
+%token B
+%nonassoc B
+%nonassoc HIGH
+%start s
+%%
+s: x B {} | y B {} | B {}
+x: %prec HIGH {}
+y: %prec HIGH {}
+~
+B
+~
+~
+menhir: warning: conflict in state 0 on B
+";
+
+#[test]
+fn orders_of_warnings(rt: HostRuntime) -> Result<(), Fail> {
+    check_cases(&rt, rt.alloc(), ORDERS)
+}
+
+// The warnings are written before the first line is read and before anything is written on out. Where they cannot be
+// written, nothing else is.
+const FAILING: &str = "3 --interpret g.mly
+input 1
+~
+g.mly
+%token IF ELSE X EOF
+%start main
+%%
+main: s EOF {}
+s: IF s {} | IF s ELSE s {} | X {}
+~
+X EOF
+
+~
+~
+menhir: warning: conflict in state 9 on ELSE
+menhir: cannot read the input
+^
+3 --interpret g.mly
+input 7
+~
+g.mly
+%token IF ELSE X EOF
+%start main
+%%
+main: s EOF {}
+s: IF s {} | IF s ELSE s {} | X {}
+~
+X EOF
+
+~
+ACCEPT
+~
+menhir: warning: conflict in state 9 on ELSE
+menhir: cannot read the input
+^
+4 --interpret g.mly
+out 1
+~
+g.mly
+%token IF ELSE X EOF
+%start main
+%%
+main: s EOF {}
+s: IF s {} | IF s ELSE s {} | X {}
+~
+X EOF
+
+~
+~
+menhir: warning: conflict in state 9 on ELSE
+^
+4 --interpret g.mly
+out 2
+~
+g.mly
+%token IF ELSE X EOF
+%start main
+%%
+main: s EOF {}
+s: IF s {} | IF s ELSE s {} | X {}
+~
+X EOF
+
+~
+ACCEPT
+~
+menhir: warning: conflict in state 9 on ELSE
+^
+4 --show-automaton g.mly
+out 1
+~
+g.mly
+%token IF ELSE X EOF
+%start main
+%%
+main: s EOF {}
+s: IF s {} | IF s ELSE s {} | X {}
+~
+X EOF
+
+~
+~
+menhir: warning: conflict in state 9 on ELSE
+^
+4 --interpret g.mly
+err 1
+~
+g.mly
+%token IF ELSE X EOF
+%start main
+%%
+main: s EOF {}
+s: IF s {} | IF s ELSE s {} | X {}
+~
+X EOF
+
+~
+~
+^
+4 --interpret --strict g.mly
+err 1
+~
+g.mly
+%token IF ELSE X EOF
+%start main
+%%
+main: s EOF {}
+s: IF s {} | IF s ELSE s {} | X {}
+~
+X EOF
+
+~
+~
+^
+4 --show-automaton g.mly
+err 1
+~
+g.mly
+%token IF ELSE X EOF
+%start main
+%%
+main: s EOF {}
+s: IF s {} | IF s ELSE s {} | X {}
+~
+X EOF
+
+~
+~
+^
+1 --interpret --strict g.mly
+input 1
+~
+g.mly
+%token IF ELSE X EOF
+%start main
+%%
+main: s EOF {}
+s: IF s {} | IF s ELSE s {} | X {}
+~
+X EOF
+
+~
+~
+menhir: warning: conflict in state 9 on ELSE
+^
+1 --show-automaton --strict g.mly
+out 1
+~
+g.mly
+%token IF ELSE X EOF
+%start main
+%%
+main: s EOF {}
+s: IF s {} | IF s ELSE s {} | X {}
+~
+X EOF
+
+~
+~
+menhir: warning: conflict in state 9 on ELSE
+";
+
+#[test]
+fn devices_that_fail_behind_warnings(rt: HostRuntime) -> Result<(), Fail> {
+    check_cases(&rt, rt.alloc(), FAILING)
+}
