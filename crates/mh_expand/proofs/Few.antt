@@ -30,17 +30,17 @@ module _ (j : Joined) (us : List Term) (t : Term) (before after : List Term) (sp
       elim (contains_push ws x u c) [
         | inl d ↦ found_before ws a (x ∷ more) all u d
         | inr same ↦ (
-          let behind_all = behind ++ flat_map (producers_of j) (x ∷ more) in
-          let longer : finds j us ≡ front ++ x ∷ behind_all = ap (finds j) all ∙ finds-append j ws (x ∷ more) ∙ ap (λ v. v ++ flat_map (producers_of j) (x ∷ more)) here ∙ append_assoc front (x ∷ behind) (flat_map (producers_of j) (x ∷ more)) in
-          let is_in : (y : Term) → Contains ws y → Contains us y = (λ y d. subst (λ l. Contains l y) (sym all) (Contains-append_left ws (x ∷ more) y d)) in
-          elim (split_compare front before x t behind_all after (sym longer ∙ split)) [
-            | inl s ↦ absurd (new (subst (Contains us) s.1 (subst (λ l. Contains l x) (sym all) (inside ws x more (ws ++ x ∷ more) refl))))
-            | inr s ↦ elim s [
-              | inl r ↦ subst (Contains before) (sym same) (inside front x r.0 before r.1)
-              | inr r ↦ absurd (new (is_in t (others t (inside before t r.0 front r.1) instance)))
+            let behind_all = behind ++ flat_map (producers_of j) (x ∷ more) in
+            let longer : finds j us ≡ front ++ x ∷ behind_all = ap (finds j) all ∙ finds-append j ws (x ∷ more) ∙ ap (λ v. v ++ flat_map (producers_of j) (x ∷ more)) here ∙ append_assoc front (x ∷ behind) (flat_map (producers_of j) (x ∷ more)) in
+            let is_in : (y : Term) → Contains ws y → Contains us y = (λ y d. subst (λ l. Contains l y) (sym all) (Contains-append_left ws (x ∷ more) y d)) in
+            elim (split_compare front before x t behind_all after (sym longer ∙ split)) [
+              | inl s ↦ absurd (new (subst (Contains us) s.1 (subst (λ l. Contains l x) (sym all) (inside ws x more (ws ++ x ∷ more) refl))))
+              | inr s ↦ elim s [
+                | inl r ↦ subst (Contains before) (sym same) (inside front x r.0 before r.1)
+                | inr r ↦ absurd (new (is_in t (others t (inside before t r.0 front r.1) instance)))
+              ]
             ]
-          ]
-        )
+            )
       ]
 
 -- so many instances at most are found without a fault
@@ -53,20 +53,20 @@ few_first j ts (expansion.AreFirst.more {ts = us} {t} before after a split i new
     elim (cases_lt (length us) 20000) [
       | inl l ↦ omega arith
       | inr l ↦ absurd (
-        let full : length us ≡ 20000 = omega arith in
-        let fits : Fits j t = elim (fits_or j t) [ inl f ↦ f | inr f ↦ absurd (clear_before before after t (Arity (text j t)) split (expansion.IsFault.count f)) ] in
-        clear_before before after t (Expansion (head_name j (head_of t))) split (expansion.IsFault.full fits
-        (record { instance = i; new = λ c. new (others t c i) })
-        (record {
-          some = us;
-          found = λ k d l.
-              let u = get_or us k d in
-              let c = contains_at us k u (slice_get-get_or us k d l) in
-              (found_before j us t before after split i new us a [] (sym (append-nil us)) u c, reached_instance j u (first_reached j us a u c));
-          distinct = first_distinct j us a;
-          full = full;
-        }))
-      )
+          let full : length us ≡ 20000 = omega arith in
+          let fits : Fits j t = elim (fits_or j t) [ inl f ↦ f | inr f ↦ absurd (clear_before before after t (Arity (text j t)) split (expansion.IsFault.count f)) ] in
+          clear_before before after t (Expansion (head_name j (head_of t))) split (expansion.IsFault.full fits
+          (record { instance = i; new = λ c. new (others t c i) })
+          (record {
+            some = us;
+            found = λ k d l.
+                let u = get_or us k d in
+                let c = contains_at us k u (slice_get-get_or us k d l) in
+                (found_before j us t before after split i new us a [] (sym (append-nil us)) u c, reached_instance j u (first_reached j us a u c));
+            distinct = first_distinct j us a;
+            full = full;
+          }))
+          )
     ]
 
 pub few_instances : (j : Joined) (e : Expanded) → IsExpanded j e → length e.instances ≤ 20000
