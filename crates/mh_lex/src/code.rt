@@ -13,7 +13,7 @@ use crate::items::{
 use crate::kinds::{Ends, Step};
 
 /// Whether a comment begins here.
-pub fn starts_comment(rest: &[u8]) -> bool
+pub(crate) fn starts_comment(rest: &[u8]) -> bool
     ensures value { result ≡ begins_comment rest.now }
     ensures within { IsTrue result → 2 ≤ length rest.now }
 {
@@ -211,7 +211,7 @@ fn comment_from(bytes: &[u8], at: usize) -> Option<usize>
 }
 
 /// How many bytes there are up to and with what closes the code, None where nothing does.
-pub fn code_length(code: Ends, rest: &[u8]) -> Option<usize>
+pub(crate) fn code_length(code: Ends, rest: &[u8]) -> Option<usize>
     ensures some { IfSome result
         (λ n. (n ≤ length rest.now) × Body code rest.now (drop n rest.now)) }
     ensures none { IfNone result ((after : List ℕ) → Body code rest.now after → ⊥) }

@@ -4,7 +4,7 @@ ghost use Rattle.mh_lex.specs.Bytes.{byte_at, has, is_word_start, is_word_byte, 
 ghost use Rattle.mh_lex.specs.Spellings.{word_rest, string_rest, id_rest, quoted_opening, closes_quoted, quoted_rest, escaped, literal};
 
 /// Whether this byte stands at a place.
-pub fn has_byte(rest: &[u8], place: usize, byte: u8) -> bool
+pub(crate) fn has_byte(rest: &[u8], place: usize, byte: u8) -> bool
     ensures value { result ≡ has rest.now place byte }
     ensures within { IsTrue result → place < length rest.now }
 {
@@ -14,7 +14,7 @@ pub fn has_byte(rest: &[u8], place: usize, byte: u8) -> bool
     }
 }
 
-pub fn starts_word(byte: u8) -> bool
+pub(crate) fn starts_word(byte: u8) -> bool
     ensures { result ≡ is_word_start byte }
 {
     byte.is_ascii_alphabetic() || byte == b'_'
@@ -33,7 +33,7 @@ fn continues_id(byte: u8) -> bool
 }
 
 /// How many bytes of a word are left.
-pub fn word_length(rest: &[u8]) -> usize
+pub(crate) fn word_length(rest: &[u8]) -> usize
     ensures value { result ≡ word_rest rest.now }
     ensures within { result ≤ length rest.now }
 {
@@ -56,7 +56,7 @@ fn is_free(taken: bool, byte: u8, wanted: u8) -> bool
 
 /// How many bytes there are up to and with a string's closing quote.
 #[tactic(auto, using(crate::proofs::Sums::plus_more))]
-pub fn string_length(rest: &[u8]) -> Option<usize>
+pub(crate) fn string_length(rest: &[u8]) -> Option<usize>
     ensures value { result ≡ string_rest false rest.now }
     ensures within { IfSome result (λ n. n ≤ length rest.now) }
 {
@@ -87,7 +87,7 @@ fn id_length(rest: &[u8]) -> usize
 
 /// The length of a quoted string's opening, 0 where none stands here.
 #[tactic(auto, unfolding(crate::specs::Spellings::quoted_opening))]
-pub fn quoted_opening_length(rest: &[u8]) -> usize
+pub(crate) fn quoted_opening_length(rest: &[u8]) -> usize
     ensures value { result ≡ quoted_opening rest.now }
     ensures within { result ≤ length rest.now }
     ensures least { 0 < result → 2 ≤ result }
@@ -123,7 +123,7 @@ fn closes_at(id: &[u8], rest: &[u8], place: usize) -> bool
 
 /// How many bytes there are up to and with what closes a quoted string of this id.
 #[tactic(auto, using(crate::proofs::Sums::plus_more))]
-pub fn quoted_length(id: &[u8], rest: &[u8]) -> Option<usize>
+pub(crate) fn quoted_length(id: &[u8], rest: &[u8]) -> Option<usize>
     ensures value { result ≡ quoted_rest id.now rest.now }
     ensures within { IfSome result (λ n. n ≤ length rest.now) }
 {
@@ -215,7 +215,7 @@ fn escaped_length(rest: &[u8]) -> usize
 
 /// The length of a character literal, 0 where none stands here.
 #[tactic(auto, unfolding(crate::specs::Spellings::literal))]
-pub fn literal_length(rest: &[u8]) -> usize
+pub(crate) fn literal_length(rest: &[u8]) -> usize
     ensures value { result ≡ literal rest.now }
     ensures within { result ≤ length rest.now }
 {

@@ -56,7 +56,7 @@ impl From<AllocError> for SyntaxFault {
 
 /// What closes a stretch of code, a comment or a type.
 #[derive(Clone, Copy, Drop)]
-pub enum Ends {
+pub(crate) enum Ends {
     /// `*)`
     Comment,
     /// `}`
@@ -73,7 +73,7 @@ pub enum Ends {
 
 /// What stands at the front inside of code, with its length.
 #[derive(Clone, Copy, Drop)]
-pub enum Step {
+pub(crate) enum Step {
     Closes(usize),
     Passes(usize),
     Nests,
@@ -83,7 +83,7 @@ pub enum Step {
 
 /// What stands at the front outside of code, with its length. What has no kind is dropped.
 #[derive(Clone, Copy, Drop)]
-pub enum Front {
+pub(crate) enum Front {
     Ended,
     Short(Option<Kind>, usize),
     Long(Option<Kind>, Ends, usize),
@@ -92,7 +92,7 @@ pub enum Front {
 
 /// What was taken, and where it ends.
 #[derive(Clone, Copy, Drop)]
-pub enum Taking {
+pub(crate) enum Taking {
     Ended,
     Piece(Option<Kind>, usize),
     Fault,
