@@ -61,7 +61,7 @@ fn add_side(expanded: &Expanded, producers: &[Part], found: &mut Found) -> Resul
     Ok(())
 }
 
-fn add_each(
+fn add_alternatives(
     expanded: &Expanded,
     productions: &[InstanceProduction],
     found: &mut Found,
@@ -81,7 +81,7 @@ fn add_inlined(expanded: &Expanded, number: usize, found: &mut Found) -> Result<
     requires number { number < length expanded.now.instances }
     ensures { OnOk result (Adds (IsMadeOf expanded.now.instances number) found.old found.new) }
 {
-    add_each(
+    add_alternatives(
         expanded,
         expanded.instances[number].productions.as_slice(),
         found,

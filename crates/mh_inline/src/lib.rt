@@ -4,13 +4,13 @@
 
 mod cycles;
 mod fault;
-mod grammars;
 mod inlining;
 mod instances;
 mod laws;
 mod nonterminals;
+mod origins;
+mod productions;
 mod sizes;
-mod sources;
 #[cfg(test)]
 mod tests;
 mod unfoldings;

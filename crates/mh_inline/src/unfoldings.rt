@@ -41,15 +41,16 @@ fn join(alloc: Global, left: &Unfolding, right: &Unfolding) -> Result<Unfolding,
     })
 }
 
-fn add_joined(
+/// Adds the first behind which stands each of the second.
+fn add_joined_with_each(
     alloc: Global,
     all: &mut Vec<Unfolding>,
     first: &Unfolding,
-    rest: &[Unfolding],
+    seconds: &[Unfolding],
 ) -> Result<(), Memory>
-    ensures { OnOk result (all.new.items ≡ all.old.items ++ map (joined first.now) rest.now) }
+    ensures { OnOk result (all.new.items ≡ all.old.items ++ map (joined first.now) seconds.now) }
 {
-    for second in rest {
+    for second in seconds {
         all.push(join(alloc, first, second)?)?;
     }
     Ok(())
@@ -65,7 +66,7 @@ fn all_choices(
 {
     let mut all = Vec::new(alloc);
     for first in left {
-        add_joined(alloc, &mut all, first, right)?;
+        add_joined_with_each(alloc, &mut all, first, right)?;
     }
     Ok(all)
 }
@@ -74,8 +75,8 @@ fn all_choices(
 fn push_part(all: &mut [Unfolding], part: Part) -> Result<(), Memory>
     ensures { OnOk result (all.new ≡ map (λ u. joined u (only part)) all.old) }
 {
-    for unfolding in all.iter_mut() {
-        unfolding.rhs.push(part)?;
+    for choice in all.iter_mut() {
+        choice.rhs.push(part)?;
     }
     Ok(())
 }
@@ -134,8 +135,8 @@ fn just_nothing(alloc: Global) -> Result<Vec<Unfolding>, Memory>
 fn add_own(all: &mut Vec<Unfolding>, prec: Prec, unfoldings: Vec<Unfolding>) -> Result<(), Memory>
     ensures { OnOk result (all.new.items ≡ all.old.items ++ map (own prec) unfoldings.items) }
 {
-    for unfolding in unfoldings {
-        let Unfolding { rhs, prec: inlined } = unfolding;
+    for choice in unfoldings {
+        let Unfolding { rhs, prec: inlined } = choice;
         all.push(Unfolding {
             rhs,
             prec: rightmost_prec(inlined, prec),
@@ -145,7 +146,7 @@ fn add_own(all: &mut Vec<Unfolding>, prec: Prec, unfoldings: Vec<Unfolding>) -> 
 }
 
 /// All unfoldings of some alternatives, in order.
-fn unfold_each(
+fn unfold_alternatives(
     alloc: Global,
     expanded: &Expanded,
     known: &[Sequence<Unfolding>],
@@ -188,7 +189,7 @@ fn unfold_one(
         return Ok(Sequence::new(alloc));
     }
     let productions = expanded.instances[number].productions.as_slice();
-    let all = unfold_each(alloc, expanded, known, productions)?;
+    let all = unfold_alternatives(alloc, expanded, known, productions)?;
     Ok(Sequence::from_vec(all))
 }
 
