@@ -12,7 +12,7 @@ ghost use Rattle.mh_top.specs.Verdicts.{Answers, AnswersOne, IsOutcomeText, IsVe
 use crate::each::{Answer, answer_each};
 use crate::stop::{Stop, joined};
 use mh_grammar::{Grammar, Memory, Sentence};
-use mh_msgfile::{Lexicon, SentenceFault, read_sentence};
+use mh_msgfile::{Lexicon, SentenceFault};
 use mh_outside::{Sink, Source};
 use mh_run::{TreeOutcome, Verdict, run_with_trees, verdict};
 use mh_tables::Halting;
@@ -119,7 +119,7 @@ fn line_text(alloc: Global, by: &Answering, line: &[u8]) -> Result<Vec<u8>, Memo
         (record { trees = by.now.trees; grammar = by.now.grammar; table = by.now.halting })
         line.now text.items) }
 {
-    match read_sentence(alloc, &by.grammar, &by.lexicon, line) {
+    match by.lexicon.read(alloc, &by.grammar, line) {
         Ok(sentence) => sentence_text(alloc, by.trees, &by.grammar, &by.halting, &sentence),
         Err(SentenceFault::Unreadable) => Ok(b"ERROR unreadable\n".to_vec(alloc)?),
         Err(SentenceFault::UnknownStart { name }) => {
