@@ -12,3 +12,4 @@ pub mod Ranges
 pub mod Same
 pub mod Sentences
 pub mod OriginOrder
+pub mod Lasting

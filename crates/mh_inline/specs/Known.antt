@@ -31,11 +31,6 @@ pub record Extends (is : List Instance) (X : Part) (old new : List Unfolding) : 
   pub unfolds : UnfoldsPart is X unfoldings
   pub same : new ≡ choices old unfoldings
 
--- those of some instances, where they are within the limits
-pub record Knows (is : List Instance) (numbers : List ℕ) (known : List (List Unfolding)) : Type 0 where
-  pub len : length known ≡ length is
-  pub each : (n : ℕ) (us : List Unfolding) → Contains numbers n → UnfoldsPart is (Applied n) us → AreSmall us → slice_get known n ≡ Some us
-
 -- an inline instance with a size, where those of the inline instances that it is made of are known
 pub record IsNext (is : List Instance) (sizes : List (Option Size)) (known : List (List Unfolding)) (n : ℕ) : Type 0 where
   pub inlined : is_inlined is n ≡ true

@@ -19,7 +19,7 @@ pub struct Found {
     pub queue: Vec<usize>,
 }
 
-fn nothing_found(alloc: Global, count: usize) -> Result<Found, Memory>
+pub(crate) fn nothing_found(alloc: Global, count: usize) -> Result<Found, Memory>
     ensures flags { IfOk result (λ f. f.flags.items ≡ replicate count false) }
     ensures queue { IfOk result (λ f. f.queue.items ≡ []) }
 {
@@ -76,7 +76,11 @@ fn add_alternatives(
 }
 
 /// Adds the inline instances that an instance is made of.
-fn add_inlined(expanded: &Expanded, number: usize, found: &mut Found) -> Result<(), Memory>
+pub(crate) fn add_inlined(
+    expanded: &Expanded,
+    number: usize,
+    found: &mut Found,
+) -> Result<(), Memory>
     requires table { IsTable expanded.now.instances found.old }
     requires number { number < length expanded.now.instances }
     ensures { OnOk result (Adds (IsMadeOf expanded.now.instances number) found.old found.new) }

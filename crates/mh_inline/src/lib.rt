@@ -14,6 +14,7 @@ mod sizes;
 #[cfg(test)]
 mod tests;
 mod unfoldings;
+mod uses;
 
 pub use fault::InlineFault;
 pub use inlining::inline_rules;

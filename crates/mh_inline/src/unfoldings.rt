@@ -3,11 +3,13 @@ ghost use Rattle.std.specs.Prelude.{◌≡◌, ◌++◌, ◌∷◌, [], List, ma
 ghost use Rattle.mh_inline.specs.declared.unfoldings.Unfolding.{Unfolding as Unfolded};
 ghost use Rattle.mh_expand.specs.Ready.{IsExpandedReady};
 ghost use Rattle.mh_inline.specs.Unfoldings.{choices, joined, nothing, only, own, rightmost, Unfolds, UnfoldsEach, UnfoldsPart};
-ghost use Rattle.mh_inline.specs.Known.{AreKnown, AreEachKnown, Extends, IsNext, Knows};
+ghost use Rattle.mh_inline.specs.Known.{AreKnown, AreEachKnown, Extends, IsNext};
+ghost use Rattle.mh_inline.specs.Uses.{KnowsUsed};
 ghost use Rattle.mh_inline.specs.Sizes.{AreSmall, IsSizing};
 
 use crate::instances::inline_part;
 use crate::sizes::{Sizing, is_small};
+use crate::uses::{forget, inlined_in, last_uses};
 use mh_expand::{Expanded, InstanceProduction, Part};
 use mh_grammar::{Memory, Sequence};
 use mh_join::Prec;
@@ -193,7 +195,9 @@ fn unfold_one(
     Ok(Sequence::from_vec(all))
 }
 
-/// The unfoldings of each inline instance that has no more and no longer ones than a grammar may have.
+/// The unfoldings of each inline instance that an instance which is not inline is made of, where it has no more and no longer
+/// ones than a grammar may have. Others are let go once they have gone into all that is made of them, so that a chain of
+/// inline instances holds two lists at a time.
 pub(crate) fn unfold_inline(
     alloc: Global,
     expanded: &Expanded,
@@ -201,13 +205,23 @@ pub(crate) fn unfold_inline(
 ) -> Result<Vec<Sequence<Unfolding>>, Memory>
     requires ready { IsExpandedReady expanded.now }
     requires sizing { IsSizing expanded.now.instances sizing.now }
-    ensures { IfOk result (λ known. Knows expanded.now.instances sizing.now.order.items known.items) }
+    ensures { IfOk result (λ known. KnowsUsed expanded.now.instances sizing.now.order.items known.items) }
 {
+    let order = sizing.order.as_slice();
+    let last = last_uses(alloc, expanded, order)?;
     let mut known = no_unfoldings(alloc, expanded.instances.len())?;
-    for number in sizing.order.as_slice() {
+    for (place, number) in order.iter().enumerate() {
         let at = *number as usize;
         let all = unfold_one(alloc, expanded, sizing, &known, at)?;
         known[at] = all;
+        let numbers = inlined_in(alloc, expanded, at)?;
+        forget(
+            alloc,
+            &mut known,
+            last.as_slice(),
+            numbers.as_slice(),
+            place,
+        );
     }
     Ok(known)
 }

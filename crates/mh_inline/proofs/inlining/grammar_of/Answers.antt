@@ -8,7 +8,7 @@ pub productions_of-requires-clause-origins : goal.productions_of-requires-clause
 productions_of-requires-clause-origins c = all_origins c.args.expanded.now.instances c.args.origins.now c.requires.origins
 
 pub productions_of-requires-clause-known : goal.productions_of-requires-clause-known
-productions_of-requires-clause-known c = rw c.deref.ensures.value (origins_known c.args.expanded.now c.args.sizing.now c.in_ok-known.known.items c.args.origins.now c.requires.ready c.requires.sizing c.requires.sized c.in_ok-known.ensures c.requires.small)
+productions_of-requires-clause-known c = rw c.deref.ensures.value (origins_known c.args.expanded.now c.args.sizing.now c.in_ok-known.known.items c.args.origins.now c.requires.ready c.requires.sizing c.requires.sized c.in_ok-known.ensures (all_origins c.args.expanded.now.instances c.args.origins.now c.requires.origins) c.requires.small)
 
 pub returns-clause-inlined : goal.returns-clause-inlined
 returns-clause-inlined c =
