@@ -1,6 +1,6 @@
 #!/usr/bin/env bash
 # Compares the built program with Menhir itself (Debian's package `menhir`): states, verdicts and trees on real grammars,
-# which must be the same, and times, which are printed as ratios.
+# which must be the same, and times, which are printed as ratios. It ends with 1 if anything is not the same.
 # Usage: bench/compare.sh PATH-OF-OUR-PROGRAM   (after a run of the gate: crates/menhir/out/menhir)
 set -eu
 ours=$(readlink -f "${1:?the path of the built program}")
@@ -8,6 +8,7 @@ bench=$(dirname "$(readlink -f "$0")")
 folder=$(mktemp -d)
 trap 'rm -rf "$folder"' EXIT
 cd "$folder"
+failed=0
 # Menhir's parser of the 16 MiB file wants a deep stack.
 ulimit -s unlimited
 
@@ -17,8 +18,12 @@ seconds() { # processor seconds of a command; what it writes lies in out.txt and
 }
 ratio() { python3 -c "import sys; print(f'{float(sys.argv[1]) / max(float(sys.argv[2]), 0.001):.1f}')" "$1" "$2"; }
 menhir_there() { command -v menhir >/dev/null; }
+differs() { # tells what is not the same
+    echo "$1: NOT THE SAME"
+    failed=1
+}
 same() { # whether two files hold the same words, blanks apart
-    cmp -s <(tr -d ' \n' <"$1") <(tr -d ' \n' <"$2") || { echo "$3: NOT THE SAME" && return 1; }
+    cmp -s <(tr -d ' \n' <"$1") <(tr -d ' \n' <"$2")
 }
 
 # A thousand random sentences of a real grammar, every second one with a token changed.
@@ -35,6 +40,7 @@ compare_grammar() {
     states=$("$ours" --show-automaton "${files[@]}" | head -1 | tr -dc 0-9)
     their_states=$(menhir --base "$name" --canonical --interpret -la 2 "${files[@]}" 2>&1 </dev/null | sed -n 's/^Built an LR(1) automaton with \([0-9]*\) states.*/\1/p')
     echo "$name: $(wc -w <"$sentences") tokens in 1,000 sentences; $states canonical states, Menhir has $their_states"
+    [ "$states" = "$their_states" ] || differs "$name, states"
     local words our_time canonical_time their_time
     for words in "--interpret" "--interpret --interpret-show-cst"; do
         our_time=$(seconds "$ours" $words "${files[@]}" <"$sentences")
@@ -43,8 +49,9 @@ compare_grammar() {
         sed '/^Ready!$/d' out.txt >canonical.txt
         their_time=$(seconds menhir --base "$name" $words "${files[@]}" <"$sentences")
         sed '/^Ready!$/d' out.txt >theirs.txt
-        same ours.txt canonical.txt "$name, canonical" && same ours.txt theirs.txt "$name" &&
-            echo "    $words: same answers; Menhir takes $(ratio "$canonical_time" "$our_time") times as long with its canonical automaton, $(ratio "$their_time" "$our_time") with its merged one"
+        same ours.txt canonical.txt || differs "$name, $words, canonical"
+        same ours.txt theirs.txt || differs "$name, $words"
+        echo "    $words: Menhir takes $(ratio "$canonical_time" "$our_time") times as long with its canonical automaton, $(ratio "$their_time" "$our_time") with its merged one"
     done
 }
 
@@ -63,11 +70,16 @@ compare_time() { # NAME INPUT WORD..
 
 if menhir_there; then
     for name in json c lua sql; do compare_grammar "$name"; done
+else
+    echo "Menhir is not here: only our times follow"
 fi
 python3 "$bench/inputs.py"
-compare_time "1,001,000 tokens of sums" sums.in --interpret sums.mly
+compare_time "1,002,000 tokens of sums" sums.in --interpret sums.mly
 compare_time "the same, with trees" sums.in --interpret --interpret-show-cst sums.mly
 compare_time "a canonical automaton of 8,000 states" one.in --interpret states.mly
+compare_time "a chain of 19,000 rules, with 64 tokens" one.in --interpret chain.mly
+compare_time "5,000 unit rules, with 256 tokens" one.in --interpret units.mly
 compare_time "a file of 16 MiB of small rules" one.in --interpret rules.mly
 compare_time "1,000 files of 1,000 rules" one.in --interpret files/*.mly
 echo "262,144 cores, of which 200,000 are too many: $(seconds "$ours" --interpret many.mly <one.in) s"
+exit $failed

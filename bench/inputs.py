@@ -40,6 +40,24 @@ def chain(last):
     return "%token A B\n%start <unit> q0\n%%\n" + "\n".join(rules) + "\n"
 
 
+def tokens_and_start(tokens):
+    """So many tokens, and a start rule in which the rules begin."""
+    names = ["A", "EOF"] + [f"T{number}" for number in range(2, tokens)]
+    return f"%token {' '.join(names)}\n%start <unit> s\n%%\ns: r0 EOF {{ () }}\n"
+
+
+def long_chain(rules, tokens):
+    """Rules that each lead on by a token and the next rule: a state or two each, with a small closure."""
+    steps = [f"r{i}: A r{i + 1} {{ () }}\n" for i in range(rules - 1)]
+    return tokens_and_start(tokens) + "".join(steps) + f"r{rules - 1}: A {{ () }}\n"
+
+
+def unit_rules(rules, tokens):
+    """Rules that are each the next one: one closure of them all, and FIRST sets that pass through all of them."""
+    steps = [f"r{i}: r{i + 1} {{ () }}\n" for i in range(rules - 1)]
+    return tokens_and_start(tokens) + "".join(steps) + f"r{rules - 1}: A {{ () }}\n"
+
+
 def small_rules(most):
     """A file of small rules, up to so many bytes."""
     head = "%token A EOF\n%start <unit> s\n%%\ns: A EOF { () }\n"
@@ -57,6 +75,8 @@ write("sums.mly", SUMS)
 write("sums.in", "".join(sums(1000, 500)))
 write("states.mly", chain(12))
 write("many.mly", chain(18))
+write("chain.mly", long_chain(19_000, 64))
+write("units.mly", unit_rules(5_000, 256))
 write("one.in", "A EOF\n")
 write("rules.mly", small_rules(MOST_BYTES))
 os.mkdir("files")

@@ -1,13 +1,10 @@
 -- Right sides of productions by their kind.
-use Rattle.std.proofs.Common.{◌≡◌, ℕ, ◌+◌, ◌-◌, ◌<◌, ◌≤◌, List, [], ◌∷◌, ◌++◌, Option, Some, None, ◌⊎◌, ◌↔◌, inl, inr, length, slice_index, slice_index_or, get_or, nat_lt, true, false, cond, refl, sym, ap, ◌∙◌, arith}
+use Rattle.std.proofs.Common.{◌≡◌, List, [], ◌∷◌, ◌++◌, Some, None, ◌⊎◌, ◌↔◌, inl, inr, refl, sym, ap, ◌∙◌, arith}
 use Rattle.std.proofs.lemmas.Bool.Decides.{nat_tests}
 use Rattle.std.specs.List.{slice_get, Contains}
-use Rattle.std.specs.Option.{option_map, unwrap_or}
-use Rattle.std.proofs.lemmas.Option.{slice_get-get_or}
 use Rattle.mh_grammar.specs.declared.types.Symbol.{Symbol}
 use Rattle.mh_grammar.specs.declared.types.Symbol.TheVariants.{T, N}
-use Rattle.mh_grammar.specs.declared.types.Production.{Production}
-use Rattle.mh_grammar.specs.Plain.{PlainGrammar, production_count, rhs_of}
+use Rattle.mh_grammar.specs.Plain.{PlainGrammar, rhs_of}
 use Rattle.mh_grammar.specs.Edges.{IsRising, IsSymbolBefore}
 use Rattle.mh_grammar.specs.contracts.types.SymbolOrd.TheImpl as order
 use Rattle.std.specs.declared.cmp.Ordering.{Ordering}
@@ -21,28 +18,6 @@ use Rattle.std.proofs.lemmas.List.Elements.{All-weaker, recursion_from_All, Cont
 use Rattle.mh_items.specs.declared.kernels.KernelItem.{KernelItem}
 use Rattle.mh_canon.specs.Moves.{IsBehindDot}
 use Rattle.mh_canon.proofs.Rising.{contains_here, contains_there, contains_cases, contains_none}
-
-default_same : (xs : List ℕ) (p n m : ℕ) → p < length xs → get_or xs p n ≡ get_or xs p m
-default_same xs p n m l = grind (arith, slice_get-get_or)
-
-chosen : (b : Rattle.std.proofs.Common.Bool) (xs ys : List Symbol) → b ≡ true → cond b xs ys ≡ xs
-chosen b xs ys e = rw e refl
-
-other : (b : Rattle.std.proofs.Common.Bool) (xs ys : List Symbol) → b ≡ false → cond b xs ys ≡ ys
-other b xs ys e = rw e refl
-
-pub rhs_start : (g : PlainGrammar) (p : ℕ) (n : ℕ) → p < length g.starts → n ≡ slice_index_or g.starts p n → rhs_of g p ≡ N n ∷ []
-unfolding rhs_of
-rhs_start g p n l e =
-    let same : slice_index g.starts p ≡ n = default_same g.starts p 0 n l ∙ sym e in
-    chosen (nat_lt p (length g.starts)) _ _ (grind (arith, nat_tests)) ∙ ap (λ m. N m ∷ []) same
-
-pub rhs_ordinary : (g : PlainGrammar) (p : ℕ) (q : Production) → length g.starts ≤ p → p < production_count g → q ≡ slice_index_or g.productions (p - length g.starts) q → rhs_of g p ≡ q.rhs
-unfolding rhs_of
-rhs_ordinary g p q l m e =
-    let within : p - length g.starts < length g.productions = omega arith in
-    let at : slice_get g.productions (p - length g.starts) ≡ Some q = slice_get-get_or g.productions (p - length g.starts) q within ∙ ap Some (sym e) in
-    other (nat_lt p (length g.starts)) _ _ (grind (arith, nat_tests)) ∙ ap (λ o. unwrap_or (option_map (λ (r : Production). r.rhs) o) []) at
 
 symbol_less : (x y : Symbol) → order.cmp-value.it x y ≡ Less → IsSymbolBefore x y
 symbol_less (T a) (T b) e = let z : nat_cmp a b ≡ Less = e in grind (arith, nat_tests)

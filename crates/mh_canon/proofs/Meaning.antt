@@ -17,6 +17,7 @@ use Rattle.mh_items.specs.declared.kernels.Kernel.{Kernel}
 use Rattle.mh_items.specs.declared.kernels.Automaton.{Automaton}
 use Rattle.mh_items.specs.Kernels.{Holds}
 use Rattle.mh_items.specs.Automaton.{kernel_at, kernel_of, start_kernel, IsAutomaton}
+use Rattle.mh_canon.specs.declared.collection.TheConstants.{MAX_STATES}
 use Rattle.mh_canon.specs.Canonical.{IsCanonical, Walk, walk_of, IsWalk, IsOver}
 use Rattle.mh_canon.proofs.Building.{IsKernel-start}
 use Rattle.mh_canon.proofs.Finished.{kernel_get, items_within}
@@ -56,7 +57,7 @@ module _ (g : PlainGrammar) (a : Automaton) (h : IsCanonical g a) where
       absurd (omega arith)
   dot_moved s p d look i (X ∷ path) within l k m same = moved_dot g (Close g (Reach g i path)) X p d look ((same p d look).0 k)
 
-  pub IsAutomaton-canonical : length a.kernels ≤ 200000 → IsAutomaton g a
+  pub IsAutomaton-canonical : length a.kernels ≤ MAX_STATES → IsAutomaton g a
   IsAutomaton-canonical few = record {
     enough = enough;
     few = omega arith;

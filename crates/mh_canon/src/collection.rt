@@ -5,14 +5,14 @@ ghost use Rattle.mh_grammar.specs.Plain.{plain_of, IsInRange};
 ghost use Rattle.mh_grammar.specs.Placed.{Placed};
 ghost use Rattle.mh_grammar.specs.Numbering.{AreDistinct};
 ghost use Rattle.mh_items.specs.Kernels.{IsKernel};
-ghost use Rattle.mh_items.specs.Automaton.{IsAutomaton, start_kernel as start_kernel_of};
+ghost use Rattle.mh_items.specs.Automaton.{IsAutomaton};
 ghost use Rattle.mh_canon.specs.Canonical.{IsCanonical, IsOver};
 ghost use Rattle.mh_canon.specs.Moves.{IsState, IsSource, AreStarts, AreStates, AreEdges, IsBehindDot};
 
 use crate::symbols::moving_symbols;
 use indexmap::IndexSet;
-use mh_grammar::{Edge, Grammar, Look, Sequence, Symbol};
-use mh_items::{Automaton, Kernel, KernelItem, StatesFault, closure, firsts, moved};
+use mh_grammar::{Edge, Grammar, Sequence, Symbol};
+use mh_items::{Automaton, Kernel, StatesFault, closure, firsts, moved, start_kernel};
 use std::alloc::{AllocError, AllocFailed, Global};
 
 /// The most states that an automaton may have.
@@ -20,7 +20,7 @@ pub const MAX_STATES: usize = 200_000;
 
 /// The canonical LR(1) automaton of a grammar (Knuth 1965): the start kernels in order, and then what breadth-first
 /// search finds, over tokens rising and then nonterminals rising. `TooManyStates` comes exactly where it has more
-/// than `MAX_STATES` states.
+/// than `MAX_STATES` states; `Memory` may come at any grammar.
 pub fn canonical(alloc: Global, grammar: &Grammar) -> Result<Automaton, StatesFault>
     requires { IsInRange (plain_of grammar.now) }
     ensures ok { IfOk result (IsCanonical (plain_of grammar.now)) }
@@ -61,26 +61,10 @@ fn start_kernels(alloc: Global, grammar: &Grammar) -> Result<IndexSet<Kernel>, S
 {
     let mut kernels = IndexSet::new(alloc);
     for start in 0..grammar.starts.len() {
-        let kernel = start_kernel(alloc, start as u32)?;
+        let kernel = start_kernel(alloc, grammar, start as u16)?;
         insert(&mut kernels, kernel)?;
     }
     Ok(kernels)
-}
-
-/// The start production before its symbol, at the end of the stream.
-fn start_kernel(alloc: Global, start: u32) -> Result<Kernel, StatesFault>
-    ensures ok { IfOk result (λ k. k ≡ start_kernel_of start) }
-    ensures err { result ≡ Err StatesFault.TooManyStates → ⊥ }
-{
-    let mut looks = Sequence::new(alloc);
-    looks.push(Look::End)?;
-    let mut items = Sequence::new(alloc);
-    items.push(KernelItem {
-        production: start,
-        dot: 0,
-        looks,
-    })?;
-    Ok(Kernel { items })
 }
 
 /// The edges of a state by its closure, with their targets placed among the kernels.

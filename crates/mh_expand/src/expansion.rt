@@ -22,7 +22,13 @@ use mh_grammar::{Memory, Name, Sequence, TokenInfo};
 use mh_join::{Head, Joined, JoinedAlternative, JoinedRule};
 use std::alloc::Global;
 
-/// The instances that the starts reach, found breadth first, with their alternatives.
+/// The instances that the starts reach: rules applied to actuals, each formal replaced by what it stands for. They are
+/// found breadth first: the starts in order, and then, of each instance in order of finding, the producers of its
+/// alternatives in order and from left to right. Rules that no start reaches are dropped, and an on-error declaration of a
+/// term that is no instance has no effect. Answers the first fault in the order of finding: `Arity` where a term has not as
+/// many arguments as its rule has formals, or is a token with arguments; `Expansion` where a new instance has a printed
+/// name of more than 1,000 bytes, or is the 20,001st. At one place `Arity` comes first. Answers `Memory` only where memory
+/// runs out. (The Menhir manual on parameterized rules; the limits and the order are this project's profile.)
 pub fn expand(alloc: Global, joined: &Joined) -> Result<Expanded, ExpandFault>
     ensures ok { IfOk result (IsExpanded joined.now) }
     ensures ready { IfOk result (λ e. IsReady joined.now → IsExpandedReady e) }
@@ -62,7 +68,9 @@ fn expand_all(
     found: &mut IndexSet<usize>,
 ) -> Result<Sequence<Instance>, ExpandFault>
     requires { IsExpanding joined.now (terms_of terms.old.nodes.keys) found.old.keys [] (get nat_eq ranks.now) }
-    ensures ok { IfOk result (λ is. AreExpanded joined.now (terms_of terms.old.nodes.keys) (terms_of terms.new.nodes.keys) found.old.keys found.new.keys is (get nat_eq ranks.now)) }
+    ensures ok { IfOk result
+        (λ is. AreExpanded joined.now (terms_of terms.old.nodes.keys) (terms_of terms.new.nodes.keys)
+        found.old.keys found.new.keys is (get nat_eq ranks.now)) }
     ensures err { IfErr result (Causes (IsFirstFault joined.now)) }
 {
     let mut instances = Sequence::new(alloc);
@@ -84,8 +92,11 @@ fn find_starts(
 ) -> Result<Sequence<u32>, ExpandFault>
     requires few { length found.old.keys ≤ MAX_INSTANCES }
     ensures few { IfOk result (λ _. length found.new.keys ≤ MAX_INSTANCES) }
-    ensures ok { IfOk result (λ s. IsSearch joined.now [] (terms_of terms.old.nodes.keys) found.old.keys → WentStarts joined.now (terms_of terms.old.nodes.keys) (terms_of terms.new.nodes.keys) found.old.keys found.new.keys s) }
-    ensures err { IfErr result (λ e. IsSearch joined.now [] (terms_of terms.old.nodes.keys) found.old.keys → Causes (Fails joined.now (start_terms joined.now)) e) }
+    ensures ok { IfOk result (λ s. IsSearch joined.now [] (terms_of terms.old.nodes.keys) found.old.keys →
+        WentStarts joined.now (terms_of terms.old.nodes.keys) (terms_of terms.new.nodes.keys)
+        found.old.keys found.new.keys s) }
+    ensures err { IfErr result (λ e. IsSearch joined.now [] (terms_of terms.old.nodes.keys) found.old.keys →
+        Causes (Fails joined.now (start_terms joined.now)) e) }
 {
     let mut starts = Sequence::new(alloc);
     for rule in joined.starts.as_slice() {
@@ -116,8 +127,18 @@ fn expand_instance(
     requires fit { IsFit joined.now (term_at (terms_of terms.old.nodes.keys) (slice_index found.old.keys place)) }
     requires ranks { AreRanks joined.now.on_error (terms_of terms.old.nodes.keys) (get nat_eq ranks.now) }
     ensures few { IfOk result (λ _. length found.new.keys ≤ MAX_INSTANCES) }
-    ensures ok { IfOk result (λ i. (before : List Term) → IsSearch joined.now before (terms_of terms.old.nodes.keys) found.old.keys → WentInstance joined.now before (terms_of terms.old.nodes.keys) (terms_of terms.new.nodes.keys) found.old.keys found.new.keys (term_at (terms_of terms.old.nodes.keys) (slice_index found.old.keys place)) i) }
-    ensures err { IfErr result (λ e. (before : List Term) → IsSearch joined.now before (terms_of terms.old.nodes.keys) found.old.keys → Causes (Fails joined.now (before ++ producers_of joined.now (term_at (terms_of terms.old.nodes.keys) (slice_index found.old.keys place)))) e) }
+    ensures ok { IfOk result (λ i. (before : List Term) →
+        IsSearch joined.now before (terms_of terms.old.nodes.keys) found.old.keys →
+        WentInstance joined.now before (terms_of terms.old.nodes.keys) (terms_of terms.new.nodes.keys)
+        found.old.keys found.new.keys
+        (term_at (terms_of terms.old.nodes.keys) (slice_index found.old.keys place)) i) }
+    ensures err { IfErr result (λ e. (before : List Term) →
+        IsSearch joined.now before (terms_of terms.old.nodes.keys) found.old.keys →
+        Causes
+        (Fails joined.now (before
+        ++ producers_of joined.now
+        (term_at (terms_of terms.old.nodes.keys) (slice_index found.old.keys place))))
+        e) }
 {
     let number = found.as_slice()[place];
     let node = terms.at(number);
@@ -181,8 +202,15 @@ fn expand_alternative(
     requires formals { All (λ n. n < length (terms_of terms.old.nodes.keys)) formals.now }
     ensures few { IfOk result (λ _. length found.new.keys ≤ MAX_INSTANCES) }
     ensures grows { IfOk result (λ _. Grows (terms_of terms.old.nodes.keys) (terms_of terms.new.nodes.keys)) }
-    ensures ok { IfOk result (λ p. (before : List Term) (t : Term) → arguments t ≡ terms_at (terms_of terms.old.nodes.keys) formals.now → IsSearch joined.now before (terms_of terms.old.nodes.keys) found.old.keys → WentAlternative joined.now before (terms_of terms.old.nodes.keys) (terms_of terms.new.nodes.keys) found.old.keys found.new.keys t alternative.now p) }
-    ensures err { IfErr result (λ e. (before : List Term) (t : Term) → arguments t ≡ terms_at (terms_of terms.old.nodes.keys) formals.now → IsSearch joined.now before (terms_of terms.old.nodes.keys) found.old.keys → Causes (Fails joined.now (before ++ right_side t alternative.now)) e) }
+    ensures ok { IfOk result (λ p. (before : List Term) (t : Term) →
+        arguments t ≡ terms_at (terms_of terms.old.nodes.keys) formals.now →
+        IsSearch joined.now before (terms_of terms.old.nodes.keys) found.old.keys →
+        WentAlternative joined.now before (terms_of terms.old.nodes.keys)
+        (terms_of terms.new.nodes.keys) found.old.keys found.new.keys t alternative.now p) }
+    ensures err { IfErr result (λ e. (before : List Term) (t : Term) →
+        arguments t ≡ terms_at (terms_of terms.old.nodes.keys) formals.now →
+        IsSearch joined.now before (terms_of terms.old.nodes.keys) found.old.keys →
+        Causes (Fails joined.now (before ++ right_side t alternative.now)) e) }
 {
     let mut rhs = Sequence::new(alloc);
     for producer in alternative.producers.as_slice() {

@@ -2,27 +2,31 @@
 use mh_grammar::{Name, Sequence, Token, TokenInfo};
 use mh_join::Prec;
 
-/// A producer: a token, or an instance by its number.
+/// A producer: a token, or an instance by its number, each from 0.
 #[derive(Clone, Copy, Debug, PartialEq, Eq, Hash)]
 pub enum Part {
     Token(Token),
     Instance(u32),
 }
 
-/// An alternative of an instance, with its file, its place among the alternatives of the file, and its producers.
+/// An alternative of an instance.
 #[derive(Clone, Debug, Drop, PartialEq, Eq)]
 pub struct InstanceProduction {
+    /// The number of its file: the files count from 1, and the standard library is file 0.
     pub file: u64,
+    /// Its place among all alternatives of that file, from 0.
     pub place: u64,
     pub rhs: Sequence<Part>,
     pub prec: Prec,
 }
 
-/// A rule applied to actuals: its printed name, the rank of the first `%on_error_reduce` that names it, its alternatives.
+/// A rule applied to actuals.
 #[derive(Clone, Debug, Drop, PartialEq, Eq)]
 pub struct Instance {
+    /// Its rule's printed name, with its arguments in `(`, `,` and `)` where it has some; at most 1,000 bytes.
     pub name: Name,
     pub inlined: bool,
+    /// The rank of the first `%on_error_reduce` declaration that names it: its place among those of all files, from 0.
     pub on_error: Option<u64>,
     pub productions: Sequence<InstanceProduction>,
 }

@@ -17,4 +17,3 @@ pub use expansion::expand;
 pub use fault::ExpandFault;
 pub use instances::{Expanded, Instance, InstanceProduction, Part};
 pub use laws::{is_one_expansion, is_one_fault};
-pub use search::{MAX_INSTANCES, MAX_NAME};

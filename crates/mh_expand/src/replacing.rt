@@ -18,7 +18,8 @@ pub(crate) fn replace(
 ) -> Result<usize, Memory>
     requires { All (λ n. n < length (terms_of terms.old.nodes.keys)) formals.now }
     ensures grows { IfOk result (λ _. Grows (terms_of terms.old.nodes.keys) (terms_of terms.new.nodes.keys)) }
-    ensures term { IfOk result (λ n. slice_get (terms_of terms.new.nodes.keys) n ≡ Some (replaced (terms_at (terms_of terms.old.nodes.keys) formals.now) (term_of applied.now))) }
+    ensures term { IfOk result (λ n. slice_get (terms_of terms.new.nodes.keys) n
+        ≡ Some (replaced (terms_at (terms_of terms.old.nodes.keys) formals.now) (term_of applied.now))) }
 {
     let mut node = replace_head(alloc, terms, formals, applied.head)?;
     for arg in applied.args.as_slice() {
@@ -36,7 +37,8 @@ fn replace_head(
     head: Head,
 ) -> Result<Application, Memory>
     requires { All (λ n. n < length (terms_of terms.now.nodes.keys)) formals.now }
-    ensures { IfOk result (λ n. IsNode (terms_of terms.now.nodes.keys) n (replaced_head (terms_at (terms_of terms.now.nodes.keys) formals.now) head)) }
+    ensures { IfOk result (λ n. IsNode (terms_of terms.now.nodes.keys) n
+        (replaced_head (terms_at (terms_of terms.now.nodes.keys) formals.now) head)) }
 {
     if let Head::Formal(place) = head {
         if let Some(number) = formals.get(place as usize) {

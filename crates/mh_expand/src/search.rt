@@ -16,10 +16,10 @@ use mh_join::{Head, Joined, JoinedRule};
 use std::alloc::{AllocFailed, Global};
 
 /// The most instances that there may be.
-pub const MAX_INSTANCES: usize = 20_000;
+pub(crate) const MAX_INSTANCES: usize = 20_000;
 
 /// The most bytes that the name of an instance may have.
-pub const MAX_NAME: usize = 1000;
+pub(crate) const MAX_NAME: usize = 1000;
 
 /// What a term is that was found: a token, or an instance, which is a new one where it was not there.
 pub(crate) fn find(
@@ -32,8 +32,13 @@ pub(crate) fn find(
     requires number { number < length (terms_of terms.now.nodes.keys) }
     requires few { length found.old.keys ≤ MAX_INSTANCES }
     ensures few { IfOk result (λ _. length found.new.keys ≤ MAX_INSTANCES) }
-    ensures ok { IfOk result (λ p. (before : List Term) → IsSearch joined.now before (terms_of terms.now.nodes.keys) found.old.keys → Finds joined.now before (terms_of terms.now.nodes.keys) (term_at (terms_of terms.now.nodes.keys) number) found.old.keys found.new.keys p) }
-    ensures err { IfErr result (λ e. (before : List Term) → IsSearch joined.now before (terms_of terms.now.nodes.keys) found.old.keys → Causes (IsFault joined.now before (term_at (terms_of terms.now.nodes.keys) number)) e) }
+    ensures ok { IfOk result (λ p. (before : List Term) →
+        IsSearch joined.now before (terms_of terms.now.nodes.keys) found.old.keys →
+        Finds joined.now before (terms_of terms.now.nodes.keys)
+        (term_at (terms_of terms.now.nodes.keys) number) found.old.keys found.new.keys p) }
+    ensures err { IfErr result (λ e. (before : List Term) →
+        IsSearch joined.now before (terms_of terms.now.nodes.keys) found.old.keys →
+        Causes (IsFault joined.now before (term_at (terms_of terms.now.nodes.keys) number)) e) }
 {
     let node = terms.at(number);
     match node.head {
@@ -59,8 +64,14 @@ pub(crate) fn find_instance(
     requires few { length found.old.keys ≤ MAX_INSTANCES }
     requires rule { head_of (term_at (terms_of terms.now.nodes.keys) number) ≡ Head.Rule rule }
     ensures few { IfOk result (λ _. length found.new.keys ≤ MAX_INSTANCES) }
-    ensures ok { IfOk result (λ p. (before : List Term) → IsSearch joined.now before (terms_of terms.now.nodes.keys) found.old.keys → Finds joined.now before (terms_of terms.now.nodes.keys) (term_at (terms_of terms.now.nodes.keys) number) found.old.keys found.new.keys (Part.Instance p)) }
-    ensures err { IfErr result (λ e. (before : List Term) → IsSearch joined.now before (terms_of terms.now.nodes.keys) found.old.keys → Causes (IsFault joined.now before (term_at (terms_of terms.now.nodes.keys) number)) e) }
+    ensures ok { IfOk result (λ p. (before : List Term) →
+        IsSearch joined.now before (terms_of terms.now.nodes.keys) found.old.keys →
+        Finds joined.now before (terms_of terms.now.nodes.keys)
+        (term_at (terms_of terms.now.nodes.keys) number) found.old.keys found.new.keys
+        (Part.Instance p)) }
+    ensures err { IfErr result (λ e. (before : List Term) →
+        IsSearch joined.now before (terms_of terms.now.nodes.keys) found.old.keys →
+        Causes (IsFault joined.now before (term_at (terms_of terms.now.nodes.keys) number)) e) }
 {
     let count = terms.at(number).args.len();
     match joined.rules.get(rule as usize) {
@@ -93,8 +104,14 @@ fn add_instance(
     requires fits { Fits joined.now (term_at (terms_of terms.now.nodes.keys) number) }
     requires rule { rule.now ≡ head_name joined.now (head_of (term_at (terms_of terms.now.nodes.keys) number)) }
     ensures few { IfOk result (λ _. length found.new.keys ≤ MAX_INSTANCES) }
-    ensures ok { IfOk result (λ p. (before : List Term) → IsSearch joined.now before (terms_of terms.now.nodes.keys) found.old.keys → Finds joined.now before (terms_of terms.now.nodes.keys) (term_at (terms_of terms.now.nodes.keys) number) found.old.keys found.new.keys (Part.Instance p)) }
-    ensures err { IfErr result (λ e. (before : List Term) → IsSearch joined.now before (terms_of terms.now.nodes.keys) found.old.keys → Causes (IsFault joined.now before (term_at (terms_of terms.now.nodes.keys) number)) e) }
+    ensures ok { IfOk result (λ p. (before : List Term) →
+        IsSearch joined.now before (terms_of terms.now.nodes.keys) found.old.keys →
+        Finds joined.now before (terms_of terms.now.nodes.keys)
+        (term_at (terms_of terms.now.nodes.keys) number) found.old.keys found.new.keys
+        (Part.Instance p)) }
+    ensures err { IfErr result (λ e. (before : List Term) →
+        IsSearch joined.now before (terms_of terms.now.nodes.keys) found.old.keys →
+        Causes (IsFault joined.now before (term_at (terms_of terms.now.nodes.keys) number)) e) }
 {
     let known = found.len();
     let at = place(found, number)?;
@@ -117,7 +134,9 @@ fn may_come(
     known: usize,
 ) -> Result<bool, Memory>
     requires { number < length (terms_of terms.now.nodes.keys) }
-    ensures { IfOk result (λ b. IsTrue b ↔ ((known < MAX_INSTANCES) × (length (text joined.now (term_at (terms_of terms.now.nodes.keys) number)) ≤ MAX_NAME))) }
+    ensures { IfOk result (λ b. IsTrue b
+        ↔ ((known < MAX_INSTANCES) ×
+        (length (text joined.now (term_at (terms_of terms.now.nodes.keys) number)) ≤ MAX_NAME))) }
 {
     let name = text_within(alloc, joined, terms, number, MAX_NAME)?;
     Ok(known < MAX_INSTANCES && name.is_some())
@@ -135,7 +154,8 @@ fn place(found: &mut IndexSet<usize>, number: usize) -> Result<usize, AllocFaile
 fn wrong_count(alloc: Global, joined: &Joined, terms: &Terms, number: usize) -> ExpandFault
     requires number { number < length (terms_of terms.now.nodes.keys) }
     requires count { Fits joined.now (term_at (terms_of terms.now.nodes.keys) number) → ⊥ }
-    ensures { (before : List Term) → Causes (IsFault joined.now before (term_at (terms_of terms.now.nodes.keys) number)) result }
+    ensures { (before : List Term) →
+        Causes (IsFault joined.now before (term_at (terms_of terms.now.nodes.keys) number)) result }
 {
     match text_within(alloc, joined, terms, number, usize::MAX - 1) {
         Ok(Some(instance)) => ExpandFault::Arity { instance },

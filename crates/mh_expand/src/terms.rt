@@ -35,7 +35,8 @@ impl Terms {
     /// The head and the arguments of a term.
     pub(crate) fn at(&self, number: usize) -> &Application
         requires { number < length (terms_of self.now.nodes.keys) }
-        ensures means { slice_get (terms_of self.now.nodes.keys) number ≡ Some (node_term (terms_of self.now.nodes.keys) result.now) }
+        ensures means { slice_get (terms_of self.now.nodes.keys) number
+            ≡ Some (node_term (terms_of self.now.nodes.keys) result.now) }
         ensures below { All (λ a. a < number) result.now.args }
     {
         &self.nodes.as_slice()[number]
@@ -44,7 +45,8 @@ impl Terms {
     /// The number of a term, a new one where it was not there.
     pub(crate) fn insert(&mut self, node: Application) -> Result<usize, AllocError>
         requires { All (λ a. a < length (terms_of self.old.nodes.keys)) node.args }
-        ensures { IfOk result (Placed (terms_of self.old.nodes.keys) (terms_of self.new.nodes.keys) (node_term (terms_of self.old.nodes.keys) node)) }
+        ensures { IfOk result (Placed (terms_of self.old.nodes.keys) (terms_of self.new.nodes.keys)
+            (node_term (terms_of self.old.nodes.keys) node)) }
     {
         Ok(place(&mut self.nodes, node)?)
     }

@@ -40,7 +40,9 @@ fn write_term(
 ) -> Result<(), Memory>
     requires number { number < length (terms_of terms.now.nodes.keys) }
     requires within { length text.old.items ≤ room }
-    ensures { OnOk result (text.new.items ≡ take room (text.old.items ++ spec.text joined.now (term_at (terms_of terms.now.nodes.keys) number))) }
+    ensures { OnOk result (text.new.items
+        ≡ take room
+        (text.old.items ++ spec.text joined.now (term_at (terms_of terms.now.nodes.keys) number))) }
 {
     if text.len() >= room {
         return Ok(());

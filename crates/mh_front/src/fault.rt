@@ -6,31 +6,33 @@ use mh_join::JoinFault;
 use thiserror::Error;
 
 /// The first fault of the modules, by the stage that finds it.
+///
+/// The text of a fault is what `fault_line` tells of it; only that line has a name behind the text, since a name is bytes.
 #[derive(Debug, Drop, PartialEq, Eq, Error)]
 pub enum GrammarFault {
     /// This name or string stands for nothing.
-    #[error("a name stands for nothing")]
+    #[error("undefined")]
     Undefined { name: Name },
     /// This name or string has two meanings.
-    #[error("a name has two meanings")]
+    #[error("duplicate")]
     Duplicate { name: Name },
     /// No file names a start symbol.
     #[error("no start symbol")]
     NoStart,
     /// A rule speaks of the token `error`.
-    #[error("the error token is not supported")]
+    #[error("the error token is refused")]
     ErrorToken,
     /// A production has the level of this name, which is no token and has none.
-    #[error("a name has no level")]
+    #[error("unknown level")]
     UnknownLevel { name: Name },
     /// There are so many tokens, more than 256.
-    #[error("too many tokens")]
+    #[error("too many tokens: {count}")]
     TooManyTokens { count: u64 },
     /// This applied rule or token has not as many arguments as it takes.
-    #[error("a rule or token with a wrong count of arguments")]
+    #[error("arity")]
     Arity { instance: Name },
     /// A new instance of this rule has too long a name, or is one too many.
-    #[error("a rule has too many or too long instances")]
+    #[error("expansion")]
     Expansion { name: Name },
     /// This inline instance reaches itself through inline instances.
     #[error("inline cycle")]

@@ -34,7 +34,8 @@ fn counted(alloc: Global, text: &[u8], count: u64) -> Result<Vec<u8>, Memory>
     Ok(line)
 }
 
-/// What is told of a fault, without the program's name before it and without the end of the line.
+/// What is told of a fault, without the program's name before it and without the end of the line. A program that ends by
+/// another status where memory runs out does not come to the text of `Memory`.
 pub fn fault_line(alloc: Global, fault: &GrammarFault) -> Result<Vec<u8>, Memory>
     ensures { IfOk result (λ line. line.items ≡ fault_text fault.now) }
 {

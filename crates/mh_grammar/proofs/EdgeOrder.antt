@@ -3,10 +3,11 @@ use Rattle.std.proofs.Common.{◌≡◌, ℕ, zero, suc, ◌+◌, ◌<◌, ◌�
 use Rattle.std.proofs.lemmas.Bool.Decides.{nat_tests}
 use Rattle.std.proofs.lemmas.Bool.{cases_eq, cases_lt}
 use Rattle.std.proofs.lemmas.Option.{slice_get_within}
-use Rattle.std.specs.List.{slice_get, AllByRecursion}
+use Rattle.std.specs.List.{slice_get}
 use Rattle.mh_grammar.specs.declared.types.Symbol.{Symbol}
 use Rattle.mh_grammar.specs.declared.types.Symbol.TheVariants.{T, N}
 use Rattle.mh_grammar.specs.declared.edges.Edge.{Edge}
+use Rattle.mh_grammar.proofs.Lists.{recursion_at, rising_at}
 use Rattle.mh_grammar.specs.Edges.{IsRising, IsEdgeBefore, IsSymbolBefore, same_symbol, find_edge}
 
 same_itself : (x : Symbol) → same_symbol x x ≡ true
@@ -19,17 +20,12 @@ before_not_same (T a) (N b) h = refl
 before_not_same (N a) (T b) h = refl
 before_not_same (N a) (N b) h = grind (arith, nat_tests)
 
-at_place : {X : Type 0} → (P : X → Type 0) → (xs : List X) (k : ℕ) (x : X) → AllByRecursion P xs → slice_get xs k ≡ Some x → P x
-at_place P [] k x h g = absurd (let n = slice_get_within [] k x g in omega arith)
-at_place P (y ∷ ys) zero x h g = let e : y ≡ x = cc in rw (← e) h.0
-at_place P (y ∷ ys) (suc k) x h g = at_place P ys k x h.1 g
-
 -- an edge of the list is found by its symbol
 pub edge_found : (es : List Edge) (k : ℕ) (e : Edge) → IsRising IsEdgeBefore es → slice_get es k ≡ Some e → find_edge es e.symbol ≡ Some e.target
 edge_found [] k e h g = absurd (let n = slice_get_within [] k e g in omega arith)
 edge_found (d ∷ es) zero e h g = let i : d ≡ e = cc in rw i (rw (same_itself e.symbol) refl)
 edge_found (d ∷ es) (suc k) e h g =
-    rw (before_not_same d.symbol e.symbol (at_place (IsEdgeBefore d) es k e h.0 g)) (edge_found es k e h.1 g)
+    rw (before_not_same d.symbol e.symbol (recursion_at (IsEdgeBefore d) es h.0 k e g)) (edge_found es k e h.1 g)
 
 same_either_way : (x y : Symbol) → same_symbol x y ≡ false → same_symbol y x ≡ false
 same_either_way (T a) (T b) h = grind (arith, nat_tests)
@@ -61,13 +57,6 @@ one_before (T a) (N b) e n = absurd (n tt)
 one_before (N a) (T b) e n = tt
 one_before (N a) (N b) e n = grind (arith, nat_tests)
 
--- of two edges of the list the earlier comes before
-rising_at : (es : List Edge) (i j : ℕ) (d e : Edge) → IsRising IsEdgeBefore es → i < j → slice_get es i ≡ Some d → slice_get es j ≡ Some e → IsEdgeBefore d e
-rising_at [] i j d e h l f g = absurd (let n = slice_get_within [] i d f in omega arith)
-rising_at (a ∷ es) i zero d e h l f g = absurd (let n : ⊥ = omega (arith, l) in n)
-rising_at (a ∷ es) zero (suc j) d e h l f g = let same : a ≡ d = cc in rw (← same) (at_place (IsEdgeBefore a) es j e h.0 g)
-rising_at (a ∷ es) (suc i) (suc j) d e h l f g = rising_at es i j d e h.1 (omega arith) f g
-
 -- where no edge has the symbol there is none
 none_found : (es : List Edge) (x : Symbol) → ((k : ℕ) (e : Edge) → slice_get es k ≡ Some e → same_symbol e.symbol x ≡ false) → find_edge es x ≡ None
 none_found [] x h = refl
@@ -95,7 +84,7 @@ module _ (es : List Edge) (x : Symbol) (low high middle : ℕ) (e : Edge) (risin
     within = b.within;
     below = λ k f i g. elim (cases_eq k middle) [
       | inl same ↦ (let one : f ≡ e = cc in rw one h)
-      | inr other ↦ before_before f.symbol e.symbol x (rising_at es k middle f e rising (omega arith) g at) h
+      | inr other ↦ before_before f.symbol e.symbol x (rising_at IsEdgeBefore es rising k middle f e (omega arith) g at) h
     ];
     above = b.above;
   }
@@ -107,7 +96,7 @@ module _ (es : List Edge) (x : Symbol) (low high middle : ℕ) (e : Edge) (risin
     below = b.below;
     above = λ k f i g. elim (cases_eq k middle) [
       | inl same ↦ (let one : f ≡ e = cc in rw one h)
-      | inr other ↦ before_before x e.symbol f.symbol h (rising_at es middle k e f rising (omega arith) at g)
+      | inr other ↦ before_before x e.symbol f.symbol h (rising_at IsEdgeBefore es rising middle k e f (omega arith) at g)
     ];
   }
 

@@ -20,7 +20,7 @@ use Rattle.mh_grammar.specs.Grid.{flag, Grows}
 use Rattle.mh_grammar.specs.First as first
 use Rattle.mh_grammar.specs.First.{First, FirstOf}
 use Rattle.mh_grammar.specs.FirstFlags.{AreFirst, IsAdded, IsSideAdded, AllAdded, AreFlagsOf, NullableSound, IsSymbolFits}
-use Rattle.mh_grammar.proofs.Flags.{set-cases, Grows-trans, Grows-refl}
+use Rattle.mh_grammar.proofs.Flags.{set-cases, Grows-trans, Grows-refl, either_false}
 use Rattle.mh_grammar.proofs.LeastMarks.{nil_from-marked, marked-from_nil}
 use Rattle.mh_grammar.proofs.Numbered.{Produces-ordinary, listed_from_for}
 
@@ -32,10 +32,6 @@ AreFirst-set g width flags n a l f h = record {
     | inr here ↦ (let at = same_from_place m b n a width k l here in rw (at.0, at.1) f)
   ];
 }
-
-either_false : (g h : Bool) → (g || h) ≡ false → (g ≡ false) × (h ≡ false)
-either_false true h e = cc
-either_false false h e = (refl, e)
 
 -- a right side was added up to a place
 pub record SideSoFar (nullable : List Bool) (width : ℕ) (old new : List Bool) (lhs : ℕ) (symbols : List Symbol) (grown : Bool) (rest : List Symbol) : Type 0 where
@@ -85,13 +81,23 @@ pub record OnceSoFar (ps : List Production) (nullable : List Bool) (width : ℕ)
 pub OnceSoFar-start : (ps : List Production) (nullable : List Bool) (width : ℕ) (old : List Bool) → OnceSoFar ps nullable width old old false 0
 OnceSoFar-start ps nullable width old = record { grows = Grows-refl old; sound = λ g e n s. s; added = λ e k p l. absurd (omega arith) }
 
-module _ (ps : List Production) (nullable : List Bool) (width : ℕ) (old new newer : List Bool) (grown more : Bool) (i : ℕ) (p : Production) where
-  pub OnceSoFar-step : OnceSoFar ps nullable width old new grown i → slice_get ps i ≡ Some p → Grows new newer more
-      → ((k : PlainGrammar) → NullableSound k nullable → ((a : ℕ) → FirstOf k p.rhs a → First k (N p.lhs) a) → AreFirst k width new → AreFirst k width newer)
-      → (more ≡ false → IsSideAdded nullable width newer p.lhs p.rhs) → OnceSoFar ps nullable width old newer (grown || more) (i + 1)
-  OnceSoFar-step h at g s d = record {
+-- one production more: in a pass backward, which says nothing of what was added, and in one forward
+module _ (ps : List Production) (nullable : List Bool) (width : ℕ) (old new newer : List Bool) (grown more : Bool) (i : ℕ) (p : Production) (at : slice_get ps i ≡ Some p) (g : Grows new newer more)
+    (s : (k : PlainGrammar) → NullableSound k nullable → ((a : ℕ) → FirstOf k p.rhs a → First k (N p.lhs) a) → AreFirst k width new → AreFirst k width newer) where
+  production_sound : (k : PlainGrammar) → k.productions ≡ ps → NullableSound k nullable → AreFirst k width new → AreFirst k width newer
+  production_sound k same n = s k n (λ a f. first.First.nonterminal (Produces-ordinary k i p (rw same at)) f)
+
+  pub OnceSoFar-back : OnceSoFar ps nullable width old new grown 0 → OnceSoFar ps nullable width old newer (grown || more) 0
+  OnceSoFar-back h = record {
     grows = Grows-trans old new newer grown more h.grows g;
-    sound = λ k same n old. s k n (λ a f. first.First.nonterminal (Produces-ordinary k i p (rw same at)) f) (h.sound k same n old);
+    sound = λ k same n o. production_sound k same n (h.sound k same n o);
+    added = λ e k q l. absurd (omega arith);
+  }
+
+  pub OnceSoFar-step : OnceSoFar ps nullable width old new grown i → (more ≡ false → IsSideAdded nullable width newer p.lhs p.rhs) → OnceSoFar ps nullable width old newer (grown || more) (i + 1)
+  OnceSoFar-step h d = record {
+    grows = Grows-trans old new newer grown more h.grows g;
+    sound = λ k same n o. production_sound k same n (h.sound k same n o);
     added = λ e k q l read. let both = either_false grown more e in elim (cases_eq k i) [
       | inl same ↦ (let one : q ≡ p = cc in rw one (d both.1))
       | inr other ↦ rw (g.same both.1) (h.added both.0 k q (omega arith) read)

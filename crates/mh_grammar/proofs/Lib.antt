@@ -3,6 +3,7 @@ pub mod EdgeOrder
 pub mod FirstSets
 pub mod Flags
 pub mod LeastMarks
+pub mod Lists
 pub mod Numbered
 pub mod OneNumbering
 pub mod Pigeon

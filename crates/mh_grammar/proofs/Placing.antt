@@ -1,8 +1,7 @@
 -- Items that are placed, and what a breadth-first numbering keeps while it is made.
-use Rattle.std.proofs.Common.{◌≡◌, ℕ, zero, suc, ◌+◌, ◌<◌, ◌≤◌, ◌⊎◌, Bool, true, false, cond, Decides, List, [], ◌∷◌, ◌++◌, Some, length, get_or, refl, sym, ap, ◌∙◌, arith, inl, inr, append_assoc}
+use Rattle.std.proofs.Common.{◌≡◌, ℕ, zero, suc, ◌+◌, ◌<◌, ◌≤◌, Bool, true, false, cond, Decides, List, [], ◌∷◌, ◌++◌, Some, length, get_or, refl, sym, ap, ◌∙◌, arith, inl, inr, append_assoc}
 use Rattle.std.specs.List.{slice_get, list_any, All, Contains, concat}
-use Rattle.std.proofs.lemmas.Bool.{cases_eq}
-use Rattle.std.proofs.lemmas.List.{get_or_append_left, get_or_push, length_push, append-nil, length-append}
+use Rattle.std.proofs.lemmas.List.{length_push, append-nil, length-append}
 use Rattle.std.proofs.Math.Seq.{take-append_seam}
 use Rattle.std.proofs.lemmas.List.Elements.{All-push, Contains-append_left}
 use Rattle.std.proofs.lemmas.List.Folds.{concat-append}
@@ -11,33 +10,9 @@ use Rattle.std.proofs.lemmas.Map.Keys.{any_passes_from_place}
 use Rattle.mh_grammar.specs.Numbering as numbering
 use Rattle.mh_grammar.specs.Numbering.{Reached, AreDistinct, InOrder, Names, IsRowOf, IsNumbering}
 use Rattle.mh_grammar.specs.Placed.{Placed, AllPlaced}
+pub use Rattle.mh_grammar.proofs.Lists.{get_left, get_last, get_cases, contains_at, at_contains}
 
 module _ {X : Type 0} where
-  pub get_left : (xs ys : List X) (i : ℕ) (x : X) → slice_get xs i ≡ Some x → slice_get (xs ++ ys) i ≡ Some x
-  get_left xs ys i x e =
-      let l = slice_get_within xs i x e in
-      let m : i < length (xs ++ ys) = omega (arith, length-append xs ys) in
-      slice_get-get_or (xs ++ ys) i x m ∙ ap Some (get_or_append_left xs ys x i l ∙ get_or_from_slice_get xs i x x e)
-
-  pub get_last : (xs : List X) (y : X) (i : ℕ) → i ≡ length xs → slice_get (xs ++ y ∷ []) i ≡ Some y
-  get_last xs y i e = let m : i < length (xs ++ y ∷ []) = omega (arith, length_push xs y) in slice_get-get_or (xs ++ y ∷ []) i y m ∙ ap Some (get_or_push xs y y i (sym e))
-
-  -- a place in a list with one more item
-  pub get_cases : (xs : List X) (y : X) (i : ℕ) (x : X) → slice_get (xs ++ y ∷ []) i ≡ Some x → (slice_get xs i ≡ Some x) ⊎ ((i ≡ length xs) × (x ≡ y))
-  get_cases xs y i x e =
-      let at = get_or_from_slice_get (xs ++ y ∷ []) i x x e in
-      elim (cases_eq i (length xs)) [
-        | inl same ↦ inr (same, sym at ∙ get_or_push xs y x i (sym same))
-        | inr other ↦ (let l : i < length xs = omega (arith, slice_get_within (xs ++ y ∷ []) i x e, length_push xs y) in
-            inl (slice_get-get_or xs i x l ∙ ap Some (sym (get_or_append_left xs (y ∷ []) x i l) ∙ at)))
-      ]
-
-  pub contains_at : (xs : List X) (i : ℕ) (x : X) → slice_get xs i ≡ Some x → Contains xs x
-  contains_at xs i x e = (i, slice_get_within xs i x e, get_or_from_slice_get xs i x x e)
-
-  pub at_contains : (xs : List X) (x : X) → Contains xs x → (i : ℕ) × (slice_get xs i ≡ Some x)
-  at_contains xs x c = (c.0, slice_get-get_or xs c.0 x c.1 ∙ ap Some c.2)
-
   pub Placed-kept : (old new : List X) (x : X) (n : ℕ) → Placed old new x n → (i : ℕ) (y : X) → slice_get old i ≡ Some y → slice_get new i ≡ Some y
   Placed-kept old new x n p i y e = elim p.grown [ inl g ↦ rw g.0 e | inr g ↦ rw g.0 (get_left old (x ∷ []) i y e) ]
 

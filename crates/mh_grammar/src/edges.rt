@@ -4,13 +4,16 @@ ghost use Rattle.mh_grammar.specs.Edges.{IsRising, IsEdgeBefore, IsSymbolBefore,
 
 use crate::types::Symbol;
 
-/// An edge of an automaton: on the symbol it leads to the target state.
+/// An edge of an automaton, which leads from the state that holds it to another.
 #[derive(Clone, Copy, Debug, PartialEq, Eq)]
 pub struct Edge {
+    /// The symbol that it is followed on.
     pub symbol: Symbol,
+    /// The state that it leads to, by number.
     pub target: u32,
 }
 
+/// Whether two symbols are one.
 fn is_same(left: Symbol, right: Symbol) -> bool
     ensures { result ≡ same_symbol left right }
 {
@@ -21,6 +24,7 @@ fn is_same(left: Symbol, right: Symbol) -> bool
     }
 }
 
+/// Whether a symbol comes before another: tokens rising, then nonterminals rising.
 fn is_before(left: Symbol, right: Symbol) -> bool
     ensures { IsTrue result ↔ IsSymbolBefore left right }
 {

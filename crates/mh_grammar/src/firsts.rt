@@ -66,7 +66,8 @@ fn first_flags(alloc: Global, grammar: &Grammar, nullable: &[bool]) -> Result<Ve
     Ok(flags)
 }
 
-/// Adds what one pass over the productions finds, and says whether anything was new.
+/// Adds what one pass over the productions backward and one forward find, and says whether anything was new. Either
+/// pass alone would take a round for each rule of a file that is written in the other order.
 fn add_once(nullable: &[bool], flags: &mut [bool], width: usize, productions: &[Production]) -> bool
     requires productions { All (IsProductionBelow width (length nullable.now)) productions.now }
     requires flags { length flags.old ≡ length nullable.now * width }
@@ -75,16 +76,36 @@ fn add_once(nullable: &[bool], flags: &mut [bool], width: usize, productions: &[
     ensures added { result ≡ false → AllAdded productions.now nullable.now width flags.new }
 {
     let mut grown = false;
+    for place in (0..productions.len()).rev() {
+        grown |= add_production(nullable, flags, width, &productions[place]);
+    }
     for production in productions {
-        grown |= add_side(
-            nullable,
-            flags,
-            width,
-            usize::from(production.lhs),
-            production.rhs.as_slice(),
-        );
+        grown |= add_production(nullable, flags, width, production);
     }
     grown
+}
+
+/// Adds what a production has to its left side, and says whether anything was new.
+fn add_production(
+    nullable: &[bool],
+    flags: &mut [bool],
+    width: usize,
+    production: &Production,
+) -> bool
+    requires production { IsProductionBelow width (length nullable.now) production.now }
+    requires flags { length flags.old ≡ length nullable.now * width }
+    ensures grows { Grows flags.old flags.new result }
+    ensures sound { (g : PlainGrammar) → NullableSound g nullable.now → ((a : ℕ) → FirstOf g production.now.rhs a → First g (N production.now.lhs) a)
+        → AreFirst g width flags.old → AreFirst g width flags.new }
+    ensures added { result ≡ false → IsSideAdded nullable.now width flags.new production.now.lhs production.now.rhs }
+{
+    add_side(
+        nullable,
+        flags,
+        width,
+        usize::from(production.lhs),
+        production.rhs.as_slice(),
+    )
 }
 
 /// Adds what a right side has to a nonterminal, and says whether anything was new.

@@ -1,6 +1,7 @@
 //! Which nonterminals derive the empty word, and which derive a word at all.
-ghost use Rattle.std.specs.Prelude.{◌≡◌, ◌<◌, ◌≤◌, ◌↔◌, ℕ, true, false, not, length, count_by, slice_index_or, vec_len, IsTrue, IfOk};
+ghost use Rattle.std.specs.Prelude.{◌≡◌, ◌<◌, ◌≤◌, ◌↔◌, ℕ, List, Some, true, false, not, length, count_by, slice_get, slice_index_or, vec_len, IsTrue, IfOk};
 ghost use Rattle.std.specs.List.{All};
+ghost use Rattle.mh_grammar.specs.Grid.{Grows};
 ghost use Rattle.mh_grammar.specs.Plain.{plain_of, IsInRange, IsSymbolBelow, IsProductionBelow, IsNullable, IsProductive};
 ghost use Rattle.mh_grammar.specs.Marked.{mark_of, all_marked, AreSound, AreClosed, AreMarks, IsMarkable};
 
@@ -40,7 +41,9 @@ fn least_marks(alloc: Global, grammar: &Grammar, tokens: bool) -> Result<Vec<boo
     Ok(marks)
 }
 
-/// Adds the marks that one pass over the productions finds, and says whether there were any.
+/// Adds the marks that one pass over the productions backward and one forward find, and says whether there were any.
+/// Marks go from right sides to left sides: in a file written top down a forward pass alone would carry them up by
+/// one rule, and in one written bottom up a backward pass alone.
 fn mark_once(tokens: bool, productions: &[Production], marks: &mut [bool]) -> bool
     requires { All (IsProductionBelow 65536 (length marks.old)) productions.now }
     ensures sound { AreSound tokens productions.now marks.old → AreSound tokens productions.now marks.new }
@@ -49,16 +52,34 @@ fn mark_once(tokens: bool, productions: &[Production], marks: &mut [bool]) -> bo
     ensures same { result ≡ false → marks.new ≡ marks.old }
 {
     let mut changed = false;
+    for place in (0..productions.len()).rev() {
+        changed |= mark_left_side(tokens, &productions[place], marks);
+    }
     for production in productions {
-        let lhs = usize::from(production.lhs);
-        if !marks[lhs] && are_marked(tokens, marks, production.rhs.as_slice()) {
-            marks[lhs] = true;
-            changed = true;
-        }
+        changed |= mark_left_side(tokens, production, marks);
     }
     changed
 }
 
+/// Marks the left side of a production whose symbols are all marked, and says whether the mark was new.
+fn mark_left_side(tokens: bool, production: &Production, marks: &mut [bool]) -> bool
+    requires { IsProductionBelow 65536 (length marks.old) production.now }
+    ensures grows { Grows marks.old marks.new result }
+    ensures sound { (ps : List Production) (k : ℕ) → slice_get ps k ≡ Some production.now → AreSound tokens ps marks.old → AreSound tokens ps marks.new }
+    ensures closed { result ≡ false → all_marked tokens marks.new production.now.rhs ≡ true → slice_index_or marks.new production.now.lhs false ≡ true }
+{
+    let lhs = usize::from(production.lhs);
+    if marks[lhs] {
+        return false;
+    }
+    if !are_marked(tokens, marks, production.rhs.as_slice()) {
+        return false;
+    }
+    marks[lhs] = true;
+    true
+}
+
+/// Whether all symbols of a right side are marked.
 fn are_marked(tokens: bool, marks: &[bool], symbols: &[Symbol]) -> bool
     requires { All (IsSymbolBelow 65536 (length marks.now)) symbols.now }
     ensures { result ≡ all_marked tokens marks.now symbols.now }
@@ -71,6 +92,7 @@ fn are_marked(tokens: bool, marks: &[bool], symbols: &[Symbol]) -> bool
     true
 }
 
+/// Whether a symbol is marked.
 pub(crate) fn is_marked(tokens: bool, marks: &[bool], symbol: Symbol) -> bool
     requires { IsMarkable (length marks.now) symbol }
     ensures { result ≡ mark_of tokens marks.now symbol }

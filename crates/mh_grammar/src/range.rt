@@ -5,6 +5,12 @@ ghost use Rattle.mh_grammar.specs.Plain.{plain_of, IsInRange, IsSymbolBelow, IsP
 
 use crate::types::{Grammar, Production, Symbol};
 
+/// The most tokens, nonterminals or starts: each has a number of 16 bits.
+const MAX_NUMBERED: usize = 65_535;
+
+/// The most productions, with the starts', and the most symbols of a right side: their places have 32 bits.
+const MAX_PLACES: usize = 0xffff_ffff;
+
 /// Whether left sides, symbols and starts are in range, and there are not too many of anything.
 pub fn is_in_range(grammar: &Grammar) -> bool
     ensures { IsTrue result ↔ IsInRange (plain_of grammar.now) }
@@ -12,10 +18,10 @@ pub fn is_in_range(grammar: &Grammar) -> bool
     let tokens = grammar.tokens.len();
     let nonterminals = grammar.nonterminals.len();
     let starts = grammar.starts.len();
-    tokens <= 65535
-        && nonterminals <= 65535
-        && starts <= 65535
-        && grammar.productions.len() <= 0xffff_ffff - starts
+    tokens <= MAX_NUMBERED
+        && nonterminals <= MAX_NUMBERED
+        && starts <= MAX_NUMBERED
+        && grammar.productions.len() <= MAX_PLACES - starts
         && are_starts_in_range(grammar.starts.as_slice(), nonterminals)
         && are_productions_in_range(grammar.productions.as_slice(), tokens, nonterminals)
 }
@@ -38,7 +44,7 @@ fn is_production_in_range(production: &Production, tokens: usize, nonterminals: 
     ensures { IsTrue result ↔ IsProductionBelow tokens nonterminals production.now × length production.now.rhs < 2 ^ 32 }
 {
     usize::from(production.lhs) < nonterminals
-        && production.rhs.len() <= 0xffff_ffff
+        && production.rhs.len() <= MAX_PLACES
         && are_symbols_in_range(production.rhs.as_slice(), tokens, nonterminals)
 }
 

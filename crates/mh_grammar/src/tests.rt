@@ -33,7 +33,7 @@ fn production(lhs: u16, rhs: Vec<Symbol>) -> Production {
     }
 }
 
-// s: x A b, x: | B, b: b
+// s: x A b, x: | B, b: b, c: B
 fn sample(alloc: Global) -> Result<Grammar, Memory> {
     let mut tokens = Vec::new(alloc);
     tokens.push(token(alloc, b"A")?)?;
@@ -42,12 +42,14 @@ fn sample(alloc: Global) -> Result<Grammar, Memory> {
     nonterminals.push(nonterminal(alloc, b"s")?)?;
     nonterminals.push(nonterminal(alloc, b"x")?)?;
     nonterminals.push(nonterminal(alloc, b"b")?)?;
+    nonterminals.push(nonterminal(alloc, b"c")?)?;
     let mut productions = Vec::new(alloc);
     let s = vec![in alloc; Symbol::N(1), Symbol::T(0), Symbol::N(2)]?;
     productions.push(production(0, s))?;
     productions.push(production(1, Vec::new(alloc)))?;
     productions.push(production(1, vec![in alloc; Symbol::T(1)]?))?;
     productions.push(production(2, vec![in alloc; Symbol::N(2)]?))?;
+    productions.push(production(3, vec![in alloc; Symbol::T(1)]?))?;
     Ok(Grammar {
         tokens: Sequence::from_vec(tokens),
         nonterminals: Sequence::from_vec(nonterminals),
@@ -63,14 +65,74 @@ fn sets_of_a_sample(rt: HostRuntime) -> Result<(), Fail> {
     assert!(rt; is_in_range(&grammar));
     words_begin_with_first(&grammar);
     let empty = nullable(alloc, &grammar)?;
-    assert_eq!(rt; empty.as_slice(), [false, true, false].as_slice());
+    assert_eq!(rt; empty.as_slice(), [false, true, false, false].as_slice());
     let trees = productive(alloc, &grammar)?;
-    assert_eq!(rt; trees.as_slice(), [false, true, false].as_slice());
+    assert_eq!(rt; trees.as_slice(), [false, true, false, true].as_slice());
     let rows = first(alloc, &grammar)?;
-    assert_eq!(rt; rows.len(), 3);
+    assert_eq!(rt; rows.len(), 4);
     assert_eq!(rt; rows[0].as_slice(), [0, 1].as_slice());
     assert_eq!(rt; rows[1].as_slice(), [1].as_slice());
     assert_eq!(rt; rows[2].as_slice(), [].as_slice());
+    assert_eq!(rt; rows[3].as_slice(), [1].as_slice());
+    Ok(())
+}
+
+#[test]
+fn numbers_that_name_nothing_are_out_of_range(rt: HostRuntime) -> Result<(), Fail> {
+    let alloc = rt.alloc();
+    let mut side = sample(alloc)?;
+    side.productions.push(production(4, Vec::new(alloc)))?;
+    assert!(rt; !is_in_range(&side));
+    let mut symbol = sample(alloc)?;
+    let rhs = vec![in alloc; Symbol::T(0), Symbol::T(2)]?;
+    symbol.productions.push(production(0, rhs))?;
+    assert!(rt; !is_in_range(&symbol));
+    let mut start = sample(alloc)?;
+    start.starts.push(4)?;
+    assert!(rt; !is_in_range(&start));
+    Ok(())
+}
+
+// n0: n1, n1: n2, .., and at last the last token of 256; the rules are written in this order or the other way round
+fn chain(alloc: Global, bottom_up: bool) -> Result<Grammar, Memory> {
+    let mut tokens = Vec::new(alloc);
+    for _ in 0..256 {
+        tokens.push(token(alloc, b"A")?)?;
+    }
+    let mut nonterminals = Vec::new(alloc);
+    let mut productions = Vec::new(alloc);
+    for n in 0..20000u16 {
+        nonterminals.push(nonterminal(alloc, b"n")?)?;
+        let lhs = if bottom_up { 19999 - n } else { n };
+        let symbol = if lhs < 19999 {
+            Symbol::N(lhs + 1)
+        } else {
+            Symbol::T(255)
+        };
+        productions.push(production(lhs, vec![in alloc; symbol]?))?;
+    }
+    Ok(Grammar {
+        tokens: Sequence::from_vec(tokens),
+        nonterminals: Sequence::from_vec(nonterminals),
+        productions: Sequence::from_vec(productions),
+        starts: Sequence::from_vec(vec![in alloc; 0]?),
+    })
+}
+
+// a pass for each rule would take far longer than a test may
+#[test]
+fn rules_in_either_order_take_few_passes(rt: HostRuntime) -> Result<(), Fail> {
+    let alloc = rt.alloc();
+    for bottom_up in [false, true] {
+        let grammar = chain(alloc, bottom_up)?;
+        assert!(rt; is_in_range(&grammar));
+        let trees = productive(alloc, &grammar)?;
+        assert_eq!(rt; trees.len(), 20000);
+        assert!(rt; trees.iter().all(|mark| *mark));
+        let rows = first(alloc, &grammar)?;
+        assert_eq!(rt; rows.len(), 20000);
+        assert!(rt; rows.iter().all(|row| row.as_slice() == [255].as_slice()));
+    }
     Ok(())
 }
 
@@ -115,7 +177,8 @@ fn names_of_a_sample(rt: HostRuntime) -> Result<(), Fail> {
     assert_eq!(rt; left_side_name(&grammar, 0), b"".as_slice());
     assert_eq!(rt; left_side_name(&grammar, 1), b"s".as_slice());
     assert_eq!(rt; left_side_name(&grammar, 3), b"x".as_slice());
-    assert_eq!(rt; left_side_name(&grammar, 5), b"".as_slice());
+    assert_eq!(rt; left_side_name(&grammar, 5), b"c".as_slice());
+    assert_eq!(rt; left_side_name(&grammar, 6), b"".as_slice());
     assert_eq!(rt; start_name(&grammar, 0), b"s".as_slice());
     assert_eq!(rt; start_name(&grammar, 1), b"".as_slice());
     Ok(())

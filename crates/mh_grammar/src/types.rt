@@ -44,43 +44,59 @@ pub enum Assoc {
     Nonassoc,
 }
 
-/// A level of precedence: the file of its declaration and its place among those of the file, both counted from 0.
-/// Two levels are comparable only within one file; the later is higher.
+/// A level of precedence. Two levels are comparable only within one file; the later is higher.
 #[derive(Clone, Copy, Debug, PartialEq, Eq)]
 pub struct Level {
+    /// The file of its declaration: files are counted from 1, in the order of the command line.
     pub file: u64,
+    /// Its place among the declarations of levels in that file, counted from 0.
     pub rank: u64,
+    /// How its tokens group.
     pub assoc: Assoc,
 }
 
+/// A token.
 #[derive(Clone, Debug, Drop, PartialEq, Eq)]
 pub struct TokenInfo {
+    /// Its name, as it is declared.
     pub name: Name,
+    /// Its level of precedence, where a declaration gives it one.
     pub level: Option<Level>,
 }
 
-/// A nonterminal; `on_error` is the place of the first `%on_error_reduce` declaration that names it.
+/// A nonterminal.
 #[derive(Clone, Debug, Drop, PartialEq, Eq)]
 pub struct NontermInfo {
+    /// Its name, with its arguments where it is an instance.
     pub name: Name,
+    /// The place of the first `%on_error_reduce` declaration that names it.
     pub on_error: Option<u64>,
 }
 
-/// An ordinary production: left side, right side, level.
+/// An ordinary production.
 #[derive(Clone, Debug, Drop, PartialEq, Eq)]
 pub struct Production {
+    /// The nonterminal of its left side, by number.
     pub lhs: u16,
+    /// Its right side.
     pub rhs: Sequence<Symbol>,
+    /// Its level of precedence, where it has one.
     pub level: Option<Level>,
 }
 
 /// A grammar. Production number i below the count of starts is that of start i, `S' -> S`; the ordinary productions
-/// of the list follow in order.
+/// of the list follow in order. Tokens, nonterminals and starts are at most 65,535 each, productions with the starts'
+/// are below 2^32, and so are the symbols of a right side; [`is_in_range`](crate::is_in_range) says whether a grammar
+/// keeps to this and each number in it names something.
 #[derive(Clone, Debug, Drop, PartialEq, Eq)]
 pub struct Grammar {
+    /// The tokens, by number.
     pub tokens: Sequence<TokenInfo>,
+    /// The nonterminals, by number.
     pub nonterminals: Sequence<NontermInfo>,
+    /// The ordinary productions.
     pub productions: Sequence<Production>,
+    /// The nonterminal of each start, by number.
     pub starts: Sequence<u16>,
 }
 

@@ -17,7 +17,8 @@ use Rattle.mh_expand.specs.Ready.{IsExpandedReady, IsInstanceReady}
 use Rattle.mh_inline.specs.Unfoldings as unfoldings
 use Rattle.mh_inline.specs.Unfoldings.{UnfoldsPart, UnfoldsEach}
 use Rattle.mh_inline.specs.Sizes.{IsSize, IsSizing, AreSmall}
-use Rattle.mh_inline.specs.Known.{AreEachKnown, IsNext, Knows}
+use Rattle.mh_inline.specs.Known.{AreEachKnown, IsNext}
+use Rattle.mh_inline.specs.Uses.{AreLast, KnowsNeeded}
 use Rattle.mh_inline.proofs.Same.{AreSome, small_part, small_alternative}
 
 pub some_ready : (e : Expanded) → IsExpandedReady e → AreSome e.instances
@@ -41,8 +42,8 @@ module _ (is : List Instance) where
   each_of_part n i us at e (unfoldings.UnfoldsPart.kept k) = absurd (false≢true (sym k ∙ e))
   each_of_part n i us at e (unfoldings.UnfoldsPart.inlined {i = j} at' e' r) = subst (λ (q : Instance). UnfoldsEach is q.productions us) (same_Some j i (sym at' ∙ at)) r
 
-  pub next_from : (s : Sizing) (known : List (List Unfolding)) (i n : ℕ) → IsSizing is s → Knows is (take i s.order.items) known → slice_get s.order.items i ≡ Some n → IsNext is s.sizes.items known n
-  next_from s known i n z k at =
+  pub next_from : (s : Sizing) (last : List ℕ) (known : List (List Unfolding)) (i n : ℕ) → IsSizing is s → AreLast is s.order.items last → KnowsNeeded is s.order.items last i known → slice_get s.order.items i ≡ Some n → IsNext is s.sizes.items known n
+  next_from s last known i n z a k at =
       let o = z.ordered i n at in
       record {
         inlined = o.inlined;
@@ -54,7 +55,7 @@ module _ (is : List Instance) where
             let p = z.ordered place.0 m (get_taken s.order.items i place.0 m place.1) in
             let right = z.right.sound m p.size p.sized in
             (right.unfoldings, right.unfolds);
-        behind = λ m us inl u small. k.each m us (o.behind m inl) u small;
+        behind = λ m us inl u small. k.each m us (a.inline i n m at (record { place = inl.place; production = inl.production; alternative = inl.alternative; among = record { producer = inl.producer; at = inl.at; used = inl.used } })) (o.behind m inl) u small;
       }
 
   -- the alternatives of the next instance have known unfoldings where its own are within the limits
@@ -75,16 +76,3 @@ module _ (is : List Instance) where
               };
         };
       }
-
-  pub Knows-more : (order : List ℕ) (known : List (List Unfolding)) (i n : ℕ) (new : List Unfolding) → i < length order → n ≡ get_or order i 0 → n < length known → ((us : List Unfolding) → UnfoldsPart is (Applied n) us → AreSmall us → new ≡ us) → Knows is (take i order) known → Knows is (take (i + 1) order) (set known n new)
-  Knows-more order known i n new l at within new_is k = record {
-    len = length-set known n new ∙ k.len;
-    each = λ m us c u small. elim (cases_eq m n) [
-      | inl same ↦ rw same (slice_get-get_or (set known n new) n new (rw (length-set known n new) within) ∙ ap Some (get_or-set_same known n new new within ∙ new_is us (rw same at u) small))
-      | inr other ↦ elim (Contains-push_cases (take i order) (get_or order i 0) m (rw (take_more order i 0 l) at c)) [
-        | inl before ↦ (let e = k.each m us before u small in let w = slice_get_within known m us e in
-            slice_get-get_or (set known n new) m us (rw (length-set known n new) w) ∙ ap Some (get_or-set_other known n m new us other ∙ get_or_from_slice_get known m us us e))
-        | inr last ↦ absurd (other (sym last ∙ sym at))
-      ]
-    ];
-  }

@@ -7,8 +7,9 @@ pub mod Ordering
 pub mod Cycling
 pub mod Finding
 pub mod Knowing
-pub mod Productions
+pub mod Producing
 pub mod Ranges
 pub mod Same
 pub mod Sentences
-pub mod Sourcing
+pub mod OriginOrder
+pub mod Lasting

@@ -13,22 +13,23 @@ use Rattle.mh_expand.specs.declared.instances.InstanceProduction.{InstanceProduc
 use Rattle.mh_expand.specs.declared.instances.Instance.{Instance}
 use Rattle.mh_expand.specs.declared.instances.Expanded.{Expanded}
 use Rattle.mh_inline.specs.declared.unfoldings.Unfolding.{Unfolding}
-use Rattle.mh_inline.specs.declared.sources.Source.{Source}
+use Rattle.mh_inline.specs.declared.origins.Origin.{Origin}
 use Rattle.mh_inline.specs.declared.sizes.Size.{Size}
 use Rattle.mh_inline.specs.declared.sizes.Sizing.{Sizing}
 use Rattle.mh_inline.specs.Instances.{IsAlternative}
 use Rattle.mh_expand.specs.Ready.{IsExpandedReady}
 use Rattle.mh_inline.specs.Unfoldings.{own, Unfolds}
 use Rattle.mh_inline.specs.Sizes.{longest, AreSmall, AreAllSized, IsSizing, IsWithin}
-use Rattle.mh_inline.specs.Known.{Knows, IsSourceKnown}
+use Rattle.mh_inline.specs.Known.{IsOriginKnown}
+use Rattle.mh_inline.specs.Uses.{KnowsUsed}
 use Rattle.mh_inline.specs.Inlined as inlined
-use Rattle.mh_inline.specs.Inlined.{is_kept, nonterminal_of, number_of, symbol_of, production_of, IsSource, AreSources, AreProductions, IsInlined}
-use Rattle.mh_inline.specs.Making.{longest_side, IsSourcesSize, AreSourcesSmall}
+use Rattle.mh_inline.specs.Inlined.{is_kept, nonterminal_of, number_of, symbol_of, production_of, IsOrigin, AreOrigins, AreProductions, IsInlined}
+use Rattle.mh_inline.specs.Making.{longest_side, IsOriginsSize, AreOriginsSmall}
 use Rattle.mh_inline.specs.Faults.{IsSmall, IsOver}
 use Rattle.mh_inline.proofs.Choices.{append_same}
 use Rattle.mh_inline.proofs.Same.{unfolds_same, small_part}
 use Rattle.mh_inline.proofs.Building.{some_ready}
-use Rattle.mh_inline.proofs.Productions.{longest_side-append, longest_side-made}
+use Rattle.mh_inline.proofs.Producing.{longest_side-append, longest_side-made}
 
 pub alternative_same : (is : List Instance) (n k : ℕ) (p q : InstanceProduction) → IsAlternative is n k p → IsAlternative is n k q → p ≡ q
 alternative_same is n k p q a b =
@@ -37,16 +38,16 @@ alternative_same is n k p q a b =
 
 module _ (tokens : List TokenInfo) (is : List Instance) where
   -- the productions are determined
-  pub made_same : (sources : List Source) (ps qs : List Production) → AreProductions tokens is sources ps → AreProductions tokens is sources qs → ps ≡ qs
-  made_same sources ps qs inlined.AreProductions.none inlined.AreProductions.none = refl
-  made_same sources ps qs (inlined.AreProductions.more {s = s} {p = p} {us = us} a f e r) (inlined.AreProductions.more {p = q} {us = vs} a' f' e' r') =
+  pub made_same : (origins : List Origin) (ps qs : List Production) → AreProductions tokens is origins ps → AreProductions tokens is origins qs → ps ≡ qs
+  made_same origins ps qs inlined.AreProductions.none inlined.AreProductions.none = refl
+  made_same origins ps qs (inlined.AreProductions.more {s = s} {p = p} {us = us} a f e r) (inlined.AreProductions.more {p = q} {us = vs} a' f' e' r') =
       let one = alternative_same is s.instance s.alternative p q a a' in
       let again : Unfolds is p.rhs vs = subst (λ (x : InstanceProduction). Unfolds is x.rhs vs) (sym one) f' in
       let same : us ≡ vs = unfolds_same is p.rhs us vs f again in
       e ∙ append_same _ _ _ _ (λ i. map (λ u. production_of tokens is s.instance (own (one i).prec u)) (same i)) (made_same _ _ _ r r') ∙ sym e'
 
-  -- what a source has
-  pub record HasUnfoldings (s : Source) (ps : List Production) : Type 0 where
+  -- what an origin has
+  pub record HasUnfoldings (s : Origin) (ps : List Production) : Type 0 where
     pub production : InstanceProduction
     pub alternative : IsAlternative is s.instance s.alternative production
     pub unfoldings : List Unfolding
@@ -54,31 +55,31 @@ module _ (tokens : List TokenInfo) (is : List Instance) where
     pub few : length unfoldings ≤ length ps
     pub short : longest unfoldings ≤ longest_side ps
 
-  pub source_unfoldings : (sources : List Source) (ps : List Production) → AreProductions tokens is sources ps → (j : ℕ) (s : Source) → slice_get sources j ≡ Some s → HasUnfoldings s ps
-  source_unfoldings sources ps inlined.AreProductions.none j s at = absurd (none-some s at)
-  source_unfoldings sources ps (inlined.AreProductions.more {s = t} {p = p} {us = us} {ps = rest} a f e r) zero s at =
+  pub origin_unfoldings : (origins : List Origin) (ps : List Production) → AreProductions tokens is origins ps → (j : ℕ) (s : Origin) → slice_get origins j ≡ Some s → HasUnfoldings s ps
+  origin_unfoldings origins ps inlined.AreProductions.none j s at = absurd (none-some s at)
+  origin_unfoldings origins ps (inlined.AreProductions.more {s = t} {p = p} {us = us} {ps = rest} a f e r) zero s at =
       let one : t ≡ s = same_Some t s at in
       let len = ap length e ∙ length-append (map (λ u. production_of tokens is t.instance (own p.prec u)) us) rest in
       let same = length-map us (λ u. production_of tokens is t.instance (own p.prec u)) in
       let long = ap longest_side e ∙ longest_side-append tokens is (map (λ u. production_of tokens is t.instance (own p.prec u)) us) rest in
       let long' = longest_side-made tokens is t.instance p.prec us in
-      record { production = p; alternative = subst (λ (x : Source). IsAlternative is x.instance x.alternative p) one a; unfoldings = us; unfolds = f; few = omega arith; short = omega arith }
-  source_unfoldings sources ps (inlined.AreProductions.more {s = t} {p = p} {us = us} {ps = rest} a f e r) (suc j) s at =
-      let h = source_unfoldings _ rest r j s at in
+      record { production = p; alternative = subst (λ (x : Origin). IsAlternative is x.instance x.alternative p) one a; unfoldings = us; unfolds = f; few = omega arith; short = omega arith }
+  origin_unfoldings origins ps (inlined.AreProductions.more {s = t} {p = p} {us = us} {ps = rest} a f e r) (suc j) s at =
+      let h = origin_unfoldings _ rest r j s at in
       let len = ap length e ∙ length-append (map (λ u. production_of tokens is t.instance (own p.prec u)) us) rest in
       let long = ap longest_side e ∙ longest_side-append tokens is (map (λ u. production_of tokens is t.instance (own p.prec u)) us) rest in
       let few = h.few in
       let short = h.short in
       record { production = h.production; alternative = h.alternative; unfoldings = h.unfoldings; unfolds = h.unfolds; few = omega arith; short = omega arith }
 
-pub all_sources : (is : List Instance) (sources : List Source) → AreSources is sources → All (IsSource is) sources
-all_sources is sources a k d l = (a.exact (get_or sources k d)).0 (Contains-get_or sources k d l)
+pub all_origins : (is : List Instance) (origins : List Origin) → AreOrigins is origins → All (IsOrigin is) origins
+all_origins is origins a k d l = (a.exact (get_or origins k d)).0 (Contains-get_or origins k d l)
 
--- the inline producers of the sources are known
-pub sources_known : (e : Expanded) (s : Sizing) (known : List (List Unfolding)) (sources : List Source) → IsExpandedReady e → IsSizing e.instances s → AreAllSized e.instances s.sizes.items → Knows e.instances s.order.items known → AreSourcesSmall e.tokens e.instances sources → All (IsSourceKnown e.instances known) sources
-sources_known e s known sources ready z all k small i d l =
-    let x = get_or sources i d in
-    let h = source_unfoldings e.tokens e.instances sources small.productions small.made i x (slice_get-get_or sources i d l) in
+-- the inline producers of the origins are known
+pub origins_known : (e : Expanded) (s : Sizing) (known : List (List Unfolding)) (origins : List Origin) → IsExpandedReady e → IsSizing e.instances s → AreAllSized e.instances s.sizes.items → KnowsUsed e.instances s.order.items known → All (IsOrigin e.instances) origins → AreOriginsSmall e.tokens e.instances origins → All (IsOriginKnown e.instances known) origins
+origins_known e s known origins ready z all k right_ small i d l =
+    let x = get_or origins i d in
+    let h = origin_unfoldings e.tokens e.instances origins small.productions small.made i x (slice_get-get_or origins i d l) in
     let few = h.few in
     let short = h.short in
     let few' = small.few in
@@ -94,7 +95,7 @@ sources_known e s known sources ready z all k small i d l =
                 let right = z.right.sound m size.0 size.1 in
                 let listed = z.listed m size.0 size.1 in
                 let part_small = small_part e.instances (some_ready e ready) p.rhs h.unfoldings f within j (Applied m) right.unfoldings at right.unfolds in
-                record { unfoldings = right.unfoldings; unfolds = right.unfolds; at = k.each m right.unfoldings listed right.unfolds part_small };
+                record { unfoldings = right.unfoldings; unfolds = right.unfolds; at = k.each m right.unfoldings (record { user = x.instance; kept = (right_ i d l).kept; made = record { place = x.alternative; production = p; alternative = a; among = record { producer = j; at = at; used = inline } } }) listed right.unfolds part_small };
           };
     }
 
@@ -111,17 +112,17 @@ any_long n (p ∷ ps) l = elim (cases_lt n (length p.rhs)) [
   | inr short ↦ (let a = any_long n ps (omega arith) in let w = a.2 in (suc a.0, a.1, omega arith, a.3, a.4))
 ]
 
-pub small_grammar : (tokens : List TokenInfo) (is : List Instance) (sources : List Source) (g : Grammar) → AreSourcesSmall tokens is sources → AreProductions tokens is sources g.productions → IsSmall g
-small_grammar tokens is sources g s m =
-    let one = made_same tokens is sources s.productions g.productions s.made m in
+pub small_grammar : (tokens : List TokenInfo) (is : List Instance) (origins : List Origin) (g : Grammar) → AreOriginsSmall tokens is origins → AreProductions tokens is origins g.productions → IsSmall g
+small_grammar tokens is origins g s m =
+    let one = made_same tokens is origins s.productions g.productions s.made m in
     let few = s.few in
     let short = s.short in
     let len = ap length one in
     let long = ap longest_side one in
     record { few = omega arith; short = all_short 10000 g.productions (omega arith) }
 
-pub small_sources : (tokens : List TokenInfo) (is : List Instance) (sources : List Source) (z : Size) → IsSourcesSize tokens is sources z → IsWithin (Some z) → AreSourcesSmall tokens is sources
-small_sources tokens is sources z s w =
+pub small_origins : (tokens : List TokenInfo) (is : List Instance) (origins : List Origin) (z : Size) → IsOriginsSize tokens is origins z → IsWithin (Some z) → AreOriginsSmall tokens is origins
+small_origins tokens is origins z s w =
     let a = s.count in
     let b = s.longest in
     let l = w.0 in
@@ -131,13 +132,13 @@ small_sources tokens is sources z s w =
 grammar_with : Expanded → List Production → Grammar
 grammar_with e ps = record { tokens = e.tokens; nonterminals = map nonterminal_of (filter is_kept e.instances); productions = ps; starts = map (number_of e.instances) e.starts }
 
-pub over_sources : (e : Expanded) (sources : List Source) (z : Size) → AreSources e.instances sources → IsSourcesSize e.tokens e.instances sources z → (IsWithin (Some z) → ⊥) → (g : Grammar) × IsInlined e g × IsOver g
+pub over_origins : (e : Expanded) (origins : List Origin) (z : Size) → AreOrigins e.instances origins → IsOriginsSize e.tokens e.instances origins z → (IsWithin (Some z) → ⊥) → (g : Grammar) × IsInlined e g × IsOver g
 unfolding grammar_with
-over_sources e sources z o s w =
+over_origins e origins z o s w =
     let a = s.count in
     let b = s.longest in (
       grammar_with e s.productions,
-      record { tokens = refl; nonterminals = refl; starts = refl; sources = sources; ordered = o; productions = s.made },
+      record { tokens = refl; nonterminals = refl; starts = refl; origins = origins; ordered = o; productions = s.made },
       (elim (cases_lt 20000 (length s.productions)) [
         | inl many ↦ inl many
         | inr few ↦ elim (cases_lt 10000 (longest_side s.productions)) [

@@ -14,14 +14,14 @@ use Rattle.mh_expand.specs.declared.instances.Expanded.{Expanded}
 use Rattle.mh_expand.specs.declared.instances.Instance.{Instance}
 use Rattle.mh_inline.specs.declared.fault.InlineFault.{InlineFault}
 use Rattle.mh_inline.specs.declared.fault.InlineFault.TheVariants.{InlineCycle, InlineStart, TooManyProductions, EmptyLanguage, Memory}
-use Rattle.mh_inline.specs.declared.sources.Source.{Source}
+use Rattle.mh_inline.specs.declared.origins.Origin.{Origin}
 use Rattle.mh_inline.specs.Instances.{is_inlined}
-use Rattle.mh_inline.specs.Inlined.{number_of, IsSourceBefore, AreProductions, IsInlined}
+use Rattle.mh_inline.specs.Inlined.{number_of, IsOriginBefore, AreProductions, IsInlined}
 use Rattle.mh_inline.specs.Faults.{HasNoInlineStart, IsFault, IsFirstCyclicAt, IsFirstInlineStartAt, IsFirstEmptyAt, IsGrammarOf, IsNamed, IsNoMemory, IsOver, IsSmall}
-use Rattle.mh_inline.proofs.Sourcing.{contains_here, contains_there, contains_cases, contains_none}
+use Rattle.mh_inline.proofs.OriginOrder.{contains_here, contains_there, contains_cases, contains_none}
 use Rattle.mh_inline.proofs.Limits.{made_same}
 
-before_once : (x y : Source) → IsSourceBefore x y → IsSourceBefore y x → ⊥
+before_once : (x y : Origin) → IsOriginBefore x y → IsOriginBefore y x → ⊥
 before_once x y (inl a) (inl b) = omega arith
 before_once x y (inl a) (inr b) = let e = b.0 in omega arith
 before_once x y (inr a) (inl b) = let e = a.0 in omega arith
@@ -33,21 +33,21 @@ before_once x y (inr (e, inr (f, inl a))) (inr (g, inr (h, inr b))) = let k = b.
 before_once x y (inr (e, inr (f, inr a))) (inr (g, inr (h, inl b))) = let k = a.0 in omega arith
 before_once x y (inr (e, inr (f, inr a))) (inr (g, inr (h, inr b))) = let k = a.1 in let l = b.1 in omega arith
 
-before_all : (x : Source) (xs : List Source) (y : Source) → AllByRecursion (IsSourceBefore x) xs → Contains xs y → IsSourceBefore x y
-before_all x xs y a c = All-contains (IsSourceBefore x) xs y (All-from_recursion (IsSourceBefore x) xs a) c
+before_all : (x : Origin) (xs : List Origin) (y : Origin) → AllByRecursion (IsOriginBefore x) xs → Contains xs y → IsOriginBefore x y
+before_all x xs y a c = All-contains (IsOriginBefore x) xs y (All-from_recursion (IsOriginBefore x) xs a) c
 
 -- what stands behind the first
-rest_of : (x y : Source) (xs ys : List Source) → x ≡ y → AllByRecursion (IsSourceBefore x) xs → (z : Source) → Contains xs z → Contains (y ∷ ys) z → Contains ys z
+rest_of : (x y : Origin) (xs ys : List Origin) → x ≡ y → AllByRecursion (IsOriginBefore x) xs → (z : Origin) → Contains xs z → Contains (y ∷ ys) z → Contains ys z
 rest_of x y xs ys e a z c d = elim (contains_cases y ys z d) [
-  | inl f ↦ absurd (let b = before_all x xs z a c in let same : z ≡ x = sym f ∙ sym e in let b' = subst (IsSourceBefore x) same b in before_once x x b' b')
+  | inl f ↦ absurd (let b = before_all x xs z a c in let same : z ≡ x = sym f ∙ sym e in let b' = subst (IsOriginBefore x) same b in before_once x x b' b')
   | inr f ↦ f
 ]
 
-sources_same : (xs ys : List Source) → IsRising IsSourceBefore xs → IsRising IsSourceBefore ys → ((x : Source) → Contains xs x → Contains ys x) → ((x : Source) → Contains ys x → Contains xs x) → xs ≡ ys
-sources_same [] [] r s h k = refl
-sources_same [] (y ∷ ys) r s h k = absurd (contains_none y (k y (contains_here y ys)))
-sources_same (x ∷ xs) [] r s h k = absurd (contains_none x (h x (contains_here x xs)))
-sources_same (x ∷ xs) (y ∷ ys) r s h k =
+origins_same : (xs ys : List Origin) → IsRising IsOriginBefore xs → IsRising IsOriginBefore ys → ((x : Origin) → Contains xs x → Contains ys x) → ((x : Origin) → Contains ys x → Contains xs x) → xs ≡ ys
+origins_same [] [] r s h k = refl
+origins_same [] (y ∷ ys) r s h k = absurd (contains_none y (k y (contains_here y ys)))
+origins_same (x ∷ xs) [] r s h k = absurd (contains_none x (h x (contains_here x xs)))
+origins_same (x ∷ xs) (y ∷ ys) r s h k =
     let same : x ≡ y = elim (contains_cases y ys x (h x (contains_here x xs))) [
       | inl e ↦ sym e
       | inr c ↦ elim (contains_cases x xs y (k y (contains_here y ys))) [
@@ -55,7 +55,7 @@ sources_same (x ∷ xs) (y ∷ ys) r s h k =
         | inr d ↦ absurd (before_once x y (before_all x xs y r.0 d) (before_all y ys x s.0 c))
       ]
     ] in
-    let rest = sources_same xs ys r.1 s.1
+    let rest = origins_same xs ys r.1 s.1
     (λ z c. rest_of x y xs ys same r.0 z c (h z (contains_there x xs z c)))
     (λ z c. rest_of y x ys xs (sym same) s.0 z c (k z (contains_there y ys z c))) in
     λ i. same i ∷ rest i
@@ -66,9 +66,9 @@ grammar_same g h a b c d = λ i. record { tokens = a i; nonterminals = b i; prod
 module _ (e : Expanded) where
   pub one_grammar : (g h : Grammar) → IsInlined e g → IsInlined e h → g ≡ h
   one_grammar g h i j =
-      let sources = sources_same i.sources j.sources i.ordered.rising j.ordered.rising (λ x c. (j.ordered.exact x).1 ((i.ordered.exact x).0 c)) (λ x c. (i.ordered.exact x).1 ((j.ordered.exact x).0 c)) in
-      let again = subst (λ xs. AreProductions e.tokens e.instances xs h.productions) (sym sources) j.productions in
-      grammar_same g h (i.tokens ∙ sym j.tokens) (i.nonterminals ∙ sym j.nonterminals) (made_same e.tokens e.instances i.sources g.productions h.productions i.productions again) (i.starts ∙ sym j.starts)
+      let origins = origins_same i.origins j.origins i.ordered.rising j.ordered.rising (λ x c. (j.ordered.exact x).1 ((i.ordered.exact x).0 c)) (λ x c. (i.ordered.exact x).1 ((j.ordered.exact x).0 c)) in
+      let again = subst (λ xs. AreProductions e.tokens e.instances xs h.productions) (sym origins) j.productions in
+      grammar_same g h (i.tokens ∙ sym j.tokens) (i.nonterminals ∙ sym j.nonterminals) (made_same e.tokens e.instances i.origins g.productions h.productions i.productions again) (i.starts ∙ sym j.starts)
 
   small_not_over : (g : Grammar) → IsSmall g → IsOver g → ⊥
   small_not_over g s (inl o) = let f = s.few in omega arith

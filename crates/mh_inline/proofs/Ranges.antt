@@ -20,16 +20,16 @@ use Rattle.mh_expand.specs.declared.instances.InstanceProduction.{InstanceProduc
 use Rattle.mh_expand.specs.declared.instances.Instance.{Instance}
 use Rattle.mh_expand.specs.declared.instances.Expanded.{Expanded}
 use Rattle.mh_inline.specs.declared.unfoldings.Unfolding.{Unfolding}
-use Rattle.mh_inline.specs.declared.sources.Source.{Source}
+use Rattle.mh_inline.specs.declared.origins.Origin.{Origin}
 use Rattle.mh_inline.specs.Instances.{is_inlined, IsKept}
 use Rattle.mh_expand.specs.Ready.{IsPartBelow, IsExpandedReady}
 use Rattle.mh_inline.specs.Unfoldings as unfoldings
 use Rattle.mh_inline.specs.Unfoldings.{only, own, joined, choices, UnfoldsPart, Unfolds, UnfoldsEach}
 use Rattle.mh_inline.specs.Inlined as inlined
-use Rattle.mh_inline.specs.Inlined.{is_kept, nonterminal_of, number_of, symbol_of, production_of, IsSource, AreSources, AreProductions, IsInlined}
+use Rattle.mh_inline.specs.Inlined.{is_kept, nonterminal_of, number_of, symbol_of, production_of, IsOrigin, AreOrigins, AreProductions, IsInlined}
 use Rattle.mh_inline.specs.Faults.{HasEmptyStart, HasNoCycle, HasNoInlineStart, IsFirstUnmarked, IsSmall}
-use Rattle.mh_inline.proofs.Productions.{AreBelow, below_ready}
-use Rattle.mh_inline.proofs.Sourcing.{contains_here, contains_there}
+use Rattle.mh_inline.proofs.Producing.{AreBelow, below_ready}
+use Rattle.mh_inline.proofs.OriginOrder.{contains_here, contains_there}
 use Rattle.mh_inline.proofs.Cycling.{numbers, length-numbers, numbers_at}
 
 -- an instance that is not inline, by its number
@@ -121,9 +121,9 @@ module _ (t : ℕ) (is : List Instance) (b : AreBelow t is) where
     rhs = All-map (IsSymbolBelow t Count) (symbol_of is) u.rhs (All-weaker (IsGood t is) (λ X. IsSymbolBelow t Count (symbol_of is X)) symbol_below u.rhs h);
   }) us g)
 
-  pub productions_below : (tokens : List TokenInfo) (sources : List Source) (ps : List Production) → AreProductions tokens is sources ps → ((s : Source) → Contains sources s → IsSource is s) → All (IsProductionBelow t Count) ps
-  productions_below tokens sources ps inlined.AreProductions.none h = All-nil (IsProductionBelow t Count)
-  productions_below tokens sources ps (inlined.AreProductions.more {s = s} {sources = rest} {p = p} {us = us} {ps = qs} a f e r) h =
+  pub productions_below : (tokens : List TokenInfo) (origins : List Origin) (ps : List Production) → AreProductions tokens is origins ps → ((s : Origin) → Contains origins s → IsOrigin is s) → All (IsProductionBelow t Count) ps
+  productions_below tokens origins ps inlined.AreProductions.none h = All-nil (IsProductionBelow t Count)
+  productions_below tokens origins ps (inlined.AreProductions.more {s = s} {origins = rest} {p = p} {us = us} {ps = qs} a f e r) h =
       let one = h s (contains_here s rest) in
       let k : IsNonterminal is s.instance = record { kept = one.kept; within = slice_get_within is s.instance a.instance a.at } in
       subst (All (IsProductionBelow t Count)) (sym e) (All-append (IsProductionBelow t Count) _ qs (made_below tokens s.instance p.prec us k (side_good p.rhs us f (b.each s.instance s.alternative p a))) (productions_below tokens rest qs r (λ x c. h x (contains_there s rest x c))))
@@ -196,7 +196,7 @@ module _ (e : Expanded) (ready : IsExpandedReady e) (kept : HasNoInlineStart e) 
       let f = s.few in
       record {
         productions = subst (λ n. All (IsProductionBelow n (length g.nonterminals)) g.productions) (sym tokens) (subst (λ n. All (IsProductionBelow (length e.tokens) n) g.productions) (sym nonterminals)
-            (productions_below (length e.tokens) e.instances (below_ready e ready) e.tokens i.sources g.productions i.productions (λ x c. (i.ordered.exact x).0 c)));
+            (productions_below (length e.tokens) e.instances (below_ready e ready) e.tokens i.origins g.productions i.productions (λ x c. (i.ordered.exact x).0 c)));
         starts = subst (λ n. All (λ x. x < n) g.starts) (sym nonterminals) (All-same (λ x. x < length (map nonterminal_of (filter is_kept e.instances))) g.starts (map (number_of e.instances) e.starts) i.starts starts_below);
         tokens = omega arith;
         nonterminals = omega arith;

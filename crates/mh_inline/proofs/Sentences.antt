@@ -20,19 +20,19 @@ use Rattle.mh_expand.specs.declared.instances.InstanceProduction.{InstanceProduc
 use Rattle.mh_expand.specs.declared.instances.Instance.{Instance}
 use Rattle.mh_expand.specs.declared.instances.Expanded.{Expanded}
 use Rattle.mh_inline.specs.declared.unfoldings.Unfolding.{Unfolding}
-use Rattle.mh_inline.specs.declared.sources.Source.{Source}
+use Rattle.mh_inline.specs.declared.origins.Origin.{Origin}
 use Rattle.mh_inline.specs.Instances.{is_inlined, IsAlternative, IsKept}
 use Rattle.mh_expand.specs.Ready.{IsExpandedReady}
 use Rattle.mh_inline.specs.Unfoldings as unfoldings
 use Rattle.mh_inline.specs.Unfoldings.{only, own, joined, choices, UnfoldsPart, Unfolds, UnfoldsEach}
 use Rattle.mh_inline.specs.Inlined as inlined
-use Rattle.mh_inline.specs.Inlined.{number_of, symbol_of, production_of, rank_of, IsSource, AreSources, AreProductions, IsInlined}
+use Rattle.mh_inline.specs.Inlined.{number_of, symbol_of, production_of, rank_of, IsOrigin, AreOrigins, AreProductions, IsInlined}
 use Rattle.mh_expand.specs.Sentences.{IsTokenPart, PartProduces}
 use Rattle.mh_inline.specs.Sentences.{KeepsSentences}
 use Rattle.mh_inline.specs.Faults.{HasNoInlineStart}
-use Rattle.mh_inline.proofs.Sourcing.{contains_here, contains_there, contains_cases, contains_none}
+use Rattle.mh_inline.proofs.OriginOrder.{contains_here, contains_there, contains_cases, contains_none}
 use Rattle.mh_inline.proofs.Limits.{alternative_same}
-use Rattle.mh_inline.proofs.Productions.{below_ready}
+use Rattle.mh_inline.proofs.Producing.{below_ready}
 use Rattle.mh_inline.proofs.Ranges.{IsNonterminal, IsGood, number_apart, side_good, start_at, start_nonterminal}
 
 -- MEMBERS
@@ -162,25 +162,25 @@ module _ (is : List Instance) where
 -- THE PRODUCTIONS OF THE GRAMMAR
 
 module _ (tokens : List TokenInfo) (is : List Instance) where
-  -- those of a source
-  record FromSource (s : Source) (ps : List Production) : Type 0 where
+  -- those of an origin
+  record FromOrigin (s : Origin) (ps : List Production) : Type 0 where
     production : InstanceProduction
     alternative : IsAlternative is s.instance s.alternative production
     unfoldings : List Unfolding
     unfolds : Unfolds is production.rhs unfoldings
     made : (u : Unfolding) → Contains unfoldings u → Contains ps (production_of tokens is s.instance (own production.prec u))
 
-  from_source : (sources : List Source) (ps : List Production) → AreProductions tokens is sources ps → (s : Source) → Contains sources s → FromSource s ps
-  from_source sources ps inlined.AreProductions.none s c = absurd (contains_none s c)
-  from_source sources ps (inlined.AreProductions.more {s = t} {sources = rest} {p = p} {us = us} {ps = qs} a f e r) s c = elim (contains_cases t rest s c) [
-    | inl same ↦ subst (λ (x : Source). FromSource x ps) same (record {
+  from_origin : (origins : List Origin) (ps : List Production) → AreProductions tokens is origins ps → (s : Origin) → Contains origins s → FromOrigin s ps
+  from_origin origins ps inlined.AreProductions.none s c = absurd (contains_none s c)
+  from_origin origins ps (inlined.AreProductions.more {s = t} {origins = rest} {p = p} {us = us} {ps = qs} a f e r) s c = elim (contains_cases t rest s c) [
+    | inl same ↦ subst (λ (x : Origin). FromOrigin x ps) same (record {
       production = p;
       alternative = a;
       unfoldings = us;
       unfolds = f;
       made = λ u d. rw e (Contains-append_left (map (λ x. production_of tokens is t.instance (own p.prec x)) us) qs (production_of tokens is t.instance (own p.prec u)) (contains_map (λ x. production_of tokens is t.instance (own p.prec x)) us u d));
     })
-    | inr d ↦ (let h = from_source rest qs r s d in record {
+    | inr d ↦ (let h = from_origin rest qs r s d in record {
       production = h.production;
       alternative = h.alternative;
       unfoldings = h.unfoldings;
@@ -190,22 +190,22 @@ module _ (tokens : List TokenInfo) (is : List Instance) where
   ]
 
   -- where a production comes from
-  record Origin (sources : List Source) (q : Production) : Type 0 where
-    source : Source
-    among : Contains sources source
+  record Provenance (origins : List Origin) (q : Production) : Type 0 where
+    origin : Origin
+    among : Contains origins origin
     production : InstanceProduction
-    alternative : IsAlternative is source.instance source.alternative production
+    alternative : IsAlternative is origin.instance origin.alternative production
     unfoldings : List Unfolding
     unfolds : Unfolds is production.rhs unfoldings
     unfolding_ : Unfolding
     chosen : Contains unfoldings unfolding_
-    made : production_of tokens is source.instance (own production.prec unfolding_) ≡ q
+    made : production_of tokens is origin.instance (own production.prec unfolding_) ≡ q
 
-  origin : (sources : List Source) (ps : List Production) → AreProductions tokens is sources ps → (q : Production) → Contains ps q → Origin sources q
-  origin sources ps inlined.AreProductions.none q c = absurd (contains_none q c)
-  origin sources ps (inlined.AreProductions.more {s = t} {sources = rest} {p = p} {us = us} {ps = qs} a f e r) q c = elim (Contains-append_cases (map (λ x. production_of tokens is t.instance (own p.prec x)) us) qs q (rw e at c)) [
-    | inl d ↦ (let m = map_contains (λ x. production_of tokens is t.instance (own p.prec x)) us q d in record { source = t; among = contains_here t rest; production = p; alternative = a; unfoldings = us; unfolds = f; unfolding_ = m.0; chosen = m.1; made = m.2 })
-    | inr d ↦ (let o = origin rest qs r q d in record { source = o.source; among = contains_there t rest o.source o.among; production = o.production; alternative = o.alternative; unfoldings = o.unfoldings; unfolds = o.unfolds; unfolding_ = o.unfolding_; chosen = o.chosen; made = o.made })
+  provenance : (origins : List Origin) (ps : List Production) → AreProductions tokens is origins ps → (q : Production) → Contains ps q → Provenance origins q
+  provenance origins ps inlined.AreProductions.none q c = absurd (contains_none q c)
+  provenance origins ps (inlined.AreProductions.more {s = t} {origins = rest} {p = p} {us = us} {ps = qs} a f e r) q c = elim (Contains-append_cases (map (λ x. production_of tokens is t.instance (own p.prec x)) us) qs q (rw e at c)) [
+    | inl d ↦ (let m = map_contains (λ x. production_of tokens is t.instance (own p.prec x)) us q d in record { origin = t; among = contains_here t rest; production = p; alternative = a; unfoldings = us; unfolds = f; unfolding_ = m.0; chosen = m.1; made = m.2 })
+    | inr d ↦ (let o = provenance rest qs r q d in record { origin = o.origin; among = contains_there t rest o.origin o.among; production = o.production; alternative = o.alternative; unfoldings = o.unfoldings; unfolds = o.unfolds; unfolding_ = o.unfolding_; chosen = o.chosen; made = o.made })
   ]
 
 module _ (e : Expanded) (ready : IsExpandedReady e) (g : Grammar) (i : IsInlined e g) where
@@ -215,9 +215,9 @@ module _ (e : Expanded) (ready : IsExpandedReady e) (g : Grammar) (i : IsInlined
   -- an alternative of a nonterminal has its unfoldings among the productions
   of_alternative : (n k : ℕ) (p : InstanceProduction) → is_inlined is n ≡ false → IsAlternative is n k p → (us : List Unfolding) × Unfolds is p.rhs us × ((u : Unfolding) → Contains us u → Contains g.productions (production_of e.tokens is n (own p.prec u)))
   of_alternative n k p kept a =
-      let s : Source = record { rank = rank_of p.file; place = p.place; instance = n; alternative = k } in
+      let s : Origin = record { rank = rank_of p.file; place = p.place; instance = n; alternative = k } in
       let c = (i.ordered.exact s).1 (record { kept = kept; production = p; alternative = a; rank = refl; place = refl }) in
-      let h = from_source e.tokens is i.sources g.productions i.productions s c in
+      let h = from_origin e.tokens is i.origins g.productions i.productions s c in
       let one = alternative_same is n k h.production p h.alternative a in (
         h.unfoldings,
         subst (λ (q : InstanceProduction). Unfolds is q.rhs h.unfoldings) one h.unfolds,
@@ -315,21 +315,21 @@ module _ (e : Expanded) (ready : IsExpandedReady e) (g : Grammar) (i : IsInlined
   made_from : (n : ℕ) (rhs : List Symbol) → good (Applied n) → Produces (plain_of g) (N (number_of is n)) rhs → MadeFrom n rhs
   made_from n rhs h p =
       let l = listed_from_for (plain_of g) (number_of is n) p.0 p.1 in
-      let o = origin e.tokens is i.sources g.productions i.productions l.production (contains_at g.productions l.place l.production l.at) in
-      let source = (i.ordered.exact o.source).0 o.among in
-      let other : IsNonterminal is o.source.instance = record { kept = source.kept; within = slice_get_within is o.source.instance o.alternative.instance o.alternative.at } in
-      let one : o.source.instance ≡ n = number_apart is o.source.instance n other (nonterminal_of_good n h) (ap (λ (q : Production). q.lhs) o.made ∙ l.lhs) in
+      let o = provenance e.tokens is i.origins g.productions i.productions l.production (contains_at g.productions l.place l.production l.at) in
+      let origin = (i.ordered.exact o.origin).0 o.among in
+      let other : IsNonterminal is o.origin.instance = record { kept = origin.kept; within = slice_get_within is o.origin.instance o.alternative.instance o.alternative.at } in
+      let one : o.origin.instance ≡ n = number_apart is o.origin.instance n other (nonterminal_of_good n h) (ap (λ (q : Production). q.lhs) o.made ∙ l.lhs) in
       let b = below_ready e ready in
       record {
-        place = o.source.alternative;
+        place = o.origin.alternative;
         production = o.production;
-        alternative = subst (λ m. IsAlternative is m o.source.alternative o.production) one o.alternative;
+        alternative = subst (λ m. IsAlternative is m o.origin.alternative o.production) one o.alternative;
         unfoldings = o.unfoldings;
         unfolds = o.unfolds;
         unfolding_ = o.unfolding_;
         chosen = o.chosen;
         side = ap (λ (q : Production). q.rhs) o.made ∙ sym l.rhs ∙ p.2;
-        good_side = All-contains (λ u. All good u.rhs) o.unfoldings o.unfolding_ (side_good (length e.tokens) is b o.production.rhs o.unfoldings o.unfolds (b.each o.source.instance o.source.alternative o.production o.alternative)) o.chosen;
+        good_side = All-contains (λ u. All good u.rhs) o.unfoldings o.unfolding_ (side_good (length e.tokens) is b o.production.rhs o.unfoldings o.unfolds (b.each o.origin.instance o.origin.alternative o.production o.alternative)) o.chosen;
       }
 
   node_back : (X : Part) (S : Symbol) (rhs : List Symbol) (w : List ℕ) → good X → symbol_of is X ≡ S → Produces (plain_of g) S rhs → ((Xs : List Part) → All good Xs → map (symbol_of is) Xs ≡ rhs → PartsDerive e Xs w) → PartDerives e X w

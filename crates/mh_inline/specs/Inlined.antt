@@ -18,7 +18,7 @@ use Rattle.mh_expand.specs.declared.instances.InstanceProduction.{InstanceProduc
 use Rattle.mh_expand.specs.declared.instances.Instance.{Instance}
 use Rattle.mh_expand.specs.declared.instances.Expanded.{Expanded}
 use Rattle.mh_inline.specs.declared.unfoldings.Unfolding.{Unfolding}
-use Rattle.mh_inline.specs.declared.sources.Source.{Source}
+use Rattle.mh_inline.specs.declared.origins.Origin.{Origin}
 use Rattle.mh_inline.specs.Instances.{is_inlined, IsAlternative}
 use Rattle.mh_inline.specs.Unfoldings.{own, Unfolds}
 
@@ -63,7 +63,7 @@ rank_of zero = 2 ^ 64 - 1
 rank_of (suc k) = k
 
 -- an alternative of an instance that is not inline, with the rank of its file and its place there
-pub record IsSource (is : List Instance) (s : Source) : Type 0 where
+pub record IsOrigin (is : List Instance) (s : Origin) : Type 0 where
   pub kept : is_inlined is s.instance ≡ false
   pub production : InstanceProduction
   pub alternative : IsAlternative is s.instance s.alternative production
@@ -71,22 +71,22 @@ pub record IsSource (is : List Instance) (s : Source) : Type 0 where
   pub place : s.place ≡ production.place
 
 -- by file, place there, instance, and place among the alternatives of the instance
-abbrev pub IsSourceBefore : Source → Source → Type 0
-IsSourceBefore s t = (s.rank < t.rank) ⊎ ((s.rank ≡ t.rank) × ((s.place < t.place) ⊎ ((s.place ≡ t.place) × ((s.instance < t.instance) ⊎ ((s.instance ≡ t.instance) × (s.alternative < t.alternative))))))
+abbrev pub IsOriginBefore : Origin → Origin → Type 0
+IsOriginBefore s t = (s.rank < t.rank) ⊎ ((s.rank ≡ t.rank) × ((s.place < t.place) ⊎ ((s.place ≡ t.place) × ((s.instance < t.instance) ⊎ ((s.instance ≡ t.instance) × (s.alternative < t.alternative))))))
 
-pub record AreSources (is : List Instance) (sources : List Source) : Type 0 where
-  pub rising : IsRising IsSourceBefore sources
-  pub exact : (s : Source) → Contains sources s ↔ IsSource is s
+pub record AreOrigins (is : List Instance) (origins : List Origin) : Type 0 where
+  pub rising : IsRising IsOriginBefore origins
+  pub exact : (s : Origin) → Contains origins s ↔ IsOrigin is s
 
--- for each source in order the productions of its unfoldings, in their order
-pub data AreProductions (tokens : List TokenInfo) (is : List Instance) : List Source → List Production → Type 0 where
+-- for each origin in order the productions of its unfoldings, in their order
+pub data AreProductions (tokens : List TokenInfo) (is : List Instance) : List Origin → List Production → Type 0 where
   none : AreProductions tokens is [] []
-  more : {s : Source} {sources : List Source} {p : InstanceProduction} {us : List Unfolding} {ps qs : List Production} → IsAlternative is s.instance s.alternative p → Unfolds is p.rhs us → qs ≡ map (λ u. production_of tokens is s.instance (own p.prec u)) us ++ ps → AreProductions tokens is sources ps → AreProductions tokens is (s ∷ sources) qs
+  more : {s : Origin} {origins : List Origin} {p : InstanceProduction} {us : List Unfolding} {ps qs : List Production} → IsAlternative is s.instance s.alternative p → Unfolds is p.rhs us → qs ≡ map (λ u. production_of tokens is s.instance (own p.prec u)) us ++ ps → AreProductions tokens is origins ps → AreProductions tokens is (s ∷ origins) qs
 
 pub record IsInlined (e : Expanded) (g : Grammar) : Type 0 where
   pub tokens : g.tokens ≡ e.tokens
   pub nonterminals : g.nonterminals ≡ map nonterminal_of (filter is_kept e.instances)
   pub starts : g.starts ≡ map (number_of e.instances) e.starts
-  pub sources : List Source
-  pub ordered : AreSources e.instances sources
-  pub productions : AreProductions e.tokens e.instances sources g.productions
+  pub origins : List Origin
+  pub ordered : AreOrigins e.instances origins
+  pub productions : AreProductions e.tokens e.instances origins g.productions

@@ -7,7 +7,7 @@ use Rattle.mh_expand.specs.declared.instances.InstanceProduction.{InstanceProduc
 use Rattle.mh_expand.specs.declared.instances.Instance.{Instance}
 use Rattle.mh_inline.specs.declared.unfoldings.Unfolding.{Unfolding}
 use Rattle.mh_inline.specs.declared.sizes.Size.{Size}
-use Rattle.mh_inline.specs.declared.sources.Source.{Source}
+use Rattle.mh_inline.specs.declared.origins.Origin.{Origin}
 use Rattle.mh_inline.specs.Instances.{is_inlined, Inlines, IsAlternative}
 use Rattle.mh_inline.specs.Unfoldings.{choices, UnfoldsPart}
 use Rattle.mh_inline.specs.Sizes.{AreSmall, IsPartSize}
@@ -31,11 +31,6 @@ pub record Extends (is : List Instance) (X : Part) (old new : List Unfolding) : 
   pub unfolds : UnfoldsPart is X unfoldings
   pub same : new ≡ choices old unfoldings
 
--- those of some instances, where they are within the limits
-pub record Knows (is : List Instance) (numbers : List ℕ) (known : List (List Unfolding)) : Type 0 where
-  pub len : length known ≡ length is
-  pub each : (n : ℕ) (us : List Unfolding) → Contains numbers n → UnfoldsPart is (Applied n) us → AreSmall us → slice_get known n ≡ Some us
-
 -- an inline instance with a size, where those of the inline instances that it is made of are known
 pub record IsNext (is : List Instance) (sizes : List (Option Size)) (known : List (List Unfolding)) (n : ℕ) : Type 0 where
   pub inlined : is_inlined is n ≡ true
@@ -45,6 +40,6 @@ pub record IsNext (is : List Instance) (sizes : List (Option Size)) (known : Lis
   pub some : (m : ℕ) → Inlines is n m → (us : List Unfolding) × UnfoldsPart is (Applied m) us
   pub behind : (m : ℕ) (us : List Unfolding) → Inlines is n m → UnfoldsPart is (Applied m) us → AreSmall us → slice_get known m ≡ Some us
 
--- those of the inline ones in the alternative of a source
-pub record IsSourceKnown (is : List Instance) (known : List (List Unfolding)) (s : Source) : Type 0 where
+-- those of the inline ones in the alternative of an origin
+pub record IsOriginKnown (is : List Instance) (known : List (List Unfolding)) (s : Origin) : Type 0 where
   pub each : (p : InstanceProduction) → IsAlternative is s.instance s.alternative p → AreKnown is known p.rhs

@@ -7,3 +7,4 @@ pub mod Making
 pub mod Sentences
 pub mod Sizes
 pub mod Unfoldings
+pub mod Uses

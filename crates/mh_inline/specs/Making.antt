@@ -1,4 +1,4 @@
--- What the productions are made from: the numbers of instances, the sources so far, the size of what is made.
+-- What the productions are made from: the numbers of instances, the origins so far, the size of what is made.
 use Rattle.std.specs.Prelude.{◌≡◌, ◌<◌, ◌≤◌, ◌↔◌, ◌⊎◌, ℕ, List, [], ◌∷◌, ◌++◌, Option, Some, length, map, min, max, slice_index}
 use Rattle.std.specs.List.{All, Contains}
 use Rattle.mh_grammar.specs.declared.types.TokenInfo.{TokenInfo}
@@ -11,12 +11,12 @@ use Rattle.mh_expand.specs.declared.instances.Part.TheVariants.{Token, Instance 
 use Rattle.mh_expand.specs.declared.instances.Instance.{Instance}
 use Rattle.mh_expand.specs.declared.instances.InstanceProduction.{InstanceProduction}
 use Rattle.mh_inline.specs.declared.unfoldings.Unfolding.{Unfolding}
-use Rattle.mh_inline.specs.declared.sources.Source.{Source}
+use Rattle.mh_inline.specs.declared.origins.Origin.{Origin}
 use Rattle.mh_inline.specs.declared.sizes.Size.{Size}
 use Rattle.mh_inline.specs.Instances.{IsAlternative}
 use Rattle.mh_expand.specs.Ready.{IsPartBelow}
 use Rattle.mh_inline.specs.Unfoldings.{own, Unfolds}
-use Rattle.mh_inline.specs.Inlined.{number_of, level_of, production_of, IsSource, IsSourceBefore, AreProductions}
+use Rattle.mh_inline.specs.Inlined.{number_of, level_of, production_of, IsOrigin, IsOriginBefore, AreProductions}
 
 -- the number of each instance, as a list
 pub record AreNumbers (is : List Instance) (numbers : List ℕ) : Type 0 where
@@ -33,34 +33,34 @@ production_by tokens numbers lhs u = record { lhs = lhs; rhs = map (symbol_by nu
 abbrev pub IsUnfoldingBelow : ℕ → ℕ → Unfolding → Type 0
 IsUnfoldingBelow tokens instances u = All (IsPartBelow tokens instances) u.rhs
 
--- the sources of the instances before the n-th, and of its alternatives before the k-th
-abbrev pub IsBelow : ℕ → ℕ → Source → Type 0
+-- the origins of the instances before the n-th, and of its alternatives before the k-th
+abbrev pub IsBelow : ℕ → ℕ → Origin → Type 0
 IsBelow n k s = (s.instance < n) ⊎ ((s.instance ≡ n) × (s.alternative < k))
 
-pub record AreSourcesBelow (is : List Instance) (n k : ℕ) (sources : List Source) : Type 0 where
-  pub rising : IsRising IsSourceBefore sources
-  pub exact : (s : Source) → Contains sources s ↔ IsSource is s × IsBelow n k s
+pub record AreOriginsBelow (is : List Instance) (n k : ℕ) (origins : List Origin) : Type 0 where
+  pub rising : IsRising IsOriginBefore origins
+  pub exact : (s : Origin) → Contains origins s ↔ IsOrigin is s × IsBelow n k s
 
 -- the longest right side
 abbrev pub longest_side : List Production → ℕ
 longest_side [] = 0
 longest_side (p ∷ ps) = max (length p.rhs) (longest_side ps)
 
--- the size of the productions of some sources, exact up to one past the limits
-pub record IsSourcesSize (tokens : List TokenInfo) (is : List Instance) (sources : List Source) (z : Size) : Type 0 where
+-- the size of the productions of some origins, exact up to one past the limits
+pub record IsOriginsSize (tokens : List TokenInfo) (is : List Instance) (origins : List Origin) (z : Size) : Type 0 where
   pub productions : List Production
-  pub made : AreProductions tokens is sources productions
+  pub made : AreProductions tokens is origins productions
   pub count : z.count ≡ min (length productions) 20001
   pub longest : z.longest ≡ min (longest_side productions) 10001
 
-pub record AreSourcesSmall (tokens : List TokenInfo) (is : List Instance) (sources : List Source) : Type 0 where
+pub record AreOriginsSmall (tokens : List TokenInfo) (is : List Instance) (origins : List Origin) : Type 0 where
   pub productions : List Production
-  pub made : AreProductions tokens is sources productions
+  pub made : AreProductions tokens is origins productions
   pub few : length productions ≤ 20000
   pub short : longest_side productions ≤ 10000
 
--- the productions of a source behind others
-pub record AddsSource (tokens : List TokenInfo) (is : List Instance) (s : Source) (old new : List Production) : Type 0 where
+-- the productions of an origin behind others
+pub record AddsOrigin (tokens : List TokenInfo) (is : List Instance) (s : Origin) (old new : List Production) : Type 0 where
   pub production : InstanceProduction
   pub alternative : IsAlternative is s.instance s.alternative production
   pub unfoldings : List Unfolding

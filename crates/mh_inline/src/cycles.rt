@@ -19,7 +19,7 @@ pub struct Found {
     pub queue: Vec<usize>,
 }
 
-fn nothing_found(alloc: Global, count: usize) -> Result<Found, Memory>
+pub(crate) fn nothing_found(alloc: Global, count: usize) -> Result<Found, Memory>
     ensures flags { IfOk result (λ f. f.flags.items ≡ replicate count false) }
     ensures queue { IfOk result (λ f. f.queue.items ≡ []) }
 {
@@ -61,7 +61,7 @@ fn add_side(expanded: &Expanded, producers: &[Part], found: &mut Found) -> Resul
     Ok(())
 }
 
-fn add_each(
+fn add_alternatives(
     expanded: &Expanded,
     productions: &[InstanceProduction],
     found: &mut Found,
@@ -76,12 +76,16 @@ fn add_each(
 }
 
 /// Adds the inline instances that an instance is made of.
-fn add_inlined(expanded: &Expanded, number: usize, found: &mut Found) -> Result<(), Memory>
+pub(crate) fn add_inlined(
+    expanded: &Expanded,
+    number: usize,
+    found: &mut Found,
+) -> Result<(), Memory>
     requires table { IsTable expanded.now.instances found.old }
     requires number { number < length expanded.now.instances }
     ensures { OnOk result (Adds (IsMadeOf expanded.now.instances number) found.old found.new) }
 {
-    add_each(
+    add_alternatives(
         expanded,
         expanded.instances[number].productions.as_slice(),
         found,

@@ -1,6 +1,5 @@
 //! Why instances give no grammar.
 use mh_grammar::{Memory, Name};
-use std::alloc::{AllocError, AllocFailed};
 use thiserror::Error;
 
 /// The first fault of the instances, in the order of these variants.
@@ -30,17 +29,6 @@ impl From<Memory> for InlineFault {
     ghost from_gives = { λ _ e. e ≡ memory };
 
     fn from(_: Memory) -> InlineFault {
-        InlineFault::Memory
-    }
-}
-
-impl From<AllocError> for InlineFault {
-    ghost use Rattle.std.specs.Prelude.{◌≡◌};
-    ghost use Rattle.mh_inline.specs.declared.fault.InlineFault.TheVariants.{Memory as memory};
-
-    ghost from_gives = { λ _ e. e ≡ memory };
-
-    fn from(_: AllocError) -> InlineFault {
         InlineFault::Memory
     }
 }

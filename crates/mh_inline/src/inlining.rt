@@ -5,18 +5,18 @@ ghost use Rattle.mh_grammar.specs.Plain.{plain_of, IsInRange};
 ghost use Rattle.mh_grammar.specs.Numbering.{AreDistinct};
 ghost use Rattle.mh_expand.specs.Ready.{IsExpandedReady};
 ghost use Rattle.mh_inline.specs.Sizes.{AreAllSized, IsSizing};
-ghost use Rattle.mh_inline.specs.Inlined.{AreSources, IsInlined};
-ghost use Rattle.mh_inline.specs.Making.{AreSourcesSmall};
+ghost use Rattle.mh_inline.specs.Inlined.{AreOrigins, IsInlined};
+ghost use Rattle.mh_inline.specs.Making.{AreOriginsSmall};
 ghost use Rattle.mh_inline.specs.Faults.{HasEmptyStart, HasNoCycle, HasNoInlineStart, IsFault, IsFirstCyclicAt, IsFirstInlineStartAt, IsFirstUnmarked, IsGrammarOf, IsNamed, IsSmall};
 ghost use Rattle.mh_inline.specs.Sentences.{KeepsSentences};
 
 use crate::cycles::first_cyclic;
 use crate::fault::InlineFault;
-use crate::grammars::{productions_of, size_of_sources};
 use crate::instances::is_inline;
 use crate::nonterminals::{nonterminals_of, numbers_of, starts_of};
+use crate::origins::{Origin, origins_of};
+use crate::productions::{productions_of, size_of_origins};
 use crate::sizes::{Sizing, inline_sizes, is_small};
-use crate::sources::{Source, sources_of};
 use crate::unfoldings::unfold_inline;
 use mh_expand::Expanded;
 use mh_grammar::{Grammar, Memory, Name, Sequence, TokenInfo, productive};
@@ -98,19 +98,19 @@ fn grammar_of(
     alloc: Global,
     expanded: &Expanded,
     sizing: &Sizing,
-    sources: &[Source],
+    origins: &[Origin],
 ) -> Result<Grammar, Memory>
     requires ready { IsExpandedReady expanded.now }
     requires sizing { IsSizing expanded.now.instances sizing.now }
     requires sized { AreAllSized expanded.now.instances sizing.now.sizes.items }
-    requires sources { AreSources expanded.now.instances sources.now }
-    requires small { AreSourcesSmall expanded.now.tokens expanded.now.instances sources.now }
+    requires origins { AreOrigins expanded.now.instances origins.now }
+    requires small { AreOriginsSmall expanded.now.tokens expanded.now.instances origins.now }
     ensures inlined { IfOk result (IsInlined expanded.now) }
     ensures small { IfOk result IsSmall }
 {
     let known = unfold_inline(alloc, expanded, sizing)?;
     let numbers = numbers_of(alloc, expanded.instances.as_slice())?;
-    let productions = productions_of(alloc, expanded, &known, numbers.as_slice(), sources)?;
+    let productions = productions_of(alloc, expanded, &known, numbers.as_slice(), origins)?;
     let nonterminals = nonterminals_of(alloc, expanded.instances.as_slice())?;
     let starts = starts_of(alloc, expanded.starts.as_slice(), numbers.as_slice())?;
     Ok(Grammar {
@@ -148,12 +148,12 @@ fn inline_kept(alloc: Global, expanded: &Expanded, sizing: &Sizing) -> Result<Gr
     ensures grammar { IfOk result (IsGrammarOf expanded.now) }
     ensures fault { IfErr result (IsFault expanded.now) }
 {
-    let sources = sources_of(alloc, expanded)?;
-    let size = size_of_sources(expanded, sizing, sources.as_slice());
+    let origins = origins_of(alloc, expanded)?;
+    let size = size_of_origins(expanded, sizing, origins.as_slice());
     if !is_small(Some(size)) {
         return Err(InlineFault::TooManyProductions);
     }
-    let grammar = grammar_of(alloc, expanded, sizing, sources.as_slice())?;
+    let grammar = grammar_of(alloc, expanded, sizing, origins.as_slice())?;
     with_trees(alloc, expanded, grammar)
 }
 
@@ -176,8 +176,19 @@ fn inline_acyclic(
     }
 }
 
-/// The grammar that the instances give when each inline producer is replaced by each of its own alternatives, or the
-/// first fault. Each start has the same sentences as before.
+/// The grammar that the instances give when each inline producer is replaced by each of its own alternatives, in turn fully
+/// inlined (Menhir manual, `%inline`), or the first fault. Each start has the same sentences as before.
+///
+/// An alternative gives a production for each way to choose among the alternatives of its inline producers; the choice for
+/// the leftmost producer varies slowest. Of the `%prec` in it the alternative's own wins, else that of the rightmost inlined
+/// alternative that has one; without any, the level is that of the rightmost token. The productions stand in the order of
+/// their alternatives: by file, the standard library behind the files of the command line, by place in the file, by instance,
+/// and then in the order of the choices. The instances that are not inline are the nonterminals, in their order.
+///
+/// The first of these faults is answered: `InlineCycle` with the first instance that reaches itself through inline ones;
+/// `InlineStart` with the first start that is inline; `TooManyProductions` for more than 20,000 productions or more than
+/// 10,000 symbols in one, which are counted before any is made; `EmptyLanguage` with the first start that has no finite tree.
+/// `Memory` is answered only where memory runs out.
 pub fn inline_rules(alloc: Global, expanded: &Expanded) -> Result<Grammar, InlineFault>
     requires { IsExpandedReady expanded.now }
     ensures grammar { IfOk result (IsGrammarOf expanded.now) }

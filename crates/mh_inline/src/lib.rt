@@ -4,16 +4,17 @@
 
 mod cycles;
 mod fault;
-mod grammars;
 mod inlining;
 mod instances;
 mod laws;
 mod nonterminals;
+mod origins;
+mod productions;
 mod sizes;
-mod sources;
 #[cfg(test)]
 mod tests;
 mod unfoldings;
+mod uses;
 
 pub use fault::InlineFault;
 pub use inlining::inline_rules;

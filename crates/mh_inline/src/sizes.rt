@@ -103,7 +103,7 @@ pub(crate) fn size_of_side(
     Some(size)
 }
 
-fn size_of_each(
+fn size_of_alternatives(
     expanded: &Expanded,
     sizes: &[Option<Size>],
     productions: &[InstanceProduction],
@@ -138,7 +138,7 @@ fn size_one(expanded: &Expanded, sizing: &mut Sizing, number: usize) -> Result<b
         return Ok(false);
     }
     let productions = expanded.instances[number].productions.as_slice();
-    let Some(size) = size_of_each(expanded, sizing.sizes.as_slice(), productions) else {
+    let Some(size) = size_of_alternatives(expanded, sizing.sizes.as_slice(), productions) else {
         return Ok(false);
     };
     sizing.order.push(number as u32)?;

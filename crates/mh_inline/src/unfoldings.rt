@@ -3,11 +3,13 @@ ghost use Rattle.std.specs.Prelude.{◌≡◌, ◌++◌, ◌∷◌, [], List, ma
 ghost use Rattle.mh_inline.specs.declared.unfoldings.Unfolding.{Unfolding as Unfolded};
 ghost use Rattle.mh_expand.specs.Ready.{IsExpandedReady};
 ghost use Rattle.mh_inline.specs.Unfoldings.{choices, joined, nothing, only, own, rightmost, Unfolds, UnfoldsEach, UnfoldsPart};
-ghost use Rattle.mh_inline.specs.Known.{AreKnown, AreEachKnown, Extends, IsNext, Knows};
+ghost use Rattle.mh_inline.specs.Known.{AreKnown, AreEachKnown, Extends, IsNext};
+ghost use Rattle.mh_inline.specs.Uses.{KnowsUsed};
 ghost use Rattle.mh_inline.specs.Sizes.{AreSmall, IsSizing};
 
 use crate::instances::inline_part;
 use crate::sizes::{Sizing, is_small};
+use crate::uses::{forget, inlined_in, last_uses};
 use mh_expand::{Expanded, InstanceProduction, Part};
 use mh_grammar::{Memory, Sequence};
 use mh_join::Prec;
@@ -41,15 +43,16 @@ fn join(alloc: Global, left: &Unfolding, right: &Unfolding) -> Result<Unfolding,
     })
 }
 
-fn add_joined(
+/// Adds the first behind which stands each of the second.
+fn add_joined_with_each(
     alloc: Global,
     all: &mut Vec<Unfolding>,
     first: &Unfolding,
-    rest: &[Unfolding],
+    seconds: &[Unfolding],
 ) -> Result<(), Memory>
-    ensures { OnOk result (all.new.items ≡ all.old.items ++ map (joined first.now) rest.now) }
+    ensures { OnOk result (all.new.items ≡ all.old.items ++ map (joined first.now) seconds.now) }
 {
-    for second in rest {
+    for second in seconds {
         all.push(join(alloc, first, second)?)?;
     }
     Ok(())
@@ -65,7 +68,7 @@ fn all_choices(
 {
     let mut all = Vec::new(alloc);
     for first in left {
-        add_joined(alloc, &mut all, first, right)?;
+        add_joined_with_each(alloc, &mut all, first, right)?;
     }
     Ok(all)
 }
@@ -74,8 +77,8 @@ fn all_choices(
 fn push_part(all: &mut [Unfolding], part: Part) -> Result<(), Memory>
     ensures { OnOk result (all.new ≡ map (λ u. joined u (only part)) all.old) }
 {
-    for unfolding in all.iter_mut() {
-        unfolding.rhs.push(part)?;
+    for choice in all.iter_mut() {
+        choice.rhs.push(part)?;
     }
     Ok(())
 }
@@ -134,8 +137,8 @@ fn just_nothing(alloc: Global) -> Result<Vec<Unfolding>, Memory>
 fn add_own(all: &mut Vec<Unfolding>, prec: Prec, unfoldings: Vec<Unfolding>) -> Result<(), Memory>
     ensures { OnOk result (all.new.items ≡ all.old.items ++ map (own prec) unfoldings.items) }
 {
-    for unfolding in unfoldings {
-        let Unfolding { rhs, prec: inlined } = unfolding;
+    for choice in unfoldings {
+        let Unfolding { rhs, prec: inlined } = choice;
         all.push(Unfolding {
             rhs,
             prec: rightmost_prec(inlined, prec),
@@ -145,7 +148,7 @@ fn add_own(all: &mut Vec<Unfolding>, prec: Prec, unfoldings: Vec<Unfolding>) -> 
 }
 
 /// All unfoldings of some alternatives, in order.
-fn unfold_each(
+fn unfold_alternatives(
     alloc: Global,
     expanded: &Expanded,
     known: &[Sequence<Unfolding>],
@@ -188,11 +191,13 @@ fn unfold_one(
         return Ok(Sequence::new(alloc));
     }
     let productions = expanded.instances[number].productions.as_slice();
-    let all = unfold_each(alloc, expanded, known, productions)?;
+    let all = unfold_alternatives(alloc, expanded, known, productions)?;
     Ok(Sequence::from_vec(all))
 }
 
-/// The unfoldings of each inline instance that has no more and no longer ones than a grammar may have.
+/// The unfoldings of each inline instance that an instance which is not inline is made of, where it has no more and no longer
+/// ones than a grammar may have. Others are let go once they have gone into all that is made of them, so that a chain of
+/// inline instances holds two lists at a time.
 pub(crate) fn unfold_inline(
     alloc: Global,
     expanded: &Expanded,
@@ -200,13 +205,23 @@ pub(crate) fn unfold_inline(
 ) -> Result<Vec<Sequence<Unfolding>>, Memory>
     requires ready { IsExpandedReady expanded.now }
     requires sizing { IsSizing expanded.now.instances sizing.now }
-    ensures { IfOk result (λ known. Knows expanded.now.instances sizing.now.order.items known.items) }
+    ensures { IfOk result (λ known. KnowsUsed expanded.now.instances sizing.now.order.items known.items) }
 {
+    let order = sizing.order.as_slice();
+    let last = last_uses(alloc, expanded, order)?;
     let mut known = no_unfoldings(alloc, expanded.instances.len())?;
-    for number in sizing.order.as_slice() {
+    for (place, number) in order.iter().enumerate() {
         let at = *number as usize;
         let all = unfold_one(alloc, expanded, sizing, &known, at)?;
         known[at] = all;
+        let numbers = inlined_in(alloc, expanded, at)?;
+        forget(
+            alloc,
+            &mut known,
+            last.as_slice(),
+            numbers.as_slice(),
+            place,
+        );
     }
     Ok(known)
 }

@@ -1,11 +1,8 @@
 -- How a set of pairs grows.
-use Rattle.std.proofs.Common.{◌≡◌, ℕ, ◌+◌, ◌*◌, ◌<◌, ◌≤◌, ◌⊎◌, Bool, true, false, not, List, [], ◌∷◌, ◌++◌, Some, length, get_or, set, count_by, vec_len, cond, refl, sym, ap, ◌∙◌, arith, inl, inr, get_or-set_same}
-use Rattle.std.specs.List.{slice_get, All, Contains}
-use Rattle.std.proofs.lemmas.List.{take_more, take_all, drop_all}
+use Rattle.std.proofs.Common.{◌≡◌, ℕ, ◌+◌, ◌*◌, ◌<◌, ◌≤◌, ◌⊎◌, true, false, not, List, [], ◌∷◌, ◌++◌, Some, length, get_or, set, count_by, vec_len, refl, sym, ap, ◌∙◌, arith, inl, inr, get_or-set_same}
+use Rattle.std.specs.List.{slice_get, Contains}
 use Rattle.std.proofs.lemmas.List.Elements.{Contains-push, Contains-push_cases, Contains-append_left}
-use Rattle.std.proofs.lemmas.List.Sums.{sum_by-set}
 use Rattle.std.proofs.lemmas.Nat.{same_from_place}
-use Rattle.mh_grammar.specs.Grid.{flag}
 use Rattle.mh_grammar.specs.declared.types.Look.{Look}
 use Rattle.mh_grammar.proofs.Flags.{kept-set, set-cases}
 use Rattle.mh_grammar.proofs.LeastMarks.{unmarked-set}

@@ -2,7 +2,7 @@
 use Rattle.std.proofs.Common.{◌≡◌, ℕ, ◌+◌, ◌*◌, ◌<◌, ◌≤◌, ◌⊎◌, Bool, true, false, List, [], ◌∷◌, ◌++◌, Some, length, get_or, drop, vec_len, suc, ◌-◌, None, refl, sym, ap, ◌∙◌, arith, inl, inr}
 use Rattle.std.specs.List.{slice_get, All, AllByRecursion, Contains}
 use Rattle.std.proofs.lemmas.Bool.{cases_lt, false≢true}
-use Rattle.std.proofs.lemmas.List.Elements.{Contains-push, Contains-push_cases, Contains-append_left, Contains-get_or, All-weaker, All-from_recursion, All-drop, All-tail, All-cons, All-nil}
+use Rattle.std.proofs.lemmas.List.Elements.{Contains-push, Contains-push_cases, Contains-append_left, Contains-get_or, All-weaker, All-from_recursion, All-drop, All-cons, All-nil}
 use Rattle.std.proofs.lemmas.Option.{slice_get-get_or, get_or_from_slice_get, slice_get_within}
 use Rattle.std.proofs.Math.Nat.{mul-le-mul_left}
 use Rattle.mh_grammar.specs.declared.types.Symbol.{Symbol}
@@ -10,7 +10,7 @@ use Rattle.mh_grammar.specs.declared.types.Symbol.TheVariants.{T, N}
 use Rattle.mh_grammar.specs.declared.types.Look.{Look}
 use Rattle.mh_grammar.specs.declared.types.Look.TheVariants.{Token, End}
 use Rattle.mh_grammar.specs.declared.types.Production.{Production}
-use Rattle.mh_grammar.specs.Plain.{PlainGrammar, IsInRange, IsSymbolBelow, IsLookBelow, IsProductionBelow, production_count, rhs_of}
+use Rattle.mh_grammar.specs.Plain.{PlainGrammar, IsInRange, IsSymbolBelow, IsLookBelow, production_count, rhs_of}
 use Rattle.mh_grammar.specs.ItemSets as sets
 use Rattle.mh_grammar.specs.ItemSets.{MayBegin}
 use Rattle.mh_grammar.proofs.Numbered.{rhs_of-start, rhs_of-ordinary}
@@ -19,9 +19,9 @@ use Rattle.mh_items.specs.declared.kernels.KernelItem.{KernelItem}
 use Rattle.mh_items.specs.declared.links.Link.{Link}
 use Rattle.mh_items.specs.declared.pairs.Pair.{Pair}
 use Rattle.mh_items.specs.declared.pairs.Pairs.{Pairs}
-use Rattle.mh_items.specs.Firsts.{IsRest, IsLinkBelow}
+use Rattle.mh_items.specs.Firsts.{IsRest}
 use Rattle.mh_items.specs.Kernels.{IsKernelItem}
-use Rattle.mh_items.specs.Pairs.{AreQueued, Adds, IsPair, IsTokenPair, IsLookPair, column_of}
+use Rattle.mh_items.specs.Pairs.{Adds, IsPair, IsTokenPair, IsLookPair, column_of}
 use Rattle.mh_items.specs.Wanted.{IsItemSeed, IsSeed, IsBegun, IsPassed, IsStep, FitsLink, IsTable}
 use Rattle.mh_items.specs.Wanted as wanted
 use Rattle.mh_items.proofs.Adding.{Adds-then, Adds-as}

@@ -1,5 +1,5 @@
 -- Items and kernels that compare equal are one.
-use Rattle.std.proofs.Common.{◌≡◌, Bool, true, false, eqb, ◌&&◌, Decides, refl, ap, ◌∙◌, sym, rules}
+use Rattle.std.proofs.Common.{◌≡◌, Bool, true, false, eqb, ◌&&◌, Decides, refl, ap, ◌∙◌, sym}
 use Rattle.std.specs.Cmp.Lexicographic.{pointwise}
 use Rattle.std.proofs.lemmas.Slice.Eq.{slice_eq-Decides}
 use Rattle.std.proofs.lemmas.Bool.Decides.{Decides-eqb}

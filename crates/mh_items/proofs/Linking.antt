@@ -1,5 +1,5 @@
 -- What strings of symbols may begin with, symbol by symbol.
-use Rattle.std.proofs.Common.{◌≡◌, ℕ, suc, ◌+◌, ◌<◌, ◌≤◌, ◌⊎◌, ◌↔◌, Bool, true, false, List, [], ◌∷◌, ◌++◌, Option, Some, None, length, get_or, drop, refl, sym, ap, subst, ◌∙◌, arith, inl, inr}
+use Rattle.std.proofs.Common.{◌≡◌, ℕ, ◌+◌, ◌<◌, ◌⊎◌, ◌↔◌, true, false, List, [], ◌∷◌, ◌++◌, Some, length, get_or, refl, sym, ap, subst, ◌∙◌, arith, inl, inr}
 use Rattle.std.specs.List.{slice_get, All, Contains}
 use Rattle.std.proofs.lemmas.Bool.{cases_eq, false≢true}
 use Rattle.std.proofs.lemmas.List.Elements.{All-head, All-tail, All-push, Contains-push, Contains-push_cases, Contains-append_left, Contains-append_right, Contains-append_cases, Contains-get_or}
@@ -10,7 +10,7 @@ use Rattle.mh_grammar.specs.declared.types.Production.{Production}
 use Rattle.mh_grammar.specs.Derivations as trees
 use Rattle.mh_grammar.specs.Marked.{Marked}
 use Rattle.mh_grammar.specs.Marked as marked
-use Rattle.mh_grammar.specs.Plain.{PlainGrammar, IsToken, Produces, Derives, DerivesAll, IsInRange, IsSymbolBelow, IsProductionBelow, IsProductionFor, rhs_of}
+use Rattle.mh_grammar.specs.Plain.{PlainGrammar, Derives, DerivesAll, IsInRange, IsSymbolBelow, rhs_of}
 use Rattle.mh_grammar.specs.First as first
 use Rattle.mh_grammar.specs.First.{First, FirstOf}
 use Rattle.mh_grammar.proofs.LeastMarks.{marked-from_nil}
@@ -18,7 +18,7 @@ use Rattle.mh_grammar.proofs.FirstSets.{first_of-below}
 use Rattle.mh_grammar.proofs.Numbered.{IsProductionFor-ordinary, rhs_of-ordinary, listed_from_for}
 use Rattle.mh_items.specs.declared.links.Link.{Link}
 use Rattle.mh_items.specs.declared.first_sets.Sets.{Sets}
-use Rattle.mh_items.specs.Firsts.{AreSets, IsRest, IsLink, IsLinkOf, IsLinkFor, IsLinkBelow, IsLinked, AreLinksOf}
+use Rattle.mh_items.specs.Firsts.{AreSets, IsRest, IsLink, IsLinkBelow, IsLinked, AreLinksOf}
 use Rattle.mh_items.proofs.Lists.{same_at}
 
 unmarked : (ps : List Production) (a : ℕ) → Marked false ps (T a) → ⊥
@@ -172,7 +172,3 @@ LinksSoFar-all g n links upto e h = record {
       let P : List Symbol → Type 0 = λ s. IsLink g s f.0 in
       (f.0, f.1, subst P (sym at.rhs) f.2);
 }
-
-pub link_for_of : (g : PlainGrammar) (n : ℕ) (p : Production) (found : Option Link) → p.lhs ≡ n → IsLinkOf g p.rhs found → IsLinkFor g n p found
-link_for_of g n p (Some link) e h = (e, h)
-link_for_of g n p None e h = λ _. h

@@ -1,9 +1,9 @@
 -- The pairs that are reached from a kernel's are what its closure asks for.
-use Rattle.std.proofs.Common.{◌≡◌, ℕ, suc, ◌+◌, ◌*◌, ◌-◌, ◌<◌, ◌≤◌, ◌⊎◌, Bool, true, false, not, List, [], ◌∷◌, ◌++◌, Some, length, get_or, drop, vec_len, count_by, refl, sym, ap, ◌∙◌, arith, inl, inr}
+use Rattle.std.proofs.Common.{◌≡◌, ℕ, ◌+◌, ◌*◌, ◌<◌, ◌≤◌, true, false, List, [], ◌∷◌, Some, length, get_or, drop, vec_len, refl, sym, ap, ◌∙◌, arith, inl, inr}
 use Rattle.std.specs.List.{slice_get, All, Contains}
 use Rattle.std.proofs.lemmas.Bool.{cases_lt, cases_eq, false≢true}
 use Rattle.std.proofs.lemmas.List.{get_or_past}
-use Rattle.std.proofs.lemmas.List.Elements.{All-weaker, Contains-append_left}
+use Rattle.std.proofs.lemmas.List.Elements.{All-weaker}
 use Rattle.std.proofs.lemmas.Option.{slice_get-get_or, slice_get_within, slice_get_read}
 use Rattle.std.proofs.Math.Nat.{mul-le-mul_left}
 use Rattle.mh_grammar.specs.declared.types.Symbol.{Symbol}
@@ -13,16 +13,14 @@ use Rattle.mh_grammar.specs.declared.types.Look.TheVariants.{Token, End}
 use Rattle.mh_grammar.specs.Plain.{PlainGrammar, IsProductionFor, rhs_of}
 use Rattle.mh_grammar.specs.ItemSets as sets
 use Rattle.mh_grammar.specs.ItemSets.{ItemSet, Close, MayBegin}
-use Rattle.mh_grammar.specs.Grid.{flag}
-use Rattle.mh_items.specs.declared.kernels.KernelItem.{KernelItem}
 use Rattle.mh_items.specs.declared.kernels.Kernel.{Kernel}
 use Rattle.mh_items.specs.declared.links.Link.{Link}
 use Rattle.mh_items.specs.declared.first_sets.Firsts.{Firsts}
 use Rattle.mh_items.specs.declared.pairs.Pair.{Pair}
 use Rattle.mh_items.specs.declared.pairs.Pairs.{Pairs}
-use Rattle.mh_items.specs.Firsts.{AreFirsts, AreLinksOf, IsLink, IsLinked, IsLinkBelow, IsRest}
+use Rattle.mh_items.specs.Firsts.{AreFirsts, AreLinksOf, IsLinked, IsLinkBelow, IsRest}
 use Rattle.mh_items.specs.Kernels.{Holds}
-use Rattle.mh_items.specs.Pairs.{AreQueued, Adds, IsPair, IsTokenPair, column_of}
+use Rattle.mh_items.specs.Pairs.{Adds, column_of}
 use Rattle.mh_items.specs.Wanted as wanted
 use Rattle.mh_items.specs.Wanted.{Wants, IsTable, IsSeed, IsItemSeed, IsBegun, IsPassed, IsStep, IsWanted, FitsLink}
 use Rattle.mh_items.proofs.Lists.{same_at, contains_at, at_contains}
@@ -200,6 +198,7 @@ module _ (g : PlainGrammar) (f : Firsts) (kernel : Kernel) (s : Pairs) (done : �
   wanted_of = record {
     columns = h.table.columns;
     size = h.table.size;
+    sets = h.table.sets;
     sound = λ n b l e. flag_look n b (h.sound (record { row = n; column = column_of b }) (h.table.sets.queued n (column_of b) l e));
     inside = λ n b w. h.table.sets.inside (record { row = n; column = column_of b }) (wants_asked n b w);
     complete = λ n b w. h.table.sets.flagged (record { row = n; column = column_of b }) (wants_asked n b w);

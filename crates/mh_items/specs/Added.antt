@@ -15,6 +15,11 @@ pub record AreLooksOf (flags : List Bool) (looks : List Look) : Type 0 where
   pub rising : IsRising IsLookBefore looks
   pub exact : (b : Look) → Contains looks b ↔ (slice_index_or flags (column_of b) false ≡ true)
 
+-- those of a row of a table
+pub record AreRowLooks (s : Pairs) (n : ℕ) (looks : List Look) : Type 0 where
+  pub rising : IsRising IsLookBefore looks
+  pub exact : (b : Look) → Contains looks b ↔ ((column_of b < s.width) × (flag s.width s.flags.items n (column_of b) ≡ true))
+
 -- a production stands with dot 0 and the looks of its nonterminal's row
 pub record AreAdded (g : PlainGrammar) (s : Pairs) (items : List KernelItem) : Type 0 where
   pub first : (p d : ℕ) (b : Look) → Holds (record { items = items }) p d b → d ≡ 0

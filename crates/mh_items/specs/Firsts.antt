@@ -3,7 +3,6 @@ use Rattle.std.specs.Prelude.{◌≡◌, ◌<◌, ◌↔◌, ℕ, List, [], ◌�
 use Rattle.std.specs.List.{All, Contains}
 use Rattle.mh_grammar.specs.declared.types.Symbol.{Symbol}
 use Rattle.mh_grammar.specs.declared.types.Symbol.TheVariants.{N}
-use Rattle.mh_grammar.specs.declared.types.Production.{Production}
 use Rattle.mh_grammar.specs.Plain.{PlainGrammar, IsNullable, IsProductionFor, DerivesAll, rhs_of}
 use Rattle.mh_grammar.specs.First.{First, FirstOf}
 use Rattle.mh_items.specs.declared.links.Link.{Link}
@@ -32,11 +31,6 @@ abbrev pub IsLinkOf : PlainGrammar → List Symbol → Option Link → Type 0
 IsLinkOf g symbols (Some link) = IsLink g symbols link
 IsLinkOf g symbols None = (n : ℕ) (y : List Symbol) → symbols ≡ N n ∷ y → ⊥
 
--- the same of a production of the nonterminal; there is none where it is not the nonterminal's
-abbrev pub IsLinkFor : PlainGrammar → ℕ → Production → Option Link → Type 0
-IsLinkFor g n p (Some link) = (p.lhs ≡ n) × IsLink g p.rhs link
-IsLinkFor g n p None = p.lhs ≡ n → (m : ℕ) (y : List Symbol) → p.rhs ≡ N m ∷ y → ⊥
-
 pub record IsLinkBelow (tokens nonterminals : ℕ) (link : Link) : Type 0 where
   pub target : link.to < nonterminals
   pub begins : All (λ a. a < tokens) link.tokens
@@ -57,3 +51,6 @@ pub record AreFirsts (g : PlainGrammar) (f : Firsts) : Type 0 where
   pub sets : AreSets g f.sets
   pub len : length f.links ≡ g.nonterminals
   pub links : (n : ℕ) (row : List Link) → slice_get f.links n ≡ Some row → AreLinksOf g n row
+  -- the numbers of each nonterminal's productions
+  pub productions_len : length f.productions ≡ g.nonterminals
+  pub productions : (n : ℕ) (row : List ℕ) → slice_get f.productions n ≡ Some row → (p : ℕ) → Contains row p ↔ IsProductionFor g n p

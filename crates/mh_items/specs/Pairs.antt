@@ -1,5 +1,5 @@
 -- A set of pairs, as flags and in the order in which they came, and how it grows.
-use Rattle.std.specs.Prelude.{◌≡◌, ◌<◌, ◌≤◌, ◌+◌, ◌*◌, ◌⊎◌, ℕ, Bool, true, false, not, count_by, List, [], Some, length, slice_get, vec_len}
+use Rattle.std.specs.Prelude.{◌≡◌, ◌<◌, ◌+◌, ◌*◌, ◌⊎◌, ℕ, true, not, count_by, List, [], Some, slice_get, vec_len}
 use Rattle.std.specs.List.{Contains}
 use Rattle.mh_grammar.specs.Grid.{flag}
 use Rattle.mh_grammar.specs.declared.types.Look.{Look}

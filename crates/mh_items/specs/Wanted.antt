@@ -1,5 +1,5 @@
 -- What a closure asks for: the nonterminals whose productions it adds, each with the looks to add them with.
-use Rattle.std.specs.Prelude.{◌≡◌, ◌<◌, ◌≤◌, ◌+◌, ◌*◌, ◌⊎◌, ℕ, List, [], ◌∷◌, true, length, drop, vec_len}
+use Rattle.std.specs.Prelude.{◌≡◌, ◌<◌, ◌≤◌, ◌+◌, ◌*◌, ℕ, List, ◌∷◌, true, drop, vec_len}
 use Rattle.std.specs.List.{All, Contains}
 use Rattle.mh_grammar.specs.declared.types.Symbol.{Symbol}
 use Rattle.mh_grammar.specs.declared.types.Symbol.TheVariants.{N}
@@ -68,6 +68,7 @@ pub data IsStep (links : List Link) (from to : Pair) : Type 0 where
 pub record IsWanted (g : PlainGrammar) (kernel : Kernel) (s : Pairs) : Type 0 where
   pub columns : s.width ≡ g.tokens + 2
   pub size : vec_len s.flags ≡ g.nonterminals * (g.tokens + 2)
+  pub sets : AreQueued s
   pub sound : (n : ℕ) (b : Look) → column_of b < s.width → flag s.width s.flags.items n (column_of b) ≡ true → Wants g (Holds kernel) n b
   pub inside : (n : ℕ) (b : Look) → Wants g (Holds kernel) n b → column_of b < s.width
   pub complete : (n : ℕ) (b : Look) → Wants g (Holds kernel) n b → flag s.width s.flags.items n (column_of b) ≡ true

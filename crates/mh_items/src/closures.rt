@@ -33,7 +33,7 @@ pub fn closure(
     ensures exact { IfOk result (λ c. AreSame (Holds c) (Close (plain_of grammar.now) (Holds kernel.now))) }
 {
     let set = wanted(alloc, grammar, firsts, kernel)?;
-    let added = added_items(alloc, grammar, &set)?;
+    let added = added_items(alloc, grammar, firsts, &set)?;
     let items = merged(alloc, grammar, kernel.items.as_slice(), added.as_slice())?;
     Ok(Kernel {
         items: Sequence::from_vec(items),

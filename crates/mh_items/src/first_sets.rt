@@ -9,9 +9,11 @@ pub(crate) struct Sets {
     pub(crate) first: Sequence<Sequence<Token>>,
 }
 
-/// The sets, and for each nonterminal a link for each production of it that begins with a nonterminal.
+/// The sets; for each nonterminal, a link for each production of it that begins with a nonterminal, and the numbers of
+/// its productions.
 #[derive(Debug, Drop)]
 pub struct Firsts {
     pub(crate) sets: Sets,
     pub(crate) links: Sequence<Sequence<Link>>,
+    pub(crate) productions: Sequence<Sequence<u32>>,
 }

@@ -5,7 +5,9 @@ use std::alloc::{AllocError, AllocFailed};
 /// A production and a dot with the looks that it stands with, rising.
 #[derive(Debug, Drop, PartialEq, Eq, Hash)]
 pub struct KernelItem {
+    /// The number of the production; those of the starts come first.
     pub production: u32,
+    /// How many symbols of the right side stand before the dot.
     pub dot: u32,
     pub looks: Sequence<Look>,
 }
@@ -28,6 +30,7 @@ pub struct Automaton {
 pub enum StatesFault {
     /// It has more than 200,000 states.
     TooManyStates,
+    /// There was no memory for it.
     Memory,
 }
 

@@ -1,13 +1,13 @@
 //! What strings of symbols may begin with, and the productions of a nonterminal that begin with another.
 ghost use Rattle.std.specs.Prelude.{◌≡◌, ◌<◌, ◌↔◌, ◌⊎◌, [], ℕ, List, length, IfOk, OnOk, IsTrue};
 ghost use Rattle.std.specs.List.{All, Contains};
-ghost use Rattle.mh_grammar.specs.Plain.{PlainGrammar, plain_of, IsInRange, IsSymbolBelow, Derives};
+ghost use Rattle.mh_grammar.specs.Plain.{PlainGrammar, IsSymbolBelow, Derives};
 ghost use Rattle.mh_grammar.specs.First.{First};
-ghost use Rattle.mh_items.specs.Firsts.{AreSets, IsRest, IsLinkOf, IsLinkFor, AreLinksOf};
+ghost use Rattle.mh_items.specs.Firsts.{AreSets, IsRest, IsLinkOf};
 
 use crate::first_sets::Sets;
 use crate::places::{rest_from, symbol_in};
-use mh_grammar::{Grammar, Memory, Production, Sequence, Symbol, Token};
+use mh_grammar::{Memory, Sequence, Symbol, Token};
 use std::alloc::Global;
 
 /// The tokens that a string of symbols may begin with, and whether it may derive the empty word.
@@ -66,7 +66,11 @@ fn add_symbol(tokens: &mut Vec<Token>, sets: &Sets, symbol: Symbol) -> Result<bo
 }
 
 /// The link of a right side, where it begins with a nonterminal.
-fn link_of(alloc: Global, sets: &Sets, symbols: &[Symbol]) -> Result<Option<Link>, Memory>
+pub(crate) fn link_of(
+    alloc: Global,
+    sets: &Sets,
+    symbols: &[Symbol],
+) -> Result<Option<Link>, Memory>
     requires len { length sets.now.first ≡ length sets.now.nullable }
     requires symbols { All (IsSymbolBelow 65536 (length sets.now.nullable)) symbols.now }
     ensures { IfOk result (λ found. (g : PlainGrammar) → AreSets g sets.now → IsLinkOf g symbols.now found) }
@@ -83,41 +87,4 @@ fn link_of(alloc: Global, sets: &Sets, symbols: &[Symbol]) -> Result<Option<Link
         Some(Symbol::T(_)) => Ok(None),
         None => Ok(None),
     }
-}
-
-/// The link of a production, where it is the nonterminal's and begins with a nonterminal.
-fn link_for(
-    alloc: Global,
-    sets: &Sets,
-    n: usize,
-    production: &Production,
-) -> Result<Option<Link>, Memory>
-    requires len { length sets.now.first ≡ length sets.now.nullable }
-    requires symbols { All (IsSymbolBelow 65536 (length sets.now.nullable)) production.now.rhs }
-    ensures { IfOk result (λ found. (g : PlainGrammar) → AreSets g sets.now → IsLinkFor g n production.now found) }
-{
-    if usize::from(production.lhs) != n {
-        return Ok(None);
-    }
-    link_of(alloc, sets, production.rhs.as_slice())
-}
-
-/// The links of a nonterminal.
-pub(crate) fn links_of(
-    alloc: Global,
-    grammar: &Grammar,
-    sets: &Sets,
-    n: usize,
-) -> Result<Vec<Link>, Memory>
-    requires range { IsInRange (plain_of grammar.now) }
-    requires sets { AreSets (plain_of grammar.now) sets.now }
-    ensures { IfOk result (λ links. AreLinksOf (plain_of grammar.now) n links.items) }
-{
-    let mut links = Vec::new(alloc);
-    for production in grammar.productions.as_slice() {
-        if let Some(link) = link_for(alloc, sets, n, production)? {
-            links.push(link)?;
-        }
-    }
-    Ok(links)
 }

@@ -224,6 +224,8 @@ fn add_rule(
     requires stand { unresolved_in_rule (meanings_in names.now) file rule.now ≡ [] }
     ensures { OnOk result (Adds (meanings_in names.now) (record { file = file; owner = owner; place = place; rule = rule.now } ∷ []) joined.old joined.new) }
 {
+    // In joined files each definition has a number, and its rule stands there. `Adds` holds without: it speaks of the rules
+    // that are there.
     if let Some(number) = names.numbering.number_of(owner, &rule.name) {
         if (number as usize) < joined.len() {
             let target = &mut joined[number as usize].alternatives;

@@ -17,8 +17,8 @@ pub(crate) enum Definers {
     Several,
 }
 
-/// These and one more.
-fn and(others: Option<Definers>, file: u64) -> Definers
+/// These files and one more.
+fn with_definer(others: Option<Definers>, file: u64) -> Definers
     ensures { (k : ℕ) → elsewhere_by (Some result) k ≡ (elsewhere_by others k || not (file == k)) }
 {
     match others {
@@ -41,7 +41,7 @@ pub(crate) type DefinersOf = IndexMap<Name, Definers>;
 fn add_definer(definers: &mut DefinersOf, file: u64, name: &Name) -> Result<(), Memory>
     ensures { OnOk result (Defines file (λ x. same x name.now) definers.old definers.new) }
 {
-    let more = and(definers.get(name).copied(), file);
+    let more = with_definer(definers.get(name).copied(), file);
     definers.insert(name.clone()?, more)?;
     Ok(())
 }

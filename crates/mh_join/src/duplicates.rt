@@ -13,7 +13,7 @@ use crate::fault::JoinFault;
 use crate::kinds::Kind;
 use crate::maps::put_name;
 use crate::names::Names;
-use crate::numbering::{Outline, marked_public};
+use crate::numbering::{Outline, is_public, marked_public};
 use indexmap::IndexSet;
 use mh_grammar::{Level, Name};
 use mh_reader::{LevelDecl, Module, Ref, Rule, TokenDecl};
@@ -158,16 +158,10 @@ fn put_own(
 ) -> Result<(), JoinFault>
     ensures { PutsOwn (is_public_in names.now marked.now rule.now.name) seen.old rule.now.name seen.new result }
 {
-    if is_public(names, marked, &rule.name) {
+    if is_public(&names.starts, marked, &rule.name) {
         return Ok(());
     }
     put_once(seen, &rule.name)
-}
-
-fn is_public(names: &Names, marked: &IndexSet<Name>, name: &Name) -> bool
-    ensures { result ≡ is_public_in names.now marked.now name.now }
-{
-    names.starts.contains(name) || marked.contains(name)
 }
 
 /// No rule of a file has one formal twice.
@@ -192,6 +186,7 @@ fn same_shape(first: &Outline, rule: &Rule) -> bool
 fn has_first_shape(names: &Names, rule: &Rule) -> bool
     ensures { result ≡ spec.agrees spec.same_shape ((meanings_in names.now).joined rule.now.name) rule.now }
 {
+    // A public rule of the files has a number, and its first definition stands there. What has none agrees with all.
     let Some(number) = names.numbering.public.get(&rule.name) else {
         return true;
     };
@@ -204,7 +199,7 @@ fn has_first_shape(names: &Names, rule: &Rule) -> bool
 fn check_shape(names: &Names, marked: &IndexSet<Name>, rule: &Rule) -> Result<(), JoinFault>
     ensures { Finds (other_shape (meanings_in names.now) (is_public_in names.now marked.now) rule.now) result }
 {
-    if !is_public(names, marked, &rule.name) {
+    if !is_public(&names.starts, marked, &rule.name) {
         return Ok(());
     }
     require_one(has_first_shape(names, rule), &rule.name)

@@ -1,7 +1,8 @@
 //! What several files give together.
 use mh_grammar::{Level, Name, Sequence, Token, TokenInfo};
 
-/// What a name stands for: a formal of its rule by place, a token, or a rule by its place in the list of rules.
+/// What a name stands for: a formal of its rule by its place, a token, or a rule by its place in the list of rules, each
+/// from 0.
 #[derive(Clone, Copy, Debug, PartialEq, Eq, Hash)]
 pub enum Head {
     Formal(u64),
@@ -23,29 +24,37 @@ pub enum Prec {
     Given(Option<Level>),
 }
 
-/// An alternative, with its file (the prelude is file 0) and its place among the alternatives of the file.
+/// An alternative, with what its names stand for.
 #[derive(Debug, Drop)]
 pub struct JoinedAlternative {
+    /// The number of its file: the files count from 1, and the standard library is file 0.
     pub file: u64,
+    /// Its place among all alternatives of that file, from 0.
     pub place: u64,
     pub producers: Sequence<Applied>,
     pub prec: Prec,
 }
 
-/// A rule with its printed name, how many formals it has, and the alternatives of all its definitions.
+/// A rule with how many formals it has, and the alternatives of all its definitions in order of files and text.
 #[derive(Debug, Drop)]
 pub struct JoinedRule {
+    /// The name as it is printed: with `@k` behind it for a rule of file k's own where another file defines that name too,
+    /// and with `@0` for a rule of the standard library where a file defines its name.
     pub name: Name,
     pub inlined: bool,
     pub formals: u64,
     pub alternatives: Sequence<JoinedAlternative>,
 }
 
-/// The tokens, the rule of each start, the on-error declarations in order, and the rules.
+/// The tokens, starts, on-error declarations and rules of all files.
 #[derive(Debug, Drop)]
 pub struct Joined {
+    /// In order of first declaration; a level has the number of its file, from 1, and its rank there, from 0.
     pub tokens: Sequence<TokenInfo>,
+    /// The place of each start among the rules, in order of first naming.
     pub starts: Sequence<u64>,
+    /// The `%on_error_reduce` declarations in order of files and text: the rank of one is its place, from 0.
     pub on_error: Sequence<Sequence<Applied>>,
+    /// In order of first definitions, those of the standard library last.
     pub rules: Sequence<JoinedRule>,
 }

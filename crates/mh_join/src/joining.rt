@@ -64,7 +64,9 @@ fn join_named(
 /// file is public; public definitions of one name are joined, and other rules are their file's own. A name in a file
 /// stands for the first that is there of a formal, a token, a rule of the file's own, a public rule, a rule of the
 /// prelude; names in the prelude stand for its own rules. Rules come in the order of their first definitions, those of
-/// the prelude last; starts in order of first naming. With `prelude` false there is no prelude. Answers the first fault
+/// the prelude last; starts in order of first naming. A rule of a file's own whose name another file defines too is printed
+/// with `@` and the number of its file, and a rule of the prelude whose name a file defines with `@0`. With `prelude` false
+/// there is no prelude. Answers the first fault
 /// where there is one: all names and strings stand for something; nothing has two meanings; some start symbol is named;
 /// no rule speaks of `error`; each `%prec` is of a token or has a level; there are at most 256 tokens. Answers `Memory`
 /// only where memory runs out. (The Menhir manual on grammars split into files; this project's profile.)

@@ -51,6 +51,13 @@ pub(crate) fn marked_public(alloc: Global, rules: &[Rule]) -> Result<IndexSet<Na
     Ok(marked)
 }
 
+/// Whether the rules of a name are public in a file that marks these names.
+pub(crate) fn is_public(starts: &IndexSet<Name>, marked: &IndexSet<Name>, name: &Name) -> bool
+    ensures { result ≡ (contains same starts.now name.now || contains same marked.now name.now) }
+{
+    starts.contains(name) || marked.contains(name)
+}
+
 /// Who owns the rules of a name in a file.
 pub(crate) fn owner_in(
     starts: &IndexSet<Name>,
@@ -60,7 +67,7 @@ pub(crate) fn owner_in(
 ) -> Option<u64>
     ensures { result ≡ (if list_any (same name.now) starts.now.keys || contains same marked.now name.now then None else Some file) }
 {
-    if starts.contains(name) || marked.contains(name) {
+    if is_public(starts, marked, name) {
         None
     } else {
         Some(file)

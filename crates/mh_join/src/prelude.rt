@@ -59,7 +59,7 @@ fn rule(alloc: Global, inlined: bool, name: &str, formals: &[&str]) -> Result<Ru
 }
 
 /// The rule with an alternative more.
-fn or(rule: Rule, producers: Sequence<Actual>) -> Result<Rule, Memory>
+fn with_alternative(rule: Rule, producers: Sequence<Actual>) -> Result<Rule, Memory>
     ensures { IfOk result (λ r. r ≡ record rule { alternatives = rule.alternatives ++ plain producers ∷ [] }) }
 {
     let mut rule = rule;
@@ -74,24 +74,24 @@ fn or(rule: Rule, producers: Sequence<Actual>) -> Result<Rule, Memory>
 fn optional(alloc: Global, inlined: bool, name: &str) -> Result<Rule, Memory>
     ensures { IfOk result (λ r. r ≡ spec.optional inlined name.now) }
 {
-    let empty = or(rule(alloc, inlined, name, &["X"])?, Sequence::new(alloc))?;
-    or(empty, words(alloc, &["X"])?)
+    let empty = with_alternative(rule(alloc, inlined, name, &["X"])?, Sequence::new(alloc))?;
+    with_alternative(empty, words(alloc, &["X"])?)
 }
 
 /// The formals in order.
 fn in_order(alloc: Global, inlined: bool, name: &str, formals: &[&str]) -> Result<Rule, Memory>
     ensures { IfOk result (λ r. r ≡ in_order inlined name.now (map (λ n. n.now) formals.now)) }
 {
-    or(rule(alloc, inlined, name, formals)?, words(alloc, formals)?)
+    with_alternative(rule(alloc, inlined, name, formals)?, words(alloc, formals)?)
 }
 
 fn list(alloc: Global) -> Result<Rule, Memory>
     ensures { IfOk result (λ r. r ≡ list_rule) }
 {
-    let empty = or(rule(alloc, false, "list", &["X"])?, Sequence::new(alloc))?;
+    let empty = with_alternative(rule(alloc, false, "list", &["X"])?, Sequence::new(alloc))?;
     let mut more = words(alloc, &["X"])?;
     more.push(applied(alloc, "list", &["X"])?)?;
-    or(empty, more)
+    with_alternative(empty, more)
 }
 
 fn nonempty_list(alloc: Global) -> Result<Rule, Memory>
@@ -100,7 +100,7 @@ fn nonempty_list(alloc: Global) -> Result<Rule, Memory>
     let one = in_order(alloc, false, "nonempty_list", &["X"])?;
     let mut more = words(alloc, &["X"])?;
     more.push(applied(alloc, "nonempty_list", &["X"])?)?;
-    or(one, more)
+    with_alternative(one, more)
 }
 
 fn separated_items(alloc: Global) -> Result<Actual, Memory>
@@ -116,7 +116,7 @@ fn separated_list(alloc: Global) -> Result<Rule, Memory>
     args.push(separated_items(alloc)?)?;
     let mut producers = Sequence::new(alloc);
     producers.push(call(alloc, "loption", args)?)?;
-    or(
+    with_alternative(
         rule(alloc, true, "separated_list", &["separator", "X"])?,
         producers,
     )
@@ -125,13 +125,13 @@ fn separated_list(alloc: Global) -> Result<Rule, Memory>
 fn separated_nonempty_list(alloc: Global) -> Result<Rule, Memory>
     ensures { IfOk result (λ r. r ≡ separated_nonempty_list_rule) }
 {
-    let one = or(
+    let one = with_alternative(
         rule(alloc, false, "separated_nonempty_list", &["separator", "X"])?,
         words(alloc, &["X"])?,
     )?;
     let mut more = words(alloc, &["X", "separator"])?;
     more.push(separated_items(alloc)?)?;
-    or(one, more)
+    with_alternative(one, more)
 }
 
 fn add_options(alloc: Global, rules: &mut Sequence<Rule>) -> Result<(), Memory>

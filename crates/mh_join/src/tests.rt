@@ -1,12 +1,15 @@
 //! Files and what they give together, worked out by hand.
 ghost use Rattle.std.specs.Prelude.{◌<◌, ◌^◌, length};
 
-use crate::laws::{is_one_fault, is_one_joined};
 use crate::prelude::prelude_rules;
-use crate::{Applied, Head, JoinFault, Joined, JoinedAlternative, JoinedRule, Prec, join};
+use crate::{
+    Applied, Head, JoinFault, Joined, JoinedAlternative, JoinedRule, Prec, is_joined_or_fault,
+    is_one_fault, is_one_joined, join,
+};
 use mh_grammar::Name;
 use mh_reader::{Actual, Module, Ref, Rule, read_module};
 use std::alloc::{AllocError, Global};
+use std::process::Abort;
 use std::test::Fail;
 
 /// The module that a short text spells.
@@ -182,6 +185,13 @@ fn answer(alloc: Global, modules: &[Module], prelude: bool) -> Result<Vec<u8>, A
 }
 
 /// Files without the prelude, and what they give: `~` between the two, `#` between files and `^` between cases.
+///
+/// A fault is `U NAME` (undefined), `D NAME` (duplicate), `L NAME` (unknown level), `no start`, `error` or `too many COUNT`.
+/// Else there is each token with a space behind it, `>` and the rule of each start, `<` and the actuals of each on-error
+/// declaration, `:`, and each rule with `;` behind it. A rule is its printed name, `!` where it is inline, how many formals
+/// it has, and each alternative as `|FILE.PLACE`, its producers, and what its `%prec` gives. An actual is a formal `f0`, a
+/// token `t0` or a rule `r0`, with its actuals in brackets. A level is `%`, its file and its rank; `-` is a `%prec` without
+/// a level.
 fn cases() -> &'static str {
     "%token A EOF %start s %% s: A EOF {}~A EOF >0:s0|1.0 t0 t1;^\
      %% s: {}~no start^\
@@ -244,7 +254,14 @@ fn cases() -> &'static str {
      %start s %token A %% s: b {} b: A {}#%token B A %% b: B {} s: b A {}~\
      A B >0:s0|1.0 r1|2.1 r2 t0;b@10|1.1 t0;b@20|2.0 t1;^\
      %start s %% s: b {} %public b: {}#%% b: s {}#%% %public b: {} b: {}~\
-     >0:s0|1.0 r1;b0|1.1|3.0|3.1;b@20|2.0 r0;"
+     >0:s0|1.0 r1;b0|1.1|3.0|3.1;b@20|2.0 r0;^\
+     %start s %% s: x {}#%start q %%~U x^\
+     %token A \"a\" B \"a\" %start s %% s: {}#%% A: {}~D A^\
+     %token A \"a\" B \"a\" %start s %% s: {} b: {} b: {}~D a^\
+     %start s %% s: {} p(x, x): {}#%% b: {} b: {}~D b^\
+     %left x %right x %start s %% s: {} %public b: {} b(y): {}~D b^\
+     %start s %%#%% s: {} s: {}~>0:s0|2.0|2.1;^\
+     %start s %left \"a\" %% s: \"a\" {}#%token A \"a\" %%~A%10 >0:s0|1.0 t0;"
 }
 
 /// The same with the prelude. Its rules stand behind those of the files: `option` first, `list` and `nonempty_list` as the
@@ -264,75 +281,77 @@ fn cases_with_prelude() -> &'static str {
      %start s %% s: {} %public pair: {}~>0:s0|1.0;pair0|1.1;pair@0!2|0.8 f0 f1;^\
      %token X Y EOF %start main %% main: unit nonempty_list(item) EOF {} %public item: X {} unit: {}\
      #%% %public item: Y {} unit: Y {}~\
-     X Y EOF >0:main0|1.0 r2 r14(r1) t2;item0|1.1 t0|2.0 t1;unit@10|1.2;unit@20|2.1 t1;"
+     X Y EOF >0:main0|1.0 r2 r14(r1) t2;item0|1.1 t0|2.0 t1;unit@10|1.2;unit@20|2.1 t1;^\
+     %% s: {}~no start^\
+     %start s %% s: {} list(X): {} list(X): {}~D list^\
+     %start s %% s: {} %public list(X): X {}#%% %public list: {}~D list^\
+     %start s %% s: {} %prec option~L option^\
+     %token X %start s %% s: {} option(Y): Y {}~X >0:s0|1.0;option1|1.1 f0;option@01|0.0|0.1 f0;"
 }
 
-/// Whether the files of a case give what it says.
-fn is_right(alloc: Global, case: &str, prelude: bool) -> Result<bool, AllocError> {
-    let Some((texts, expected)) = case.split_once('~') else {
-        return Ok(false);
-    };
-    let Some(modules) = modules_of(alloc, texts)? else {
-        return Ok(false);
-    };
-    let found = answer(alloc, modules.as_slice(), prelude)?;
-    Ok(found.as_slice() == expected.as_bytes())
+/// What the files of a case give.
+fn found(alloc: Global, texts: &str, prelude: bool) -> Result<Vec<u8>, Fail> {
+    let modules = modules_of(alloc, texts)?.ok_or("a text that spells nothing")?;
+    Ok(answer(alloc, modules.as_slice(), prelude)?)
 }
 
-/// The first case whose files give something else.
-fn first_wrong<'a>(
-    alloc: Global,
-    cases: &'a str,
-    prelude: bool,
-) -> Result<Option<&'a str>, AllocError> {
+/// Compares what the files of each case give with what it says.
+fn check_cases(rt: &impl Abort, alloc: Global, cases: &str, prelude: bool) -> Result<(), Fail> {
     for case in cases.split('^') {
-        if !is_right(alloc, case, prelude)? {
-            return Ok(Some(case));
-        }
+        let (texts, expected) = case.split_once('~').ok_or("a case without a `~`")?;
+        let found = found(alloc, texts, prelude)?;
+        assert_eq!(rt; str::from_utf8(found.as_slice())?, expected, "at {texts:?}");
     }
-    Ok(None)
+    Ok(())
 }
 
 #[test]
 fn files(rt: HostRuntime) -> Result<(), Fail> {
-    assert_eq!(rt; first_wrong(rt.alloc(), cases(), false)?, None);
-    assert_eq!(rt; first_wrong(rt.alloc(), cases_with_prelude(), true)?, None);
-    Ok(())
+    check_cases(&rt, rt.alloc(), cases(), false)?;
+    check_cases(&rt, rt.alloc(), cases_with_prelude(), true)
 }
 
 #[test]
 fn one_answer(rt: HostRuntime) -> Result<(), Fail> {
     let modules = modules_of(rt.alloc(), "%start s %% s: {}")?.ok_or("a text that spells nothing")?;
-    match join(rt.alloc(), modules.as_slice(), false) {
-        Ok(joined) => is_one_joined(false, modules.as_slice(), &joined, &joined),
-        Err(fault) => is_one_fault(false, modules.as_slice(), &fault, &fault),
-    }
+    let Ok(left) = join(rt.alloc(), modules.as_slice(), false) else {
+        return Err("a fault".into());
+    };
+    let Ok(right) = join(rt.alloc(), modules.as_slice(), false) else {
+        return Err("a fault".into());
+    };
+    is_one_joined(false, modules.as_slice(), &left, &right);
+    is_joined_or_fault(false, modules.as_slice(), &left, &JoinFault::Memory);
     Ok(())
 }
 
-/// 256 tokens.
-fn push_tokens(out: &mut Vec<u8>) -> Result<(), AllocError> {
-    push_text(out, b"%token")?;
-    for first in b'A'..b'Q' {
-        for second in b'a'..b'q' {
-            out.push(b' ')?;
-            out.push(first)?;
-            out.push(second)?;
+#[test]
+fn one_fault(rt: HostRuntime) -> Result<(), Fail> {
+    let modules = modules_of(rt.alloc(), "%% s: {}")?.ok_or("a text that spells nothing")?;
+    let Err(left) = join(rt.alloc(), modules.as_slice(), false) else {
+        return Err("no fault".into());
+    };
+    let Err(right) = join(rt.alloc(), modules.as_slice(), false) else {
+        return Err("no fault".into());
+    };
+    is_one_fault(false, modules.as_slice(), &left, &right);
+    assert_eq!(rt; left, JoinFault::NoStart);
+    assert_eq!(rt; right, JoinFault::NoStart);
+    Ok(())
+}
+
+/// What a file with 256 tokens and this text gives, with the files behind it.
+fn with_tokens(alloc: Global, more: &str) -> Result<Vec<u8>, Fail> {
+    let mut texts = String::new(alloc);
+    texts.push_str("%token")?;
+    for first in 'A'..='P' {
+        for second in 'a'..='p' {
+            let name = format!(in alloc; " {first}{second}")?;
+            texts.push_str(&name)?;
         }
     }
-    Ok(())
-}
-
-/// What a file with 256 tokens and this text gives.
-fn with_tokens(alloc: Global, more: &str) -> Result<Vec<u8>, AllocError> {
-    let mut text = Vec::new(alloc);
-    push_tokens(&mut text)?;
-    push_text(&mut text, more.as_bytes())?;
-    let mut modules = Vec::new(alloc);
-    if let Some(found) = module_of(alloc, text.as_slice()) {
-        modules.push(found)?;
-    }
-    answer(alloc, modules.as_slice(), false)
+    texts.push_str(more)?;
+    found(alloc, &texts, false)
 }
 
 #[test]
@@ -344,6 +363,12 @@ fn counts_of_tokens(rt: HostRuntime) -> Result<(), Fail> {
     assert_eq!(rt; more.as_slice(), b"too many 257".as_slice());
     let repeated = with_tokens(rt.alloc(), " Z Aa Z Y %start s %% s: {}")?;
     assert_eq!(rt; repeated.as_slice(), b"too many 258".as_slice());
+    let known = with_tokens(rt.alloc(), " %start s %% s: {}#%token Pp Aa %%")?;
+    assert!(rt; known.ends_with(b"Pp >0:s0|1.0;"));
+    let in_two_files = with_tokens(rt.alloc(), " %start s %% s: {}#%token Pp Z Aa %%")?;
+    assert_eq!(rt; in_two_files.as_slice(), b"too many 257".as_slice());
+    let without_level = with_tokens(rt.alloc(), " Z %start s %% s: {} %prec y")?;
+    assert_eq!(rt; without_level.as_slice(), b"L y".as_slice());
     Ok(())
 }
 

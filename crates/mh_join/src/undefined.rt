@@ -214,20 +214,27 @@ fn check_on_error(
 fn check_file_on_error(
     alloc: Global,
     names: &Names,
-    at: u64,
+    number: u64,
     file: &Module,
 ) -> Result<(), JoinFault>
-    ensures { Finds (flat_map (undefined_in_on_error (meant_by (meanings_in names.now) at (formal_number []))) file.now.on_error) result }
+    ensures { Finds
+        (flat_map (undefined_in_on_error (meant_by (meanings_in names.now) number (formal_number []))) file.now.on_error)
+        result }
 {
     match formals_of(alloc, &[]) {
-        Ok(none) => check_on_error(names, at, &none, file.on_error.as_slice()),
+        Ok(none) => check_on_error(names, number, &none, file.on_error.as_slice()),
         Err(_) => Err(JoinFault::Memory),
     }
 }
 
 /// Everything in the declarations of a file stands for something.
-fn check_declarations(alloc: Global, names: &Names, at: u64, file: &Module) -> Result<(), JoinFault>
-    ensures { Finds (undefined_in_declarations (meanings_in names.now) at file.now) result }
+fn check_declarations(
+    alloc: Global,
+    names: &Names,
+    number: u64,
+    file: &Module,
+) -> Result<(), JoinFault>
+    ensures { Finds (undefined_in_declarations (meanings_in names.now) number file.now) result }
 {
     if let Err(fault) = check_starts(names, file.starts.as_slice()) {
         return Err(fault);
@@ -235,15 +242,15 @@ fn check_declarations(alloc: Global, names: &Names, at: u64, file: &Module) -> R
     if let Err(fault) = check_levels(names, file.levels.as_slice()) {
         return Err(fault);
     }
-    check_file_on_error(alloc, names, at, file)
+    check_file_on_error(alloc, names, number, file)
 }
 
 /// Everything in a file stands for something.
-fn check_file(alloc: Global, names: &Names, at: u64, file: &Module) -> Result<(), JoinFault>
-    ensures { Finds (undefined_in_file (meanings_in names.now) (at, file.now)) result }
+fn check_file(alloc: Global, names: &Names, number: u64, file: &Module) -> Result<(), JoinFault>
+    ensures { Finds (undefined_in_file (meanings_in names.now) (number, file.now)) result }
 {
-    match check_declarations(alloc, names, at, file) {
-        Ok(()) => check_rules(alloc, names, at, file.rules.as_slice()),
+    match check_declarations(alloc, names, number, file) {
+        Ok(()) => check_rules(alloc, names, number, file.rules.as_slice()),
         Err(fault) => Err(fault),
     }
 }

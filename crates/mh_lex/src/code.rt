@@ -1,5 +1,6 @@
 //! Code, comments and types, up to what closes them.
 ghost use Rattle.std.specs.Prelude.{◌≡◌, ◌-◌, ◌<◌, ◌≤◌, ℕ, length, drop, List, IfSome, IfNone, IsTrue};
+ghost use Rattle.std.specs.Option.{unwrap_or};
 ghost use Rattle.mh_lex.specs.declared.kinds.Ends.TheVariants as ends;
 ghost use Rattle.mh_lex.specs.Bytes.{byte_at, has, is_word_start};
 ghost use Rattle.mh_lex.specs.Spellings.{quoted_id, quoted_rest};
@@ -13,7 +14,7 @@ use crate::items::{
 use crate::kinds::{Ends, Step};
 
 /// Whether a comment begins here.
-pub fn starts_comment(rest: &[u8]) -> bool
+pub(crate) fn starts_comment(rest: &[u8]) -> bool
     ensures value { result ≡ begins_comment rest.now }
     ensures within { IsTrue result → 2 ≤ length rest.now }
 {
@@ -80,18 +81,16 @@ fn item_at(ends: Ends, rest: &[u8]) -> Step
             None => Step::Stuck,
         };
     }
-    let literal = literal_length(rest);
-    if literal > 0 {
+    if let Some(literal) = literal_length(rest) {
         return Step::Passes(literal);
     }
     if begins_word(rest) {
         return Step::Passes(word_length(rest));
     }
-    let opening = quoted_opening_length(rest);
-    if opening > 0 {
-        return quoted_step(opening, rest);
+    match quoted_opening_length(rest) {
+        Some(opening) => quoted_step(opening, rest),
+        None => single_step(ends, rest),
     }
-    single_step(ends, rest)
 }
 
 /// What stands at the front where nothing closes and no comment begins.
@@ -110,29 +109,41 @@ fn plain_step(ends: Ends, rest: &[u8]) -> Step
     }
 }
 
-/// The length of what closes the code, 0 where it does not stand here.
-fn closing_length(ends: Ends, rest: &[u8]) -> usize
-    ensures value { result ≡ closer ends rest.now }
-    ensures within { result ≤ length rest.now }
+/// The length of what closes the code, None where it does not stand here.
+fn closing_length(ends: Ends, rest: &[u8]) -> Option<usize>
+    ensures value { unwrap_or result 0 ≡ closer ends rest.now }
+    ensures within { IfSome result (λ n. (0 < n) × (n ≤ length rest.now)) }
 {
     match ends {
         Ends::Comment => if has_byte(rest, 0, b'*') && has_byte(rest, 1, b')') {
-            2
+            Some(2)
         } else {
-            0
+            None
         },
-        Ends::Brace => if has_byte(rest, 0, b'}') { 1 } else { 0 },
-        Ends::Bracket => if has_byte(rest, 0, b']') { 1 } else { 0 },
+        Ends::Brace => if has_byte(rest, 0, b'}') {
+            Some(1)
+        } else {
+            None
+        },
+        Ends::Bracket => if has_byte(rest, 0, b']') {
+            Some(1)
+        } else {
+            None
+        },
         Ends::Header => if has_byte(rest, 0, b'%') && has_byte(rest, 1, b'}') {
-            2
+            Some(2)
         } else {
-            0
+            None
         },
-        Ends::Angle => if has_byte(rest, 0, b'>') { 1 } else { 0 },
-        Ends::Slash => if has_byte(rest, 0, b'*') && has_byte(rest, 1, b'/') {
-            2
+        Ends::Angle => if has_byte(rest, 0, b'>') {
+            Some(1)
         } else {
-            0
+            None
+        },
+        Ends::Slash => if has_byte(rest, 0, b'*') && has_byte(rest, 1, b'/') {
+            Some(2)
+        } else {
+            None
         },
     }
 }
@@ -150,8 +161,7 @@ fn step_at(ends: Ends, rest: &[u8]) -> Step
     ensures value { result ≡ step ends rest.now }
     ensures within { Within (length rest.now) result }
 {
-    let closing = closing_length(ends, rest);
-    if closing > 0 {
+    if let Some(closing) = closing_length(ends, rest) {
         Step::Closes(closing)
     } else if passes_comments(ends) && starts_comment(rest) {
         Step::Remark
@@ -211,7 +221,7 @@ fn comment_from(bytes: &[u8], at: usize) -> Option<usize>
 }
 
 /// How many bytes there are up to and with what closes the code, None where nothing does.
-pub fn code_length(code: Ends, rest: &[u8]) -> Option<usize>
+pub(crate) fn code_length(code: Ends, rest: &[u8]) -> Option<usize>
     ensures some { IfSome result
         (λ n. (n ≤ length rest.now) × Body code rest.now (drop n rest.now)) }
     ensures none { IfNone result ((after : List ℕ) → Body code rest.now after → ⊥) }

@@ -119,7 +119,7 @@ fn slash_at(rest: &[u8]) -> Front
 
 /// What stands at the front.
 #[tactic(auto, unfolding(crate::specs::Begins::front))]
-pub fn front_of(rest: &[u8]) -> Front
+fn front_of(rest: &[u8]) -> Front
     ensures value { result ≡ front rest.now }
     ensures within { Begins (length rest.now) result }
 {
@@ -156,7 +156,7 @@ pub fn front_of(rest: &[u8]) -> Front
 }
 
 /// What stands at a place.
-pub fn front_from(bytes: &[u8], at: usize) -> Front
+pub(crate) fn front_from(bytes: &[u8], at: usize) -> Front
     requires { at ≤ length bytes.now }
     ensures value { result ≡ front (drop at bytes.now) }
     ensures within { Begins (length bytes.now - at) result }

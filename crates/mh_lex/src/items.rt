@@ -1,10 +1,11 @@
 //! Words, strings, quoted strings and character literals.
 ghost use Rattle.std.specs.Prelude.{◌≡◌, ◌+◌, ◌<◌, ◌≤◌, ◌==◌, ◌&&◌, not, false, length, drop, IfSome, IsTrue};
+ghost use Rattle.std.specs.Option.{unwrap_or};
 ghost use Rattle.mh_lex.specs.Bytes.{byte_at, has, is_word_start, is_word_byte, is_decimal, is_octal, is_hexadecimal, is_id_byte, is_escape};
 ghost use Rattle.mh_lex.specs.Spellings.{word_rest, string_rest, id_rest, quoted_opening, closes_quoted, quoted_rest, escaped, literal};
 
 /// Whether this byte stands at a place.
-pub fn has_byte(rest: &[u8], place: usize, byte: u8) -> bool
+pub(crate) fn has_byte(rest: &[u8], place: usize, byte: u8) -> bool
     ensures value { result ≡ has rest.now place byte }
     ensures within { IsTrue result → place < length rest.now }
 {
@@ -14,7 +15,7 @@ pub fn has_byte(rest: &[u8], place: usize, byte: u8) -> bool
     }
 }
 
-pub fn starts_word(byte: u8) -> bool
+pub(crate) fn starts_word(byte: u8) -> bool
     ensures { result ≡ is_word_start byte }
 {
     byte.is_ascii_alphabetic() || byte == b'_'
@@ -33,7 +34,7 @@ fn continues_id(byte: u8) -> bool
 }
 
 /// How many bytes of a word are left.
-pub fn word_length(rest: &[u8]) -> usize
+pub(crate) fn word_length(rest: &[u8]) -> usize
     ensures value { result ≡ word_rest rest.now }
     ensures within { result ≤ length rest.now }
 {
@@ -56,7 +57,7 @@ fn is_free(taken: bool, byte: u8, wanted: u8) -> bool
 
 /// How many bytes there are up to and with a string's closing quote.
 #[tactic(auto, using(crate::proofs::Sums::plus_more))]
-pub fn string_length(rest: &[u8]) -> Option<usize>
+pub(crate) fn string_length(rest: &[u8]) -> Option<usize>
     ensures value { result ≡ string_rest false rest.now }
     ensures within { IfSome result (λ n. n ≤ length rest.now) }
 {
@@ -85,21 +86,20 @@ fn id_length(rest: &[u8]) -> usize
     length
 }
 
-/// The length of a quoted string's opening, 0 where none stands here.
+/// The length of a quoted string's opening, None where none stands here.
 #[tactic(auto, unfolding(crate::specs::Spellings::quoted_opening))]
-pub fn quoted_opening_length(rest: &[u8]) -> usize
-    ensures value { result ≡ quoted_opening rest.now }
-    ensures within { result ≤ length rest.now }
-    ensures least { 0 < result → 2 ≤ result }
+pub(crate) fn quoted_opening_length(rest: &[u8]) -> Option<usize>
+    ensures value { unwrap_or result 0 ≡ quoted_opening rest.now }
+    ensures within { IfSome result (λ n. (2 ≤ n) × (n ≤ length rest.now)) }
 {
     if !has_byte(rest, 0, b'{') {
-        return 0;
+        return None;
     }
     let id = id_length(&rest[1..]);
     if has_byte(rest, id + 1, b'|') {
-        id + 2
+        Some(id + 2)
     } else {
-        0
+        None
     }
 }
 
@@ -123,7 +123,7 @@ fn closes_at(id: &[u8], rest: &[u8], place: usize) -> bool
 
 /// How many bytes there are up to and with what closes a quoted string of this id.
 #[tactic(auto, using(crate::proofs::Sums::plus_more))]
-pub fn quoted_length(id: &[u8], rest: &[u8]) -> Option<usize>
+pub(crate) fn quoted_length(id: &[u8], rest: &[u8]) -> Option<usize>
     ensures value { result ≡ quoted_rest id.now rest.now }
     ensures within { IfSome result (λ n. n ≤ length rest.now) }
 {
@@ -181,50 +181,54 @@ fn has_escape(rest: &[u8], place: usize) -> bool
     }
 }
 
-/// The length of a character literal with a backslash, 0 where none stands here.
+/// The length of a character literal with a backslash, None where none stands here.
 #[tactic(auto, unfolding(crate::specs::Spellings::escaped))]
-fn escaped_length(rest: &[u8]) -> usize
-    ensures value { result ≡ escaped rest.now }
-    ensures within { result ≤ length rest.now }
+fn escaped_length(rest: &[u8]) -> Option<usize>
+    ensures value { unwrap_or result 0 ≡ escaped rest.now }
+    ensures within { IfSome result (λ n. (0 < n) × (n ≤ length rest.now)) }
 {
     if has_escape(rest, 2) && has_byte(rest, 3, b'\'') {
-        4
+        Some(4)
     } else if has_decimal(rest, 2)
         && has_decimal(rest, 3)
         && has_decimal(rest, 4)
         && has_byte(rest, 5, b'\'')
     {
-        6
+        Some(6)
     } else if has_byte(rest, 2, b'x')
         && has_hexadecimal(rest, 3)
         && has_hexadecimal(rest, 4)
         && has_byte(rest, 5, b'\'')
     {
-        6
+        Some(6)
     } else if has_byte(rest, 2, b'o')
         && has_octal(rest, 3)
         && has_octal(rest, 4)
         && has_octal(rest, 5)
         && has_byte(rest, 6, b'\'')
     {
-        7
+        Some(7)
     } else {
-        0
+        None
     }
 }
 
-/// The length of a character literal, 0 where none stands here.
+/// The length of a character literal, None where none stands here.
 #[tactic(auto, unfolding(crate::specs::Spellings::literal))]
-pub fn literal_length(rest: &[u8]) -> usize
-    ensures value { result ≡ literal rest.now }
-    ensures within { result ≤ length rest.now }
+pub(crate) fn literal_length(rest: &[u8]) -> Option<usize>
+    ensures value { unwrap_or result 0 ≡ literal rest.now }
+    ensures within { IfSome result (λ n. (0 < n) × (n ≤ length rest.now)) }
 {
     if !has_byte(rest, 0, b'\'') {
-        return 0;
+        return None;
     }
     match rest.get(1) {
         Some(b'\\') => escaped_length(rest),
-        Some(b'\'' | b'\n') | None => 0,
-        Some(_) => if has_byte(rest, 2, b'\'') { 3 } else { 0 },
+        Some(b'\'' | b'\n') | None => None,
+        Some(_) => if has_byte(rest, 2, b'\'') {
+            Some(3)
+        } else {
+            None
+        },
     }
 }

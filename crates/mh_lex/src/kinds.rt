@@ -1,4 +1,4 @@
-//! What stands at the front of some bytes.
+//! Lexemes and their kinds, why bytes are not read, and what the steps of lexing find.
 ghost use Rattle.std.specs.Prelude.{◌≡◌};
 ghost use Rattle.mh_lex.specs.declared.kinds.SyntaxFault.TheVariants.{Memory};
 
@@ -36,12 +36,13 @@ pub struct Lexeme {
     pub end: usize,
 }
 
-/// Why bytes are not read. `Syntax` names the line, from 1 on, on which the first begins that is no lexeme or comment, or
-/// that is not closed.
+/// Why bytes are not read.
 #[derive(Clone, Copy, Debug, Drop, PartialEq, Eq, Error)]
 pub enum SyntaxFault {
+    /// They have another form. The line counts from 1. Each call says which line it is.
     #[error("{line}: syntax error")]
     Syntax { line: u32 },
+    /// Memory ran out.
     #[error("out of memory")]
     Memory,
 }
@@ -56,7 +57,7 @@ impl From<AllocError> for SyntaxFault {
 
 /// What closes a stretch of code, a comment or a type.
 #[derive(Clone, Copy, Drop)]
-pub enum Ends {
+pub(crate) enum Ends {
     /// `*)`
     Comment,
     /// `}`
@@ -73,26 +74,35 @@ pub enum Ends {
 
 /// What stands at the front inside of code, with its length.
 #[derive(Clone, Copy, Drop)]
-pub enum Step {
+pub(crate) enum Step {
+    /// What closes this level of the code.
     Closes(usize),
+    /// What is passed over whole.
     Passes(usize),
+    /// One byte, behind which a level inside begins.
     Nests,
+    /// The two bytes that open a comment.
     Remark,
+    /// Nothing to go on with: the bytes end here, or a string begins that is not closed.
     Stuck,
 }
 
 /// What stands at the front outside of code, with its length. What has no kind is dropped.
 #[derive(Clone, Copy, Drop)]
-pub enum Front {
+pub(crate) enum Front {
+    /// No byte is left.
     Ended,
+    /// What is whole.
     Short(Option<Kind>, usize),
+    /// The opening of what has to be closed.
     Long(Option<Kind>, Ends, usize),
+    /// Nothing begins so.
     Fault,
 }
 
 /// What was taken, and where it ends.
 #[derive(Clone, Copy, Drop)]
-pub enum Taking {
+pub(crate) enum Taking {
     Ended,
     Piece(Option<Kind>, usize),
     Fault,

@@ -39,7 +39,7 @@ fn taken_at(bytes: &[u8], at: usize) -> Taking
 }
 
 /// How many line feeds there are.
-fn count_of_lines(bytes: &[u8]) -> u32
+fn count_line_feeds(bytes: &[u8]) -> u32
     requires { length bytes.now < 2 ^ 31 }
     ensures value { result ≡ count_by (λ b. b == 10) bytes.now }
     ensures within { result ≤ length bytes.now }
@@ -59,7 +59,7 @@ pub fn line_of(bytes: &[u8], place: usize) -> u32
     requires short { length bytes.now < 2 ^ 31 }
     ensures { result ≡ line_at bytes.now place }
 {
-    1 + count_of_lines(&bytes[..place])
+    1 + count_line_feeds(&bytes[..place])
 }
 
 /// Adds what has a kind.

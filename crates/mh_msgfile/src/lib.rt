@@ -4,3 +4,6 @@
 mod sentence;
 
 pub use sentence::{Lexicon, SentenceFault, read_sentence};
+
+#[cfg(test)]
+mod tests;

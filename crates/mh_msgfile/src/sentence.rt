@@ -16,14 +16,14 @@ pub enum SentenceFault {
     /// It has another form.
     #[error("no sentence line")]
     Unreadable,
-    /// It names this start, which is none.
-    #[error("a start that is none")]
+    /// No start symbol has the name before its colon.
+    #[error("no start symbol of this name")]
     UnknownStart { name: Name },
-    /// It names no start, and there is not just one.
+    /// It names no start, and the grammar has none or several.
     #[error("no start is named")]
     MissingStart,
-    /// This is the first name that is no token's.
-    #[error("a token that is none")]
+    /// No token has this name, the first such of the line.
+    #[error("no token of this name")]
     UnknownToken { name: Name },
     /// Memory ran out.
     #[error("out of memory")]
@@ -38,7 +38,8 @@ impl From<Memory> for SentenceFault {
     }
 }
 
-/// The numbers of the starts and of the tokens, by their names.
+/// The numbers of a grammar's starts and tokens by their names, made once for all of its lines. A start has the name of its
+/// nonterminal, and its number is its place among the starts. Of two with one name the first counts.
 #[derive(Drop)]
 pub struct Lexicon {
     starts: IndexMap<Vec<u8>, u16>,
@@ -90,18 +91,6 @@ fn start_numbers(alloc: Global, grammar: &Grammar) -> Result<IndexMap<Vec<u8>, u
         )?;
     }
     Ok(numbers)
-}
-
-impl Lexicon {
-    /// The numbers of a grammar's starts and tokens.
-    pub fn new(alloc: Global, grammar: &Grammar) -> Result<Lexicon, Memory>
-        requires { IsInRange (plain_of grammar.now) }
-        ensures { IfOk result (HasNumbers (vocabulary_of grammar.now)) }
-    {
-        let starts = start_numbers(alloc, grammar)?;
-        let tokens = token_numbers(alloc, grammar.tokens.as_slice())?;
-        Ok(Lexicon { starts, tokens })
-    }
 }
 
 fn is_blank(byte: u8) -> bool
@@ -220,7 +209,7 @@ fn is_readable(line: &[u8]) -> bool
     true
 }
 
-/// The tokens that the pieces name.
+/// The tokens that the pieces name. The grammar is here, and below, for the clauses: the lexicon has its names.
 fn read_tokens(
     alloc: Global,
     grammar: &Grammar,
@@ -231,7 +220,6 @@ fn read_tokens(
     ensures tokens { ReadsTokens (tokens_of (token_names grammar.now) (pieces line.now)) result }
     ensures few { IfOk result (λ tokens. length tokens.items ≤ length line.now) }
 {
-    let _names = &grammar.tokens;
     let mut tokens = Vec::new(alloc);
     let mut rest = line;
     while let Some((name, behind)) = first_piece(rest) {
@@ -261,8 +249,6 @@ fn find_start(
     requires { AreNumbers (start_names grammar.now) lexicon.now.starts.entries }
     ensures { FindsStart (start_by (start_names grammar.now) (Some name.now)) result }
 {
-    let _starts = &grammar.starts;
-    let _names = &grammar.nonterminals;
     match lexicon.starts.get(name) {
         Some(start) => Ok(*start),
         None => {
@@ -276,7 +262,6 @@ fn find_start(
 fn only_start(grammar: &Grammar) -> Result<u16, SentenceFault>
     ensures { FindsStart (start_by (start_names grammar.now) None) result }
 {
-    let _names = &grammar.nonterminals;
     if grammar.starts.len() == 1 {
         Ok(0)
     } else {
@@ -346,26 +331,53 @@ fn unnamed_sentence(
     }
 }
 
+impl Lexicon {
+    /// The numbers of this grammar's starts and tokens. `Memory` only where there was none.
+    pub fn new(alloc: Global, grammar: &Grammar) -> Result<Lexicon, Memory>
+        requires { IsInRange (plain_of grammar.now) }
+        ensures { IfOk result (HasNumbers (vocabulary_of grammar.now)) }
+    {
+        let starts = start_numbers(alloc, grammar)?;
+        let tokens = token_numbers(alloc, grammar.tokens.as_slice())?;
+        Ok(Lexicon { starts, tokens })
+    }
+
+    /// The sentence of a line, as `read_sentence` has it, by the numbers that were made of this grammar.
+    pub fn read(
+        &self,
+        alloc: Global,
+        grammar: &Grammar,
+        line: &[u8],
+    ) -> Result<Sentence, SentenceFault>
+        requires { HasNumbers (vocabulary_of grammar.now) self.now }
+        ensures sentence { ReadsSentence (sentence_in (vocabulary_of grammar.now) line.now) result }
+        ensures few { IfOk result (λ sentence. length sentence.tokens ≤ length line.now) }
+    {
+        let place = place_of_colon(line);
+        if place < line.len() {
+            match sole_name(&line[..place]) {
+                Some(name) => named_sentence(alloc, grammar, self, name, &line[place + 1..]),
+                None => Err(SentenceFault::Unreadable),
+            }
+        } else {
+            unnamed_sentence(alloc, grammar, self, line)
+        }
+    }
+}
+
 /// The sentence of a line: names of tokens, with blanks between and round them, behind a start and a colon. The start
 /// may be left out with the colon where there is just one. `Unreadable` comes for another form, then `UnknownStart` or
 /// `MissingStart`, then `UnknownToken` for the first name that is no token's. `Memory` only where there was none.
+/// For many lines of one grammar, `Lexicon::read` makes the numbers of its names only once.
 pub fn read_sentence(
     alloc: Global,
     grammar: &Grammar,
-    lexicon: &Lexicon,
     line: &[u8],
 ) -> Result<Sentence, SentenceFault>
-    requires { HasNumbers (vocabulary_of grammar.now) lexicon.now }
+    requires { IsInRange (plain_of grammar.now) }
     ensures sentence { ReadsSentence (sentence_in (vocabulary_of grammar.now) line.now) result }
     ensures few { IfOk result (λ sentence. length sentence.tokens ≤ length line.now) }
 {
-    let place = place_of_colon(line);
-    if place < line.len() {
-        match sole_name(&line[..place]) {
-            Some(name) => named_sentence(alloc, grammar, lexicon, name, &line[place + 1..]),
-            None => Err(SentenceFault::Unreadable),
-        }
-    } else {
-        unnamed_sentence(alloc, grammar, lexicon, line)
-    }
+    let lexicon = Lexicon::new(alloc, grammar)?;
+    lexicon.read(alloc, grammar, line)
 }

@@ -4,6 +4,7 @@ ghost use Rattle.mh_opts.specs.declared.order.UsageFault.TheVariants as faults;
 
 use mh_grammar::{Memory, Name, Sequence};
 use std::alloc::AllocError;
+use thiserror::Error;
 
 /// What is to be done.
 #[derive(Clone, Copy, Debug, Drop, PartialEq, Eq)]
@@ -28,16 +29,26 @@ pub struct Order {
     pub show_cst: bool,
 }
 
-/// Why words are no order.
-#[derive(Debug, Drop)]
+/// Why words are no order: the first of these faults, in the order of the variants.
+#[derive(Debug, Drop, PartialEq, Eq, Error)]
 pub enum UsageFault {
     /// The command does not take the words.
+    #[error("bad words")]
     Parse,
+    /// No word says what is to be done.
+    #[error("no mode")]
     NoMode,
+    /// Two words say what is to be done.
+    #[error("two modes")]
     TwoModes,
+    /// This option, with its two hyphens, has no meaning with the job.
+    #[error("misplaced option")]
     Misplaced { option: Name },
     /// There is no grammar file.
+    #[error("no grammar")]
     NoGrammar,
+    /// Memory ran out.
+    #[error("out of memory")]
     Memory,
 }
 

@@ -4,14 +4,18 @@ ghost use Rattle.clap.specs.Words.{found_of, rows_of};
 ghost use Rattle.mh_opts.specs.Orders as orders;
 ghost use Rattle.mh_opts.specs.Orders.{Answers, given, grammars_of, job_of, modes_of, order_in, order_of, order_for, misplaced_at};
 
-use crate::command::menhir_command;
+use crate::command::{
+    GRAMMARS, INTERPRET, INTERPRET_SHOW_CST, NO_STDLIB, SHOW_AUTOMATON, STRICT, WRITTEN_SHOW_CST,
+    menhir_command,
+};
 use crate::order::{Job, Order, UsageFault};
 use clap::ArgMatches;
 use clap::error::ErrorKind;
 use mh_grammar::{Memory, Name, Sequence, from_bytes};
 use std::alloc::Global;
 
-/// Whether an option stands among the words.
+/// Whether an option stands among the words. Compares the text of its value: clap says what `get_flag` answers only where
+/// that text is `true` or `false`, which nothing here has to know.
 fn has_flag(matches: &ArgMatches<'_>, name: &str) -> bool
     ensures { result ≡ orders.has_flag (rows_of (found_of matches.now)) name.now }
 {
@@ -36,8 +40,8 @@ fn modes(matches: &ArgMatches<'_>) -> [Option<Job>; 2]
     ensures { result ≡ modes_of (rows_of (found_of matches.now)) }
 {
     [
-        if_flag(matches, "interpret", Job::Interpret),
-        if_flag(matches, "show-automaton", Job::ShowAutomaton),
+        if_flag(matches, INTERPRET, Job::Interpret),
+        if_flag(matches, SHOW_AUTOMATON, Job::ShowAutomaton),
     ]
 }
 
@@ -71,7 +75,7 @@ fn names_of(alloc: Global, words: &[&str]) -> Result<Sequence<Name>, Memory>
 fn grammars(alloc: Global, matches: &ArgMatches<'_>) -> Result<Sequence<Name>, Memory>
     ensures { IfOk result (λ names. names ≡ grammars_of (rows_of (found_of matches.now))) }
 {
-    match matches.get_strs("grammars") {
+    match matches.get_strs(GRAMMARS) {
         Some(words) => names_of(alloc, words),
         None => Ok(Sequence::new(alloc)),
     }
@@ -81,8 +85,8 @@ fn grammars(alloc: Global, matches: &ArgMatches<'_>) -> Result<Sequence<Name>, M
 fn misplaced(matches: &ArgMatches<'_>, job: Job) -> Option<&'static str>
     ensures { option_map (λ option. option.now) result ≡ misplaced_at (rows_of (found_of matches.now)) job }
 {
-    if has_flag(matches, "interpret-show-cst") && job != Job::Interpret {
-        Some("--interpret-show-cst")
+    if has_flag(matches, INTERPRET_SHOW_CST) && job != Job::Interpret {
+        Some(WRITTEN_SHOW_CST)
     } else {
         None
     }
@@ -104,9 +108,9 @@ fn order_with(alloc: Global, matches: &ArgMatches<'_>, job: Job) -> Result<Order
     Ok(Order {
         job,
         grammars,
-        strict: has_flag(matches, "strict"),
-        stdlib: !has_flag(matches, "no-stdlib"),
-        show_cst: has_flag(matches, "interpret-show-cst"),
+        strict: has_flag(matches, STRICT),
+        stdlib: !has_flag(matches, NO_STDLIB),
+        show_cst: has_flag(matches, INTERPRET_SHOW_CST),
     })
 }
 

@@ -1,3 +1,4 @@
+//! Lines of a source, read a byte at a time.
 ghost use Rattle.std.specs.Prelude.{◌≡◌, ◌<◌, ◌^◌, List, ℕ, Option, length};
 ghost use Rattle.mh_outside.specs.declared.lines.LineFault.TheVariants.{Failed as Failed'};
 ghost use Rattle.mh_outside.specs.Lines.{ReadsByte, ReadsLine, FindsLine, LineCounts};

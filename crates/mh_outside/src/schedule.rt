@@ -1,3 +1,4 @@
+//! Which calls of a fake device fail, and the counts of its calls and faults.
 ghost use Rattle.std.specs.Prelude.{◌≡◌, ◌≤◌};
 ghost use Rattle.mh_outside.specs.Faults.{one_more};
 ghost use Rattle.mh_outside.specs.Schedule.{Calls, no_calls, fails_next, after_call};

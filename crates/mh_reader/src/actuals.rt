@@ -40,13 +40,17 @@ fn add_actual(actuals: Sequence<Actual>, actual: Actual) -> Result<Sequence<Actu
     Ok(actuals)
 }
 
-/// An actual with one argument.
+/// An actual with one argument, for which alone there is room: a suffix of one byte makes one.
 fn wrapped(alloc: Global, name: &[u8], inner: Actual) -> Result<Actual, Memory>
     ensures { IfOk result (λ a. a ≡ applied (Plain name.now) (inner ∷ [])) }
 {
     let head = Ref::Plain(from_bytes(alloc, name)?);
-    let args = add_actual(Sequence::new(alloc), inner)?;
-    Ok(Actual { head, args })
+    let mut args = Vec::with_capacity(alloc, 1)?;
+    args.push(inner)?;
+    Ok(Actual {
+        head,
+        args: Sequence::from_vec(args),
+    })
 }
 
 /// Behind a whole producer or item of a list.
@@ -161,7 +165,7 @@ fn suffix(
 }
 
 /// Behind an actual, where a suffix may stand.
-pub fn after(
+pub(crate) fn after(
     alloc: Global,
     made: Module,
     purpose: Purpose,
@@ -214,7 +218,7 @@ fn open(
 }
 
 /// Behind the name of an actual.
-pub fn at_head(
+pub(crate) fn at_head(
     alloc: Global,
     made: Module,
     purpose: Purpose,
@@ -240,7 +244,7 @@ pub fn at_head(
 }
 
 /// Behind a word that may name a producer.
-pub fn at_named(
+pub(crate) fn at_named(
     alloc: Global,
     made: Module,
     draft: Draft,
@@ -259,7 +263,7 @@ pub fn at_named(
 }
 
 /// Where an actual has to begin.
-pub fn at_argument(
+pub(crate) fn at_argument(
     alloc: Global,
     made: Module,
     purpose: Purpose,

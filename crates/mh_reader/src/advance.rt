@@ -18,7 +18,12 @@ use std::alloc::Global;
 
 /// The reader behind one lexeme more.
 #[tactic(auto, unfolding(crate::specs::Machine::next_at))]
-pub fn advance(alloc: Global, reader: Reader, sign: Sign, text: &[u8]) -> Result<Reader, Refusal>
+pub(crate) fn advance(
+    alloc: Global,
+    reader: Reader,
+    sign: Sign,
+    text: &[u8],
+) -> Result<Reader, Refusal>
     requires { IsShallow reader.place }
     ensures { Refers (machine.next_at reader.made reader.place sign text.now) result }
 {

@@ -30,7 +30,7 @@ fn close(made: Module, listing: Listing) -> Result<Module, Memory>
 }
 
 /// A declaration or the rules begin.
-pub fn declare(alloc: Global, made: Module, sign: Sign) -> Result<Reader, Refusal>
+pub(crate) fn declare(alloc: Global, made: Module, sign: Sign) -> Result<Reader, Refusal>
     ensures { Refers (machine.declare made sign) result }
 {
     let place = match sign {
@@ -135,7 +135,7 @@ fn list_quoted(
 }
 
 /// In a list.
-pub fn at_items(
+pub(crate) fn at_items(
     alloc: Global,
     made: Module,
     listing: Listing,
@@ -156,7 +156,7 @@ pub fn at_items(
 }
 
 /// Behind a comma of a list.
-pub fn at_comma(
+pub(crate) fn at_comma(
     alloc: Global,
     made: Module,
     listing: Listing,
@@ -173,7 +173,7 @@ pub fn at_comma(
 }
 
 /// Where a type may stand before a list.
-pub fn at_opening(
+pub(crate) fn at_opening(
     alloc: Global,
     made: Module,
     listing: Listing,
@@ -189,7 +189,7 @@ pub fn at_opening(
 }
 
 /// Where a type has to stand before a list of actuals.
-pub fn at_type(alloc: Global, made: Module, sign: Sign) -> Result<Reader, Refusal>
+pub(crate) fn at_type(alloc: Global, made: Module, sign: Sign) -> Result<Reader, Refusal>
     ensures { Refers (machine.at_type made sign) result }
 {
     match sign {
@@ -202,7 +202,7 @@ pub fn at_type(alloc: Global, made: Module, sign: Sign) -> Result<Reader, Refusa
 }
 
 /// Where a parameter's type has to stand.
-pub fn at_parameter(made: Module, sign: Sign) -> Result<Reader, Refusal>
+pub(crate) fn at_parameter(made: Module, sign: Sign) -> Result<Reader, Refusal>
     ensures { Refers (machine.at_parameter made sign) result }
 {
     match sign {
@@ -212,7 +212,7 @@ pub fn at_parameter(made: Module, sign: Sign) -> Result<Reader, Refusal>
 }
 
 /// Behind a token's name, where its alias may stand.
-pub fn at_token(
+pub(crate) fn at_token(
     alloc: Global,
     made: Module,
     name: Name,

@@ -11,7 +11,7 @@ use std::alloc::AllocError;
 
 /// Why a lexeme is not taken.
 #[derive(Clone, Copy, Debug, Drop)]
-pub enum Refusal {
+pub(crate) enum Refusal {
     Unexpected,
     Memory,
 }
@@ -34,23 +34,23 @@ impl From<AllocError> for Refusal {
 
 /// An actual whose bracket is open, and the depth of its deepest argument so far.
 #[derive(Drop)]
-pub struct Pending {
-    pub head: Ref,
-    pub args: Sequence<Actual>,
-    pub depth: usize,
+pub(crate) struct Pending {
+    pub(crate) head: Ref,
+    pub(crate) args: Sequence<Actual>,
+    pub(crate) depth: usize,
 }
 
 /// A rule with its whole groups, the whole productions of its last group, and the producers of its last production.
 #[derive(Drop)]
-pub struct Draft {
-    pub rule: Rule,
-    pub productions: Sequence<Alternative>,
-    pub producers: Sequence<Actual>,
+pub(crate) struct Draft {
+    pub(crate) rule: Rule,
+    pub(crate) productions: Sequence<Alternative>,
+    pub(crate) producers: Sequence<Actual>,
 }
 
 /// A list of a declaration. Tokens and starts go to the module at once; a list of actuals may leave nothing.
 #[derive(Drop)]
-pub enum Listing {
+pub(crate) enum Listing {
     Tokens,
     Starts,
     Levels(Assoc, Sequence<Ref>),
@@ -59,53 +59,73 @@ pub enum Listing {
 
 /// What an actual is for.
 #[derive(Drop)]
-pub enum Purpose {
+pub(crate) enum Purpose {
     Producer(Draft),
     Listed(bool, Sequence<Actual>),
 }
 
 /// What was read last, with what is not yet part of the module.
 #[derive(Drop)]
-pub enum Place {
+pub(crate) enum Place {
     Declarations,
+    /// The word of a list, behind which a type may stand.
     Opening(Listing),
+    /// `%type`, behind which a type has to stand.
     TypeOf,
+    /// The word of a list with its type, or an item.
     Items(Listing),
     Comma(Listing),
     TokenNamed(Name),
+    /// `%parameter`, behind which a type has to stand.
     ParameterType,
+    /// The first `%%`.
     Rules,
+    /// Modifiers: whether one is `%public`, and whether one is `%inline`.
     Modified(bool, bool),
     RuleNamed(Rule),
     FormalsOpen(Rule),
     FormalRead(Rule),
     FormalComma(Rule),
     FormalsClosed(Rule),
+    /// A rule's colon, behind which a bar may stand.
     Begin(Rule),
+    /// A bar, behind which a production stands.
     Production(Draft),
+    /// A producer, and semicolons behind it.
     Spaced(Draft),
+    /// A word that names a producer or is its head.
     Named(Draft, Name),
+    /// The `=`, `(` or `,` before an actual.
     Argument(Purpose, Stack<Pending>),
+    /// An actual's name, behind which arguments may stand.
     Head(Purpose, Stack<Pending>, Ref),
+    /// An actual with its arguments and the suffixes so far, and its depth.
     After(Purpose, Stack<Pending>, Actual, usize),
+    /// The `%prec` of a production.
     Prec(Draft),
+    /// A production with its `%prec`.
     Closed(Draft),
+    /// The action of a group.
     Group(Draft),
+    /// The `%prec` of a group.
     GroupPrec(Draft),
+    /// A group with its `%prec`.
     GroupClosed(Rule),
+    /// A semicolon behind a rule.
     RuleEnd,
+    /// The second `%%`.
     Ended,
 }
 
 /// What was read, and where.
 #[derive(Drop)]
-pub struct Reader {
-    pub made: Module,
-    pub place: Place,
+pub(crate) struct Reader {
+    pub(crate) made: Module,
+    pub(crate) place: Place,
 }
 
 /// The reader goes on at a place.
-pub fn go_to(made: Module, place: Place) -> Result<Reader, Refusal>
+pub(crate) fn go_to(made: Module, place: Place) -> Result<Reader, Refusal>
     ensures { Refers (machine.goes made place) result }
 {
     Ok(Reader { made, place })

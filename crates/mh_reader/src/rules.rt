@@ -13,7 +13,7 @@ use mh_grammar::{Memory, Name, Sequence, from_bytes};
 use std::alloc::Global;
 
 /// What a word or a string refers to.
-pub fn reference(alloc: Global, sign: Sign, text: &[u8]) -> Result<Ref, Refusal>
+pub(crate) fn reference(alloc: Global, sign: Sign, text: &[u8]) -> Result<Ref, Refusal>
     ensures { Refers (ref_by sign text.now) result }
 {
     let name = from_bytes(alloc, text)?;
@@ -48,7 +48,12 @@ fn name_rule(
 }
 
 /// Where a rule may begin.
-pub fn in_rules(alloc: Global, made: Module, sign: Sign, text: &[u8]) -> Result<Reader, Refusal>
+pub(crate) fn in_rules(
+    alloc: Global,
+    made: Module,
+    sign: Sign,
+    text: &[u8],
+) -> Result<Reader, Refusal>
     ensures { Refers (machine.in_rules made sign text.now) result }
 {
     match sign {
@@ -61,7 +66,7 @@ pub fn in_rules(alloc: Global, made: Module, sign: Sign, text: &[u8]) -> Result<
 }
 
 /// Behind modifiers.
-pub fn at_modified(
+pub(crate) fn at_modified(
     alloc: Global,
     made: Module,
     public: bool,
@@ -80,7 +85,7 @@ pub fn at_modified(
 }
 
 /// Behind a rule's name.
-pub fn at_rule_named(made: Module, rule: Rule, sign: Sign) -> Result<Reader, Refusal>
+pub(crate) fn at_rule_named(made: Module, rule: Rule, sign: Sign) -> Result<Reader, Refusal>
     ensures { Refers (machine.at_rule_named made rule sign) result }
 {
     match sign {
@@ -101,7 +106,7 @@ fn add_formal(alloc: Global, made: Module, rule: Rule, text: &[u8]) -> Result<Re
 }
 
 /// Behind the bracket of formals.
-pub fn at_formals_open(
+pub(crate) fn at_formals_open(
     alloc: Global,
     made: Module,
     rule: Rule,
@@ -118,7 +123,7 @@ pub fn at_formals_open(
 }
 
 /// Behind a formal.
-pub fn at_formal_read(made: Module, rule: Rule, sign: Sign) -> Result<Reader, Refusal>
+pub(crate) fn at_formal_read(made: Module, rule: Rule, sign: Sign) -> Result<Reader, Refusal>
     ensures { Refers (machine.at_formal_read made rule sign) result }
 {
     match sign {
@@ -129,7 +134,7 @@ pub fn at_formal_read(made: Module, rule: Rule, sign: Sign) -> Result<Reader, Re
 }
 
 /// Behind a comma of formals.
-pub fn at_formal_comma(
+pub(crate) fn at_formal_comma(
     alloc: Global,
     made: Module,
     rule: Rule,
@@ -145,7 +150,7 @@ pub fn at_formal_comma(
 }
 
 /// Behind formals.
-pub fn at_formals_closed(made: Module, rule: Rule, sign: Sign) -> Result<Reader, Refusal>
+pub(crate) fn at_formals_closed(made: Module, rule: Rule, sign: Sign) -> Result<Reader, Refusal>
     ensures { Refers (machine.at_formals_closed made rule sign) result }
 {
     match sign {
@@ -198,7 +203,7 @@ fn end_at_action(alloc: Global, made: Module, draft: Draft) -> Result<Reader, Re
 }
 
 /// In a production.
-pub fn in_production(
+pub(crate) fn in_production(
     alloc: Global,
     made: Module,
     draft: Draft,
@@ -231,7 +236,7 @@ pub fn in_production(
 }
 
 /// Behind a rule's colon.
-pub fn at_begin(
+pub(crate) fn at_begin(
     alloc: Global,
     made: Module,
     rule: Rule,
@@ -248,7 +253,7 @@ pub fn at_begin(
 }
 
 /// Behind a producer.
-pub fn at_spaced(
+pub(crate) fn at_spaced(
     alloc: Global,
     made: Module,
     draft: Draft,
@@ -264,7 +269,7 @@ pub fn at_spaced(
 }
 
 /// Behind a production's `%prec`.
-pub fn at_prec(
+pub(crate) fn at_prec(
     alloc: Global,
     made: Module,
     draft: Draft,
@@ -284,7 +289,12 @@ pub fn at_prec(
 }
 
 /// Behind a production that has a `%prec`.
-pub fn at_closed(alloc: Global, made: Module, draft: Draft, sign: Sign) -> Result<Reader, Refusal>
+pub(crate) fn at_closed(
+    alloc: Global,
+    made: Module,
+    draft: Draft,
+    sign: Sign,
+) -> Result<Reader, Refusal>
     ensures { Refers (machine.at_closed made draft sign) result }
 {
     match sign {
@@ -328,14 +338,14 @@ fn with_group(rule: Rule, productions: Sequence<Alternative>) -> Result<Rule, Me
 }
 
 /// The rule with the group that ends here.
-pub fn group_of(draft: Draft) -> Result<Rule, Memory>
+pub(crate) fn group_of(draft: Draft) -> Result<Rule, Memory>
     ensures { IfOk result (λ r. r ≡ grouped draft) }
 {
     with_group(draft.rule, draft.productions)
 }
 
 /// The module with the rule that ends here.
-pub fn add_rule(made: Module, rule: Rule) -> Result<Module, Memory>
+pub(crate) fn add_rule(made: Module, rule: Rule) -> Result<Module, Memory>
     ensures { IfOk result (λ m. m ≡ ruled made rule) }
 {
     let mut made = made;
@@ -344,7 +354,7 @@ pub fn add_rule(made: Module, rule: Rule) -> Result<Module, Memory>
 }
 
 /// Behind a group.
-pub fn behind_group(
+pub(crate) fn behind_group(
     alloc: Global,
     made: Module,
     rule: Rule,
@@ -367,7 +377,7 @@ pub fn behind_group(
 }
 
 /// Behind a group's action, where its `%prec` may stand.
-pub fn at_group(
+pub(crate) fn at_group(
     alloc: Global,
     made: Module,
     draft: Draft,
@@ -447,7 +457,7 @@ fn levelled_group(alloc: Global, draft: Draft, group: &Ref) -> Result<Rule, Memo
 }
 
 /// Behind a group's `%prec`.
-pub fn at_group_prec(
+pub(crate) fn at_group_prec(
     alloc: Global,
     made: Module,
     draft: Draft,
@@ -467,7 +477,12 @@ pub fn at_group_prec(
 }
 
 /// Behind a rule that a semicolon ended.
-pub fn at_rule_end(alloc: Global, made: Module, sign: Sign, text: &[u8]) -> Result<Reader, Refusal>
+pub(crate) fn at_rule_end(
+    alloc: Global,
+    made: Module,
+    sign: Sign,
+    text: &[u8],
+) -> Result<Reader, Refusal>
     ensures { Refers (machine.at_rule_end made sign text.now) result }
 {
     match sign {

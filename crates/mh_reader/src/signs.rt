@@ -10,7 +10,7 @@ use mh_lex::Kind;
 
 /// What a lexeme is to the grammar.
 #[derive(Clone, Copy, Debug, Drop, PartialEq, Eq)]
-pub enum Sign {
+pub(crate) enum Sign {
     Word,
     Quoted,
     Colon,
@@ -134,7 +134,7 @@ fn behind_first(text: &[u8]) -> &[u8]
 }
 
 /// What a lexeme of this kind with these bytes is; an attribute is nothing.
-pub fn sign_of(kind: Kind, text: &[u8]) -> Option<Sign>
+pub(crate) fn sign_of(kind: Kind, text: &[u8]) -> Option<Sign>
     ensures { result ≡ sign_by kind text.now }
 {
     match kind {
@@ -151,7 +151,7 @@ pub fn sign_of(kind: Kind, text: &[u8]) -> Option<Sign>
 }
 
 /// The bytes between the quotes of a string; of anything else all its bytes.
-pub fn content_of(kind: Kind, text: &[u8]) -> &[u8]
+pub(crate) fn content_of(kind: Kind, text: &[u8]) -> &[u8]
     ensures { result.now ≡ text_by kind text.now }
 {
     match kind {
@@ -170,7 +170,7 @@ fn between_quotes(text: &[u8]) -> &[u8]
 }
 
 /// Whether a word begins with `A` to `Z`.
-pub fn is_capital_word(text: &[u8]) -> bool
+pub(crate) fn is_capital_word(text: &[u8]) -> bool
     ensures { result ≡ is_capital text.now }
 {
     match text.first() {

@@ -7,7 +7,7 @@ use std::marker::Model;
 
 /// A stack.
 #[derive(Drop)]
-pub struct Stack<T> {
+pub(crate) struct Stack<T> {
     items: Vec<T>,
 }
 
@@ -23,7 +23,7 @@ impl<T> Model for Stack<T> {
 }
 
 impl<T> Stack<T> {
-    pub fn new(alloc: Global) -> Stack<T>
+    pub(crate) fn new(alloc: Global) -> Stack<T>
         ensures { result ≡ [] }
     {
         Stack {
@@ -31,13 +31,13 @@ impl<T> Stack<T> {
         }
     }
 
-    pub fn len(&self) -> usize
+    pub(crate) fn len(&self) -> usize
         ensures { result ≡ length self.now }
     {
         self.items.len()
     }
 
-    pub fn pop(&mut self) -> Option<T>
+    pub(crate) fn pop(&mut self) -> Option<T>
         ensures { MatchOption result ((self.old ≡ []) × (self.new ≡ [])) (λ item. self.old ≡ item ∷ self.new) }
     {
         self.items.pop()
@@ -45,7 +45,7 @@ impl<T> Stack<T> {
 }
 
 impl<T: Drop> Stack<T> {
-    pub fn push(&mut self, item: T) -> Result<(), Memory>
+    pub(crate) fn push(&mut self, item: T) -> Result<(), Memory>
         ensures { OnOk result (self.new ≡ item ∷ self.old) }
     {
         self.items.push(item)?;

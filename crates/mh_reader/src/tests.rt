@@ -7,13 +7,13 @@ use mh_lex::SyntaxFault;
 use std::alloc::{AllocError, Global};
 use std::test::Fail;
 
-/// `+` where the bytes spell a module, else the digit of the line; `?` from line 10 on.
-fn verdict(alloc: Global, bytes: &[u8]) -> Result<u8, AllocError>
+/// `+` where the bytes spell a module, else the line.
+fn verdict(alloc: Global, bytes: &[u8]) -> Result<String, AllocError>
     requires { length bytes.now < 2 ^ 31 }
 {
     match read_module(alloc, bytes) {
-        Ok(_) => Ok(b'+'),
-        Err(SyntaxFault::Syntax { line }) => Ok(if line < 10 { b'0' + line as u8 } else { b'?' }),
+        Ok(_) => format!(in alloc; "+"),
+        Err(SyntaxFault::Syntax { line }) => format!(in alloc; "{line}"),
         Err(SyntaxFault::Memory) => Err(AllocError),
     }
 }
@@ -116,8 +116,8 @@ fn verdicts(rt: HostRuntime) -> Result<(), Fail> {
     for case in cases().split('^') {
         let (bytes, expected) = case.split_once('~').ok_or("a case without a `~`")?;
         assert!(rt; bytes.len() < 1000);
-        let found = [verdict(rt.alloc(), bytes.as_bytes())?];
-        assert_eq!(rt; found.as_slice(), expected.as_bytes(), "at {bytes:?}");
+        let found = verdict(rt.alloc(), bytes.as_bytes())?;
+        assert_eq!(rt; found.as_str(), expected, "at {bytes:?}");
     }
     assert_eq!(rt; cases().split('^').count(), 89);
     spelled_once();
@@ -145,23 +145,20 @@ fn deep_file(
 fn depths(rt: HostRuntime) -> Result<(), Fail> {
     let alloc = rt.alloc();
     for (front, repeated, times, back, expected) in [
-        ("%%\n\n\ns: A", "?", 999, "\n{}\n", b'+'),
-        ("%%\n\n\ns: A", "?", 1000, "\n{}\n", b'4'),
-        ("%%\ns: ", "a(", 999, "a\n", b'3'),
-        ("%%\ns: ", "a(", 999, "a\n(\n\n", b'3'),
-        ("%%\ns: ", "a(", 999, "a\n?\n\n", b'3'),
-        ("%%\ns: ", "a(", 998, "a?\n?\n\n", b'3'),
-        ("%%\ns: ", "\na(", 1000, "a", b'?'),
-        ("%%\n%%\n", "a(", 1001, "a", b'+'),
-        ("%type <t> a", "*", 1000, "%%", b'1'),
+        ("%%\n\n\ns: A", "?", 999, "\n{}\n", "+"),
+        ("%%\n\n\ns: A", "?", 1000, "\n{}\n", "4"),
+        ("%%\ns: ", "a(", 999, "a\n", "3"),
+        ("%%\ns: ", "a(", 999, "a\n(\n\n", "3"),
+        ("%%\ns: ", "a(", 999, "a\n?\n\n", "3"),
+        ("%%\ns: ", "a(", 998, "a?\n?\n\n", "3"),
+        ("%%\ns: ", "\na(", 1000, "a", "1002"),
+        ("%%\n%%\n", "a(", 1001, "a", "+"),
+        ("%type <t> a", "*", 1000, "%%", "1"),
     ] {
         let bytes = deep_file(alloc, front, repeated, times, back)?;
         assert!(rt; bytes.len() < 10_000);
-        assert_eq!(rt;
-            verdict(alloc, bytes.as_slice())?,
-            expected,
-            "{times} times {repeated:?}"
-        );
+        let found = verdict(alloc, bytes.as_slice())?;
+        assert_eq!(rt; found.as_str(), expected, "{times} times {repeated:?}");
     }
     Ok(())
 }

@@ -1,5 +1,5 @@
 -- The texts of productions, items and kernels.
-use Rattle.std.specs.Prelude.{ℕ, List, [], ◌∷◌, ◌++◌, length, nat_lt, if◌then◌else◌, take, drop, codes}
+use Rattle.std.specs.Prelude.{ℕ, List, [], ◌∷◌, ◌++◌, length, nat_lt, if◌then◌else◌, take, drop, Option, Some, None, codes}
 use Rattle.mh_grammar.specs.declared.types.Symbol.{Symbol}
 use Rattle.mh_grammar.specs.declared.types.Grammar.{Grammar}
 use Rattle.mh_grammar.specs.declared.types.Look.{Look}
@@ -15,6 +15,11 @@ Text = List ℕ
 abbrev pub names_after : Grammar → List Symbol → Text
 names_after g [] = []
 names_after g (X ∷ symbols) = 32 ∷ symbol_name g X ++ names_after g symbols
+
+-- they are so, with a dot at a place of them where one is given
+abbrev pub symbols_text : Grammar → Option ℕ → List Symbol → Text
+symbols_text g None symbols = names_after g symbols
+symbols_text g (Some dot) symbols = names_after g (take dot symbols) ++ (codes " ." ++ names_after g (drop dot symbols))
 
 -- the left side of a start production is its start with a quote
 abbrev pub left_side : Grammar → ℕ → Text

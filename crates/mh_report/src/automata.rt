@@ -1,5 +1,5 @@
 //! The text of an automaton with its table.
-ghost use Rattle.std.specs.Prelude.{◌≡◌, ◌<◌, ◌++◌, length, decimal, IfOk, OnOk};
+ghost use Rattle.std.specs.Prelude.{◌≡◌, ◌<◌, ◌++◌, length, codes, decimal, IfOk, OnOk};
 ghost use Rattle.std.specs.List.{All};
 ghost use Rattle.mh_grammar.specs.Plain.{plain_of, IsInRange};
 ghost use Rattle.mh_items.specs.Firsts.{AreFirsts};
@@ -60,6 +60,15 @@ fn write_kernel_lines(
     Ok(())
 }
 
+// A name, two spaces in.
+fn write_indented(text: &mut Vec<u8>, name: &[u8]) -> Result<(), Memory>
+    ensures { OnOk result (text.new.items ≡ text.old.items ++ (codes "  " ++ name.now)) }
+{
+    text.extend_from_slice(b"  ")?;
+    text.extend_from_slice(name)?;
+    Ok(())
+}
+
 // A token with what its cell does.
 fn write_cell_line(
     alloc: Global,
@@ -69,27 +78,25 @@ fn write_cell_line(
     action: Action,
     is_hole: bool,
 ) -> Result<(), Memory>
-    ensures { OnOk result (text.new.items ≡ text.old.items ++ cell_line grammar.now token action is_hole) }
+    ensures { OnOk result (text.new.items ≡ text.old.items
+        ++ cell_line grammar.now token action is_hole) }
 {
     match action {
         Action::Shift(target) => {
-            text.extend_from_slice(b"  ")?;
-            text.extend_from_slice(token_name(grammar, token))?;
+            write_indented(text, token_name(grammar, token))?;
             text.extend_from_slice(b": shift ")?;
             write_number(alloc, text, target)?;
             text.push(b'\n')?;
         }
         Action::Reduce(production) => {
-            text.extend_from_slice(b"  ")?;
-            text.extend_from_slice(token_name(grammar, token))?;
+            write_indented(text, token_name(grammar, token))?;
             text.extend_from_slice(b": reduce ")?;
             write_production(text, grammar, production)?;
             text.push(b'\n')?;
         }
         Action::Refuse => {
             if is_hole {
-                text.extend_from_slice(b"  ")?;
-                text.extend_from_slice(token_name(grammar, token))?;
+                write_indented(text, token_name(grammar, token))?;
                 text.extend_from_slice(b": hole\n")?;
             }
         }
@@ -109,7 +116,8 @@ fn write_cell_lines(
     requires grammar { table.now.grammar ≡ plain_of grammar.now }
     requires state { state < length table.now.states }
     requires holes { length holes.now ≡ length grammar.now.tokens }
-    ensures { OnOk result (text.new.items ≡ text.old.items ++ cell_lines grammar.now table.now state holes.now (length grammar.now.tokens)) }
+    ensures { OnOk result (text.new.items ≡ text.old.items
+        ++ cell_lines grammar.now table.now state holes.now (length grammar.now.tokens)) }
 {
     for token in 0..holes.len() {
         let number = token as Token;
@@ -129,8 +137,7 @@ fn write_goto_line(
     ensures { OnOk result (text.new.items ≡ text.old.items ++ goto_line grammar.now symbol target) }
 {
     if let Symbol::N(nonterminal) = symbol {
-        text.extend_from_slice(b"  ")?;
-        text.extend_from_slice(nonterminal_name(grammar, nonterminal))?;
+        write_indented(text, nonterminal_name(grammar, nonterminal))?;
         text.extend_from_slice(b": goto ")?;
         write_number(alloc, text, target)?;
         text.push(b'\n')?;
@@ -166,18 +173,20 @@ fn write_actions(
     alloc: Global,
     text: &mut Vec<u8>,
     grammar: &Grammar,
-    known: &Firsts,
+    firsts: &Firsts,
     automaton: &Automaton,
     table: &Table,
     state: u32,
 ) -> Result<(), Memory>
     requires range { IsInRange (plain_of grammar.now) }
-    requires firsts { AreFirsts (plain_of grammar.now) known.now }
+    requires firsts { AreFirsts (plain_of grammar.now) firsts.now }
     requires automaton { IsAutomaton (plain_of grammar.now) automaton.now }
     requires grammar { table.now.grammar ≡ plain_of grammar.now }
     requires states { length table.now.states ≡ length automaton.now.kernels }
     requires state { state < length automaton.now.kernels }
-    ensures { OnOk result (Adds (AreActionLines grammar.now automaton.now table.now state (fallback_of table.now state)) text.old.items text.new.items) }
+    ensures { OnOk result
+        (Adds (AreActionLines grammar.now automaton.now table.now state (fallback_of table.now state))
+        text.old.items text.new.items) }
 {
     match table.fallback(state) {
         Some(Fallback::Accept) => {
@@ -186,7 +195,7 @@ fn write_actions(
         }
         Some(Fallback::Reduce(production)) => write_default(text, grammar, production),
         None => {
-            let holes = holes_of(alloc, grammar, known, automaton, state as usize)?;
+            let holes = holes_of(alloc, grammar, firsts, automaton, state as usize)?;
             write_cell_lines(alloc, text, grammar, table, state, holes.as_slice())
         }
     }
@@ -209,7 +218,8 @@ fn write_kernel(
 ) -> Result<(), Memory>
     requires automaton { IsAutomaton (plain_of grammar.now) automaton.now }
     requires state { state < length automaton.now.kernels }
-    ensures { OnOk result (text.new.items ≡ text.old.items ++ kernel_lines grammar.now (kernel_at automaton.now state).items) }
+    ensures { OnOk result (text.new.items ≡ text.old.items
+        ++ kernel_lines grammar.now (kernel_at automaton.now state).items) }
 {
     let kernel = &automaton.kernels[state as usize];
     write_kernel_lines(text, grammar, kernel.items.as_slice())
@@ -223,7 +233,8 @@ fn write_gotos(
     state: u32,
 ) -> Result<(), Memory>
     requires state { state < length automaton.now.edges }
-    ensures { OnOk result (text.new.items ≡ text.old.items ++ goto_lines grammar.now (edges_at automaton.now state)) }
+    ensures { OnOk result (text.new.items ≡ text.old.items
+        ++ goto_lines grammar.now (edges_at automaton.now state)) }
 {
     let edges = automaton.edges[state as usize].as_slice();
     write_goto_lines(alloc, text, grammar, edges)
@@ -233,22 +244,24 @@ fn write_state(
     alloc: Global,
     text: &mut Vec<u8>,
     grammar: &Grammar,
-    known: &Firsts,
+    firsts: &Firsts,
     automaton: &Automaton,
     table: &Table,
     state: u32,
 ) -> Result<(), Memory>
     requires range { IsInRange (plain_of grammar.now) }
-    requires firsts { AreFirsts (plain_of grammar.now) known.now }
+    requires firsts { AreFirsts (plain_of grammar.now) firsts.now }
     requires automaton { IsAutomaton (plain_of grammar.now) automaton.now }
     requires grammar { table.now.grammar ≡ plain_of grammar.now }
     requires states { length table.now.states ≡ length automaton.now.kernels }
     requires state { state < length automaton.now.kernels }
-    ensures { OnOk result (Adds (IsStateText grammar.now automaton.now table.now state) text.old.items text.new.items) }
+    ensures { OnOk result
+        (Adds (IsStateText grammar.now automaton.now table.now state)
+        text.old.items text.new.items) }
 {
     write_head(alloc, text, state)?;
     write_kernel(text, grammar, automaton, state)?;
-    write_actions(alloc, text, grammar, known, automaton, table, state)?;
+    write_actions(alloc, text, grammar, firsts, automaton, table, state)?;
     write_gotos(alloc, text, grammar, automaton, state)?;
     Ok(())
 }
@@ -265,9 +278,10 @@ pub fn automaton_text(
     requires range { IsInRange (plain_of grammar.now) }
     requires automaton { IsAutomaton (plain_of grammar.now) automaton.now }
     requires table { IsTableOf grammar.now automaton.now mode table.now }
-    ensures { IfOk result (λ text. IsAutomatonText grammar.now automaton.now mode table.now text.items) }
+    ensures { IfOk result
+        (λ text. IsAutomatonText grammar.now automaton.now mode table.now text.items) }
 {
-    let known = firsts(alloc, grammar)?;
+    let firsts = firsts(alloc, grammar)?;
     let states = automaton.kernels.len() as u32;
     let mut text = Vec::new(alloc);
     write_title(alloc, &mut text, mode, states)?;
@@ -276,7 +290,7 @@ pub fn automaton_text(
             alloc,
             &mut text,
             grammar,
-            &known,
+            &firsts,
             automaton,
             table.table(),
             state,

@@ -1,8 +1,8 @@
 //! The texts of productions, items and kernels. Each function writes behind what a text holds.
-ghost use Rattle.std.specs.Prelude.{◌≡◌, ◌<◌, ◌≤◌, ◌++◌, length, take, drop, codes, decimal, OnOk};
-ghost use Rattle.mh_grammar.specs.Plain.{plain_of, rhs_of, production_count};
+ghost use Rattle.std.specs.Prelude.{◌≡◌, ◌≤◌, ◌++◌, length, decimal, MatchOption, OnOk, ⊤};
+ghost use Rattle.mh_grammar.specs.Plain.{plain_of, rhs_of};
 ghost use Rattle.mh_items.specs.Kernels.{IsKernelItem};
-ghost use Rattle.mh_report.specs.Items.{names_after, left_side, production_text, look_name, looks_after, kernel_text};
+ghost use Rattle.mh_report.specs.Items.{names_after, symbols_text, left_side, production_text, look_name, looks_after, kernel_text};
 
 use mh_grammar::{
     Grammar, Look, Memory, Symbol, left_side_name, nonterminal_name, symbol_name, token_name,
@@ -43,57 +43,48 @@ fn write_left_side(text: &mut Vec<u8>, grammar: &Grammar, production: u32) -> Re
     Ok(())
 }
 
-fn write_rhs(
+// Symbols, each after a space, with a dot at a place of them where one is given.
+fn write_symbols(
     text: &mut Vec<u8>,
     grammar: &Grammar,
     symbols: &[Symbol],
-    dot: usize,
+    dot: Option<u32>,
 ) -> Result<(), Memory>
-    requires { dot ≤ length symbols.now }
-    ensures { OnOk result (text.new.items ≡ text.old.items ++ (names_after grammar.now (take dot symbols.now) ++ (codes " ." ++ names_after grammar.now (drop dot symbols.now)))) }
+    requires { MatchOption dot ⊤ (λ dot. dot ≤ length symbols.now) }
+    ensures { OnOk result (text.new.items ≡ text.old.items
+        ++ symbols_text grammar.now dot symbols.now) }
 {
-    let (before, behind) = symbols.split_at(dot);
+    let Some(dot) = dot else {
+        return write_names(text, grammar, symbols);
+    };
+    let (before, behind) = symbols.split_at(dot as usize);
     write_names(text, grammar, before)?;
     text.extend_from_slice(b" .")?;
     write_names(text, grammar, behind)
 }
 
-// The right side of a production.
+// The right side of a production, with a dot at a place of it where one is given.
 #[tactic(auto, unfolding(mh_grammar::specs::Plain::rhs_of))]
-fn write_right_side(text: &mut Vec<u8>, grammar: &Grammar, production: u32) -> Result<(), Memory>
-    ensures { OnOk result (text.new.items ≡ text.old.items ++ names_after grammar.now (rhs_of (plain_of grammar.now) production)) }
-{
-    let production = production as usize;
-    let starts = grammar.starts.len();
-    if production < starts {
-        return write_names(text, grammar, &[Symbol::N(grammar.starts[production])]);
-    }
-    match grammar.productions.get(production - starts) {
-        Some(found) => write_names(text, grammar, found.rhs.as_slice()),
-        None => Ok(()),
-    }
-}
-
-// The right side of a production with a dot.
-#[tactic(auto, unfolding(mh_grammar::specs::Plain::rhs_of))]
-fn write_dotted(
+fn write_right_side(
     text: &mut Vec<u8>,
     grammar: &Grammar,
     production: u32,
-    dot: u32,
+    dot: Option<u32>,
 ) -> Result<(), Memory>
-    requires production { production < production_count (plain_of grammar.now) }
-    requires dot { dot ≤ length (rhs_of (plain_of grammar.now) production) }
-    ensures { OnOk result (text.new.items ≡ text.old.items ++ (names_after grammar.now (take dot (rhs_of (plain_of grammar.now) production)) ++ (codes " ." ++ names_after grammar.now (drop dot (rhs_of (plain_of grammar.now) production))))) }
+    requires { MatchOption dot ⊤ (λ dot. dot ≤ length (rhs_of (plain_of grammar.now) production)) }
+    ensures { OnOk result (text.new.items ≡ text.old.items
+        ++ symbols_text grammar.now dot (rhs_of (plain_of grammar.now) production)) }
 {
-    let production = production as usize;
+    let place = production as usize;
     let starts = grammar.starts.len();
-    if production < starts {
-        let symbols = [Symbol::N(grammar.starts[production])];
-        return write_rhs(text, grammar, &symbols, dot as usize);
+    if place < starts {
+        let symbols = [Symbol::N(grammar.starts[place])];
+        return write_symbols(text, grammar, &symbols, dot);
     }
-    let symbols = grammar.productions[production - starts].rhs.as_slice();
-    write_rhs(text, grammar, symbols, dot as usize)
+    match grammar.productions.get(place - starts) {
+        Some(found) => write_symbols(text, grammar, found.rhs.as_slice(), dot),
+        None => write_symbols(text, grammar, &[], dot),
+    }
 }
 
 pub(crate) fn write_production(
@@ -101,11 +92,12 @@ pub(crate) fn write_production(
     grammar: &Grammar,
     production: u32,
 ) -> Result<(), Memory>
-    ensures { OnOk result (text.new.items ≡ text.old.items ++ production_text grammar.now production) }
+    ensures { OnOk result (text.new.items ≡ text.old.items
+        ++ production_text grammar.now production) }
 {
     write_left_side(text, grammar, production)?;
     text.extend_from_slice(b" ->")?;
-    write_right_side(text, grammar, production)
+    write_right_side(text, grammar, production, None)
 }
 
 pub(crate) fn look_name(grammar: &Grammar, look: Look) -> &[u8]
@@ -138,7 +130,7 @@ pub(crate) fn write_item(
 {
     write_left_side(text, grammar, item.production)?;
     text.extend_from_slice(b" ->")?;
-    write_dotted(text, grammar, item.production, item.dot)?;
+    write_right_side(text, grammar, item.production, Some(item.dot))?;
     text.extend_from_slice(b" [")?;
     write_looks(text, grammar, item.looks.as_slice())?;
     text.extend_from_slice(b" ]")?;

@@ -7,6 +7,3 @@ mod warnings;
 
 pub use automata::automaton_text;
 pub use warnings::warning_text;
-
-#[cfg(test)]
-mod tests;

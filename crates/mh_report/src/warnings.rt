@@ -24,7 +24,8 @@ fn write_unsolved(
     state: u32,
     look: Look,
 ) -> Result<(), Memory>
-    ensures { OnOk result (text.new.items ≡ text.old.items ++ unsolved_line grammar.now state look) }
+    ensures { OnOk result (text.new.items ≡ text.old.items
+        ++ unsolved_line grammar.now state look) }
 {
     write_place(alloc, text, state)?;
     text.extend_from_slice(look_name(grammar, look))?;
@@ -49,7 +50,8 @@ fn write_warning(
     look: Look,
     kind: ConflictKind,
 ) -> Result<(), Memory>
-    ensures { OnOk result (text.new.items ≡ text.old.items ++ warning_line grammar.now state look kind) }
+    ensures { OnOk result (text.new.items ≡ text.old.items
+        ++ warning_line grammar.now state look kind) }
 {
     match kind {
         ConflictKind::Solved => Ok(()),

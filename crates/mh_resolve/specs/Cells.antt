@@ -1,4 +1,5 @@
--- A cell by itself, over its raw actions and what each reduction's comparison with the shift says.
+-- A cell by itself, over its raw actions and what each reduction's comparison with the shift says: the Menhir manual's rules of
+-- precedence. Where it leaves the order open, these are this project's own.
 use Rattle.std.specs.Prelude.{◌≡◌, ◌<◌, ◌≤◌, ◌⊎◌, ℕ}
 use Rattle.mh_tables.specs.declared.parts.Action.{Action}
 use Rattle.mh_tables.specs.declared.parts.Action.TheVariants.{Shift, Reduce, Refuse}

@@ -1,4 +1,4 @@
--- The list of conflicts.
+-- The list of conflicts, those of the Menhir manual; their order is this project's own.
 use Rattle.std.specs.Prelude.{◌≡◌, ◌<◌, ◌+◌, ◌⊎◌, ◌↔◌, ℕ, Bool, true, false, List, [], ◌∷◌, ◌++◌, Option, Some, None, length}
 use Rattle.std.specs.List.{Contains}
 use Rattle.mh_grammar.specs.declared.types.Grammar.{Grammar}

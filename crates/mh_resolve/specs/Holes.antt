@@ -1,4 +1,5 @@
--- The holes among the cells of a state's tokens: cells that have raw actions and none left.
+-- The holes among the cells of a state's tokens: cells that have raw actions and none left, as %nonassoc of the Menhir manual leaves
+-- them. The word is this project's own.
 use Rattle.std.specs.Prelude.{◌≡◌, ◌<◌, ℕ, Bool, true, false, ◌&&◌, List, length, slice_index_or, MatchBool}
 use Rattle.mh_grammar.specs.declared.types.Look.TheVariants.{Token}
 use Rattle.mh_tables.specs.declared.parts.Action.{Action}

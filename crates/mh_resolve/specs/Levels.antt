@@ -1,4 +1,5 @@
--- How a reduction compares with a shift, by levels.
+-- How a reduction compares with a shift, by levels: the precedence of yacc (Johnson 1975; Aho, Lam, Sethi and Ullman) as the Menhir
+-- manual gives it. Levels of several files, and ranks of reductions on errors, are those of the manual too.
 use Rattle.std.specs.Prelude.{◌-◌, ℕ, nat_lt, ◌==◌, length, Option, Some, None, slice_get, if◌then◌else◌}
 use Rattle.std.specs.Option.{option_and_then}
 use Rattle.mh_grammar.specs.declared.types.Assoc.{Assoc}

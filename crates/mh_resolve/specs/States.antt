@@ -1,4 +1,5 @@
--- What a state does, over the set of the items of its closure and its edges.
+-- What a state does, over the set of the items of its closure and its edges: its actions are those of Knuth 1965. Conflicts, the end
+-- of the stream, defaults and reductions on errors follow the Menhir manual, and this project's own rules where it says nothing.
 use Rattle.std.specs.Prelude.{◌≡◌, ◌<◌, ◌≤◌, ◌⊎◌, ℕ, List, Option, Some, None, length, map, slice_index_or}
 use Rattle.mh_grammar.specs.declared.types.Symbol.TheVariants.{T}
 use Rattle.mh_grammar.specs.declared.types.Grammar.{Grammar}

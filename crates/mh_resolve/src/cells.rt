@@ -10,7 +10,7 @@ use mh_tables::Action;
 
 /// What a cell does, whether it has a raw action, and its conflict.
 #[derive(Clone, Copy, Debug)]
-pub struct Cell {
+pub(crate) struct Cell {
     pub action: Action,
     pub raw: bool,
     pub kind: Option<ConflictKind>,
@@ -19,7 +19,7 @@ pub struct Cell {
 /// What was seen of a cell's reductions: the lowest that stays, whether there is one at all, whether two stay, whether
 /// each lets the shift stay, and whether one has no comparable level.
 #[derive(Clone, Copy, Debug)]
-pub struct Tally {
+pub(crate) struct Tally {
     pub lowest: Option<u32>,
     pub some: bool,
     pub two: bool,
@@ -28,7 +28,7 @@ pub struct Tally {
 }
 
 /// The tally of no reduction.
-pub fn new_tally() -> Tally
+pub(crate) fn new_tally() -> Tally
     ensures { result ≡ empty_tally }
 {
     Tally {
@@ -103,7 +103,7 @@ fn weigh(grammar: &Grammar, look: Look, shift: Option<u32>, production: u32) -> 
 }
 
 /// The tally with one more reduction on a look, on which the state has this shift.
-pub fn add_reduction(
+pub(crate) fn add_reduction(
     tally: Tally,
     grammar: &Grammar,
     look: Look,
@@ -116,7 +116,7 @@ pub fn add_reduction(
 }
 
 /// The cell of a tally.
-pub fn settle(tally: Tally, shift: Option<u32>) -> Cell
+pub(crate) fn settle(tally: Tally, shift: Option<u32>) -> Cell
     ensures { result ≡ cell_from tally shift }
 {
     let action = match (tally.lowest, shift) {

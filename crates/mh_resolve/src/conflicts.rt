@@ -9,8 +9,11 @@ use mh_grammar::{Look, Memory};
 /// A conflict of a state, on a token or at the end of the stream.
 #[derive(Clone, Copy, Debug, PartialEq, Eq)]
 pub struct Conflict {
+    /// The state's number, below the count of the automaton's states.
     pub state: u32,
+    /// The token on which actions compete, or the end of the stream.
     pub look: Look,
+    /// How it ended.
     pub kind: ConflictKind,
 }
 
@@ -42,7 +45,11 @@ fn stream_kind(stream: bool) -> Option<ConflictKind>
 }
 
 /// Adds the conflicts of a state: by token, at the end of the stream, and the conflict of the end.
-pub fn add_conflicts(conflicts: &mut Vec<Conflict>, state: u32, row: &Row) -> Result<(), Memory>
+pub(crate) fn add_conflicts(
+    conflicts: &mut Vec<Conflict>,
+    state: u32,
+    row: &Row,
+) -> Result<(), Memory>
     requires { length row.now.cells < 65536 }
     ensures { OnOk result (conflicts.new.items ≡ conflicts.old.items ++ row_conflicts state row.now.cells row.now.last row.now.stream) }
 {

@@ -17,13 +17,17 @@ use std::alloc::Global;
 
 /// The tallies of the tokens and of the end of the stream.
 #[derive(Debug, Drop)]
-pub struct Tallies {
+pub(crate) struct Tallies {
     pub tokens: Vec<Tally>,
     pub last: Tally,
 }
 
 /// The target of the edge on each token.
-pub fn shifts_of(alloc: Global, tokens: usize, edges: &[Edge]) -> Result<Vec<Option<u32>>, Memory>
+pub(crate) fn shifts_of(
+    alloc: Global,
+    tokens: usize,
+    edges: &[Edge],
+) -> Result<Vec<Option<u32>>, Memory>
     requires rising { IsRising IsEdgeBefore edges.now }
     requires known { AreEdgesKnown tokens edges.now }
     ensures { IfOk result (λ shifts. AreShifts tokens edges.now shifts.items) }
@@ -67,7 +71,7 @@ fn add(
 }
 
 /// The tallies of all looks.
-pub fn tallies_of(
+pub(crate) fn tallies_of(
     alloc: Global,
     grammar: &Grammar,
     items: &[KernelItem],

@@ -10,7 +10,7 @@ use mh_items::KernelItem;
 
 /// The candidate of the lowest rank, and whether another has that rank.
 #[derive(Clone, Copy, Debug)]
-pub struct Best {
+pub(crate) struct Best {
     pub rank: u64,
     pub production: u32,
     pub tied: bool,
@@ -56,7 +56,7 @@ fn better(best: Option<Best>, production: u32, rank: u64) -> Best
 }
 
 /// The production of the only candidate of the lowest rank.
-pub fn for_errors(grammar: &Grammar, items: &[KernelItem]) -> Option<u32>
+pub(crate) fn for_errors(grammar: &Grammar, items: &[KernelItem]) -> Option<u32>
     requires { All IsLooked items.now }
     ensures { MatchOption result ((p : ℕ) → IsForErrors (listed grammar.now items.now []) p → ⊥) (IsForErrors (listed grammar.now items.now [])) }
 {

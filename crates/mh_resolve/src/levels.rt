@@ -7,7 +7,7 @@ use crate::kinds::Comparison;
 use mh_grammar::{Assoc, Grammar, Level, Look};
 
 /// How reducing by a production of one level compares with shifting a token of the other.
-pub fn compare(production: Option<Level>, token: Option<Level>) -> Comparison
+pub(crate) fn compare(production: Option<Level>, token: Option<Level>) -> Comparison
     ensures { result ≡ comparison production token }
 {
     match (production, token) {
@@ -58,7 +58,7 @@ fn level_of_look(grammar: &Grammar, look: Look) -> Option<Level>
 }
 
 /// How reducing a production compares with shifting a look.
-pub fn compare_on(grammar: &Grammar, look: Look, production: u32) -> Comparison
+pub(crate) fn compare_on(grammar: &Grammar, look: Look, production: u32) -> Comparison
     ensures { result ≡ compared grammar.now look production }
 {
     compare(
@@ -67,8 +67,9 @@ pub fn compare_on(grammar: &Grammar, look: Look, production: u32) -> Comparison
     )
 }
 
+/// The rank of a production's left side among those that states reduce on errors, if it has one.
 #[tactic(auto, unfolding(crate::specs::Levels::error_rank))]
-pub fn rank_of(grammar: &Grammar, production: u32) -> Option<u64>
+pub(crate) fn rank_of(grammar: &Grammar, production: u32) -> Option<u64>
     ensures { result ≡ error_rank grammar.now production }
 {
     let production = production as usize;
@@ -85,8 +86,9 @@ pub fn rank_of(grammar: &Grammar, production: u32) -> Option<u64>
     }
 }
 
+/// The length of a production's right side; that of a start production is 1.
 #[tactic(auto, unfolding(mh_grammar::specs::Plain::rhs_of))]
-pub fn length_of(grammar: &Grammar, production: u32) -> usize
+pub(crate) fn length_of(grammar: &Grammar, production: u32) -> usize
     ensures { result ≡ length (rhs_of (plain_of grammar.now) production) }
 {
     let production = production as usize;

@@ -10,7 +10,7 @@ use mh_tables::Action;
 use std::alloc::Global;
 
 /// The cells of the tokens.
-pub fn cells_of(
+pub(crate) fn cells_of(
     alloc: Global,
     tallies: &[Tally],
     shifts: &[Option<u32>],
@@ -39,7 +39,7 @@ fn acts_otherwise(cell: &Cell, last: Action) -> bool
 }
 
 /// Whether the end of the stream has an action and a token another one.
-pub fn is_stream_conflict(cells: &[Cell], last: Action) -> bool
+pub(crate) fn is_stream_conflict(cells: &[Cell], last: Action) -> bool
     ensures { IsTrue result ↔ IsStreamIn last cells.now }
 {
     !is_same(last, Action::Refuse) && cells.iter().any(|cell| acts_otherwise(cell, last))
@@ -92,7 +92,7 @@ fn only_choice(cells: &[Cell], kept: Action, mode: Mode) -> Option<u32>
 }
 
 /// The production of the default, where the end of the stream keeps an action.
-pub fn default_of(cells: &[Cell], kept: Action, mode: Mode) -> Option<u32>
+pub(crate) fn default_of(cells: &[Cell], kept: Action, mode: Mode) -> Option<u32>
     ensures { MatchOption result ((p : ℕ) → IsDefaultIn kept mode cells.now p → ⊥) (IsDefaultIn kept mode cells.now) }
 {
     match only_choice(cells, kept, mode) {

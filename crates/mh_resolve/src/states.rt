@@ -21,7 +21,7 @@ use std::alloc::Global;
 
 /// What was found of a state: the cells of the tokens and of the end of the stream, and whether they conflict.
 #[derive(Debug, Drop)]
-pub struct Row {
+pub(crate) struct Row {
     pub cells: Sequence<Cell>,
     pub last: Cell,
     pub stream: bool,
@@ -85,7 +85,7 @@ fn core_of(alloc: Global, items: &[KernelItem]) -> Result<Vec<Place>, Memory>
 }
 
 /// The default of a state: to reduce a start production is to accept.
-pub fn fallback_of(grammar: &Grammar, default: Option<u32>) -> Option<Fallback>
+pub(crate) fn fallback_of(grammar: &Grammar, default: Option<u32>) -> Option<Fallback>
     ensures { result ≡ fallback_for (length grammar.now.starts) default }
 {
     match default {
@@ -101,7 +101,7 @@ pub fn fallback_of(grammar: &Grammar, default: Option<u32>) -> Option<Fallback>
 }
 
 /// The row of a state.
-pub fn row_of(
+pub(crate) fn row_of(
     alloc: Global,
     grammar: &Grammar,
     kernel: &Kernel,
@@ -128,7 +128,7 @@ pub fn row_of(
 }
 
 /// The parts of a state, from its row.
-pub fn parts_of(
+pub(crate) fn parts_of(
     alloc: Global,
     grammar: &Grammar,
     kernel: &Kernel,

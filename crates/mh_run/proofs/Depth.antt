@@ -27,9 +27,6 @@ no_or false b e f = f
 abbrev heights : List SyntaxTree → ℕ
 heights ts = forest_height (forest_of ts)
 
-fits_pairs : (ts : List SyntaxTree) → too_deep ts ≡ false → length ts ≤ 4000
-fits_pairs ts e = ltb-false 4000 (length ts) ((or_no (nat_lt 4000 (length ts)) (nat_lt 4000 (heights ts)) e).0)
-
 fits_heights : (ts : List SyntaxTree) → too_deep ts ≡ false → heights ts ≤ 4000
 fits_heights ts e = ltb-false 4000 (heights ts) ((or_no (nat_lt 4000 (length ts)) (nat_lt 4000 (heights ts)) e).1)
 

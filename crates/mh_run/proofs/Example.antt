@@ -19,7 +19,7 @@ use Rattle.mh_items.specs.Automaton.{IsAutomaton, Moves, IsTarget, kernel_at, ed
 use Rattle.mh_tables.specs.declared.parts.Action.{Action}
 use Rattle.mh_tables.specs.declared.parts.Action.TheVariants.{Shift, Reduce, Refuse}
 use Rattle.mh_tables.specs.Table.{no_state}
-use Rattle.mh_resolve.specs.declared.kinds.Mode.TheVariants.{Merged}
+use Rattle.mh_resolve.specs.declared.kinds.Mode.TheVariants.{Canonical}
 use Rattle.mh_resolve.specs.States.{State, state_of, Raw, Keeps, HasDefault, IsCell, IsResolved, AreResolved, place_of}
 use Rattle.mh_resolve.specs.Clear.{IsClear}
 use Rattle.mh_resolve.proofs.Closed.{came_from, closure_within}
@@ -192,7 +192,7 @@ module _ (s : State) (p : ℕ) (h : OnlyRaw s End (Reduce p)) (r : Raw s End (Re
   keeps : Keeps s End (Reduce p)
   keeps = let clear = clear_by s End (Reduce p) h in (raw_taken s End (clear.one End) (Reduce p) r, clear.stream)
 
-  defaults : HasDefault Merged s p
+  defaults : HasDefault Canonical s p
   defaults =
       let clear = clear_by s End (Reduce p) h in
       record {
@@ -203,7 +203,7 @@ module _ (s : State) (p : ℕ) (h : OnlyRaw s End (Reduce p)) (r : Raw s End (Re
         canonical = λ e. keeps;
       }
 
-  refuses : (z : ℕ) → IsCell Merged s z Refuse
+  refuses : (z : ℕ) → IsCell Canonical s z Refuse
   refuses z = inr (refl, λ b f. elim f [ inl t ↦ (let no : Token z ≡ End = (h (Token z) b (takes_raw s (Token z) b t)).0 in cc) | inr x ↦ x.1 p defaults ])
 
 refuse_at : (P : Action → Type 0) (z : ℕ) → P Refuse → P (get_or (Refuse ∷ []) z Refuse)
@@ -236,14 +236,14 @@ reduce_2 = let l : 1 ≡ length (rhs_of g 0) = ap length (sym rhs_0) in
 shift_0 : Raw s_0 (Token 0) (Shift 1)
 shift_0 = ap (λ (es : List Edge). find_edge es (T 0)) edges_0
 
-cell_0 : (z : ℕ) → z < 1 → IsCell Merged s_0 z (get_or (Shift 1 ∷ []) z Refuse)
+cell_0 : (z : ℕ) → z < 1 → IsCell Canonical s_0 z (get_or (Shift 1 ∷ []) z Refuse)
 cell_0 zero lt = inl (inl (raw_taken s_0 (Token 0) ((clear_by s_0 (Token 0) (Shift 1) raw_0).one (Token 0)) (Shift 1) shift_0))
 cell_0 (suc z) lt = absurd (omega arith)
 
-no_default_0 : (p : ℕ) → HasDefault Merged s_0 p → ⊥
+no_default_0 : (p : ℕ) → HasDefault Canonical s_0 p → ⊥
 no_default_0 p d = let no : Reduce p ≡ Shift 1 = (raw_0 d.look (Reduce p) (kept_raw s_0 d.look (Reduce p) d.some)).1 in cc
 
-resolved_0 : IsResolved Merged s_0 (kernel_at one_automaton 0) (get_or one_states 0 no_state)
+resolved_0 : IsResolved Canonical s_0 (kernel_at one_automaton 0) (get_or one_states 0 no_state)
 resolved_0 = record {
   width = refl;
   cells = cell_0;
@@ -252,31 +252,31 @@ resolved_0 = record {
   core = sym (ap (λ (k : Kernel). map place_of k.items) kernel_0);
 }
 
-resolved_1 : IsResolved Merged s_1 (kernel_at one_automaton 1) (get_or one_states 1 no_state)
+resolved_1 : IsResolved Canonical s_1 (kernel_at one_automaton 1) (get_or one_states 1 no_state)
 resolved_1 = record {
   width = refl;
-  cells = λ z lt. refuse_at (IsCell Merged s_1 z) z (refuses s_1 1 only_1 reduce_1 z);
+  cells = λ z lt. refuse_at (IsCell Canonical s_1 z) z (refuses s_1 1 only_1 reduce_1 z);
   fallback = (omega arith, defaults s_1 1 only_1 reduce_1);
   edges = sym edges_1;
   core = sym (ap (λ (k : Kernel). map place_of k.items) kernel_1);
 }
 
-resolved_2 : IsResolved Merged s_2 (kernel_at one_automaton 2) (get_or one_states 2 no_state)
+resolved_2 : IsResolved Canonical s_2 (kernel_at one_automaton 2) (get_or one_states 2 no_state)
 resolved_2 = record {
   width = refl;
-  cells = λ z lt. refuse_at (IsCell Merged s_2 z) z (refuses s_2 0 only_2 reduce_2 z);
+  cells = λ z lt. refuse_at (IsCell Canonical s_2 z) z (refuses s_2 0 only_2 reduce_2 z);
   fallback = (0, omega arith, defaults s_2 0 only_2 reduce_2);
   edges = sym edges_2;
   core = sym (ap (λ (k : Kernel). map place_of k.items) kernel_2);
 }
 
-each_resolved : (s : ℕ) → s < 3 → IsResolved Merged (state_of one_grammar one_automaton s) (kernel_at one_automaton s) (get_or one_states s no_state)
+each_resolved : (s : ℕ) → s < 3 → IsResolved Canonical (state_of one_grammar one_automaton s) (kernel_at one_automaton s) (get_or one_states s no_state)
 each_resolved zero lt = resolved_0
 each_resolved (suc zero) lt = resolved_1
 each_resolved (suc (suc zero)) lt = resolved_2
 each_resolved (suc (suc (suc s))) lt = absurd (omega arith)
 
-are_resolved : AreResolved one_grammar one_automaton Merged one_states
+are_resolved : AreResolved one_grammar one_automaton Canonical one_states
 are_resolved = record { count = refl; each = each_resolved }
 
 each_clear : (s : ℕ) → s < 3 → IsClear (state_of one_grammar one_automaton s)
@@ -443,10 +443,10 @@ all_productive : AllProductive g
 all_productive zero lt = (0 ∷ [], one_sentence)
 all_productive (suc n) lt = absurd (omega arith)
 
-pub meets : MeetsPremises one_grammar one_automaton Merged one_table
+pub meets : MeetsPremises one_grammar one_automaton Canonical one_table
 meets = record {
   range = in_range;
-  facts = facts one_grammar one_automaton Merged one_states (record { range = in_range; automaton = is_automaton; resolved = are_resolved });
+  facts = facts one_grammar one_automaton Canonical one_states (record { range = in_range; automaton = is_automaton; resolved = are_resolved });
   automaton = is_automaton;
   table = record { grammar = refl; states = are_resolved };
   clear = each_clear;

@@ -8,7 +8,8 @@ use Rattle.mh_run.specs.Exactness.{IsTreeOfRead}
 use Rattle.mh_run.specs.declared.tree_run.TreeOutcome.{TreeOutcome}
 use Rattle.mh_run.specs.declared.tree_run.TreeOutcome.TheVariants as outcomes
 
--- some step of the run, up to its end, makes more than 4,000 pairs of a state and a tree, or a tree of more than 4,000
+-- some step of the run, up to its end, makes more than 4,000 pairs of a state and a tree, or a tree of a height of more than
+-- 4,000
 abbrev pub IsTooDeep : TableData → ℕ → List ℕ → Type 0
 IsTooDeep t start w = (n : ℕ) × (too_deep (trees_after t n (initial start w) []) ≡ true)
 

@@ -5,12 +5,13 @@ ghost use Rattle.mh_items.specs.declared.kernels.Automaton.{Automaton};
 ghost use Rattle.mh_tables.specs.Table.{TableData};
 ghost use Rattle.mh_resolve.specs.declared.kinds.Mode.{Mode};
 ghost use Rattle.mh_run.specs.Example.{MeetsPremises};
-ghost use Rattle.mh_grammar.specs.Plain.{plain_of, IsSentence, BeginsSentence};
+ghost use Rattle.mh_grammar.specs.declared.types.Symbol.{Symbol};
+ghost use Rattle.mh_grammar.specs.Plain.{PlainGrammar, plain_of, Derives, IsSentence, BeginsSentence};
 ghost use Rattle.mh_items.specs.Automaton.{IsAutomaton};
 ghost use Rattle.mh_resolve.specs.Clear.{HasNoConflicts};
 ghost use Rattle.mh_resolve.specs.States.{IsTableOf};
 ghost use Rattle.mh_tables.specs.Run.{VerdictOf, Accepted, Overshot, Rejected};
-ghost use Rattle.mh_tree.specs.Trees.{SyntaxTree};
+ghost use Rattle.mh_tree.specs.Trees.{SyntaxTree, IsTreeFor, yield_of};
 ghost use Rattle.mh_run.specs.TreeRuns.{IsOutcome};
 ghost use Rattle.mh_run.specs.declared.tree_run.TreeOutcome.{TreeOutcome};
 ghost use Rattle.mh_run.specs.Exactness.{IsTreeOfRead, IsPrefixSentence, AllProductive};
@@ -28,6 +29,11 @@ pub fn accepts_with_tree(table: &Table)
 {
     table.facts();
 }
+
+/// A tree of a grammar for a symbol is a derivation of its yield from that symbol.
+pub fn trees_derive()
+    ensures { (g : PlainGrammar) (tree : SyntaxTree) (x : Symbol) → IsTreeFor g x tree → Derives g x (yield_of tree) }
+{}
 
 /// The run of a start with its trees has one outcome.
 pub fn one_outcome(table: &Table)

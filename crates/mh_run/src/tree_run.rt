@@ -11,6 +11,9 @@ use mh_tree::{Tree, can_be_children, leaf, node};
 use std::alloc::Global;
 use std::marker::Model;
 
+/// The most pairs of a state and a tree: this project's own limit.
+const MAX_PAIRS: usize = 4000;
+
 /// How the run of a sentence with its trees ends.
 #[derive(Drop)]
 pub enum TreeOutcome {
@@ -20,7 +23,7 @@ pub enum TreeOutcome {
     Overshoot { state: u32 },
     /// This state refuses the token at this place, counted from 0.
     Reject { at: u32, state: u32 },
-    /// A step would make more than 4,000 pairs of a state and a tree, or a tree of more than 4,000.
+    /// A step would make more than 4,000 pairs of a state and a tree, or a tree of a height of more than 4,000.
     TooDeep,
 }
 
@@ -52,7 +55,7 @@ impl Follow for Trees {
     ghost following = { record { shifted = λ ts z. ts ++ Leaf z ∷ []; reduced = λ ts m p. take (length ts - m) ts ++ Node p (forest_of (drop (length ts - m) ts)) ∷ []; deep = too_deep } };
 
     fn shift(&mut self, alloc: Global, token: Token) -> Result<(), Stop> {
-        if self.trees.len() >= 4000 {
+        if self.trees.len() >= MAX_PAIRS {
             return Err(Stop::TooDeep);
         }
         self.trees.push(leaf(alloc, token)?)?;
@@ -62,7 +65,7 @@ impl Follow for Trees {
     fn reduce(&mut self, alloc: Global, length: usize, production: u32) -> Result<(), Stop> {
         let kept = self.trees.len().saturating_sub(length);
         let children = self.trees.split_off(kept)?;
-        if kept >= 4000 || !can_be_children(children.as_slice()) {
+        if kept >= MAX_PAIRS || !can_be_children(children.as_slice()) {
             return Err(Stop::TooDeep);
         }
         self.trees.push(node(alloc, production, children)?)?;
@@ -71,8 +74,8 @@ impl Follow for Trees {
 }
 
 /// The run of a start, by its number, on a sentence of fewer than 2^32 tokens, with its trees. It is too deep exactly
-/// where a step of it, up to its end, makes more than 4,000 pairs of a state and a tree, or a tree of more than 4,000.
-/// Fails for want of memory alone.
+/// where a step of it, up to its end, makes more than 4,000 pairs of a state and a tree, or a tree of a height of more
+/// than 4,000. Fails for want of memory alone.
 pub fn run_with_trees(
     alloc: Global,
     table: &Halting,

@@ -1,4 +1,5 @@
--- The facts that a table keeps: its numbers are in range, and its states fit together as those of an automaton do.
+-- The facts that a table keeps: its numbers are in range, and its states fit together as those of an automaton do (Knuth 1965).
+-- Their list is this project's own.
 use Rattle.std.specs.Prelude.{◌≡◌, ℕ, length, slice_get, Some, ◌-◌, ◌^◌, ◌<◌, ◌≤◌, ◌⊎◌}
 use Rattle.std.specs.List.{Contains}
 use Rattle.mh_grammar.specs.declared.types.Symbol.{Symbol}

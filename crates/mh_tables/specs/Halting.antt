@@ -1,4 +1,4 @@
--- The tables on which no run reduces for ever.
+-- The tables on which no run reduces for ever. The test by relative runs of at most 10,000 reductions is this project's own.
 use Rattle.std.specs.Prelude.{◌≡◌, ℕ, List, [], ◌∷◌, length, Option, Some, None, ◌<◌, ◌≤◌}
 use Rattle.mh_grammar.specs.declared.types.Symbol.{Symbol}
 use Rattle.mh_tables.specs.Table.{TableData, edge_of}

@@ -6,6 +6,7 @@ use Rattle.mh_grammar.specs.Plain.{production_count}
 use Rattle.mh_tables.specs.Table.{TableData, fallback_of}
 use Rattle.mh_tables.specs.declared.relative.HaltFault.{HaltFault}
 use Rattle.mh_tables.specs.declared.relative.HaltFault.TheVariants as faults
+use Rattle.mh_tables.specs.declared.relative.RelativeRun.{RelativeRun}
 use Rattle.mh_tables.specs.Run.{Reduces, move_of, top_of, reduce, reduction, reductions}
 use Rattle.mh_tables.specs.Halting.{Halts, IsBeginning, IsLook, Loops, Clear, Before, LoopsAt, NoneLoops, look_list, beginning}
 
@@ -100,6 +101,6 @@ IsRefused t (faults.Loops below s look) = Halts t → ⊥
 IsRefused t faults.Memory = Unit {0}
 
 -- the outcome of the whole test
-abbrev pub TestFound : TableData → Option (Option ℕ × ℕ × Option ℕ) → Type 0
+abbrev pub TestFound : TableData → Option RelativeRun → Type 0
 TestFound t None = NoneLoops t
-TestFound t (Some (below, s, look)) = LoopsAt t below s look
+TestFound t (Some run) = LoopsAt t run.below run.state run.token

@@ -1,4 +1,5 @@
--- The run of a table on a list of tokens, step by step.
+-- The run of a table on a list of tokens, step by step: the driver of an LR parser (Knuth 1965; Aho, Lam, Sethi and Ullman),
+-- where a state may reduce or accept without asking for a token.
 use Rattle.std.specs.Prelude.{◌≡◌, ℕ, zero, suc, List, [], ◌∷◌, ◌++◌, length, take, drop, slice_index, Option, Some, None, option_and_then, if◌then◌else◌, nat_lt, ◌-◌, ◌+◌, ◌<◌}
 use Rattle.mh_grammar.specs.declared.types.Symbol.{Symbol}
 use Rattle.mh_grammar.specs.declared.types.Symbol.TheVariants.{N}

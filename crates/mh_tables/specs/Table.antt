@@ -1,4 +1,4 @@
--- What a table is, and what its readers answer.
+-- What a table is, and what its readers answer: the actions and gotos of Aho, Lam, Sethi and Ullman, with defaults beside them.
 use Rattle.std.specs.Prelude.{ℕ, List, [], slice_index_or, Option, None}
 use Rattle.mh_grammar.specs.declared.types.Symbol.{Symbol}
 use Rattle.mh_grammar.specs.declared.types.Grammar.{Grammar}

@@ -55,10 +55,10 @@ pub fn check_halts(alloc: Global, table: Table) -> Result<Halting, HaltFault>
     table.facts();
     match first_loop(alloc, &table) {
         Err(_) => Err(HaltFault::Memory),
-        Ok(Some((below, state, token))) => Err(HaltFault::Loops {
-            below,
-            state,
-            token,
+        Ok(Some(found)) => Err(HaltFault::Loops {
+            below: found.below,
+            state: found.state,
+            token: found.token,
         }),
         Ok(None) => Ok(Halting { table }),
     }

@@ -11,10 +11,15 @@ use mh_grammar::Token;
 /// The move of a state: accepting or reducing without a look, asking for a token, or what its cell on the token says.
 #[derive(Clone, Copy)]
 pub enum Choice {
+    /// It accepts, by its default.
     Accept,
+    /// It has no default and wants the next token, where none is given.
     Ask,
+    /// It refuses the next token.
     Refuse,
+    /// It shifts the next token and goes to this state.
     Shift(u32),
+    /// It reduces this production, by its default or on the next token.
     Reduce(u32),
 }
 

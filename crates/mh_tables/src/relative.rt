@@ -14,6 +14,9 @@ use crate::table::Table;
 use mh_grammar::Token;
 use std::alloc::{AllocError, Global};
 
+/// The most reductions that a relative run may make: this project's own limit.
+const MAX_REDUCTIONS: u32 = 10_000;
+
 /// Why a table is refused.
 #[derive(Clone, Copy, Debug, Drop, PartialEq, Eq)]
 pub enum HaltFault {
@@ -26,8 +29,16 @@ pub enum HaltFault {
         state: u32,
         token: Option<Token>,
     },
-    /// There was no memory for a stack.
+    /// There was no memory for a stack, or for the list of where the edges of a state lead.
     Memory,
+}
+
+/// Where a relative run begins: in a state, alone or above another, with this next token or none.
+#[derive(Clone, Copy)]
+pub(crate) struct RelativeRun {
+    pub below: Option<u32>,
+    pub state: u32,
+    pub token: Option<Token>,
 }
 
 // The newest state of a stack.
@@ -131,7 +142,7 @@ fn loops(
     ensures known { OnOk result (All (λ s. s < length table.now.states) stack.new.items) }
 {
     begin(table, stack, below, state)?;
-    'tries: for _count in 0..10001u32 {
+    'tries: for _count in 0..MAX_REDUCTIONS + 1 {
         if !reduce_once(table, stack, look)? {
             return Ok(false);
         }
@@ -139,8 +150,8 @@ fn loops(
     Ok(true)
 }
 
-// Whether it does with a token, where it stops in a state without default before it looks at one. A cell that
-// reduces nothing ends it there.
+// Whether the relative run makes more than 10,000 reductions with a token, where it stops in a state without default
+// before it looks at one. A cell that reduces nothing ends it there.
 fn loops_on(
     table: &Table,
     stack: &mut Vec<u32>,
@@ -162,7 +173,8 @@ fn loops_on(
     }
 }
 
-// The first token with which it does.
+// The first token with which the relative run makes more than 10,000 reductions, where it stops in a state without
+// default before it looks at one.
 fn first_token(
     table: &Table,
     stack: &mut Vec<u32>,
@@ -185,8 +197,8 @@ fn first_token(
 }
 
 // The first look, in order, with which the relative run makes more than 10,000 reductions. The reductions that come
-// with no token come with each; where they stop in a state with a default, or before r is taken off, no token
-// changes that.
+// with no token come with each; where they stop in a state with a default, it accepts or takes off more states than there
+// are, and no token changes that.
 fn first_look(
     table: &Table,
     stack: &mut Vec<u32>,
@@ -241,7 +253,7 @@ fn targets_of(alloc: Global, table: &Table, from: u32) -> Result<Vec<u32>, Alloc
     Ok(targets)
 }
 
-// The first state over a lower one that begins such a run.
+// The first state over a lower one that begins a relative run of more than 10,000 reductions.
 fn first_above(
     alloc: Global,
     table: &Table,
@@ -261,22 +273,26 @@ fn first_above(
     Ok(None)
 }
 
-/// The first relative run, in order, that makes more than 10,000 reductions: what is below its state, if anything,
-/// the state, and the next token, if one is given.
-pub(crate) fn first_loop(
-    alloc: Global,
-    table: &Table,
-) -> Result<Option<(Option<u32>, u32, Option<Token>)>, AllocError>
+/// The first relative run, in order, that makes more than 10,000 reductions.
+pub(crate) fn first_loop(alloc: Global, table: &Table) -> Result<Option<RelativeRun>, AllocError>
     ensures { IfOk result (λ found. TestFound table.now found) }
 {
     table.facts();
     let mut stack = Vec::new(alloc);
     if let Some((state, token)) = first_start(table, &mut stack)? {
-        return Ok(Some((None, state, token)));
+        return Ok(Some(RelativeRun {
+            below: None,
+            state,
+            token,
+        }));
     }
     'lower: for below in 0..table.states() {
         if let Some((state, token)) = first_above(alloc, table, &mut stack, below)? {
-            return Ok(Some((Some(below), state, token)));
+            return Ok(Some(RelativeRun {
+                below: Some(below),
+                state,
+                token,
+            }));
         }
     }
     Ok(None)

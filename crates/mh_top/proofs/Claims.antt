@@ -11,11 +11,15 @@ use Rattle.mh_top.specs.Each.{Asks}
 use Rattle.std.proofs.lemmas.List.{append-nil}
 use Rattle.mh_top.specs.Verdicts.{Answering}
 use Rattle.mh_top.specs.Work.{Work, Plan, Ends, AsksEach, Outcome, Gives, GivesEach, PlanGives, IsWork, line_limit, max_lines}
-use Rattle.mh_top.specs.Run.{World, MayEnd, Does, HoldsLines, IsOutPart, PartsWith, Ran, Finished, CannotReadFile, CannotReadInput, CannotWrite, NoMemory}
-use Rattle.mh_top.specs.Claims.{FileOf, HoldsFile, IsAbsent, IsLongFile, IsLongInput, IsPast, AsksLines, Completes, IsDone, Finishes, MisuseHasCause, ReadFaultHasCause, AbsentIsSaid, WriteFaultHasCause, TooBigHasCause, LongFileIsSaid, LongInputIsSaid, WritesPart, IsStatus}
+use Rattle.mh_top.specs.Run.{World, MayEnd, Does, HoldsLines, IsOutPart, PartsWith, Ran, Finished, CannotReadFile, CannotReadInput, CutShort, CannotSay, NoMemory, CouldWrite}
+use Rattle.mh_top.specs.Claims.{FileOf, HoldsFile, IsAbsent, IsLongFile, IsLongInput, IsPast, AsksLines, Completes, IsDone, Finishes, MisuseHasCause, ReadFaultHasCause, AbsentIsSaid, WriteFaultHasCause, WriteFaultIsSaid, TooBigHasCause, LongFileIsSaid, LongInputIsSaid, WritesPart, IsStatus}
 use Rattle.mh_top.specs.declared.stop.Cause.{Cause}
 use Rattle.mh_top.specs.declared.stop.Cause.TheVariants.{Refused, Misused, Missing, TooBig}
 use Rattle.mh_top.proofs.Endings.{Ended, Misuse, NoSuchFile, LongFile, Refusal, Done, Lines, ended, missing_gives, long_gives}
+
+Appends-nil : (out : Option Text) → Appends out out []
+Appends-nil None = tt
+Appends-nil (Some out) = sym (append-nil out)
 
 calm_not : (a b : ℕ) → IsCalm a b → Rose a b → ⊥
 calm_not a b calm rose = omega arith
@@ -63,18 +67,20 @@ module _ (words : List Text) (b a : World) (status : ℕ) where
 
   pub completes : Ended' → Completes words b a status
   completes (Finished quiet does) calm = inr does
-  completes (CannotReadFile is rose line names lined) calm = absurd (calm_not b.shelf_faults a.shelf_faults calm.shelf rose)
-  completes (CannotReadInput is rose holds) calm = absurd (calm_not b.input_faults a.input_faults calm.input rose)
-  completes (CannotWrite is (inl rose) line last lined) calm = absurd (calm_not b.out_faults a.out_faults calm.out rose)
-  completes (CannotWrite is (inr rose) line last lined) calm = absurd (calm_not b.err_faults a.err_faults calm.err rose)
-  completes (NoMemory is lined) calm = inl is
+  completes (CannotReadFile is rose could line names only) calm = absurd (calm_not b.shelf_faults a.shelf_faults calm.shelf rose)
+  completes (CannotReadInput is rose could holds) calm = absurd (calm_not b.input_faults a.input_faults calm.input rose)
+  completes (CutShort is (inl rose) parts) calm = absurd (calm_not b.out_faults a.out_faults calm.out rose)
+  completes (CutShort is (inr rose) parts) calm = absurd (calm_not b.err_faults a.err_faults calm.err rose)
+  completes (CannotSay is out rose line last lined) calm = absurd (calm_not b.err_faults a.err_faults calm.err rose)
+  completes (NoMemory is could lined) calm = inl is
 
   pub finishes : Ended' → Finishes words b a status
   finishes (Finished quiet does) done = (quiet, does)
-  finishes (CannotReadFile is rose line names lined) done = absurd (not_done status 3 is (inl refl) done)
-  finishes (CannotReadInput is rose holds) done = absurd (not_done status 3 is (inl refl) done)
-  finishes (CannotWrite is rose line last lined) done = absurd (not_done status 4 is (inr (inl refl)) done)
-  finishes (NoMemory is lined) done = absurd (not_done status 6 is (inr (inr refl)) done)
+  finishes (CannotReadFile is rose could line names only) done = absurd (not_done status 3 is (inl refl) done)
+  finishes (CannotReadInput is rose could holds) done = absurd (not_done status 3 is (inl refl) done)
+  finishes (CutShort is rose parts) done = absurd (not_done status 4 is (inr (inl refl)) done)
+  finishes (CannotSay is out rose line last lined) done = absurd (not_done status 4 is (inr (inl refl)) done)
+  finishes (NoMemory is could lined) done = absurd (not_done status 6 is (inr (inr refl)) done)
 
   module _ (does : Does Asked b a status) where
     end : Ended words (λ what. HoldsFile words what b.files) does.work does.outcome
@@ -149,10 +155,11 @@ module _ (words : List Text) (b a : World) (status : ℕ) where
 
   pub read_cause : Ended' → ReadFaultHasCause words b a status
   read_cause (Finished quiet does) three = inr (inl (absent_at does three (end does)))
-  read_cause (CannotReadFile is rose line names lined) three = inl rose
-  read_cause (CannotReadInput is rose holds) three = inr (inr (rose, holds))
-  read_cause (CannotWrite is rose line last lined) three = absurd (omega arith)
-  read_cause (NoMemory is lined) three = absurd (omega arith)
+  read_cause (CannotReadFile is rose could line names only) three = inl (rose, (line, names, only))
+  read_cause (CannotReadInput is rose could holds) three = inr (inr (rose, holds))
+  read_cause (CutShort is rose parts) three = absurd (omega arith)
+  read_cause (CannotSay is out rose line last lined) three = absurd (omega arith)
+  read_cause (NoMemory is could lined) three = absurd (omega arith)
 
   pub absent_said : Ended' → AbsentIsSaid words b a status
   absent_said ran calm absent = absent_or (completes ran calm)
@@ -161,12 +168,21 @@ module _ (words : List Text) (b a : World) (status : ℕ) where
       absent_or (inl six) = inr six
       absent_or (inr does) = inl (said_absent does b.files does.is_asked absent)
 
+  pub write_said : Ended' → WriteFaultIsSaid b a status
+  write_said (Finished quiet does) failed = absurd (failed (record { out = quiet.out; err = quiet.err }))
+  write_said (CannotReadFile is rose could line names only) failed = absurd (failed could)
+  write_said (CannotReadInput is rose could holds) failed = absurd (failed could)
+  write_said (CutShort is rose parts) failed = is
+  write_said (CannotSay is out rose line last lined) failed = is
+  write_said (NoMemory is could lined) failed = absurd (failed could)
+
   pub write_cause : Ended' → WriteFaultHasCause b a status
   write_cause (Finished quiet does) four = absurd (four_not does four does.outcome.cause refl)
-  write_cause (CannotReadFile is rose line names lined) four = absurd (omega arith)
-  write_cause (CannotReadInput is rose holds) four = absurd (omega arith)
-  write_cause (CannotWrite is rose line last lined) four = rose
-  write_cause (NoMemory is lined) four = absurd (omega arith)
+  write_cause (CannotReadFile is rose could line names only) four = absurd (omega arith)
+  write_cause (CannotReadInput is rose could holds) four = absurd (omega arith)
+  write_cause (CutShort is rose parts) four = rose
+  write_cause (CannotSay is out rose line last lined) four = inr rose
+  write_cause (NoMemory is could lined) four = absurd (omega arith)
 
   pub big_cause : Ended' → TooBigHasCause words b a status
   big_cause ran five = let p = finishes ran (inr (inr (inr five))) in big_at p.1 five (end p.1)
@@ -196,14 +212,16 @@ module _ (words : List Text) (b a : World) (status : ℕ) where
 
   pub writes_part : Ended' → WritesPart words b a
   writes_part (Finished quiet does) = inr (does.work, does.is_asked, (does.outcome.out, does.on_out, does.is_part))
-  writes_part (CannotReadFile is rose line names lined) = part_of _ lined
-  writes_part (CannotReadInput is rose holds) = inr (holds.work, holds.is_asked, lines_part holds.work.plan holds.lines)
-  writes_part (CannotWrite is rose line last lined) = part_of _ lined
-  writes_part (NoMemory is lined) = part_of _ lined
+  writes_part (CannotReadFile is rose could line names only) = inl (subst (λ x. Appends b.out x []) (sym only.out) (Appends-nil b.out))
+  writes_part (CannotReadInput is rose could holds) = inr (holds.work, holds.is_asked, lines_part holds.work.plan holds.lines)
+  writes_part (CutShort is rose parts) = part_of _ parts
+  writes_part (CannotSay is out rose line last lined) = part_of _ lined
+  writes_part (NoMemory is could lined) = part_of _ lined
 
   pub is_status : Ended' → IsStatus status
   is_status (Finished quiet does) = known_status status does.outcome.cause does.status_is
-  is_status (CannotReadFile is rose line names lined) = inr (inl is)
-  is_status (CannotReadInput is rose holds) = inr (inl is)
-  is_status (CannotWrite is rose line last lined) = inr (inr (inl is))
-  is_status (NoMemory is lined) = inr (inr (inr is))
+  is_status (CannotReadFile is rose could line names only) = inr (inl is)
+  is_status (CannotReadInput is rose could holds) = inr (inl is)
+  is_status (CutShort is rose parts) = inr (inr (inl is))
+  is_status (CannotSay is out rose line last lined) = inr (inr (inl is))
+  is_status (NoMemory is could lined) = inr (inr (inr is))

@@ -1,11 +1,11 @@
--- The answers of sentence lines, over the work that the words ask for.
-use Rattle.std.proofs.Common.{◌≡◌, ◌↔◌, ℕ, ◌+◌, ◌<◌, ◌≤◌, List, [], ◌∷◌, ◌++◌, length, take, get_or, Bool, true, false, ◌&&◌, Option, refl, sym, ◌∙◌, ap, subst, arith, inl, inr}
+-- The answers to sentence lines, over the work that the words ask for.
+use Rattle.std.proofs.Common.{◌≡◌, ◌⊎◌, ◌↔◌, ℕ, ◌+◌, ◌<◌, ◌≤◌, List, [], ◌∷◌, ◌++◌, length, take, get_or, Bool, true, false, ◌&&◌, Option, refl, sym, ◌∙◌, ap, subst, arith, inl, inr}
 use Rattle.std.specs.Prelude.{codes}
 use Rattle.std.proofs.lemmas.Bool.{cases_lt}
 use Rattle.std.proofs.lemmas.Option.{slice_get_within, slice_get-get_or}
 use Rattle.mh_grammar.specs.declared.types.Grammar.{Grammar}
 use Rattle.mh_grammar.specs.declared.types.Sentence.{Sentence}
-use Rattle.mh_grammar.specs.Plain.{PlainGrammar, plain_of, IsInRange, BeginsSentence}
+use Rattle.mh_grammar.specs.Plain.{PlainGrammar, plain_of, start_symbol, IsInRange, BeginsSentence}
 use Rattle.mh_items.specs.declared.kernels.Automaton.{Automaton}
 use Rattle.mh_items.specs.declared.kernels.Kernel.{Kernel}
 use Rattle.mh_items.specs.Automaton.{IsAutomaton, kernel_at}
@@ -23,7 +23,11 @@ use Rattle.mh_tables.specs.Facts.{Facts}
 use Rattle.mh_tables.specs.Run.{Ending as Ended, Accepted, Overshot, Rejected, VerdictOf, initial}
 use Rattle.mh_tables.proofs.Cut.{verdict_cut}
 use Rattle.mh_tables.proofs.Ending.{one_ending}
-use Rattle.mh_run.specs.Exactness.{IsPrefixSentence, AllProductive}
+use Rattle.mh_run.specs.Exactness.{IsPrefixSentence, IsTreeOfRead, AllProductive}
+use Rattle.mh_run.specs.TreeRuns.{IsOutcome, IsTooDeep}
+use Rattle.mh_run.specs.declared.tree_run.TreeOutcome.{TreeOutcome}
+use Rattle.mh_run.specs.declared.tree_run.TreeOutcome.TheVariants as outcomes
+use Rattle.mh_tree.specs.Trees.{SyntaxTree, IsTreeFor, text_of}
 use Rattle.mh_run.proofs.Accepted.{accepted_sentence}
 use Rattle.mh_run.proofs.Telling.{overshoots, tells_prefix, tells_refused}
 use Rattle.mh_outside.specs.Shelf.{Files}
@@ -43,9 +47,9 @@ use Rattle.mh_top.specs.FileStage.{IsFileStage}
 use Rattle.mh_top.specs.GrammarStage.{IsGrammarStage}
 use Rattle.mh_top.specs.TableStage.{HasTooMany, HasTable, IsTableStage}
 use Rattle.mh_msgfile.specs.Sentences.{LineFound, IsSentence}
-use Rattle.mh_top.specs.Verdicts.{Answering, FoundText, verdict_text}
+use Rattle.mh_top.specs.Verdicts.{Answering, FoundBy, SentenceText, verdict_text, outcome_text}
 use Rattle.mh_top.specs.Work.{Work, Ending, Ends, AsksEach, Then, IsWork, IsWorkOfOrder, IsWorkOfFiles, IsWorkOfGrammar, IsWorkOfTable, IsPlanOfJob, IsPlanUnless, has_warning, halted, answering}
-use Rattle.mh_top.specs.Exact.{IsLR1, AnswersSentence, AcceptsExactly, RejectsRightly, OvershootsRightly, AcceptsRightly}
+use Rattle.mh_top.specs.Exact.{IsLR1, AnswersSentence, Accepts, IsTooDeepText, ShowsTree, AcceptsExactly, RejectsRightly, OvershootsRightly, AcceptsRightly, TooDeepExactly}
 use Rattle.mh_top.specs.declared.stop.Cause.{Cause}
 use Rattle.mh_msgfile.proofs.Below.{sentence_start}
 use Rattle.mh_top.proofs.Turns.{file_spelled, none_spelled}
@@ -66,26 +70,26 @@ same_answering x y e = cc
 no_end : (x : Answering) (e : Ending) → AsksEach x ≡ Ends e → ⊥
 no_end x e is = cc
 
-module _ (warnings : Text) (g : Grammar) (t : TableData) where
+module _ (warnings : Text) (trees : Bool) (g : Grammar) (t : TableData) where
   abbrev work : Work
-  work = record { warnings = warnings; plan = answering false g t }
+  work = record { warnings = warnings; plan = answering trees g t }
 
   not_halted : (cause : Cause) (line : Text) → work ≡ halted cause line → ⊥
-  not_halted cause line e = no_end (by false g t) _ (ap (λ (w : Work). w.plan) e)
+  not_halted cause line e = no_end (by trees g t) _ (ap (λ (w : Work). w.plan) e)
 
-  same_tabled : (trees : Bool) (h : Grammar) (u : TableData) → answering false g t ≡ answering trees h u → IsTabled h u → IsTabled g t
-  same_tabled trees h u e is =
-      let same : by trees h u ≡ by false g t = same_answering (by false g t) (by trees h u) e in
+  same_tabled : (shown : Bool) (h : Grammar) (u : TableData) → answering trees g t ≡ answering shown h u → IsTabled h u → IsTabled g t
+  same_tabled shown h u e is =
+      let same : by shown h u ≡ by trees g t = same_answering (by trees g t) (by shown h u) e in
       let grammar : h ≡ g = ap (λ (a : Answering). a.grammar) same in
       let table : u ≡ t = ap (λ (a : Answering). a.table) same in
       subst (λ (x : TableData). IsTabled g x) table (subst (λ (x : Grammar). IsTabled x u) grammar is)
 
-  of_job : (job : Job) (trees : Bool) (h : Grammar) (tabled : Tabled) → IsTabled h tabled.halting → IsPlanOfJob job trees h tabled (answering false g t) → IsTabled g t
-  of_job Interpret trees h tabled has is = same_tabled trees h tabled.halting is has
-  of_job ShowAutomaton trees h tabled has is = absurd (no_end (by false g t) _ is.2)
+  of_job : (job : Job) (shown : Bool) (h : Grammar) (tabled : Tabled) → IsTabled h tabled.halting → IsPlanOfJob job shown h tabled (answering trees g t) → IsTabled g t
+  of_job Interpret shown h tabled has is = same_tabled shown h tabled.halting is has
+  of_job ShowAutomaton shown h tabled has is = absurd (no_end (by trees g t) _ is.2)
 
-  of_plan : (refused : Bool) (order : Order) (h : Grammar) (tabled : Tabled) → IsTabled h tabled.halting → IsPlanUnless refused order h tabled (answering false g t) → IsTabled g t
-  of_plan true order h tabled has is = absurd (no_end (by false g t) _ is)
+  of_plan : (refused : Bool) (order : Order) (h : Grammar) (tabled : Tabled) → IsTabled h tabled.halting → IsPlanUnless refused order h tabled (answering trees g t) → IsTabled g t
+  of_plan true order h tabled has is = absurd (no_end (by trees g t) _ is)
   of_plan false order h tabled has is = of_job order.job order.show_cst h tabled has is
 
   of_table : (order : Order) (h : Grammar) → IsInRange (plain_of h) → (s : Staged Tabled) → IsTableStage h s → Then s (IsWorkOfTable order h) work → IsTabled g t
@@ -173,84 +177,132 @@ module _ (g : Grammar) (t : TableData) (is : IsTabled g t) where
 
 -- ---- the texts
 
-no_same : (a b : ℕ) → a < b → a ≡ b → ⊥
-no_same a b lt e = omega arith
+abbrev first : Text → ℕ
+first text = get_or text 0 0
 
-accept_not_overshoot : codes "ACCEPT\n" ≡ codes "OVERSHOOT\n" → ⊥
-accept_not_overshoot e = no_same 65 79 (omega arith) (ap (λ (text : Text). get_or text 0 0) e)
+differ : (text : Text) (a b : ℕ) → first text ≡ a → first text ≡ b → a < b → ⊥
+differ text a b is also lt = omega arith
 
-accept_not_reject : codes "ACCEPT\n" ≡ codes "REJECT\n" → ⊥
-accept_not_reject e = no_same 65 82 (omega arith) (ap (λ (text : Text). get_or text 0 0) e)
+first_accepts : (trees : Bool) (g : Grammar) (text : Text) → Accepts trees g text → first text ≡ 65
+first_accepts false g text e = ap first e
+first_accepts true g text shown = ap first shown.1
 
-overshoot_not_reject : codes "OVERSHOOT\n" ≡ codes "REJECT\n" → ⊥
-overshoot_not_reject e = no_same 79 82 (omega arith) (ap (λ (text : Text). get_or text 0 0) e)
+first_deep : (trees : Bool) (text : Text) → IsTooDeepText trees text → first text ≡ 84
+first_deep false text deep = absurd deep
+first_deep true text deep = ap first deep
 
-accepted_how : (how : Ended) → verdict_text how ≡ codes "ACCEPT\n" → (read : ℕ) × (how ≡ Accepted read)
-accepted_how (Accepted read) e = (read, refl)
-accepted_how (Overshot s) e = absurd (accept_not_overshoot (sym e))
-accepted_how (Rejected at s) e = absurd (accept_not_reject (sym e))
+-- with trees, the tree of the run is shown
+abbrev Leaves : Bool → Grammar → TableData → Sentence → ℕ → Text → Type 0
+Leaves false g t s read text = Unit {0}
+Leaves true g t s read text = (tree : SyntaxTree) × (text ≡ codes "ACCEPT\n" ++ text_of g tree ++ codes "\n") × IsTreeOfRead t s.start s.tokens read tree
 
-rejected_how : (how : Ended) → verdict_text how ≡ codes "REJECT\n" → (at : ℕ) × (s : ℕ) × (how ≡ Rejected at s)
-rejected_how (Accepted read) e = absurd (accept_not_reject e)
-rejected_how (Overshot s) e = absurd (overshoot_not_reject e)
-rejected_how (Rejected at s) e = (at, s, refl)
+-- the text by the run's verdict
+data Shown (trees : Bool) (g : Grammar) (t : TableData) (s : Sentence) (text : Text) : Type 0 where
+  Accept : (read : ℕ) → VerdictOf t s.start s.tokens (Accepted read) → Accepts trees g text → Leaves trees g t s read text → Shown trees g t s text
+  Overshoot : (state : ℕ) → VerdictOf t s.start s.tokens (Overshot state) → text ≡ codes "OVERSHOOT\n" → Shown trees g t s text
+  Reject : (at state : ℕ) → VerdictOf t s.start s.tokens (Rejected at state) → text ≡ codes "REJECT\n" → Shown trees g t s text
+  TooDeep : IsTooDeepText trees text → Shown trees g t s text
 
-overshot_how : (how : Ended) → verdict_text how ≡ codes "OVERSHOOT\n" → (s : ℕ) × (how ≡ Overshot s)
-overshot_how (Accepted read) e = absurd (accept_not_overshoot e)
-overshot_how (Overshot s) e = (s, refl)
-overshot_how (Rejected at s) e = absurd (overshoot_not_reject (sym e))
+module _ (g : Grammar) (t : TableData) (s : Sentence) (text : Text) where
+  of_verdict : (how : Ended) → VerdictOf t s.start s.tokens how → text ≡ verdict_text how → Shown false g t s text
+  of_verdict (Accepted read) verdict e = Accept read verdict e tt
+  of_verdict (Overshot state) verdict e = Overshoot state verdict e
+  of_verdict (Rejected at state) verdict e = Reject at state verdict e
+
+  of_outcome : (outcome : TreeOutcome) → IsOutcome t s.start s.tokens outcome → text ≡ outcome_text g outcome → Shown true g t s text
+  of_outcome (outcomes.Accept read tree) is e = Accept read (is.0.left.steps, is.0.left.ends) (tree, e) (tree, e, is.0)
+  of_outcome (outcomes.Overshoot state) is e = Overshoot state is.0 e
+  of_outcome (outcomes.Reject at state) is e = Reject at state is.0 e
+  of_outcome outcomes.TooDeep is e = TooDeep e
+
+  shown : (trees : Bool) → SentenceText trees g t s text → Shown trees g t s text
+  shown false said = of_verdict said.0 said.1 said.2
+  shown true said = of_outcome said.0 said.1 said.2
+
+  deep_so : (outcome : TreeOutcome) → IsOutcome t s.start s.tokens outcome → text ≡ outcome_text g outcome → (text ≡ codes "TOODEEP\n") ↔ IsTooDeep t s.start s.tokens
+  deep_so (outcomes.Accept read tree) is e = (λ deep. absurd (differ text 65 84 (ap first e) (ap first deep) (omega arith)), λ deep. absurd (is.1 deep))
+  deep_so (outcomes.Overshoot state) is e = (λ deep. absurd (differ text 79 84 (ap first e) (ap first deep) (omega arith)), λ deep. absurd (is.1 deep))
+  deep_so (outcomes.Reject at state) is e = (λ deep. absurd (differ text 82 84 (ap first e) (ap first deep) (omega arith)), λ deep. absurd (is.1 deep))
+  deep_so outcomes.TooDeep is e = (λ deep. is, λ deep. e)
+
+  module _ (trees : Bool) where
+    accepted : Shown trees g t s text → Accepts trees g text → (read : ℕ) × VerdictOf t s.start s.tokens (Accepted read) × Leaves trees g t s read text
+    accepted (Accept read verdict e leaves) is = (read, verdict, leaves)
+    accepted (Overshoot state verdict e) is = absurd (differ text 65 79 (first_accepts trees g text is) (ap first e) (omega arith))
+    accepted (Reject at state verdict e) is = absurd (differ text 65 82 (first_accepts trees g text is) (ap first e) (omega arith))
+    accepted (TooDeep deep) is = absurd (differ text 65 84 (first_accepts trees g text is) (first_deep trees text deep) (omega arith))
+
+    overshot_at : Shown trees g t s text → text ≡ codes "OVERSHOOT\n" → (state : ℕ) × VerdictOf t s.start s.tokens (Overshot state)
+    overshot_at (Accept read verdict e leaves) is = absurd (differ text 65 79 (first_accepts trees g text e) (ap first is) (omega arith))
+    overshot_at (Overshoot state verdict e) is = (state, verdict)
+    overshot_at (Reject at state verdict e) is = absurd (differ text 79 82 (ap first is) (ap first e) (omega arith))
+    overshot_at (TooDeep deep) is = absurd (differ text 79 84 (ap first is) (first_deep trees text deep) (omega arith))
+
+    rejected_at : Shown trees g t s text → text ≡ codes "REJECT\n" → (at : ℕ) × (state : ℕ) × VerdictOf t s.start s.tokens (Rejected at state)
+    rejected_at (Accept read verdict e leaves) is = absurd (differ text 65 82 (first_accepts trees g text e) (ap first is) (omega arith))
+    rejected_at (Overshoot state verdict e) is = absurd (differ text 79 82 (ap first e) (ap first is) (omega arith))
+    rejected_at (Reject at state verdict e) is = (at, state, verdict)
+    rejected_at (TooDeep deep) is = absurd (differ text 82 84 (ap first is) (first_deep trees text deep) (omega arith))
+
+    -- where the verdict is that it is accepted
+    accepts_or_deep : (read : ℕ) → VerdictOf t s.start s.tokens (Accepted read) → Shown trees g t s text → Accepts trees g text ⊎ IsTooDeepText trees text
+    accepts_or_deep read is (Accept read' verdict e leaves) = inl e
+    accepts_or_deep read is (Overshoot state verdict e) = let same = one_ending t (initial s.start s.tokens) (Overshot state) (Accepted read) verdict is in absurd (cc)
+    accepts_or_deep read is (Reject at state verdict e) = let same = one_ending t (initial s.start s.tokens) (Rejected at state) (Accepted read) verdict is in absurd (cc)
+    accepts_or_deep read is (TooDeep deep) = inr deep
+
+-- the tree of the run is one of the grammar
+shows_tree : (g : Grammar) (t : TableData) → IsTabled g t → (s : Sentence) (text : Text) (trees : Bool) (read : ℕ) → Leaves trees g t s read text → ShowsTree trees g s read text
+shows_tree g t is s text false read leaves = tt
+shows_tree g t is s text true read leaves =
+    (leaves.0, leaves.1, subst (λ (p : PlainGrammar). IsTreeFor p (start_symbol p s.start) leaves.0) is.table.table.grammar leaves.2.is, leaves.2.spells)
 
 -- ---- the laws
 
-module _ (words : List Text) (files : Option Files) (g : Grammar) (s : Sentence) (text : Text) (by : AnswersSentence words files g s text) where
+module _ (words : List Text) (files : Option Files) (trees : Bool) (g : Grammar) (s : Sentence) (text : Text) (by : AnswersSentence words files trees g s text) where
   is : IsTabled g by.table
-  is = asked_tabled by.warnings g by.table words files by.asked
+  is = asked_tabled by.warnings trees g by.table words files by.asked
 
   known : s.start < length g.starts
   known = sentence_start g by.line s by.sentence
 
-  said : FoundText by.table (IsSentence s) text
-  said = subst (λ (f : LineFound). FoundText by.table f text) by.sentence by.answer
+  said : SentenceText trees g by.table s text
+  said = subst (λ (f : LineFound). FoundBy (SentenceText trees g by.table) f text) by.sentence by.answer
 
-  says : (how : Ended) → said.0 ≡ how → VerdictOf by.table s.start s.tokens how
-  says how e = subst (λ (h : Ended). VerdictOf by.table s.start s.tokens h) e said.1
+  how : Shown trees g by.table s text
+  how = shown g by.table s text trees said
 
-  accepts_read : IsLR1 g → text ≡ codes "ACCEPT\n" → (read : ℕ) × IsPrefixSentence (plain_of g) s.start s.tokens read
-  accepts_read lr1 e =
-      let p = accepted_how said.0 (sym said.2 ∙ e) in
-      (p.0, (accepts g by.table is s.start known lr1 s.tokens p.0).0 (says (Accepted p.0) p.1))
+  accepts_read : IsLR1 g → Accepts trees g text → (read : ℕ) × IsPrefixSentence (plain_of g) s.start s.tokens read
+  accepts_read lr1 e = let p = accepted g by.table s text trees how e in (p.0, (accepts g by.table is s.start known lr1 s.tokens p.0).0 p.1)
 
-  sentence_accepts : IsLR1 g → (read : ℕ) × IsPrefixSentence (plain_of g) s.start s.tokens read → text ≡ codes "ACCEPT\n"
-  sentence_accepts lr1 p =
-      let v = (accepts g by.table is s.start known lr1 s.tokens p.0).1 p.1 in
-      let same = one_ending by.table (initial s.start s.tokens) said.0 (Accepted p.0) said.1 v in
-      said.2 ∙ ap verdict_text same
+  sentence_accepts : IsLR1 g → (read : ℕ) → IsPrefixSentence (plain_of g) s.start s.tokens read → Accepts trees g text ⊎ IsTooDeepText trees text
+  sentence_accepts lr1 read p = accepts_or_deep g by.table s text trees read ((accepts g by.table is s.start known lr1 s.tokens read).1 p) how
 
-  rightly : text ≡ codes "ACCEPT\n" → (read : ℕ) × IsPrefixSentence (plain_of g) s.start s.tokens read
+  rightly : Accepts trees g text → (read : ℕ) × IsPrefixSentence (plain_of g) s.start s.tokens read × ShowsTree trees g s read text
   rightly e =
-      let p = accepted_how said.0 (sym said.2 ∙ e) in
-      (p.0, accepts_rightly g by.table is s.start known s.tokens p.0 (says (Accepted p.0) p.1))
+      let p = accepted g by.table s text trees how e in
+      (p.0, accepts_rightly g by.table is s.start known s.tokens p.0 p.1, shows_tree g by.table is s text trees p.0 p.2)
 
   refused : IsLR1 g → text ≡ codes "REJECT\n" → (at : ℕ) × (at < length s.tokens) × (BeginsSentence (plain_of g) s.start (take (at + 1) s.tokens) → ⊥)
   refused lr1 e =
-      let p = rejected_how said.0 (sym said.2 ∙ e) in
-      let v = says (Rejected p.0 p.1) p.2 in
-      (p.0, (verdict_cut by.table s.start s.tokens p.0 p.1 v).0, λ b. rejects g by.table is s.start known lr1 s.tokens p.0 p.1 v b)
+      let p = rejected_at g by.table s text trees how e in
+      (p.0, (verdict_cut by.table s.start s.tokens p.0 p.1 p.2).0, λ b. rejects g by.table is s.start known lr1 s.tokens p.0 p.1 p.2 b)
 
   begun : AllProductive (plain_of g) → text ≡ codes "OVERSHOOT\n" → BeginsSentence (plain_of g) s.start s.tokens
-  begun productive e =
-      let p = overshot_how said.0 (sym said.2 ∙ e) in
-      overshot g by.table is s.start known productive s.tokens p.0 (says (Overshot p.0) p.1)
+  begun productive e = let p = overshot_at g by.table s text trees how e in overshot g by.table is s.start known productive s.tokens p.0 p.1
 
 module _ (words : List Text) (files : Option Files) where
   pub accepts_exactly : AcceptsExactly words files
-  accepts_exactly g s text by lr1 = (accepts_read words files g s text by lr1, sentence_accepts words files g s text by lr1)
+  accepts_exactly trees g s text by lr1 = (accepts_read words files trees g s text by lr1, sentence_accepts words files trees g s text by lr1)
 
   pub rejects_rightly : RejectsRightly words files
-  rejects_rightly g s text by lr1 e = refused words files g s text by lr1 e
+  rejects_rightly trees g s text by lr1 e = refused words files trees g s text by lr1 e
 
   pub overshoots_rightly : OvershootsRightly words files
-  overshoots_rightly g s text by productive e = begun words files g s text by productive e
+  overshoots_rightly trees g s text by productive e = begun words files trees g s text by productive e
 
   pub all_rightly : AcceptsRightly words files
-  all_rightly g s text by e = rightly words files g s text by e
+  all_rightly trees g s text by e = rightly words files trees g s text by e
+
+  pub deep_exactly : TooDeepExactly words files
+  deep_exactly g s text by = let text_is = said words files true g s text by in deep_so g by.table s text text_is.0 text_is.1 text_is.2

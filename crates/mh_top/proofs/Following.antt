@@ -96,7 +96,7 @@ module _ (b a : World) (warnings : Text) (e : Ending) (on_err : Appends b.err a.
   end_ran may (Ok u) ran = ends None [] (subst (MayEnd b.files) ran.0 may) ran.0 ran.1 ran.2 ran.3
   end_ran may (Err (Halted cause line)) ran = ends (Some cause) line (subst (MayEnd b.files) ran.0 may) ran.0 ran.1 ran.2 ran.3
   end_ran may (Err WriteFailed) ran = (inl ran.1, part ran.0)
-  end_ran may (Err OutOfMemory) ran = (err_calm, part ran.0)
+  end_ran may (Err OutOfMemory) ran = (record { out = ran.1; err = err_calm }, part ran.0)
   end_ran may (Err (ShelfFailed line)) ran = absurd ran
   end_ran may (Err InputFailed) ran = absurd ran
 
@@ -147,7 +147,7 @@ cut plan warnings b err n WriteFailed wrote = (
 cut plan warnings b err n (Halted cause line) wrote = absurd wrote
 cut plan warnings b err n (ShelfFailed line) wrote = absurd wrote
 cut plan warnings b err n InputFailed wrote = absurd wrote
-cut plan warnings b err n OutOfMemory wrote = (wrote.1, inl (record { on_out = Appends-nil b.out; on_err = subst (λ x. Appends b.err x []) (sym wrote.0) (Appends-nil b.err) }))
+cut plan warnings b err n OutOfMemory wrote = (record { out = refl; err = wrote.1 }, inl (record { on_out = Appends-nil b.out; on_err = subst (λ x. Appends b.err x []) (sym wrote.0) (Appends-nil b.err) }))
 
 module _ (order : Order) (g : Grammar) (tabled : Tabled) (next : Next) (listed : List Conflict) (is_list : listed ≡ tabled.conflicts) (is_plan : IsPlanOf order g tabled (plan_of next order.show_cst g tabled.halting)) where
   abbrev text : Text

@@ -6,7 +6,7 @@ use Rattle.mh_top.specs.Text.{Text}
 use Rattle.mh_top.specs.Work.{Work, IsWork}
 use Rattle.mh_top.specs.Run.{World, IsOutPart, Ran}
 use Rattle.mh_top.specs.Claims.{FileOf, WritesPart, WritesPartOfEach, Keeps}
-use Rattle.mh_top.proofs.Claims.{completes, finishes, is_status, misuse_cause, read_cause, absent_said, write_cause, big_cause, long_file_said, long_input_said, writes_part}
+use Rattle.mh_top.proofs.Claims.{completes, finishes, is_status, misuse_cause, read_cause, absent_said, write_cause, write_said, big_cause, long_file_said, long_input_said, writes_part}
 use Rattle.mh_top.proofs.Once.{work_once}
 
 module _ (words : List Text) (before now : World) where
@@ -28,6 +28,7 @@ module _ (words : List Text) (before now : World) where
     read_fault = read_cause words before now status ran;
     absent = absent_said words before now status ran;
     write_fault = write_cause words before now status ran;
+    write_fault_said = write_said words before now status ran;
     too_big = big_cause words before now status ran;
     long_file = long_file_said words before now status ran;
     long_input = long_input_said words before now status ran;

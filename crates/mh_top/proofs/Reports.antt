@@ -9,7 +9,7 @@ use Rattle.mh_outside.proofs.Pieces.{Appends-append}
 use Rattle.mh_top.specs.Text.{Text, cannot_read_input, out_of_memory}
 use Rattle.mh_top.specs.Causes.{status_of}
 use Rattle.mh_top.specs.Work.{Work, Plan, Ends, AsksEach}
-use Rattle.mh_top.specs.Run.{World, Worked, Ran, Finished, CannotReadFile, CannotReadInput, CannotWrite, NoMemory, Parts, PartsWith, IsOutPart, EndsSo, Holds, HoldsLines, OfNone, OfWork, OfFile, OfInput, OfMemory, LastLine, Reported, Said, Failed, Says, MayEnd, Lined, CutLined}
+use Rattle.mh_top.specs.Run.{World, Worked, Ran, Finished, CannotReadFile, CannotReadInput, CutShort, CannotSay, NoMemory, CouldWrite, Untouched, SaysOnly, Parts, PartsWith, IsOutPart, EndsSo, Holds, HoldsLines, OfWork, OfFile, OfInput, OfMemory, LastLine, Reported, Said, Silent, Failed, Says, MayEnd, Lined, CutLined}
 use Rattle.mh_top.specs.declared.stop.Cause.{Cause}
 use Rattle.mh_top.specs.declared.stop.Stop.{Stop}
 use Rattle.mh_top.specs.declared.stop.Stop.TheVariants.{Halted, ShelfFailed, InputFailed, WriteFailed, OutOfMemory}
@@ -40,9 +40,6 @@ parts_on Asked b m a P Q out next (inr some) = inr (record {
 rose_later : (a b c : ℕ) → b ≡ a → Rose b c → Rose a c
 rose_later a b c is rose = subst (λ (x : ℕ). Rose x c) is rose
 
-rose_on : (a b c : ℕ) → Rose a b → Rose b c → Rose a c
-rose_on a b c first rose = omega arith
-
 Appends-nil : (out : Option Text) → Appends out out []
 Appends-nil None = tt
 Appends-nil (Some out) = sym (append-nil out)
@@ -52,7 +49,7 @@ prefix_self text = ([], sym (append-nil text))
 
 -- nothing more is said
 pub silent : (stop : Stop) (err : Option Text) (n : ℕ) → stop ≡ WriteFailed → Reported stop err err n n 4
-silent stop err n is = Said [] (subst (λ (s : Stop). LastLine s 4 []) (sym is) (refl, refl)) (Appends-nil err) refl
+silent stop err n is = Silent is refl refl refl
 
 -- what out holds of whole lines is a part of what the plan writes
 lines_part : (plan : Plan) (b m : World) → HoldsLines plan b m → (text : Text) × Appends b.out m.out text × IsOutPart plan b.left text
@@ -85,6 +82,12 @@ ends_parts Asked b m cause line ends = inr (record {
   front = ends.work.warnings;
   is_front = prefix_self ends.work.warnings;
   on_err = ends.on_err;
+})
+
+untouched_parts : (Asked : Work → Type 0) (b m : World) → Untouched b m → Parts Asked b m
+untouched_parts Asked b m untouched = inl (record {
+  on_out = subst (λ x. Appends b.out x []) (sym untouched.out) (Appends-nil b.out);
+  on_err = subst (λ x. Appends b.err x []) (sym untouched.err) (Appends-nil b.err);
 })
 
 lines_on : (plan : Plan) (b m a : World) → a.left ≡ m.left → a.out ≡ m.out → HoldsLines plan b m → HoldsLines plan b a
@@ -127,28 +130,45 @@ module _ (Asked : Work → Type 0) (Names : Text → Type 0) (b m : World) (err 
   pub done : EndsSo Asked b m None [] → result ≡ 0 → err ≡ m.err → n ≡ m.err_faults → Ran Asked Names b a result
   done ends is same calm = finished None [] [] ends is refl (subst (λ x. Appends m.err x []) (sym same) (Appends-nil m.err)) calm
 
+  -- the last line was written
+  still_could : CouldWrite b m → n ≡ m.err_faults → CouldWrite b a
+  still_could could calm = record { out = could.out; err = calm ∙ could.err }
+
+  -- nothing was written since
+  still_parts : err ≡ m.err → Parts Asked b m → Parts Asked b a
+  still_parts same parts = parts_on Asked b m a _ _ refl (λ front p. subst (λ x. Appends b.err x front) (sym same) p) parts
+
+  says_only : (line : Text) → Untouched b m → Appends m.err err line → SaysOnly b a line
+  says_only line untouched app = record {
+    out = untouched.out;
+    err = subst (λ x. Appends x err line) untouched.err app;
+    left = untouched.left;
+    input_faults = untouched.input_faults;
+  }
+
+  still_rose : n ≡ m.err_faults → Rose b.out_faults m.out_faults ⊎ Rose b.err_faults m.err_faults → Rose b.out_faults m.out_faults ⊎ Rose b.err_faults n
+  still_rose calm (inl rose) = inl rose
+  still_rose calm (inr rose) = inr (subst (λ (x : ℕ). Rose b.err_faults x) (sym calm) rose)
+
   pub ran : (stop : Stop) → Worked Asked Names b m (Err stop) → Reported stop m.err err m.err_faults n result → Ran Asked Names b a result
   ran (Halted cause line) worked (Said text last app calm) = finished (Some cause) line text worked last.0 last.1 app calm
+  ran (Halted cause line) worked (Silent is four same calm) = absurd (cc)
   ran (Halted cause line) worked (Failed text k last four app rose) =
-      CannotWrite four (inr (rose_later b.err_faults m.err_faults n worked.quiet.err rose)) text (OfWork worked.work worked.outcome worked.is_asked worked.gives (worked.line_is ∙ ap (λ (l : Text). worked.work.warnings ++ l) (sym last.1))) (cut_lined text (ends_parts Asked b m (Some cause) line worked) app)
-  ran (ShelfFailed line) worked (Said text last app calm) = CannotReadFile last.0 worked.1 text (subst Names (sym last.1) worked.0) (lined text worked.3 app)
-  ran (ShelfFailed line) worked (Failed text k last four app rose) = CannotWrite four (inr (rose_later b.err_faults m.err_faults n worked.2 rose)) text (OfFile (subst Names (sym last.1) worked.0)) (cut_lined text worked.3 app)
-  ran InputFailed worked (Said text last app calm) = CannotReadInput last.0 worked.0 (record {
+      CannotSay four worked.quiet.out (rose_later b.err_faults m.err_faults n worked.quiet.err rose) text (OfWork worked.work worked.outcome worked.is_asked worked.gives (worked.line_is ∙ ap (λ (l : Text). worked.work.warnings ++ l) (sym last.1))) (cut_lined text (ends_parts Asked b m (Some cause) line worked) app)
+  ran (ShelfFailed line) worked (Said text last app calm) = CannotReadFile last.0 worked.1 (still_could worked.2 calm) text (subst Names (sym last.1) worked.0) (says_only text worked.3 app)
+  ran (ShelfFailed line) worked (Silent is four same calm) = absurd (cc)
+  ran (ShelfFailed line) worked (Failed text k last four app rose) = CannotSay four worked.2.out (rose_later b.err_faults m.err_faults n worked.2.err rose) text (OfFile (subst Names (sym last.1) worked.0)) (cut_lined text (untouched_parts Asked b m worked.3) app)
+  ran InputFailed worked (Said text last app calm) = CannotReadInput last.0 worked.0 (still_could worked.1 calm) (record {
     work = worked.2.work;
     is_asked = worked.2.is_asked;
     lines = lines_on worked.2.work.plan b m a refl refl worked.2.lines;
     on_err = subst (λ (t : Text). Appends b.err err (t ++ cannot_read_input)) (append-nil worked.2.work.warnings) (Appends-append b.err m.err err (worked.2.work.warnings ++ []) cannot_read_input worked.2.on_err (subst (λ (t : Text). Appends m.err err t) last.1 app));
   })
-  ran InputFailed worked (Failed text k last four app rose) = CannotWrite four (inr (rose_later b.err_faults m.err_faults n worked.1 rose)) text (OfInput last.1) (cut_lined text (holds_parts Asked b m worked.2) app)
-  ran WriteFailed worked (Said text last app calm) = CannotWrite last.0 (rose_still worked.0 calm) text (OfNone last.1) (cut_lined text worked.1 (text, app, ([], sym (append-nil text))))
-    where
-      rose_still : Rose b.out_faults m.out_faults ⊎ Rose b.err_faults m.err_faults → n ≡ m.err_faults → Rose b.out_faults m.out_faults ⊎ Rose b.err_faults n
-      rose_still (inl rose) calm = inl rose
-      rose_still (inr rose) calm = inr (subst (λ (x : ℕ). Rose b.err_faults x) (sym calm) rose)
-  ran WriteFailed worked (Failed text k last four app rose) = CannotWrite four (rose_more worked.0) text (OfNone last.1) (cut_lined text worked.1 app)
-    where
-      rose_more : Rose b.out_faults m.out_faults ⊎ Rose b.err_faults m.err_faults → Rose b.out_faults m.out_faults ⊎ Rose b.err_faults n
-      rose_more (inl first) = inl first
-      rose_more (inr first) = inr (rose_on b.err_faults m.err_faults n first rose)
-  ran OutOfMemory worked (Said text last app calm) = NoMemory last.0 (lined out_of_memory worked.1 (subst (λ (t : Text). Appends m.err err t) last.1 app))
-  ran OutOfMemory worked (Failed text k last four app rose) = CannotWrite four (inr (rose_later b.err_faults m.err_faults n worked.0 rose)) text (OfMemory last.1) (cut_lined text worked.1 app)
+  ran InputFailed worked (Silent is four same calm) = absurd (cc)
+  ran InputFailed worked (Failed text k last four app rose) = CannotSay four worked.1.out (rose_later b.err_faults m.err_faults n worked.1.err rose) text (OfInput last.1) (cut_lined text (holds_parts Asked b m worked.2) app)
+  ran WriteFailed worked (Said text last app calm) = absurd last
+  ran WriteFailed worked (Silent is four same calm) = CutShort four (still_rose calm worked.0) (still_parts same worked.1)
+  ran WriteFailed worked (Failed text k last four app rose) = absurd last
+  ran OutOfMemory worked (Said text last app calm) = NoMemory last.0 (still_could worked.0 calm) (lined out_of_memory worked.1 (subst (λ (t : Text). Appends m.err err t) last.1 app))
+  ran OutOfMemory worked (Silent is four same calm) = absurd (cc)
+  ran OutOfMemory worked (Failed text k last four app rose) = CannotSay four worked.0.out (rose_later b.err_faults m.err_faults n worked.0.err rose) text (OfMemory last.1) (cut_lined text worked.1 app)

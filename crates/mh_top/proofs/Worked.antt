@@ -63,7 +63,7 @@ module _ (Asked Asked' : Work → Type 0) (Names Names' : Text → Type 0) (next
   pub wider : (r : Result (Unit {0}) Stop) → Worked Asked Names b a r → Worked Asked' Names' b a r
   wider (Ok u) w = ends_wider None [] w
   wider (Err (Halted cause line)) w = ends_wider (Some cause) line w
-  wider (Err (ShelfFailed line)) w = (names line w.0, w.1, w.2, parts_wider w.3)
+  wider (Err (ShelfFailed line)) w = (names line w.0, w.1, w.2, w.3)
   wider (Err InputFailed) w = (w.0, w.1, record { work = w.2.work; is_asked = next w.2.work w.2.is_asked; lines = w.2.lines; on_err = w.2.on_err })
   wider (Err WriteFailed) w = (w.0, parts_wider w.1)
   wider (Err OutOfMemory) w = (w.0, parts_wider w.1)
@@ -102,7 +102,7 @@ still b = record { shelf = refl; input = refl; out = refl; err = refl }
 
 pub stage_halts : {A : Type 0} (Has : Staged A → Type 0) (Asked : Work → Type 0) (Names : Text → Type 0) (b : World) (stop : Stop) → ((cause : Cause) (line : Text) → Has (Halt cause line) → Asked (halted cause line) × MayEnd b.files (Some cause)) → StageHas {A = A} Has (Err stop) → Worked Asked Names b b (Err stop)
 stage_halts Has Asked Names b (Halted cause line) asks is = let p = asks cause line is in halts Asked b b cause line p.0 p.1 refl refl refl (still b)
-stage_halts Has Asked Names b OutOfMemory asks is = (refl, silent_parts Asked b b refl refl)
+stage_halts Has Asked Names b OutOfMemory asks is = (record { out = refl; err = refl }, silent_parts Asked b b refl refl)
 stage_halts Has Asked Names b (ShelfFailed line) asks is = absurd is
 stage_halts Has Asked Names b InputFailed asks is = absurd is
 stage_halts Has Asked Names b WriteFailed asks is = absurd is
@@ -149,8 +149,8 @@ module _ (b : World) (order : Order) (files : Option Files) (n : ℕ) where
 
   pub files_halt : (stop : Stop) → FilesHave b.files order (Err stop) → LoadCounts {A = List Module} b.shelf_faults n (Err stop) → Worked Asked Names b m (Err stop)
   files_halt (Halted cause line) has counts = halts Asked b m cause line has.1 has.0 refl refl refl (record { shelf = counts; input = refl; out = refl; err = refl })
-  files_halt (ShelfFailed line) has counts = (has, counts.1, refl, silent_parts Asked b m refl refl)
-  files_halt OutOfMemory has counts = (refl, silent_parts Asked b m refl refl)
+  files_halt (ShelfFailed line) has counts = (has, counts.1, record { out = refl; err = refl }, record { out = refl; err = refl; left = refl; input_faults = refl })
+  files_halt OutOfMemory has counts = (record { out = refl; err = refl }, silent_parts Asked b m refl refl)
   files_halt InputFailed has counts = absurd counts
   files_halt WriteFailed has counts = absurd counts
 
@@ -209,7 +209,7 @@ module _ (b a : World) (warnings : Text) (answering : Answering) (on_err : Appen
   each_ran (Ok u) ran counts = answered true None [] ran.0 (record { shelf = shelf_calm; input = counts.0; out = counts.1; err = err_calm }) (may_done b.files) refl refl (all_left b.left a.left ran.1)
   each_ran (Err (Halted cause line)) ran counts =
       answered false (Some cause) line ran.2 (record { shelf = shelf_calm; input = counts.0; out = counts.1; err = err_calm }) (may_big b.files cause ran.0) (ap Some ran.0) ran.1 (some_left b.left a.left)
-  each_ran (Err InputFailed) ran counts = (counts.1, err_calm, record { work = work; is_asked = refl; lines = ran; on_err = subst (λ (t : Text). Appends b.err a.err t) (sym (append-nil warnings)) on_err })
+  each_ran (Err InputFailed) ran counts = (counts.1, record { out = counts.2; err = err_calm }, record { work = work; is_asked = refl; lines = ran; on_err = subst (λ (t : Text). Appends b.err a.err t) (sym (append-nil warnings)) on_err })
   each_ran (Err WriteFailed) ran counts = (inl counts.2, part ran)
-  each_ran (Err OutOfMemory) ran counts = (err_calm, part ran)
+  each_ran (Err OutOfMemory) ran counts = (record { out = counts.1; err = err_calm }, part ran)
   each_ran (Err (ShelfFailed line)) ran counts = absurd ran

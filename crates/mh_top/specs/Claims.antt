@@ -9,7 +9,7 @@ use Rattle.mh_top.specs.Causes.{Go, Halt}
 use Rattle.mh_top.specs.Order.{order_of}
 use Rattle.mh_top.specs.FileStage.{IsTurn, IsFileLine, Over, file_limit}
 use Rattle.mh_top.specs.Work.{Work, Plan, Ends, AsksEach, IsWork, line_limit, max_lines}
-use Rattle.mh_top.specs.Run.{World, IsQuiet, Does, Holds, IsOutPart}
+use Rattle.mh_top.specs.Run.{World, IsQuiet, CouldWrite, SaysOnly, Does, Holds, IsOutPart}
 use Rattle.mh_opts.specs.declared.order.Order.{Order}
 use Rattle.mh_top.specs.declared.stop.Cause.{Cause}
 
@@ -54,10 +54,11 @@ pub record AllCalm (before now : World) : Type 0 where
 abbrev pub Completes : List Text → World → World → ℕ → Type 0
 Completes words before now status = AllCalm before now → (status ≡ 6) ⊎ Does (IsWork words before.files) before now status
 
--- The statuses 0, 1, 2 and 5 come only where no count rose, and as asked for.
+-- the work was done, or ended by itself before its time
 abbrev pub IsDone : ℕ → Type 0
 IsDone status = (status ≡ 0) ⊎ (status ≡ 1) ⊎ (status ≡ 2) ⊎ (status ≡ 5)
 
+-- Such a status comes only where no count rose, and as asked for.
 abbrev pub Finishes : List Text → World → World → ℕ → Type 0
 Finishes words before now status = IsDone status → IsQuiet before now × Does (IsWork words before.files) before now status
 
@@ -65,11 +66,11 @@ Finishes words before now status = IsDone status → IsQuiet before now × Does 
 abbrev pub MisuseHasCause : List Text → World → World → ℕ → Type 0
 MisuseHasCause words before now status = status ≡ 2 → (cause : Cause) × (line : Text) × (order_of words ≡ Halt cause line) × Appends before.err now.err line
 
--- A read fault has its cause: the shelf's count rose; or the order's file whose turn it is is absent; or the input's count rose, and out
--- holds exactly the text of the lines that were got whole.
+-- A read fault has its cause: the shelf's count rose, and nothing was done but that the file was named; or the order's file whose turn it is
+-- is absent; or the input's count rose, and out holds exactly the text of the lines that were got whole.
 abbrev pub ReadFaultHasCause : List Text → World → World → ℕ → Type 0
 ReadFaultHasCause words before now status = status ≡ 3 →
-    Rose before.shelf_faults now.shelf_faults ⊎ IsAbsent words before.files ⊎ (Rose before.input_faults now.input_faults × Holds (IsWork words before.files) before now cannot_read_input)
+    (Rose before.shelf_faults now.shelf_faults × ((line : Text) × FileOf words before.files line × SaysOnly before now line)) ⊎ IsAbsent words before.files ⊎ (Rose before.input_faults now.input_faults × Holds (IsWork words before.files) before now cannot_read_input)
 
 -- Where no count rose, an absent file is a read fault.
 abbrev pub AbsentIsSaid : List Text → World → World → ℕ → Type 0
@@ -78,6 +79,10 @@ AbsentIsSaid words before now status = AllCalm before now → IsAbsent words bef
 -- A write fault has its cause.
 abbrev pub WriteFaultHasCause : World → World → ℕ → Type 0
 WriteFaultHasCause before now status = status ≡ 4 → Rose before.out_faults now.out_faults ⊎ Rose before.err_faults now.err_faults
+
+-- Where a write failed, nothing else is answered.
+abbrev pub WriteFaultIsSaid : World → World → ℕ → Type 0
+WriteFaultIsSaid before now status = (CouldWrite before now → ⊥) → status ≡ 4
 
 -- What is too big passes a limit: the file of the order whose turn it is, or an input whose lines are asked for.
 abbrev pub TooBigHasCause : List Text → World → World → ℕ → Type 0
@@ -114,6 +119,7 @@ pub record Keeps (words : List Text) (before now : World) (status : ℕ) : Type 
   pub read_fault : ReadFaultHasCause words before now status
   pub absent : AbsentIsSaid words before now status
   pub write_fault : WriteFaultHasCause before now status
+  pub write_fault_said : WriteFaultIsSaid before now status
   pub too_big : TooBigHasCause words before now status
   pub long_file : LongFileIsSaid words before now status
   pub long_input : LongInputIsSaid words before now status

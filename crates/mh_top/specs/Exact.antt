@@ -1,17 +1,19 @@
--- What the answers of sentence lines say of the sentences of the grammar.
-use Rattle.std.specs.Prelude.{◌≡◌, ◌<◌, ◌+◌, ◌↔◌, ℕ, false, List, length, take, Option, codes}
+-- What the answers to sentence lines say of the sentences of the grammar, with trees or without.
+use Rattle.std.specs.Prelude.{◌≡◌, ◌<◌, ◌+◌, ◌↔◌, ◌⊎◌, ◌++◌, ℕ, Bool, true, false, List, length, take, Option, codes, ⊤}
 use Rattle.mh_grammar.specs.declared.types.Grammar.{Grammar}
 use Rattle.mh_grammar.specs.declared.types.Sentence.{Sentence}
-use Rattle.mh_grammar.specs.Plain.{plain_of, BeginsSentence}
+use Rattle.mh_grammar.specs.Plain.{plain_of, start_symbol, BeginsSentence}
 use Rattle.mh_items.specs.declared.kernels.Automaton.{Automaton}
 use Rattle.mh_canon.specs.Canonical.{IsCanonical}
 use Rattle.mh_resolve.specs.Clear.{HasNoConflicts}
 use Rattle.mh_tables.specs.Table.{TableData}
+use Rattle.mh_tree.specs.Trees.{SyntaxTree, IsTreeFor, text_of, yield_of}
 use Rattle.mh_run.specs.Exactness.{IsPrefixSentence, AllProductive}
+use Rattle.mh_run.specs.TreeRuns.{IsTooDeep}
 use Rattle.mh_outside.specs.Shelf.{Files}
 use Rattle.mh_top.specs.Text.{Text}
 use Rattle.mh_msgfile.specs.Sentences.{IsSentence, sentence_in, vocabulary_of}
-use Rattle.mh_top.specs.Verdicts.{LineText}
+use Rattle.mh_top.specs.Verdicts.{AnswersOne}
 use Rattle.mh_top.specs.Work.{IsWork, answering}
 
 -- The grammar is LR(1) (Knuth 1965): its canonical automaton has no conflict, that with the end of the stream included.
@@ -20,32 +22,58 @@ pub record IsLR1 (g : Grammar) : Type 0 where
   pub canonical : IsCanonical (plain_of g) automaton
   pub clear : HasNoConflicts g automaton
 
--- The words ask for verdicts by a table of the grammar, and the text answers a line that is this sentence.
-pub record AnswersSentence (words : List Text) (files : Option Files) (g : Grammar) (s : Sentence) (text : Text) : Type 0 where
+-- The words ask for verdicts by a table of the grammar, with trees or without, and the text answers a line that is this
+-- sentence.
+pub record AnswersSentence (words : List Text) (files : Option Files) (trees : Bool) (g : Grammar) (s : Sentence) (text : Text) : Type 0 where
   pub table : TableData
   pub warnings : Text
-  pub asked : IsWork words files (record { warnings = warnings; plan = answering false g table })
+  pub asked : IsWork words files (record { warnings = warnings; plan = answering trees g table })
   pub line : Text
   pub sentence : sentence_in (vocabulary_of g) line ≡ IsSentence s
-  pub answer : LineText (vocabulary_of g) table line text
+  pub answer : AnswersOne (record { trees = trees; grammar = g; table = table }) line text
 
--- By a grammar that is LR(1), ACCEPT answers exactly the lines whose tokens, or the first of them, are a sentence.
+-- the text accepts a line; with trees it has one line more
+abbrev pub Accepts : Bool → Grammar → Text → Type 0
+Accepts false g text = text ≡ codes "ACCEPT\n"
+Accepts true g text = (tree : SyntaxTree) × (text ≡ codes "ACCEPT\n" ++ text_of g tree ++ codes "\n")
+
+-- with trees, the text may also say that they are too deep
+abbrev pub IsTooDeepText : Bool → Text → Type 0
+IsTooDeepText false text = ⊥
+IsTooDeepText true text = text ≡ codes "TOODEEP\n"
+
+-- with trees, the text shows a tree of the grammar for the first tokens, as many as `read`
+abbrev pub ShowsTree : Bool → Grammar → Sentence → ℕ → Text → Type 0
+ShowsTree false g s read text = ⊤
+ShowsTree true g s read text =
+    (tree : SyntaxTree) × (text ≡ codes "ACCEPT\n" ++ text_of g tree ++ codes "\n") × IsTreeFor (plain_of g) (start_symbol (plain_of g) s.start) tree × (yield_of tree ≡ take read s.tokens)
+
+-- By a grammar that is LR(1), a line is accepted only where its tokens, or the first of them, are a sentence; and each such
+-- line is, but where its trees are too deep.
 abbrev pub AcceptsExactly : List Text → Option Files → Type 0
-AcceptsExactly words files = (g : Grammar) (s : Sentence) (text : Text) → AnswersSentence words files g s text → IsLR1 g →
-    (text ≡ codes "ACCEPT\n") ↔ ((read : ℕ) × IsPrefixSentence (plain_of g) s.start s.tokens read)
+AcceptsExactly words files = (trees : Bool) (g : Grammar) (s : Sentence) (text : Text) → AnswersSentence words files trees g s text → IsLR1 g →
+    (Accepts trees g text → (read : ℕ) × IsPrefixSentence (plain_of g) s.start s.tokens read)
+    × ((read : ℕ) → IsPrefixSentence (plain_of g) s.start s.tokens read → Accepts trees g text ⊎ IsTooDeepText trees text)
 
 -- And REJECT answers a line only where no sentence begins with its tokens up to one of them.
 abbrev pub RejectsRightly : List Text → Option Files → Type 0
-RejectsRightly words files = (g : Grammar) (s : Sentence) (text : Text) → AnswersSentence words files g s text → IsLR1 g →
+RejectsRightly words files = (trees : Bool) (g : Grammar) (s : Sentence) (text : Text) → AnswersSentence words files trees g s text → IsLR1 g →
     text ≡ codes "REJECT\n" → (at : ℕ) × (at < length s.tokens) × (BeginsSentence (plain_of g) s.start (take (at + 1) s.tokens) → ⊥)
 
 -- By any grammar each of whose nonterminals derives some word, OVERSHOOT answers a line only where some sentence begins
 -- with its tokens.
 abbrev pub OvershootsRightly : List Text → Option Files → Type 0
-OvershootsRightly words files = (g : Grammar) (s : Sentence) (text : Text) → AnswersSentence words files g s text → AllProductive (plain_of g) →
+OvershootsRightly words files = (trees : Bool) (g : Grammar) (s : Sentence) (text : Text) → AnswersSentence words files trees g s text → AllProductive (plain_of g) →
     text ≡ codes "OVERSHOOT\n" → BeginsSentence (plain_of g) s.start s.tokens
 
--- By any grammar, ACCEPT answers a line only where its tokens, or the first of them, are a sentence.
+-- By any grammar, a line is accepted only where its tokens, or the first of them, are a sentence; with trees, one of these
+-- tokens is shown.
 abbrev pub AcceptsRightly : List Text → Option Files → Type 0
-AcceptsRightly words files = (g : Grammar) (s : Sentence) (text : Text) → AnswersSentence words files g s text →
-    text ≡ codes "ACCEPT\n" → (read : ℕ) × IsPrefixSentence (plain_of g) s.start s.tokens read
+AcceptsRightly words files = (trees : Bool) (g : Grammar) (s : Sentence) (text : Text) → AnswersSentence words files trees g s text →
+    Accepts trees g text → (read : ℕ) × IsPrefixSentence (plain_of g) s.start s.tokens read × ShowsTree trees g s read text
+
+-- With trees, TOODEEP answers exactly the lines in whose run, up to its end, some step makes trees that are too many or too
+-- high.
+abbrev pub TooDeepExactly : List Text → Option Files → Type 0
+TooDeepExactly words files = (g : Grammar) (s : Sentence) (text : Text) → (answers : AnswersSentence words files true g s text) →
+    (text ≡ codes "TOODEEP\n") ↔ IsTooDeep answers.table s.start s.tokens

@@ -25,23 +25,34 @@ pub record World : Type 0 where
   pub out_faults : ℕ
   pub err_faults : ℕ
 
-module _ {F I O E : Type 0} where
-  abbrev pub world : (F → Option Files) → (F → ℕ) → (I → Option Text) → (I → ℕ) → (O → Option Text) → (O → ℕ) → (E → Option Text) → (E → ℕ) → F → I → O → E → World
-  world files shelf_faults left input_faults out out_faults err err_faults f i o e = record {
-    files = files f;
+module _ {I O E : Type 0} where
+  -- beside a shelf with these files and this count
+  abbrev pub world_beside : Option Files → ℕ → (I → Option Text) → (I → ℕ) → (O → Option Text) → (O → ℕ) → (E → Option Text) → (E → ℕ) → I → O → E → World
+  world_beside files shelf_faults left input_faults out out_faults err err_faults i o e = record {
+    files = files;
     left = left i;
     out = out o;
     err = err e;
-    shelf_faults = shelf_faults f;
+    shelf_faults = shelf_faults;
     input_faults = input_faults i;
     out_faults = out_faults o;
     err_faults = err_faults e;
   }
 
+module _ {F I O E : Type 0} where
+  abbrev pub world : (F → Option Files) → (F → ℕ) → (I → Option Text) → (I → ℕ) → (O → Option Text) → (O → ℕ) → (E → Option Text) → (E → ℕ) → F → I → O → E → World
+  world files shelf_faults left input_faults out out_faults err err_faults f i o e =
+      world_beside (files f) (shelf_faults f) left input_faults out out_faults err err_faults i o e
+
 -- no count rose
 pub record IsQuiet (before now : World) : Type 0 where
   pub shelf : now.shelf_faults ≡ before.shelf_faults
   pub input : now.input_faults ≡ before.input_faults
+  pub out : now.out_faults ≡ before.out_faults
+  pub err : now.err_faults ≡ before.err_faults
+
+-- no write failed
+pub record CouldWrite (before now : World) : Type 0 where
   pub out : now.out_faults ≡ before.out_faults
   pub err : now.err_faults ≡ before.err_faults
 
@@ -78,6 +89,20 @@ pub record EndsSo (Asked : Work → Type 0) (before now : World) (cause : Option
 pub record WroteNothing (before now : World) (OnErr : Text → Type 0) : Type 0 where
   pub on_out : Appends before.out now.out []
   pub on_err : OnErr []
+
+-- nothing was written yet, and nothing of the input taken
+pub record Untouched (before now : World) : Type 0 where
+  pub out : now.out ≡ before.out
+  pub err : now.err ≡ before.err
+  pub left : now.left ≡ before.left
+  pub input_faults : now.input_faults ≡ before.input_faults
+
+-- nothing but this line was written, on err, and nothing of the input was taken
+pub record SaysOnly (before now : World) (line : Text) : Type 0 where
+  pub out : now.out ≡ before.out
+  pub err : Appends before.err now.err line
+  pub left : now.left ≡ before.left
+  pub input_faults : now.input_faults ≡ before.input_faults
 
 -- a part of what the work asked for writes was written, and on err as `OnErr` says of a prefix of its warnings
 pub record WroteParts (Asked : Work → Type 0) (before now : World) (OnErr : Text → Type 0) : Type 0 where
@@ -121,10 +146,10 @@ pub record Holds (Asked : Work → Type 0) (before now : World) (line : Text) : 
 abbrev pub Worked : (Work → Type 0) → (Text → Type 0) → World → World → Result (Unit {0}) Stop → Type 0
 Worked Asked Names before now (Ok _) = EndsSo Asked before now None []
 Worked Asked Names before now (Err (Halted cause line)) = EndsSo Asked before now (Some cause) line
-Worked Asked Names before now (Err (ShelfFailed line)) = Names line × Rose before.shelf_faults now.shelf_faults × (now.err_faults ≡ before.err_faults) × Parts Asked before now
-Worked Asked Names before now (Err InputFailed) = Rose before.input_faults now.input_faults × (now.err_faults ≡ before.err_faults) × Holds Asked before now []
+Worked Asked Names before now (Err (ShelfFailed line)) = Names line × Rose before.shelf_faults now.shelf_faults × CouldWrite before now × Untouched before now
+Worked Asked Names before now (Err InputFailed) = Rose before.input_faults now.input_faults × CouldWrite before now × Holds Asked before now []
 Worked Asked Names before now (Err WriteFailed) = (Rose before.out_faults now.out_faults ⊎ Rose before.err_faults now.err_faults) × Parts Asked before now
-Worked Asked Names before now (Err OutOfMemory) = (now.err_faults ≡ before.err_faults) × Parts Asked before now
+Worked Asked Names before now (Err OutOfMemory) = CouldWrite before now × Parts Asked before now
 
 -- The work asked for was done: the status, the texts and the input left are those of its outcome.
 pub record Does (Asked : Work → Type 0) (before now : World) (status : ℕ) : Type 0 where
@@ -141,31 +166,33 @@ pub record Does (Asked : Work → Type 0) (before now : World) (status : ℕ) : 
 
 -- the line on err that was to be written last
 pub data IsLastLine (Asked : Work → Type 0) (Names : Text → Type 0) (input : Option Text) (line : Text) : Type 0 where
-  OfNone : line ≡ [] → IsLastLine Asked Names input line
   OfWork : (work : Work) → (outcome : Outcome) → Asked work → Gives work input outcome → outcome.err ≡ work.warnings ++ line → IsLastLine Asked Names input line
   OfFile : Names line → IsLastLine Asked Names input line
   OfInput : line ≡ cannot_read_input → IsLastLine Asked Names input line
   OfMemory : line ≡ out_of_memory → IsLastLine Asked Names input line
 
--- How a run ended, with its cause.
+-- How a run ended, with its cause. A write fault cuts it short, and nothing more is written; or the last line could not be
+-- written whole, and no write before it failed.
 pub data Ran (Asked : Work → Type 0) (Names : Text → Type 0) (before now : World) (status : ℕ) : Type 0 where
   Finished : IsQuiet before now → Does Asked before now status → Ran Asked Names before now status
-  CannotReadFile : status ≡ 3 → Rose before.shelf_faults now.shelf_faults → (line : Text) → Names line → Lined Asked before now line → Ran Asked Names before now status
-  CannotReadInput : status ≡ 3 → Rose before.input_faults now.input_faults → Holds Asked before now cannot_read_input → Ran Asked Names before now status
-  CannotWrite : status ≡ 4 → (Rose before.out_faults now.out_faults ⊎ Rose before.err_faults now.err_faults) → (line : Text) → IsLastLine Asked Names before.left line → CutLined Asked before now line → Ran Asked Names before now status
-  NoMemory : status ≡ 6 → Lined Asked before now out_of_memory → Ran Asked Names before now status
+  CannotReadFile : status ≡ 3 → Rose before.shelf_faults now.shelf_faults → CouldWrite before now → (line : Text) → Names line → SaysOnly before now line → Ran Asked Names before now status
+  CannotReadInput : status ≡ 3 → Rose before.input_faults now.input_faults → CouldWrite before now → Holds Asked before now cannot_read_input → Ran Asked Names before now status
+  CutShort : status ≡ 4 → (Rose before.out_faults now.out_faults ⊎ Rose before.err_faults now.err_faults) → Parts Asked before now → Ran Asked Names before now status
+  CannotSay : status ≡ 4 → (now.out_faults ≡ before.out_faults) → Rose before.err_faults now.err_faults → (line : Text) → IsLastLine Asked Names before.left line → CutLined Asked before now line → Ran Asked Names before now status
+  NoMemory : status ≡ 6 → CouldWrite before now → Lined Asked before now out_of_memory → Ran Asked Names before now status
 
 -- what is said on err before the program stops for a cause, and the status
 abbrev pub LastLine : Stop → ℕ → Text → Type 0
 LastLine (Halted cause line) result text = (result ≡ code_of cause) × (text ≡ line)
 LastLine (ShelfFailed line) result text = (result ≡ 3) × (text ≡ line)
 LastLine InputFailed result text = (result ≡ 3) × (text ≡ cannot_read_input)
-LastLine WriteFailed result text = (result ≡ 4) × (text ≡ [])
+LastLine WriteFailed result text = ⊥
 LastLine OutOfMemory result text = (result ≡ 6) × (text ≡ out_of_memory)
 
--- the line was written and its status is the answer, or it couldn't be
+-- the line was written and its status is the answer, or it couldn't be; after a write fault nothing is said
 pub data Reported (stop : Stop) (err0 err1 : Option Text) (faults0 faults1 : ℕ) (result : ℕ) : Type 0 where
   Said : (text : Text) → LastLine stop result text → Appends err0 err1 text → faults1 ≡ faults0 → Reported stop err0 err1 faults0 faults1 result
+  Silent : stop ≡ WriteFailed → result ≡ 4 → err1 ≡ err0 → faults1 ≡ faults0 → Reported stop err0 err1 faults0 faults1 result
   Failed : (text : Text) → (status : ℕ) → LastLine stop status text → result ≡ 4 → AppendsPrefix err0 err1 text → Rose faults0 faults1 → Reported stop err0 err1 faults0 faults1 result
 
 abbrev pub Says : ℕ → Text → Option Text → Option Text → ℕ → ℕ → ℕ → Type 0

@@ -9,7 +9,7 @@ use Rattle.mh_run.specs.TreeRuns.{IsOutcome}
 use Rattle.mh_run.specs.declared.tree_run.TreeOutcome.{TreeOutcome}
 use Rattle.mh_run.specs.declared.tree_run.TreeOutcome.TheVariants as outcomes
 use Rattle.mh_top.specs.Text.{Text}
-use Rattle.mh_msgfile.specs.Sentences.{Vocabulary, LineFound, IsSentence, IsUnreadable, NamesNoStart, LacksStart, NamesUnknown, sentence_in, vocabulary_of}
+use Rattle.mh_msgfile.specs.Sentences.{LineFound, IsSentence, IsUnreadable, NamesNoStart, LacksStart, NamesUnknown, sentence_in, vocabulary_of}
 
 -- ---- a sentence
 
@@ -46,13 +46,6 @@ FoundBy Says IsUnreadable text = text ≡ codes "ERROR unreadable\n"
 FoundBy Says (NamesNoStart name) text = text ≡ codes "ERROR unknown start " ++ name ++ codes "\n"
 FoundBy Says LacksStart text = text ≡ codes "ERROR missing start\n"
 FoundBy Says (NamesUnknown name) text = text ≡ codes "ERROR unknown token " ++ name ++ codes "\n"
-
-abbrev pub FoundText : TableData → LineFound → Text → Type 0
-FoundText t = FoundBy (IsVerdictText t)
-
--- the text that answers a line with its verdict, where the starts and tokens have these names
-abbrev pub LineText : Vocabulary → TableData → Text → Text → Type 0
-LineText names t line text = FoundText t (sentence_in names line) text
 
 -- ---- the lines
 

@@ -18,7 +18,8 @@ pub(crate) trait Answer {
     /// The text that answers a line.
     fn answer(&mut self, alloc: Global, line: &[u8]) -> Result<Vec<u8>, Memory>
         requires { length line.now < 2 ^ 32 }
-        ensures { IfOk result (λ text. AnswersLine (Answers self.old) (Answers self.new) line.now text.items) };
+        ensures { IfOk result (λ text.
+            AnswersLine (Answers self.old) (Answers self.new) line.now text.items) };
 
     ghost no_line: { (s : Self) → (text : List ℕ) → Answers s [] text ↔ (text ≡ []) };
 }
@@ -31,7 +32,8 @@ fn answer_line<O: Sink, A: Answer>(
     line: &[u8],
 ) -> Result<(), Stop>
     requires { length line.now < 2 ^ 32 }
-    ensures text { LineRan (A.Answers answers.old) (A.Answers answers.new) line.now (O.written out.old) (O.written out.new) result }
+    ensures text { LineRan (A.Answers answers.old) (A.Answers answers.new) line.now
+        (O.written out.old) (O.written out.new) result }
     ensures counts { OutCounts (O.faults out.old) (O.faults out.new) result }
 {
     let text = answers.answer(alloc, line)?;
@@ -73,8 +75,10 @@ pub(crate) fn answer_each<I: Source, O: Sink, A: Answer>(
     answers: &mut A,
 ) -> Result<(), Stop>
     requires { limit < 2 ^ 32 }
-    ensures ran { EachRan limit max (A.Answers answers.old) (I.left input.old) (I.left input.new) (O.written out.old) (O.written out.new) result }
-    ensures counts { EachCounts (I.faults input.old) (I.faults input.new) (O.faults out.old) (O.faults out.new) result }
+    ensures ran { EachRan limit max (A.Answers answers.old) (I.left input.old) (I.left input.new)
+        (O.written out.old) (O.written out.new) result }
+    ensures counts { EachCounts (I.faults input.old) (I.faults input.new)
+        (O.faults out.old) (O.faults out.new) result }
 {
     for _ in 0..max {
         match read_line(alloc, input, limit) {

@@ -16,7 +16,8 @@ use std::alloc::{AllocError, Global};
 
 /// What stands behind a file's name.
 fn place_of(alloc: Global, line: u32) -> Result<String, AllocError>
-    ensures { IfOk result (λ text. string_bytes text ≡ codes ":" ++ (decimal line ++ codes ": syntax error\n")) }
+    ensures { IfOk result (λ text.
+        string_bytes text ≡ codes ":" ++ (decimal line ++ codes ": syntax error\n")) }
 {
     format!(in alloc; ":{line}: syntax error\n")
 }

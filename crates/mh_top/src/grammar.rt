@@ -30,13 +30,17 @@ fn stop_of(alloc: Global, fault: &GrammarFault) -> Stop
     }
 }
 
-/// The grammar that modules give, with the prelude or without.
-pub(crate) fn grammar_in(alloc: Global, modules: &[Module], prelude: bool) -> Result<Grammar, Stop>
-    requires { HaveAlternatives modules.now }
-    ensures grammar { StageHas (IsGrammarStage prelude modules.now) result }
+/// The grammar that modules give, with the prelude or without. The modules are let go.
+pub(crate) fn grammar_in(
+    alloc: Global,
+    modules: Vec<Module>,
+    prelude: bool,
+) -> Result<Grammar, Stop>
+    requires { HaveAlternatives modules.items }
+    ensures grammar { StageHas (IsGrammarStage prelude modules.items) result }
     ensures range { IfOk result (λ grammar. IsInRange (plain_of grammar)) }
 {
-    match grammar_of(alloc, modules, prelude) {
+    match grammar_of(alloc, &modules, prelude) {
         Ok(grammar) => Ok(grammar),
         Err(fault) => Err(stop_of(alloc, &fault)),
     }

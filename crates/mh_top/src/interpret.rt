@@ -12,7 +12,7 @@ ghost use Rattle.mh_top.specs.Verdicts.{Answers, AnswersOne, IsOutcomeText, IsVe
 use crate::each::{Answer, answer_each};
 use crate::stop::{Stop, joined};
 use mh_grammar::{Grammar, Memory, Sentence};
-use mh_msgfile::{Lexicon, SentenceFault, read_sentence};
+use mh_msgfile::{Lexicon, SentenceFault};
 use mh_outside::{Sink, Source};
 use mh_run::{TreeOutcome, Verdict, run_with_trees, verdict};
 use mh_tables::Halting;
@@ -22,6 +22,7 @@ use std::alloc::Global;
 /// An input line has at most 1 MiB.
 const LINE_LIMIT: usize = 1024 * 1024;
 
+/// The input has at most so many lines.
 const MAX_LINES: usize = 1_000_000;
 
 /// What answers a line.
@@ -101,7 +102,8 @@ fn sentence_text(
     requires start { sentence.now.start < length halting.now.grammar.starts }
     requires tokens { All (λ z. z < halting.now.grammar.tokens) sentence.now.tokens }
     requires few { length sentence.now.tokens < 2 ^ 32 }
-    ensures { IfOk result (λ text. SentenceText trees grammar.now halting.now sentence.now text.items) }
+    ensures { IfOk result (λ text.
+        SentenceText trees grammar.now halting.now sentence.now text.items) }
 {
     if trees {
         tree_answer(alloc, grammar, halting, sentence)
@@ -113,9 +115,11 @@ fn sentence_text(
 /// The text that answers a line.
 fn line_text(alloc: Global, by: &Answering, line: &[u8]) -> Result<Vec<u8>, Memory>
     requires short { length line.now < 2 ^ 32 }
-    ensures { IfOk result (λ text. AnswersOne (record { trees = by.now.trees; grammar = by.now.grammar; table = by.now.halting }) line.now text.items) }
+    ensures { IfOk result (λ text. AnswersOne
+        (record { trees = by.now.trees; grammar = by.now.grammar; table = by.now.halting })
+        line.now text.items) }
 {
-    match read_sentence(alloc, &by.grammar, &by.lexicon, line) {
+    match by.lexicon.read(alloc, &by.grammar, line) {
         Ok(sentence) => sentence_text(alloc, by.trees, &by.grammar, &by.halting, &sentence),
         Err(SentenceFault::Unreadable) => Ok(b"ERROR unreadable\n".to_vec(alloc)?),
         Err(SentenceFault::UnknownStart { name }) => {
@@ -134,7 +138,8 @@ fn line_text(alloc: Global, by: &Answering, line: &[u8]) -> Result<Vec<u8>, Memo
 impl Answer for Answering {
     ghost use Rattle.mh_top.specs.Verdicts.{Answers};
 
-    ghost Answers = { λ s. Answers (record { trees = s.trees; grammar = s.grammar; table = s.halting }) };
+    ghost Answers = { λ s.
+        Answers (record { trees = s.trees; grammar = s.grammar; table = s.halting }) };
 
     ghost no_line = { λ s text. (λ h. h, λ h. h) };
 
@@ -154,8 +159,11 @@ pub(crate) fn interpret<I: Source, O: Sink>(
 ) -> Result<(), Stop>
     requires same { halting.grammar ≡ plain_of grammar }
     requires range { IsInRange (plain_of grammar) }
-    ensures ran { EachRan line_limit max_lines (Answers (record { trees = trees; grammar = grammar; table = halting })) (I.left input.old) (I.left input.new) (O.written out.old) (O.written out.new) result }
-    ensures counts { EachCounts (I.faults input.old) (I.faults input.new) (O.faults out.old) (O.faults out.new) result }
+    ensures ran { EachRan line_limit max_lines
+        (Answers (record { trees = trees; grammar = grammar; table = halting }))
+        (I.left input.old) (I.left input.new) (O.written out.old) (O.written out.new) result }
+    ensures counts { EachCounts (I.faults input.old) (I.faults input.new)
+        (O.faults out.old) (O.faults out.new) result }
 {
     halting.table().facts();
     let Ok(lexicon) = Lexicon::new(alloc, &grammar) else {

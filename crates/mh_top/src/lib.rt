@@ -9,6 +9,7 @@ mod laws;
 mod load;
 mod modes;
 mod order;
+pub mod status;
 mod stop;
 mod tabled;
 mod top;

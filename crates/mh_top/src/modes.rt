@@ -1,13 +1,14 @@
 //! What is done with a table: the warnings on its conflicts, and then the refusal by `--strict`, or the mode.
-ghost use Rattle.std.specs.Prelude.{◌≡◌, ◌<◌, ◌++◌, length, IfOk};
+ghost use Rattle.std.specs.Prelude.{◌≡◌, ℕ, Option, IfOk};
 ghost use Rattle.mh_grammar.specs.Plain.{plain_of, IsInRange};
 ghost use Rattle.mh_items.specs.Automaton.{IsAutomaton};
 ghost use Rattle.mh_report.specs.Automata.{IsAutomatonText};
 ghost use Rattle.mh_resolve.specs.States.{IsTableOf};
 ghost use Rattle.mh_resolve.specs.declared.kinds.Mode.TheVariants.{Canonical};
 ghost use Rattle.mh_report.specs.Warnings.{warning_lines};
+ghost use Rattle.mh_outside.specs.Shelf.{Files};
 ghost use Rattle.mh_top.specs.Modes.{Wrote, Warned, PlanRan, plan_of};
-ghost use Rattle.mh_top.specs.Run.{world, Worked};
+ghost use Rattle.mh_top.specs.Run.{world_beside, Worked};
 ghost use Rattle.mh_top.specs.Work.{IsPlanOf, IsWorkOfTable, has_warning as has_warning_in, is_warned as is_warned_of};
 
 use crate::interpret::interpret;
@@ -15,7 +16,7 @@ use crate::stop::{Cause, Stop, halted};
 use crate::tabled::Tabled;
 use mh_grammar::{Grammar, Memory, Sequence};
 use mh_opts::{Job, Order};
-use mh_outside::{Shelf, Sink, Source, write_whole};
+use mh_outside::{Sink, Source, write_whole};
 use mh_report::{automaton_text, warning_text};
 use mh_resolve::{Conflict, ConflictKind, Mode};
 use mh_tables::Halting;
@@ -54,7 +55,8 @@ fn shown(alloc: Global, grammar: &Grammar, tabled: &Tabled) -> Result<Sequence<u
     requires range { IsInRange (plain_of grammar.now) }
     requires automaton { IsAutomaton (plain_of grammar.now) tabled.now.automaton }
     requires table { IsTableOf grammar.now tabled.now.automaton Canonical tabled.now.halting }
-    ensures { IfOk result (λ text. IsAutomatonText grammar.now tabled.now.automaton Canonical tabled.now.halting text) }
+    ensures { IfOk result (λ text.
+        IsAutomatonText grammar.now tabled.now.automaton Canonical tabled.now.halting text) }
 {
     let text = automaton_text(
         alloc,
@@ -72,7 +74,8 @@ fn next_of(alloc: Global, order: &Order, grammar: &Grammar, tabled: &Tabled) -> 
     requires range { IsInRange (plain_of grammar.now) }
     requires automaton { IsAutomaton (plain_of grammar.now) tabled.now.automaton }
     requires table { IsTableOf grammar.now tabled.now.automaton Canonical tabled.now.halting }
-    ensures { IfOk result (λ next. IsPlanOf order.now grammar.now tabled.now (plan_of next order.now.show_cst grammar.now tabled.now.halting)) }
+    ensures { IfOk result (λ next. IsPlanOf order.now grammar.now tabled.now
+        (plan_of next order.now.show_cst grammar.now tabled.now.halting)) }
 {
     if order.strict && has_warning(tabled.conflicts.as_slice()) {
         return Ok(Next::Refuse);
@@ -87,7 +90,8 @@ fn next_of(alloc: Global, order: &Order, grammar: &Grammar, tabled: &Tabled) -> 
 }
 
 fn write_text<S: Sink>(sink: &mut S, text: &[u8]) -> Result<(), Stop>
-    ensures { Wrote text.now (S.written sink.old) (S.written sink.new) (S.faults sink.old) (S.faults sink.new) result }
+    ensures { Wrote text.now (S.written sink.old) (S.written sink.new)
+        (S.faults sink.old) (S.faults sink.new) result }
 {
     match write_whole(sink, text) {
         Ok(()) => Ok(()),
@@ -102,7 +106,8 @@ fn warn<E: Sink>(
     conflicts: &[Conflict],
     err: &mut E,
 ) -> Result<(), Stop>
-    ensures { Warned (warning_lines grammar.now conflicts.now) (E.written err.old) (E.written err.new) (E.faults err.old) (E.faults err.new) result }
+    ensures { Warned (warning_lines grammar.now conflicts.now)
+        (E.written err.old) (E.written err.new) (E.faults err.old) (E.faults err.new) result }
 {
     let text = warning_text(alloc, grammar, conflicts)?;
     write_text(err, &text)
@@ -120,7 +125,8 @@ fn follow<I: Source, O: Sink>(
 ) -> Result<(), Stop>
     requires same { halting.grammar ≡ plain_of grammar }
     requires range { IsInRange (plain_of grammar) }
-    ensures { PlanRan (plan_of next trees grammar halting) (I.left input.old) (I.left input.new) (I.faults input.old) (I.faults input.new)
+    ensures { PlanRan (plan_of next trees grammar halting)
+        (I.left input.old) (I.left input.new) (I.faults input.old) (I.faults input.new)
         (O.written out.old) (O.written out.new) (O.faults out.old) (O.faults out.new) result }
 {
     match next {
@@ -131,12 +137,11 @@ fn follow<I: Source, O: Sink>(
 }
 
 /// The work on a table.
-pub(crate) fn work_on_table<F: Shelf, I: Source, O: Sink, E: Sink>(
+pub(crate) fn work_on_table<I: Source, O: Sink, E: Sink>(
     alloc: Global,
     order: &Order,
     grammar: Grammar,
     tabled: Tabled,
-    _shelf: &mut F,
     input: &mut I,
     out: &mut O,
     err: &mut E,
@@ -144,9 +149,12 @@ pub(crate) fn work_on_table<F: Shelf, I: Source, O: Sink, E: Sink>(
     requires range { IsInRange (plain_of grammar) }
     requires automaton { IsAutomaton (plain_of grammar) tabled.automaton }
     requires table { IsTableOf grammar tabled.automaton Canonical tabled.halting }
-    ensures { Worked (IsWorkOfTable order.now grammar tabled) (λ line. ⊥)
-        (world F.files F.faults I.left I.faults O.written O.faults E.written E.faults _shelf.old input.old out.old err.old)
-        (world F.files F.faults I.left I.faults O.written O.faults E.written E.faults _shelf.new input.new out.new err.new)
+    ensures { (files : Option Files) (shelf_faults : ℕ) →
+        Worked (IsWorkOfTable order.now grammar tabled) (λ line. ⊥)
+        (world_beside files shelf_faults I.left I.faults O.written O.faults E.written E.faults
+        input.old out.old err.old)
+        (world_beside files shelf_faults I.left I.faults O.written O.faults E.written E.faults
+        input.new out.new err.new)
         result }
 {
     let next = next_of(alloc, order, &grammar, &tabled)?;
@@ -156,7 +164,7 @@ pub(crate) fn work_on_table<F: Shelf, I: Source, O: Sink, E: Sink>(
             next,
             order.show_cst,
             grammar,
-            tabled.halting,
+            tabled.into_halting(),
             input,
             out,
         ),

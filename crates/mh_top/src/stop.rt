@@ -4,6 +4,7 @@ ghost use Rattle.mh_top.specs.Causes.{code_of};
 ghost use Rattle.mh_top.specs.Stages.{Halts};
 ghost use Rattle.mh_top.specs.declared.stop.Stop.TheVariants.{OutOfMemory};
 
+use crate::status;
 use mh_grammar::{Memory, Sequence};
 use std::alloc::{AllocError, AllocFailed, Global};
 
@@ -26,10 +27,10 @@ impl Cause {
         ensures { result ≡ code_of self }
     {
         match self {
-            Cause::Refused => 1,
-            Cause::Misused => 2,
-            Cause::Missing => 3,
-            Cause::TooBig => 5,
+            Cause::Refused => status::REFUSED,
+            Cause::Misused => status::MISUSED,
+            Cause::Missing => status::READ_FAULT,
+            Cause::TooBig => status::TOO_BIG,
         }
     }
 }
@@ -39,9 +40,13 @@ impl Cause {
 pub(crate) enum Stop {
     /// By its definition, with a line on err.
     Halted { cause: Cause, line: Sequence<u8> },
+    /// The shelf failed at a file; the line names it.
     ShelfFailed { line: Sequence<u8> },
+    /// A read of the input failed.
     InputFailed,
+    /// A write failed, and nothing more is written.
     WriteFailed,
+    /// Memory was wanted.
     OutOfMemory,
 }
 

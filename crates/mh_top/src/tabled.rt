@@ -25,6 +25,15 @@ pub(crate) struct Tabled {
     pub(crate) conflicts: Sequence<Conflict>,
 }
 
+impl Tabled {
+    /// The table alone. The automaton and the conflicts are let go.
+    pub(crate) fn into_halting(self) -> Halting
+        ensures { result ≡ self.halting }
+    {
+        self.halting
+    }
+}
+
 fn too_many_states(alloc: Global) -> Stop
     ensures { Halts Refused too_many_states_line result }
 {
@@ -87,7 +96,8 @@ fn with_table(alloc: Global, grammar: &Grammar, automaton: Automaton) -> Result<
     requires canonical { IsCanonical (plain_of grammar.now) automaton }
     requires automaton { IsAutomaton (plain_of grammar.now) automaton }
     ensures stage { StageHas (IsTableStage grammar.now) result }
-    ensures automaton { IfOk result (λ tabled. IsAutomaton (plain_of grammar.now) tabled.automaton) }
+    ensures automaton { IfOk result (λ tabled.
+        IsAutomaton (plain_of grammar.now) tabled.automaton) }
 {
     let (table, conflicts) = resolve(alloc, grammar, &automaton, Mode::Canonical)?;
     match check_halts(alloc, table) {
@@ -112,7 +122,8 @@ fn with_table(alloc: Global, grammar: &Grammar, automaton: Automaton) -> Result<
 pub(crate) fn table_of(alloc: Global, grammar: &Grammar) -> Result<Tabled, Stop>
     requires { IsInRange (plain_of grammar.now) }
     ensures stage { StageHas (IsTableStage grammar.now) result }
-    ensures automaton { IfOk result (λ tabled. IsAutomaton (plain_of grammar.now) tabled.automaton) }
+    ensures automaton { IfOk result (λ tabled.
+        IsAutomaton (plain_of grammar.now) tabled.automaton) }
 {
     match canonical(alloc, grammar) {
         Ok(automaton) => with_table(alloc, grammar, automaton),

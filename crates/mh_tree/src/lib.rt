@@ -9,4 +9,4 @@ mod tree;
 
 pub use text::print_tree;
 pub use tokens::yield_of;
-pub use tree::{Tree, can_be_children, leaf, node};
+pub use tree::{MAX_HEIGHT, Tree, can_be_children, leaf, node};

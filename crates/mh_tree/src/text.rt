@@ -6,7 +6,9 @@ use crate::tree::{Shape, Tree};
 use mh_grammar::{Grammar, Memory, left_side_name, token_name};
 use std::alloc::Global;
 
-/// The tree's text.
+/// The tree's text, which `--interpret-show-cst` of the Menhir manual asks for, on one line: a leaf is the name of its
+/// token, a node is `[`, the name of its left side, `:`, each child after one space, and `]`. Fails for want of memory
+/// alone.
 pub fn print_tree(alloc: Global, grammar: &Grammar, tree: &Tree) -> Result<Vec<u8>, Memory>
     ensures { IfOk result (λ v. v.items ≡ text_of grammar.now tree.now) }
 {

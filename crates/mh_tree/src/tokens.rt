@@ -7,7 +7,8 @@ use crate::tree::{Shape, Tree};
 use mh_grammar::{Memory, Token};
 use std::alloc::Global;
 
-/// The tokens of the tree's leaves, from left to right.
+/// The tokens of the tree's leaves, from left to right: its yield (Aho, Lam, Sethi and Ullman). Fails for want of memory
+/// alone.
 pub fn yield_of(alloc: Global, tree: &Tree) -> Result<Vec<Token>, Memory>
     ensures { IfOk result (λ v. v.items ≡ spec.yield_of tree.now) }
 {

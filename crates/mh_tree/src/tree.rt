@@ -10,7 +10,11 @@ use std::alloc::Global;
 use std::marker::Model;
 use std::rc::Rc;
 
-/// A shared syntax tree.
+/// The greatest height of a tree, so that no walk over one is deeper: this project's own limit.
+pub const MAX_HEIGHT: u32 = 4000;
+
+/// A shared syntax tree: a token, or a production over a tree for each symbol of its right side (Knuth 1965). Its height
+/// is from 1 to `MAX_HEIGHT`.
 #[cycle(tree)]
 pub struct Tree {
     shape: Rc<Shape>,
@@ -89,13 +93,16 @@ impl Tree {
         children_of(shape)
     }
 
+    /// The height: 1 for a leaf and for an empty node, else one more than that of the highest child; at most
+    /// `MAX_HEIGHT`.
     pub fn height(&self) -> u32
-        ensures { result ≡ height_of self.now }
+        ensures value { result ≡ height_of self.now }
+        ensures bound { result ≤ 4000 }
     {
         self.height
     }
 
-    /// An equal tree, which shares the nodes of this one.
+    /// An equal tree, which shares the nodes of this one. Fails for want of memory alone.
     pub fn share(&self) -> Result<Tree, Memory>
         ensures { IfOk result (λ t. t ≡ self.now) }
     {
@@ -106,6 +113,7 @@ impl Tree {
     }
 }
 
+/// The tree of a token, of height 1. Fails for want of memory alone.
 pub fn leaf(alloc: Global, token: Token) -> Result<Tree, Memory>
     ensures { IfOk result (λ t. t ≡ Leaf token) }
 {
@@ -115,14 +123,15 @@ pub fn leaf(alloc: Global, token: Token) -> Result<Tree, Memory>
     })
 }
 
-/// Whether a node may stand over these trees: none of them has the greatest height, 4,000.
+/// Whether a node may stand over these trees: none of them has the height `MAX_HEIGHT`.
 pub fn can_be_children(trees: &[Tree]) -> bool
     ensures { IsTrue result ↔ All (λ t. height_of t < 4000) trees.now }
 {
-    trees.iter().all(|tree| tree.height() < 4000)
+    trees.iter().all(|tree| tree.height() < MAX_HEIGHT)
 }
 
-/// The tree of a production over its children. Where memory is wanting, the children are dropped.
+/// The tree of a production over its children, one higher than the highest of them. Fails for want of memory alone; the
+/// children are dropped then.
 pub fn node(alloc: Global, production: u32, children: Vec<Tree>) -> Result<Tree, Memory>
     requires { All (λ t. height_of t < 4000) children.items }
     ensures { IfOk result (λ t. t ≡ Node production (forest_of children.items)) }

@@ -1,3 +1,4 @@
+//! A shelf in memory.
 ghost use Rattle.std.specs.Prelude.{◌≡◌, Some};
 ghost use Rattle.std.specs.Option.{option_copied};
 ghost use Rattle.mh_outside.specs.Faults.{ShelfCounts};

@@ -2,6 +2,7 @@ use Rattle.std.proofs.Common.{◌≡◌, ◌<◌, length, Some, sym, ap, ◌∙�
 use Rattle.std.specs.List.{slice_get}
 use Rattle.std.proofs.lemmas.Option.{slice_get-get_or}
 use Rattle.mh_grammar.specs.Plain.{plain_of}
+use Rattle.mh_canon.specs.declared.collection.TheConstants.{MAX_STATES}
 use Rattle.mh_canon.proofs.Building.{Building-start, Building-source, Building-step}
 use Rattle.mh_canon.proofs.Finished.{IsCanonical-done}
 use Rattle.mh_canon.proofs.Meaning.{IsAutomaton-canonical, IsOver-canonical}
@@ -46,7 +47,7 @@ returns-clause-ok c =
 pub returns-clause-exact : goal.returns-clause-exact
 returns-clause-exact c =
     let done : length c.states.edges.items ≡ length c.states.kernels.keys = omega (arith, c.states.edges.ok.0, c.states.invariant.building.short) in
-    IsOver-canonical (plain_of c.args.grammar.now) (record { kernels = c.states.kernels.keys; edges = c.states.edges.items }) (IsCanonical-done (plain_of c.args.grammar.now) (record { kernels = c.states.kernels.keys; edges = c.states.edges.items }) c.states.invariant.building done) 200000 c.states.invariant.few
+    IsOver-canonical (plain_of c.args.grammar.now) (record { kernels = c.states.kernels.keys; edges = c.states.edges.items }) (IsCanonical-done (plain_of c.args.grammar.now) (record { kernels = c.states.kernels.keys; edges = c.states.edges.items }) c.states.invariant.building done) MAX_STATES c.states.invariant.few
 
 pub returns-clause-automaton : goal.returns-clause-automaton
 returns-clause-automaton c =

@@ -6,5 +6,5 @@ loop-start-init c = rw c.new-kernels.ensures.empty AreStarts-none
 
 pub loop-start-preserved : goal.loop-start-preserved
 loop-start-preserved c =
-    let placed = rw c.in_ok-kernel.ensures.ok at c.in_ok-insert.ensures in
+    let placed = rw c.in_ok-kernel.ensures.exact at c.in_ok-insert.ensures in
     AreStarts-step c.loop-start.start c.in_ok-insert.field-0 c.loop-start.kernels.keys c.insert.new.kernels.keys c.loop-start.invariant placed

@@ -10,9 +10,9 @@ loop-item-preserved c =
     let items = c.as_slice-item-items.result.now in
     let item = c.item-item.result in
     let more = take_more items c.loop-item.item-index item c.loop-item-test.true ∙ ap (λ k. Rattle.std.proofs.Common.◌++◌ (take c.loop-item.item-index items) (Rattle.std.proofs.Common.◌∷◌ k Rattle.std.proofs.Common.[])) (sym c.item-item.is) in
-    elim c.match-symbol_behind.branch [
-      | in-Some+in_ok-insert w ↦ rw (w.symbols-is, more) (record { rising = rising_keys w.insert.new.self w.in_ok-insert.ensures.ordered; exact = found_step (plain_of c.args.grammar.now) c.loop-item.symbols.keys w.insert.new.self.keys (take c.loop-item.item-index items) item w.in-Some.symbol c.loop-item.invariant.exact (sym c.symbol_behind.ensures ∙ w.in-Some.is) w.in_ok-insert.ensures.keys })
-      | in_default w ↦ rw (w.symbols-is, more) (record { rising = c.loop-item.invariant.rising; exact = none_step (plain_of c.args.grammar.now) c.loop-item.symbols.keys (take c.loop-item.item-index items) item c.loop-item.invariant.exact (sym c.symbol_behind.ensures ∙ w.in_default.is) })
+    elim c.match-symbol_at.branch [
+      | in-Some+in_ok-insert w ↦ rw (w.symbols-is, more) (record { rising = rising_keys w.insert.new.self w.in_ok-insert.ensures.ordered; exact = found_step (plain_of c.args.grammar.now) c.loop-item.symbols.keys w.insert.new.self.keys (take c.loop-item.item-index items) item w.in-Some.symbol c.loop-item.invariant.exact (sym c.symbol_at.ensures ∙ w.in-Some.is) w.in_ok-insert.ensures.keys })
+      | in_default w ↦ rw (w.symbols-is, more) (record { rising = c.loop-item.invariant.rising; exact = none_step (plain_of c.args.grammar.now) c.loop-item.symbols.keys (take c.loop-item.item-index items) item c.loop-item.invariant.exact (sym c.symbol_at.ensures ∙ w.in_default.is) })
     ]
 
 pub returns-clause-exact : goal.returns-clause-exact

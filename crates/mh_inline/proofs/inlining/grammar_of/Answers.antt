@@ -1,14 +1,14 @@
 use Rattle.std.proofs.Common.{◌∙◌}
 use Rattle.mh_inline.specs.Making.{AreNumbers}
-use Rattle.mh_inline.proofs.Limits.{all_sources, sources_known, small_grammar}
-use Rattle.mh_inline.proofs.Productions.{starts_same}
+use Rattle.mh_inline.proofs.Limits.{all_origins, origins_known, small_grammar}
+use Rattle.mh_inline.proofs.Producing.{starts_same}
 use Rattle.mh_inline.proofs.inlining.grammar_of.Goals as goal
 
-pub productions_of-requires-clause-sources : goal.productions_of-requires-clause-sources
-productions_of-requires-clause-sources c = all_sources c.args.expanded.now.instances c.args.sources.now c.requires.sources
+pub productions_of-requires-clause-origins : goal.productions_of-requires-clause-origins
+productions_of-requires-clause-origins c = all_origins c.args.expanded.now.instances c.args.origins.now c.requires.origins
 
 pub productions_of-requires-clause-known : goal.productions_of-requires-clause-known
-productions_of-requires-clause-known c = rw c.deref.ensures.value (sources_known c.args.expanded.now c.args.sizing.now c.in_ok-known.known.items c.args.sources.now c.requires.ready c.requires.sizing c.requires.sized c.in_ok-known.ensures c.requires.small)
+productions_of-requires-clause-known c = rw c.deref.ensures.value (origins_known c.args.expanded.now c.args.sizing.now c.in_ok-known.known.items c.args.origins.now c.requires.ready c.requires.sizing c.requires.sized c.in_ok-known.ensures (all_origins c.args.expanded.now.instances c.args.origins.now c.requires.origins) c.requires.small)
 
 pub returns-clause-inlined : goal.returns-clause-inlined
 returns-clause-inlined c =
@@ -19,10 +19,10 @@ returns-clause-inlined c =
       tokens = c.in_ok-tokens_of.ensures;
       nonterminals = c.from_vec.ensures ∙ rw c.as_slice-3.ensures at c.in_ok-nonterminals.ensures;
       starts = c.from_vec-3.ensures ∙ rw (c.as_slice-4.ensures, c.as_slice-5.ensures.value) at c.in_ok-starts.ensures ∙ starts_same e.instances numbers e.starts right c.requires.ready.starts_below;
-      sources = c.args.sources.now;
-      ordered = c.requires.sources;
+      origins = c.args.origins.now;
+      ordered = c.requires.origins;
       productions = rw c.from_vec-2.ensures c.in_ok-productions.ensures;
     }
 
 pub returns-clause-small : goal.returns-clause-small
-returns-clause-small c = small_grammar c.args.expanded.now.tokens c.args.expanded.now.instances c.args.sources.now _ c.requires.small (rw c.from_vec-2.ensures c.in_ok-productions.ensures)
+returns-clause-small c = small_grammar c.args.expanded.now.tokens c.args.expanded.now.instances c.args.origins.now _ c.requires.small (rw c.from_vec-2.ensures c.in_ok-productions.ensures)

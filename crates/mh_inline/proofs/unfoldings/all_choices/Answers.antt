@@ -10,4 +10,4 @@ loop-first-preserved c =
     let i = c.loop-first.first-index in
     let u = c.first-item.result in
     let more = take_more us i u c.loop-first-test.true ∙ ap (λ v. take i us ++ v ∷ []) (sym c.first-item.is) in
-    c.in_ok-add_joined.ensures ∙ ap (λ l. l ++ map (joined u) c.args.right.now) c.loop-first.invariant ∙ sym (choices-push (take i us) u c.args.right.now) ∙ ap (λ l. choices l c.args.right.now) (sym more)
+    c.in_ok-add_joined_with_each.ensures ∙ ap (λ l. l ++ map (joined u) c.args.right.now) c.loop-first.invariant ∙ sym (choices-push (take i us) u c.args.right.now) ∙ ap (λ l. choices l c.args.right.now) (sym more)

@@ -4,11 +4,11 @@ use Rattle.std.proofs.lemmas.List.Edits.{map_over_more}
 use Rattle.mh_inline.specs.Unfoldings.{joined, only}
 use Rattle.mh_inline.proofs.unfoldings.push_part.Goals as goal
 
-pub loop-unfolding-preserved : goal.loop-unfolding-preserved
-loop-unfolding-preserved c =
-    let all = c.loop-unfolding.all in
-    let i = c.loop-unfolding.unfolding-index in
-    let y = get_or all i c.unfolding-item.result in
+pub loop-choice-preserved : goal.loop-choice-preserved
+loop-choice-preserved c =
+    let all = c.loop-choice.all in
+    let i = c.loop-choice.choice-index in
+    let y = get_or all i c.choice-item.result in
     let l : i < length all = omega arith in
     ap (λ r. set all i (record { rhs = r; prec = y.prec })) c.in_ok-push.ensures.ok ∙
-    map_over_more (λ u. joined u (only c.args.part)) c.args.all.now all i y c.loop-unfolding-test.true c.loop-unfolding.invariant (get_or_default all i c.unfolding-item.result y l)
+    map_over_more (λ u. joined u (only c.args.part)) c.args.all.now all i y c.loop-choice-test.true c.loop-choice.invariant (get_or_default all i c.choice-item.result y l)

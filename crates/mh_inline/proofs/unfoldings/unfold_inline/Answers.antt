@@ -1,33 +1,73 @@
-use Rattle.std.proofs.Common.{◌<◌, length, get_or, refl, sym, ap, ◌∙◌, arith}
-use Rattle.std.specs.List.{slice_get}
+use Rattle.std.proofs.Common.{◌≡◌, ◌<◌, length, get_or, refl, sym, ap, ◌∙◌, arith, subst, length-set}
+use Rattle.std.specs.List.{slice_get, Contains}
+use Rattle.std.proofs.lemmas.List.Elements.{Contains-get_or}
 use Rattle.std.proofs.lemmas.Option.{slice_get-get_or}
+use Rattle.mh_inline.specs.Sizes.{IsSizing}
+use Rattle.mh_inline.specs.Uses.{AreLast, Forgets, KnowsNeeded, KnowsUsed}
 use Rattle.mh_inline.proofs.Knowing.{inline_instance}
-use Rattle.mh_inline.proofs.Building.{next_from, Knows-more}
+use Rattle.mh_inline.proofs.Building.{next_from}
+use Rattle.mh_inline.proofs.Lasting.{order_within, KnowsNeeded-start, KnowsNeeded-more, KnowsNeeded-all}
 use Rattle.mh_inline.proofs.unfoldings.unfold_inline.Goals as goal
+
+pub last_uses-requires : goal.last_uses-requires
+last_uses-requires c = order_within c.args.expanded.now.instances c.args.sizing.now c.as_slice-order.result.now c.as_slice-order.ensures.value c.requires.sizing
+
+pub loop-place-init : goal.loop-place-init
+loop-place-init c = KnowsNeeded-start c.args.expanded.now.instances c.as_slice-order.result.now c.in_ok-last.last.items c.in_ok-known.known.items (c.in_ok-known.ensures ∙ c.len.ensures)
 
 pub unfold_one-requires-clause-next : goal.unfold_one-requires-clause-next
 unfold_one-requires-clause-next c =
-    let order = c.as_slice-number-items.result.now in
-    let i = c.loop-number.number-index in
-    rw (c.deref.ensures.value) (next_from c.args.expanded.now.instances c.args.sizing.now c.loop-number.known.items i (get_or order i 0) c.requires.sizing
-    (rw c.as_slice-number-items.ensures.value at c.loop-number.invariant)
-    (ap (λ l. slice_get l i) (sym c.as_slice-number-items.ensures.value) ∙ slice_get-get_or order i 0 c.loop-number-test.true))
+    let is = c.args.expanded.now.instances in
+    let order = c.as_slice-order.result.now in
+    let same = c.as_slice-order.ensures.value in
+    let i = c.loop-place.place in
+    let last = c.in_ok-last.last.items in
+    rw (c.deref.ensures.value) (next_from is c.args.sizing.now last c.loop-place.known.items i (get_or order i 0) c.requires.sizing
+    (subst (λ o. AreLast is o last) same c.in_ok-last.ensures)
+    (subst (λ o. KnowsNeeded is o last i c.loop-place.known.items) same c.loop-place.invariant)
+    (ap (λ l. slice_get l i) (sym same) ∙ slice_get-get_or order i 0 c.loop-place-test.true))
 
 pub index_mut-requires : goal.index_mut-requires
 index_mut-requires c =
-    let order = c.as_slice-number-items.result.now in
-    let i = c.loop-number.number-index in
-    let o = c.requires.sizing.ordered i (get_or order i 0) (ap (λ l. slice_get l i) (sym c.as_slice-number-items.ensures.value) ∙ slice_get-get_or order i 0 c.loop-number-test.true) in
-    let w = (inline_instance c.args.expanded.now.instances (get_or order i 0) o.inlined).within in
-    let len = c.loop-number.invariant.len in
+    let w = order_within c.args.expanded.now.instances c.args.sizing.now c.as_slice-order.result.now c.as_slice-order.ensures.value c.requires.sizing c.loop-place.place 0 c.loop-place-test.true in
+    let len = c.loop-place.invariant.len in
     omega arith
 
-pub loop-number-preserved : goal.loop-number-preserved
-loop-number-preserved c =
-    let order = c.as_slice-number-items.result.now in
-    let i = c.loop-number.number-index in
-    let o = c.requires.sizing.ordered i (get_or order i 0) (ap (λ l. slice_get l i) (sym c.as_slice-number-items.ensures.value) ∙ slice_get-get_or order i 0 c.loop-number-test.true) in
-    let w = (inline_instance c.args.expanded.now.instances (get_or order i 0) o.inlined).within in
-    let len = c.loop-number.invariant.len in
-    let within : get_or order i 0 < length c.loop-number.known.items = omega arith in
-    Knows-more c.args.expanded.now.instances order c.loop-number.known.items i (get_or order i 0) c.in_ok-all.all c.loop-number-test.true refl within c.in_ok-all.ensures c.loop-number.invariant
+pub inlined_in-requires : goal.inlined_in-requires
+inlined_in-requires c = order_within c.args.expanded.now.instances c.args.sizing.now c.as_slice-order.result.now c.as_slice-order.ensures.value c.requires.sizing c.loop-place.place 0 c.loop-place-test.true
+
+pub forget-requires-clause-known : goal.forget-requires-clause-known
+forget-requires-clause-known c = λ k d l.
+    let is = c.args.expanded.now.instances in
+    let n = get_or c.as_slice-order.result.now c.loop-place.place 0 in
+    let xs = c.as_slice-in-loop-place.result.now in
+    let m = get_or xs k d in
+    let made = (c.in_ok-numbers.ensures m).0 (subst (λ ys. Contains ys m) c.as_slice-in-loop-place.ensures.value (Contains-get_or xs k d l)) in
+    let w = (inline_instance is m made.among.used).within in
+    let e = length-set c.loop-place.known.items n c.in_ok-all.all in
+    let len = c.loop-place.invariant.len in
+    omega arith
+
+pub forget-requires-clause-last : goal.forget-requires-clause-last
+forget-requires-clause-last c =
+    let n = get_or c.as_slice-order.result.now c.loop-place.place 0 in
+    ap length c.as_slice.ensures.value ∙ c.in_ok-last.ensures.len ∙ sym c.loop-place.invariant.len ∙ sym (length-set c.loop-place.known.items n c.in_ok-all.all)
+
+pub loop-place-preserved : goal.loop-place-preserved
+loop-place-preserved c =
+    let is = c.args.expanded.now.instances in
+    let order = c.as_slice-order.result.now in
+    let i = c.loop-place.place in
+    let n = get_or order i 0 in
+    let known = c.loop-place.known.items in
+    let last = c.in_ok-last.last.items in
+    let w = order_within is c.args.sizing.now order c.as_slice-order.ensures.value c.requires.sizing i 0 c.loop-place-test.true in
+    let len = c.loop-place.invariant.len in
+    let within : n < length known = omega arith in
+    KnowsNeeded-more is order last known c.forget.new.known.items i n c.in_ok-all.all c.loop-place-test.true refl within c.in_ok-all.ensures (rw c.as_slice.ensures.value at c.forget.ensures) c.loop-place.invariant
+
+pub returns : goal.returns
+returns c =
+    let is = c.args.expanded.now.instances in
+    let known = c.loop-place.known.items in
+    subst (λ o. KnowsUsed is o known) c.as_slice-order.ensures.value (KnowsNeeded-all is c.as_slice-order.result.now c.in_ok-last.last.items known c.loop-place.place (omega (arith, c.loop-place-test.false, c.loop-place.auto.place-end)) c.in_ok-last.ensures c.loop-place.invariant)

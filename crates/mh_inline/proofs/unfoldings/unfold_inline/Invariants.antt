@@ -1,6 +1,5 @@
-use Rattle.std.proofs.Common.{take}
-use Rattle.mh_inline.specs.Known.{Knows}
+use Rattle.mh_inline.specs.Uses.{KnowsNeeded}
 use Rattle.mh_inline.proofs.unfoldings.unfold_inline.Given as goal
 
-abbrev pub invariant-loop-number : goal.invariant-loop-number
-invariant-loop-number l = Knows l.expanded.instances (take l.number-index l.number-items) l.known.items
+abbrev pub invariant-loop-place : goal.invariant-loop-place
+invariant-loop-place l = KnowsNeeded l.expanded.instances l.order l.last.items l.place l.known.items

@@ -10,8 +10,8 @@ use Rattle.mh_inline.proofs.unfoldings.unfold_one.Goals as goal
 pub index-requires-2 : goal.index-requires-2
 index-requires-2 c = (inline_instance c.args.expanded.now.instances c.args.number c.requires.next.inlined).within
 
-pub unfold_each-requires : goal.unfold_each-requires
-unfold_each-requires c =
+pub unfold_alternatives-requires : goal.unfold_alternatives-requires
+unfold_alternatives-requires c =
     let next = c.requires.next in
     let is = c.args.expanded.now.instances in
     let l : c.args.number < length is = (inline_instance is c.args.number next.inlined).within in

@@ -1,43 +1,53 @@
-use Rattle.std.proofs.Common.{◌≡◌, ◌<◌, ◌≤◌, true, Some, length, vec_len, refl, ◌∙◌, arith}
-use Rattle.std.specs.List.{slice_get}
-use Rattle.std.proofs.lemmas.Option.{slice_get_read}
-use Rattle.mh_grammar.specs.Grid.{flag}
+use Rattle.std.proofs.Common.{◌≤◌, ◌-◌, length, get_or, arith}
 use Rattle.mh_grammar.specs.Plain.{plain_of, IsProductionBelow}
-use Rattle.mh_items.proofs.Listing.{AddedSoFar-start, AddedSoFar-push, AddedSoFar-skip, added_of, any_flag}
+use Rattle.mh_items.proofs.Asking.{row_fits}
+use Rattle.mh_items.proofs.Listing.{AddedSoFar-push, added_of, next_number}
 use Rattle.mh_items.proofs.Lists.{all_at}
 use Rattle.mh_items.proofs.added.added_items.Goals as goal
-use Rattle.mh_items.proofs.added.added_items.Goals.{then-index+in_ok-looks+in_ok-push, else-index}
 
-pub loop-place-init : goal.loop-place-init
-loop-place-init c = rw c.new-items.ensures.items (AddedSoFar-start (plain_of c.args.grammar.now) c.args.set.now)
+pub overflow_sub-number : goal.overflow_sub-number
+overflow_sub-number c =
+    let xs = c.as_slice-number-items.result.now in
+    let i = c.loop-number.number-index in
+    let next = next_number (plain_of c.args.grammar.now) c.args.set.now xs i (rw c.as_slice-number-items.ensures.value c.in_ok-numbers.ensures.exact) c.loop-number-test.true in
+    omega (arith, next.ordinary, c.len-starts.ensures)
 
-pub loop-place-preserved : goal.loop-place-preserved
-loop-place-preserved c =
+pub index-production-requires : goal.index-production-requires
+index-production-requires c =
+    let xs = c.as_slice-number-items.result.now in
+    let i = c.loop-number.number-index in
+    let next = next_number (plain_of c.args.grammar.now) c.args.set.now xs i (rw c.as_slice-number-items.ensures.value c.in_ok-numbers.ensures.exact) c.loop-number-test.true in
+    rw c.len-starts.ensures next.within
+
+pub row_looks-requires-clause-row : goal.row_looks-requires-clause-row
+row_looks-requires-clause-row c =
     let g = plain_of c.args.grammar.now in
     let s = c.args.set.now in
-    let i = c.loop-place.place in
-    let p = c.production-item.result in
-    let items = c.loop-place.items.items in
-    let same = c.as_slice-production-items.ensures in
-    let short : i < length g.productions = rw same at c.loop-place-test.true in
-    let at : slice_get g.productions i ≡ Some p = slice_get_read g.productions (length g.productions) i p refl short (rw same at c.production-item.is) in
-    let w = c.requires.wanted in
-    let below = (all_at (IsProductionBelow g.tokens g.nonterminals) g.productions i p c.requires.range.productions short (rw same at c.production-item.is)).lhs in
-    let len : length s.flags.items ≡ vec_len s.flags = omega (arith, s.flags.ok.0) in
-    let set = any_flag g w.0 s p.lhs c.index.result.now w.1 below len (rw c.from.ensures at c.index.ensures) in
-    elim c.if-index.branch [
-      | then-index+in_ok-looks+in_ok-push v ↦
-          (let e : flag s.width s.flags.items p.lhs 1 ≡ true = set ∙ v.if-index.true in
-          let l = rw (v.deref.ensures.value, c.from.ensures) at v.in_ok-looks.ensures in
-          rw (v.items-is, v.in_ok-push.ensures.items, v.from_vec.ensures, c.len-starts.ensures) (AddedSoFar-push g w.0 s items i p w.1 c.loop-place.invariant at v.in_ok-looks.looks.items l e))
-      | else-index v ↦ rw v.items-is (AddedSoFar-skip g w.0 s items i p w.1 c.loop-place.invariant at (set ∙ v.if-index.false))
-    ]
+    let xs = c.as_slice-number-items.result.now in
+    let i = c.loop-number.number-index in
+    let next = next_number g s xs i (rw c.as_slice-number-items.ensures.value c.in_ok-numbers.ensures.exact) c.loop-number-test.true in
+    let read = rw c.len-starts.ensures at c.index-production.ensures in
+    let below = all_at (IsProductionBelow g.tokens g.nonterminals) g.productions (get_or xs i 0 - length g.starts) c.index-production.result.now c.requires.range.productions next.within read in
+    let w = c.requires.wanted.1 in
+    rw c.from.ensures (row_fits g s c.index-production.result.now.lhs w.columns w.size below.lhs)
 
-pub returns-clause-kernel : goal.returns-clause-kernel
-returns-clause-kernel c = c.loop-place.invariant.kernel
+pub loop-number-preserved : goal.loop-number-preserved
+loop-number-preserved c =
+    let g = plain_of c.args.grammar.now in
+    let s = c.args.set.now in
+    let xs = c.as_slice-number-items.result.now in
+    let i = c.loop-number.number-index in
+    let next = next_number g s xs i (rw c.as_slice-number-items.ensures.value c.in_ok-numbers.ensures.exact) c.loop-number-test.true in
+    let is = next.is c.index-production.result.now (rw c.len-starts.ensures at c.index-production.ensures) in
+    let w = c.requires.wanted in
+    rw (c.in_ok-push.ensures.items, c.from_vec.ensures)
+    (AddedSoFar-push g w.0 s xs c.loop-number.items.items i (get_or xs i 0) c.index-production.result.now.lhs w.1 (rw c.as_slice-number-items.ensures.value c.in_ok-numbers.ensures.rising) c.loop-number.invariant next.at is.0 is.1
+    c.in_ok-looks.looks.items (rw c.from.ensures at c.in_ok-looks.ensures))
 
 pub returns-clause-exact : goal.returns-clause-exact
 returns-clause-exact c =
     let g = plain_of c.args.grammar.now in
-    let all : length g.productions ≤ c.loop-place.place = rw c.as_slice-production-items.ensures at c.loop-place-test.false in
-    added_of g c.args.set.now c.loop-place.items.items c.loop-place.place all c.loop-place.invariant
+    let xs = c.as_slice-number-items.result.now in
+    let all : length xs ≤ c.loop-number.number-index = c.loop-number-test.false in
+    let w = c.requires.wanted in
+    added_of g w.0 c.args.set.now xs c.loop-number.items.items c.loop-number.number-index w.1 (rw c.as_slice-number-items.ensures.value c.in_ok-numbers.ensures.exact) all c.loop-number.invariant

@@ -2,5 +2,5 @@ use Rattle.mh_grammar.specs.Plain.{plain_of}
 use Rattle.mh_items.proofs.Listing.{AddedSoFar}
 use Rattle.mh_items.proofs.added.added_items.Given as goal
 
-abbrev pub invariant-loop-place : goal.invariant-loop-place
-invariant-loop-place l = AddedSoFar (plain_of l.grammar) l.set l.items.items l.place
+abbrev pub invariant-loop-number : goal.invariant-loop-number
+invariant-loop-number l = AddedSoFar (plain_of l.grammar) l.set l.number-items l.items.items l.number-index

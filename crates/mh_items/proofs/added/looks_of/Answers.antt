@@ -1,4 +1,3 @@
-use Rattle.std.proofs.Common.{refl}
 use Rattle.mh_items.proofs.LookRows.{LooksSoFar-start, LooksSoFar-push, LooksSoFar-skip, looks_open, looks_end}
 use Rattle.mh_items.proofs.added.looks_of.Goals as goal
 use Rattle.mh_items.proofs.added.looks_of.Goals.{then-flags-column+in_ok-push, else-flags-column}

@@ -1,4 +1,4 @@
-use Rattle.std.proofs.Common.{◌≡◌, ◌≤◌, ◌∷◌, suc, drop, length, sym, ◌∙◌, arith}
+use Rattle.std.proofs.Common.{◌≤◌, suc, drop, length, sym, ◌∙◌, arith}
 use Rattle.std.proofs.lemmas.Option.{slice_get_within}
 use Rattle.mh_grammar.specs.declared.types.Symbol.TheVariants.{N}
 use Rattle.mh_grammar.specs.Plain.{plain_of, rhs_of}

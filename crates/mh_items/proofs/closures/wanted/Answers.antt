@@ -1,8 +1,6 @@
-use Rattle.std.proofs.Common.{◌≡◌, ◌<◌, ◌≤◌, List, Some, length, get_or, vec_len, refl, sym, ◌∙◌, arith}
-use Rattle.std.specs.List.{slice_get}
-use Rattle.mh_grammar.specs.Plain.{PlainGrammar, plain_of}
-use Rattle.mh_items.specs.declared.links.Link.{Link}
-use Rattle.mh_items.proofs.Wanting.{NextPair, next_pair, next_row, fits_links, WantedSoFar-start, WantedSoFar-step, wanted_of}
+use Rattle.std.proofs.Common.{◌≡◌, ◌<◌, ◌≤◌, length, vec_len, arith}
+use Rattle.mh_grammar.specs.Plain.{plain_of}
+use Rattle.mh_items.proofs.Wanting.{next_pair, next_row, fits_links, WantedSoFar-start, WantedSoFar-step, wanted_of}
 use Rattle.mh_items.proofs.closures.wanted.Goals as goal
 
 pub loop-done-init : goal.loop-done-init

@@ -1,4 +1,4 @@
-use Rattle.std.proofs.Common.{◌≡◌, ◌<◌, length, sym, ap, ◌∙◌}
+use Rattle.std.proofs.Common.{◌<◌, length}
 use Rattle.mh_items.proofs.Linking.{add_token, add_row, row_of}
 use Rattle.mh_items.proofs.links.add_symbol.Goals as goal
 

@@ -1,4 +1,4 @@
-use Rattle.std.proofs.Common.{◌≡◌, ◌<◌, Some, length, refl}
+use Rattle.std.proofs.Common.{◌≡◌, Some, length, refl}
 use Rattle.std.specs.List.{slice_get}
 use Rattle.std.proofs.lemmas.Option.{slice_get_read}
 use Rattle.mh_grammar.specs.Plain.{plain_of}

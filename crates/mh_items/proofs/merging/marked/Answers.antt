@@ -2,7 +2,7 @@ use Rattle.std.proofs.Common.{◌<◌, length, get_or, take, arith}
 use Rattle.std.proofs.lemmas.List.{take_more, take_all}
 use Rattle.mh_grammar.specs.declared.types.Look.TheVariants.{Token}
 use Rattle.mh_items.specs.Pairs.{column_of}
-use Rattle.mh_items.proofs.LookRows.{Marks-start, Marks-step}
+use Rattle.mh_items.proofs.LookRows.{Marks-step}
 use Rattle.mh_items.proofs.merging.marked.Goals as goal
 
 pub loop-look-preserved : goal.loop-look-preserved

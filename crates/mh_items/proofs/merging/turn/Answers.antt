@@ -1,4 +1,4 @@
-use Rattle.std.proofs.Common.{◌<◌, length, refl, arith, inl, inr}
+use Rattle.std.proofs.Common.{length, refl, arith, inl, inr}
 use Rattle.std.proofs.lemmas.Option.{slice_get_read}
 use Rattle.mh_items.proofs.Turning.{turn_left, turn_right, turn_of, order_says}
 use Rattle.mh_items.proofs.merging.turn.Goals as goal

@@ -1,7 +1,5 @@
-use Rattle.std.proofs.Common.{◌≡◌, ◌<◌, suc, length, drop, sym, ap, ◌∙◌, arith}
+use Rattle.std.proofs.Common.{◌<◌, suc, length, drop, sym, ap, ◌∙◌, arith}
 use Rattle.mh_grammar.specs.Plain.{plain_of, rhs_of}
-use Rattle.std.proofs.lemmas.List.{drop_all}
-use Rattle.mh_grammar.proofs.Numbered.{rhs_of-start}
 use Rattle.mh_items.proofs.Dotted.{ordinary_rhs, short_start}
 use Rattle.mh_items.proofs.places.behind.Goals as goal
 

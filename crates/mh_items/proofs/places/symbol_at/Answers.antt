@@ -1,4 +1,4 @@
-use Rattle.std.proofs.Common.{◌∷◌, [], sym, ap, ◌∙◌}
+use Rattle.std.proofs.Common.{sym, ap, ◌∙◌}
 use Rattle.std.specs.List.{slice_get}
 use Rattle.mh_grammar.specs.Plain.{plain_of}
 use Rattle.mh_items.proofs.Dotted.{start_rhs, ordinary_rhs}

@@ -1,10 +1,12 @@
-use Rattle.std.proofs.Common.{◌≡◌, vec_len}
+use Rattle.std.proofs.Common.{◌≡◌, ℕ, List, Some, length, vec_len}
+use Rattle.std.specs.List.{slice_get}
 use Rattle.mh_grammar.specs.Plain.{plain_of}
-use Rattle.mh_items.proofs.Setting.{RowsSoFar}
+use Rattle.mh_items.specs.declared.links.Link.{Link}
+use Rattle.mh_items.proofs.Linking.{LinksSoFar}
 use Rattle.mh_items.proofs.sets.all_links.Given as goal
 
-abbrev pub invariant-loop-n : goal.invariant-loop-n
-invariant-loop-n l = record {
-  len : vec_len l.rows ≡ l.n;
-  rows : RowsSoFar (plain_of l.grammar) l.rows.items;
+abbrev pub invariant-loop-production : goal.invariant-loop-production
+invariant-loop-production l = record {
+  len : vec_len l.rows ≡ length l.grammar.nonterminals;
+  links : (n : ℕ) (row : List Link) → slice_get l.rows.items n ≡ Some row → LinksSoFar (plain_of l.grammar) n row l.production-index;
 }

@@ -1,5 +1,5 @@
-use Rattle.std.proofs.Common.{◌≡◌, map, take}
+use Rattle.std.proofs.Common.{◌≡◌, map}
 use Rattle.mh_items.proofs.sets.sequences.Given as goal
 
 abbrev pub invariant-loop-row : goal.invariant-loop-row
-invariant-loop-row l = l.made.items ≡ map (λ row. row.items) (take l.row-index l.rows)
+invariant-loop-row l = l.made.items ≡ map (λ row. row.items) l.yielded

@@ -8,7 +8,7 @@ pub returns : goal.returns
 returns c =
     let g = plain_of c.args.grammar.now in
     let rows = c.in_ok-rows.rows in
-    let first : c.in_ok-first.first ≡ map (λ row. row.items) rows.items = rw c.as_slice.ensures.value at c.in_ok-first.ensures in
+    let first : c.in_ok-first.first ≡ map (λ row. row.items) rows.items = c.in_ok-first.ensures in
     let size : length (map (λ row. row.items) rows.items) ≡ g.nonterminals = rw length-map (omega (arith, c.in_ok-rows.ensures.len, rows.ok.0)) in
     record {
       nullable_len = rw c.from_vec.ensures (omega (arith, c.in_ok-empty.ensures.len, c.in_ok-empty.empty.ok.0));

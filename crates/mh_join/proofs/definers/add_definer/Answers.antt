@@ -5,6 +5,6 @@ use Rattle.mh_join.proofs.Defining.{Defines-one}
 use Rattle.mh_join.proofs.definers.add_definer.Goals as goal
 
 pub returns : goal.returns
-returns c = Defines-one c.args.definers.now c.insert.new.self c.args.file c.args.name.now c.and-more.result
-    (λ k. c.and-more.ensures k ∙ ap (λ o. elsewhere_by o k || not (c.args.file == k)) (c.copied.ensures ∙ c.get.ensures.value))
+returns c = Defines-one c.args.definers.now c.insert.new.self c.args.file c.args.name.now c.with_definer-more.result
+    (λ k. c.with_definer-more.ensures k ∙ ap (λ o. elsewhere_by o k || not (c.args.file == k)) (c.copied.ensures ∙ c.get.ensures.value))
     (rw c.in_ok-clone.ensures.cases at c.in_ok-insert.ensures.updates.0)

@@ -2,7 +2,7 @@ use Rattle.std.proofs.Common.{List, ℕ, map}
 use Rattle.std.specs.String.{string_bytes}
 use Rattle.std.specs.declared.alloc.Global.{Global}
 use Rattle.mh_top.proofs.Keeping.{keeps}
-use Rattle.mh_top.proofs.Exactly.{accepts_exactly, rejects_rightly, overshoots_rightly, all_rightly}
+use Rattle.mh_top.proofs.Exactly.{accepts_exactly, rejects_rightly, overshoots_rightly, all_rightly, deep_exactly}
 use Rattle.mh_top.proofs.top.menhir.Goals as goal
 
 pub returns : goal.returns
@@ -15,5 +15,7 @@ returns g c =
       rejects = rejects_rightly words _;
       overshoots = overshoots_rightly words _;
       accepts = all_rightly words _;
+      too_deep = deep_exactly words _;
+      files = c.run.ensures.kept;
       ran = ran;
     }

@@ -1,4 +1,4 @@
-use Rattle.std.proofs.Common.{◌≡◌, ◌+◌, ◌*◌, ◌≤◌, length, refl, sym, arith}
+use Rattle.std.proofs.Common.{◌+◌, ◌*◌, ◌≤◌, length, refl, sym, arith}
 use Rattle.mh_items.proofs.Adding.{Adds-new}
 use Rattle.mh_items.proofs.pairs.Pairs.add.Goals as goal
 

@@ -2,16 +2,16 @@ use Rattle.std.proofs.Common.{◌≡◌, ◌-◌, ◌<◌, length, drop, ap, ref
 use Rattle.std.specs.List.{All}
 use Rattle.mh_tree.specs.Trees.{height_of}
 use Rattle.mh_run.proofs.Depth.{reduce_fits, reduce_many, reduce_high}
-use Rattle.mh_run.proofs.tree_run.TreesFollow.reduce.Goals.{then-kept-ge4000-via-then-kept-ge4000, then-kept-ge4000-via-else-kept-ge4000+then-not-can_be_children}
+use Rattle.mh_run.proofs.tree_run.TreesFollow.reduce.Goals.{then-kept-ge-MAX_PAIRS-via-then-kept-ge-MAX_PAIRS, then-kept-ge-MAX_PAIRS-via-else-kept-ge-MAX_PAIRS+then-not-can_be_children}
 use Rattle.mh_run.proofs.tree_run.TreesFollow.reduce.Goals as goal
 
-pub returns-then-kept-ge4000-clause-deep : goal.returns-then-kept-ge4000-clause-deep
-returns-then-kept-ge4000-clause-deep c =
+pub returns-then-kept-ge-MAX_PAIRS-clause-deep : goal.returns-then-kept-ge-MAX_PAIRS-clause-deep
+returns-then-kept-ge-MAX_PAIRS-clause-deep c =
     let same : length c.self.inside.trees.items ≡ length c.args.self.now = ap length c.self.view_is in
     let kept : c.saturating_sub-kept.result ≡ length c.args.self.now - c.args.length = omega (arith, same, c.self.inside.trees.ok) in
-    λ e. elim c.then-kept-ge4000.branch [
-      | then-kept-ge4000-via-then-kept-ge4000 w ↦ reduce_many c.args.self.now (length c.args.self.now - c.args.length) c.args.production (omega arith) (omega (arith, w.if-kept-ge4000.true, kept))
-      | then-kept-ge4000-via-else-kept-ge4000+then-not-can_be_children w ↦ (
+    λ e. elim c.then-kept-ge-MAX_PAIRS.branch [
+      | then-kept-ge-MAX_PAIRS-via-then-kept-ge-MAX_PAIRS w ↦ reduce_many c.args.self.now (length c.args.self.now - c.args.length) c.args.production (omega arith) (omega (arith, w.if-kept-ge-MAX_PAIRS.true, kept))
+      | then-kept-ge-MAX_PAIRS-via-else-kept-ge-MAX_PAIRS+then-not-can_be_children w ↦ (
           let kids : w.as_slice.result.now ≡ drop (length c.args.self.now - c.args.length) c.args.self.now =
           w.as_slice.ensures.value ∙ c.in_ok-children.ensures.tail ∙ ap (drop c.saturating_sub-kept.result) c.self.view_is ∙ ap (λ n. drop n c.args.self.now) kept in
           reduce_high c.args.self.now (length c.args.self.now - c.args.length) c.args.production (omega arith)

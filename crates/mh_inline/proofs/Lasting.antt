@@ -1,0 +1,85 @@
+-- Until when unfoldings are needed, and what is forgotten.
+use Rattle.std.proofs.Common.{◌≡◌, ℕ, zero, suc, ◌+◌, ◌<◌, ◌≤◌, ◌↔◌, false, true, List, [], ◌∷◌, ◌++◌, Some, take, set, max, length, get_or, refl, sym, ap, ◌∙◌, arith, inl, inr, get_or-set_same, get_or-set_other, length-set, subst}
+use Rattle.std.specs.List.{slice_get, Contains}
+use Rattle.std.proofs.lemmas.Bool.{cases_eq}
+use Rattle.std.proofs.lemmas.List.{take_more, take_all}
+use Rattle.std.proofs.lemmas.List.Elements.{Contains-push_cases}
+use Rattle.std.proofs.lemmas.Option.{same_Some, slice_get_within, slice_get-get_or}
+use Rattle.mh_grammar.proofs.Placing.{at_contains}
+use Rattle.mh_expand.specs.declared.instances.Part.TheVariants.{Instance as Applied}
+use Rattle.mh_expand.specs.declared.instances.Instance.{Instance}
+use Rattle.mh_inline.specs.declared.unfoldings.Unfolding.{Unfolding}
+use Rattle.mh_inline.specs.declared.sizes.Sizing.{Sizing}
+use Rattle.mh_inline.specs.Instances.{is_inlined, Inlines}
+use Rattle.mh_inline.specs.Unfoldings.{UnfoldsPart}
+use Rattle.mh_inline.specs.Sizes.{AreSmall, IsSizing}
+use Rattle.mh_inline.specs.Found.{IsMadeOf}
+use Rattle.mh_inline.specs.Known.{IsNext}
+use Rattle.mh_inline.specs.Uses.{IsUsed, IsPartOfKept, PutsOff, AreLast, Forgets, KnowsNeeded, KnowsUsed}
+use Rattle.mh_inline.proofs.Knowing.{inline_instance}
+use Rattle.mh_inline.proofs.OriginOrder.{contains_none}
+use Rattle.mh_inline.proofs.Ordering.{slice_set_same, slice_set_other}
+
+-- what stands in the order of sizes is an instance
+pub order_within : (is : List Instance) (s : Sizing) (order : List ℕ) → order ≡ s.order.items → IsSizing is s → (k d : ℕ) → k < length order → get_or order k d < length is
+order_within is s order e z k d l =
+    let o = z.ordered k (get_or order k d) (ap (λ x. slice_get x k) (sym e) ∙ slice_get-get_or order k d l) in
+    (inline_instance is (get_or order k d) o.inlined).within
+
+module _ (is : List Instance) (order : List ℕ) where
+  -- the first so many of the order, and the first so many of the others
+  pub record AreLastTo (done number : ℕ) (last : List ℕ) : Type 0 where
+    pub len : length last ≡ length is
+    pub inline : (i n m : ℕ) → i < done → slice_get order i ≡ Some n → IsMadeOf is n m → i ≤ get_or last m 0
+    pub kept : (n m : ℕ) → n < number → is_inlined is n ≡ false → IsMadeOf is n m → length order ≤ get_or last m 0
+
+  pub AreLastTo-none : (last : List ℕ) → length last ≡ length is → AreLastTo 0 0 last
+  AreLastTo-none last len = record { len = len; inline = λ i n m l at x. absurd (omega arith); kept = λ n m l k x. absurd (omega arith) }
+
+  pub AreLastTo-inline : (done n : ℕ) (old new : List ℕ) → slice_get order done ≡ Some n → PutsOff (IsMadeOf is n) done old new → AreLastTo done 0 old → AreLastTo (done + 1) 0 new
+  AreLastTo-inline done n old new at p h = record {
+    len = p.len ∙ h.len;
+    inline = λ i k m l e x. elim (cases_eq i done) [
+      | inl same ↦ (let one : k ≡ n = same_Some k n (sym e ∙ ap (slice_get order) same ∙ at) in let r = p.reached m (subst (λ y. IsMadeOf is y m) one x) in omega arith)
+      | inr other ↦ (let r = h.inline i k m (omega arith) e x in let s = p.later m in omega arith)
+    ];
+    kept = λ k m l e x. absurd (omega arith);
+  }
+
+  pub AreLastTo-kept : (done number : ℕ) (old new : List ℕ) → PutsOff (IsPartOfKept is number) (length order) old new → AreLastTo done number old → AreLastTo done (number + 1) new
+  AreLastTo-kept done number old new p h = record {
+    len = p.len ∙ h.len;
+    inline = λ i k m l e x. let r = h.inline i k m l e x in let s = p.later m in omega arith;
+    kept = λ k m l e x. elim (cases_eq k number) [
+      | inl same ↦ p.reached m (rw (← same) e, subst (λ y. IsMadeOf is y m) same x)
+      | inr other ↦ (let r = h.kept k m (omega arith) e x in let s = p.later m in omega arith)
+    ];
+  }
+
+  pub AreLastTo-all : (done number : ℕ) (last : List ℕ) → length order ≤ done → length is ≤ number → AreLastTo done number last → AreLast is order last
+  AreLastTo-all done number last all every h = record {
+    len = h.len;
+    inline = λ i n m e x. let w = slice_get_within order i n e in h.inline i n m (omega arith) e x;
+    kept = λ m u. let w = slice_get_within is u.user u.made.alternative.instance u.made.alternative.at in h.kept u.user m (omega arith) u.kept u.made;
+  }
+
+  pub KnowsNeeded-start : (last : List ℕ) (known : List (List Unfolding)) → length known ≡ length is → KnowsNeeded is order last 0 known
+  KnowsNeeded-start last known len = record { len = len; each = λ n us l c u s. absurd (contains_none n c) }
+
+  pub KnowsNeeded-more : (last : List ℕ) (known new : List (List Unfolding)) (i n : ℕ) (us : List Unfolding) → i < length order → n ≡ get_or order i 0 → n < length known → ((vs : List Unfolding) → UnfoldsPart is (Applied n) vs → AreSmall vs → us ≡ vs) → Forgets last i (set known n us) new → KnowsNeeded is order last i known → KnowsNeeded is order last (i + 1) new
+  KnowsNeeded-more last known new i n us l at within new_is f k = record {
+    len = f.len ∙ length-set known n us ∙ k.len;
+    each = λ m vs needed c u small. f.kept m (omega arith) ∙ elim (cases_eq m n) [
+      | inl same ↦ (rw same (slice_set_same known n us within ∙ ap Some (new_is vs (rw same at u) small)))
+      | inr other ↦ slice_set_other known n m us other ∙ elim (Contains-push_cases (take i order) (get_or order i 0) m (rw (take_more order i 0 l) at c)) [
+        | inl before ↦ k.each m vs (omega arith) before u small
+        | inr same ↦ absurd (other (sym same ∙ sym at))
+      ]
+    ];
+  }
+
+  pub KnowsNeeded-all : (last : List ℕ) (known : List (List Unfolding)) (i : ℕ) → i ≡ length order → AreLast is order last → KnowsNeeded is order last i known → KnowsUsed is order known
+  KnowsNeeded-all last known i all a k = record {
+    len = k.len;
+    each = λ n us used c u small. k.each n us (let r = a.kept n used in omega arith) (rw (take_all i order (omega arith)) c) u small;
+  }

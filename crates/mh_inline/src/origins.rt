@@ -1,0 +1,78 @@
+//! The alternatives of the instances that are not inline, in the order of their productions.
+ghost use Rattle.std.specs.Prelude.{◌≡◌, ◌+◌, ◌<◌, ◌≤◌, false, length, IfOk, OnOk};
+ghost use Rattle.mh_inline.specs.Instances.{is_inlined};
+ghost use Rattle.mh_expand.specs.Ready.{IsExpandedReady};
+ghost use Rattle.mh_inline.specs.Inlined.{rank_of, AreOrigins};
+ghost use Rattle.mh_inline.specs.Making.{AreOriginsBelow};
+
+use crate::instances::is_inline;
+use mh_expand::{Expanded, InstanceProduction};
+use mh_grammar::Memory;
+use std::alloc::{AllocError, Global};
+use std::collections::BTreeSet;
+
+/// Where the productions of an alternative come from, which is what they are ordered by: the rank of its file and its place
+/// there, its instance and its place among the alternatives of that.
+#[derive(Clone, Copy, Debug, PartialEq, Eq, PartialOrd, Ord)]
+pub struct Origin {
+    pub rank: u64,
+    pub place: u64,
+    pub instance: u32,
+    pub alternative: u64,
+}
+
+/// The prelude, which is file 0, comes last.
+fn rank(file: u64) -> u64
+    ensures { result ≡ rank_of file }
+{
+    if file == 0 { u64::MAX } else { file - 1 }
+}
+
+fn origin_of(number: u32, alternative: u64, production: &InstanceProduction) -> Origin
+    ensures { result ≡ record { rank = rank_of production.now.file; place = production.now.place; instance = number; alternative = alternative } }
+{
+    Origin {
+        rank: rank(production.file),
+        place: production.place,
+        instance: number,
+        alternative,
+    }
+}
+
+/// Adds the alternatives of an instance.
+fn add_origins(
+    expanded: &Expanded,
+    number: usize,
+    origins: &mut BTreeSet<Origin>,
+) -> Result<(), Memory>
+    requires few { length expanded.now.instances ≤ 20000 }
+    requires number { number < length expanded.now.instances }
+    requires kept { is_inlined expanded.now.instances number ≡ false }
+    requires below { AreOriginsBelow expanded.now.instances number 0 origins.old.keys }
+    ensures { OnOk result (AreOriginsBelow expanded.now.instances (number + 1) 0 origins.new.keys) }
+{
+    let productions = expanded.instances[number].productions.as_slice();
+    for (alternative, production) in productions.iter().enumerate() {
+        origins.insert(origin_of(number as u32, alternative as u64, production))?;
+    }
+    Ok(())
+}
+
+fn in_order(alloc: Global, origins: BTreeSet<Origin>) -> Result<Vec<Origin>, AllocError>
+    ensures { IfOk result (λ v. v.items ≡ origins.keys) }
+{
+    origins.into_iter().collect(alloc)
+}
+
+pub(crate) fn origins_of(alloc: Global, expanded: &Expanded) -> Result<Vec<Origin>, Memory>
+    requires { length expanded.now.instances ≤ 20000 }
+    ensures { IfOk result (λ v. AreOrigins expanded.now.instances v.items) }
+{
+    let mut origins = BTreeSet::new(alloc);
+    for number in 0..expanded.instances.len() {
+        if !is_inline(expanded, number) {
+            add_origins(expanded, number, &mut origins)?;
+        }
+    }
+    Ok(in_order(alloc, origins)?)
+}
