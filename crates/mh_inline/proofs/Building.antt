@@ -1,10 +1,8 @@
 -- Unfoldings of inline instances, each made from those of the instances that it is made of.
-use Rattle.std.proofs.Common.{◌≡◌, ℕ, zero, suc, ◌+◌, ◌<◌, ◌≤◌, true, List, [], ◌∷◌, Option, Some, take, set, length, get_or, sym, ap, ◌∙◌, arith, inl, inr, get_or-set_same, get_or-set_other, length-set, subst}
+use Rattle.std.proofs.Common.{◌≡◌, ℕ, zero, suc, ◌+◌, ◌<◌, ◌≤◌, true, List, [], ◌∷◌, Option, Some, take, length, sym, ◌∙◌, arith, inl, subst}
 use Rattle.std.specs.List.{slice_get}
-use Rattle.std.proofs.lemmas.Bool.{cases_eq, false≢true}
-use Rattle.std.proofs.lemmas.List.{take_more}
-use Rattle.std.proofs.lemmas.List.Elements.{Contains-push_cases}
-use Rattle.std.proofs.lemmas.Option.{same_Some, none-some, slice_get-get_or, slice_get_within, get_or_from_slice_get}
+use Rattle.std.proofs.lemmas.Bool.{false≢true}
+use Rattle.std.proofs.lemmas.Option.{same_Some, none-some, slice_get_within, get_or_from_slice_get}
 use Rattle.mh_expand.specs.declared.instances.Part.TheVariants.{Instance as Applied}
 use Rattle.mh_expand.specs.declared.instances.Instance.{Instance}
 use Rattle.mh_expand.specs.declared.instances.Expanded.{Expanded}

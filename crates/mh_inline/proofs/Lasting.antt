@@ -1,21 +1,19 @@
 -- Until when unfoldings are needed, and what is forgotten.
-use Rattle.std.proofs.Common.{◌≡◌, ℕ, zero, suc, ◌+◌, ◌<◌, ◌≤◌, ◌↔◌, false, true, List, [], ◌∷◌, ◌++◌, Some, take, set, max, length, get_or, refl, sym, ap, ◌∙◌, arith, inl, inr, get_or-set_same, get_or-set_other, length-set, subst}
-use Rattle.std.specs.List.{slice_get, Contains}
+use Rattle.std.proofs.Common.{◌≡◌, ℕ, ◌+◌, ◌<◌, ◌≤◌, ◌↔◌, false, List, ◌∷◌, ◌++◌, Some, take, set, length, get_or, sym, ap, ◌∙◌, arith, inl, inr, length-set, subst}
+use Rattle.std.specs.List.{slice_get}
 use Rattle.std.proofs.lemmas.Bool.{cases_eq}
 use Rattle.std.proofs.lemmas.List.{take_more, take_all}
 use Rattle.std.proofs.lemmas.List.Elements.{Contains-push_cases}
 use Rattle.std.proofs.lemmas.Option.{same_Some, slice_get_within, slice_get-get_or}
-use Rattle.mh_grammar.proofs.Placing.{at_contains}
 use Rattle.mh_expand.specs.declared.instances.Part.TheVariants.{Instance as Applied}
 use Rattle.mh_expand.specs.declared.instances.Instance.{Instance}
 use Rattle.mh_inline.specs.declared.unfoldings.Unfolding.{Unfolding}
 use Rattle.mh_inline.specs.declared.sizes.Sizing.{Sizing}
-use Rattle.mh_inline.specs.Instances.{is_inlined, Inlines}
+use Rattle.mh_inline.specs.Instances.{is_inlined}
 use Rattle.mh_inline.specs.Unfoldings.{UnfoldsPart}
 use Rattle.mh_inline.specs.Sizes.{AreSmall, IsSizing}
 use Rattle.mh_inline.specs.Found.{IsMadeOf}
-use Rattle.mh_inline.specs.Known.{IsNext}
-use Rattle.mh_inline.specs.Uses.{IsUsed, IsPartOfKept, PutsOff, AreLast, Forgets, KnowsNeeded, KnowsUsed}
+use Rattle.mh_inline.specs.Uses.{IsPartOfKept, PutsOff, AreLast, Forgets, KnowsNeeded, KnowsUsed}
 use Rattle.mh_inline.proofs.Knowing.{inline_instance}
 use Rattle.mh_inline.proofs.OriginOrder.{contains_none}
 use Rattle.mh_inline.proofs.Ordering.{slice_set_same, slice_set_other}

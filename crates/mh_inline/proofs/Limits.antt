@@ -23,7 +23,7 @@ use Rattle.mh_inline.specs.Sizes.{longest, AreSmall, AreAllSized, IsSizing, IsWi
 use Rattle.mh_inline.specs.Known.{IsOriginKnown}
 use Rattle.mh_inline.specs.Uses.{KnowsUsed}
 use Rattle.mh_inline.specs.Inlined as inlined
-use Rattle.mh_inline.specs.Inlined.{is_kept, nonterminal_of, number_of, symbol_of, production_of, IsOrigin, AreOrigins, AreProductions, IsInlined}
+use Rattle.mh_inline.specs.Inlined.{is_kept, nonterminal_of, number_of, production_of, IsOrigin, AreOrigins, AreProductions, IsInlined}
 use Rattle.mh_inline.specs.Making.{longest_side, IsOriginsSize, AreOriginsSmall}
 use Rattle.mh_inline.specs.Faults.{IsSmall, IsOver}
 use Rattle.mh_inline.proofs.Choices.{append_same}
@@ -77,7 +77,7 @@ all_origins is origins a k d l = (a.exact (get_or origins k d)).0 (Contains-get_
 
 -- the inline producers of the origins are known
 pub origins_known : (e : Expanded) (s : Sizing) (known : List (List Unfolding)) (origins : List Origin) → IsExpandedReady e → IsSizing e.instances s → AreAllSized e.instances s.sizes.items → KnowsUsed e.instances s.order.items known → All (IsOrigin e.instances) origins → AreOriginsSmall e.tokens e.instances origins → All (IsOriginKnown e.instances known) origins
-origins_known e s known origins ready z all k right_ small i d l =
+origins_known e s known origins ready z all k are small i d l =
     let x = get_or origins i d in
     let h = origin_unfoldings e.tokens e.instances origins small.productions small.made i x (slice_get-get_or origins i d l) in
     let few = h.few in
@@ -95,7 +95,7 @@ origins_known e s known origins ready z all k right_ small i d l =
                 let right = z.right.sound m size.0 size.1 in
                 let listed = z.listed m size.0 size.1 in
                 let part_small = small_part e.instances (some_ready e ready) p.rhs h.unfoldings f within j (Applied m) right.unfoldings at right.unfolds in
-                record { unfoldings = right.unfoldings; unfolds = right.unfolds; at = k.each m right.unfoldings (record { user = x.instance; kept = (right_ i d l).kept; made = record { place = x.alternative; production = p; alternative = a; among = record { producer = j; at = at; used = inline } } }) listed right.unfolds part_small };
+                record { unfoldings = right.unfoldings; unfolds = right.unfolds; at = k.each m right.unfoldings (record { user = x.instance; kept = (are i d l).kept; made = record { place = x.alternative; production = p; alternative = a; among = record { producer = j; at = at; used = inline } } }) listed right.unfolds part_small };
           };
     }
 

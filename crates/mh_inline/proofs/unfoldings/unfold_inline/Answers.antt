@@ -2,8 +2,7 @@ use Rattle.std.proofs.Common.{◌≡◌, ◌<◌, length, get_or, refl, sym, ap,
 use Rattle.std.specs.List.{slice_get, Contains}
 use Rattle.std.proofs.lemmas.List.Elements.{Contains-get_or}
 use Rattle.std.proofs.lemmas.Option.{slice_get-get_or}
-use Rattle.mh_inline.specs.Sizes.{IsSizing}
-use Rattle.mh_inline.specs.Uses.{AreLast, Forgets, KnowsNeeded, KnowsUsed}
+use Rattle.mh_inline.specs.Uses.{AreLast, KnowsNeeded, KnowsUsed}
 use Rattle.mh_inline.proofs.Knowing.{inline_instance}
 use Rattle.mh_inline.proofs.Building.{next_from}
 use Rattle.mh_inline.proofs.Lasting.{order_within, KnowsNeeded-start, KnowsNeeded-more, KnowsNeeded-all}
