@@ -1,4 +1,4 @@
-// The command line tool: it makes the real shelf, source and sinks, and ends with the status of the work.
+//! The command line tool: it makes the real shelf, source and sinks, and ends with the status of the work.
 #![tactic(auto)]
 
 mod adapters;
@@ -7,13 +7,14 @@ mod tests;
 
 use adapters::{FileShelf, StdSink, StdSource};
 use mh_outside::write_whole;
+use mh_top::status;
 use std::env;
 use std::io::{ErrorKind, Write};
 use std::process::ExitCode;
 
 const BAD_WORDS: &[u8] = b"menhir: usage: bad words\n";
 
-const OUT_OF_MEMORY: &[u8] = b"menhir: out of memory\n";
+const NO_MEMORY: &[u8] = b"menhir: out of memory\n";
 
 /// Why the words of the command line are not had.
 #[derive(Clone, Copy, Debug, PartialEq, Eq)]
@@ -48,7 +49,7 @@ fn words(rt: &HostRuntime) -> Result<Vec<String>, WordsFault> {
 fn refuse<W: Write>(err: &mut StdSink<W>, line: &[u8], status: u8) -> ExitCode {
     match write_whole(err, line) {
         Ok(()) => ExitCode::from(status),
-        Err(_) => ExitCode::from(4),
+        Err(_) => ExitCode::from(status::WRITE_FAULT),
     }
 }
 
@@ -56,11 +57,11 @@ fn main(rt: HostRuntime) -> ExitCode {
     let mut err = StdSink::new(rt.stderr());
     let words = match words(&rt) {
         Ok(words) => words,
-        Err(WordsFault::Unreadable) => return refuse(&mut err, BAD_WORDS, 2),
-        Err(WordsFault::Memory) => return refuse(&mut err, OUT_OF_MEMORY, 6),
+        Err(WordsFault::Unreadable) => return refuse(&mut err, BAD_WORDS, status::MISUSED),
+        Err(WordsFault::Memory) => return refuse(&mut err, NO_MEMORY, status::OUT_OF_MEMORY),
     };
     let Ok(mut input) = StdSource::new(rt.alloc(), rt.stdin()) else {
-        return refuse(&mut err, OUT_OF_MEMORY, 6);
+        return refuse(&mut err, NO_MEMORY, status::OUT_OF_MEMORY);
     };
     let mut shelf = FileShelf::new(&rt);
     let mut out = StdSink::new(rt.stdout());

@@ -199,6 +199,3 @@ head_by n aliased k formals (Alias a) = option_and_then (token_head n) (aliased 
 
 abbrev pub numbers_of : Bool → List Module → Numbers
 numbers_of p ms = record { token = token_number ms; rule = rule_number p ms }
-
-abbrev pub head_of : Bool → List Module → ℕ → List Text → Ref → Option Head
-head_of p ms k fs = head_by (numbers_of p ms) (aliased ms) k (formal_number fs)

@@ -28,8 +28,12 @@ fn joined_actual(
     actual: &Actual,
 ) -> Result<Applied, Memory>
     requires few { length names.now.tokens.keys ≤ 256 }
-    requires stand { undefined_in_actual false (meant_by (meanings_in names.now) file (formals_in formals.now)) actual.now ≡ [] }
-    ensures { IfOk result (λ a. Some a ≡ resolved (meant_by (meanings_in names.now) file (formals_in formals.now)) actual.now) }
+    requires stand { undefined_in_actual false
+        (meant_by (meanings_in names.now) file (formals_in formals.now)) actual.now
+        ≡ [] }
+    ensures { IfOk result (λ a.
+        Some a
+        ≡ resolved (meant_by (meanings_in names.now) file (formals_in formals.now)) actual.now) }
 {
     let head = names.head_of(file, formals, &actual.head).unwrap();
     let args = joined_actuals(alloc, names, file, formals, actual.args.as_slice())?;
@@ -45,8 +49,12 @@ fn joined_actuals(
     actuals: &[Actual],
 ) -> Result<Sequence<Applied>, Memory>
     requires few { length names.now.tokens.keys ≤ 256 }
-    requires stand { flat_map (undefined_in_actual false (meant_by (meanings_in names.now) file (formals_in formals.now))) actuals.now ≡ [] }
-    ensures { IfOk result (λ ks. map Some ks ≡ map (resolved (meant_by (meanings_in names.now) file (formals_in formals.now))) actuals.now) }
+    requires stand { flat_map
+        (undefined_in_actual false (meant_by (meanings_in names.now) file (formals_in formals.now)))
+        actuals.now
+        ≡ [] }
+    ensures { IfOk result (λ ks. map Some ks
+        ≡ map (resolved (meant_by (meanings_in names.now) file (formals_in formals.now))) actuals.now) }
 {
     let mut joined = Sequence::new(alloc);
     for actual in actuals {
@@ -57,7 +65,9 @@ fn joined_actuals(
 
 /// The level of a name or string.
 fn level_of(names: &Names, reference: &Ref) -> Option<Level>
-    ensures { result ≡ option_and_then (meanings_in names.now).level (names_spec.name_by (meanings_in names.now).aliased reference.now) }
+    ensures { result
+        ≡ option_and_then (meanings_in names.now).level
+        (names_spec.name_by (meanings_in names.now).aliased reference.now) }
 {
     names
         .levels
@@ -97,7 +107,9 @@ fn start_number(names: &Names, name: &Name) -> u64
 
 pub(crate) fn joined_starts(alloc: Global, names: &Names) -> Result<Sequence<u64>, Memory>
     requires { flat_map (undefined_start (meanings_in names.now)) (meanings_in names.now).starts ≡ [] }
-    ensures { IfOk result (λ starts. map Some starts ≡ map ((meanings_in names.now).numbers.rule None) (meanings_in names.now).starts) }
+    ensures { IfOk result (λ starts.
+        map Some starts
+        ≡ map ((meanings_in names.now).numbers.rule None) (meanings_in names.now).starts) }
 {
     let mut starts = Sequence::new(alloc);
     for name in names.starts.as_slice() {
@@ -115,8 +127,13 @@ fn add_on_error(
     joined: &mut Sequence<Sequence<Applied>>,
 ) -> Result<(), Memory>
     requires few { length names.now.tokens.keys ≤ 256 }
-    requires stand { flat_map (undefined_in_on_error (meant_by (meanings_in names.now) file (formals_in none.now))) declared.now ≡ [] }
-    ensures { OnOk result (map Some joined.new ≡ map Some joined.old ++ map (all_resolved (meant_by (meanings_in names.now) file (formals_in none.now))) declared.now) }
+    requires stand { flat_map
+        (undefined_in_on_error (meant_by (meanings_in names.now) file (formals_in none.now)))
+        declared.now
+        ≡ [] }
+    ensures { OnOk result (map Some joined.new
+        ≡ map Some joined.old
+        ++ map (all_resolved (meant_by (meanings_in names.now) file (formals_in none.now))) declared.now) }
 {
     for actuals in declared {
         joined.push(joined_actuals(alloc, names, file, none, actuals.as_slice())?)?;
@@ -132,7 +149,8 @@ pub(crate) fn joined_on_error(
 ) -> Result<Sequence<Sequence<Applied>>, Memory>
     requires few { length names.now.tokens.keys ≤ 256 }
     requires stand { flat_map (unresolved_on_error (meanings_in names.now)) (files modules.now) ≡ [] }
-    ensures { IfOk result (λ joined. map Some joined ≡ flat_map (on_error_in (meanings_in names.now)) (files modules.now)) }
+    ensures { IfOk result
+        (λ joined. map Some joined ≡ flat_map (on_error_in (meanings_in names.now)) (files modules.now)) }
 {
     let none = formals_of(alloc, &[])?;
     let mut joined = Sequence::new(alloc);
@@ -153,7 +171,9 @@ fn joined_alternative(
 ) -> Result<JoinedAlternative, Memory>
     requires few { length names.now.tokens.keys ≤ 256 }
     requires stand { unresolved (meant_by (meanings_in names.now) file (formals_in formals.now)) alternative.now ≡ [] }
-    ensures { IfOk result (λ a. Some a ≡ alternative_by (meanings_in names.now) file (meant_by (meanings_in names.now) file (formals_in formals.now)) (place, alternative.now)) }
+    ensures { IfOk result (λ a. Some a
+        ≡ alternative_by (meanings_in names.now) file
+        (meant_by (meanings_in names.now) file (formals_in formals.now)) (place, alternative.now)) }
 {
     Ok(JoinedAlternative {
         file,
@@ -180,8 +200,15 @@ fn add_alternatives(
 ) -> Result<(), Memory>
     requires few { length names.now.tokens.keys ≤ 256 }
     requires fits { place + length alternatives.now < 2 ^ 64 }
-    requires stand { flat_map (unresolved (meant_by (meanings_in names.now) file (formals_in formals.now))) alternatives.now ≡ [] }
-    ensures { OnOk result (map Some joined.new ≡ map Some joined.old ++ map (alternative_by (meanings_in names.now) file (meant_by (meanings_in names.now) file (formals_in formals.now))) (enumerate_from place alternatives.now)) }
+    requires stand { flat_map
+        (unresolved (meant_by (meanings_in names.now) file (formals_in formals.now))) alternatives.now
+        ≡ [] }
+    ensures { OnOk result (map Some joined.new
+        ≡ map Some joined.old
+        ++ map
+        (alternative_by (meanings_in names.now) file
+        (meant_by (meanings_in names.now) file (formals_in formals.now)))
+        (enumerate_from place alternatives.now)) }
 {
     for (at, alternative) in alternatives.iter().enumerate() {
         let place = place + at as u64;
@@ -202,7 +229,12 @@ fn add_definition(
     requires few { length names.now.tokens.keys ≤ 256 }
     requires fits { place + length rule.now.alternatives < 2 ^ 64 }
     requires stand { unresolved_in_rule (meanings_in names.now) file rule.now ≡ [] }
-    ensures { OnOk result (map Some joined.new ≡ map Some joined.old ++ map (alternative_by (meanings_in names.now) file (meant_by (meanings_in names.now) file (formal_number rule.now.formals))) (enumerate_from place rule.now.alternatives)) }
+    ensures { OnOk result (map Some joined.new
+        ≡ map Some joined.old
+        ++ map
+        (alternative_by (meanings_in names.now) file
+        (meant_by (meanings_in names.now) file (formal_number rule.now.formals)))
+        (enumerate_from place rule.now.alternatives)) }
 {
     let formals = formals_of(alloc, rule.formals.as_slice())?;
     let alternatives = rule.alternatives.as_slice();
@@ -222,7 +254,9 @@ fn add_rule(
     requires few { length names.now.tokens.keys ≤ 256 }
     requires fits { place + length rule.now.alternatives < 2 ^ 64 }
     requires stand { unresolved_in_rule (meanings_in names.now) file rule.now ≡ [] }
-    ensures { OnOk result (Adds (meanings_in names.now) (record { file = file; owner = owner; place = place; rule = rule.now } ∷ []) joined.old joined.new) }
+    ensures { OnOk result (Adds (meanings_in names.now)
+        (record { file = file; owner = owner; place = place; rule = rule.now } ∷ []) joined.old
+        joined.new) }
 {
     // In joined files each definition has a number, and its rule stands there. `Adds` holds without: it speaks of the rules
     // that are there.
@@ -256,7 +290,10 @@ fn add_file(
 ) -> Result<(), Memory>
     requires few { length names.now.tokens.keys ≤ 256 }
     requires stand { unresolved_in_rules (meanings_in names.now) file rules.now ≡ [] }
-    ensures { OnOk result (Adds (meanings_in names.now) (definitions_from (names_spec.owner_in names.now.starts.keys file rules.now) file 0 rules.now) joined.old joined.new) }
+    ensures { OnOk result (Adds (meanings_in names.now)
+        (definitions_from (names_spec.owner_in names.now.starts.keys file rules.now) file 0
+        rules.now)
+        joined.old joined.new) }
 {
     let marked = marked_public(alloc, rules)?;
     let mut place = 0u64;
@@ -278,7 +315,8 @@ fn add_prelude(
 ) -> Result<(), Memory>
     requires few { length names.now.tokens.keys ≤ 256 }
     requires stand { unresolved_in_rules (meanings_in names.now) 0 rules.now ≡ [] }
-    ensures { OnOk result (Adds (meanings_in names.now) (names_spec.library_definitions rules.now) joined.old joined.new) }
+    ensures { OnOk result
+        (Adds (meanings_in names.now) (names_spec.library_definitions rules.now) joined.old joined.new) }
 {
     let mut place = 0u64;
     for rule in rules {
@@ -291,7 +329,8 @@ fn add_prelude(
 
 /// The rules before their alternatives.
 fn rules_without(alloc: Global, names: &Names) -> Result<Vec<JoinedRule>, Memory>
-    ensures { IfOk result (λ rules. rules.items ≡ map (rule_without (elsewhere_in names.now)) names.now.numbering.rules.items) }
+    ensures { IfOk result (λ rules.
+        rules.items ≡ map (rule_without (elsewhere_in names.now)) names.now.numbering.rules.items) }
 {
     let mut rules = Vec::new(alloc);
     for outline in names.numbering.rules.iter() {
@@ -313,7 +352,8 @@ fn add_files(
 ) -> Result<(), Memory>
     requires few { length names.now.tokens.keys ≤ 256 }
     requires stand { flat_map (unresolved_in_file (meanings_in names.now)) (files modules.now) ≡ [] }
-    ensures { OnOk result (Adds (meanings_in names.now) (flat_map (definitions_in names.now.starts.keys) (files modules.now)) joined.old joined.new) }
+    ensures { OnOk result (Adds (meanings_in names.now)
+        (flat_map (definitions_in names.now.starts.keys) (files modules.now)) joined.old joined.new) }
 {
     for (at, file) in modules.iter().enumerate() {
         add_file(alloc, names, at as u64 + 1, file.rules.as_slice(), joined)?;
@@ -332,7 +372,9 @@ fn add_all(
     requires few { length names.now.tokens.keys ≤ 256 }
     requires stand { flat_map (unresolved_in_file (meanings_in names.now)) (files modules.now) ≡ [] }
     requires library_stands { unresolved_in_rules (meanings_in names.now) 0 library.now ≡ [] }
-    ensures { OnOk result (Adds (meanings_in names.now) (definitions_by names.now modules.now library.now) joined.old joined.new) }
+    ensures { OnOk result
+        (Adds (meanings_in names.now) (definitions_by names.now modules.now library.now) joined.old
+        joined.new) }
 {
     add_files(alloc, names, modules, joined)?;
     add_prelude(alloc, names, library, joined)?;
@@ -349,7 +391,9 @@ pub(crate) fn joined_rules(
     requires few { length names.now.tokens.keys ≤ 256 }
     requires stand { flat_map (unresolved_in_file (meanings_in names.now)) (files modules.now) ≡ [] }
     requires library_stands { unresolved_in_rules (meanings_in names.now) 0 library.now ≡ [] }
-    ensures { IfOk result (AreRules (meanings_in names.now) (elsewhere_in names.now) names.now.numbering.rules.items (definitions_by names.now modules.now library.now)) }
+    ensures { IfOk result
+        (AreRules (meanings_in names.now) (elsewhere_in names.now) names.now.numbering.rules.items
+        (definitions_by names.now modules.now library.now)) }
 {
     let mut rules = rules_without(alloc, names)?;
     add_all(alloc, names, modules, library, rules.as_mut_slice())?;

@@ -210,7 +210,9 @@ fn check_file_shapes(
     marked: &IndexSet<Name>,
     rules: &[Rule],
 ) -> Result<(), JoinFault>
-    ensures { Finds (flat_map (other_shape (meanings_in names.now) (is_public_in names.now marked.now)) rules.now) result }
+    ensures { Finds
+        (flat_map (other_shape (meanings_in names.now) (is_public_in names.now marked.now)) rules.now)
+        result }
 {
     for rule in rules {
         if let Err(fault) = check_shape(names, marked, rule) {
@@ -231,7 +233,10 @@ fn check_shapes(alloc: Global, names: &Names, file: &Module) -> Result<(), JoinF
 }
 
 fn check_level(names: &Names, level: Level, reference: &Ref) -> Result<(), JoinFault>
-    ensures { Finds (other_level (meanings_in names.now) level (names_spec.name_by (meanings_in names.now).aliased reference.now)) result }
+    ensures { Finds
+        (other_level (meanings_in names.now) level
+        (names_spec.name_by (meanings_in names.now).aliased reference.now))
+        result }
 {
     let Some(name) = name_by(&names.aliases, reference) else {
         return Ok(());
@@ -263,7 +268,9 @@ fn check_declaration(
 
 /// No name in a file's level declarations first got another level.
 fn check_levels(names: &Names, file: u64, levels: &[LevelDecl]) -> Result<(), JoinFault>
-    ensures { Finds (flat_map (levels_in_declaration (meanings_in names.now) file) (enumerate_from 0 levels.now)) result }
+    ensures { Finds
+        (flat_map (levels_in_declaration (meanings_in names.now) file) (enumerate_from 0 levels.now))
+        result }
 {
     for (rank, declared) in levels.iter().enumerate() {
         if let Err(fault) = check_declaration(names, file, rank as u64, declared) {

@@ -152,7 +152,10 @@ fn check_count(names: &Names) -> Result<(), JoinFault>
 
 /// Unknown levels, and too many tokens.
 fn check_last(names: &Names, modules: &[Module]) -> Result<(), JoinFault>
-    ensures { Finds (flat_map (unlevelled_in_file (meanings_in names.now)) modules.now ++ many_tokens (length (meanings_in names.now).tokens)) result }
+    ensures { Finds
+        (flat_map (unlevelled_in_file (meanings_in names.now)) modules.now
+        ++ many_tokens (length (meanings_in names.now).tokens))
+        result }
 {
     match check_precs(names, modules) {
         Ok(()) => check_count(names),

@@ -24,7 +24,9 @@ fn joined(
     library: &[Rule],
 ) -> Result<Joined, Memory>
     requires { CanJoin names.now modules.now library.now }
-    ensures { IfOk result (IsJoinedBy (meanings_in names.now) (elsewhere_in names.now) names.now.numbering.rules.items (definitions_by names.now modules.now library.now) modules.now) }
+    ensures { IfOk result
+        (IsJoinedBy (meanings_in names.now) (elsewhere_in names.now) names.now.numbering.rules.items
+        (definitions_by names.now modules.now library.now) modules.now) }
 {
     let tokens = joined_tokens(alloc, names)?;
     let starts = joined_starts(alloc, names)?;

@@ -23,7 +23,8 @@ fn add_level(
     level: Level,
     reference: &Ref,
 ) -> Result<(), Memory>
-    ensures { OnOk result (Puts levels.old (with_level level (spec.name_by (λ a. get same aliases.now a) reference.now)) levels.new) }
+    ensures { OnOk result (Puts levels.old
+        (with_level level (spec.name_by (λ a. get same aliases.now a) reference.now)) levels.new) }
 {
     if let Some(name) = name_by(aliases, reference) {
         put_first(levels, name, level)?;
@@ -38,7 +39,8 @@ fn add_declaration(
     rank: u64,
     declared: &LevelDecl,
 ) -> Result<(), Memory>
-    ensures { OnOk result (Puts levels.old (levels_by (λ a. get same aliases.now a) file (rank, declared.now)) levels.new) }
+    ensures { OnOk result
+        (Puts levels.old (levels_by (λ a. get same aliases.now a) file (rank, declared.now)) levels.new) }
 {
     let assoc = declared.assoc;
     let level = Level { file, rank, assoc };
@@ -54,7 +56,9 @@ fn add_declarations(
     file: u64,
     declared: &[LevelDecl],
 ) -> Result<(), Memory>
-    ensures { OnOk result (Puts levels.old (flat_map (levels_by (λ a. get same aliases.now a) file) (enumerate_from 0 declared.now)) levels.new) }
+    ensures { OnOk result (Puts levels.old
+        (flat_map (levels_by (λ a. get same aliases.now a) file) (enumerate_from 0 declared.now))
+        levels.new) }
 {
     for (rank, declaration) in declared.iter().enumerate() {
         add_declaration(levels, aliases, file, rank as u64, declaration)?;
@@ -67,7 +71,9 @@ pub(crate) fn levels_of(
     aliases: &Aliases,
     files: &[Module],
 ) -> Result<Levels, Memory>
-    ensures { IfOk result (λ levels. (x : Text) → get same levels x ≡ lookup (same x) (flat_map (levels_in (λ a. get same aliases.now a)) (spec.files files.now))) }
+    ensures { IfOk result (λ levels. (x : Text) →
+        get same levels x
+        ≡ lookup (same x) (flat_map (levels_in (λ a. get same aliases.now a)) (spec.files files.now))) }
 {
     let mut levels = IndexMap::new(alloc);
     for (at, file) in files.iter().enumerate() {

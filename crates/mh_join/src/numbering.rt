@@ -31,7 +31,9 @@ pub(crate) struct Numbering {
 }
 
 fn mark_public(marked: &mut IndexSet<Name>, rule: &Rule) -> Result<(), Memory>
-    ensures { OnOk result ((x : Text) → contains same marked.new x ≡ (contains same marked.old x || (rule.now.public && same x rule.now.name))) }
+    ensures { OnOk result ((x : Text) →
+        contains same marked.new x
+        ≡ (contains same marked.old x || (rule.now.public && same x rule.now.name))) }
 {
     if !rule.public {
         return Ok(());
@@ -65,7 +67,9 @@ pub(crate) fn owner_in(
     file: u64,
     name: &Name,
 ) -> Option<u64>
-    ensures { result ≡ (if list_any (same name.now) starts.now.keys || contains same marked.now name.now then None else Some file) }
+    ensures { result
+        ≡ (if list_any (same name.now) starts.now.keys || contains same marked.now name.now then None else
+        Some file) }
 {
     if is_public(starts, marked, name) {
         None

@@ -51,7 +51,10 @@ fn check_head(
     in_body: bool,
     reference: &Ref,
 ) -> Result<(), JoinFault>
-    ensures { Finds (spec.undefined in_body (meant_by (meanings_in names.now) file (formals_in formals.now)) reference.now) result }
+    ensures { Finds
+        (spec.undefined in_body
+        (meant_by (meanings_in names.now) file (formals_in formals.now)) reference.now)
+        result }
 {
     let is_known = in_body && is_error(reference) || names.stands(file, formals, reference);
     require_defined(is_known, text_of(reference))
@@ -66,7 +69,10 @@ fn check_actual(
     in_body: bool,
     actual: &Actual,
 ) -> Result<(), JoinFault>
-    ensures { Finds (undefined_in_actual in_body (meant_by (meanings_in names.now) file (formals_in formals.now)) actual.now) result }
+    ensures { Finds
+        (undefined_in_actual in_body
+        (meant_by (meanings_in names.now) file (formals_in formals.now)) actual.now)
+        result }
 {
     match check_head(names, file, formals, in_body, &actual.head) {
         Ok(()) => check_actuals(names, file, formals, in_body, actual.args.as_slice()),
@@ -82,7 +88,12 @@ fn check_actuals(
     in_body: bool,
     actuals: &[Actual],
 ) -> Result<(), JoinFault>
-    ensures { Finds (flat_map (undefined_in_actual in_body (meant_by (meanings_in names.now) file (formals_in formals.now))) actuals.now) result }
+    ensures { Finds
+        (flat_map
+        (undefined_in_actual in_body
+        (meant_by (meanings_in names.now) file (formals_in formals.now)))
+        actuals.now)
+        result }
 {
     for actual in actuals {
         if let Err(fault) = check_actual(names, file, formals, in_body, actual) {
@@ -117,7 +128,10 @@ fn check_alternative(
     formals: &Formals,
     alternative: &Alternative,
 ) -> Result<(), JoinFault>
-    ensures { Finds (undefined_in_alternative (meanings_in names.now).aliased (meant_by (meanings_in names.now) file (formals_in formals.now)) alternative.now) result }
+    ensures { Finds
+        (undefined_in_alternative (meanings_in names.now).aliased
+        (meant_by (meanings_in names.now) file (formals_in formals.now)) alternative.now)
+        result }
 {
     match check_actuals(names, file, formals, true, alternative.producers.as_slice()) {
         Ok(()) => check_prec(names, &alternative.prec),
@@ -131,7 +145,12 @@ fn check_alternatives(
     formals: &Formals,
     alternatives: &[Alternative],
 ) -> Result<(), JoinFault>
-    ensures { Finds (flat_map (undefined_in_alternative (meanings_in names.now).aliased (meant_by (meanings_in names.now) file (formals_in formals.now))) alternatives.now) result }
+    ensures { Finds
+        (flat_map
+        (undefined_in_alternative (meanings_in names.now).aliased
+        (meant_by (meanings_in names.now) file (formals_in formals.now)))
+        alternatives.now)
+        result }
 {
     for alternative in alternatives {
         if let Err(fault) = check_alternative(names, file, formals, alternative) {
@@ -200,7 +219,11 @@ fn check_on_error(
     none: &Formals,
     on_error: &[Sequence<Actual>],
 ) -> Result<(), JoinFault>
-    ensures { Finds (flat_map (undefined_in_on_error (meant_by (meanings_in names.now) file (formals_in none.now))) on_error.now) result }
+    ensures { Finds
+        (flat_map
+        (undefined_in_on_error (meant_by (meanings_in names.now) file (formals_in none.now)))
+        on_error.now)
+        result }
 {
     for actuals in on_error {
         if let Err(fault) = check_actuals(names, file, none, false, actuals.as_slice()) {

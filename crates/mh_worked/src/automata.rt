@@ -136,7 +136,8 @@ fn texts_of_automata(rt: HostRuntime) -> Result<(), Fail> {
     check_cases(&rt, rt.alloc(), TEXTS)
 }
 
-// A token that a level refuses; a production that is reduced on errors; the end of the stream, given up for a token.
+// A token that a level refuses; a production that is reduced on errors, and the same where none is; the end of the stream,
+// given up for a token.
 const CELLS: &str = "0 --show-automaton --strict g.mly
 ~
 g.mly
@@ -213,6 +214,41 @@ state 4
   s -> X SEMI . [ EOF ]
   X: reduce s -> X SEMI
   SEMI: reduce s -> X SEMI
+  EOF: reduce s -> X SEMI
+state 5
+  main -> s EOF . [ # ]
+  default: reduce main -> s EOF
+~
+^
+0 --show-automaton g.mly
+~
+g.mly
+%token X SEMI EOF
+%start main
+%%
+main: s EOF {}
+s: X {} | X SEMI {}
+~
+~
+canonical: 6 states
+state 0
+  main' -> . main [ # ]
+  X: shift 1
+  main: goto 2
+  s: goto 3
+state 1
+  s -> X . [ EOF ]
+  s -> X . SEMI [ EOF ]
+  SEMI: shift 4
+  EOF: reduce s -> X
+state 2
+  main' -> main . [ # ]
+  default: accept
+state 3
+  main -> s . EOF [ # ]
+  EOF: shift 5
+state 4
+  s -> X SEMI . [ EOF ]
   EOF: reduce s -> X SEMI
 state 5
   main -> s EOF . [ # ]

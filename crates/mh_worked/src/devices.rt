@@ -1,14 +1,16 @@
 //! Files, inputs and outputs that fail.
-use crate::runs::{Fails, ONE_SENTENCE, check_cases, run};
+use crate::runs::{Fails, ONE_SENTENCE, check_cases_with, run};
 use std::test::Fail;
 
-const READS: &str = "3 --interpret h.mly
-~
-g.mly
+/// The file that each case has.
+const FILE: &str = "g.mly
 %token A EOF
 %start s
 %%
 s: A EOF {}
+";
+
+const READS: &str = "3 --interpret h.mly
 ~
 ~
 ~
@@ -17,24 +19,12 @@ menhir: cannot read h.mly
 3 --interpret g.mly
 shelf 1
 ~
-g.mly
-%token A EOF
-%start s
-%%
-s: A EOF {}
-~
 ~
 ~
 menhir: cannot read g.mly
 ^
 3 --interpret g.mly h.mly
 shelf 2
-~
-g.mly
-%token A EOF
-%start s
-%%
-s: A EOF {}
 ~
 h.mly
 %%
@@ -46,12 +36,6 @@ menhir: cannot read h.mly
 0 --interpret g.mly h.mly
 shelf 3
 ~
-g.mly
-%token A EOF
-%start s
-%%
-s: A EOF {}
-~
 h.mly
 %%
 ~
@@ -61,12 +45,6 @@ h.mly
 3 --interpret g.mly
 input 1
 ~
-g.mly
-%token A EOF
-%start s
-%%
-s: A EOF {}
-~
 A EOF
 ~
 ~
@@ -74,12 +52,6 @@ menhir: cannot read the input
 ^
 0 --show-automaton g.mly
 input 1
-~
-g.mly
-%token A EOF
-%start s
-%%
-s: A EOF {}
 ~
 A EOF
 ~
@@ -90,18 +62,12 @@ canonical: 4 states
 
 #[test]
 fn files_and_inputs_that_cannot_be_read(rt: HostRuntime) -> Result<(), Fail> {
-    check_cases(&rt, rt.alloc(), READS)
+    check_cases_with(&rt, rt.alloc(), FILE, READS)
 }
 
 // What stands on out is a front of the text, and nothing is said.
 const WRITES: &str = "4 --interpret g.mly
 out 1
-~
-g.mly
-%token A EOF
-%start s
-%%
-s: A EOF {}
 ~
 A EOF
 A
@@ -111,12 +77,6 @@ A
 4 --interpret g.mly
 out 2
 ~
-g.mly
-%token A EOF
-%start s
-%%
-s: A EOF {}
-~
 A EOF
 A
 ~
@@ -125,12 +85,6 @@ ACCEPT
 ^
 0 --interpret g.mly
 out 3
-~
-g.mly
-%token A EOF
-%start s
-%%
-s: A EOF {}
 ~
 A EOF
 A
@@ -142,30 +96,18 @@ OVERSHOOT
 4 --show-automaton g.mly
 out 1
 ~
-g.mly
-%token A EOF
-%start s
-%%
-s: A EOF {}
-~
 ~
 ~
 ";
 
 #[test]
 fn outputs_that_cannot_be_written(rt: HostRuntime) -> Result<(), Fail> {
-    check_cases(&rt, rt.alloc(), WRITES)
+    check_cases_with(&rt, rt.alloc(), FILE, WRITES)
 }
 
 // Where the line that says why the work ends cannot be written, the status is that of a write fault.
 const LAST_LINES: &str = "4 --interpret --what g.mly
 err 1
-~
-g.mly
-%token A EOF
-%start s
-%%
-s: A EOF {}
 ~
 ~
 ~
@@ -173,28 +115,22 @@ s: A EOF {}
 4 --interpret h.mly
 err 1
 ~
-g.mly
-%token A EOF
-%start s
-%%
-s: A EOF {}
-~
 ~
 ~
 ^
-4 --interpret g.mly
+4 --interpret h.mly
 err 1
 ~
-g.mly
+h.mly
 %token
 ~
 ~
 ~
 ^
-4 --interpret g.mly
+4 --interpret h.mly
 err 1
 ~
-g.mly
+h.mly
 %start s
 %%
 s: A {}
@@ -206,12 +142,6 @@ s: A {}
 input 7
 err 1
 ~
-g.mly
-%token A EOF
-%start s
-%%
-s: A EOF {}
-~
 A EOF
 A
 ~
@@ -221,12 +151,6 @@ ACCEPT
 0 --interpret g.mly
 err 1
 ~
-g.mly
-%token A EOF
-%start s
-%%
-s: A EOF {}
-~
 A EOF
 ~
 ACCEPT
@@ -235,7 +159,7 @@ ACCEPT
 
 #[test]
 fn last_lines_that_cannot_be_written(rt: HostRuntime) -> Result<(), Fail> {
-    check_cases(&rt, rt.alloc(), LAST_LINES)
+    check_cases_with(&rt, rt.alloc(), FILE, LAST_LINES)
 }
 
 // Each read fails in turn: out holds the answers to the lines that came whole.
@@ -258,6 +182,12 @@ fn each_read_fails_in_turn(rt: HostRuntime) -> Result<(), Fail> {
         };
         assert_eq!(rt; got.out.as_slice(), text, "at {read}");
         assert_eq!(rt; got.status, if read <= 9 { 3 } else { 0 }, "at {read}");
+        let said = if read <= 9 {
+            b"menhir: cannot read the input\n".as_slice()
+        } else {
+            b"".as_slice()
+        };
+        assert_eq!(rt; got.err.as_slice(), said, "at {read}");
     }
     Ok(())
 }

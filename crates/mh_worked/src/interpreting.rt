@@ -1,5 +1,5 @@
 //! Verdicts on the lines of the input.
-use crate::runs::{check_cases, run_on};
+use crate::runs::{check_cases, push_times, run_on};
 use std::test::Fail;
 
 const VERDICTS: &str = "0 --interpret g.mly
@@ -364,16 +364,9 @@ e2: e2 OP2 a {} | a {}
 a: INT {} | LP e1 RP {}
 ";
 
-fn push_times(text: &mut Vec<u8>, part: &[u8], count: u32) -> Result<(), Fail> {
-    for _ in 0..count {
-        text.extend_from_slice(part)?;
-    }
-    Ok(())
-}
-
 /// A sum in parentheses, one of which lacks its end in every third line, but where there are none.
 fn push_sum(text: &mut Vec<u8>, number: u32) -> Result<(), Fail> {
-    let depth = number % 17;
+    let depth = (number % 17) as usize;
     push_times(text, b"LP ", depth)?;
     text.extend_from_slice(b"INT ")?;
     for place in 1..=number % 5 {

@@ -1,4 +1,4 @@
-//! Worked runs of the whole tool, and worked tables: grammars, words and inputs whose answers were worked out by hand.
+//! Worked runs of the whole tool: grammars, words and inputs whose answers were worked out by hand.
 #![tactic(auto)]
 
 #[cfg(test)]
@@ -15,8 +15,6 @@ mod refused;
 mod runs;
 #[cfg(test)]
 mod several_files;
-#[cfg(test)]
-mod tables;
 #[cfg(test)]
 mod trees;
 #[cfg(test)]

@@ -1,5 +1,5 @@
 //! Grammars that are refused, each with its line.
-use crate::runs::{check_cases, run_on};
+use crate::runs::{Fails, check_cases, push_times, run, run_on};
 use std::alloc::Global;
 use std::test::Fail;
 
@@ -681,6 +681,46 @@ fn tokens_up_to_a_limit(rt: HostRuntime) -> Result<(), Fail> {
     assert_eq!(rt;
         got.err.as_slice(),
         b"menhir: too many tokens: 257\n".as_slice()
+    );
+    Ok(())
+}
+
+// The tokens of all files are counted together, each name once.
+#[test]
+fn too_many_tokens_of_two_files(rt: HostRuntime) -> Result<(), Fail> {
+    let alloc = rt.alloc();
+    let mut files = Vec::new(alloc);
+    files.push((b"a.mly".to_vec(alloc)?, with_tokens(alloc, 256)?))?;
+    files.push((
+        b"b.mly".to_vec(alloc)?,
+        b"%token T000 B\n%%\n".to_vec(alloc)?,
+    ))?;
+    let words = "--interpret a.mly b.mly";
+    let input = b"T000\n".to_vec(alloc)?;
+    let got = run(&rt, alloc, words, files, input, Fails::none(alloc))?;
+    assert_eq!(rt; got.status, 1);
+    assert_eq!(rt; got.out.as_slice(), b"".as_slice());
+    assert_eq!(rt;
+        got.err.as_slice(),
+        b"menhir: too many tokens: 257\n".as_slice()
+    );
+    Ok(())
+}
+
+// `A` and 1,000 `?` behind it are 1,001 deep; 1,000 is the most.
+#[test]
+fn an_actual_that_is_too_deep(rt: HostRuntime) -> Result<(), Fail> {
+    let alloc = rt.alloc();
+    let mut grammar = b"%token A\n%start s\n%%\ns: A".to_vec(alloc)?;
+    push_times(&mut grammar, b"?", 1000)?;
+    grammar.extend_from_slice(b"\n{}\n")?;
+    let input = b"A\n".to_vec(alloc)?;
+    let got = run_on(&rt, alloc, "--interpret g.mly", &grammar, input)?;
+    assert_eq!(rt; got.status, 1);
+    assert_eq!(rt; got.out.as_slice(), b"".as_slice());
+    assert_eq!(rt;
+        got.err.as_slice(),
+        b"menhir: g.mly:4: syntax error\n".as_slice()
     );
     Ok(())
 }

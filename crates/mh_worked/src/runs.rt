@@ -122,19 +122,37 @@ fn check_text(rt: &impl Abort, found: &[u8], wanted: &str, case: &str) -> Result
     Ok(())
 }
 
-/// The files of the parts of a case, each behind a line with its name.
-fn files_of_parts(alloc: Global, parts: &[&str]) -> Result<Vec<(Vec<u8>, Vec<u8>)>, Fail> {
+/// Adds a file, whose text stands behind a line with its name.
+fn add_file(alloc: Global, files: &mut Vec<(Vec<u8>, Vec<u8>)>, file: &str) -> Result<(), Fail> {
+    let (name, text) = file.split_once('\n').ok_or("a file without a name")?;
+    let name = name.as_bytes().to_vec(alloc)?;
+    files.push((name, text.as_bytes().to_vec(alloc)?))?;
+    Ok(())
+}
+
+/// The shared file and those of a case.
+fn given_files(
+    alloc: Global,
+    shared: Option<&str>,
+    named: &[&str],
+) -> Result<Vec<(Vec<u8>, Vec<u8>)>, Fail> {
     let mut files = Vec::new(alloc);
-    for part in parts {
-        let (name, text) = part.split_once('\n').ok_or("a file without a name")?;
-        let name = name.as_bytes().to_vec(alloc)?;
-        files.push((name, text.as_bytes().to_vec(alloc)?))?;
+    if let Some(file) = shared {
+        add_file(alloc, &mut files, file)?;
+    }
+    for file in named {
+        add_file(alloc, &mut files, *file)?;
     }
     Ok(files)
 }
 
 /// Runs one case of a text.
-fn check_case(rt: &impl Abort, alloc: Global, case: &str) -> Result<(), Fail> {
+fn check_case(
+    rt: &impl Abort,
+    alloc: Global,
+    shared: Option<&str>,
+    case: &str,
+) -> Result<(), Fail> {
     let mut parts = Vec::new(alloc);
     for part in case.split("~\n") {
         parts.push(part)?;
@@ -148,7 +166,7 @@ fn check_case(rt: &impl Abort, alloc: Global, case: &str) -> Result<(), Fail> {
     for line in calls.lines() {
         fails.add(line)?;
     }
-    let files = files_of_parts(alloc, named)?;
+    let files = given_files(alloc, shared, named)?;
     let input = input.as_bytes().to_vec(alloc)?;
     let got = run(rt, alloc, words, files, input, fails)?;
     check_text(rt, &got.err, *err, case)?;
@@ -162,7 +180,28 @@ fn check_case(rt: &impl Abort, alloc: Global, case: &str) -> Result<(), Fail> {
 /// what is written on out; and what is written on err. Of a text that ends with the line `...` the front alone is told.
 pub fn check_cases(rt: &impl Abort, alloc: Global, cases: &str) -> Result<(), Fail> {
     for case in cases.split("^\n") {
-        check_case(rt, alloc, case)?;
+        check_case(rt, alloc, None, case)?;
+    }
+    Ok(())
+}
+
+/// Runs each case of a text. Beside its own files each has this one, which stands behind a line with its name.
+pub fn check_cases_with(
+    rt: &impl Abort,
+    alloc: Global,
+    file: &str,
+    cases: &str,
+) -> Result<(), Fail> {
+    for case in cases.split("^\n") {
+        check_case(rt, alloc, Some(file), case)?;
+    }
+    Ok(())
+}
+
+/// Adds a part to a text so many times.
+pub fn push_times(text: &mut Vec<u8>, part: &[u8], count: usize) -> Result<(), Fail> {
+    for _ in 0..count {
+        text.extend_from_slice(part)?;
     }
     Ok(())
 }

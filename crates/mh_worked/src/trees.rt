@@ -1,5 +1,5 @@
 //! Trees of what is accepted.
-use crate::runs::{check_cases, run_on};
+use crate::runs::{check_cases, push_times, run_on};
 use std::alloc::Global;
 use std::test::Fail;
 
@@ -65,7 +65,8 @@ fn trees_of_lines(rt: HostRuntime) -> Result<(), Fail> {
     check_cases(&rt, rt.alloc(), TREES)
 }
 
-// An ELSE goes to the inner IF, since a shift goes before a reduction, with a warning, and since its level is higher.
+// An ELSE goes to the inner IF, since a shift goes before a reduction, with a warning, and since its level is higher,
+// without one.
 const BRANCHES: &str = "0 --interpret --interpret-show-cst g.mly
 ~
 g.mly
@@ -92,6 +93,23 @@ ERROR unknown token Y
 ERROR unreadable
 ~
 menhir: warning: conflict in state 9 on ELSE
+^
+0 --interpret --interpret-show-cst g.mly
+~
+g.mly
+%token IF ELSE X EOF
+%nonassoc THEN
+%nonassoc ELSE
+%start main
+%%
+main: s EOF {}
+s: IF s %prec THEN {} | IF s ELSE s {} | X {}
+~
+IF IF X ELSE X EOF
+~
+ACCEPT
+[main: [s: IF [s: IF [s: X] ELSE [s: X]]] EOF]
+~
 ^
 0 --interpret --interpret-show-cst --strict g.mly
 ~
@@ -218,16 +236,10 @@ fn nested(alloc: Global, count: usize) -> Result<Vec<u8>, Fail> {
     Ok(line)
 }
 
-fn push_times(text: &mut Vec<u8>, part: &[u8], count: usize) -> Result<(), Fail> {
-    for _ in 0..count {
-        text.extend_from_slice(part)?;
-    }
-    Ok(())
-}
-
 const NESTED: &[u8] = b"%token A B\n%start s\n%%\ns: A s {} | B {}\n";
 
-// B makes a tree of height 2, and each A one that is higher by 1; 4,000 is the greatest height.
+// B makes a tree of height 2, and each A one that is higher by 1; 4,000 is the greatest height. A verdict has no such
+// limit.
 #[test]
 fn trees_have_a_greatest_height(rt: HostRuntime) -> Result<(), Fail> {
     let alloc = rt.alloc();
@@ -243,13 +255,11 @@ fn trees_have_a_greatest_height(rt: HostRuntime) -> Result<(), Fail> {
     let got = run_on(&rt, alloc, shown, NESTED, nested(alloc, 3999)?)?;
     assert_eq!(rt; got.status, 0);
     assert_eq!(rt; got.out.as_slice(), b"TOODEEP\n".as_slice());
-    let got = run_on(
-        &rt,
-        alloc,
-        "--interpret g.mly",
-        NESTED,
-        nested(alloc, 3999)?,
-    )?;
-    assert_eq!(rt; got.out.as_slice(), b"ACCEPT\n".as_slice());
+    for count in [3998, 3999] {
+        let input = nested(alloc, count)?;
+        let got = run_on(&rt, alloc, "--interpret g.mly", NESTED, input)?;
+        assert_eq!(rt; got.status, 0);
+        assert_eq!(rt; got.out.as_slice(), b"ACCEPT\n".as_slice());
+    }
     Ok(())
 }

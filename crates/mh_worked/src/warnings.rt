@@ -1,15 +1,17 @@
 //! Warnings, and what comes of them under `--strict`.
-use crate::runs::check_cases;
+use crate::runs::{check_cases, check_cases_with};
 use std::test::Fail;
 
-// Under `--strict` the status is 1 and out is empty where there is a warning, in either mode; nothing is said behind it.
-const WARNINGS: &str = "0 --interpret g.mly
-~
-g.mly
+// Where the stream ends a sum may end, too, or go on.
+const SUMS: &str = "g.mly
 %token INT PLUS
 %start e
 %%
 e: INT {} | e PLUS INT {}
+";
+
+// Under `--strict` the status is 1 and out is empty where there is a warning, in either mode; nothing is said behind it.
+const SUM_CASES: &str = "0 --interpret g.mly
 ~
 INT
 INT PLUS INT
@@ -23,12 +25,6 @@ menhir: warning: end-of-stream conflict in state 2
 ^
 1 --strict --interpret g.mly
 ~
-g.mly
-%token INT PLUS
-%start e
-%%
-e: INT {} | e PLUS INT {}
-~
 INT
 ~
 ~
@@ -36,24 +32,21 @@ menhir: warning: end-of-stream conflict in state 2
 ^
 1 --show-automaton --strict g.mly
 ~
-g.mly
-%token INT PLUS
-%start e
-%%
-e: INT {} | e PLUS INT {}
-~
 ~
 ~
 menhir: warning: end-of-stream conflict in state 2
-^
-0 --interpret g.mly
-~
-g.mly
+";
+
+// An ELSE may go to either of two IF.
+const BRANCHES: &str = "g.mly
 %token IF ELSE X EOF
 %start main
 %%
 main: s EOF {}
 s: IF s {} | IF s ELSE s {} | X {}
+";
+
+const BRANCH_CASES: &str = "0 --interpret g.mly
 ~
 IF IF X ELSE X EOF
 ~
@@ -63,35 +56,14 @@ menhir: warning: conflict in state 9 on ELSE
 ^
 1 --interpret --strict g.mly
 ~
-g.mly
-%token IF ELSE X EOF
-%start main
-%%
-main: s EOF {}
-s: IF s {} | IF s ELSE s {} | X {}
-~
 IF IF X ELSE X EOF
 ~
 ~
 menhir: warning: conflict in state 9 on ELSE
-^
-0 --interpret --strict g.mly
-~
-g.mly
-%token IF ELSE X EOF
-%nonassoc THEN
-%nonassoc ELSE
-%start main
-%%
-main: s EOF {}
-s: IF s %prec THEN {} | IF s ELSE s {} | X {}
-~
-IF IF X ELSE X EOF
-~
-ACCEPT
-~
-^
-0 --interpret --strict g.mly
+";
+
+// Where the token behind tells two reductions apart there is no warning.
+const SILENT: &str = "0 --interpret --strict g.mly
 ~
 g.mly
 %token A B C D E
@@ -115,7 +87,10 @@ REJECT
 
 #[test]
 fn warnings_and_strictness(rt: HostRuntime) -> Result<(), Fail> {
-    check_cases(&rt, rt.alloc(), WARNINGS)
+    let alloc = rt.alloc();
+    check_cases_with(&rt, alloc, SUMS, SUM_CASES)?;
+    check_cases_with(&rt, alloc, BRANCHES, BRANCH_CASES)?;
+    check_cases(&rt, alloc, SILENT)
 }
 
 // By state, within a state by token, then the end, then the conflict of the end with a token. Of two reductions the first
@@ -216,13 +191,6 @@ fn orders_of_warnings(rt: HostRuntime) -> Result<(), Fail> {
 const FAILING: &str = "3 --interpret g.mly
 input 1
 ~
-g.mly
-%token IF ELSE X EOF
-%start main
-%%
-main: s EOF {}
-s: IF s {} | IF s ELSE s {} | X {}
-~
 X EOF
 
 ~
@@ -233,13 +201,6 @@ menhir: cannot read the input
 3 --interpret g.mly
 input 7
 ~
-g.mly
-%token IF ELSE X EOF
-%start main
-%%
-main: s EOF {}
-s: IF s {} | IF s ELSE s {} | X {}
-~
 X EOF
 
 ~
@@ -251,13 +212,6 @@ menhir: cannot read the input
 4 --interpret g.mly
 out 1
 ~
-g.mly
-%token IF ELSE X EOF
-%start main
-%%
-main: s EOF {}
-s: IF s {} | IF s ELSE s {} | X {}
-~
 X EOF
 
 ~
@@ -266,13 +220,6 @@ menhir: warning: conflict in state 9 on ELSE
 ^
 4 --interpret g.mly
 out 2
-~
-g.mly
-%token IF ELSE X EOF
-%start main
-%%
-main: s EOF {}
-s: IF s {} | IF s ELSE s {} | X {}
 ~
 X EOF
 
@@ -284,13 +231,6 @@ menhir: warning: conflict in state 9 on ELSE
 4 --show-automaton g.mly
 out 1
 ~
-g.mly
-%token IF ELSE X EOF
-%start main
-%%
-main: s EOF {}
-s: IF s {} | IF s ELSE s {} | X {}
-~
 X EOF
 
 ~
@@ -300,13 +240,6 @@ menhir: warning: conflict in state 9 on ELSE
 4 --interpret g.mly
 err 1
 ~
-g.mly
-%token IF ELSE X EOF
-%start main
-%%
-main: s EOF {}
-s: IF s {} | IF s ELSE s {} | X {}
-~
 X EOF
 
 ~
@@ -314,13 +247,6 @@ X EOF
 ^
 4 --interpret --strict g.mly
 err 1
-~
-g.mly
-%token IF ELSE X EOF
-%start main
-%%
-main: s EOF {}
-s: IF s {} | IF s ELSE s {} | X {}
 ~
 X EOF
 
@@ -330,13 +256,6 @@ X EOF
 4 --show-automaton g.mly
 err 1
 ~
-g.mly
-%token IF ELSE X EOF
-%start main
-%%
-main: s EOF {}
-s: IF s {} | IF s ELSE s {} | X {}
-~
 X EOF
 
 ~
@@ -344,13 +263,6 @@ X EOF
 ^
 1 --interpret --strict g.mly
 input 1
-~
-g.mly
-%token IF ELSE X EOF
-%start main
-%%
-main: s EOF {}
-s: IF s {} | IF s ELSE s {} | X {}
 ~
 X EOF
 
@@ -361,13 +273,6 @@ menhir: warning: conflict in state 9 on ELSE
 1 --show-automaton --strict g.mly
 out 1
 ~
-g.mly
-%token IF ELSE X EOF
-%start main
-%%
-main: s EOF {}
-s: IF s {} | IF s ELSE s {} | X {}
-~
 X EOF
 
 ~
@@ -377,5 +282,5 @@ menhir: warning: conflict in state 9 on ELSE
 
 #[test]
 fn devices_that_fail_behind_warnings(rt: HostRuntime) -> Result<(), Fail> {
-    check_cases(&rt, rt.alloc(), FAILING)
+    check_cases_with(&rt, rt.alloc(), BRANCHES, FAILING)
 }

@@ -1,3 +1,4 @@
+//! The shelf of the real files.
 ghost use Rattle.std.specs.Prelude.{◌≡◌, ◌<◌, length, None, IfOk, vec_len};
 ghost use Rattle.mh_outside.specs.Faults.{ShelfCounts};
 ghost use Rattle.mh_outside.specs.Shelf.{Reads};
@@ -20,9 +21,11 @@ pub struct FileShelf<'a, R: Files> {
 }
 
 impl<'a, R: Files> FileShelf<'a, R> {
+    ghost use Rattle.menhir.specs.Adapters.{shelf_faults};
+
     /// The files that the runtime reaches.
     pub fn new(rt: &'a R) -> Self
-        ensures { result.faults ≡ 0 }
+        ensures { shelf_faults result ≡ 0 }
     {
         FileShelf { rt, faults: 0 }
     }
