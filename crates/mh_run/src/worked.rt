@@ -1,7 +1,7 @@
 //! Runs of sentences of whole grammars, worked out by hand, with their last reductions and their trees.
 ghost use Rattle.std.specs.Prelude.{◌<◌, length, IsTrue, All};
 
-use crate::{TreeOutcome, Verdict, run_with_trees, trace};
+use crate::{TreeOutcome, Verdict, run_with_trees, trace, verdict};
 use mh_canon::canonical;
 use mh_grammar::{
     Assoc, Grammar, Level, NontermInfo, Production, Sequence, Symbol, Token, TokenInfo, from_bytes,
@@ -58,7 +58,7 @@ fn table_of(alloc: Global, grammar: &Grammar) -> Result<Halting, Fail> {
         return Err(Fail::from("in range"));
     }
     let automaton = canonical(alloc, grammar).map_err(|_| "no memory")?;
-    let (table, _) = resolve(alloc, grammar, &automaton, Mode::Merged)?;
+    let (table, _) = resolve(alloc, grammar, &automaton, Mode::Canonical)?;
     Ok(check_halts(alloc, table).map_err(|_| "it halts")?)
 }
 
@@ -66,11 +66,11 @@ fn table_of(alloc: Global, grammar: &Grammar) -> Result<Halting, Fail> {
 fn can_run(table: &Halting, sentence: &[Token]) -> bool
     ensures start { IsTrue result → 0 < length table.now.grammar.starts }
     ensures tokens { IsTrue result → All (λ z. z < table.now.grammar.tokens) sentence.now }
-    ensures few { IsTrue result → length sentence.now < 10000 }
+    ensures few { IsTrue result → length sentence.now < 2000000 }
 {
     let table = table.table();
     let tokens = table.tokens();
-    0 < table.starts() && sentence.len() < 10_000 && sentence.iter().all(|token| *token < tokens)
+    0 < table.starts() && sentence.len() < 2_000_000 && sentence.iter().all(|token| *token < tokens)
 }
 
 // main: e EOF, e: INT | e EQ e, with %nonassoc EQ. Behind `e EQ e` neither EQ is taken.
@@ -131,6 +131,40 @@ fn chain_of(alloc: Global, count: usize) -> Result<Vec<Token>, Fail> {
     Ok(sentence)
 }
 
+// main: e EOF, e: e PLUS INT | INT.
+fn sums(alloc: Global) -> Result<Grammar, Fail> {
+    let (int, plus, eof, e) = (Symbol::T(0), Symbol::T(1), Symbol::T(2), Symbol::N(1));
+    grammar_of(
+        alloc,
+        &[(b"INT", None), (b"PLUS", None), (b"EOF", None)],
+        &[b"main", b"e"],
+        &[
+            (0, &[e, eof], None),
+            (1, &[e, plus, int], None),
+            (1, &[int], None),
+        ],
+    )
+}
+
+// INT, so many times PLUS and INT, and then the last token.
+fn sum_of(alloc: Global, count: usize, last: Token) -> Result<Vec<Token>, Fail> {
+    let mut sentence = Vec::new(alloc);
+    sentence.push(0u16)?;
+    for _ in 0..count {
+        sentence.push(1)?;
+        sentence.push(0)?;
+    }
+    sentence.push(last)?;
+    Ok(sentence)
+}
+
+fn judged(alloc: Global, table: &Halting, sentence: &[Token]) -> Result<Verdict, Fail> {
+    if !can_run(table, sentence) {
+        return Err(Fail::from("no tokens of the table"));
+    }
+    Ok(verdict(alloc, table, 0, sentence)?)
+}
+
 fn traced(alloc: Global, table: &Halting, sentence: &[Token]) -> Result<(Verdict, Vec<u32>), Fail> {
     if !can_run(table, sentence) {
         return Err(Fail::from("no tokens of the table"));
@@ -160,9 +194,10 @@ fn the_reductions_since_the_last_shift(rt: HostRuntime) -> Result<(), Fail> {
     let (verdict, reduced) = traced(alloc, &table, &[0, 1, 0, 2])?;
     assert_eq!(rt; verdict, Verdict::Accept { read: 4 });
     assert_eq!(rt; reduced.as_slice(), [1].as_slice());
+    // INT EQ INT INT: an INT is reduced on EQ and on EOF alone, so the last one is refused before any reduction.
     let (verdict, reduced) = traced(alloc, &table, &[0, 1, 0, 0])?;
-    assert_eq!(rt; verdict, Verdict::Reject { at: 3, state: 6 });
-    assert_eq!(rt; reduced.as_slice(), [2].as_slice());
+    assert_eq!(rt; verdict, Verdict::Reject { at: 3, state: 1 });
+    assert_eq!(rt; reduced.as_slice(), [].as_slice());
     Ok(())
 }
 
@@ -254,5 +289,43 @@ fn too_many_pairs(rt: HostRuntime) -> Result<(), Fail> {
         )
     );
     assert!(rt; matches!(with_trees(alloc, &table, &sentence)?, TreeOutcome::TooDeep));
+    Ok(())
+}
+
+// A left-recursive sentence of a million tokens, whose stack never holds more than four states. They are 0; 1 behind
+// INT; 2 behind main; 3 behind e; 4 behind e PLUS; 5 behind e EOF; 6 behind e PLUS INT.
+#[test]
+fn a_long_sum(rt: HostRuntime) -> Result<(), Fail> {
+    let alloc = rt.alloc();
+    let table = table_of(alloc, &sums(alloc)?)?;
+    let sentence = sum_of(alloc, 499_999, 2)?;
+    assert_eq!(rt; sentence.len(), 1_000_000);
+    assert_eq!(rt;
+        judged(alloc, &table, &sentence)?,
+        Verdict::Accept { read: 1_000_000 }
+    );
+    assert_eq!(rt;
+        judged(alloc, &table, &sum_of(alloc, 499_999, 1)?)?,
+        Verdict::Overshoot { state: 4 }
+    );
+    assert_eq!(rt;
+        judged(alloc, &table, &sum_of(alloc, 499_999, 0)?)?,
+        Verdict::Reject {
+            at: 999_999,
+            state: 6
+        }
+    );
+    Ok(())
+}
+
+// A right-recursive one, all of whose states are on the stack before the first reduction.
+#[test]
+fn a_long_chain(rt: HostRuntime) -> Result<(), Fail> {
+    let alloc = rt.alloc();
+    let table = table_of(alloc, &chain(alloc)?)?;
+    assert_eq!(rt;
+        judged(alloc, &table, &chain_of(alloc, 999_999)?)?,
+        Verdict::Accept { read: 1_000_000 }
+    );
     Ok(())
 }
