@@ -1,12 +1,8 @@
 -- What the adapters hold.
 use Rattle.std.specs.Prelude.{◌≡◌, ◌<◌, ℕ, List, [], Option}
 use Rattle.std.specs.Io.Buffered.{reader_remaining, reader_inner, reader_buffer, reader_capacity}
-use Rattle.menhir.specs.declared.adapters.file_shelf.FileShelf.{FileShelf}
 use Rattle.menhir.specs.declared.adapters.std_source.StdSource.{StdSource}
 use Rattle.menhir.specs.declared.adapters.std_sink.StdSink.{StdSink}
-
-abbrev pub shelf_faults : {R : Type 0} → FileShelf R → ℕ
-shelf_faults s = s.faults
 
 abbrev pub source_faults : {R : Type 0} → StdSource R → ℕ
 source_faults s = s.faults

@@ -21,11 +21,9 @@ pub struct FileShelf<'a, R: Files> {
 }
 
 impl<'a, R: Files> FileShelf<'a, R> {
-    ghost use Rattle.menhir.specs.Adapters.{shelf_faults};
-
     /// The files that the runtime reaches.
     pub fn new(rt: &'a R) -> Self
-        ensures { shelf_faults result ≡ 0 }
+        ensures { result.faults ≡ 0 }
     {
         FileShelf { rt, faults: 0 }
     }
