@@ -1,8 +1,8 @@
 //! The stages one after another: joining, expansion, inlining.
-ghost use Rattle.std.specs.Prelude.{IfOk, IfErr};
+ghost use Rattle.std.specs.Prelude.{◌≤◌, length, IfOk, IfErr};
 ghost use Rattle.mh_grammar.specs.Numbering.{AreDistinct};
 ghost use Rattle.mh_grammar.specs.Plain.{plain_of, IsInRange};
-ghost use Rattle.mh_join.specs.Ready.{HaveAlternatives, IsReady};
+ghost use Rattle.mh_rules.specs.Ready.{HaveAlternatives, IsReady};
 ghost use Rattle.mh_front.specs.Stages.{Causes, IsGrammarOfJoined, IsGrammarOfModules, IsJoinedFault, IsGrammarFault};
 ghost use Rattle.mh_front.specs.Sentences.{HasSentencesOfModules};
 
@@ -10,8 +10,8 @@ use crate::fault::GrammarFault;
 use mh_expand::expand;
 use mh_grammar::Grammar;
 use mh_inline::inline_rules;
-use mh_join::{Joined, join};
-use mh_reader::Module;
+use mh_join::join;
+use mh_rules::{Joined, MAX_TOKENS, Module};
 use std::alloc::Global;
 
 /// The grammar of joined rules.
@@ -37,6 +37,7 @@ pub fn grammar_of(alloc: Global, modules: &[Module], prelude: bool) -> Result<Gr
     requires { HaveAlternatives modules.now }
     ensures grammar { IfOk result (IsGrammarOfModules prelude modules.now) }
     ensures fault { IfErr result (Causes (IsGrammarFault prelude modules.now)) }
+    ensures tokens { IfOk result (λ g. length g.tokens ≤ MAX_TOKENS) }
     ensures range { IfOk result (λ g. IsInRange (plain_of g)) }
     ensures distinct { IfOk result (λ g. AreDistinct g.starts) }
     ensures sentences { IfOk result (HasSentencesOfModules prelude modules.now) }

@@ -11,21 +11,22 @@ use Rattle.std.proofs.lemmas.List.Folds.{list_any-append}
 use Rattle.std.proofs.lemmas.List.Quantifiers.{position-Some}
 use Rattle.std.proofs.lemmas.Option.{slice_get_within, slice_get-get_or, slice_get-map}
 use Rattle.indexmap.specs.IndexSet.{insert_all, insert_key}
-use Rattle.mh_reader.specs.declared.modules.Ref.{Ref}
-use Rattle.mh_reader.specs.declared.modules.Ref.TheVariants.{Plain, Alias}
-use Rattle.mh_reader.specs.declared.modules.Actual.{Actual}
-use Rattle.mh_reader.specs.declared.modules.Actual.TheOpen.{Actual-F}
-use Rattle.mh_reader.specs.declared.modules.Actual.TheFolds.{fold-roll-Actual, ind-Actual}
-use Rattle.mh_reader.specs.declared.modules.Alternative.{Alternative}
-use Rattle.mh_reader.specs.declared.modules.Rule.{Rule}
-use Rattle.mh_reader.specs.declared.modules.Module.{Module}
-use Rattle.mh_join.specs.declared.joined.Head.{Head}
-use Rattle.mh_join.specs.declared.joined.Head.TheVariants as heads
-use Rattle.mh_join.specs.declared.joined.Applied.{Applied}
-use Rattle.mh_join.specs.declared.joined.Applied.TheFolds.{every-Applied, every_made-Applied}
-use Rattle.mh_join.specs.declared.joined.JoinedAlternative.{JoinedAlternative}
-use Rattle.mh_join.specs.declared.joined.JoinedRule.{JoinedRule}
-use Rattle.mh_join.specs.declared.joined.Joined.{Joined}
+use Rattle.mh_rules.specs.declared.joined.TheConstants.{MAX_TOKENS}
+use Rattle.mh_rules.specs.declared.modules.Ref.{Ref}
+use Rattle.mh_rules.specs.declared.modules.Ref.TheVariants.{Plain, Alias}
+use Rattle.mh_rules.specs.declared.modules.Actual.{Actual}
+use Rattle.mh_rules.specs.declared.modules.Actual.TheOpen.{Actual-F}
+use Rattle.mh_rules.specs.declared.modules.Actual.TheFolds.{fold-roll-Actual, ind-Actual}
+use Rattle.mh_rules.specs.declared.modules.Alternative.{Alternative}
+use Rattle.mh_rules.specs.declared.modules.Rule.{Rule}
+use Rattle.mh_rules.specs.declared.modules.Module.{Module}
+use Rattle.mh_rules.specs.declared.joined.Head.{Head}
+use Rattle.mh_rules.specs.declared.joined.Head.TheVariants as heads
+use Rattle.mh_rules.specs.declared.joined.Applied.{Applied}
+use Rattle.mh_rules.specs.declared.joined.Applied.TheFolds.{every-Applied, every_made-Applied}
+use Rattle.mh_rules.specs.declared.joined.JoinedAlternative.{JoinedAlternative}
+use Rattle.mh_rules.specs.declared.joined.JoinedRule.{JoinedRule}
+use Rattle.mh_rules.specs.declared.joined.Joined.{Joined}
 use Rattle.mh_join.specs.declared.numbering.Outline.{Outline}
 use Rattle.mh_join.specs.declared.fault.JoinFault.{JoinFault}
 use Rattle.mh_join.specs.declared.fault.JoinFault.TheVariants as faults
@@ -33,7 +34,7 @@ use Rattle.mh_join.specs.Prelude.{prelude_rules}
 use Rattle.mh_join.specs.Names.{Text, same, files, firsts, token_names, start_names, is_elsewhere, is_public, owner_in, Definition, definitions, definitions_from, definitions_in, library_definitions, outline_of, same_owner, is_rule, same_rule, rules, rule_number, formal_number, visible_head, user_head, rule_head, token_head}
 use Rattle.mh_join.specs.Faults.{Meanings, meanings, meant_by, unless, agrees, same_flag, same_shape, repeats, own_name, own_names, own_in_file, formals_in_file, shapes_in_file, other_shape, name_duplicates, rule_duplicates, duplicates, levels_in_file, has_some, errors_in_file, unlevelled_in_file, many_tokens, other_faults, undefined_in_file, join_faults, first}
 use Rattle.mh_join.specs.Joining.{all_of, applied_to, apply_step, resolved, all_resolved, prec_by, alternative_with, alternative_by, alternatives_by, is_number, alternatives_for, rule_without, without_alternatives, token_info, on_error_in, IsJoined, Joins}
-use Rattle.mh_join.specs.Ready.{HaveAlternatives, IsHeadBelow, IsAppliedBelow, IsRuleReady, IsReady}
+use Rattle.mh_rules.specs.Ready.{HaveAlternatives, IsHeadBelow, IsAppliedBelow, IsRuleReady, IsReady}
 use Rattle.mh_join.proofs.Lists.{same_is, same_self, position-push}
 use Rattle.mh_join.proofs.Numbers.{is_some-position, none_from}
 use Rattle.mh_join.proofs.Meaning.{find_position}
@@ -414,7 +415,7 @@ module _ (p : Bool) (ms : List Module) (none : join_faults p ms ≡ []) where
   shapes_once : flat_map (shapes_in_file w) ms ≡ []
   shapes_once = back_nil (flat_map formals_in_file ms) (flat_map (shapes_in_file w) ms) (back_nil (flat_map (own_in_file w) ms) (flat_map formals_in_file ms ++ flat_map (shapes_in_file w) ms) rules_once)
 
-  tokens_few : length (token_names ms) ≤ 256
+  tokens_few : length (token_names ms) ≤ MAX_TOKENS
   tokens_few =
       few_tokens (length (token_names ms))
       (back_nil (flat_map (unlevelled_in_file w) ms) (many_tokens (length (token_names ms)))
@@ -639,7 +640,7 @@ module _ (p : Bool) (ms : List Module) (j : Joined) (none : join_faults p ms ≡
 -- files whose rules have alternatives are in range once they are joined
 pub ready : (p : Bool) (ms : List Module) (j : Joined) → HaveAlternatives ms → Joins p ms (Ok j) → IsReady j
 ready p ms j filled (none, joined) = record {
-  few_tokens = subst (λ n. n ≤ 256) (sym (tokens_length p ms j none joined)) (tokens_few p ms none);
+  few_tokens = subst (λ n. n ≤ MAX_TOKENS) (sym (tokens_length p ms j none joined)) (tokens_few p ms none);
   starts_below = All-from_recursion (λ s. s < length j.rules) j.starts (all_at (λ s. s < length j.rules) j.starts (start_below p ms j none joined));
   starts_distinct = starts_distinct p ms j none joined;
   on_error_below = all_in (λ actuals. All (IsAppliedBelow 0 (length j.tokens) (length j.rules)) actuals) j.on_error (actuals_below p ms j none joined);

@@ -3,17 +3,16 @@ ghost use Rattle.std.specs.Prelude.{◌≡◌, IfOk};
 ghost use Rattle.mh_join.specs.Joining.{IsJoinedBy, Joins};
 ghost use Rattle.mh_join.specs.Maps.{meanings_in, elsewhere_in, HasMeanings};
 ghost use Rattle.mh_join.specs.Prelude as spec;
-ghost use Rattle.mh_join.specs.Ready.{HaveAlternatives, IsReady};
+ghost use Rattle.mh_rules.specs.Ready.{HaveAlternatives, IsReady};
 ghost use Rattle.mh_join.specs.Standing.{CanJoin, definitions_by};
 
 use crate::building::{joined_on_error, joined_rules, joined_starts, joined_tokens};
 use crate::errors::check;
 use crate::fault::JoinFault;
-use crate::joined::Joined;
 use crate::names::Names;
 use crate::prelude::prelude_rules;
 use mh_grammar::Memory;
-use mh_reader::{Module, Rule};
+use mh_rules::{Joined, Module, Rule};
 use std::alloc::Global;
 
 /// The files joined, where nothing is in the way.

@@ -4,7 +4,7 @@ ghost use Rattle.mh_join.specs.Prelude as spec;
 ghost use Rattle.mh_join.specs.Prelude.{plain, rule_of, in_order, list_rule, nonempty_list_rule, separated_items, separated_list_rule, separated_nonempty_list_rule, option_rules, pair_rules, list_rules, other_rules};
 
 use mh_grammar::{Memory, Name, Sequence, from_bytes};
-use mh_reader::{Actual, Alternative, Ref, Rule};
+use mh_rules::{Actual, Alternative, Ref, Rule};
 use std::alloc::Global;
 
 /// A name applied to actual arguments.
@@ -178,7 +178,7 @@ fn add_others(alloc: Global, rules: &mut Sequence<Rule>) -> Result<(), Memory>
 
 #[tactic(auto, unfolding(crate::specs::Prelude::prelude_rules))]
 /// The prelude's rules, or none where it is left out. (The Menhir manual's standard library.)
-pub(crate) fn prelude_rules(alloc: Global, with: bool) -> Result<Sequence<Rule>, Memory>
+pub fn prelude_rules(alloc: Global, with: bool) -> Result<Sequence<Rule>, Memory>
     ensures { IfOk result (λ rules. rules ≡ spec.prelude_rules with) }
 {
     let mut rules = Sequence::new(alloc);

@@ -31,11 +31,11 @@ use Rattle.mh_tree.specs.Trees.{SyntaxTree, IsTreeFor, text_of}
 use Rattle.mh_run.proofs.Accepted.{accepted_sentence}
 use Rattle.mh_run.proofs.Telling.{overshoots, tells_prefix, tells_refused}
 use Rattle.mh_outside.specs.Shelf.{Files}
-use Rattle.mh_reader.specs.declared.modules.Module.{Module}
+use Rattle.mh_rules.specs.declared.modules.Module.{Module}
 use Rattle.mh_reader.specs.Spelling.{Spells}
-use Rattle.mh_join.specs.Ready.{HaveAlternatives}
+use Rattle.mh_rules.specs.Ready.{HaveAlternatives}
 use Rattle.mh_front.proofs.OneGrammar.{in_range}
-use Rattle.mh_front.proofs.Reading.{push_spelled}
+use Rattle.mh_reader.proofs.Filled.{push_spelled}
 use Rattle.mh_opts.specs.declared.order.Job.{Job}
 use Rattle.mh_opts.specs.declared.order.Job.TheVariants.{Interpret, ShowAutomaton}
 use Rattle.mh_opts.specs.declared.order.Order.{Order}

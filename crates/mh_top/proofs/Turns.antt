@@ -2,11 +2,11 @@
 use Rattle.std.proofs.Common.{◌≡◌, ◌<◌, ◌+◌, ℕ, List, length, drop, get_or, [], ◌∷◌, ◌++◌, Option, None, Some, refl, sym, ◌∙◌, ap, ap₂, subst, Ok, Err}
 use Rattle.std.proofs.lemmas.List.{drop_more}
 use Rattle.std.specs.List.{All}
-use Rattle.mh_front.proofs.Reading.{push_spelled}
+use Rattle.mh_reader.proofs.Filled.{push_spelled}
 use Rattle.std.proofs.lemmas.List.Elements.{All-nil, All-cons}
-use Rattle.mh_reader.specs.declared.modules.Module.{Module}
-use Rattle.mh_reader.specs.declared.modules.Rule.{Rule}
-use Rattle.mh_join.specs.Ready.{HaveAlternatives}
+use Rattle.mh_rules.specs.declared.modules.Module.{Module}
+use Rattle.mh_rules.specs.declared.modules.Rule.{Rule}
+use Rattle.mh_rules.specs.Ready.{HaveAlternatives}
 use Rattle.mh_reader.specs.Spelling.{Spells}
 use Rattle.mh_reader.proofs.Lines.{line_once, one_module}
 use Rattle.mh_opts.specs.declared.order.Order.{Order}

@@ -1,6 +1,6 @@
 //! The modules of the grammar files.
 ghost use Rattle.std.specs.Prelude.{◌≡◌, ◌<◌, ◌^◌, ◌++◌, length, IfOk, codes, decimal, string_bytes};
-ghost use Rattle.mh_join.specs.Ready.{HaveAlternatives};
+ghost use Rattle.mh_rules.specs.Ready.{HaveAlternatives};
 ghost use Rattle.mh_top.specs.FileStage.{IsModuleStage, syntax_error};
 ghost use Rattle.mh_top.specs.Load.{FileHas, FilesHave, LoadCounts};
 ghost use Rattle.mh_top.specs.Stages.{StageHas, Halts};

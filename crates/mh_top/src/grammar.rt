@@ -1,7 +1,7 @@
 //! The grammar of modules.
 ghost use Rattle.std.specs.Prelude.{IfOk};
 ghost use Rattle.mh_grammar.specs.Plain.{plain_of, IsInRange};
-ghost use Rattle.mh_join.specs.Ready.{HaveAlternatives};
+ghost use Rattle.mh_rules.specs.Ready.{HaveAlternatives};
 ghost use Rattle.mh_top.specs.GrammarStage.{IsGrammarStage, RefusesBy, refusal};
 ghost use Rattle.mh_top.specs.Stages.{StageHas, Halts};
 ghost use Rattle.mh_top.specs.declared.stop.Cause.TheVariants.{Refused};

@@ -1,5 +1,5 @@
 use Rattle.std.proofs.Common.{◌≡◌, drop}
-use Rattle.mh_join.specs.Ready.{HaveAlternatives}
+use Rattle.mh_rules.specs.Ready.{HaveAlternatives}
 use Rattle.mh_top.proofs.Turns.{IsSoFar}
 use Rattle.mh_top.proofs.files.read_files.Given as goal
 

@@ -1,15 +1,18 @@
--- Each rule that is read has an alternative.
-use Rattle.std.proofs.Common.{◌≡◌, ◌<◌, ℕ, List, [], ◌∷◌, ◌++◌, map, length, refl, sym, subst, arith}
+-- Each rule of a module that is read has an alternative.
+use Rattle.std.proofs.Common.{◌≡◌, ◌<◌, ℕ, List, [], ◌∷◌, ◌++◌, map, length, refl, sym, subst, arith, Ok, Err}
+use Rattle.std.specs.Prelude.{Result, IfOk}
 use Rattle.std.specs.List.{All}
 use Rattle.std.proofs.lemmas.List.{length-map, length-append}
 use Rattle.std.proofs.lemmas.List.Elements.{All-push, All-nil, All-cons, All-weaker}
-use Rattle.mh_reader.specs.declared.modules.Alternative.{Alternative}
-use Rattle.mh_reader.specs.declared.modules.Rule.{Rule}
-use Rattle.mh_reader.specs.declared.modules.Module.{Module}
+use Rattle.mh_lex.specs.declared.kinds.SyntaxFault.{SyntaxFault}
+use Rattle.mh_rules.specs.declared.modules.Alternative.{Alternative}
+use Rattle.mh_rules.specs.declared.modules.Rule.{Rule}
+use Rattle.mh_rules.specs.declared.modules.Module.{Module}
 use Rattle.mh_reader.specs.Signs.{Read}
 use Rattle.mh_reader.specs.Spelling as spelling
-use Rattle.mh_reader.specs.Spelling.{Productions, Groups, IsRule, Rules, Declaration, File, Spells, no_module, with_prec}
-use Rattle.mh_join.specs.Ready.{HaveAlternatives}
+use Rattle.mh_rules.specs.Modules.{no_module, alternative}
+use Rattle.mh_reader.specs.Spelling.{Productions, Groups, IsRule, Rules, Declaration, File, Spells, with_prec}
+use Rattle.mh_rules.specs.Ready.{HasAlternatives, HaveAlternatives}
 
 abbrev pub IsFilled : Rule → Type 0
 IsFilled r = 0 < length r.alternatives
@@ -19,8 +22,8 @@ one_more [] a = omega arith
 one_more (b ∷ done) a = omega arith
 
 productions_some : (done : List Alternative) (xs rest : List Read) (all : List Alternative) → Productions done xs rest all → 0 < length all
-productions_some done xs rest all (spelling.Productions.last {ps = ps} {p = p} a b c) = one_more done (spelling.alternative ps p)
-productions_some done xs rest all (spelling.Productions.more {next = next} {ps = ps} {p = p} a b c others) = productions_some (done ++ spelling.alternative ps p ∷ []) next rest all others
+productions_some done xs rest all (spelling.Productions.last {ps = ps} {p = p} a b c) = one_more done (alternative ps p)
+productions_some done xs rest all (spelling.Productions.more {next = next} {ps = ps} {p = p} a b c others) = productions_some (done ++ alternative ps p ∷ []) next rest all others
 
 groups_some : (done : List Alternative) (xs rest : List Read) (all : List Alternative) → Groups done xs rest all → 0 < length all
 groups_some done xs rest all (spelling.Groups.last {ks = ks} {mid = mid} {g = g} a b) =
@@ -50,6 +53,11 @@ declaration_rules m xs rest n (spelling.Declaration.attribute a b) = refl
 file_some : (m : Module) (xs : List Read) (out : Module) → File m xs out → All IsFilled m.rules → All IsFilled out.rules
 file_some m xs out (spelling.File.declared {n = n} {mid = mid} d f) h = file_some n mid out f (subst (All IsFilled) (sym (declaration_rules m xs mid n d)) h)
 file_some m xs out (spelling.File.ruled {xs = ys} a r) h = rules_some m ys out r h
+
+-- each answer that spells a module
+pub read_some : (xs : List Read) (answer : Result Module SyntaxFault) → IfOk answer (λ m. File no_module xs m) → IfOk answer HasAlternatives
+read_some xs (Ok m) f = file_some no_module xs m f (All-nil IsFilled)
+read_some xs (Err e) f = tt
 
 pub spelled_some : (bytes : List ℕ) (m : Module) → Spells bytes m → All IsFilled m.rules
 spelled_some bytes m s = file_some no_module _ m s.2 (All-nil IsFilled)
