@@ -12,7 +12,7 @@ use Rattle.mh_join.specs.Names.{Text, files}
 use Rattle.mh_join.specs.Faults.{meanings, undefined_in_file, errors_in_file, unlevelled_in_file, many_tokens, other_faults, duplicates, join_faults, first, has_some, unless}
 use Rattle.mh_join.specs.Joining.{Joins}
 use Rattle.mh_rules.specs.declared.joined.TheConstants.{MAX_TOKENS}
-use Rattle.mh_rules.specs.Ready.{HaveAlternatives, IsExpandedReady}
+use Rattle.mh_rules.specs.Ready.{AreModulesReady, IsExpandedReady}
 use Rattle.mh_join.proofs.Readying as joins
 use Rattle.mh_join.proofs.Resolving.{front_nil, back_nil}
 use Rattle.mh_expand.specs.declared.fault.ExpandFault.{ExpandFault}
@@ -172,7 +172,7 @@ module _ (p : Bool) (ms : List Module) where
       let of_grammar = ap length o.grammar.grammar.inlined.starts ∙ length-map e.starts (number_of e.instances) in
       omega arith
 
-  module _ (g : Grammar) (some : HaveAlternatives ms) (o : IsGrammarOfModules p ms g) where
+  module _ (g : Grammar) (some : AreModulesReady ms) (o : IsGrammarOfModules p ms g) where
     expanded_ready : IsExpandedReady o.grammar.expanded
     expanded_ready =
         let j = o.joined in

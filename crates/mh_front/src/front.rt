@@ -2,7 +2,7 @@
 ghost use Rattle.std.specs.Prelude.{◌≤◌, length, IfOk, IfErr};
 ghost use Rattle.mh_grammar.specs.Numbering.{AreDistinct};
 ghost use Rattle.mh_grammar.specs.Plain.{plain_of, IsInRange};
-ghost use Rattle.mh_rules.specs.Ready.{HaveAlternatives, IsReady};
+ghost use Rattle.mh_rules.specs.Ready.{AreModulesReady, IsReady};
 ghost use Rattle.mh_front.specs.Stages.{Causes, IsGrammarOfJoined, IsGrammarOfModules, IsJoinedFault, IsGrammarFault};
 ghost use Rattle.mh_front.specs.Sentences.{HasSentencesOfModules};
 
@@ -34,7 +34,7 @@ fn grammar_of_joined(alloc: Global, joined: &Joined) -> Result<Grammar, GrammarF
 /// the first stage that has one, and `Memory` where memory runs out. Each start symbol has the sentences of the joined
 /// rules, whose formals are replaced at need.
 pub fn grammar_of(alloc: Global, modules: &[Module], prelude: bool) -> Result<Grammar, GrammarFault>
-    requires { HaveAlternatives modules.now }
+    requires { AreModulesReady modules.now }
     ensures grammar { IfOk result (IsGrammarOfModules prelude modules.now) }
     ensures fault { IfErr result (Causes (IsGrammarFault prelude modules.now)) }
     ensures tokens { IfOk result (λ g. length g.tokens ≤ MAX_TOKENS) }

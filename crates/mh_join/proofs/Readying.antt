@@ -34,7 +34,7 @@ use Rattle.mh_join.specs.Prelude.{prelude_rules}
 use Rattle.mh_join.specs.Names.{Text, same, files, firsts, token_names, start_names, is_elsewhere, is_public, owner_in, Definition, definitions, definitions_from, definitions_in, library_definitions, outline_of, same_owner, is_rule, same_rule, rules, rule_number, formal_number, visible_head, user_head, rule_head, token_head}
 use Rattle.mh_join.specs.Faults.{Meanings, meanings, meant_by, unless, agrees, same_flag, same_shape, repeats, own_name, own_names, own_in_file, formals_in_file, shapes_in_file, other_shape, name_duplicates, rule_duplicates, duplicates, levels_in_file, has_some, errors_in_file, unlevelled_in_file, many_tokens, other_faults, undefined_in_file, join_faults, first}
 use Rattle.mh_join.specs.Joining.{all_of, applied_to, apply_step, resolved, all_resolved, prec_by, alternative_with, alternative_by, alternatives_by, is_number, alternatives_for, rule_without, without_alternatives, token_info, on_error_in, IsJoined, Joins}
-use Rattle.mh_rules.specs.Ready.{HaveAlternatives, IsHeadBelow, IsAppliedBelow, IsRuleReady, IsReady}
+use Rattle.mh_rules.specs.Ready.{IsModuleReady, AreModulesReady, IsHeadBelow, IsAppliedBelow, IsRuleReady, IsReady}
 use Rattle.mh_join.proofs.Lists.{same_is, same_self, position-push}
 use Rattle.mh_join.proofs.Numbers.{is_some-position, none_from}
 use Rattle.mh_join.proofs.Meaning.{find_position}
@@ -499,7 +499,7 @@ module _ (p : Bool) (ms : List Module) (none : join_faults p ms ≡ []) where
 
 -- FILLED
 
-module _ (p : Bool) (ms : List Module) (filled : HaveAlternatives ms) where
+module _ (p : Bool) (ms : List Module) (filled : AreModulesReady ms) where
   definition_filled : (d : Definition) → In (definitions p ms) d → 0 < length d.rule.alternatives
   definition_filled d h = go (placed p ms d h)
     where
@@ -507,7 +507,7 @@ module _ (p : Bool) (ms : List Module) (filled : HaveAlternatives ms) where
       go (in_file f at_f a) =
           at_in (λ (r : Rule). 0 < length r.alternatives) f.1.rules d.rule
           (recursion_from_All (λ (r : Rule). 0 < length r.alternatives) f.1.rules
-          (at_in (λ (m : Module). All (λ (r : Rule). 0 < length r.alternatives) m.rules) ms f.1 (recursion_from_All (λ (m : Module). All (λ (r : Rule). 0 < length r.alternatives) m.rules) ms filled) (number_from 1 ms f at_f).1))
+          (at_in IsModuleReady ms f.1 (recursion_from_All IsModuleReady ms filled) (number_from 1 ms f at_f).1).alternatives)
           a.rule_in
       go (in_prelude a) = ltb-true 0 (length d.rule.alternatives) (tested_in (λ (r : Rule). nat_lt 0 (length r.alternatives)) (prelude_rules p) d.rule (prelude_filled p) a.rule_in)
 
@@ -570,7 +570,7 @@ module _ (p : Bool) (ms : List Module) (j : Joined) (none : join_faults p ms ≡
       subst (λ n. All (IsAppliedBelow n (length j.tokens) (length j.rules)) a.producers) (sym (formals_are p ms none d i outline.0 from.1 there.0 outline.1) ∙ outline.2) (producers_below d one.0 a one.2)
 
   -- a rule has the alternatives of its first definition
-  rule_filled : HaveAlternatives ms → (i : ℕ) (r : JoinedRule) → slice_get j.rules i ≡ Some r → 0 < length r.alternatives
+  rule_filled : AreModulesReady ms → (i : ℕ) (r : JoinedRule) → slice_get j.rules i ≡ Some r → 0 < length r.alternatives
   rule_filled filled i r at =
       let some = definition_filled p ms filled from.0 from.1 in
       let mine : length (alternatives_for (meanings p ms) i from.0) ≡ length from.0.rule.alternatives =
@@ -594,7 +594,7 @@ module _ (p : Bool) (ms : List Module) (j : Joined) (none : join_faults p ms ≡
       number : rule_number p ms from.0.owner from.0.rule.name ≡ Some i
       number = ap (λ (o : Outline). position (is_rule o.owner o.name) (rules p ms)) from.2 ∙ firsts_first same_rule rule_self (map outline_of (definitions p ms)) i outline.0 outline.1
 
-  rule_ready : HaveAlternatives ms → (i : ℕ) (r : JoinedRule) → slice_get j.rules i ≡ Some r → IsRuleReady (length j.tokens) (length j.rules) r
+  rule_ready : AreModulesReady ms → (i : ℕ) (r : JoinedRule) → slice_get j.rules i ≡ Some r → IsRuleReady (length j.tokens) (length j.rules) r
   rule_ready filled i r at = record {
     has_some = rule_filled filled i r at;
     heads_below = all_in (λ (a : JoinedAlternative). All (IsAppliedBelow r.formals (length j.tokens) (length j.rules)) a.producers) r.alternatives (alternative_below i r at);
@@ -638,7 +638,7 @@ module _ (p : Bool) (ms : List Module) (j : Joined) (none : join_faults p ms ≡
       below f.0.0 [] one.0 ks one.2
 
 -- files whose rules have alternatives are in range once they are joined
-pub ready : (p : Bool) (ms : List Module) (j : Joined) → HaveAlternatives ms → Joins p ms (Ok j) → IsReady j
+pub ready : (p : Bool) (ms : List Module) (j : Joined) → AreModulesReady ms → Joins p ms (Ok j) → IsReady j
 ready p ms j filled (none, joined) = record {
   few_tokens = subst (λ n. n ≤ MAX_TOKENS) (sym (tokens_length p ms j none joined)) (tokens_few p ms none);
   starts_below = All-from_recursion (λ s. s < length j.rules) j.starts (all_at (λ s. s < length j.rules) j.starts (start_below p ms j none joined));
@@ -647,7 +647,7 @@ ready p ms j filled (none, joined) = record {
   rules_ready = All-from_recursion (IsRuleReady (length j.tokens) (length j.rules)) j.rules (all_at (IsRuleReady (length j.tokens) (length j.rules)) j.rules (rule_ready p ms j none joined filled));
 }
 
-pub readies : (p : Bool) (ms : List Module) (r : Result Joined JoinFault) → Joins p ms r → HaveAlternatives ms → IfOk r IsReady
+pub readies : (p : Bool) (ms : List Module) (r : Result Joined JoinFault) → Joins p ms r → AreModulesReady ms → IfOk r IsReady
 readies p ms (Ok j) joins filled = ready p ms j filled joins
 readies p ms (Err e) joins filled = tt
 

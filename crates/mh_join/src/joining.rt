@@ -3,7 +3,7 @@ ghost use Rattle.std.specs.Prelude.{◌≡◌, IfOk};
 ghost use Rattle.mh_join.specs.Joining.{IsJoinedBy, Joins};
 ghost use Rattle.mh_join.specs.Maps.{meanings_in, elsewhere_in, HasMeanings};
 ghost use Rattle.mh_join.specs.Prelude as spec;
-ghost use Rattle.mh_rules.specs.Ready.{HaveAlternatives, IsReady};
+ghost use Rattle.mh_rules.specs.Ready.{AreModulesReady, IsReady};
 ghost use Rattle.mh_join.specs.Standing.{CanJoin, definitions_by};
 
 use crate::building::{joined_on_error, joined_rules, joined_starts, joined_tokens};
@@ -73,7 +73,7 @@ fn join_named(
 /// only where memory runs out. (The Menhir manual on grammars split into files; this project's profile.)
 pub fn join(alloc: Global, modules: &[Module], prelude: bool) -> Result<Joined, JoinFault>
     ensures joins { Joins prelude modules.now result }
-    ensures ready { HaveAlternatives modules.now → IfOk result IsReady }
+    ensures ready { AreModulesReady modules.now → IfOk result IsReady }
 {
     let Ok(library) = prelude_rules(alloc, prelude) else {
         return Err(JoinFault::Memory);

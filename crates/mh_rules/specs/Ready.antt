@@ -1,7 +1,8 @@
 -- What each stage gives the next: of the modules that are read, of the joined rules, and of the instances.
-use Rattle.std.specs.Prelude.{◌<◌, ◌≤◌, ◌≢◌, ℕ, List, length, AllPairs}
+use Rattle.std.specs.Prelude.{◌<◌, ◌≤◌, ◌≢◌, ℕ, List, length, AllPairs, IfSome}
 use Rattle.std.specs.List.{All}
 use Rattle.mh_rules.specs.declared.modules.Rule.{Rule}
+use Rattle.mh_rules.specs.declared.modules.TokenDecl.{TokenDecl}
 use Rattle.mh_rules.specs.declared.modules.Module.{Module}
 use Rattle.mh_rules.specs.declared.joined.TheConstants.{MAX_TOKENS}
 use Rattle.mh_rules.specs.declared.joined.Head.{Head}
@@ -18,13 +19,17 @@ use Rattle.mh_rules.specs.declared.instances.Expanded.{Expanded}
 
 -- MODULES
 
--- each rule has an alternative
-abbrev pub HasAlternatives : Module → Type 0
-HasAlternatives m = All (λ (r : Rule). 0 < length r.alternatives) m.rules
+-- the cost of a token, where it is given, is from 1 to 1,000
+abbrev pub IsTokenReady : TokenDecl → Type 0
+IsTokenReady t = IfSome t.cost (λ n. (1 ≤ n) × (n ≤ 1000))
 
--- each rule of each module has one
-abbrev pub HaveAlternatives : List Module → Type 0
-HaveAlternatives modules = All HasAlternatives modules
+-- each rule has an alternative, and costs are in range
+pub record IsModuleReady (m : Module) : Type 0 where
+  pub alternatives : All (λ (r : Rule). 0 < length r.alternatives) m.rules
+  pub costs : All IsTokenReady m.tokens
+
+abbrev pub AreModulesReady : List Module → Type 0
+AreModulesReady modules = All IsModuleReady modules
 
 -- JOINED RULES
 
