@@ -1,4 +1,4 @@
--- Each rule of a module that is read has an alternative.
+-- What is read is ready to be joined: each rule has an alternative, and costs are in range.
 use Rattle.std.proofs.Common.{◌≡◌, ◌<◌, ℕ, List, [], ◌∷◌, ◌++◌, map, length, refl, sym, subst, arith, Ok, Err}
 use Rattle.std.specs.Prelude.{Result, IfOk}
 use Rattle.std.specs.List.{All}
@@ -7,14 +7,17 @@ use Rattle.std.proofs.lemmas.List.Elements.{All-push, All-nil, All-cons, All-wea
 use Rattle.mh_lex.specs.declared.kinds.SyntaxFault.{SyntaxFault}
 use Rattle.mh_rules.specs.declared.modules.Alternative.{Alternative}
 use Rattle.mh_rules.specs.declared.modules.Rule.{Rule}
+use Rattle.mh_rules.specs.declared.modules.TokenDecl.{TokenDecl}
 use Rattle.mh_rules.specs.declared.modules.Module.{Module}
+use Rattle.mh_rules.specs.Modules.{no_module, alternative}
+use Rattle.mh_rules.specs.Ready.{IsTokenReady, IsModuleReady, AreModulesReady}
 use Rattle.mh_reader.specs.Signs.{Read}
 use Rattle.mh_reader.specs.Spelling as spelling
-use Rattle.mh_rules.specs.Modules.{no_module, alternative}
-use Rattle.mh_reader.specs.Spelling.{Productions, Groups, IsRule, Rules, Declaration, File, Spells, with_prec}
-use Rattle.mh_rules.specs.Ready.{HasAlternatives, HaveAlternatives}
+use Rattle.mh_reader.specs.Spelling.{ListOf, IsToken, Productions, Groups, IsRule, Rules, Declaration, File, Spells, with_prec}
 
-abbrev pub IsFilled : Rule → Type 0
+-- RULES
+
+abbrev IsFilled : Rule → Type 0
 IsFilled r = 0 < length r.alternatives
 
 one_more : (done : List Alternative) (a : Alternative) → 0 < length (done ++ a ∷ [])
@@ -34,43 +37,53 @@ groups_some done xs rest all (spelling.Groups.more {ks = ks} {next = next} {g = 
 rule_some : (xs rest : List Read) (r : Rule) → IsRule xs rest r → IsFilled r
 rule_some xs rest r (spelling.IsRule.rule {begun = begun} {grouped = grouped} {ks = ks} a b c d e f g) = groups_some [] begun grouped ks f
 
-rules_some : (m : Module) (xs : List Read) (out : Module) → Rules m xs out → All IsFilled m.rules → All IsFilled out.rules
-rules_some m xs out spelling.Rules.none h = h
-rules_some m xs out (spelling.Rules.trailer a) h = h
-rules_some m xs out (spelling.Rules.more {mid = mid} {r = r} a others) h = rules_some (record m { rules = m.rules ++ r ∷ [] }) mid out others (All-push IsFilled m.rules r h (rule_some xs mid r a))
+rules_ready : (m : Module) (xs : List Read) (out : Module) → Rules m xs out → IsModuleReady m → IsModuleReady out
+rules_ready m xs out spelling.Rules.none h = h
+rules_ready m xs out (spelling.Rules.trailer a) h = h
+rules_ready m xs out (spelling.Rules.more {mid = mid} {r = r} a others) h =
+    rules_ready (record m { rules = m.rules ++ r ∷ [] }) mid out others
+    (record { alternatives = All-push IsFilled m.rules r h.alternatives (rule_some xs mid r a); costs = h.costs })
 
-declaration_rules : (m : Module) (xs rest : List Read) (n : Module) → Declaration m xs rest n → n.rules ≡ m.rules
-declaration_rules m xs rest n (spelling.Declaration.header a) = refl
-declaration_rules m xs rest n (spelling.Declaration.semicolon a) = refl
-declaration_rules m xs rest n (spelling.Declaration.tokens a b c) = refl
-declaration_rules m xs rest n (spelling.Declaration.starts a b c) = refl
-declaration_rules m xs rest n (spelling.Declaration.types a b c) = refl
-declaration_rules m xs rest n (spelling.Declaration.levels a b) = refl
-declaration_rules m xs rest n (spelling.Declaration.on_error a b) = refl
-declaration_rules m xs rest n (spelling.Declaration.parameter a b) = refl
-declaration_rules m xs rest n (spelling.Declaration.attribute a b) = refl
+-- DECLARATIONS
 
-file_some : (m : Module) (xs : List Read) (out : Module) → File m xs out → All IsFilled m.rules → All IsFilled out.rules
-file_some m xs out (spelling.File.declared {n = n} {mid = mid} d f) h = file_some n mid out f (subst (All IsFilled) (sym (declaration_rules m xs mid n d)) h)
-file_some m xs out (spelling.File.ruled {xs = ys} a r) h = rules_some m ys out r h
+token_ready : (xs rest : List Read) (t : TokenDecl) → IsToken xs rest t → IsTokenReady t
+token_ready xs rest t (spelling.IsToken.token e c a) = tt
+
+tokens_ready : {done all : List TokenDecl} {xs rest : List Read} → ListOf TokenDecl IsToken done xs rest all → All IsTokenReady done → All IsTokenReady all
+tokens_ready spelling.ListOf.none h = h
+tokens_ready (spelling.ListOf.next {done = done} {xs = xs} {mid = mid} {a = t} x others) h =
+    tokens_ready others (All-push IsTokenReady done t h (token_ready xs mid t x))
+tokens_ready (spelling.ListOf.comma {done = done} {xs = xs} {mid = mid} {a = t} e x others) h =
+    tokens_ready others (All-push IsTokenReady done t h (token_ready xs mid t x))
+
+declaration_ready : (m : Module) (xs rest : List Read) (n : Module) → Declaration m xs rest n → IsModuleReady m → IsModuleReady n
+declaration_ready m xs rest n (spelling.Declaration.header a) h = h
+declaration_ready m xs rest n (spelling.Declaration.semicolon a) h = h
+declaration_ready m xs rest n (spelling.Declaration.tokens a b c) h = record { alternatives = h.alternatives; costs = tokens_ready c h.costs }
+declaration_ready m xs rest n (spelling.Declaration.starts a b c) h = record { alternatives = h.alternatives; costs = h.costs }
+declaration_ready m xs rest n (spelling.Declaration.types a b c) h = h
+declaration_ready m xs rest n (spelling.Declaration.levels a b) h = record { alternatives = h.alternatives; costs = h.costs }
+declaration_ready m xs rest n (spelling.Declaration.on_error a b) h = record { alternatives = h.alternatives; costs = h.costs }
+declaration_ready m xs rest n (spelling.Declaration.parameter a b) h = h
+declaration_ready m xs rest n (spelling.Declaration.attribute a b) h = h
+
+-- WHOLE FILES
+
+file_ready : (m : Module) (xs : List Read) (out : Module) → File m xs out → IsModuleReady m → IsModuleReady out
+file_ready m xs out (spelling.File.declared {n = n} {mid = mid} d f) h = file_ready n mid out f (declaration_ready m xs mid n d h)
+file_ready m xs out (spelling.File.ruled {xs = ys} a r) h = rules_ready m ys out r h
+
+none_ready : IsModuleReady no_module
+none_ready = record { alternatives = All-nil IsFilled; costs = All-nil IsTokenReady }
 
 -- each answer that spells a module
-pub read_some : (xs : List Read) (answer : Result Module SyntaxFault) → IfOk answer (λ m. File no_module xs m) → IfOk answer HasAlternatives
-read_some xs (Ok m) f = file_some no_module xs m f (All-nil IsFilled)
-read_some xs (Err e) f = tt
+pub read_ready : (xs : List Read) (answer : Result Module SyntaxFault) → IfOk answer (λ m. File no_module xs m) → IfOk answer IsModuleReady
+read_ready xs (Ok m) f = file_ready no_module xs m f none_ready
+read_ready xs (Err e) f = tt
 
-pub spelled_some : (bytes : List ℕ) (m : Module) → Spells bytes m → All IsFilled m.rules
-spelled_some bytes m s = file_some no_module _ m s.2 (All-nil IsFilled)
+pub spelled_ready : (bytes : List ℕ) (m : Module) → Spells bytes m → IsModuleReady m
+spelled_ready bytes m s = file_ready no_module _ m s.2 none_ready
 
--- some bytes spell the module
-abbrev pub IsSpelled : Module → Type 0
-IsSpelled m = (bytes : List ℕ) × Spells bytes m
-
-pub all_spelled : (ms : List Module) → All IsSpelled ms → HaveAlternatives ms
-all_spelled ms h = All-weaker IsSpelled (λ (m : Module). All IsFilled m.rules) (λ m s. spelled_some s.0 m s.1) ms h
-
-pub one_spelled : (bytes : List ℕ) (m : Module) → Spells bytes m → HaveAlternatives (m ∷ [])
-one_spelled bytes m s = all_spelled (m ∷ []) (All-cons IsSpelled m [] (bytes, s) (All-nil IsSpelled))
-
-pub push_spelled : (ms : List Module) (bytes : List ℕ) (m : Module) → HaveAlternatives ms → Spells bytes m → HaveAlternatives (ms ++ m ∷ [])
-push_spelled ms bytes m h s = All-push (λ (n : Module). All IsFilled n.rules) ms m h (spelled_some bytes m s)
+-- one module more
+pub push_spelled : (ms : List Module) (bytes : List ℕ) (m : Module) → AreModulesReady ms → Spells bytes m → AreModulesReady (ms ++ m ∷ [])
+push_spelled ms bytes m h s = All-push IsModuleReady ms m h (spelled_ready bytes m s)

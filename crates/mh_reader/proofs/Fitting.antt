@@ -22,7 +22,7 @@ use Rattle.mh_reader.specs.declared.signs.Sign.{Sign}
 use Rattle.mh_reader.specs.declared.signs.Sign.TheVariants as signs
 use Rattle.mh_reader.specs.Signs.{Read, kept, sign_by, text_by, mark_sign, keyword_sign, reads_of, read_of, is_capital}
 use Rattle.mh_reader.specs.Spelling as spelling
-use Rattle.mh_rules.specs.Modules.{applied, no_module}
+use Rattle.mh_rules.specs.Modules.{applied, alternative, no_module}
 use Rattle.mh_reader.specs.Spelling.{ref_by, ref_of, suffix_of, with_prec, own_or, Suffixed, Base, Args, IsActual, Limited, ListOf, IsAlias, IsToken, IsWord, IsRef, MayType, Declaration, Semicolons, IsProducer, Producers, IsPrec, Productions, Groups, Modifiers, Formals, MayFormals, MayBar, IsRule, Rules, File}
 use Rattle.mh_reader.specs.Printed.{Piece, mark, ref_piece, bracketed, bracket_end, actual_pieces}
 
@@ -262,6 +262,7 @@ pub record FitsToken (t : TokenDecl) : Type 0 where
   pub name : Text kinds.Word t.name
   pub capital : is_capital t.name ≡ true
   pub alias : FitsContent t.alias
+  pub cost : t.cost ≡ None
 
 pub record FitsAlternative (a : Alternative) : Type 0 where
   pub producers : AllByRecursion FitsActual a.producers
@@ -292,7 +293,7 @@ Alias-fits (spelling.IsAlias.given {y = y} e) h = (sign_fits y signs.Quoted e h.
 
 Token-fits : (xs rest : List Read) (t : TokenDecl) → IsToken xs rest t → AllFit xs → FitsToken t × AllFit rest
 Token-fits xs rest t (spelling.IsToken.token {x = x} e c a) h =
-    let p = Alias-fits a h.1 in (record { name = sign_fits x signs.Word e h.0; capital = c; alias = p.0 }, p.1)
+    let p = Alias-fits a h.1 in (record { name = sign_fits x signs.Word e h.0; capital = c; alias = p.0; cost = refl }, p.1)
 
 Word-fits : (xs rest : List Read) (n : List ℕ) → IsWord xs rest n → AllFit xs → Text kinds.Word n × AllFit rest
 Word-fits xs rest n (spelling.IsWord.word {x = x} e) h = (sign_fits x signs.Word e h.0, h.1)

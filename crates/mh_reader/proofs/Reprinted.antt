@@ -65,7 +65,8 @@ token_again : (m : Module) (done : List TokenDecl) (t : TokenDecl) (rest : List 
     Declaration (record m { tokens = done }) (reads (token_pieces t) rest) rest (record m { tokens = done ++ t ∷ [] })
 unfolding keyword_sign
 token_again m done t rest h =
-    spelling.Declaration.tokens refl spelling.MayType.absent (spelling.ListOf.next (spelling.IsToken.token refl h.capital (alias_again t.alias rest)) spelling.ListOf.none)
+    subst (λ c. Declaration (record m { tokens = done }) (reads (token_pieces t) rest) rest (record m { tokens = done ++ record t { cost = c } ∷ [] })) (sym h.cost)
+    (spelling.Declaration.tokens refl spelling.MayType.absent (spelling.ListOf.next (spelling.IsToken.token refl h.capital (alias_again t.alias rest)) spelling.ListOf.none))
 
 start_again : (m : Module) (done : List (List ℕ)) (n : List ℕ) (rest : List Read) → Text kinds.Word n →
     Declaration (record m { starts = done }) (reads (start_pieces n) rest) rest (record m { starts = done ++ n ∷ [] })

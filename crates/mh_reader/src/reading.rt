@@ -4,7 +4,7 @@ ghost use Rattle.std.specs.List.{All};
 ghost use Rattle.mh_lex.specs.Lexing.{IsWithin, line_at};
 ghost use Rattle.mh_lex.specs.Texts.{bytes_of};
 ghost use Rattle.mh_rules.specs.declared.modules.Module.{Module};
-ghost use Rattle.mh_rules.specs.Ready.{HasAlternatives};
+ghost use Rattle.mh_rules.specs.Ready.{IsModuleReady};
 ghost use Rattle.mh_reader.specs.Signs.{reads_of, sign_by, text_by};
 ghost use Rattle.mh_reader.specs.Limits.{IsShallow};
 ghost use Rattle.mh_rules.specs.Modules.{no_module};
@@ -129,7 +129,7 @@ fn read_lexemes(alloc: Global, bytes: &[u8], lexemes: &[Lexeme]) -> Result<Modul
 pub fn read_module(alloc: Global, bytes: &[u8]) -> Result<Module, SyntaxFault>
     requires { length bytes.now < 2 ^ 31 }
     ensures spelled { IfOk result (λ m. Spells bytes.now m) }
-    ensures filled { IfOk result HasAlternatives }
+    ensures ready { IfOk result IsModuleReady }
     ensures fault { Refuses bytes.now result }
 {
     lexed_once();
