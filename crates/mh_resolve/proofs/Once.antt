@@ -94,8 +94,9 @@ raw_taken s look clear Refuse r = absurd r
 pub one_table : (g : Grammar) (a : Automaton) (mode : Mode) (x y : TableData) → IsTableOf g a mode x → IsTableOf g a mode y → x ≡ y
 one_table g a mode x y p q =
     let grammar : x.grammar ≡ y.grammar = p.grammar ∙ sym q.grammar in
+    let costs : x.costs ≡ y.costs = p.costs ∙ sym q.costs in
     let states : x.states ≡ y.states = table_once g a mode x.states y.states p.states q.states in
-    λ i. record { grammar = grammar i; states = states i }
+    λ i. record { grammar = grammar i; costs = costs i; states = states i }
 
 -- two rising lists with the same elements are one
 rising_once : {X : Type 0} (R : X → X → Type 0) → ((x y : X) → R x y → R y x → ⊥) → (xs ys : List X) → IsRising R xs → IsRising R ys → ((x : X) → Contains xs x → Contains ys x) → ((x : X) → Contains ys x → Contains xs x) → xs ≡ ys

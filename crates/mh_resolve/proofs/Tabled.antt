@@ -9,8 +9,11 @@ use Rattle.mh_grammar.specs.declared.types.Symbol.{Symbol}
 use Rattle.mh_grammar.specs.declared.types.Symbol.TheVariants.{T, N}
 use Rattle.mh_grammar.specs.declared.types.Production.{Production}
 use Rattle.mh_grammar.specs.declared.types.Grammar.{Grammar}
+use Rattle.mh_grammar.specs.declared.types.TokenInfo.{TokenInfo}
 use Rattle.mh_grammar.specs.declared.types.Look.{Look}
 use Rattle.mh_grammar.specs.declared.types.Look.TheVariants.{Token, End}
+use Rattle.mh_grammar.specs.Costs.{HaveCosts}
+use Rattle.mh_grammar.proofs.Costs.{costed}
 use Rattle.mh_grammar.specs.Plain.{PlainGrammar, plain_of, rhs_of, lhs_of, production_count, IsInRange, IsSymbolBelow, IsProductionBelow}
 use Rattle.mh_grammar.specs.Edges.{IsRising, IsEdgeBefore, find_edge}
 use Rattle.mh_items.specs.declared.kernels.Kernel.{Kernel}
@@ -35,6 +38,7 @@ use Rattle.mh_resolve.proofs.Closed.{closure_is_item, closure_within, stands, Be
 -- what stands together
 pub record Made (g : Grammar) (a : Automaton) (mode : Mode) (states : List StateParts) : Type 0 where
   pub range : IsInRange (plain_of g)
+  pub costs : HaveCosts g.tokens
   pub automaton : IsAutomaton (plain_of g) a
   pub resolved : AreResolved g a mode states
 
@@ -311,6 +315,8 @@ facts g a mode states m =
     record {
       ranges = record {
         grammar = range;
+        costs = costed g.tokens m.costs;
+        each_cost = length-map g.tokens (λ (token : TokenInfo). token.cost);
         few_states = omega arith;
         each_row = λ s lt. (m.resolved.each s (omega arith)).width;
         each_symbol = each_symbol m;

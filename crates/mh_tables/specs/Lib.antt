@@ -1,4 +1,3 @@
-pub mod Examples
 pub mod Facts
 pub mod Halting
 pub mod Moves

@@ -13,6 +13,3 @@ pub use moves::{Choice, choose};
 pub use parts::{Action, Fallback, Place, StateParts};
 pub use relative::HaltFault;
 pub use table::{Table, table_of};
-
-#[cfg(test)]
-mod tests;
