@@ -1,5 +1,6 @@
 pub mod Examples
 pub mod Facts
+pub mod Failing
 pub mod Halting
 pub mod Moves
 pub mod Relative
