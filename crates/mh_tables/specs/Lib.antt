@@ -1,4 +1,5 @@
 pub mod Facts
+pub mod Failing
 pub mod Halting
 pub mod Moves
 pub mod Relative
