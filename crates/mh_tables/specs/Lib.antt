@@ -1,3 +1,4 @@
+pub mod Deep
 pub mod Examples
 pub mod Facts
 pub mod Halting
@@ -6,3 +7,4 @@ pub mod Relative
 pub mod Run
 pub mod RunTrees
 pub mod Table
+pub mod TreeRuns

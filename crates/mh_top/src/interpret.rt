@@ -4,6 +4,7 @@ ghost use Rattle.std.specs.List.{All};
 ghost use Rattle.mh_grammar.specs.Plain.{plain_of, IsInRange};
 ghost use Rattle.mh_tables.specs.Run.{VerdictOf};
 ghost use Rattle.mh_run.specs.Verdicts.{ending_for};
+ghost use Rattle.mh_run.specs.TreeRuns.{tree_ending_for};
 ghost use Rattle.mh_top.specs.Each.{EachRan, EachCounts};
 ghost use Rattle.mh_top.specs.Work.{line_limit, max_lines};
 ghost use Rattle.mh_msgfile.specs.Sentences.{HasNumbers, vocabulary_of};
@@ -61,7 +62,7 @@ fn verdict_answer(alloc: Global, halting: &Halting, sentence: &Sentence) -> Resu
 
 /// The words for how a run with its trees ends, and the tree.
 fn outcome_text(alloc: Global, grammar: &Grammar, outcome: &TreeOutcome) -> Result<Vec<u8>, Memory>
-    ensures { IfOk result (λ text. text.items ≡ outcome_line grammar.now outcome.now) }
+    ensures { IfOk result (λ text. text.items ≡ outcome_line grammar.now (tree_ending_for outcome.now)) }
 {
     match outcome {
         TreeOutcome::Accept { tree, .. } => {
