@@ -1,6 +1,7 @@
 pub mod Deep
 pub mod Examples
 pub mod Facts
+pub mod Failing
 pub mod Halting
 pub mod Moves
 pub mod Relative
