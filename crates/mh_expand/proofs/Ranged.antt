@@ -1,11 +1,12 @@
 -- The numbers of instances are in range.
-use Rattle.std.proofs.Common.{◌≡◌, ℕ, zero, suc, ◌<◌, ◌≤◌, List, [], ◌∷◌, ◌++◌, Option, Some, None, map, flat_map, length, take, drop, get_or, refl, sym, ap, ◌∙◌, arith, inl, inr}
+use Rattle.std.proofs.Common.{◌≡◌, ℕ, zero, suc, ◌<◌, ◌≤◌, List, [], ◌∷◌, ◌++◌, Option, Some, None, map, flat_map, length, take, drop, get_or, refl, sym, ap, subst, ◌∙◌, arith, inl, inr}
 use Rattle.std.specs.List.{slice_get, All, AllZip, AllByRecursion, Contains}
 use Rattle.mh_expand.proofs.Same.{zip_left, zip_right, zip_length, reached_instance}
 use Rattle.mh_expand.proofs.Found.{some_of}
 use Rattle.std.specs.Option.{option_map}
 use Rattle.std.proofs.lemmas.Option.{slice_get_within, slice_get-get_or, slice_get-map, get_or_from_slice_get}
 use Rattle.std.proofs.lemmas.List.Elements.{recursion_from_All, All-from_recursion, All-contains, Contains-append_left, Contains-append_right}
+use Rattle.mh_grammar.specs.Costs.{HaveCosts}
 use Rattle.mh_rules.specs.declared.joined.Head.{Head}
 use Rattle.mh_rules.specs.declared.joined.Head.TheVariants.{Formal, Token, Rule}
 use Rattle.mh_rules.specs.declared.joined.Applied.{Applied, out-roll-Applied}
@@ -207,6 +208,7 @@ module _ (j : Joined) (e : Expanded) (w : IsExpanded j e) (ready : IsReady j) wh
   unfolding tokens rules instances
   IsExpandedReady-expanded few = record {
     few_tokens = rw w.tokens (omega (arith, ready.few_tokens));
+    costs = subst HaveCosts (sym w.tokens) ready.costs;
     few_instances = few;
     starts_below = λ k d l.
         let n = get_or e.starts k d in

@@ -2,6 +2,7 @@
 use Rattle.std.proofs.Common.{◌≡◌, ◌<◌, ◌≤◌, ◌⊎◌, Bool, List, [], ◌∷◌, ◌++◌, None, Some, Ok, flat_map, length, refl, sym, ap, subst, ◌∙◌, inl, inr, arith}
 use Rattle.std.proofs.lemmas.List.{length-map}
 use Rattle.mh_grammar.specs.declared.types.Grammar.{Grammar}
+use Rattle.mh_grammar.specs.Costs.{HaveCosts}
 use Rattle.mh_grammar.specs.Numbering.{AreDistinct}
 use Rattle.mh_grammar.specs.Plain.{plain_of, IsInRange}
 use Rattle.mh_rules.specs.declared.modules.Module.{Module}
@@ -184,6 +185,9 @@ module _ (p : Bool) (ms : List Module) where
     few_tokens =
         let same = ap length (o.grammar.grammar.inlined.tokens ∙ o.grammar.expands.tokens) in
         subst (λ n. n ≤ MAX_TOKENS) (sym same) (joins.ready p ms o.joined some o.joins).few_tokens
+
+    pub have_costs : HaveCosts g.tokens
+    have_costs = subst HaveCosts (sym o.grammar.grammar.inlined.tokens) expanded_ready.costs
 
     pub in_range : IsInRange (plain_of g)
     in_range = let i = o.grammar.grammar in ranges.in_range o.grammar.expanded expanded_ready i.kept g i.inlined i.small

@@ -1,5 +1,6 @@
 //! The stages one after another: joining, expansion, inlining.
 ghost use Rattle.std.specs.Prelude.{◌≤◌, length, IfOk, IfErr};
+ghost use Rattle.mh_grammar.specs.Costs.{HaveCosts};
 ghost use Rattle.mh_grammar.specs.Numbering.{AreDistinct};
 ghost use Rattle.mh_grammar.specs.Plain.{plain_of, IsInRange};
 ghost use Rattle.mh_rules.specs.Ready.{AreModulesReady, IsReady};
@@ -39,6 +40,7 @@ pub fn grammar_of(alloc: Global, modules: &[Module], prelude: bool) -> Result<Gr
     ensures fault { IfErr result (Causes (IsGrammarFault prelude modules.now)) }
     ensures tokens { IfOk result (λ g. length g.tokens ≤ MAX_TOKENS) }
     ensures range { IfOk result (λ g. IsInRange (plain_of g)) }
+    ensures costs { IfOk result (λ g. HaveCosts g.tokens) }
     ensures distinct { IfOk result (λ g. AreDistinct g.starts) }
     ensures sentences { IfOk result (HasSentencesOfModules prelude modules.now) }
 {

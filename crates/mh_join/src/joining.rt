@@ -69,7 +69,7 @@ fn join_named(
 /// with `@` and the number of its file, and a rule of the prelude whose name a file defines with `@0`. With `prelude` false
 /// there is no prelude. Answers the first fault
 /// where there is one: all names and strings stand for something; nothing has two meanings; some start symbol is named;
-/// no rule speaks of `error`; each `%prec` is of a token or has a level; there are at most 256 tokens. Answers `Memory`
+/// no rule speaks of `error`; each `%prec` is of a token or has a level; there are at most 512 tokens. Answers `Memory`
 /// only where memory runs out. (The Menhir manual on grammars split into files; this project's profile.)
 pub fn join(alloc: Global, modules: &[Module], prelude: bool) -> Result<Joined, JoinFault>
     ensures joins { Joins prelude modules.now result }

@@ -1,6 +1,7 @@
 -- What each stage gives the next: of the modules that are read, of the joined rules, and of the instances.
 use Rattle.std.specs.Prelude.{◌<◌, ◌≤◌, ◌≢◌, ℕ, List, length, AllPairs, IfSome}
 use Rattle.std.specs.List.{All}
+use Rattle.mh_grammar.specs.Costs.{IsCost, HaveCosts}
 use Rattle.mh_rules.specs.declared.modules.Rule.{Rule}
 use Rattle.mh_rules.specs.declared.modules.TokenDecl.{TokenDecl}
 use Rattle.mh_rules.specs.declared.modules.Module.{Module}
@@ -19,9 +20,9 @@ use Rattle.mh_rules.specs.declared.instances.Expanded.{Expanded}
 
 -- MODULES
 
--- the cost of a token, where it is given, is from 1 to 1,000
+-- the cost of a token, where it is given, is in range
 abbrev pub IsTokenReady : TokenDecl → Type 0
-IsTokenReady t = IfSome t.cost (λ n. (1 ≤ n) × (n ≤ 1000))
+IsTokenReady t = IfSome t.cost IsCost
 
 -- each rule has an alternative, and costs are in range
 pub record IsModuleReady (m : Module) : Type 0 where
@@ -48,9 +49,10 @@ pub record IsRuleReady (tokens rules : ℕ) (r : JoinedRule) : Type 0 where
   pub has_some : 0 < length r.alternatives
   pub heads_below : All (λ a. All (IsAppliedBelow r.formals tokens rules) a.producers) r.alternatives
 
--- All numbers are in range, each rule has an alternative, no start stands twice, and there are not too many tokens.
+-- All numbers and costs are in range, each rule has an alternative, no start stands twice, and there are not too many tokens.
 pub record IsReady (j : Joined) : Type 0 where
   pub few_tokens : length j.tokens ≤ MAX_TOKENS
+  pub costs : HaveCosts j.tokens
   pub starts_below : All (λ s. s < length j.rules) j.starts
   pub starts_distinct : AllPairs (λ a b. a ≢ b) j.starts
   pub on_error_below : All (λ actuals. All (IsAppliedBelow 0 (length j.tokens) (length j.rules)) actuals) j.on_error
@@ -67,9 +69,10 @@ pub record IsInstanceReady (tokens instances : ℕ) (i : Instance) : Type 0 wher
   pub has_some : 0 < length i.productions
   pub parts_below : All (λ (p : InstanceProduction). All (IsPartBelow tokens instances) p.rhs) i.productions
 
--- All numbers are in range, each instance has an alternative, no start stands twice, and there are few tokens and instances.
+-- All numbers and costs are in range, each instance has an alternative, no start stands twice, and there are few tokens and instances.
 pub record IsExpandedReady (e : Expanded) : Type 0 where
   pub few_tokens : length e.tokens ≤ 65535
+  pub costs : HaveCosts e.tokens
   pub few_instances : length e.instances ≤ 20000
   pub starts_below : All (λ s. s < length e.instances) e.starts
   pub starts_distinct : AllPairs (λ a b. a ≢ b) e.starts

@@ -1,8 +1,10 @@
-pub mod Examples
+pub mod Deep
 pub mod Facts
+pub mod Failing
 pub mod Halting
 pub mod Moves
-pub mod Relative
 pub mod Run
 pub mod RunTrees
 pub mod Table
+pub mod TreeRuns
+pub mod code

@@ -3,6 +3,7 @@ ghost use Rattle.std.specs.Prelude.{◌≡◌, ◌<◌, ◌+◌, ◌++◌, List,
 ghost use Rattle.mh_tables.specs.Halting.{LoopsAt};
 ghost use Rattle.mh_tables.specs.Run.{VerdictOf, Ending, Rejected, after, initial};
 ghost use Rattle.mh_tables.specs.RunTrees.{Stands, trees_after};
+ghost use Rattle.mh_tables.specs.TreeRuns.{TreeEnding, IsTreeEnding};
 
 use crate::table::Table;
 
@@ -30,7 +31,12 @@ impl Table {
         self.facts();
     }
 
-    /// At most one relative run is the first that makes more than 10,000 reductions.
+    /// The run of a start with its trees ends in one way.
+    pub fn one_tree_ending(&self)
+        ensures { (start : ℕ) (w : List ℕ) (a b : TreeEnding) → IsTreeEnding self.now start w a → IsTreeEnding self.now start w b → a ≡ b }
+    {}
+
+    /// At most one relative run is the first that makes more than `MAX_REDUCTIONS` reductions.
     pub fn one_loop(&self)
         ensures { (below : Option ℕ) (s : ℕ) (look below' : Option ℕ) (s' : ℕ) (look' : Option ℕ) → LoopsAt self.now below s look → LoopsAt self.now below' s' look' → (below ≡ below') × (s ≡ s') × (look ≡ look') }
     {}
