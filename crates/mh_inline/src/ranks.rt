@@ -35,16 +35,31 @@ fn add_user(users: &mut Vec<Sequence<usize>>, numbers: &[usize], user: usize) ->
     Ok(())
 }
 
+/// Puts an inline instance into the rows of those that it is made of.
+fn add_inline_user(
+    alloc: Global,
+    expanded: &Expanded,
+    users: &mut Vec<Sequence<usize>>,
+    number: usize,
+) -> Result<(), Memory>
+    requires number { number < length expanded.now.instances }
+    requires users { AreUsers (length expanded.now.instances) users.old.items }
+    ensures { OnOk result (AreUsers (length expanded.now.instances) users.new.items) }
+{
+    if !is_inline(expanded, number) {
+        return Ok(());
+    }
+    let made_of = inlined_in(alloc, expanded, number)?;
+    add_user(users, made_of.as_slice(), number)
+}
+
 /// For each instance the inline instances that are made of it, each as often as it stands there.
 fn users_of(alloc: Global, expanded: &Expanded) -> Result<Vec<Sequence<usize>>, Memory>
     ensures { IfOk result (λ users. AreUsers (length expanded.now.instances) users.items) }
 {
     let mut users = no_users(alloc, expanded.instances.len())?;
     for number in 0..expanded.instances.len() {
-        if is_inline(expanded, number) {
-            let made_of = inlined_in(alloc, expanded, number)?;
-            add_user(&mut users, made_of.as_slice(), number)?;
-        }
+        add_inline_user(alloc, expanded, &mut users, number)?;
     }
     Ok(users)
 }
@@ -93,23 +108,38 @@ fn rank_from(
     Ok(())
 }
 
-/// Ranks, one for each circle and each instance in none, from the end of a search in depth.
-fn ranks_of(alloc: Global, expanded: &Expanded) -> Result<Vec<usize>, Memory>
-    ensures { IfOk result (λ ranks. length ranks.items ≡ length expanded.now.instances) }
+/// Ranks, one for each circle and each instance in none, from the end of this order.
+fn ranks_by(alloc: Global, users: &[Sequence<usize>], order: &[usize]) -> Result<Vec<usize>, Memory>
+    requires users { AreUsers (length users.now) users.now }
+    requires order { All (λ n. n < length users.now) order.now }
+    ensures { IfOk result (λ ranks. length ranks.items ≡ length users.now) }
 {
-    let count = expanded.instances.len();
-    let order = depth_first(alloc, expanded)?;
-    let users = users_of(alloc, expanded)?;
-    let mut ranks = vec![in alloc; 0; count]?;
-    let mut rank = count;
+    let mut ranks = vec![in alloc; 0; users.len()]?;
+    let mut rank = users.len();
     for done in 0..order.len() {
         let number = order[order.len() - 1 - done];
         if ranks[number] == 0 {
-            rank_from(alloc, users.as_slice(), number, rank, &mut ranks)?;
+            rank_from(alloc, users, number, rank, &mut ranks)?;
             rank = rank.saturating_sub(1);
         }
     }
     Ok(ranks)
+}
+
+/// The same from the end of a search in depth.
+fn ranks_along(alloc: Global, expanded: &Expanded, order: &[usize]) -> Result<Vec<usize>, Memory>
+    requires order { All (λ n. n < length expanded.now.instances) order.now }
+    ensures { IfOk result (λ ranks. length ranks.items ≡ length expanded.now.instances) }
+{
+    let users = users_of(alloc, expanded)?;
+    ranks_by(alloc, users.as_slice(), order)
+}
+
+fn ranks_of(alloc: Global, expanded: &Expanded) -> Result<Vec<usize>, Memory>
+    ensures { IfOk result (λ ranks. length ranks.items ≡ length expanded.now.instances) }
+{
+    let order = depth_first(alloc, expanded)?;
+    ranks_along(alloc, expanded, order.as_slice())
 }
 
 /// The ranks of instances, and whether they are right.

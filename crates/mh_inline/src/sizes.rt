@@ -177,6 +177,16 @@ fn size_in_order(expanded: &Expanded, order: &[usize], sizing: &mut Sizing) -> R
     Ok(())
 }
 
+/// The same in the order of a search in depth.
+fn size_by_search(alloc: Global, expanded: &Expanded, sizing: &mut Sizing) -> Result<(), Memory>
+    requires ready { IsExpandedReady expanded.now }
+    requires sizing { IsSizing expanded.now.instances sizing.old }
+    ensures { OnOk result (IsSizing expanded.now.instances sizing.new) }
+{
+    let order = depth_first(alloc, expanded)?;
+    size_in_order(expanded, order.as_slice(), sizing)
+}
+
 /// The sizes of the inline instances; those that reach a cycle have none. After the search in depth one pass finds nothing to
 /// size.
 pub(crate) fn inline_sizes(alloc: Global, expanded: &Expanded) -> Result<Sizing, Memory>
@@ -188,8 +198,7 @@ pub(crate) fn inline_sizes(alloc: Global, expanded: &Expanded) -> Result<Sizing,
         sizes: vec![in alloc; None; expanded.instances.len()]?,
         order: Vec::new(alloc),
     };
-    let order = depth_first(alloc, expanded)?;
-    size_in_order(expanded, order.as_slice(), &mut sizing)?;
+    size_by_search(alloc, expanded, &mut sizing)?;
     let mut changed = true;
     while changed {
         changed = size_once(expanded, &mut sizing)?;
