@@ -13,5 +13,3 @@ pub mod Same
 pub mod Sentences
 pub mod OriginOrder
 pub mod Lasting
-pub mod Listed
-pub mod Ranked

@@ -8,5 +8,3 @@ pub mod Sentences
 pub mod Sizes
 pub mod Unfoldings
 pub mod Uses
-pub mod Orders
-pub mod Ranks

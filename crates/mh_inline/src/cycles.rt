@@ -4,11 +4,9 @@ ghost use Rattle.mh_inline.specs.Instances.{is_inlined, Reaches};
 ghost use Rattle.mh_rules.specs.Ready.{IsExpandedReady};
 ghost use Rattle.mh_inline.specs.Faults.{HasNoCycle, IsFirstCyclicAt};
 ghost use Rattle.mh_inline.specs.Found.{Adds, AreQueued, IsAmong, IsIn, IsMadeOf, IsSame, IsTable};
-ghost use Rattle.mh_inline.specs.Ranks.{IsRanking};
 ghost use Rattle.mh_inline.specs.Sizes.{AreAllSized, AreSettled, IsSizing};
 
 use crate::instances::{inline_part, is_inline};
-use crate::ranks::{Ranking, is_in_no_circle, ranking_of};
 use crate::sizes::Sizing;
 use mh_grammar::Memory;
 use mh_rules::{Expanded, InstanceProduction, Part};
@@ -110,24 +108,18 @@ fn is_cyclic(alloc: Global, expanded: &Expanded, number: usize) -> Result<bool, 
     Ok(found.flags[number])
 }
 
-/// Whether an instance reaches itself. One that is not inline or has a size does not, and no search is made where ranks tell
-/// that one does not.
+/// Whether an instance reaches itself. One that is not inline or has a size does not.
 fn reaches_itself(
     alloc: Global,
     expanded: &Expanded,
     sizing: &Sizing,
-    ranking: &Ranking,
     number: usize,
 ) -> Result<bool, Memory>
     requires sizing { IsSizing expanded.now.instances sizing.now }
-    requires ranking { IsRanking expanded.now.instances ranking.now }
     requires number { number < length expanded.now.instances }
     ensures { IfOk result (λ cyclic. IsTrue cyclic ↔ Reaches expanded.now.instances number number) }
 {
     if !is_inline(expanded, number) || sizing.sizes[number].is_some() {
-        return Ok(false);
-    }
-    if is_in_no_circle(alloc, expanded, ranking, number)? {
         return Ok(false);
     }
     is_cyclic(alloc, expanded, number)
@@ -144,9 +136,8 @@ pub(crate) fn first_cyclic(
     ensures first { IfOk result (λ found. MatchOption found (HasNoCycle expanded.now) (IsFirstCyclicAt expanded.now)) }
     ensures sized { IfOk result (λ found. IfNone found (AreAllSized expanded.now.instances sizing.now.sizes.items)) }
 {
-    let ranking = ranking_of(alloc, expanded)?;
     for number in 0..expanded.instances.len() {
-        if reaches_itself(alloc, expanded, sizing, &ranking, number)? {
+        if reaches_itself(alloc, expanded, sizing, number)? {
             return Ok(Some(number));
         }
     }

@@ -1,11 +1,9 @@
 //! How many unfoldings there are, and how long they are, without making them: there may be exponentially many.
 ghost use Rattle.std.specs.Prelude.{◌≡◌, ◌+◌, ◌*◌, ◌<◌, ◌↔◌, [], ◌∷◌, false, min, max, length, IfOk, OnOk, OnSome, IsTrue, MatchOption};
-ghost use Rattle.std.specs.List.{All};
 ghost use Rattle.mh_rules.specs.Ready.{IsExpandedReady};
 ghost use Rattle.mh_inline.specs.Sizes.{AreEachSized, AreSettled, AreSized, AreSizes, IsBlocked, IsEachBlocked, IsEachSize, IsPartSize, IsSettled, IsSideSize, IsSizing, IsWithin, unsized_count};
 
 use crate::instances::{inline_part, is_inline};
-use crate::orders::depth_first;
 use mh_grammar::Memory;
 use mh_rules::{Expanded, InstanceProduction, Part};
 use std::alloc::Global;
@@ -164,31 +162,7 @@ fn size_once(expanded: &Expanded, sizing: &mut Sizing) -> Result<bool, Memory>
     Ok(changed)
 }
 
-/// Sizes the instances of an order one after the other, where the sizes of what they are made of are known.
-fn size_in_order(expanded: &Expanded, order: &[usize], sizing: &mut Sizing) -> Result<(), Memory>
-    requires ready { IsExpandedReady expanded.now }
-    requires sizing { IsSizing expanded.now.instances sizing.old }
-    requires order { All (λ n. n < length expanded.now.instances) order.now }
-    ensures { OnOk result (IsSizing expanded.now.instances sizing.new) }
-{
-    for number in order {
-        size_one(expanded, sizing, *number)?;
-    }
-    Ok(())
-}
-
-/// The same in the order of a search in depth.
-fn size_by_search(alloc: Global, expanded: &Expanded, sizing: &mut Sizing) -> Result<(), Memory>
-    requires ready { IsExpandedReady expanded.now }
-    requires sizing { IsSizing expanded.now.instances sizing.old }
-    ensures { OnOk result (IsSizing expanded.now.instances sizing.new) }
-{
-    let order = depth_first(alloc, expanded)?;
-    size_in_order(expanded, order.as_slice(), sizing)
-}
-
-/// The sizes of the inline instances; those that reach a cycle have none. After the search in depth one pass finds nothing to
-/// size.
+/// The sizes of the inline instances; those that reach a cycle have none.
 pub(crate) fn inline_sizes(alloc: Global, expanded: &Expanded) -> Result<Sizing, Memory>
     requires { IsExpandedReady expanded.now }
     ensures sizing { IfOk result (IsSizing expanded.now.instances) }
@@ -198,7 +172,6 @@ pub(crate) fn inline_sizes(alloc: Global, expanded: &Expanded) -> Result<Sizing,
         sizes: vec![in alloc; None; expanded.instances.len()]?,
         order: Vec::new(alloc),
     };
-    size_by_search(alloc, expanded, &mut sizing)?;
     let mut changed = true;
     while changed {
         changed = size_once(expanded, &mut sizing)?;

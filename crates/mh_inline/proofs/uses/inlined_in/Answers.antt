@@ -1,9 +1,0 @@
-use Rattle.std.proofs.Common.{length, refl}
-use Rattle.std.proofs.lemmas.Option.{slice_get_read}
-use Rattle.mh_inline.proofs.Listed.{all_listed}
-use Rattle.mh_inline.proofs.uses.inlined_in.Goals as goal
-
-pub returns : goal.returns
-returns c =
-    let is = c.args.expanded.now.instances in
-    all_listed is c.args.number c.index.result.now c.list_alternatives.new.list.items (slice_get_read is (length is) c.args.number c.index.result.now refl c.requires c.index.ensures) (rw c.as_slice.ensures at (rw c.new-list.ensures at c.in_ok-list_alternatives.ensures))
