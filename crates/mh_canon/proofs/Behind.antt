@@ -15,7 +15,7 @@ use Rattle.std.specs.BTreeSet.{BTreeSet, IsOrdered, insert_key}
 use Rattle.std.specs.List.Sorted.{IsStrictlySortedBy}
 use Rattle.std.proofs.lemmas.Map.Views.{All-after_first}
 use Rattle.std.proofs.lemmas.List.Elements.{All-weaker, recursion_from_All, Contains-append_cases, Contains-append_left, Contains-append_right}
-use Rattle.mh_items.specs.declared.kernels.KernelItem.{KernelItem}
+use Rattle.mh_items.specs.Shapes.{KernelItem}
 use Rattle.mh_canon.specs.Moves.{IsBehindDot}
 use Rattle.mh_canon.proofs.Rising.{contains_here, contains_there, contains_cases, contains_none}
 

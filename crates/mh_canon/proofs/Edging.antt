@@ -12,7 +12,7 @@ use Rattle.mh_grammar.specs.ItemSets as items
 use Rattle.mh_grammar.specs.ItemSets.{ItemSet, AreSame, Close, Moved}
 use Rattle.mh_grammar.specs.Numbering.{Names}
 use Rattle.mh_grammar.proofs.Placing.{AllPlaced-names}
-use Rattle.mh_items.specs.declared.kernels.Kernel.{Kernel}
+use Rattle.mh_items.specs.Shapes.{Kernel}
 use Rattle.mh_items.specs.Kernels.{Holds}
 use Rattle.mh_canon.specs.Canonical.{HasItem, targets_of}
 use Rattle.mh_canon.specs.Moves.{IsBehindDot, IsMove, AreEdges}

@@ -8,8 +8,8 @@ use Rattle.mh_grammar.specs.declared.types.Symbol.{Symbol}
 use Rattle.mh_grammar.specs.Plain.{PlainGrammar}
 use Rattle.mh_grammar.specs.Edges.{find_edge}
 use Rattle.mh_grammar.specs.ItemSets.{AreSame, Close, StartItems, Reach}
-use Rattle.mh_items.specs.declared.kernels.Kernel.{Kernel}
-use Rattle.mh_items.specs.declared.kernels.Automaton.{Automaton}
+use Rattle.mh_items.specs.Shapes.{Kernel}
+use Rattle.mh_items.specs.Shapes.{Automaton}
 use Rattle.mh_items.specs.Kernels.{HasPlace}
 use Rattle.mh_items.specs.Automaton.{no_kernel, kernel_at, kernel_of, edges_at, leads_to, move_of, start_kernel, Moves}
 use Rattle.mh_canon.specs.Canonical.{HasItem, IsCanonical}

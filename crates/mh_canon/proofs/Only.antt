@@ -14,8 +14,8 @@ use Rattle.mh_grammar.specs.Numbering as numbering
 use Rattle.mh_grammar.specs.Numbering.{Reached, AreDistinct, InOrder, Names, IsRowOf, IsNumbering}
 use Rattle.mh_grammar.proofs.Placing.{contains_at, at_contains}
 use Rattle.mh_grammar.proofs.OneNumbering.{one_numbering, same_places, take_place}
-use Rattle.mh_items.specs.declared.kernels.Kernel.{Kernel}
-use Rattle.mh_items.specs.declared.kernels.Automaton.{Automaton}
+use Rattle.mh_items.specs.Shapes.{Kernel}
+use Rattle.mh_items.specs.Shapes.{Automaton}
 use Rattle.mh_items.specs.Kernels.{Holds, IsKernel}
 use Rattle.mh_items.specs.Automaton.{kernel_at, kernel_of, edges_at, leads_to, move_of}
 use Rattle.mh_canon.specs.Canonical.{HasItem, IsCanonical, targets_of}

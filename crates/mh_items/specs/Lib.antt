@@ -1,7 +1,9 @@
 pub mod Added
-pub mod Automaton
+pub mod Asked
+pub mod Closer
 pub mod Firsts
+pub mod Automaton
 pub mod Kernels
 pub mod Merging
-pub mod Pairs
+pub mod Shapes
 pub mod Wanted

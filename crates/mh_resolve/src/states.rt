@@ -1,5 +1,5 @@
 //! The parts of a state of the table.
-ghost use Rattle.std.specs.Prelude.{◌≡◌, ◌<◌, length, map, IfOk, []};
+ghost use Rattle.std.specs.Prelude.{◌≡◌, ◌<◌, ◌≤◌, length, map, IfOk, []};
 ghost use Rattle.std.specs.List.{All};
 ghost use Rattle.mh_grammar.specs.Plain.{plain_of};
 ghost use Rattle.mh_grammar.specs.Edges.{IsRising, IsEdgeBefore};
@@ -33,8 +33,9 @@ fn kept_action(stream: bool, last: Action) -> Action
     if stream { Action::Refuse } else { last }
 }
 
-fn filler_of(grammar: &Grammar, items: &[KernelItem], default: Option<u32>) -> Option<u32>
-    requires { All IsLooked items.now }
+fn filler_of<const W: usize>(grammar: &Grammar, items: &[KernelItem<W>], default: Option<u32>) -> Option<u32>
+    requires few { W ≤ 8 }
+    requires items { All IsLooked items.now }
     ensures { IsFiller (listed grammar.now items.now []) default result }
 {
     match default {
@@ -65,7 +66,7 @@ fn actions_of(alloc: Global, cells: &[Cell], filler: Option<u32>) -> Result<Vec<
     Ok(actions)
 }
 
-fn place(item: &KernelItem) -> Place
+fn place<const W: usize>(item: &KernelItem<W>) -> Place
     ensures { result ≡ place_of item.now }
 {
     Place {
@@ -74,7 +75,8 @@ fn place(item: &KernelItem) -> Place
     }
 }
 
-fn core_of(alloc: Global, items: &[KernelItem]) -> Result<Vec<Place>, Memory>
+fn core_of<const W: usize>(alloc: Global, items: &[KernelItem<W>]) -> Result<Vec<Place>, Memory>
+    requires few { W ≤ 8 }
     ensures { IfOk result (λ core. core.items ≡ map place_of items.now) }
 {
     let mut core = Vec::new(alloc);
@@ -101,13 +103,14 @@ pub(crate) fn fallback_of(grammar: &Grammar, default: Option<u32>) -> Option<Fal
 }
 
 /// The row of a state.
-pub(crate) fn row_of(
+pub(crate) fn row_of<const W: usize>(
     alloc: Global,
     grammar: &Grammar,
-    kernel: &Kernel,
-    closed: &Kernel,
+    kernel: &Kernel<W>,
+    closed: &Kernel<W>,
     edges: &[Edge],
 ) -> Result<Row, Memory>
+    requires few { W ≤ 8 }
     requires kernel { IsKernel (plain_of grammar.now) closed.now }
     requires exact { AreSame (Holds closed.now) (Close (plain_of grammar.now) (Holds kernel.now)) }
     requires rising { IsRising IsEdgeBefore edges.now }
@@ -128,15 +131,16 @@ pub(crate) fn row_of(
 }
 
 /// The parts of a state, from its row.
-pub(crate) fn parts_of(
+pub(crate) fn parts_of<const W: usize>(
     alloc: Global,
     grammar: &Grammar,
-    kernel: &Kernel,
-    closed: &Kernel,
+    kernel: &Kernel<W>,
+    closed: &Kernel<W>,
     edges: &[Edge],
     mode: Mode,
     row: &Row,
 ) -> Result<StateParts, Memory>
+    requires few { W ≤ 8 }
     requires closed { IsKernel (plain_of grammar.now) closed.now }
     requires exact { AreSame (Holds closed.now) (Close (plain_of grammar.now) (Holds kernel.now)) }
     requires row { IsRow (closed_state grammar.now kernel.now edges.now) row.now.cells row.now.last row.now.stream }

@@ -54,10 +54,10 @@ fn grammar_of(
 }
 
 fn table_of(alloc: Global, grammar: &Grammar) -> Result<Halting, Fail> {
-    if !is_in_range(grammar) {
+    if !is_in_range(grammar) || grammar.tokens.len() > 64 {
         return Err(Fail::from("in range"));
     }
-    let automaton = canonical(alloc, grammar).map_err(|_| "no memory")?;
+    let automaton = canonical::<1>(alloc, grammar).map_err(|_| "no memory")?;
     let (table, _) = resolve(alloc, grammar, &automaton, Mode::Canonical)?;
     Ok(check_halts(alloc, table).map_err(|_| "it halts")?)
 }
