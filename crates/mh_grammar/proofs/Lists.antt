@@ -84,6 +84,9 @@ module _ {X : Type 0} where
   pub contains_none : (y : X) → Contains [] y → ⊥
   contains_none y c = omega (arith, c.1)
 
+  pub contains_one : (x y : X) → Contains (x ∷ []) y → x ≡ y
+  contains_one x y c = elim (contains_cases x [] y c) [ inl e ↦ e | inr d ↦ absurd (contains_none y d) ]
+
   -- and by their last
   pub contains_last : (xs : List X) (y : X) → Contains (xs ++ y ∷ []) y
   contains_last xs y = Contains-append_right xs (y ∷ []) y (contains_here y [])
@@ -202,10 +205,7 @@ module _ {X : Type 0} where
   )
 
   pub rising-push : (R : X → X → Type 0) (xs : List X) (y : X) → IsRising R xs → ((x : X) → Contains xs x → R x y) → IsRising R (xs ++ y ∷ [])
-  rising-push R xs y h b = rising-append R xs (y ∷ []) h (tt, tt) (λ x z c d. let same : z ≡ y = one_item y z d in rw same (b x c))
-    where
-      one_item : (y z : X) → Contains (y ∷ []) z → z ≡ y
-      one_item y z c = elim (contains_cases y [] z c) [ inl e ↦ sym e | inr d ↦ absurd (contains_none z d) ]
+  rising-push R xs y h b = rising-append R xs (y ∷ []) h (tt, tt) (λ x z c d. let same : z ≡ y = sym (contains_one y z d) in rw same (b x c))
 
   -- of two items of a rising list the earlier comes before
   pub rising_at : (R : X → X → Type 0) (xs : List X) → IsRising R xs → (i j : ℕ) (x y : X) → i < j → slice_get xs i ≡ Some x → slice_get xs j ≡ Some y → R x y

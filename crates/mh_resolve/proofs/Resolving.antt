@@ -22,7 +22,8 @@ use Rattle.mh_resolve.specs.declared.cells.Cell.{Cell}
 use Rattle.mh_resolve.specs.States.{HasConflict}
 use Rattle.mh_resolve.specs.Whole.{IsRow}
 use Rattle.mh_resolve.specs.Conflicts.{AreConflicts, IsConflictBefore, row_conflicts}
-use Rattle.mh_resolve.proofs.Listing.{rising_append, row_to, row_from, row_rising}
+use Rattle.mh_grammar.proofs.Lists.{rising-append}
+use Rattle.mh_resolve.proofs.Listing.{row_to, row_from, row_rising}
 use Rattle.mh_resolve.specs.declared.kinds.Mode.{Mode}
 use Rattle.mh_resolve.specs.States.{state_of, IsResolved, AreResolved}
 use Rattle.mh_resolve.specs.Whole.{closed_state, AreEdgesKnown}
@@ -119,7 +120,7 @@ collected_more g a n cells last stream r conflicts new e k = rw e (record { memb
     ]
 
     rising : IsRising IsConflictBefore (conflicts ++ here)
-    rising = rising_append IsConflictBefore conflicts here k.order (row_rising (state_of g a n) n cells last stream r)
+    rising = rising-append IsConflictBefore conflicts here k.order (row_rising (state_of g a n) n cells last stream r)
         (λ c d h i.
         let old = (k.members c).0 h in
         let found = row_to (state_of g a n) n cells last stream r d i in

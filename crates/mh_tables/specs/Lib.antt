@@ -2,7 +2,7 @@ pub mod Facts
 pub mod Failing
 pub mod Halting
 pub mod Moves
-pub mod Relative
 pub mod Run
 pub mod RunTrees
 pub mod Table
+pub mod code

@@ -21,8 +21,8 @@ abbrev pub table_data : Grammar → List StateParts → TableData
 table_data g states = record { grammar = plain_of g; costs = costs_of g.tokens; states = states }
 
 -- the cost of a token
-unfoldable pub cost_of : TableData → ℕ → ℕ
-cost_of t z = slice_index t.costs z
+unfoldable pub cost_of_token : TableData → ℕ → ℕ
+cost_of_token t z = slice_index t.costs z
 
 -- what is read where there is no such state
 abbrev pub no_state : StateParts

@@ -4,7 +4,7 @@ ghost use Rattle.mh_grammar.specs.declared.types.Symbol.TheVariants.{N};
 ghost use Rattle.mh_grammar.specs.Plain.{production_count, rhs_of, lhs_of};
 ghost use Rattle.mh_grammar.specs.Edges.{IsRising, IsEdgeBefore};
 ghost use Rattle.mh_grammar.specs.Costs.{costs_of};
-ghost use Rattle.mh_tables.specs.Table.{TableData, state_at, cell_of, fallback_of, edge_of, cost_of, table_data};
+ghost use Rattle.mh_tables.specs.Table.{TableData, state_at, cell_of, fallback_of, edge_of, cost_of_token, table_data};
 ghost use Rattle.mh_tables.specs.Facts.{Facts};
 
 use crate::parts::{Action, Fallback, StateParts};
@@ -115,10 +115,10 @@ impl Table {
     }
 
     /// What a token costs in a least sentence: from 1 to [`MAX_COST`](mh_grammar::MAX_COST).
-    #[tactic(auto, unfolding(crate::specs::Table::cost_of))]
+    #[tactic(auto, unfolding(crate::specs::Table::cost_of_token))]
     pub fn token_cost(&self, token: Token) -> u32
         requires { token < self.now.grammar.tokens }
-        ensures { result ≡ cost_of self.now token }
+        ensures { result ≡ cost_of_token self.now token }
     {
         self.costs.as_slice()[token as usize]
     }
