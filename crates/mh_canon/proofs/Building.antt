@@ -22,7 +22,7 @@ use Rattle.mh_items.specs.Automaton.{start_kernel}
 use Rattle.mh_canon.specs.Canonical.{targets_of}
 use Rattle.mh_canon.specs.Moves.{IsBehindDot, IsState, AreStates, AreStarts, IsSource, AreEdges}
 use Rattle.mh_canon.proofs.Edging.{IsRow, IsRow-kept, IsRow-new}
-use Rattle.mh_canon.proofs.Rising.{contains_here}
+use Rattle.mh_grammar.proofs.Lists.{contains_here}
 use Rattle.mh_canon.proofs.Sets.{start_holds}
 use Rattle.mh_canon.proofs.States.{IsSource-close, AreStates-edges}
 

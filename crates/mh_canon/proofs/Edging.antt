@@ -16,7 +16,7 @@ use Rattle.mh_items.specs.Shapes.{Kernel}
 use Rattle.mh_items.specs.Kernels.{Holds}
 use Rattle.mh_canon.specs.Canonical.{HasItem, targets_of}
 use Rattle.mh_canon.specs.Moves.{IsBehindDot, IsMove, AreEdges}
-use Rattle.mh_canon.proofs.Rising.{contains_cases, contains_none}
+use Rattle.mh_grammar.proofs.Lists.{contains_cases, contains_none}
 use Rattle.mh_canon.proofs.Sets.{same_trans, same_sym, has_same, moved_same, get_from_drop}
 
 pub symbol_true : (a b : Symbol) → same_symbol a b ≡ true → a ≡ b

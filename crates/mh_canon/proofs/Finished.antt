@@ -17,7 +17,7 @@ use Rattle.mh_canon.specs.Moves.{IsState}
 use Rattle.mh_canon.proofs.Building.{Building}
 use Rattle.mh_canon.proofs.Edging.{IsRow}
 use Rattle.mh_items.proofs.OneList.{kernel_same}
-use Rattle.mh_canon.proofs.Rising.{contains_none}
+use Rattle.mh_grammar.proofs.Lists.{contains_none}
 use Rattle.mh_canon.proofs.Sets.{same_sym, same_trans, has_same, moved_same, close_same, reach_has, start_holds}
 
 pub kernel_get : (a : Automaton) (s : ℕ) → s < length a.kernels → slice_get a.kernels s ≡ Some (kernel_at a s)

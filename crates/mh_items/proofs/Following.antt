@@ -20,7 +20,7 @@ use Rattle.mh_items.specs.Firsts.{AreSets, BeginsAll, IsRest}
 use Rattle.mh_items.specs.Asked.{IsAsked, IsTable, AreAwake, Adds, IsAt}
 use Rattle.mh_items.specs.Wanted as wanted
 use Rattle.mh_items.specs.Wanted.{Follows, IsItemSeed, IsSeedOf, IsSeed, AreSeeds}
-use Rattle.mh_items.proofs.Lists.{all_at}
+use Rattle.mh_grammar.proofs.Lists.{all_at}
 use Rattle.mh_items.proofs.Dotted.{drop_from-slice_get, slice_get_from-drop, drop_tail}
 use Rattle.mh_items.proofs.Growing.{Adds-then, Adds-as}
 

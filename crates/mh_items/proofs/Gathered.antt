@@ -21,7 +21,7 @@ use Rattle.mh_grammar.specs.Plain.{IsSymbolBelow}
 use Rattle.mh_grammar.specs.First as first
 use Rattle.mh_grammar.proofs.FirstSets.{first_of-below}
 use Rattle.mh_items.proofs.Linking.{LinksSoFar, LinksSoFar-push, LinksSoFar-skip}
-use Rattle.mh_items.proofs.Lists.{same_at}
+use Rattle.mh_grammar.proofs.Lists.{same_at}
 
 -- ---- FIRST as sets
 

@@ -13,7 +13,7 @@ use Rattle.mh_sets.specs.Sets.{IsSet}
 use Rattle.mh_items.specs.declared.asked.Asked.{Asked}
 use Rattle.mh_items.specs.declared.links.Link.{Link}
 use Rattle.mh_items.specs.Asked.{looks_at, IsAsked, IsWaiting, room, AreQueued, IsTable, Adds, IsAt, IsPassedOn, IsStep}
-use Rattle.mh_items.proofs.Lists.{get_left, get_last, contains_here}
+use Rattle.mh_grammar.proofs.Lists.{get_left, get_last, contains_here}
 
 -- how many looks a set of a width may still get
 abbrev left : ℕ → List Look → ℕ

@@ -7,7 +7,7 @@ use Rattle.mh_grammar.specs.Plain.{PlainGrammar, IsLookBelow}
 use Rattle.mh_items.specs.Shapes.{KernelItem}
 use Rattle.mh_items.specs.Kernels.{IsKernelItem}
 use Rattle.mh_items.specs.Merging.{IsJoined}
-use Rattle.mh_items.proofs.Lists.{recursion-from, recursion_contains}
+use Rattle.mh_grammar.proofs.Lists.{recursion-from, recursion_contains}
 
 pub joined_item : (g : PlainGrammar) (x y z : KernelItem) → IsKernelItem g x → IsKernelItem g y → IsJoined x y z → IsKernelItem g z
 joined_item g x y z i j h = record {

@@ -21,7 +21,7 @@ use Rattle.mh_grammar.proofs.Numbered.{IsProductionFor-ordinary, rhs_of-ordinary
 use Rattle.mh_items.specs.declared.links.Link.{Link}
 use Rattle.mh_items.specs.declared.first_sets.Sets.{Sets}
 use Rattle.mh_items.specs.Firsts.{AreSets, Begins, BeginsAll, IsRest, IsLink, IsLinked, AreLinksOf}
-use Rattle.mh_items.proofs.Lists.{same_at}
+use Rattle.mh_grammar.proofs.Lists.{same_at}
 
 unmarked : (ps : List Production) (a : ℕ) → Marked false ps (T a) → ⊥
 unmarked ps a (marked.Marked.token e) = false≢true e

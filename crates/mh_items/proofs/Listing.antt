@@ -15,7 +15,7 @@ use Rattle.mh_grammar.specs.ItemSets.{AreSame, Close, MayBegin}
 use Rattle.mh_grammar.specs.declared.types.Symbol.{Symbol}
 use Rattle.mh_grammar.specs.declared.types.Symbol.TheVariants.{N}
 use Rattle.mh_grammar.specs.Plain.{IsInRange, IsSymbolBelow, production_count, rhs_of}
-use Rattle.mh_items.proofs.Lists.{recursion_contains, contains_here}
+use Rattle.mh_grammar.proofs.Lists.{recursion_contains, contains_here}
 use Rattle.mh_grammar.proofs.Numbered.{listed_from_for}
 use Rattle.mh_items.specs.Shapes.{KernelItem}
 use Rattle.mh_items.specs.Shapes.{Kernel}
@@ -28,7 +28,7 @@ use Rattle.mh_items.specs.Wanted as wanted
 use Rattle.mh_items.specs.Wanted.{AreWanted, Wants}
 use Rattle.mh_items.specs.Asked.{looks_at, IsAsked, IsTable}
 use Rattle.mh_sets.specs.Sets.{IsSet}
-use Rattle.mh_items.proofs.Lists.{same_at, contains_at, at_contains, recursion-from}
+use Rattle.mh_grammar.proofs.Lists.{same_at, contains_at, at_contains, recursion-from}
 use Rattle.mh_items.proofs.Merged.{kernel_push, holds_push, holds_cases}
 use Rattle.mh_items.specs.declared.first_sets.Firsts.{Firsts}
 use Rattle.mh_items.specs.Firsts.{AreFirsts}

@@ -10,7 +10,7 @@ use Rattle.mh_items.specs.Shapes.{KernelItem}
 use Rattle.mh_items.specs.Shapes.{Kernel}
 use Rattle.mh_items.specs.Kernels.{Holds, IsKernel, IsKernelItem, IsItemBefore}
 use Rattle.mh_items.specs.Merging.{IsUnion, IsMerged, IsJoined}
-use Rattle.mh_items.proofs.Lists.{same_at, contains_at, at_contains, recursion_at, recursion-push, rising_at, rising-push}
+use Rattle.mh_grammar.proofs.Lists.{same_at, contains_at, at_contains, recursion_at, recursion-push, rising_at, rising-push}
 use Rattle.mh_items.proofs.OneList.{item_along}
 
 abbrev of_items : List KernelItem → Kernel

@@ -14,7 +14,7 @@ use Rattle.mh_grammar.specs.ItemSets.{AreSame, Moved}
 use Rattle.mh_items.specs.Shapes.{KernelItem}
 use Rattle.mh_items.specs.Shapes.{Kernel}
 use Rattle.mh_items.specs.Kernels.{Holds, IsKernel, IsKernelItem, IsItemBefore}
-use Rattle.mh_items.proofs.Lists.{same_at, contains_at, at_contains, recursion_at, rising_at}
+use Rattle.mh_grammar.proofs.Lists.{same_at, contains_at, at_contains, recursion_at, rising_at}
 use Rattle.mh_items.proofs.Dotted.{drop_from-slice_get, slice_get_from-drop}
 use Rattle.mh_items.proofs.Merged.{kernel_push}
 

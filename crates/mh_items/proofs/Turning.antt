@@ -8,7 +8,7 @@ use Rattle.std.specs.declared.cmp.Ordering.TheVariants.{Less, Equal, Greater}
 use Rattle.mh_items.specs.Shapes.{KernelItem}
 use Rattle.mh_items.specs.Kernels.{IsItemBefore}
 use Rattle.mh_items.specs.Merging.{IsTurn, order_of}
-use Rattle.mh_items.proofs.Lists.{same_at}
+use Rattle.mh_grammar.proofs.Lists.{same_at}
 
 -- what the order of two items says
 abbrev pub IsOrder : KernelItem → KernelItem → Ordering → Type 0

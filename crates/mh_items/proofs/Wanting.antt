@@ -24,7 +24,7 @@ use Rattle.mh_items.specs.Kernels.{Holds}
 use Rattle.mh_items.specs.Asked.{looks_at, IsAsked, IsWaiting, room, AreQueued, IsTable, AreAwake, Adds, IsPassedOn, IsStep}
 use Rattle.mh_items.specs.Wanted as wanted
 use Rattle.mh_items.specs.Wanted.{Wants, IsSeed, AreSeeds, AreWanted}
-use Rattle.mh_items.proofs.Lists.{same_at, contains_at, at_contains}
+use Rattle.mh_grammar.proofs.Lists.{same_at, contains_at, at_contains}
 
 module _ (g : PlainGrammar) (I : ItemSet) where
   -- what is wanted of a nonterminal is wanted of what its productions begin with

@@ -11,7 +11,7 @@ use Rattle.mh_grammar.specs.Plain.{PlainGrammar, IsInRange, IsSymbolBelow, produ
 use Rattle.mh_items.specs.Shapes.{KernelItem, Kernel}
 use Rattle.mh_items.specs.Kernels.{IsKernel, IsKernelItem}
 use Rattle.mh_items.proofs.Following.{side_below}
-use Rattle.mh_items.proofs.Lists.{all_at, recursion_at}
+use Rattle.mh_grammar.proofs.Lists.{all_at, recursion_at}
 use Rattle.mh_items.proofs.Moving.{MovedSoFar, MovedSoFar-start, MovedSoFar-push, MovedSoFar-skip, moved_of}
 use Rattle.mh_moves.specs.declared.rows.Rows.{Rows}
 use Rattle.mh_moves.specs.Moves.{IsMove}

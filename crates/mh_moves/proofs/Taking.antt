@@ -20,7 +20,7 @@ use Rattle.mh_grammar.proofs.Lists.{at_contains, contains_here, contains_there, 
 use Rattle.mh_items.specs.Shapes.{KernelItem, Kernel}
 use Rattle.mh_items.specs.Kernels.{Holds, IsKernel, IsKernelItem}
 use Rattle.mh_items.proofs.Dotted.{drop_from-slice_get, slice_get_from-drop}
-use Rattle.mh_items.proofs.Lists.{recursion_contains}
+use Rattle.mh_grammar.proofs.Lists.{recursion_contains}
 use Rattle.mh_moves.specs.declared.rows.Rows.{Rows}
 use Rattle.mh_moves.specs.Moves.{Move, IsBehindDot, IsMove, AreMoves, symbols_of}
 use Rattle.mh_moves.specs.Rows.{place_of, symbol_of, row_at, AreEmpty, AreFilled, AreGathered, AreReady, move_from}

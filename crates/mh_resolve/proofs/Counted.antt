@@ -4,7 +4,6 @@ use Rattle.std.proofs.lemmas.Bool.{cases_lt}
 use Rattle.std.proofs.lemmas.List.{get_or-replicate, append_assoc, append-nil}
 use Rattle.std.proofs.lemmas.List.Elements.{Contains-append_left, Contains-append_right}
 use Rattle.std.specs.List.{AllByRecursion}
-use Rattle.mh_grammar.proofs.Lists.{contains_here, contains_last as contains_the_last, contains_push, recursion_contains}
 use Rattle.mh_grammar.specs.declared.types.Grammar.{Grammar}
 use Rattle.mh_grammar.specs.declared.types.Look.{Look}
 use Rattle.mh_grammar.specs.declared.types.Look.TheVariants.{Token, End}
@@ -17,7 +16,7 @@ use Rattle.mh_resolve.specs.Levels.{compared}
 use Rattle.mh_resolve.specs.Tallies.{empty_tally, tally_with, weighed, IsTally}
 use Rattle.mh_resolve.specs.Counting.{Seen, shift_in, tally_on, IsChanged, AreTallied, With}
 use Rattle.mh_resolve.proofs.Tallying.{IsMore, empty_is, more_is, same_is}
-use Rattle.mh_resolve.proofs.Places.{contains_more, contains_last, contains_before}
+use Rattle.mh_grammar.proofs.Lists.{contains_here, contains_last, contains_push, recursion_contains, taken_before, taken_cases, taken_last}
 
 -- the items so far
 abbrev pub Front : List KernelItem → ℕ → ItemSet
@@ -79,7 +78,7 @@ looks_more g I item shifts front look old new complete changed h = record { len 
     more = record {
       new = λ q x. elim x [ inl y ↦ inl (inl y) | inr y ↦ inr (sym y.0) ];
       old = λ q x. still q look x;
-      here = inr (refl, complete, contains_the_last front look);
+      here = inr (refl, complete, contains_last front look);
     }
 
     each : (l : Look) → IsLookBelow (length g.tokens) l → IsTally (weighed (compared g l) (shift_in shifts l)) (Seen g (With I item (front ++ look ∷ [])) l) (tally_on new l)
@@ -127,14 +126,14 @@ looks_end g xs i item shifts t lt is = tallied_same g (With (Front xs i) item it
   where
     to : (look : Look) (p : ℕ) → Seen g (Front xs (i + 1)) look p → Seen g (With (Front xs i) item item.looks) look p
     to look p h =
-        elim (contains_more xs i item lt is h.0 h.1) [
+        elim (taken_cases xs i item lt is h.0 h.1) [
           | inl c ↦ inl (h.0, c, h.2, h.3, h.4)
           | inr e ↦ inr (ap (λ (k : KernelItem). k.production) e ∙ h.2, ap (λ (k : KernelItem). k.dot) e ∙ h.3, rw e h.4)
         ]
 
     from : (look : Look) (p : ℕ) → Seen g (With (Front xs i) item item.looks) look p → Seen g (Front xs (i + 1)) look p
-    from look p (inl h) = (h.0, contains_before xs i h.0 lt h.1, h.2, h.3, h.4)
-    from look p (inr h) = (item, contains_last xs i item lt is, h.0, h.1, h.2)
+    from look p (inl h) = (h.0, taken_before xs i h.0 lt h.1, h.2, h.3, h.4)
+    from look p (inr h) = (item, taken_last xs i item lt is, h.0, h.1, h.2)
 
 -- an item that is not complete
 pub item_passed : (g : Grammar) (xs : List KernelItem) (i : ℕ) (item : KernelItem) (shifts : List (Option ℕ)) (t : Tallies) → i < length xs → item ≡ get_or xs i item → (item.dot ≡ length (rhs_of (plain_of g) item.production) → ⊥) → AreTallied g (Front xs i) shifts t → AreTallied g (Front xs (i + 1)) shifts t
@@ -142,7 +141,7 @@ item_passed g xs i item shifts t lt is incomplete = tallied_same g (Front xs i) 
   where
     to : (look : Look) (p : ℕ) → Seen g (Front xs (i + 1)) look p → Seen g (Front xs i) look p
     to look p h =
-        elim (contains_more xs i item lt is h.0 h.1) [
+        elim (taken_cases xs i item lt is h.0 h.1) [
           | inl c ↦ (h.0, c, h.2, h.3, h.4)
           | inr e ↦ (
               let same : item.production ≡ p = ap (λ (k : KernelItem). k.production) e ∙ h.2 in
@@ -151,4 +150,4 @@ item_passed g xs i item shifts t lt is incomplete = tallied_same g (Front xs i) 
         ]
 
     from : (look : Look) (p : ℕ) → Seen g (Front xs i) look p → Seen g (Front xs (i + 1)) look p
-    from look p h = (h.0, contains_before xs i h.0 lt h.1, h.2, h.3, h.4)
+    from look p h = (h.0, taken_before xs i h.0 lt h.1, h.2, h.3, h.4)

@@ -1,5 +1,6 @@
 //! The table of an automaton, and its conflicts.
 ghost use Rattle.std.specs.Prelude.{◌≡◌, ◌≤◌, ◌*◌, ◌<◌, ◌↔◌, ℕ, [], length, IfOk, Some};
+ghost use Rattle.mh_grammar.specs.Costs.{HaveCosts};
 ghost use Rattle.mh_grammar.specs.Plain.{plain_of, IsInRange};
 ghost use Rattle.mh_grammar.specs.Edges.{IsRising, IsEdgeBefore};
 ghost use Rattle.mh_items.specs.Closer.{IsCloser};
@@ -62,6 +63,7 @@ fn resolve_states<const W: usize>(
     requires few { W ≤ 8 }
     requires width { length grammar.now.tokens ≤ 64 * W }
     requires range { IsInRange (plain_of grammar.now) }
+    requires costs { HaveCosts grammar.now.tokens }
     requires automaton { IsAutomaton (plain_of grammar.now) automaton.now }
     ensures states { IfOk result (λ r. AreResolved grammar.now automaton.now mode r.0.items) }
     ensures facts { IfOk result (λ r. Facts (table_data grammar.now r.0.items)) }
@@ -94,6 +96,7 @@ pub fn resolve<const W: usize>(
     requires few { W ≤ 8 }
     requires width { length grammar.now.tokens ≤ 64 * W }
     requires range { IsInRange (plain_of grammar.now) }
+    requires costs { HaveCosts grammar.now.tokens }
     requires automaton { IsAutomaton (plain_of grammar.now) automaton.now }
     ensures table { IfOk result (λ r. IsTableOf grammar.now automaton.now mode r.0) }
     ensures conflicts { IfOk result (λ r. AreConflicts grammar.now automaton.now r.1.items) }

@@ -17,8 +17,3 @@ pub use outcome::Verdict;
 pub use runs::verdict;
 pub use tracing::trace;
 pub use tree_run::{TreeOutcome, run_with_trees};
-
-#[cfg(test)]
-mod tests;
-#[cfg(test)]
-mod worked;

@@ -1,8 +1,6 @@
 pub mod Cut
 pub mod Ending
-pub mod Examples
 pub mod Finding
-pub mod Fitting
 pub mod Longer
 pub mod Path
 pub mod Reductions

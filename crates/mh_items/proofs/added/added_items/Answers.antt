@@ -4,7 +4,7 @@ use Rattle.mh_grammar.specs.Plain.{plain_of, IsProductionBelow}
 use Rattle.mh_sets.specs.Sets.{IsSet}
 use Rattle.mh_items.specs.Asked.{looks_at}
 use Rattle.mh_items.proofs.Listing.{AddedSoFar-push, added_of, next_number}
-use Rattle.mh_items.proofs.Lists.{all_at}
+use Rattle.mh_grammar.proofs.Lists.{all_at}
 use Rattle.mh_items.proofs.added.added_items.Goals as goal
 
 pub overflow_sub-number : goal.overflow_sub-number

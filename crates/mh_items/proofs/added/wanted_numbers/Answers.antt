@@ -6,7 +6,7 @@ use Rattle.std.proofs.lemmas.List.Sorted.{Contains-permutation, IsPermutation-sy
 use Rattle.std.proofs.lemmas.Map.Keys.{IsStrictlyIncreasing-dedup}
 use Rattle.std.proofs.lemmas.Option.{slice_get-get_or, slice_get_read}
 use Rattle.mh_grammar.specs.Plain.{plain_of}
-use Rattle.mh_items.proofs.Lists.{contains_at}
+use Rattle.mh_grammar.proofs.Lists.{contains_at}
 use Rattle.mh_items.proofs.Listing.{NumbersUpto-extend, NumbersUpto-all, queue_known}
 use Rattle.mh_items.proofs.added.wanted_numbers.Goals as goal
 

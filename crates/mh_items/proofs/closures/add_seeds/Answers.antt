@@ -5,7 +5,7 @@ use Rattle.mh_items.specs.Shapes.{KernelItem}
 use Rattle.mh_items.specs.Kernels.{IsKernelItem}
 use Rattle.mh_items.specs.Asked.{Adds}
 use Rattle.mh_items.specs.Wanted.{IsSeedOf}
-use Rattle.mh_items.proofs.Lists.{taken, all_at}
+use Rattle.mh_grammar.proofs.Lists.{taken, all_at}
 use Rattle.mh_items.proofs.Growing.{Adds-none}
 use Rattle.mh_items.proofs.Following.{seeds_none, seeds_step}
 use Rattle.mh_items.proofs.closures.add_seeds.Goals as goal

@@ -4,7 +4,7 @@ use Rattle.std.proofs.lemmas.Option.{slice_get_read}
 use Rattle.mh_grammar.specs.Plain.{plain_of, IsProductionBelow}
 use Rattle.mh_items.specs.Firsts.{IsLink}
 use Rattle.mh_items.proofs.Linking.{LinksSoFar-skip, LinksSoFar-all}
-use Rattle.mh_items.proofs.Lists.{all_at}
+use Rattle.mh_grammar.proofs.Lists.{all_at}
 use Rattle.mh_items.proofs.Gathered.{links_set}
 use Rattle.mh_items.proofs.gathering.all_links.Goals as goal
 use Rattle.mh_items.proofs.gathering.all_links.Goals.{in-Some+in_ok-push, in_default}

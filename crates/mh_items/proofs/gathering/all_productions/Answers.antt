@@ -2,7 +2,7 @@ use Rattle.std.proofs.Common.{◌≡◌, ◌<◌, ◌≤◌, Some, length, refl,
 use Rattle.std.specs.List.{slice_get}
 use Rattle.std.proofs.lemmas.Option.{slice_get_read}
 use Rattle.mh_grammar.specs.Plain.{plain_of, IsProductionBelow}
-use Rattle.mh_items.proofs.Lists.{all_at}
+use Rattle.mh_grammar.proofs.Lists.{all_at}
 use Rattle.mh_items.proofs.Gathered.{NumbersSoFar-all, numbers_set}
 use Rattle.mh_items.proofs.gathering.all_productions.Goals as goal
 

@@ -1,7 +1,7 @@
 use Rattle.std.proofs.Common.{◌≡◌, ℕ, ◌+◌, ◌<◌, List, [], ◌∷◌, ◌++◌, take, length, sym, subst, arith}
 use Rattle.mh_items.specs.declared.links.Link.{Link}
 use Rattle.mh_items.specs.Asked.{Adds, IsStep}
-use Rattle.mh_items.proofs.Lists.{taken}
+use Rattle.mh_grammar.proofs.Lists.{taken}
 use Rattle.mh_items.proofs.Growing.{links_step}
 use Rattle.mh_items.proofs.asked.Asked.visit.Goals as goal
 

@@ -4,9 +4,8 @@ use Rattle.std.specs.List.{All, Contains}
 use Rattle.std.specs.List.Sorted.{IsNonDecreasing}
 use Rattle.mh_grammar.specs.Plain.{production_count}
 use Rattle.mh_tables.specs.Table.{TableData, fallback_of}
-use Rattle.mh_tables.specs.declared.relative.HaltFault.{HaltFault}
-use Rattle.mh_tables.specs.declared.relative.HaltFault.TheVariants as faults
 use Rattle.mh_tables.specs.declared.relative.RelativeRun.{RelativeRun}
+use Rattle.mh_tables.specs.declared.relative.TheConstants.{MAX_REDUCTIONS}
 use Rattle.mh_tables.specs.Run.{Reduces, move_of, top_of, reduce, reduction, reductions}
 use Rattle.mh_tables.specs.Halting.{Halts, IsBeginning, IsLook, Loops, Clear, Before, LoopsAt, NoneLoops, look_list, beginning}
 
@@ -31,10 +30,10 @@ abbrev pub StackReduced : TableData → ℕ → List ℕ → Option (ℕ × ℕ)
 StackReduced t p stack None = reduce t p stack ≡ None
 StackReduced t p stack (Some (kept, target)) = Leaves t p stack kept target
 
--- the relative run makes no more than 10,000 reductions, and they leave this stack
+-- the relative run makes no more than `MAX_REDUCTIONS` reductions, and they leave this stack
 pub record RunsOut (t : TableData) (below : Option ℕ) (s : ℕ) (look : Option ℕ) (stack : List ℕ) : Type 0 where
   pub count : ℕ
-  pub few : count ≤ 10000
+  pub few : count ≤ MAX_REDUCTIONS
   pub made : reductions t (look_list look) count (beginning below s) ≡ Some stack
   pub over : reduction t (look_list look) stack ≡ None
 
@@ -89,16 +88,6 @@ pub record AreTargets (t : TableData) (r : ℕ) (targets : List ℕ) : Type 0 wh
   pub all : (u : ℕ) → IsBeginning t (Some r) u → Contains targets u
   pub known : All (λ u. u < length t.states) targets
   pub order : IsNonDecreasing targets
-
--- the fault of a table that doesn't halt: the first relative run that loops
-abbrev pub FaultOf : TableData → HaltFault → Type 0
-FaultOf t (faults.Loops below s look) = LoopsAt t below s look
-FaultOf t faults.Memory = Unit {0}
-
--- a table with such a fault doesn't halt
-abbrev pub IsRefused : TableData → HaltFault → Type 0
-IsRefused t (faults.Loops below s look) = Halts t → ⊥
-IsRefused t faults.Memory = Unit {0}
 
 -- the outcome of the whole test
 abbrev pub TestFound : TableData → Option RelativeRun → Type 0
