@@ -1,6 +1,7 @@
 pub mod Added
 pub mod Asked
 pub mod Closer
+pub mod Empties
 pub mod Firsts
 pub mod Automaton
 pub mod Kernels

@@ -5,6 +5,7 @@ mod added;
 mod asked;
 mod closer;
 mod closures;
+mod empties;
 pub mod first_sets;
 mod gathering;
 mod kernels;

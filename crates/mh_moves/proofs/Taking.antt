@@ -4,7 +4,7 @@ use Rattle.std.specs.List.{slice_get, All, AllByRecursion, Contains}
 use Rattle.std.specs.List.Sorted.{IsStrictlyIncreasing}
 use Rattle.std.proofs.lemmas.Bool.{cases_eq, cases_lt}
 use Rattle.std.proofs.lemmas.List.{get_or-set_other, length-set, get_or-take, get_or_past, length-take, map-append, take_more}
-use Rattle.std.proofs.lemmas.List.Elements.{All-map, Contains-get_or}
+use Rattle.std.proofs.lemmas.List.Elements.{All-map, Contains-append_left, Contains-get_or}
 use Rattle.std.proofs.lemmas.List.Kept.{AllPairs-from_increasing}
 use Rattle.std.proofs.lemmas.Option.{slice_get_within, get_or_from_slice_get}
 use Rattle.std.proofs.lemmas.Simd.{map-map}
@@ -16,41 +16,21 @@ use Rattle.mh_grammar.specs.Edges.{IsRising, IsSymbolBefore}
 use Rattle.mh_grammar.specs.Plain.{PlainGrammar, IsInRange, IsSymbolBelow, rhs_of}
 use Rattle.mh_grammar.specs.ItemSets as sets
 use Rattle.mh_grammar.specs.ItemSets.{Moved}
-use Rattle.mh_grammar.proofs.Lists.{at_contains, contains_here, contains_there, contains_cases, contains_push, contains_last, contains_none}
+use Rattle.mh_grammar.proofs.Lists.{at_contains, contains_push, contains_last, contains_none, contains_map, map_contains, some_item, recursion-from, recursion_contains}
 use Rattle.mh_items.specs.Shapes.{KernelItem, Kernel}
 use Rattle.mh_items.specs.Kernels.{Holds, IsKernel, IsKernelItem}
 use Rattle.mh_items.proofs.Dotted.{drop_from-slice_get, slice_get_from-drop}
-use Rattle.mh_grammar.proofs.Lists.{recursion_contains}
 use Rattle.mh_moves.specs.declared.rows.Rows.{Rows}
 use Rattle.mh_moves.specs.Moves.{Move, IsBehindDot, IsMove, AreMoves, symbols_of}
 use Rattle.mh_moves.specs.Rows.{place_of, symbol_of, row_at, AreEmpty, AreFilled, AreGathered, AreReady, move_from}
 use Rattle.mh_moves.proofs.Gathering.{symbol_below, place_within}
 
--- ---- lists
-
-module _ {X Y : Type 0} (f : X → Y) where
-  contains_map : (xs : List X) (y : Y) → Contains (map f xs) y → (x : X) × Contains xs x × (f x ≡ y)
-  contains_map [] y c = absurd (contains_none y c)
-  contains_map (x ∷ xs) y c = elim (contains_cases (f x) (map f xs) y c) [
-    | inl e ↦ (x, contains_here x xs, e)
-    | inr d ↦ (let at = contains_map xs y d in (at.0, contains_there x xs at.0 at.1, at.2))
-  ]
-
-  map_contains : (xs : List X) (x : X) → Contains xs x → Contains (map f xs) (f x)
-  map_contains [] x c = absurd (contains_none x c)
-  map_contains (z ∷ xs) x c = elim (contains_cases z xs x c) [
-    | inl e ↦ rw (← e) (contains_here (f z) (map f xs))
-    | inr d ↦ contains_there (f z) (map f xs) (f x) (map_contains xs x d)
-  ]
-
-each_from : {X : Type 0} (P : X → Type 0) (xs : List X) → ((x : X) → Contains xs x → P x) → AllByRecursion P xs
-each_from P [] h = tt
-each_from P (x ∷ xs) h = (h x (contains_here x xs), each_from P xs (λ z c. h z (contains_there x xs z c)))
+-- ---- lists that rise
 
 rising_from : {X : Type 0} (R : X → X → Type 0) (xs : List X) → ((i j : ℕ) (x y : X) → i < j → slice_get xs i ≡ Some x → slice_get xs j ≡ Some y → R x y) → IsRising R xs
 rising_from R [] h = tt
 rising_from R (x ∷ xs) h = (
-  each_from (R x) xs (λ y c. let at = at_contains xs y c in h 0 (suc at.0) x y (omega arith) refl at.1),
+  recursion-from (R x) xs (λ y c. let at = at_contains xs y c in h 0 (suc at.0) x y (omega arith) refl at.1),
   rising_from R xs (λ i j a b l e f. h (suc i) (suc j) a b (omega arith) e f),
 )
 
@@ -151,20 +131,13 @@ module _ {W : ℕ} (tokens : ℕ) (old : Rows W) (filled : List ℕ) (i : ℕ) (
     ];
     after = λ n o.
         let differs : n ≡ place → ⊥ = λ e. o (rw (take_more filled i 0 l, e) (contains_last (take i filled) place)) in
-        other n differs ∙ h.after n (λ c. o (rw (take_more filled i 0 l) (earlier n c)));
+        other n differs ∙ h.after n (λ c. o (rw (take_more filled i 0 l) (Contains-append_left (take i filled) (place ∷ []) n c)));
     taken = more ∙ ap (λ ms. ms ++ move ∷ []) h.taken ∙ ap (λ m. map (move_from tokens old) (take i filled) ++ m ∷ []) (is ∙ ap (λ (row : List KernelItem). record { symbol = symbol_of tokens place; kernel = record { items = row } }) taken_row)
         ∙ sym (map-append (move_from tokens old) (take i filled) (place ∷ [])) ∙ ap (map (move_from tokens old)) (sym (take_more filled i 0 l));
   }
     where
       other : (n : ℕ) → (n ≡ place → ⊥) → row_at new n ≡ row_at mid n
       other n o = ap (λ rs. get_or rs n []) rows ∙ get_or-set_other mid.rows.items place n [] [] o
-
-      earlier : (n : ℕ) → Contains (take i filled) n → Contains (take i filled ++ place ∷ []) n
-      earlier n c = front (take i filled) n c
-
-      front : (xs : List ℕ) (n : ℕ) → Contains xs n → Contains (xs ++ place ∷ []) n
-      front [] n c = absurd (contains_none n c)
-      front (x ∷ xs) n c = elim (contains_cases x xs n c) [ inl e ↦ rw (← e) (contains_here x (xs ++ place ∷ [])) | inr d ↦ contains_there x (xs ++ place ∷ []) n (front xs n d) ]
 
 no_items : {X : Type 0} (xs : List X) → (0 < length xs → ⊥) → xs ≡ []
 no_items [] o = refl
@@ -213,10 +186,6 @@ module _ {W : ℕ} (g : PlainGrammar) (range : IsInRange g) (closed : Kernel) (k
   first_held : (k : Kernel) → IsKernel g k → (item : KernelItem) → Contains k.items item → Holds k item.production item.dot (get_or item.looks 0 End)
   first_held k is item c = (item, c, refl, refl, Contains-get_or item.looks 0 End (recursion_contains (IsKernelItem g) k.items is.items item c).some)
 
-  some_item : (items : List KernelItem) → 0 < length items → (item : KernelItem) × Contains items item
-  some_item [] l = absurd (omega arith)
-  some_item (item ∷ items) l = (item, contains_here item items)
-
   behind_of : (n : ℕ) → Contains F n → IsBehindDot g closed (S n)
   behind_of n c =
       let move = of_row n c in
@@ -244,8 +213,8 @@ module _ {W : ℕ} (g : PlainGrammar) (range : IsInRange g) (closed : Kernel) (k
   are_moves = record {
     rising = rw symbols (rising_map (λ a b. a < b) IsSymbolBefore S (symbol_before g.tokens) F (numbers_rise F ready.rising));
     exact = λ X. (
-      (λ c. let at = contains_map S F X (rw symbols at c) in rw (← at.2) (behind_of at.0 at.1)),
-      (λ b. let at = listed_of X b in rw symbols (let P : Symbol → Type 0 = Contains (map S F) in subst P (symbol_place g.tokens g.nonterminals X at.1) (map_contains S F (place_of g.tokens X) at.0))),
+      (λ c. let at = map_contains S F X (rw symbols at c) in rw (← at.2) (behind_of at.0 at.1)),
+      (λ b. let at = listed_of X b in rw symbols (let P : Symbol → Type 0 = Contains (map S F) in subst P (symbol_place g.tokens g.nonterminals X at.1) (contains_map S F (place_of g.tokens X) at.0))),
     );
     each = All-map (λ (m : Move). IsMove g closed m.symbol m.kernel) (move_from g.tokens r) F (λ k d l. of_row (get_or F k d) (Contains-get_or F k d l));
   }

@@ -1,5 +1,5 @@
 -- Items in rows: a row for each token, then one for each nonterminal.
-use Rattle.std.specs.Prelude.{◌≡◌, ◌<◌, ◌+◌, ◌-◌, ◌↔◌, ℕ, List, [], nat_lt, if◌then◌else◌, length, vec_len, slice_index_or}
+use Rattle.std.specs.Prelude.{◌≡◌, ◌<◌, ◌+◌, ◌-◌, ◌↔◌, ◌⊎◌, ◌++◌, ℕ, List, [], ◌∷◌, nat_lt, if◌then◌else◌, length, vec_len, slice_index_or}
 use Rattle.std.specs.List.{Contains}
 use Rattle.std.specs.List.Sorted.{IsStrictlyIncreasing}
 use Rattle.mh_grammar.specs.declared.types.Symbol.{Symbol}
@@ -23,6 +23,10 @@ row_at r n = slice_index_or r.rows.items n []
 -- the rows that have items are listed
 pub record AreFilled {W : ℕ} (r : Rows W) : Type 0 where
   pub listed : (n : ℕ) → Contains r.filled.items n ↔ ((n < vec_len r.rows) × (0 < length (row_at r n)))
+
+-- a row has items, or is listed now
+abbrev pub IsListed : {W : ℕ} → ℕ → Rows W → Rows W → Type 0
+IsListed n old new = ((0 < length (row_at old n)) × (new.filled.items ≡ old.filled.items)) ⊎ ((row_at old n ≡ []) × (new.filled.items ≡ old.filled.items ++ n ∷ []))
 
 -- a row for each symbol, and none has items
 pub record AreEmpty {W : ℕ} (g : PlainGrammar) (r : Rows W) : Type 0 where

@@ -1,7 +1,7 @@
 //! A row of items for each symbol.
 ghost use Rattle.std.specs.Prelude.{◌≡◌, ◌<◌, ◌≤◌, ◌+◌, ◌^◌, ◌×◌, [], ◌∷◌, ◌++◌, ℕ, set, length, vec_len, slice_index_or, IfOk, OnOk};
 ghost use Rattle.mh_grammar.specs.Plain.{plain_of, IsInRange, IsSymbolBelow};
-ghost use Rattle.mh_moves.specs.Rows.{AreEmpty, AreFilled, place_of, row_at};
+ghost use Rattle.mh_moves.specs.Rows.{AreEmpty, AreFilled, IsListed, place_of, row_at};
 
 use mh_grammar::{Grammar, Memory, Sequence, Symbol};
 use mh_items::KernelItem;
@@ -41,10 +41,23 @@ impl<const W: usize> Rows<W> {
         ensures rows { OnOk result (self.new.rows.items ≡ set self.old.rows.items place (row_at self.old place ++ item.entry ∷ [])) }
         ensures filled { OnOk result (AreFilled self.old → AreFilled self.new) }
     {
-        if self.rows[place].is_empty() {
-            self.filled.push(place as u32)?;
-        }
+        self.list(place)?;
         self.rows[place].push(item)?;
+        Ok(())
+    }
+
+    /// Lists a row that has no items yet.
+    fn list(&mut self, place: usize) -> Result<(), Memory>
+        requires few { W ≤ 8 }
+        requires place { place < vec_len self.old.rows }
+        requires small { vec_len self.old.rows < 2 ^ 32 }
+        ensures rows { OnOk result (self.new.rows ≡ self.old.rows) }
+        ensures listed { OnOk result (IsListed place self.old self.new) }
+    {
+        if !self.rows[place].is_empty() {
+            return Ok(());
+        }
+        self.filled.push(place as u32)?;
         Ok(())
     }
 }

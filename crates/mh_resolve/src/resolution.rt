@@ -5,6 +5,7 @@ ghost use Rattle.mh_grammar.specs.Plain.{plain_of, IsInRange};
 ghost use Rattle.mh_grammar.specs.Edges.{IsRising, IsEdgeBefore};
 ghost use Rattle.mh_items.specs.Closer.{IsCloser};
 ghost use Rattle.mh_items.specs.Kernels.{IsKernel};
+ghost use Rattle.mh_items.specs.Empties.{HasComplete};
 ghost use Rattle.mh_items.specs.Automaton.{IsAutomaton};
 ghost use Rattle.mh_tables.specs.Table.{table_data, state_at};
 ghost use Rattle.mh_tables.specs.Facts.{Facts};
@@ -47,9 +48,32 @@ fn resolve_state<const W: usize>(
     ensures row { IfOk result (λ r. IsRow (closed_state grammar.now kernel.now edges.now) r.row.cells r.row.last r.row.stream) }
     ensures closer { IfOk result (λ _. IsCloser (plain_of grammar.now) closer.new) }
 {
+    if !closer.adds_complete(grammar, kernel) {
+        return resolve_listed(alloc, grammar, kernel, kernel, edges, mode);
+    }
     let closed = closer.close(alloc, grammar, kernel)?;
-    let row = row_of(alloc, grammar, kernel, &closed, edges)?;
-    let parts = parts_of(alloc, grammar, kernel, &closed, edges, mode, &row)?;
+    resolve_listed(alloc, grammar, kernel, &closed, edges, mode)
+}
+
+// By a list with the complete items of the state's closure.
+fn resolve_listed<const W: usize>(
+    alloc: Global,
+    grammar: &Grammar,
+    kernel: &Kernel<W>,
+    closed: &Kernel<W>,
+    edges: &[Edge],
+    mode: Mode,
+) -> Result<Resolved, Memory>
+    requires few { W ≤ 8 }
+    requires closed { IsKernel (plain_of grammar.now) closed.now }
+    requires exact { HasComplete (plain_of grammar.now) kernel.now closed.now }
+    requires rising { IsRising IsEdgeBefore edges.now }
+    requires known { AreEdgesKnown (length grammar.now.tokens) edges.now }
+    ensures parts { IfOk result (λ r. IsResolved mode (closed_state grammar.now kernel.now edges.now) kernel.now r.parts) }
+    ensures row { IfOk result (λ r. IsRow (closed_state grammar.now kernel.now edges.now) r.row.cells r.row.last r.row.stream) }
+{
+    let row = row_of(alloc, grammar, kernel, closed, edges)?;
+    let parts = parts_of(alloc, grammar, kernel, closed, edges, mode, &row)?;
     Ok(Resolved { parts, row })
 }
 

@@ -3,8 +3,8 @@ ghost use Rattle.std.specs.Prelude.{◌≡◌, ◌<◌, ◌≤◌, length, map, 
 ghost use Rattle.std.specs.List.{All};
 ghost use Rattle.mh_grammar.specs.Plain.{plain_of};
 ghost use Rattle.mh_grammar.specs.Edges.{IsRising, IsEdgeBefore};
-ghost use Rattle.mh_grammar.specs.ItemSets.{AreSame, Close};
-ghost use Rattle.mh_items.specs.Kernels.{Holds, IsKernel};
+ghost use Rattle.mh_items.specs.Kernels.{IsKernel};
+ghost use Rattle.mh_items.specs.Empties.{HasComplete};
 ghost use Rattle.mh_resolve.specs.States.{place_of, IsResolved};
 ghost use Rattle.mh_resolve.specs.Rows.{listed, IsLooked};
 ghost use Rattle.mh_resolve.specs.Whole.{closed_state, kept_of, IsFiller, filled_with, fallback_for, AreEdgesKnown, IsRow};
@@ -59,7 +59,7 @@ fn action_of(cell: &Cell, filler: Option<u32>) -> Action
 fn actions_of(alloc: Global, cells: &[Cell], filler: Option<u32>) -> Result<Vec<Action>, Memory>
     ensures { IfOk result (λ actions. actions.items ≡ map (filled_with filler) cells.now) }
 {
-    let mut actions = Vec::new(alloc);
+    let mut actions = Vec::with_capacity(alloc, cells.len())?;
     for cell in cells {
         actions.push(action_of(cell, filler))?;
     }
@@ -79,7 +79,7 @@ fn core_of<const W: usize>(alloc: Global, items: &[KernelItem<W>]) -> Result<Vec
     requires few { W ≤ 8 }
     ensures { IfOk result (λ core. core.items ≡ map place_of items.now) }
 {
-    let mut core = Vec::new(alloc);
+    let mut core = Vec::with_capacity(alloc, items.len())?;
     for item in items {
         core.push(place(item))?;
     }
@@ -102,7 +102,7 @@ pub(crate) fn fallback_of(grammar: &Grammar, default: Option<u32>) -> Option<Fal
     }
 }
 
-/// The row of a state.
+/// The row of a state, by a list with the complete items of its closure.
 pub(crate) fn row_of<const W: usize>(
     alloc: Global,
     grammar: &Grammar,
@@ -112,7 +112,7 @@ pub(crate) fn row_of<const W: usize>(
 ) -> Result<Row, Memory>
     requires few { W ≤ 8 }
     requires kernel { IsKernel (plain_of grammar.now) closed.now }
-    requires exact { AreSame (Holds closed.now) (Close (plain_of grammar.now) (Holds kernel.now)) }
+    requires exact { HasComplete (plain_of grammar.now) kernel.now closed.now }
     requires rising { IsRising IsEdgeBefore edges.now }
     requires known { AreEdgesKnown (length grammar.now.tokens) edges.now }
     ensures { IfOk result (λ row. IsRow (closed_state grammar.now kernel.now edges.now) row.cells row.last row.stream) }
@@ -130,7 +130,7 @@ pub(crate) fn row_of<const W: usize>(
     })
 }
 
-/// The parts of a state, from its row.
+/// The parts of a state, from its row and a list with the complete items of its closure.
 pub(crate) fn parts_of<const W: usize>(
     alloc: Global,
     grammar: &Grammar,
@@ -142,7 +142,7 @@ pub(crate) fn parts_of<const W: usize>(
 ) -> Result<StateParts, Memory>
     requires few { W ≤ 8 }
     requires closed { IsKernel (plain_of grammar.now) closed.now }
-    requires exact { AreSame (Holds closed.now) (Close (plain_of grammar.now) (Holds kernel.now)) }
+    requires exact { HasComplete (plain_of grammar.now) kernel.now closed.now }
     requires row { IsRow (closed_state grammar.now kernel.now edges.now) row.now.cells row.now.last row.now.stream }
     ensures { IfOk result (IsResolved mode (closed_state grammar.now kernel.now edges.now) kernel.now) }
 {
