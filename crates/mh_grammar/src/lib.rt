@@ -24,6 +24,6 @@ pub use names::{left_side_name, nonterminal_name, start_name, symbol_name, token
 pub use range::{has_costs_in_range, is_in_range};
 pub use sequence::Sequence;
 pub use types::{
-    Assoc, Grammar, Level, Look, MAX_COST, Memory, NontermInfo, Production, Sentence, Symbol, Token,
-    TokenInfo,
+    Assoc, Grammar, Level, Look, MAX_COST, Memory, NontermInfo, Production, Sentence, Symbol,
+    Token, TokenInfo,
 };

@@ -9,7 +9,7 @@ use Rattle.mh_tables.proofs.Reductions.{move_at_next}
 use Rattle.mh_tables.proofs.Ending.{step_moves}
 use Rattle.mh_run.specs.Following.{Following, along, along_after}
 use Rattle.mh_run.specs.Settled.{left_with, standing, Leads, SettlesDeep}
-use Rattle.mh_run.proofs.Accepted.{EndsBy, step_ends}
+use Rattle.mh_tables.proofs.Accepted.{EndsBy, step_ends}
 
 -- one more step
 pub after_one_more : (t : TableData) (n : ℕ) (c : Config) → after t (suc n) c ≡ next_of (after t n c) (step t (after t n c))

@@ -21,7 +21,7 @@ use Rattle.mh_tree.specs.Trees.{SyntaxTree, Leaf, IsTreeFor, yield_of}
 use Rattle.mh_tables.specs.RunTrees.{Grown, Stands, yields, trees_after}
 use Rattle.mh_tables.proofs.Trees.{stands_from_start}
 use Rattle.mh_run.specs.Exactness.{AllProductive}
-use Rattle.mh_run.proofs.Accepted.{EndsBy, step_ends, Bottom, bottom_after, rhs-start}
+use Rattle.mh_tables.proofs.Accepted.{EndsBy, step_ends, Bottom, bottom_after, rhs-start}
 use Rattle.mh_run.proofs.Derived.{tree_derives}
 use Rattle.mh_run.proofs.Standing.{StandsFor, start_item, start_item_only}
 use Rattle.mh_run.proofs.Turns.{no_ask}

@@ -15,7 +15,7 @@ use Rattle.mh_tables.specs.Table.{TableData, edge_of}
 use Rattle.mh_tables.specs.Run.{Config, Accepts, Shifts, Reduces, move_of, top_of, reduce, initial, step, after, next_of, Goes, Accepted, VerdictOf}
 use Rattle.mh_tables.proofs.Reductions.{after-add, reduction_is, step_reduces}
 use Rattle.mh_tables.proofs.Ending.{step_moves}
-use Rattle.mh_run.proofs.Accepted.{rhs-start}
+use Rattle.mh_tables.proofs.Accepted.{rhs-start}
 use Rattle.mh_run.proofs.Begun.{drop_next}
 use Rattle.mh_run.proofs.Clearly.{Clearly, look_of, may_begin}
 use Rattle.mh_run.proofs.Standing.{StandsFor, start_item}

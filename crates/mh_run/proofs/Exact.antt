@@ -10,7 +10,7 @@ use Rattle.mh_tables.proofs.Cut.{verdict_cut}
 use Rattle.mh_tables.proofs.Ending.{step_moves, after_ended, one_ending}
 use Rattle.mh_tables.proofs.Longer.{longer, step_longer, same_step, verdict_longer}
 use Rattle.mh_run.specs.Exactness.{IsPrefixSentence}
-use Rattle.mh_run.proofs.Accepted.{accepted_sentence}
+use Rattle.mh_run.proofs.AcceptedSentence.{accepted_sentence}
 
 not_overshot : (t : TableData) (n : ℕ) (c : Config) (read : ℕ) → step t (after t n c) ≡ Ends (Accepted read) → move_of t (top_of c.stack) c.left ≡ Asks → ⊥
 not_overshot t n c read e m =

@@ -5,13 +5,12 @@ use Rattle.mh_tables.specs.Table.{TableData}
 use Rattle.mh_tables.specs.Facts.{Facts}
 use Rattle.mh_tables.specs.Run.{Config, Move, Accepts, Asks, Refuses, Shifts, Reduces, move_of, top_of, step, next_of, initial, Ending, Accepted, VerdictOf}
 use Rattle.mh_tables.specs.RunTrees.{grow, trees_after}
+use Rattle.mh_tables.specs.Deep.{too_deep}
+use Rattle.mh_tables.specs.TreeRuns.{IsTreeOfRead, IsTooDeep}
 use Rattle.mh_tables.proofs.Reductions.{no_shift_at_end}
+use Rattle.mh_tables.proofs.Accepted.{accepted_one, accepted_from}
 use Rattle.mh_run.specs.Following.{Following, along, along_after, RunsSo, RunsDeep}
-use Rattle.mh_run.specs.Exactness.{IsTreeOfRead}
 use Rattle.mh_run.specs.Trace.{since_move, reduced_since, TraceOf}
-use Rattle.mh_run.specs.Deep.{too_deep}
-use Rattle.mh_run.specs.TreeRuns.{IsTooDeep}
-use Rattle.mh_run.proofs.Accepted.{accepted_one, accepted_from}
 
 -- a run with something along is a run
 pub ran_verdict : {S : Type 0} (f : Following S) (t : TableData) (start : ℕ) (w : List ℕ) (first s : S) (how : Ending) → RunsSo f t start w first how s → VerdictOf t start w how

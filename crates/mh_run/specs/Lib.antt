@@ -4,5 +4,4 @@ pub mod Verdicts
 pub mod Exactness
 pub mod Example
 pub mod Trace
-pub mod Deep
 pub mod TreeRuns

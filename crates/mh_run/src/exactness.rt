@@ -12,9 +12,8 @@ ghost use Rattle.mh_resolve.specs.Clear.{HasNoConflicts};
 ghost use Rattle.mh_resolve.specs.States.{IsTableOf};
 ghost use Rattle.mh_tables.specs.Run.{VerdictOf, Accepted, Overshot, Rejected};
 ghost use Rattle.mh_tree.specs.Trees.{SyntaxTree, IsTreeFor, yield_of};
-ghost use Rattle.mh_run.specs.TreeRuns.{IsOutcome};
-ghost use Rattle.mh_run.specs.declared.tree_run.TreeOutcome.{TreeOutcome};
-ghost use Rattle.mh_run.specs.Exactness.{IsTreeOfRead, IsPrefixSentence, AllProductive};
+ghost use Rattle.mh_tables.specs.TreeRuns.{IsTreeOfRead};
+ghost use Rattle.mh_run.specs.Exactness.{IsPrefixSentence, AllProductive};
 
 use mh_grammar::Grammar;
 use mh_items::Automaton;
@@ -34,13 +33,6 @@ pub fn accepts_with_tree(table: &Table)
 pub fn trees_derive()
     ensures { (g : PlainGrammar) (tree : SyntaxTree) (x : Symbol) → IsTreeFor g x tree → Derives g x (yield_of tree) }
 {}
-
-/// The run of a start with its trees has one outcome.
-pub fn one_outcome(table: &Table)
-    ensures { (start : ℕ) (w : List ℕ) (a b : TreeOutcome) → IsOutcome table.now start w a → IsOutcome table.now start w b → a ≡ b }
-{
-    let _table = table;
-}
 
 /// On the table of an automaton, with conflicts or without, where each nonterminal derives some word: where the run of a
 /// start overshoots, some sentence begins with the tokens.

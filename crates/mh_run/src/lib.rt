@@ -10,8 +10,7 @@ mod tracing;
 mod tree_run;
 
 pub use exactness::{
-    accepts_with_tree, one_outcome, overshoots_in_sentences, some_clean_table, trees_derive,
-    verdicts_are_exact,
+    accepts_with_tree, overshoots_in_sentences, some_clean_table, trees_derive, verdicts_are_exact,
 };
 pub use outcome::Verdict;
 pub use runs::verdict;

@@ -1,6 +1,7 @@
 //! The run of a sentence with its trees.
 ghost use Rattle.std.specs.Prelude.{◌≡◌, ◌<◌, ◌^◌, length, IfOk, All};
-ghost use Rattle.mh_run.specs.TreeRuns.{IsOutcome};
+ghost use Rattle.mh_tables.specs.TreeRuns.{IsTreeEnding};
+ghost use Rattle.mh_run.specs.TreeRuns.{tree_ending_for};
 
 use crate::follow::{Follow, Stop};
 use crate::outcome::Verdict;
@@ -50,7 +51,7 @@ impl Model for Trees {
 impl Follow for Trees {
     ghost use Rattle.std.specs.Prelude.{[], ◌∷◌, ◌++◌, ◌-◌, length, take, drop};
     ghost use Rattle.mh_tree.specs.Trees.{Leaf, Node, forest_of};
-    ghost use Rattle.mh_run.specs.Deep.{too_deep};
+    ghost use Rattle.mh_tables.specs.Deep.{too_deep};
 
     ghost following = { record { shifted = λ ts z. ts ++ Leaf z ∷ []; reduced = λ ts m p. take (length ts - m) ts ++ Node p (forest_of (drop (length ts - m) ts)) ∷ []; deep = too_deep } };
 
@@ -85,7 +86,7 @@ pub fn run_with_trees(
     requires start { start < length table.now.grammar.starts }
     requires tokens { All (λ z. z < table.now.grammar.tokens) sentence.now }
     requires few { length sentence.now < 2 ^ 32 }
-    ensures { IfOk result (λ outcome. IsOutcome table.now start sentence.now outcome) }
+    ensures { IfOk result (λ outcome. IsTreeEnding table.now start sentence.now (tree_ending_for outcome)) }
 {
     let _rows = table.table();
     let mut trees = Trees {

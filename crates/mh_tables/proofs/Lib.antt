@@ -1,7 +1,10 @@
+pub mod Accepted
 pub mod Cut
+pub mod Depth
 pub mod Ending
 pub mod Finding
 pub mod Longer
+pub mod OneTreeEnding
 pub mod Path
 pub mod Reductions
 pub mod Settling

@@ -1,3 +1,4 @@
+pub mod Deep
 pub mod Facts
 pub mod Failing
 pub mod Halting
@@ -5,4 +6,5 @@ pub mod Moves
 pub mod Run
 pub mod RunTrees
 pub mod Table
+pub mod TreeRuns
 pub mod code

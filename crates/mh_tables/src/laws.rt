@@ -3,6 +3,7 @@ ghost use Rattle.std.specs.Prelude.{◌≡◌, ◌<◌, ◌+◌, ◌++◌, List,
 ghost use Rattle.mh_tables.specs.Halting.{LoopsAt};
 ghost use Rattle.mh_tables.specs.Run.{VerdictOf, Ending, Rejected, after, initial};
 ghost use Rattle.mh_tables.specs.RunTrees.{Stands, trees_after};
+ghost use Rattle.mh_tables.specs.TreeRuns.{TreeEnding, IsTreeEnding};
 
 use crate::table::Table;
 
@@ -29,6 +30,11 @@ impl Table {
     {
         self.facts();
     }
+
+    /// The run of a start with its trees ends in one way.
+    pub fn one_tree_ending(&self)
+        ensures { (start : ℕ) (w : List ℕ) (a b : TreeEnding) → IsTreeEnding self.now start w a → IsTreeEnding self.now start w b → a ≡ b }
+    {}
 
     /// At most one relative run is the first that makes more than `MAX_REDUCTIONS` reductions.
     pub fn one_loop(&self)

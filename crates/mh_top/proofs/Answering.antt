@@ -6,7 +6,7 @@ use Rattle.mh_grammar.specs.declared.types.Grammar.{Grammar}
 use Rattle.mh_tables.specs.Table.{TableData}
 use Rattle.mh_tables.specs.Run.{initial}
 use Rattle.mh_tables.proofs.Ending.{one_ending}
-use Rattle.mh_run.proofs.OneOutcome.{one_outcome}
+use Rattle.mh_tables.proofs.OneTreeEnding.{one_tree_ending}
 use Rattle.mh_msgfile.specs.Sentences.{LineFound, IsSentence, IsUnreadable, NamesNoStart, LacksStart, NamesUnknown, sentence_in, vocabulary_of}
 use Rattle.mh_top.specs.Text.{Text}
 use Rattle.mh_top.specs.Each.{AnswersLine}
@@ -16,7 +16,7 @@ use Rattle.mh_top.specs.Verdicts.{Answering, Answers, AnswersOne, FoundBy, Sente
 
 sentence_once : (trees : Bool) (g : Grammar) (t : TableData) (s : Sentence) (a b : Text) → SentenceText trees g t s a → SentenceText trees g t s b → a ≡ b
 sentence_once false g t s a b p q = p.2 ∙ ap verdict_text (one_ending t (initial s.start s.tokens) p.0 q.0 p.1 q.1) ∙ sym q.2
-sentence_once true g t s a b p q = p.2 ∙ ap (outcome_text g) (one_outcome t s.start s.tokens p.0 q.0 p.1 q.1) ∙ sym q.2
+sentence_once true g t s a b p q = p.2 ∙ ap (outcome_text g) (one_tree_ending t s.start s.tokens p.0 q.0 p.1 q.1) ∙ sym q.2
 
 found_once : (Says : Sentence → Text → Type 0) → ((s : Sentence) (a b : Text) → Says s a → Says s b → a ≡ b) → (found : LineFound) (a b : Text) → FoundBy Says found a → FoundBy Says found b → a ≡ b
 found_once Says once (IsSentence s) a b p q = once s a b p q

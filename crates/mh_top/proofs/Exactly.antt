@@ -23,12 +23,10 @@ use Rattle.mh_tables.specs.Facts.{Facts}
 use Rattle.mh_tables.specs.Run.{Ending as Ended, Accepted, Overshot, Rejected, VerdictOf, initial}
 use Rattle.mh_tables.proofs.Cut.{verdict_cut}
 use Rattle.mh_tables.proofs.Ending.{one_ending}
-use Rattle.mh_run.specs.Exactness.{IsPrefixSentence, IsTreeOfRead, AllProductive}
-use Rattle.mh_run.specs.TreeRuns.{IsOutcome, IsTooDeep}
-use Rattle.mh_run.specs.declared.tree_run.TreeOutcome.{TreeOutcome}
-use Rattle.mh_run.specs.declared.tree_run.TreeOutcome.TheVariants as outcomes
+use Rattle.mh_run.specs.Exactness.{IsPrefixSentence, AllProductive}
+use Rattle.mh_tables.specs.TreeRuns.{IsTreeOfRead, IsTooDeep, TreeEnding, AcceptedTree, OvershotTree, RejectedTree, DeepTree, IsTreeEnding}
 use Rattle.mh_tree.specs.Trees.{SyntaxTree, IsTreeFor, text_of}
-use Rattle.mh_run.proofs.Accepted.{accepted_sentence}
+use Rattle.mh_run.proofs.AcceptedSentence.{accepted_sentence}
 use Rattle.mh_run.proofs.Telling.{overshoots, tells_prefix, tells_refused}
 use Rattle.mh_outside.specs.Shelf.{Files}
 use Rattle.mh_reader.specs.declared.modules.Module.{Module}
@@ -209,21 +207,21 @@ module _ (g : Grammar) (t : TableData) (s : Sentence) (text : Text) where
   of_verdict (Overshot state) verdict e = Overshoot state verdict e
   of_verdict (Rejected at state) verdict e = Reject at state verdict e
 
-  of_outcome : (outcome : TreeOutcome) → IsOutcome t s.start s.tokens outcome → text ≡ outcome_text g outcome → Shown true g t s text
-  of_outcome (outcomes.Accept read tree) is e = Accept read (is.0.left.steps, is.0.left.ends) (tree, e) (tree, e, is.0)
-  of_outcome (outcomes.Overshoot state) is e = Overshoot state is.0 e
-  of_outcome (outcomes.Reject at state) is e = Reject at state is.0 e
-  of_outcome outcomes.TooDeep is e = TooDeep e
+  of_outcome : (outcome : TreeEnding) → IsTreeEnding t s.start s.tokens outcome → text ≡ outcome_text g outcome → Shown true g t s text
+  of_outcome (AcceptedTree read tree) is e = Accept read (is.0.left.steps, is.0.left.ends) (tree, e) (tree, e, is.0)
+  of_outcome (OvershotTree state) is e = Overshoot state is.0 e
+  of_outcome (RejectedTree at state) is e = Reject at state is.0 e
+  of_outcome DeepTree is e = TooDeep e
 
   shown : (trees : Bool) → SentenceText trees g t s text → Shown trees g t s text
   shown false said = of_verdict said.0 said.1 said.2
   shown true said = of_outcome said.0 said.1 said.2
 
-  deep_so : (outcome : TreeOutcome) → IsOutcome t s.start s.tokens outcome → text ≡ outcome_text g outcome → (text ≡ codes "TOODEEP\n") ↔ IsTooDeep t s.start s.tokens
-  deep_so (outcomes.Accept read tree) is e = (λ deep. absurd (differ text 65 84 (ap first e) (ap first deep) (omega arith)), λ deep. absurd (is.1 deep))
-  deep_so (outcomes.Overshoot state) is e = (λ deep. absurd (differ text 79 84 (ap first e) (ap first deep) (omega arith)), λ deep. absurd (is.1 deep))
-  deep_so (outcomes.Reject at state) is e = (λ deep. absurd (differ text 82 84 (ap first e) (ap first deep) (omega arith)), λ deep. absurd (is.1 deep))
-  deep_so outcomes.TooDeep is e = (λ deep. is, λ deep. e)
+  deep_so : (outcome : TreeEnding) → IsTreeEnding t s.start s.tokens outcome → text ≡ outcome_text g outcome → (text ≡ codes "TOODEEP\n") ↔ IsTooDeep t s.start s.tokens
+  deep_so (AcceptedTree read tree) is e = (λ deep. absurd (differ text 65 84 (ap first e) (ap first deep) (omega arith)), λ deep. absurd (is.1 deep))
+  deep_so (OvershotTree state) is e = (λ deep. absurd (differ text 79 84 (ap first e) (ap first deep) (omega arith)), λ deep. absurd (is.1 deep))
+  deep_so (RejectedTree at state) is e = (λ deep. absurd (differ text 82 84 (ap first e) (ap first deep) (omega arith)), λ deep. absurd (is.1 deep))
+  deep_so DeepTree is e = (λ deep. is, λ deep. e)
 
   module _ (trees : Bool) where
     accepted : Shown trees g t s text → Accepts trees g text → (read : ℕ) × VerdictOf t s.start s.tokens (Accepted read) × Leaves trees g t s read text

@@ -5,9 +5,7 @@ use Rattle.mh_grammar.specs.declared.types.Sentence.{Sentence}
 use Rattle.mh_tables.specs.Table.{TableData}
 use Rattle.mh_tables.specs.Run.{Ending, Accepted, Overshot, Rejected, VerdictOf}
 use Rattle.mh_tree.specs.Trees.{text_of}
-use Rattle.mh_run.specs.TreeRuns.{IsOutcome}
-use Rattle.mh_run.specs.declared.tree_run.TreeOutcome.{TreeOutcome}
-use Rattle.mh_run.specs.declared.tree_run.TreeOutcome.TheVariants as outcomes
+use Rattle.mh_tables.specs.TreeRuns.{TreeEnding, AcceptedTree, OvershotTree, RejectedTree, DeepTree, IsTreeEnding}
 use Rattle.mh_top.specs.Text.{Text}
 use Rattle.mh_msgfile.specs.Sentences.{LineFound, IsSentence, IsUnreadable, NamesNoStart, LacksStart, NamesUnknown, sentence_in, vocabulary_of}
 
@@ -19,11 +17,11 @@ verdict_text (Overshot state) = codes "OVERSHOOT\n"
 verdict_text (Rejected at state) = codes "REJECT\n"
 
 -- with trees: what is accepted has a line with the tree of what was read
-abbrev pub outcome_text : Grammar → TreeOutcome → Text
-outcome_text g (outcomes.Accept read tree) = codes "ACCEPT\n" ++ text_of g tree ++ codes "\n"
-outcome_text g (outcomes.Overshoot state) = codes "OVERSHOOT\n"
-outcome_text g (outcomes.Reject at state) = codes "REJECT\n"
-outcome_text g outcomes.TooDeep = codes "TOODEEP\n"
+abbrev pub outcome_text : Grammar → TreeEnding → Text
+outcome_text g (AcceptedTree read tree) = codes "ACCEPT\n" ++ text_of g tree ++ codes "\n"
+outcome_text g (OvershotTree state) = codes "OVERSHOOT\n"
+outcome_text g (RejectedTree at state) = codes "REJECT\n"
+outcome_text g DeepTree = codes "TOODEEP\n"
 
 -- the text for a sentence is that of its verdict
 abbrev pub IsVerdictText : TableData → Sentence → Text → Type 0
@@ -31,7 +29,7 @@ IsVerdictText t s text = (how : Ending) × VerdictOf t s.start s.tokens how × (
 
 -- or that of its run with trees
 abbrev pub IsOutcomeText : Grammar → TableData → Sentence → Text → Type 0
-IsOutcomeText g t s text = (outcome : TreeOutcome) × IsOutcome t s.start s.tokens outcome × (text ≡ outcome_text g outcome)
+IsOutcomeText g t s text = (outcome : TreeEnding) × IsTreeEnding t s.start s.tokens outcome × (text ≡ outcome_text g outcome)
 
 abbrev pub SentenceText : Bool → Grammar → TableData → Sentence → Text → Type 0
 SentenceText false g t = IsVerdictText t

@@ -4,9 +4,10 @@ ghost use Rattle.std.specs.List.{All};
 ghost use Rattle.mh_grammar.specs.Plain.{plain_of, IsInRange};
 ghost use Rattle.mh_tables.specs.Run.{VerdictOf};
 ghost use Rattle.mh_run.specs.Verdicts.{ending_for};
+ghost use Rattle.mh_run.specs.TreeRuns.{tree_ending_for};
 ghost use Rattle.mh_top.specs.Each.{EachRan, EachCounts};
 ghost use Rattle.mh_top.specs.Work.{line_limit, max_lines};
-ghost use Rattle.mh_msgfile.specs.Sentences.{HasNumbers, vocabulary_of};
+ghost use Rattle.mh_msgfile.specs.Sentences.{vocabulary_in, vocabulary_of};
 ghost use Rattle.mh_top.specs.Verdicts.{Answers, AnswersOne, IsOutcomeText, IsVerdictText, SentenceText, outcome_text as outcome_line, verdict_text as verdict_line};
 
 use crate::each::{Answer, answer_each};
@@ -33,7 +34,7 @@ struct Answering {
     grammar: Grammar,
     lexicon: Lexicon,
     halting: Halting,
-    ghost numbers: { HasNumbers (vocabulary_of grammar) lexicon },
+    ghost numbers: { vocabulary_in lexicon ≡ vocabulary_of grammar },
     ghost same: { halting.grammar ≡ plain_of grammar },
 }
 
@@ -61,7 +62,7 @@ fn verdict_answer(alloc: Global, halting: &Halting, sentence: &Sentence) -> Resu
 
 /// The words for how a run with its trees ends, and the tree.
 fn outcome_text(alloc: Global, grammar: &Grammar, outcome: &TreeOutcome) -> Result<Vec<u8>, Memory>
-    ensures { IfOk result (λ text. text.items ≡ outcome_line grammar.now outcome.now) }
+    ensures { IfOk result (λ text. text.items ≡ outcome_line grammar.now (tree_ending_for outcome.now)) }
 {
     match outcome {
         TreeOutcome::Accept { tree, .. } => {
@@ -119,7 +120,7 @@ fn line_text(alloc: Global, by: &Answering, line: &[u8]) -> Result<Vec<u8>, Memo
         (record { trees = by.now.trees; grammar = by.now.grammar; table = by.now.halting })
         line.now text.items) }
 {
-    match by.lexicon.read(alloc, &by.grammar, line) {
+    match by.lexicon.read(alloc, line) {
         Ok(sentence) => sentence_text(alloc, by.trees, &by.grammar, &by.halting, &sentence),
         Err(SentenceFault::Unreadable) => Ok(b"ERROR unreadable\n".to_vec(alloc)?),
         Err(SentenceFault::UnknownStart { name }) => {

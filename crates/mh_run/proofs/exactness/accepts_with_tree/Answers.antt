@@ -1,4 +1,5 @@
-use Rattle.mh_run.proofs.Accepted.{accepted_tree, accepted_sentence}
+use Rattle.mh_tables.proofs.Accepted.{accepted_tree}
+use Rattle.mh_run.proofs.AcceptedSentence.{accepted_sentence}
 use Rattle.mh_run.proofs.exactness.accepts_with_tree.Goals as goal
 
 pub returns-clause-tree : goal.returns-clause-tree

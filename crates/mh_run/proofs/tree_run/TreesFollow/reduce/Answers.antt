@@ -1,7 +1,7 @@
 use Rattle.std.proofs.Common.{◌≡◌, ◌-◌, ◌<◌, length, drop, ap, refl, sym, subst, arith, ◌∙◌}
 use Rattle.std.specs.List.{All}
 use Rattle.mh_tree.specs.Trees.{height_of}
-use Rattle.mh_run.proofs.Depth.{reduce_fits, reduce_many, reduce_high}
+use Rattle.mh_tables.proofs.Depth.{reduce_fits, reduce_many, reduce_high}
 use Rattle.mh_run.proofs.tree_run.TreesFollow.reduce.Goals.{then-kept-ge-MAX_PAIRS-via-then-kept-ge-MAX_PAIRS, then-kept-ge-MAX_PAIRS-via-else-kept-ge-MAX_PAIRS+then-not-can_be_children}
 use Rattle.mh_run.proofs.tree_run.TreesFollow.reduce.Goals as goal
 

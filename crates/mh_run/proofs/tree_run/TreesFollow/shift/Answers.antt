@@ -1,5 +1,5 @@
 use Rattle.std.proofs.Common.{◌≡◌, length, ap, arith}
-use Rattle.mh_run.proofs.Depth.{shift_fits}
+use Rattle.mh_tables.proofs.Depth.{shift_fits}
 use Rattle.mh_run.proofs.tree_run.TreesFollow.shift.Goals as goal
 
 pub returns-clause-fits : goal.returns-clause-fits

@@ -6,7 +6,7 @@ use Rattle.std.proofs.lemmas.List.{length-take}
 use Rattle.std.proofs.lemmas.List.Elements.{All-nil, All-head, All-tail, All-cons}
 use Rattle.mh_tree.specs.Trees.{SyntaxTree, Leaf, Node, height_of, forest_height, forest_of}
 use Rattle.mh_tree.proofs.Heights.{heights_append}
-use Rattle.mh_run.specs.Deep.{too_deep}
+use Rattle.mh_tables.specs.Deep.{too_deep}
 
 or_no : (a b : Bool) → (a || b) ≡ false → (a ≡ false) × (b ≡ false)
 or_no true b e = cc
@@ -33,7 +33,7 @@ fits_heights ts e = ltb-false 4000 (heights ts) ((or_no (nat_lt 4000 (length ts)
 fits_from : (ts : List SyntaxTree) → length ts ≤ 4000 → heights ts ≤ 4000 → too_deep ts ≡ false
 fits_from ts l h = no_or (nat_lt 4000 (length ts)) (nat_lt 4000 (heights ts)) (le-ltb 4000 (length ts) l) (le-ltb 4000 (heights ts) h)
 
-deep_pairs : (ts : List SyntaxTree) → 4000 < length ts → too_deep ts ≡ true
+pub deep_pairs : (ts : List SyntaxTree) → 4000 < length ts → too_deep ts ≡ true
 deep_pairs ts l = or_left (nat_lt 4000 (length ts)) (nat_lt 4000 (heights ts)) (lt-ltb 4000 (length ts) l)
 
 deep_heights : (ts : List SyntaxTree) → 4000 < heights ts → too_deep ts ≡ true

@@ -19,8 +19,7 @@ use Rattle.mh_tables.specs.RunTrees.{Stands, yields, trees_after}
 use Rattle.mh_tables.proofs.Reductions.{reduced}
 use Rattle.mh_tables.proofs.Ending.{step_moves}
 use Rattle.mh_tables.proofs.Trees.{stands_from_start, accepts_one, AcceptsOne}
-use Rattle.mh_run.specs.Exactness.{IsTreeOfRead, IsPrefixSentence}
-use Rattle.mh_run.proofs.Derived.{tree_derives}
+use Rattle.mh_tables.specs.TreeRuns.{IsTreeOfRead}
 
 -- the right side of a start production
 pub rhs-start : (g : PlainGrammar) (start : ℕ) → start < length g.starts → rhs_of g start ≡ N (get_or g.starts start 0) ∷ []
@@ -155,8 +154,3 @@ module _ (t : TableData) (f : Facts t) (start : ℕ) (w : List ℕ) (read n : �
 
 pub accepted_tree : (t : TableData) (f : Facts t) (start : ℕ) (w : List ℕ) (read : ℕ) → start < length t.grammar.starts → VerdictOf t start w (Accepted read) → (tree : SyntaxTree) × IsTreeOfRead t start w read tree
 accepted_tree t f start w read lt (n, e) = (get_or (trees_after t n (initial start w) []) 0 (Leaf 0), accepted_from t f start w read n lt e)
-
-pub accepted_sentence : (t : TableData) (f : Facts t) (start : ℕ) (w : List ℕ) (read : ℕ) → start < length t.grammar.starts → VerdictOf t start w (Accepted read) → IsPrefixSentence t.grammar start w read
-accepted_sentence t f start w read lt v =
-    let a = accepted_tree t f start w read lt v in
-    record { within = a.1.within; sentence = rw (← a.1.spells) (tree_derives t.grammar a.0 (start_symbol t.grammar start) a.1.is) }
