@@ -1,6 +1,8 @@
 pub mod Added
 pub mod Asked
 pub mod Closer
+pub mod Collection
+pub mod Conflicts
 pub mod Empties
 pub mod Firsts
 pub mod Automaton

@@ -14,7 +14,7 @@ use Rattle.mh_items.proofs.Following.{side_below}
 use Rattle.mh_grammar.proofs.Lists.{all_at, recursion_at}
 use Rattle.mh_items.proofs.Moving.{MovedSoFar, MovedSoFar-start, MovedSoFar-push, MovedSoFar-skip, moved_of}
 use Rattle.mh_moves.specs.declared.rows.Rows.{Rows}
-use Rattle.mh_moves.specs.Moves.{IsMove}
+use Rattle.mh_items.specs.Collection.{IsMove}
 use Rattle.mh_moves.specs.Rows.{place_of, row_at, AreEmpty, AreFilled, AreGathered}
 
 abbrev of_items : List KernelItem → Kernel

@@ -21,7 +21,8 @@ use Rattle.mh_items.specs.Shapes.{KernelItem, Kernel}
 use Rattle.mh_items.specs.Kernels.{Holds, IsKernel, IsKernelItem}
 use Rattle.mh_items.proofs.Dotted.{drop_from-slice_get, slice_get_from-drop}
 use Rattle.mh_moves.specs.declared.rows.Rows.{Rows}
-use Rattle.mh_moves.specs.Moves.{Move, IsBehindDot, IsMove, AreMoves, symbols_of}
+use Rattle.mh_items.specs.Collection.{IsBehindDot, IsMove}
+use Rattle.mh_moves.specs.Moves.{Move, AreMoves, symbols_of}
 use Rattle.mh_moves.specs.Rows.{place_of, symbol_of, row_at, AreEmpty, AreFilled, AreGathered, AreReady, move_from}
 use Rattle.mh_moves.proofs.Gathering.{symbol_below, place_within}
 

@@ -1,30 +1,17 @@
 -- All moves of a closure (Knuth 1965).
-use Rattle.std.specs.Prelude.{◌≡◌, ◌↔◌, ℕ, List, Some, map, slice_get}
+use Rattle.std.specs.Prelude.{◌↔◌, List, map}
 use Rattle.std.specs.List.{All, Contains}
 use Rattle.mh_grammar.specs.declared.types.Symbol.{Symbol}
 use Rattle.mh_grammar.specs.declared.types.Look.{Look}
-use Rattle.mh_grammar.specs.Plain.{PlainGrammar, rhs_of}
+use Rattle.mh_grammar.specs.Plain.{PlainGrammar}
 use Rattle.mh_grammar.specs.Edges.{IsRising, IsSymbolBefore}
-use Rattle.mh_grammar.specs.ItemSets.{AreSame, Moved}
 use Rattle.mh_items.specs.Shapes.{Kernel}
-use Rattle.mh_items.specs.Kernels.{Holds, HasPlace, IsKernel}
+use Rattle.mh_items.specs.Collection.{IsBehindDot, IsMove}
 use Rattle.mh_moves.specs.declared.moves.MoveWith.{MoveWith}
 
 -- a move, whatever the width of its sets
 abbrev pub Move : Type 0
 Move = MoveWith (List Look)
-
--- the symbol stands behind the dot of an item
-pub record IsBehindDot (g : PlainGrammar) (k : Kernel) (X : Symbol) : Type 0 where
-  pub production : ℕ
-  pub dot : ℕ
-  pub place : HasPlace k production dot
-  pub behind : slice_get (rhs_of g production) dot ≡ Some X
-
--- the kernel of a move of a closure
-pub record IsMove (g : PlainGrammar) (closed : Kernel) (X : Symbol) (k : Kernel) : Type 0 where
-  pub kernel : IsKernel g k
-  pub same : AreSame (Holds k) (Moved g (Holds closed) X)
 
 abbrev pub symbols_of : List Move → List Symbol
 symbols_of moves = map (λ (m : Move). m.symbol) moves

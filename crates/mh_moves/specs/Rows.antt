@@ -7,7 +7,8 @@ use Rattle.mh_grammar.specs.declared.types.Symbol.TheVariants.{T, N}
 use Rattle.mh_grammar.specs.Plain.{PlainGrammar, IsSymbolBelow}
 use Rattle.mh_items.specs.Shapes.{KernelItem, Kernel}
 use Rattle.mh_moves.specs.declared.rows.Rows.{Rows}
-use Rattle.mh_moves.specs.Moves.{Move, IsMove}
+use Rattle.mh_items.specs.Collection.{IsMove}
+use Rattle.mh_moves.specs.Moves.{Move}
 
 -- where a symbol's row stands, and the symbol of a row
 abbrev pub place_of : ℕ → Symbol → ℕ

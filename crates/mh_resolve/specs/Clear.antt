@@ -24,6 +24,10 @@ pub record IsClear (s : State) : Type 0 where
 abbrev pub HasNoConflicts : Grammar → Automaton → Type 0
 HasNoConflicts g a = (s : ℕ) → s < length a.kernels → IsClear (state_of g a s)
 
+-- a cell of some state has two raw actions
+abbrev pub HasRawConflict : Grammar → Automaton → Type 0
+HasRawConflict g a = (s : ℕ) × (s < length a.kernels) × (look : Look) × IsConflict (Raw (state_of g a s) look)
+
 -- a production is complete on some look
 pub record Completes (s : State) (p : ℕ) : Type 0 where
   pub look : Look

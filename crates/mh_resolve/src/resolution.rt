@@ -11,7 +11,8 @@ ghost use Rattle.mh_tables.specs.Table.{table_data, state_at};
 ghost use Rattle.mh_tables.specs.Facts.{Facts};
 ghost use Rattle.mh_resolve.specs.States.{state_of, IsResolved, AreResolved, IsTableOf};
 ghost use Rattle.mh_resolve.specs.Conflicts.{AreConflicts};
-ghost use Rattle.mh_resolve.specs.Clear.{HasNoConflicts, ActsWithin, ActsClearly};
+ghost use Rattle.mh_items.specs.Conflicts.{IsConflicting, IsFaulty};
+ghost use Rattle.mh_resolve.specs.Clear.{HasNoConflicts, HasRawConflict, ActsWithin, ActsClearly};
 ghost use Rattle.mh_resolve.specs.Whole.{closed_state, IsRow, AreEdgesKnown};
 
 use crate::conflicts::{Conflict, add_conflicts};
@@ -173,6 +174,17 @@ pub fn conflicts_tell<const W: usize>(grammar: &Grammar, automaton: &Automaton<W
     let _grammar = grammar;
     let _automaton = automaton;
     let _conflicts = conflicts;
+}
+
+/// The states of an automaton have conflicts exactly where the item sets of their kernels do: an empty call that says so
+/// to contracts.
+pub fn conflicts_are_raw<const W: usize>(grammar: &Grammar, automaton: &Automaton<W>)
+    requires { IsAutomaton (plain_of grammar.now) automaton.now }
+    ensures none { HasNoConflicts grammar.now automaton.now ↔ (IsFaulty (plain_of grammar.now) automaton.now → ⊥) }
+    ensures raw { HasRawConflict grammar.now automaton.now ↔ IsConflicting (plain_of grammar.now) automaton.now }
+{
+    let _grammar = grammar;
+    let _automaton = automaton;
 }
 
 /// A table shifts along its automaton's edges and reduces what is complete; without conflicts it takes every raw action:

@@ -1,18 +1,15 @@
-use Rattle.std.proofs.Common.{◌≡◌, length, arith}
+use Rattle.std.proofs.Common.{◌≡◌, ◌<◌, length, arith, rules}
 use Rattle.mh_resolve.proofs.Resolving.{items_of, edges_known, edges_rise, front_more, all_resolved, facts_of, collected_more, row_at, all_collected}
 use Rattle.mh_resolve.proofs.resolution.resolve_states.Goals as goal
 
-pub resolve_state-requires-clause-kernel : goal.resolve_state-requires-clause-kernel
-resolve_state-requires-clause-kernel g c =
-    items_of c.args.grammar.now c.args.automaton.now c.requires.automaton c.loop-state.state c.index-kernel.result.now (let n = c.len-state-end.ensures in omega arith) c.index-kernel.ensures
-
-pub resolve_state-requires-clause-known : goal.resolve_state-requires-clause-known
-resolve_state-requires-clause-known g c =
-    edges_known c.args.grammar.now c.args.automaton.now c.requires.range c.requires.automaton c.loop-state.state c.as_slice-edges.result.now c.index.result.now (let n = c.len-state-end.ensures in omega arith) c.index.ensures c.as_slice-edges.ensures
-
-pub resolve_state-requires-clause-rising : goal.resolve_state-requires-clause-rising
-resolve_state-requires-clause-rising g c =
-    edges_rise c.args.grammar.now c.args.automaton.now c.requires.automaton c.loop-state.state c.as_slice-edges.result.now c.index.result.now (let n = c.len-state-end.ensures in omega arith) c.index.ensures c.as_slice-edges.ensures
+pub resolve_state-requires : goal.resolve_state-requires
+resolve_state-requires g c =
+    let automaton = c.args.automaton.now in
+    let within : c.loop-state.state < length automaton.kernels = (let n = c.len-state-end.ensures in omega arith) in
+    let kernel = items_of c.args.grammar.now automaton c.requires.automaton c.loop-state.state c.index-kernel.result.now within c.index-kernel.ensures in
+    let rising = edges_rise c.args.grammar.now automaton c.requires.automaton c.loop-state.state c.as_slice-edges.result.now c.index.result.now within c.index.ensures c.as_slice-edges.ensures in
+    let known = edges_known c.args.grammar.now automaton c.requires.range c.requires.automaton c.loop-state.state c.as_slice-edges.result.now c.index.result.now within c.index.ensures c.as_slice-edges.ensures in
+    (search rules, (c.requires.few, (c.requires.width, (c.requires.range, (c.loop-state.invariant.2, (kernel, (rising, known)))))))
 
 pub add_conflicts-requires : goal.add_conflicts-requires
 add_conflicts-requires g c =
