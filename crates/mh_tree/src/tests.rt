@@ -4,7 +4,7 @@ ghost use Rattle.mh_tree.specs.Trees.{height_of, Node, Cons, Nil};
 
 use crate::text::print_tree;
 use crate::tokens::yield_of;
-use crate::tree::{Tree, leaf, node};
+use crate::tree::{MAX_HEIGHT, Tree, leaf, node};
 use mh_grammar::{
     Grammar, Memory, NontermInfo, Production, Sequence, Symbol, TokenInfo, from_bytes,
 };
@@ -55,8 +55,8 @@ fn sample(alloc: Global) -> Result<Grammar, Memory> {
 }
 
 fn pair(alloc: Global, production: u32, first: Tree, second: Tree) -> Result<Tree, Memory>
-    requires first { height_of first < 4000 }
-    requires second { height_of second < 4000 }
+    requires first { height_of first < MAX_HEIGHT }
+    requires second { height_of second < MAX_HEIGHT }
     ensures { IfOk result (λ t. t ≡ Node production (Cons first (Cons second Nil))) }
 {
     let mut children = Vec::new(alloc);
@@ -125,8 +125,8 @@ fn a_chain_of_the_greatest_height(rt: HostRuntime) -> Result<(), Fail> {
 // Nodes with one child each, over a leaf.
 fn highest_chain(alloc: Global) -> Result<Tree, Memory> {
     let mut chain = leaf(alloc, 0)?;
-    for _ in 1..4000 {
-        if chain.height() < 4000 {
+    for _ in 1..MAX_HEIGHT {
+        if chain.height() < MAX_HEIGHT {
             chain = over(alloc, chain)?;
         }
     }
@@ -134,7 +134,7 @@ fn highest_chain(alloc: Global) -> Result<Tree, Memory> {
 }
 
 fn over(alloc: Global, child: Tree) -> Result<Tree, Memory>
-    requires { height_of child < 4000 }
+    requires { height_of child < MAX_HEIGHT }
     ensures { IfOk result (λ t. t ≡ Node 1 (Cons child Nil)) }
 {
     let mut children = Vec::new(alloc);

@@ -20,11 +20,12 @@ use Rattle.mh_tables.specs.Run.{Config, Move, Accepts, Asks, Refuses, Shifts, Re
 use Rattle.mh_tree.specs.Trees.{SyntaxTree, Leaf, IsTreeFor, yield_of}
 use Rattle.mh_tables.specs.RunTrees.{Grown, Stands, yields, trees_after}
 use Rattle.mh_tables.proofs.Trees.{stands_from_start}
-use Rattle.mh_run.specs.Exactness.{AllProductive}
-use Rattle.mh_tables.proofs.Accepted.{EndsBy, step_ends, Bottom, bottom_after, rhs-start}
-use Rattle.mh_run.proofs.Derived.{tree_derives}
-use Rattle.mh_run.proofs.Standing.{StandsFor, start_item, start_item_only}
-use Rattle.mh_run.proofs.Turns.{no_ask}
+use Rattle.mh_exact.specs.Exactness.{AllProductive}
+use Rattle.mh_tables.proofs.Accepted.{EndsBy, step_ends, Bottom, bottom_after}
+use Rattle.mh_grammar.proofs.Numbered.{rhs_of-start}
+use Rattle.mh_tables.proofs.Asking.{no_ask}
+use Rattle.mh_exact.proofs.Derived.{tree_derives}
+use Rattle.mh_exact.proofs.Standing.{StandsFor, start_item, start_item_only}
 
 yields-push : (a : List SyntaxTree) (x : SyntaxTree) → yields (a ++ x ∷ []) ≡ yields a ++ yield_of x
 yields-push [] x = append-nil (yield_of x)
@@ -94,7 +95,7 @@ module _ (t : TableData) (range : IsInRange t.grammar) (productive : AllProducti
 
     start_finishes : Finishes 0 start 0
     unfolding Finishes
-    start_finishes v f = ([], rw (append-nil v) (single (start_symbol t.grammar start) v (rw (rhs-start t.grammar start lt) at f)))
+    start_finishes v f = ([], rw (append-nil v) (single (start_symbol t.grammar start) v (rw (rhs_of-start t.grammar start lt) at f)))
 
     -- the state above a place is where the edge leads
     above : (k : ℕ) → (lt' : k < length kids) → IsTarget t.grammar a (get_or stack k 0) (g.each k lt').0 (get_or stack (k + 1) 0)

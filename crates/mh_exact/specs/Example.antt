@@ -14,7 +14,7 @@ use Rattle.mh_tables.specs.Facts.{Facts}
 use Rattle.mh_resolve.specs.declared.kinds.Mode.{Mode}
 use Rattle.mh_resolve.specs.States.{IsTableOf}
 use Rattle.mh_resolve.specs.Clear.{HasNoConflicts}
-use Rattle.mh_run.specs.Exactness.{AllProductive}
+use Rattle.mh_exact.specs.Exactness.{AllProductive}
 
 -- `s: A`
 abbrev pub one_grammar : Grammar

@@ -28,8 +28,8 @@ use Rattle.mh_tables.specs.declared.parts.Fallback.TheVariants as fallbacks
 use Rattle.mh_tables.specs.Table.{TableData, state_at, cell_of, fallback_of}
 use Rattle.mh_tables.specs.Facts.{Facts}
 use Rattle.mh_tables.specs.Run.{Move, Accepts, Shifts, Reduces, move_of, move_of_next, move_by_default}
-use Rattle.mh_run.proofs.Begun.{drop_next}
-use Rattle.mh_run.proofs.Standing.{StandsFor, stands_for}
+use Rattle.mh_exact.proofs.Begun.{drop_next}
+use Rattle.mh_exact.proofs.Standing.{StandsFor, stands_for}
 
 -- what comes next: a token, or the end
 abbrev pub look_of : List ℕ → Look

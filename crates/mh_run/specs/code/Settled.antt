@@ -5,7 +5,7 @@ use Rattle.mh_tables.specs.Table.{TableData}
 use Rattle.mh_tables.specs.Facts.{HasGoto}
 use Rattle.mh_tables.specs.Run.{Config, Move, Reduces, move_of, top_of, after, IsRunStack}
 use Rattle.mh_tables.specs.Halting.{look_list}
-use Rattle.mh_run.specs.Following.{Following, along_after}
+use Rattle.mh_run.specs.code.Following.{Following, along_after}
 
 -- the state that comes to the top where a right side is taken off
 abbrev pub below_of : TableData → ℕ → List ℕ → ℕ

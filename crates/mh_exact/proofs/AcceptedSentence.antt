@@ -5,8 +5,8 @@ use Rattle.mh_tables.specs.Table.{TableData}
 use Rattle.mh_tables.specs.Facts.{Facts}
 use Rattle.mh_tables.specs.Run.{VerdictOf, Accepted}
 use Rattle.mh_tables.proofs.Accepted.{accepted_tree}
-use Rattle.mh_run.specs.Exactness.{IsPrefixSentence}
-use Rattle.mh_run.proofs.Derived.{tree_derives}
+use Rattle.mh_exact.specs.Exactness.{IsPrefixSentence}
+use Rattle.mh_exact.proofs.Derived.{tree_derives}
 
 pub accepted_sentence : (t : TableData) (f : Facts t) (start : ℕ) (w : List ℕ) (read : ℕ) → start < length t.grammar.starts → VerdictOf t start w (Accepted read) → IsPrefixSentence t.grammar start w read
 accepted_sentence t f start w read lt v =

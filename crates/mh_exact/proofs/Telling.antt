@@ -10,12 +10,12 @@ use Rattle.mh_resolve.specs.Clear.{HasNoConflicts}
 use Rattle.mh_tables.specs.Table.{TableData}
 use Rattle.mh_tables.specs.Facts.{Facts}
 use Rattle.mh_tables.specs.Run.{VerdictOf, Accepted, Overshot, Rejected}
-use Rattle.mh_run.specs.Exactness.{IsPrefixSentence, AllProductive}
-use Rattle.mh_run.proofs.Begun.{overshot_begins}
-use Rattle.mh_run.proofs.Clearly.{clearly}
-use Rattle.mh_run.proofs.Complete.{sentence_accepted}
-use Rattle.mh_run.proofs.Exact.{sentence_exactly, prefix_exactly, one_prefix, rejects_no_sentence}
-use Rattle.mh_run.proofs.Standing.{stands_for}
+use Rattle.mh_exact.specs.Exactness.{IsPrefixSentence, AllProductive}
+use Rattle.mh_exact.proofs.Begun.{overshot_begins}
+use Rattle.mh_exact.proofs.Clearly.{clearly}
+use Rattle.mh_exact.proofs.Complete.{sentence_accepted}
+use Rattle.mh_exact.proofs.Exact.{sentence_exactly, prefix_exactly, one_prefix, rejects_no_sentence}
+use Rattle.mh_exact.proofs.Standing.{stands_for}
 
 -- some sentence of the grammar begins with the tokens of a run that overshoots
 abbrev OvershootsWithin : PlainGrammar → TableData → Type 0

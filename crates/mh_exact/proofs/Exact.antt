@@ -8,20 +8,15 @@ use Rattle.mh_tables.specs.Facts.{Facts}
 use Rattle.mh_tables.specs.Run.{Config, Asks, move_of, top_of, initial, step, Step, Goes, Ends, Stuck, after, next_of, VerdictOf, Rejected, Accepted, Overshot}
 use Rattle.mh_tables.proofs.Cut.{verdict_cut}
 use Rattle.mh_tables.proofs.Ending.{step_moves, after_ended, one_ending}
-use Rattle.mh_tables.proofs.Longer.{longer, step_longer, same_step, verdict_longer}
-use Rattle.mh_run.specs.Exactness.{IsPrefixSentence}
-use Rattle.mh_run.proofs.AcceptedSentence.{accepted_sentence}
+use Rattle.mh_tables.proofs.Longer.{longer, step_longer, same_step, next_longer, verdict_longer}
+use Rattle.mh_exact.specs.Exactness.{IsPrefixSentence}
+use Rattle.mh_exact.proofs.AcceptedSentence.{accepted_sentence}
 
 not_overshot : (t : TableData) (n : ℕ) (c : Config) (read : ℕ) → step t (after t n c) ≡ Ends (Accepted read) → move_of t (top_of c.stack) c.left ≡ Asks → ⊥
 not_overshot t n c read e m =
     let ended : step t c ≡ Ends (Overshot (top_of c.stack)) = step_moves t c Asks m in
     let stays : after t n c ≡ c = after_ended t n c (Overshot (top_of c.stack)) ended in
     let both : Ends (Accepted read) ≡ Ends (Overshot (top_of c.stack)) = sym e ∙ ap (step t) stays ∙ ended in cc
-
-next_longer : (v : List ℕ) (c : Config) (s : Step) → next_of (longer v c) (step_longer v s) ≡ longer v (next_of c s)
-next_longer v c (Goes n) = refl
-next_longer v c (Ends how) = refl
-next_longer v c Stuck = refl
 
 -- a run that accepts accepts with more tokens to come
 accepted_longer : (t : TableData) (v : List ℕ) (n : ℕ) (c : Config) (read : ℕ) → step t (after t n c) ≡ Ends (Accepted read) → step t (after t n (longer v c)) ≡ Ends (Accepted read)

@@ -1,5 +1,5 @@
-use Rattle.mh_run.proofs.Telling.{tells_whole, tells_prefix, tells_one, tells_refused}
-use Rattle.mh_run.proofs.exactness.verdicts_are_exact.Goals as goal
+use Rattle.mh_exact.proofs.Telling.{tells_whole, tells_prefix, tells_one, tells_refused}
+use Rattle.mh_exact.proofs.exactness.verdicts_are_exact.Goals as goal
 
 pub returns-clause-whole : goal.returns-clause-whole
 returns-clause-whole c = tells_whole c.args.grammar.now c.args.automaton.now c.args.mode c.args.table.now c.facts.ensures c.requires.automaton c.requires.table c.requires.clear

@@ -15,10 +15,10 @@ use Rattle.mh_tables.specs.Table.{TableData, edge_of}
 use Rattle.mh_tables.specs.Run.{Config, Accepts, Shifts, Reduces, move_of, top_of, reduce, initial, step, after, next_of, Goes, Accepted, VerdictOf}
 use Rattle.mh_tables.proofs.Reductions.{after-add, reduction_is, step_reduces}
 use Rattle.mh_tables.proofs.Ending.{step_moves}
-use Rattle.mh_tables.proofs.Accepted.{rhs-start}
-use Rattle.mh_run.proofs.Begun.{drop_next}
-use Rattle.mh_run.proofs.Clearly.{Clearly, look_of, may_begin}
-use Rattle.mh_run.proofs.Standing.{StandsFor, start_item}
+use Rattle.mh_grammar.proofs.Numbered.{rhs_of-start}
+use Rattle.mh_exact.proofs.Begun.{drop_next}
+use Rattle.mh_exact.proofs.Clearly.{Clearly, look_of, may_begin}
+use Rattle.mh_exact.proofs.Standing.{StandsFor, start_item}
 
 abbrev here : List ℕ → ℕ → List ℕ → Config
 here stack read left = record { stack = stack; read = read; left = left }
@@ -143,9 +143,9 @@ module _ (t : TableData) (a : Automaton) (is : StandsFor t a) (clear : (s : ℕ)
   pub sentence_accepted : (start : ℕ) (w : List ℕ) → start < length t.grammar.starts → IsSentence t.grammar start w → VerdictOf t start w (Accepted (length w))
   sentence_accepted start w lt tree =
       let first : closure_of t.grammar a start start 0 End = given (start_item t.grammar a is.automaton start lt) in
-      let x = tree_passes tree (start ∷ []) 0 [] start 0 End [] (omega arith) first (rhs-start t.grammar start lt) (passes trees.Derivations.none) in
-      let there : kernel_of a x.target start 1 End = arrives start start 0 End (N (get_or t.grammar.starts start 0)) [] x.target x.leads first (rhs-start t.grammar start lt) in
-      let done : closure_of t.grammar a x.target start (length (rhs_of t.grammar start)) End = rw (rhs-start t.grammar start lt) (given there) in
+      let x = tree_passes tree (start ∷ []) 0 [] start 0 End [] (omega arith) first (rhs_of-start t.grammar start lt) (passes trees.Derivations.none) in
+      let there : kernel_of a x.target start 1 End = arrives start start 0 End (N (get_or t.grammar.starts start 0)) [] x.target x.leads first (rhs_of-start t.grammar start lt) in
+      let done : closure_of t.grammar a x.target start (length (rhs_of t.grammar start)) End = rw (rhs_of-start t.grammar start lt) (given there) in
       let move : move_of t x.target [] ≡ Accepts = (clear_at x.target start (length (rhs_of t.grammar start)) End done).accepts start [] lt done in
       let place : 0 + length w ≡ length w = omega arith in
       let run : after t x.steps (initial start w) ≡ here (start ∷ x.target ∷ []) (length w) [] =

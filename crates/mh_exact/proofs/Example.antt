@@ -29,9 +29,9 @@ use Rattle.mh_resolve.proofs.Closed.{came_from, closure_within}
 use Rattle.mh_resolve.proofs.Once.{raw_taken}
 use Rattle.mh_resolve.proofs.Stating.{takes_raw, takes_stays}
 use Rattle.mh_resolve.proofs.Tabled.{facts}
-use Rattle.mh_run.specs.Exactness.{AllProductive}
-use Rattle.mh_run.specs.Example.{one_grammar, one_automaton, one_states, one_table, MeetsPremises}
-use Rattle.mh_run.proofs.Standing.{IsAlone, kernel_with, with_holds, place_only, with_only}
+use Rattle.mh_exact.specs.Exactness.{AllProductive}
+use Rattle.mh_exact.specs.Example.{one_grammar, one_automaton, one_states, one_table, MeetsPremises}
+use Rattle.mh_exact.proofs.Standing.{IsAlone, kernel_with, with_holds, place_only, with_only}
 
 abbrev g : PlainGrammar
 g = plain_of one_grammar

@@ -4,7 +4,7 @@ ghost use Rattle.mh_grammar.specs.declared.types.Grammar.{Grammar};
 ghost use Rattle.mh_items.specs.declared.kernels.Automaton.{Automaton};
 ghost use Rattle.mh_tables.specs.Table.{TableData};
 ghost use Rattle.mh_resolve.specs.declared.kinds.Mode.{Mode};
-ghost use Rattle.mh_run.specs.Example.{MeetsPremises};
+ghost use Rattle.mh_exact.specs.Example.{MeetsPremises};
 ghost use Rattle.mh_grammar.specs.declared.types.Symbol.{Symbol};
 ghost use Rattle.mh_grammar.specs.Plain.{PlainGrammar, plain_of, Derives, IsSentence, BeginsSentence};
 ghost use Rattle.mh_items.specs.Automaton.{IsAutomaton};
@@ -13,7 +13,7 @@ ghost use Rattle.mh_resolve.specs.States.{IsTableOf};
 ghost use Rattle.mh_tables.specs.Run.{VerdictOf, Accepted, Overshot, Rejected};
 ghost use Rattle.mh_tree.specs.Trees.{SyntaxTree, IsTreeFor, yield_of};
 ghost use Rattle.mh_tables.specs.TreeRuns.{IsTreeOfRead};
-ghost use Rattle.mh_run.specs.Exactness.{IsPrefixSentence, AllProductive};
+ghost use Rattle.mh_exact.specs.Exactness.{IsPrefixSentence, AllProductive};
 
 use mh_grammar::Grammar;
 use mh_items::Automaton;
