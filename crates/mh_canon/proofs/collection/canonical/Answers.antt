@@ -21,7 +21,7 @@ pub next_edges-requires : goal.next_edges-requires
 next_edges-requires _ c =
     let kernels = c.states.kernels.keys in
     let k = c.index-as_slice-len.result in
-    let i = c.len-in-states-3.result in
+    let i = c.len-in-states-2.result in
     let is = rw c.as_slice.ensures.keys at c.index-as_slice-len.is in
     let within : i < length kernels = omega (arith, c.states.edges.ok.0) in
     let at : slice_get kernels i ≡ Some k = slice_get-get_or kernels i k within ∙ ap Some (sym is) in
@@ -36,7 +36,7 @@ pub states-preserved : goal.states-preserved
 states-preserved _ c =
     let kernels = c.states.kernels.keys in
     let k = c.index-as_slice-len.result in
-    let i = c.len-in-states-3.result in
+    let i = c.len-in-states-2.result in
     let is = rw c.as_slice.ensures.keys at c.index-as_slice-len.is in
     let within : i < length kernels = omega (arith, c.states.edges.ok.0) in
     let at : slice_get kernels i ≡ Some k = slice_get-get_or kernels i k within ∙ ap Some (sym is) in
