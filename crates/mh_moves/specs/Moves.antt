@@ -6,8 +6,10 @@ use Rattle.mh_grammar.specs.declared.types.Look.{Look}
 use Rattle.mh_grammar.specs.Plain.{PlainGrammar}
 use Rattle.mh_grammar.specs.Edges.{IsRising, IsSymbolBefore}
 use Rattle.mh_items.specs.Shapes.{Kernel}
+use Rattle.mh_grammar.specs.ItemSets.{AreSame, Close}
+use Rattle.mh_items.specs.Kernels.{Holds, IsKernel}
 use Rattle.mh_items.specs.Collection.{IsBehindDot, IsMove}
-use Rattle.mh_moves.specs.declared.moves.MoveWith.{MoveWith}
+use Rattle.mh_moves.specs.declared.all_moves.MoveWith.{MoveWith}
 
 -- a move, whatever the width of its sets
 abbrev pub Move : Type 0
@@ -21,3 +23,10 @@ pub record AreMoves (g : PlainGrammar) (closed : Kernel) (moves : List Move) : T
   pub rising : IsRising IsSymbolBefore (symbols_of moves)
   pub exact : (X : Symbol) → Contains (symbols_of moves) X ↔ IsBehindDot g closed X
   pub each : All (λ (m : Move). IsMove g closed m.symbol m.kernel) moves
+
+-- the moves of a kernel, by its closure as the one list of its items
+pub record AreMovesOf (g : PlainGrammar) (kernel : Kernel) (moves : List Move) : Type 0 where
+  pub closed : Kernel
+  pub valid : IsKernel g closed
+  pub same : AreSame (Holds closed) (Close g (Holds kernel))
+  pub are : AreMoves g closed moves

@@ -1,8 +1,10 @@
 //! All moves of a closure at once, in the order of their symbols.
 #![tactic(auto)]
 
-mod moves;
+mod all_moves;
+mod mover;
 mod rows;
 
-pub use moves::{Move, MoveWith, moves};
+pub use all_moves::{Move, MoveWith, moves};
+pub use mover::Mover;
 pub use rows::Rows;

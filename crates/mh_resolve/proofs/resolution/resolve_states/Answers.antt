@@ -9,7 +9,7 @@ resolve_state-requires g c =
     let kernel = items_of c.args.grammar.now automaton c.requires.automaton c.loop-state.state c.index-kernel.result.now within c.index-kernel.ensures in
     let rising = edges_rise c.args.grammar.now automaton c.requires.automaton c.loop-state.state c.as_slice-edges.result.now c.index.result.now within c.index.ensures c.as_slice-edges.ensures in
     let known = edges_known c.args.grammar.now automaton c.requires.range c.requires.automaton c.loop-state.state c.as_slice-edges.result.now c.index.result.now within c.index.ensures c.as_slice-edges.ensures in
-    (search rules, (c.requires.few, (c.requires.width, (c.requires.range, (c.loop-state.invariant.2, (kernel, (rising, known)))))))
+    (search rules, (search rules, (c.requires.few, (c.requires.width, (c.requires.range, (c.loop-state.invariant.2, (kernel, (rising, known))))))))
 
 pub add_conflicts-requires : goal.add_conflicts-requires
 add_conflicts-requires g c =
