@@ -7,6 +7,3 @@ mod sentence;
 
 pub use lexicon::Lexicon;
 pub use sentence::{SentenceFault, read_sentence};
-
-#[cfg(test)]
-mod tests;
