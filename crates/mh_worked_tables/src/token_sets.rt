@@ -24,7 +24,7 @@ fn edges_of_words(rt: HostRuntime) -> Result<(), Fail> {
     }
     assert!(rt; !set.contains(token(1)));
     assert!(rt; !set.contains(token(65)));
-    let looks = set.looks().collect(rt.alloc())?;
+    let looks: Vec<Look> = set.looks().collect(rt.alloc())?;
     let wanted = [token(0), token(63), token(64), token(127), Look::End];
     assert_eq!(rt; looks.as_slice(), wanted.as_slice());
     Ok(())

@@ -1,7 +1,7 @@
 //! One automaton at every width of its sets.
 use crate::made::grammar_of;
 use mh_canon::{canonical, is_one_automaton};
-use mh_grammar::{Grammar, is_in_range};
+use mh_grammar::{Look, is_in_range};
 use mh_items::{Automaton, Kernel};
 use std::alloc::Global;
 use std::test::Fail;
@@ -16,8 +16,8 @@ fn are_alike<const V: usize, const W: usize>(
         return Ok(false);
     }
     for (x, y) in left.items.as_slice().iter().zip(right.items.as_slice()) {
-        let looks = x.looks.looks().collect(alloc)?;
-        let others = y.looks.looks().collect(alloc)?;
+        let looks: Vec<Look> = x.looks.looks().collect(alloc)?;
+        let others: Vec<Look> = y.looks.looks().collect(alloc)?;
         if x.production != y.production || x.dot != y.dot || looks != others {
             return Ok(false);
         }

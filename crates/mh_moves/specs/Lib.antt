@@ -1,3 +1,0 @@
-pub mod Mover
-pub mod Moves
-pub mod Rows
