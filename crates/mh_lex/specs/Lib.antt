@@ -1,4 +1,5 @@
 pub mod Bytes
+pub mod Words
 pub mod Spellings
 pub mod Steps
 pub mod Bodies

@@ -21,7 +21,7 @@ pub(crate) fn starts_word(byte: u8) -> bool
     byte.is_ascii_alphabetic() || byte == b'_'
 }
 
-fn continues_word(byte: u8) -> bool
+pub(crate) fn continues_word(byte: u8) -> bool
     ensures { result ≡ is_word_byte byte }
 {
     starts_word(byte) || byte.is_ascii_digit() || byte == b'\''

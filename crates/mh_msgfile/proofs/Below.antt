@@ -3,10 +3,11 @@ use Rattle.std.proofs.Common.{◌≡◌, ◌<◌, ◌+◌, ℕ, zero, suc, Bool,
 use Rattle.std.proofs.lemmas.List.{length-map}
 use Rattle.std.specs.List.{list_all, position_from, All}
 use Rattle.std.specs.Str.{bytes_eq}
+use Rattle.mh_lex.specs.Words.{is_word}
 use Rattle.mh_grammar.specs.declared.types.Sentence.{Sentence}
 use Rattle.mh_grammar.specs.declared.types.Grammar.{Grammar}
 use Rattle.mh_grammar.specs.Plain.{PlainGrammar, plain_of}
-use Rattle.mh_msgfile.specs.Sentences.{Text, Vocabulary, vocabulary_of, token_names, start_name, TokensFound, Tokens, Unknown, StartFound, StartIs, NoSuchStart, NoStart, IsSentence, IsUnreadable, put_token, number_of, tokens_of, start_or, only_start, start_by, with_start, sole, colon_place, is_name, pieces, sentence_from, sentence_behind, sentence_in, FindsStart, ReadsSentence}
+use Rattle.mh_msgfile.specs.Sentences.{Text, Vocabulary, vocabulary_of, token_names, start_name, start_names, TokensFound, Tokens, Unknown, StartFound, StartIs, NoSuchStart, NoStart, IsSentence, IsUnreadable, put_token, number_of, only_one, tokens_of, start_or, only_or, start_by, with_start, sole, colon_place, pieces, sentence_from, sentence_behind, sentence_in, FindsStart, ReadsSentence}
 use Rattle.mh_msgfile.specs.declared.sentence.SentenceFault.{SentenceFault}
 use Rattle.mh_msgfile.specs.declared.sentence.SentenceFault.TheVariants as faults
 
@@ -30,6 +31,23 @@ position_below : (p : Text → Bool) (i k : ℕ) (xs : List Text) → position_f
 position_below p i k [] is = absurd (no_some k is)
 position_below p i k (x ∷ xs) is = position_on p i k x xs (p x) refl (position_below p (i + 1) k xs) is
 
+-- what names stand for is below these counts
+record IsBounded (n m : ℕ) (v : Vocabulary) : Type 0 where
+  starts : (name : Text) (k : ℕ) → v.start_named name ≡ Some k → k < n
+  only : (k : ℕ) → v.only_start ≡ Some k → k < n
+  tokens : (name : Text) (k : ℕ) → v.token_named name ≡ Some k → k < m
+
+number_below : (names : List Text) (name : Text) (k : ℕ) → number_of names name ≡ Some k → k < length names
+number_below names name k is = let lt : k < 0 + length names = position_below (bytes_eq name) 0 k names is in omega (arith, lt)
+
+only_below : (names : List Text) (k : ℕ) → only_one names ≡ Some k → k < length names
+only_below [] k is = absurd (no_some k is)
+only_below (name ∷ []) k is = let same : 0 ≡ k = ap (value_or 0) is in omega (arith, same)
+only_below (name ∷ other ∷ names) k is = absurd (no_some k is)
+
+bounded : (g : Grammar) → IsBounded (length (start_names g)) (length (token_names g)) (vocabulary_of g)
+bounded g = record { starts = number_below (start_names g); only = only_below (start_names g); tokens = number_below (token_names g) }
+
 abbrev AreBelow : ℕ → TokensFound → Type 0
 AreBelow n (Tokens tokens) = All (λ z. z < n) tokens
 AreBelow n (Unknown name) = Unit {0}
@@ -38,34 +56,11 @@ below_one : (n token : ℕ) (tokens : List ℕ) → token < n → All (λ z. z <
 below_one n token tokens lt all zero d within = lt
 below_one n token tokens lt all (suc k) d within = all k d (omega arith)
 
-put_below : (names : List Text) (name : Text) (o : Option ℕ) (found : TokensFound) → number_of names name ≡ o → AreBelow (length names) found → AreBelow (length names) (put_token name o found)
-put_below names name None found is below = tt
-put_below names name (Some token) (Unknown other) is below = tt
-put_below names name (Some token) (Tokens tokens) is below =
-    let lt : token < 0 + length names = position_below (bytes_eq name) 0 token names is in below_one (length names) token tokens (omega (arith, lt)) below
-
-all_below : (names ps : List Text) → AreBelow (length names) (tokens_of names ps)
-all_below names [] = λ k d within. absurd (omega arith)
-all_below names (name ∷ ps) = put_below names name (number_of names name) (tokens_of names ps) refl (all_below names ps)
-
 -- the start that was found is one of so many
 abbrev IsStartBelow : ℕ → StartFound → Type 0
 IsStartBelow n (StartIs start) = start < n
 IsStartBelow n (NoSuchStart name) = Unit {0}
 IsStartBelow n NoStart = Unit {0}
-
-only_below : (names : List Text) → IsStartBelow (length names) (only_start names)
-only_below [] = tt
-only_below (name ∷ []) = omega arith
-only_below (name ∷ other ∷ names) = tt
-
-named_below : (names : List Text) (name : Text) (o : Option ℕ) → number_of names name ≡ o → IsStartBelow (length names) (start_or name o)
-named_below names name None is = tt
-named_below names name (Some start) is = let lt : start < 0 + length names = position_below (bytes_eq name) 0 start names is in omega (arith, lt)
-
-start_below : (names : List Text) (o : Option Text) → IsStartBelow (length names) (start_by names o)
-start_below names None = only_below names
-start_below names (Some name) = named_below names name (number_of names name) refl
 
 -- a sentence of this start and these tokens
 record IsBelow (n m : ℕ) (s : Sentence) : Type 0 where
@@ -80,35 +75,59 @@ with_below n m (StartIs start) (Unknown name) s is lt below = absurd (cc)
 with_below n m (NoSuchStart name) found s is lt below = absurd (cc)
 with_below n m NoStart found s is lt below = absurd (cc)
 
-module _ (v : Vocabulary) where
-  if_below : (start : Option Text) (text : Text) (s : Sentence) (c : Bool) → (if c then with_start (start_by v.starts start) (tokens_of v.tokens (pieces text)) else IsUnreadable) ≡ IsSentence s → IsBelow (length v.starts) (length v.tokens) s
-  if_below start text s true is = with_below (length v.starts) (length v.tokens) (start_by v.starts start) (tokens_of v.tokens (pieces text)) s is (start_below v.starts start) (all_below v.tokens (pieces text))
+module _ (v : Vocabulary) (n m : ℕ) (known : IsBounded n m v) where
+  put_below : (name : Text) (o : Option ℕ) (found : TokensFound) → v.token_named name ≡ o → AreBelow m found → AreBelow m (put_token name o found)
+  put_below name None found is below = tt
+  put_below name (Some token) (Unknown other) is below = tt
+  put_below name (Some token) (Tokens tokens) is below = below_one m token tokens (known.tokens name token is) below
+
+  all_below : (ps : List Text) → AreBelow m (tokens_of v ps)
+  all_below [] = λ k d within. absurd (omega arith)
+  all_below (name ∷ ps) = put_below name (v.token_named name) (tokens_of v ps) refl (all_below ps)
+
+  named_below : (name : Text) (o : Option ℕ) → v.start_named name ≡ o → IsStartBelow n (start_or name o)
+  named_below name None is = tt
+  named_below name (Some start) is = known.starts name start is
+
+  left_below : (o : Option ℕ) → v.only_start ≡ o → IsStartBelow n (only_or o)
+  left_below None is = tt
+  left_below (Some start) is = known.only start is
+
+  start_below : (o : Option Text) → IsStartBelow n (start_by v o)
+  start_below None = left_below v.only_start refl
+  start_below (Some name) = named_below name (v.start_named name) refl
+
+  if_below : (start : Option Text) (text : Text) (s : Sentence) (c : Bool) → (if c then with_start (start_by v start) (tokens_of v (pieces text)) else IsUnreadable) ≡ IsSentence s → IsBelow n m s
+  if_below start text s true is = with_below n m (start_by v start) (tokens_of v (pieces text)) s is (start_below start) (all_below (pieces text))
   if_below start text s false is = absurd (cc)
 
-  from_below : (start : Option Text) (text : Text) (s : Sentence) → sentence_from v start text ≡ IsSentence s → IsBelow (length v.starts) (length v.tokens) s
-  from_below start text s is = if_below start text s (list_all is_name (pieces text)) is
+  from_below : (start : Option Text) (text : Text) (s : Sentence) → sentence_from v start text ≡ IsSentence s → IsBelow n m s
+  from_below start text s is = if_below start text s (list_all is_word (pieces text)) is
 
-  behind_below : (start : Option Text) (text : Text) (s : Sentence) → sentence_behind v start text ≡ IsSentence s → IsBelow (length v.starts) (length v.tokens) s
+  behind_below : (start : Option Text) (text : Text) (s : Sentence) → sentence_behind v start text ≡ IsSentence s → IsBelow n m s
   behind_below None text s is = absurd (cc)
   behind_below (Some name) text s is = from_below (Some name) text s is
 
   colon_below : (line : Text) (s : Sentence) (c : Bool) →
-      (if c then sentence_behind v (sole (pieces (take (colon_place line) line))) (drop (colon_place line + 1) line) else sentence_from v None line) ≡ IsSentence s → IsBelow (length v.starts) (length v.tokens) s
+      (if c then sentence_behind v (sole (pieces (take (colon_place line) line))) (drop (colon_place line + 1) line) else sentence_from v None line) ≡ IsSentence s → IsBelow n m s
   colon_below line s true is = behind_below (sole (pieces (take (colon_place line) line))) (drop (colon_place line + 1) line) s is
   colon_below line s false is = from_below None line s is
 
-  in_below : (line : Text) (s : Sentence) → sentence_in v line ≡ IsSentence s → IsBelow (length v.starts) (length v.tokens) s
+  in_below : (line : Text) (s : Sentence) → sentence_in v line ≡ IsSentence s → IsBelow n m s
   in_below line s is = colon_below line s (nat_lt (colon_place line) (length line)) is
 
+known_in : (g : Grammar) (line : Text) (s : Sentence) → sentence_in (vocabulary_of g) line ≡ IsSentence s → IsBelow (length (start_names g)) (length (token_names g)) s
+known_in g line s is = in_below (vocabulary_of g) (length (start_names g)) (length (token_names g)) (bounded g) line s is
+
 pub sentence_start : (g : Grammar) (line : Text) (s : Sentence) → sentence_in (vocabulary_of g) line ≡ IsSentence s → s.start < length g.starts
-sentence_start g line s is = let below = in_below (vocabulary_of g) line s is in omega (arith, below.start, length-map g.starts (start_name g))
+sentence_start g line s is = let below = known_in g line s is in omega (arith, below.start, length-map g.starts (start_name g))
 
 pub start_known : (g : Grammar) (h : PlainGrammar) (line : Text) (s : Sentence) → sentence_in (vocabulary_of g) line ≡ IsSentence s → h ≡ plain_of g → s.start < length h.starts
 start_known g h line s is same = subst (λ (x : PlainGrammar). s.start < length x.starts) (sym same) (sentence_start g line s is)
 
 pub sentence_below : (g : Grammar) (h : PlainGrammar) (line : Text) (s : Sentence) (tokens : List ℕ) → sentence_in (vocabulary_of g) line ≡ IsSentence s → h ≡ plain_of g → tokens ≡ s.tokens → All (λ z. z < h.tokens) tokens
 sentence_below g h line s tokens is same given =
-    let below = in_below (vocabulary_of g) line s is in
+    let below = known_in g line s is in
     let count : length (token_names g) ≡ h.tokens = length-map g.tokens (λ token. token.name) ∙ sym (ap (λ (x : PlainGrammar). x.tokens) same) in
     subst (λ (ts : List ℕ). All (λ z. z < h.tokens) ts) (sym given) (subst (λ (n : ℕ). All (λ z. z < n) s.tokens) count below.tokens)
 
@@ -120,7 +139,7 @@ no_start start found faults.Memory is = tt
 no_start start found faults.Unreadable is = absurd is
 no_start start found (faults.UnknownToken name) is = absurd is
 
-pub from_no_start : (v : Vocabulary) (start : Option Text) (text : Text) (fault : SentenceFault) → list_all is_name (pieces text) ≡ true → FindsStart (start_by v.starts start) (Err fault) → ReadsSentence (sentence_from v start text) (Err fault)
+pub from_no_start : (v : Vocabulary) (start : Option Text) (text : Text) (fault : SentenceFault) → list_all is_word (pieces text) ≡ true → FindsStart (start_by v start) (Err fault) → ReadsSentence (sentence_from v start text) (Err fault)
 from_no_start v start text fault readable is =
-    subst (λ (b : Bool). ReadsSentence (if b then with_start (start_by v.starts start) (tokens_of v.tokens (pieces text)) else IsUnreadable) (Err fault)) (sym readable)
-    (no_start (start_by v.starts start) (tokens_of v.tokens (pieces text)) fault is)
+    subst (λ (b : Bool). ReadsSentence (if b then with_start (start_by v start) (tokens_of v (pieces text)) else IsUnreadable) (Err fault)) (sym readable)
+    (no_start (start_by v start) (tokens_of v (pieces text)) fault is)

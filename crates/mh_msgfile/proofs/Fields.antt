@@ -1,94 +1,101 @@
--- The pieces of a line, one after another.
+-- The runs of a list between separators, one after another.
 use Rattle.std.proofs.Common.{◌≡◌, ◌+◌, ◌<◌, ◌≤◌, ℕ, Bool, true, false, List, [], ◌∷◌, length, take, drop, filter, refl, sym, ◌∙◌, ap, subst, if◌then◌else◌, arith, add-one, length-drop}
-use Rattle.mh_msgfile.specs.Sentences.{Text, put_first, is_blank, fields, is_some_text, pieces, blank_count, piece_size}
+use Rattle.mh_msgfile.specs.Sentences.{put_first, fields, has_items, runs, blank_count, piece_size}
 
--- the fields behind the first, where the rest begins with a blank
-abbrev tail_fields : Text → List Text
-tail_fields [] = []
-tail_fields (b ∷ rest) = fields rest
+module _ {A : Type 0} (separates : A → Bool) where
+  -- the fields behind the first, where the rest begins with a separator
+  abbrev tail_fields : List A → List (List A)
+  tail_fields [] = []
+  tail_fields (x ∷ rest) = fields separates rest
 
-take_one : (n : ℕ) (b : ℕ) (bytes : Text) → take (n + 1) (b ∷ bytes) ≡ b ∷ take n bytes
-take_one n b bytes = rw (add-one n) refl
+  take_one : (n : ℕ) (x : A) (xs : List A) → take (n + 1) (x ∷ xs) ≡ x ∷ take n xs
+  take_one n x xs = rw (add-one n) refl
 
-drop_one : (n : ℕ) (b : ℕ) (bytes : Text) → drop (n + 1) (b ∷ bytes) ≡ drop n bytes
-drop_one n b bytes = rw (add-one n) refl
+  drop_one : (n : ℕ) (x : A) (xs : List A) → drop (n + 1) (x ∷ xs) ≡ drop n xs
+  drop_one n x xs = rw (add-one n) refl
 
-abbrev Splits : Text → Type 0
-Splits bytes = fields bytes ≡ take (piece_size bytes) bytes ∷ tail_fields (drop (piece_size bytes) bytes)
+  abbrev size : List A → ℕ
+  size xs = piece_size separates xs
 
-splits_on : (b : ℕ) (bytes : Text) (c : Bool) → is_blank b ≡ c → Splits bytes → Splits (b ∷ bytes)
-splits_on b bytes true is on = rw is refl
-splits_on b bytes false is on = rw (is, take_one (piece_size bytes) b bytes, drop_one (piece_size bytes) b bytes) (ap (put_first b) on)
+  abbrev Splits : List A → Type 0
+  Splits xs = fields separates xs ≡ take (size xs) xs ∷ tail_fields (drop (size xs) xs)
 
-fields_split : (bytes : Text) → Splits bytes
-fields_split [] = refl
-fields_split (b ∷ bytes) = splits_on b bytes (is_blank b) refl (fields_split bytes)
+  splits_on : (x : A) (xs : List A) (c : Bool) → separates x ≡ c → Splits xs → Splits (x ∷ xs)
+  splits_on x xs true is on = rw is refl
+  splits_on x xs false is on = rw (is, take_one (size xs) x xs, drop_one (size xs) x xs) (ap (put_first x) on)
 
-abbrev TailIs : Text → Type 0
-TailIs bytes = filter is_some_text (tail_fields (drop (piece_size bytes) bytes)) ≡ pieces (drop (piece_size bytes) bytes)
+  fields_split : (xs : List A) → Splits xs
+  fields_split [] = refl
+  fields_split (x ∷ xs) = splits_on x xs (separates x) refl (fields_split xs)
 
-tail_on : (b : ℕ) (bytes : Text) (c : Bool) → is_blank b ≡ c → TailIs bytes → TailIs (b ∷ bytes)
-tail_on b bytes true is on = rw is (rw is refl)
-tail_on b bytes false is on = rw (is, drop_one (piece_size bytes) b bytes) on
+  abbrev TailIs : List A → Type 0
+  TailIs xs = filter has_items (tail_fields (drop (size xs) xs)) ≡ runs separates (drop (size xs) xs)
 
-filter_tail : (bytes : Text) → TailIs bytes
-filter_tail [] = refl
-filter_tail (b ∷ bytes) = tail_on b bytes (is_blank b) refl (filter_tail bytes)
+  tail_on : (x : A) (xs : List A) (c : Bool) → separates x ≡ c → TailIs xs → TailIs (x ∷ xs)
+  tail_on x xs true is on = rw is (rw is refl)
+  tail_on x xs false is on = rw (is, drop_one (size xs) x xs) on
 
--- bytes that do not begin with a blank
-piece_first : (b : ℕ) (bytes : Text) → is_blank b ≡ false → pieces (b ∷ bytes) ≡ (b ∷ take (piece_size bytes) bytes) ∷ pieces (drop (piece_size bytes) bytes)
-piece_first b bytes is =
-    rw is (ap (λ (l : List Text). filter is_some_text (put_first b l)) (fields_split bytes) ∙ ap (λ (l : List Text). (b ∷ take (piece_size bytes) bytes) ∷ l) (filter_tail bytes))
+  filter_tail : (xs : List A) → TailIs xs
+  filter_tail [] = refl
+  filter_tail (x ∷ xs) = tail_on x xs (separates x) refl (filter_tail xs)
 
--- what stands behind the blanks in front
-pub record Behind (bytes text : Text) : Type 0 where
-  pub none : piece_size text ≡ 0 → pieces bytes ≡ []
-  pub some : 0 < piece_size text → pieces bytes ≡ take (piece_size text) text ∷ pieces (drop (piece_size text) text)
+  -- a list that does not begin with a separator
+  pub run_first : (x : A) (xs : List A) → separates x ≡ false → runs separates (x ∷ xs) ≡ (x ∷ take (size xs) xs) ∷ runs separates (drop (size xs) xs)
+  run_first x xs is =
+      rw is (ap (λ (l : List (List A)). filter has_items (put_first x l)) (fields_split xs) ∙ ap (λ (l : List (List A)). (x ∷ take (size xs) xs) ∷ l) (filter_tail xs))
 
-size_one : (b : ℕ) (bytes : Text) → is_blank b ≡ false → piece_size (b ∷ bytes) ≡ piece_size bytes + 1
-size_one b bytes is = rw is refl
+  -- what stands behind the separators in front
+  pub record Behind (xs rest : List A) : Type 0 where
+    pub none : size rest ≡ 0 → runs separates xs ≡ []
+    pub some : 0 < size rest → runs separates xs ≡ take (size rest) rest ∷ runs separates (drop (size rest) rest)
 
-cut_one : (b : ℕ) (bytes : Text) (n : ℕ) → take (n + 1) (b ∷ bytes) ∷ pieces (drop (n + 1) (b ∷ bytes)) ≡ (b ∷ take n bytes) ∷ pieces (drop n bytes)
-cut_one b bytes n = rw (take_one n b bytes, drop_one n b bytes) refl
+  size_one : (x : A) (xs : List A) → separates x ≡ false → size (x ∷ xs) ≡ size xs + 1
+  size_one x xs is = rw is refl
 
-behind_here : (b : ℕ) (bytes : Text) → is_blank b ≡ false → Behind (b ∷ bytes) (b ∷ bytes)
-behind_here b bytes is = record {
-  none = λ h. absurd (omega (arith, h, size_one b bytes is));
-  some = λ h. piece_first b bytes is ∙ sym (cut_one b bytes (piece_size bytes)) ∙ ap (λ (k : ℕ). take k (b ∷ bytes) ∷ pieces (drop k (b ∷ bytes))) (sym (size_one b bytes is));
-}
+  cut_one : (x : A) (xs : List A) (n : ℕ) → take (n + 1) (x ∷ xs) ∷ runs separates (drop (n + 1) (x ∷ xs)) ≡ (x ∷ take n xs) ∷ runs separates (drop n xs)
+  cut_one x xs n = rw (take_one n x xs, drop_one n x xs) refl
 
-none_on : (b : ℕ) (bytes : Text) → is_blank b ≡ true → pieces (b ∷ bytes) ≡ pieces bytes
-none_on b bytes is = rw is refl
+  behind_here : (x : A) (xs : List A) → separates x ≡ false → Behind (x ∷ xs) (x ∷ xs)
+  behind_here x xs is = record {
+    none = λ h. absurd (omega (arith, h, size_one x xs is));
+    some = λ h. run_first x xs is ∙ sym (cut_one x xs (size xs)) ∙ ap (λ (k : ℕ). take k (x ∷ xs) ∷ runs separates (drop k (x ∷ xs))) (sym (size_one x xs is));
+  }
 
-drop_blanks : (b : ℕ) (bytes : Text) (c : Bool) → is_blank b ≡ c → drop (blank_count (b ∷ bytes)) (b ∷ bytes) ≡ (if c then drop (blank_count bytes) bytes else b ∷ bytes)
-drop_blanks b bytes true is = rw (is, drop_one (blank_count bytes) b bytes) refl
-drop_blanks b bytes false is = rw is refl
+  pub run_none : (x : A) (xs : List A) → separates x ≡ true → runs separates (x ∷ xs) ≡ runs separates xs
+  run_none x xs is = rw is refl
 
-behind_on : (b : ℕ) (bytes : Text) (c : Bool) → is_blank b ≡ c → Behind bytes (drop (blank_count bytes) bytes) → Behind (b ∷ bytes) (drop (blank_count (b ∷ bytes)) (b ∷ bytes))
-behind_on b bytes true is on =
-    let text = drop (blank_count bytes) bytes in
-    let here : Behind (b ∷ bytes) text = record { none = λ h. none_on b bytes is ∙ on.none h; some = λ h. none_on b bytes is ∙ on.some h } in
-    subst (λ (t : Text). Behind (b ∷ bytes) t) (sym (drop_blanks b bytes true is)) here
-behind_on b bytes false is on = subst (λ (t : Text). Behind (b ∷ bytes) t) (sym (drop_blanks b bytes false is)) (behind_here b bytes is)
+  abbrev blanks : List A → ℕ
+  blanks xs = blank_count separates xs
 
-pub behind_blanks : (bytes : Text) → Behind bytes (drop (blank_count bytes) bytes)
-behind_blanks [] = record { none = λ h. refl; some = λ h. absurd (omega arith) }
-behind_blanks (b ∷ bytes) = behind_on b bytes (is_blank b) refl (behind_blanks bytes)
+  drop_blanks : (x : A) (xs : List A) (c : Bool) → separates x ≡ c → drop (blanks (x ∷ xs)) (x ∷ xs) ≡ (if c then drop (blanks xs) xs else x ∷ xs)
+  drop_blanks x xs true is = rw (is, drop_one (blanks xs) x xs) refl
+  drop_blanks x xs false is = rw is refl
 
-pub left_behind : (bytes text : Text) (n size : ℕ) → text ≡ drop n bytes → 0 < size → size ≤ length text → length (drop size text) < length bytes
-left_behind bytes text n size is some within =
-    let shorter : length text ≤ length bytes = rw is (omega (arith, length-drop n bytes)) in omega (arith, length-drop size text)
+  behind_on : (x : A) (xs : List A) (c : Bool) → separates x ≡ c → Behind xs (drop (blanks xs) xs) → Behind (x ∷ xs) (drop (blanks (x ∷ xs)) (x ∷ xs))
+  behind_on x xs true is on =
+      let rest = drop (blanks xs) xs in
+      let here : Behind (x ∷ xs) rest = record { none = λ h. run_none x xs is ∙ on.none h; some = λ h. run_none x xs is ∙ on.some h } in
+      subst (λ (t : List A). Behind (x ∷ xs) t) (sym (drop_blanks x xs true is)) here
+  behind_on x xs false is on = subst (λ (t : List A). Behind (x ∷ xs) t) (sym (drop_blanks x xs false is)) (behind_here x xs is)
 
-pub first_none : (bytes text : Text) (n size : ℕ) → n ≡ blank_count bytes → text ≡ drop n bytes → size ≡ piece_size text → size ≡ 0 → pieces bytes ≡ []
-first_none bytes text n size count is sized zero_size =
-    let same : text ≡ drop (blank_count bytes) bytes = is ∙ ap (λ (k : ℕ). drop k bytes) count in
-    (subst (λ (t : Text). Behind bytes t) (sym same) (behind_blanks bytes)).none (sym sized ∙ zero_size)
+  pub behind_blanks : (xs : List A) → Behind xs (drop (blanks xs) xs)
+  behind_blanks [] = record { none = λ h. refl; some = λ h. absurd (omega arith) }
+  behind_blanks (x ∷ xs) = behind_on x xs (separates x) refl (behind_blanks xs)
 
-pub first_some : (bytes text piece rest : Text) (n size : ℕ) → n ≡ blank_count bytes → text ≡ drop n bytes → size ≡ piece_size text → 0 < size → size ≤ length text → piece ≡ take size text → rest ≡ drop size text → (pieces bytes ≡ piece ∷ pieces rest) × (length rest < length bytes)
-first_some bytes text piece rest n size count is sized some within front back =
-    let same : text ≡ drop (blank_count bytes) bytes = is ∙ ap (λ (k : ℕ). drop k bytes) count in
-    let big : 0 < piece_size text = omega (arith, sized, some) in
-    let cut : pieces bytes ≡ take (piece_size text) text ∷ pieces (drop (piece_size text) text) = (subst (λ (t : Text). Behind bytes t) (sym same) (behind_blanks bytes)).some big in (
-      rw (front, back) (subst (λ (k : ℕ). pieces bytes ≡ take k text ∷ pieces (drop k text)) (sym sized) cut),
-      rw back (left_behind bytes text n size is some within),
-    )
+  left_behind : (xs rest : List A) (n size : ℕ) → rest ≡ drop n xs → 0 < size → size ≤ length rest → length (drop size rest) < length xs
+  left_behind xs rest n size is some within =
+      let shorter : length rest ≤ length xs = rw is (omega (arith, length-drop n xs)) in omega (arith, length-drop size rest)
+
+  pub first_none : (xs rest : List A) (n count : ℕ) → n ≡ blanks xs → rest ≡ drop n xs → count ≡ size rest → count ≡ 0 → runs separates xs ≡ []
+  first_none xs rest n count is_count is sized zero_size =
+      let same : rest ≡ drop (blanks xs) xs = is ∙ ap (λ (k : ℕ). drop k xs) is_count in
+      (subst (λ (t : List A). Behind xs t) (sym same) (behind_blanks xs)).none (sym sized ∙ zero_size)
+
+  pub first_some : (xs rest piece behind : List A) (n count : ℕ) → n ≡ blanks xs → rest ≡ drop n xs → count ≡ size rest → 0 < count → count ≤ length rest → piece ≡ take count rest → behind ≡ drop count rest → (runs separates xs ≡ piece ∷ runs separates behind) × (length behind < length xs)
+  first_some xs rest piece behind n count is_count is sized some within front back =
+      let same : rest ≡ drop (blanks xs) xs = is ∙ ap (λ (k : ℕ). drop k xs) is_count in
+      let big : 0 < size rest = omega (arith, sized, some) in
+      let cut : runs separates xs ≡ take (size rest) rest ∷ runs separates (drop (size rest) rest) = (subst (λ (t : List A). Behind xs t) (sym same) (behind_blanks xs)).some big in (
+        rw (front, back) (subst (λ (k : ℕ). runs separates xs ≡ take k rest ∷ runs separates (drop k rest)) (sym sized) cut),
+        rw back (left_behind xs rest n count is some within),
+      )

@@ -1,13 +1,18 @@
 -- Sentence lines: a start, which may be left out where there is one, and names of tokens. Source: this project's profile.
-use Rattle.std.specs.Prelude.{◌≡◌, ℕ, ◌+◌, ◌<◌, length, Vec, ◌==◌, ◌&&◌, ◌||◌, Bool, true, false, List, [], ◌∷◌, ◌++◌, map, filter, take, drop, Option, None, Some, if◌then◌else◌, nat_le, nat_lt, slice_index_or, Result, Ok, Err, ⊤}
+use Rattle.std.specs.Prelude.{◌≡◌, ℕ, ◌+◌, ◌<◌, ◌≤◌, length, Vec, ◌==◌, ◌||◌, Bool, true, false, List, [], ◌∷◌, ◌++◌, map, filter, take, drop, Option, None, Some, if◌then◌else◌, nat_lt, slice_index_or, Result, Ok, Err, ⊤}
 use Rattle.std.specs.List.{list_all, position_from}
 use Rattle.std.specs.Str.{bytes_eq}
 use Rattle.std.specs.Borrow.{Bor}
 use Rattle.std.specs.Map.{lookup}
 use Rattle.mh_grammar.specs.declared.types.Grammar.{Grammar}
 use Rattle.mh_grammar.specs.declared.types.Sentence.{Sentence}
+use Rattle.mh_lex.specs.Words.{is_word}
 use Rattle.std.specs.declared.alloc.Global.{Global}
-use Rattle.mh_msgfile.specs.declared.sentence.Lexicon.{Lexicon}
+use Rattle.mh_msgfile.specs.declared.lexicon.Lexicon.{Lexicon}
+use Rattle.mh_msgfile.specs.declared.sentence.StartName.{StartName}
+use Rattle.mh_msgfile.specs.declared.sentence.StartName.TheVariants.{Named, LeftOut}
+use Rattle.mh_msgfile.specs.declared.sentence.Pieces.{Pieces}
+use Rattle.mh_msgfile.specs.declared.sentence.Pieces.TheVariants.{NotNames, NotKnown, Known}
 use Rattle.mh_msgfile.specs.declared.sentence.SentenceFault.{SentenceFault}
 use Rattle.mh_msgfile.specs.declared.sentence.SentenceFault.TheVariants as faults
 
@@ -20,40 +25,33 @@ Text = List ℕ
 abbrev pub is_blank : ℕ → Bool
 is_blank b = b == 32 || (b == 9 || b == 13)
 
--- an ASCII letter or `_`
-abbrev pub begins_name : ℕ → Bool
-begins_name b = (nat_le 65 b && nat_le b 90) || ((nat_le 97 b && nat_le b 122) || b == 95)
+-- x in front of the first list
+abbrev pub put_first : {A : Type 0} → A → List (List A) → List (List A)
+put_first x [] = (x ∷ []) ∷ []
+put_first x (xs ∷ others) = (x ∷ xs) ∷ others
 
--- and digits and `'`
-abbrev pub goes_on_name : ℕ → Bool
-goes_on_name b = begins_name b || ((nat_le 48 b && nat_le b 57) || b == 39)
+-- the lists between separators, some of them empty
+abbrev pub fields : {A : Type 0} → (A → Bool) → List A → List (List A)
+fields separates [] = [] ∷ []
+fields separates (x ∷ xs) = if separates x then [] ∷ fields separates xs else put_first x (fields separates xs)
 
-abbrev pub is_name : Text → Bool
-is_name [] = false
-is_name (b ∷ bytes) = begins_name b && list_all goes_on_name bytes
+abbrev pub has_items : {A : Type 0} → List A → Bool
+has_items [] = false
+has_items (x ∷ xs) = true
 
--- b in front of the first text
-abbrev pub put_first : ℕ → List Text → List Text
-put_first b [] = (b ∷ []) ∷ []
-put_first b (text ∷ texts) = (b ∷ text) ∷ texts
+-- those that are not empty: each goes as far as no separator stands
+abbrev pub runs : {A : Type 0} → (A → Bool) → List A → List (List A)
+runs separates xs = filter has_items (fields separates xs)
 
--- the texts between blanks, some of them empty
-abbrev pub fields : Text → List Text
-fields [] = [] ∷ []
-fields (b ∷ bytes) = if is_blank b then [] ∷ fields bytes else put_first b (fields bytes)
-
-abbrev pub is_some_text : Text → Bool
-is_some_text [] = false
-is_some_text (b ∷ bytes) = true
-
--- those that are not empty: each goes as far as no blank stands
+-- the texts between blanks
 abbrev pub pieces : Text → List Text
-pieces line = filter is_some_text (fields line)
+pieces line = runs is_blank line
 
--- the names of a grammar's starts and tokens, by their numbers
+-- what a line's names stand for: the number of the start or the token of a name, and of the only start
 pub record Vocabulary : Type 0 where
-  pub starts : List Text
-  pub tokens : List Text
+  pub start_named : Text → Option ℕ
+  pub only_start : Option ℕ
+  pub token_named : Text → Option ℕ
 
 abbrev pub token_names : Grammar → List Text
 token_names g = map (λ token. token.name) g.tokens
@@ -65,12 +63,16 @@ start_name g start = slice_index_or (map (λ n. n.name) g.nonterminals) start []
 abbrev pub start_names : Grammar → List Text
 start_names g = map (start_name g) g.starts
 
-abbrev pub vocabulary_of : Grammar → Vocabulary
-vocabulary_of g = record { starts = start_names g; tokens = token_names g }
-
 -- the number of the first of this name
 abbrev pub number_of : List Text → Text → Option ℕ
 number_of names name = position_from (bytes_eq name) 0 names
+
+abbrev pub only_one : List Text → Option ℕ
+only_one (name ∷ []) = Some 0
+only_one _ = None
+
+abbrev pub vocabulary_of : Grammar → Vocabulary
+vocabulary_of g = record { start_named = number_of (start_names g); only_start = only_one (start_names g); token_named = number_of (token_names g) }
 
 -- ---- the tokens of a line
 
@@ -84,14 +86,9 @@ put_token name None found = Unknown name
 put_token name (Some token) (Tokens tokens) = Tokens (token ∷ tokens)
 put_token name (Some token) (Unknown other) = Unknown other
 
-abbrev pub tokens_of : List Text → List Text → TokensFound
-tokens_of names [] = Tokens []
-tokens_of names (name ∷ rest) = put_token name (number_of names name) (tokens_of names rest)
-
--- the tokens found behind some others
-abbrev pub behind_tokens : List ℕ → TokensFound → TokensFound
-behind_tokens before (Tokens tokens) = Tokens (before ++ tokens)
-behind_tokens before (Unknown name) = Unknown name
+abbrev pub tokens_of : Vocabulary → List Text → TokensFound
+tokens_of v [] = Tokens []
+tokens_of v (name ∷ names) = put_token name (v.token_named name) (tokens_of v names)
 
 -- ---- the start of a line
 
@@ -105,13 +102,13 @@ abbrev pub start_or : Text → Option ℕ → StartFound
 start_or name None = NoSuchStart name
 start_or name (Some start) = StartIs start
 
-abbrev pub only_start : List Text → StartFound
-only_start (name ∷ []) = StartIs 0
-only_start _ = NoStart
+abbrev pub only_or : Option ℕ → StartFound
+only_or None = NoStart
+only_or (Some start) = StartIs start
 
-abbrev pub start_by : List Text → Option Text → StartFound
-start_by names None = only_start names
-start_by names (Some name) = start_or name (number_of names name)
+abbrev pub start_by : Vocabulary → Option Text → StartFound
+start_by v None = only_or v.only_start
+start_by v (Some name) = start_or name (v.start_named name)
 
 -- how many bytes stand before the first colon
 abbrev pub colon_place : Text → ℕ
@@ -120,7 +117,7 @@ colon_place (b ∷ bytes) = if b == 58 then 0 else colon_place bytes + 1
 
 -- one name with blanks round it
 abbrev pub sole : List Text → Option Text
-sole (name ∷ []) = if is_name name then Some name else None
+sole (name ∷ []) = if is_word name then Some name else None
 sole _ = None
 
 -- ---- a line
@@ -141,7 +138,7 @@ with_start NoStart found = LacksStart
 
 -- the sentence of these names of tokens, if they are names, by the start that is named
 abbrev pub sentence_from : Vocabulary → Option Text → Text → LineFound
-sentence_from v start text = if list_all is_name (pieces text) then with_start (start_by v.starts start) (tokens_of v.tokens (pieces text)) else IsUnreadable
+sentence_from v start text = if list_all is_word (pieces text) then with_start (start_by v start) (tokens_of v (pieces text)) else IsUnreadable
 
 abbrev pub sentence_behind : Vocabulary → Option Text → Text → LineFound
 sentence_behind v None text = IsUnreadable
@@ -156,13 +153,17 @@ sentence_in v line =
 
 -- ---- what the code answers
 
+-- what a map's entries have for a name
+abbrev pub number_in : List (Vec ℕ Global × ℕ) → Text → Option ℕ
+number_in entries name = lookup (λ key. bytes_eq name key.items) entries
+
+-- what the names in a lexicon stand for
+abbrev pub vocabulary_in : Lexicon → Vocabulary
+vocabulary_in lexicon = record { start_named = number_in lexicon.starts.entries; only_start = lexicon.only_start; token_named = number_in lexicon.tokens.entries }
+
 -- the entries of a map that has the numbers of these names
 abbrev pub AreNumbers : List Text → List (Vec ℕ Global × ℕ) → Type 0
-AreNumbers names entries = (name : Text) → lookup (λ key. bytes_eq name key.items) entries ≡ number_of names name
-
-pub record HasNumbers (v : Vocabulary) (lexicon : Lexicon) : Type 0 where
-  pub starts : AreNumbers v.starts lexicon.starts.entries
-  pub tokens : AreNumbers v.tokens lexicon.tokens.entries
+AreNumbers names entries = (name : Text) → number_in entries name ≡ number_of names name
 
 -- the first that is there
 abbrev pub or_else : Option ℕ → Option ℕ → Option ℕ
@@ -171,23 +172,22 @@ or_else (Some first) later = Some first
 
 -- a name has its number now, where it had none; others keep theirs
 abbrev pub PutsName : Text → ℕ → List (Vec ℕ Global × ℕ) → List (Vec ℕ Global × ℕ) → Type 0
-PutsName name number old new =
-    (other : Text) → lookup (λ key. bytes_eq other key.items) new ≡ or_else (lookup (λ key. bytes_eq other key.items) old) (if bytes_eq other name then Some number else None)
+PutsName name number old new = (other : Text) → number_in new other ≡ or_else (number_in old other) (if bytes_eq other name then Some number else None)
 
--- how many blanks stand in front
-abbrev pub blank_count : Text → ℕ
-blank_count [] = 0
-blank_count (b ∷ bytes) = if is_blank b then blank_count bytes + 1 else 0
+-- how many separators stand in front
+abbrev pub blank_count : {A : Type 0} → (A → Bool) → List A → ℕ
+blank_count separates [] = 0
+blank_count separates (x ∷ xs) = if separates x then blank_count separates xs + 1 else 0
 
--- how many bytes stand before the first blank
-abbrev pub piece_size : Text → ℕ
-piece_size [] = 0
-piece_size (b ∷ bytes) = if is_blank b then 0 else piece_size bytes + 1
+-- how many items stand before the first separator
+abbrev pub piece_size : {A : Type 0} → (A → Bool) → List A → ℕ
+piece_size separates [] = 0
+piece_size separates (x ∷ xs) = if separates x then 0 else piece_size separates xs + 1
 
--- the first piece of some bytes, with what stands behind it
-abbrev pub FirstPiece : Text → Option (Bor Text × Bor Text) → Type 0
-FirstPiece bytes None = pieces bytes ≡ []
-FirstPiece bytes (Some (piece, rest)) = (pieces bytes ≡ piece.now ∷ pieces rest.now) × (length rest.now < length bytes)
+-- the first run of a list, with what stands behind it
+abbrev pub FirstPiece : {A : Type 0} → (A → Bool) → List A → Option (Bor (List A) × Bor (List A)) → Type 0
+FirstPiece separates xs None = runs separates xs ≡ []
+FirstPiece separates xs (Some (piece, rest)) = (runs separates xs ≡ piece.now ∷ runs separates rest.now) × (length rest.now < length xs)
 
 -- the name that stands alone
 abbrev pub IsSole : Text → Option (Bor Text) → Type 0
@@ -202,12 +202,36 @@ FindsStart found (Err faults.MissingStart) = found ≡ NoStart
 FindsStart found (Err faults.Memory) = ⊤
 FindsStart found (Err _) = ⊥
 
--- the tokens of some names, or the first that is no token's
-abbrev pub ReadsTokens : TokensFound → Result (Vec ℕ Global) SentenceFault → Type 0
-ReadsTokens found (Ok tokens) = found ≡ Tokens tokens.items
-ReadsTokens found (Err (faults.UnknownToken name)) = found ≡ Unknown name
-ReadsTokens found (Err faults.Memory) = ⊤
-ReadsTokens found (Err _) = ⊥
+-- the name of a start that may be left out
+abbrev pub name_of : StartName → Option Text
+name_of LeftOut = None
+name_of (Named name) = Some name.now
+
+-- what the pieces of a text are
+abbrev pub ArePieces : Vocabulary → Text → Pieces → Type 0
+ArePieces v text NotNames = list_all is_word (pieces text) ≡ false
+ArePieces v text (NotKnown name) = (list_all is_word (pieces text) ≡ true) × (tokens_of v (pieces text) ≡ Unknown name.now)
+ArePieces v text (Known tokens) = (list_all is_word (pieces text) ≡ true) × (tokens_of v (pieces text) ≡ Tokens tokens.items)
+
+-- there are at most so many tokens
+abbrev pub HasFew : ℕ → Pieces → Type 0
+HasFew most (Known tokens) = length tokens.items ≤ most
+HasFew most _ = ⊤
+
+-- the fault of a name that is no token's
+abbrev pub IsUnknownToken : Text → SentenceFault → Type 0
+IsUnknownToken name (faults.UnknownToken other) = name ≡ other
+IsUnknownToken name faults.Memory = ⊤
+IsUnknownToken name _ = ⊥
+
+-- the tokens found behind some others, and behind a name that is no token's
+abbrev pub behind_tokens : List ℕ → TokensFound → TokensFound
+behind_tokens before (Tokens tokens) = Tokens (before ++ tokens)
+behind_tokens before (Unknown name) = Unknown name
+
+abbrev pub behind_unknown : Option (Bor Text) → List ℕ → TokensFound → TokensFound
+behind_unknown None before found = behind_tokens before found
+behind_unknown (Some name) before found = Unknown name.now
 
 -- what a call answers that reads a line
 abbrev pub ReadsSentence : LineFound → Result Sentence SentenceFault → Type 0

@@ -1,9 +1,12 @@
 //! Sentence lines, as input lines and messages files have them.
 #![tactic(auto)]
 
+mod lexicon;
+mod pieces;
 mod sentence;
 
-pub use sentence::{Lexicon, SentenceFault, read_sentence};
+pub use lexicon::Lexicon;
+pub use sentence::{SentenceFault, read_sentence};
 
 #[cfg(test)]
 mod tests;

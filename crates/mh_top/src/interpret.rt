@@ -7,7 +7,7 @@ ghost use Rattle.mh_run.specs.Verdicts.{ending_for};
 ghost use Rattle.mh_run.specs.TreeRuns.{tree_ending_for};
 ghost use Rattle.mh_top.specs.Each.{EachRan, EachCounts};
 ghost use Rattle.mh_top.specs.Work.{line_limit, max_lines};
-ghost use Rattle.mh_msgfile.specs.Sentences.{HasNumbers, vocabulary_of};
+ghost use Rattle.mh_msgfile.specs.Sentences.{vocabulary_in, vocabulary_of};
 ghost use Rattle.mh_top.specs.Verdicts.{Answers, AnswersOne, IsOutcomeText, IsVerdictText, SentenceText, outcome_text as outcome_line, verdict_text as verdict_line};
 
 use crate::each::{Answer, answer_each};
@@ -34,7 +34,7 @@ struct Answering {
     grammar: Grammar,
     lexicon: Lexicon,
     halting: Halting,
-    ghost numbers: { HasNumbers (vocabulary_of grammar) lexicon },
+    ghost numbers: { vocabulary_in lexicon ≡ vocabulary_of grammar },
     ghost same: { halting.grammar ≡ plain_of grammar },
 }
 
@@ -120,7 +120,7 @@ fn line_text(alloc: Global, by: &Answering, line: &[u8]) -> Result<Vec<u8>, Memo
         (record { trees = by.now.trees; grammar = by.now.grammar; table = by.now.halting })
         line.now text.items) }
 {
-    match by.lexicon.read(alloc, &by.grammar, line) {
+    match by.lexicon.read(alloc, line) {
         Ok(sentence) => sentence_text(alloc, by.trees, &by.grammar, &by.halting, &sentence),
         Err(SentenceFault::Unreadable) => Ok(b"ERROR unreadable\n".to_vec(alloc)?),
         Err(SentenceFault::UnknownStart { name }) => {

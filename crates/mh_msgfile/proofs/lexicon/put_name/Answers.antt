@@ -1,7 +1,7 @@
 use Rattle.std.proofs.Common.{◌∙◌, sym}
 use Rattle.indexmap.proofs.CallerLemmas.{insert_entry-new}
 use Rattle.mh_msgfile.proofs.Lexicons.{name_put, copied_none}
-use Rattle.mh_msgfile.proofs.sentence.put_name.Goals as goal
+use Rattle.mh_msgfile.proofs.lexicon.put_name.Goals as goal
 
 pub returns : goal.returns
 returns c =

@@ -1,6 +1,6 @@
 use Rattle.std.proofs.Common.{rules}
 use Rattle.mh_msgfile.proofs.Lexicons.{start_put}
-use Rattle.mh_msgfile.proofs.sentence.start_numbers.Goals as goal
+use Rattle.mh_msgfile.proofs.lexicon.start_numbers.Goals as goal
 
 pub loop-number-preserved : goal.loop-number-preserved
 loop-number-preserved c =

@@ -1,9 +1,0 @@
-use Rattle.std.proofs.Common.{arith}
-use Rattle.mh_msgfile.proofs.Fields.{first_none, first_some}
-use Rattle.mh_msgfile.proofs.sentence.first_piece.Goals as goal
-
-pub returns-in-0 : goal.returns-in-0
-returns-in-0 c = first_none c.args.bytes.now _ _ _ c.count_blanks.ensures.value c.split_at.ensures.back c.size_of_piece.ensures.value c.in-0.is
-
-pub returns-in_default : goal.returns-in_default
-returns-in_default c = first_some c.args.bytes.now _ _ _ _ _ c.count_blanks.ensures.value c.split_at.ensures.back c.size_of_piece.ensures.value (omega arith) c.size_of_piece.ensures.within c.split_at-in_default.ensures.front c.split_at-in_default.ensures.back

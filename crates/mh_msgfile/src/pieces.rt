@@ -1,0 +1,50 @@
+//! The pieces of a line: what stands between blanks.
+ghost use Rattle.std.specs.Prelude.{◌≡◌, ◌≤◌, length};
+ghost use Rattle.mh_msgfile.specs.Sentences.{is_blank as is_blank_byte, blank_count, piece_size, FirstPiece};
+
+pub(crate) fn is_blank(byte: u8) -> bool
+    ensures { result ≡ is_blank_byte byte }
+{
+    byte == b' ' || byte == b'\t' || byte == b'\r'
+}
+
+/// How many blanks stand in front.
+fn count_blanks(bytes: &[u8]) -> usize
+    ensures value { result ≡ blank_count is_blank_byte bytes.now }
+    ensures within { result ≤ length bytes.now }
+{
+    let mut count = 0usize;
+    for byte in bytes {
+        if !is_blank(*byte) {
+            return count;
+        }
+        count += 1;
+    }
+    count
+}
+
+/// How many bytes stand before the first blank.
+fn size_of_piece(bytes: &[u8]) -> usize
+    ensures value { result ≡ piece_size is_blank_byte bytes.now }
+    ensures within { result ≤ length bytes.now }
+{
+    let mut count = 0usize;
+    for byte in bytes {
+        if is_blank(*byte) {
+            return count;
+        }
+        count += 1;
+    }
+    count
+}
+
+/// The first piece between blanks, with what stands behind it.
+pub(crate) fn first_piece(bytes: &[u8]) -> Option<(&[u8], &[u8])>
+    ensures { FirstPiece is_blank_byte bytes.now result }
+{
+    let (_, text) = bytes.split_at(count_blanks(bytes));
+    match size_of_piece(text) {
+        0 => None,
+        size => Some(text.split_at(size)),
+    }
+}
