@@ -6,6 +6,7 @@ mod pieces;
 mod sentence;
 
 pub use lexicon::Lexicon;
+pub use pieces::first_piece;
 pub use sentence::{SentenceFault, read_sentence};
 
 #[cfg(test)]

@@ -39,7 +39,7 @@ fn size_of_piece(bytes: &[u8]) -> usize
 }
 
 /// The first piece between blanks, with what stands behind it.
-pub(crate) fn first_piece(bytes: &[u8]) -> Option<(&[u8], &[u8])>
+pub fn first_piece(bytes: &[u8]) -> Option<(&[u8], &[u8])>
     ensures { FirstPiece is_blank_byte bytes.now result }
 {
     let (_, text) = bytes.split_at(count_blanks(bytes));

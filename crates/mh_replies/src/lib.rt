@@ -1,0 +1,7 @@
+//! The texts that answer the lines of a session.
+#![tactic(auto)]
+
+mod answering;
+mod texts;
+
+pub use answering::answer_line;

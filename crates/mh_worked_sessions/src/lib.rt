@@ -1,0 +1,7 @@
+//! Worked sessions.
+#![tactic(auto)]
+
+#[cfg(test)]
+mod made;
+#[cfg(test)]
+mod sessions;
