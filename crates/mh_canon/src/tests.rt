@@ -22,6 +22,7 @@ fn grammar_of(
         token_list.push(TokenInfo {
             name: from_bytes(alloc, b"T")?,
             level: None,
+            cost: 1,
         })?;
     }
     let mut nonterminal_list = Vec::new(alloc);

@@ -2,15 +2,17 @@
 use Rattle.std.proofs.Common.{◌≡◌, ◌<◌, ◌⊎◌, Bool, List, [], ◌∷◌, ◌++◌, None, Some, Ok, flat_map, length, refl, sym, ap, subst, ◌∙◌, inl, inr, arith}
 use Rattle.std.proofs.lemmas.List.{length-map}
 use Rattle.mh_grammar.specs.declared.types.Grammar.{Grammar}
+use Rattle.mh_grammar.specs.Costs.{HaveCosts}
 use Rattle.mh_grammar.specs.Numbering.{AreDistinct}
 use Rattle.mh_grammar.specs.Plain.{plain_of, IsInRange}
+use Rattle.mh_grammar.proofs.Costs.{each_costs}
 use Rattle.mh_reader.specs.declared.modules.Module.{Module}
 use Rattle.mh_join.specs.declared.fault.JoinFault.{JoinFault}
 use Rattle.mh_join.specs.declared.fault.JoinFault.TheVariants as joining
 use Rattle.mh_join.specs.declared.joined.Joined.{Joined}
 use Rattle.mh_join.specs.Names.{Text, files}
 use Rattle.mh_join.specs.Faults.{meanings, undefined_in_file, errors_in_file, unlevelled_in_file, many_tokens, other_faults, duplicates, join_faults, first, has_some, unless}
-use Rattle.mh_join.specs.Joining.{Joins}
+use Rattle.mh_join.specs.Joining.{Joins, token_info}
 use Rattle.mh_join.specs.Ready.{HaveAlternatives}
 use Rattle.mh_join.proofs.Readying as joins
 use Rattle.mh_join.proofs.Resolving.{front_nil, back_nil}
@@ -172,6 +174,12 @@ module _ (p : Bool) (ms : List Module) where
       let of_expanded = (has_same_sentences j e o.grammar.expands).starts in
       let of_grammar = ap length o.grammar.grammar.inlined.starts ∙ length-map e.starts (number_of e.instances) in
       omega arith
+
+  pub have_costs : (g : Grammar) → IsGrammarOfModules p ms g → HaveCosts g.tokens
+  have_costs g o =
+      let w = meanings p ms in
+      let tokens = o.grammar.grammar.inlined.tokens ∙ o.grammar.expands.tokens ∙ o.joins.1.tokens_are in
+      rw tokens (each_costs (token_info w) (λ x. (omega arith, omega arith)) w.tokens)
 
   module _ (g : Grammar) (some : HaveAlternatives ms) (o : IsGrammarOfModules p ms g) where
     expanded_ready : IsExpandedReady o.grammar.expanded

@@ -1,5 +1,6 @@
 //! The stages one after another: joining, expansion, inlining.
 ghost use Rattle.std.specs.Prelude.{IfOk, IfErr};
+ghost use Rattle.mh_grammar.specs.Costs.{HaveCosts};
 ghost use Rattle.mh_grammar.specs.Numbering.{AreDistinct};
 ghost use Rattle.mh_grammar.specs.Plain.{plain_of, IsInRange};
 ghost use Rattle.mh_join.specs.Ready.{HaveAlternatives, IsReady};
@@ -38,6 +39,7 @@ pub fn grammar_of(alloc: Global, modules: &[Module], prelude: bool) -> Result<Gr
     ensures grammar { IfOk result (IsGrammarOfModules prelude modules.now) }
     ensures fault { IfErr result (Causes (IsGrammarFault prelude modules.now)) }
     ensures range { IfOk result (λ g. IsInRange (plain_of g)) }
+    ensures costs { IfOk result (λ g. HaveCosts g.tokens) }
     ensures distinct { IfOk result (λ g. AreDistinct g.starts) }
     ensures sentences { IfOk result (HasSentencesOfModules prelude modules.now) }
 {

@@ -1,4 +1,4 @@
--- In a list of edges in the order of symbols each edge is the one on its symbol.
+-- The orders of symbols, edges and looks; in a list of edges in the order of symbols each edge is the one on its symbol.
 use Rattle.std.proofs.Common.{◌≡◌, ℕ, zero, suc, ◌+◌, ◌<◌, ◌≤◌, List, [], ◌∷◌, Some, None, true, false, length, refl, ap, arith, inl, inr}
 use Rattle.std.proofs.lemmas.Bool.Decides.{nat_tests}
 use Rattle.std.proofs.lemmas.Bool.{cases_eq, cases_lt}
@@ -6,15 +6,22 @@ use Rattle.std.proofs.lemmas.Option.{slice_get_within}
 use Rattle.std.specs.List.{slice_get}
 use Rattle.mh_grammar.specs.declared.types.Symbol.{Symbol}
 use Rattle.mh_grammar.specs.declared.types.Symbol.TheVariants.{T, N}
+use Rattle.mh_grammar.specs.declared.types.Look.{Look}
+use Rattle.mh_grammar.specs.declared.types.Look.TheVariants.{Token, End}
 use Rattle.mh_grammar.specs.declared.edges.Edge.{Edge}
 use Rattle.mh_grammar.proofs.Lists.{recursion_at, rising_at}
-use Rattle.mh_grammar.specs.Edges.{IsRising, IsEdgeBefore, IsSymbolBefore, same_symbol, find_edge}
+use Rattle.mh_grammar.specs.Edges.{IsRising, IsEdgeBefore, IsLookBefore, IsSymbolBefore, same_symbol, find_edge}
 
-same_itself : (x : Symbol) → same_symbol x x ≡ true
+pub look_never : (a b : Look) → IsLookBefore a b → IsLookBefore b a → ⊥
+look_never (Token a) (Token b) h k = omega arith
+look_never (Token a) End h k = k
+look_never End b h k = h
+
+pub same_itself : (x : Symbol) → same_symbol x x ≡ true
 same_itself (T a) = grind (arith, nat_tests)
 same_itself (N a) = grind (arith, nat_tests)
 
-before_not_same : (x y : Symbol) → IsSymbolBefore x y → same_symbol x y ≡ false
+pub before_not_same : (x y : Symbol) → IsSymbolBefore x y → same_symbol x y ≡ false
 before_not_same (T a) (T b) h = grind (arith, nat_tests)
 before_not_same (T a) (N b) h = refl
 before_not_same (N a) (T b) h = refl
@@ -27,7 +34,7 @@ edge_found (d ∷ es) zero e h g = let i : d ≡ e = cc in rw i (rw (same_itself
 edge_found (d ∷ es) (suc k) e h g =
     rw (before_not_same d.symbol e.symbol (recursion_at (IsEdgeBefore d) es h.0 k e g)) (edge_found es k e h.1 g)
 
-same_either_way : (x y : Symbol) → same_symbol x y ≡ false → same_symbol y x ≡ false
+pub same_either_way : (x y : Symbol) → same_symbol x y ≡ false → same_symbol y x ≡ false
 same_either_way (T a) (T b) h = grind (arith, nat_tests)
 same_either_way (T a) (N b) h = refl
 same_either_way (N a) (T b) h = refl
@@ -42,7 +49,7 @@ same_is (T a) (N b) h = cc
 same_is (N a) (T b) h = cc
 same_is (N a) (N b) h = ap N (grind (arith, nat_tests))
 
-before_before : (x y z : Symbol) → IsSymbolBefore x y → IsSymbolBefore y z → IsSymbolBefore x z
+pub before_before : (x y z : Symbol) → IsSymbolBefore x y → IsSymbolBefore y z → IsSymbolBefore x z
 before_before (T a) (T b) (T c) h k = omega arith
 before_before (T a) (T b) (N c) h k = tt
 before_before (T a) (N b) (T c) h k = absurd k

@@ -20,7 +20,8 @@ use Rattle.mh_grammar.specs.Grid.{flag, Grows}
 use Rattle.mh_grammar.specs.First as first
 use Rattle.mh_grammar.specs.First.{First, FirstOf}
 use Rattle.mh_grammar.specs.FirstFlags.{AreFirst, IsAdded, IsSideAdded, AllAdded, AreFlagsOf, NullableSound, IsSymbolFits}
-use Rattle.mh_grammar.proofs.Flags.{set-cases, Grows-trans, Grows-refl, either_false}
+use Rattle.std.proofs.lemmas.Bool.{or_parts}
+use Rattle.mh_grammar.proofs.Flags.{set-cases, Grows-trans, Grows-refl}
 use Rattle.mh_grammar.proofs.LeastMarks.{nil_from-marked, marked-from_nil}
 use Rattle.mh_grammar.proofs.Numbered.{Produces-ordinary, listed_from_for}
 
@@ -51,7 +52,7 @@ module _ (nullable : List Bool) (width : ℕ) (old new newer : List Bool) (lhs :
   step_sound ps n f k = s ps (λ a x. f a (h.front ps n a (first.FirstOf.here x))) (h.sound ps n f k)
 
   step_added : (grown || more) ≡ false → (mark_of false nullable X ≡ true → IsSideAdded nullable width newer lhs rest) → IsSideAdded nullable width newer lhs symbols
-  step_added e k = let both = either_false grown more e in let same = g.same both.1 in
+  step_added e k = let both = or_parts grown more e in let same = g.same both.1 in
       rw same (h.added both.0 (rw same at (i both.1), λ m. rw same at (k m)))
 
   pub SideSoFar-step : mark_of false nullable X ≡ true → SideSoFar nullable width old newer lhs symbols (grown || more) rest
@@ -98,7 +99,7 @@ module _ (ps : List Production) (nullable : List Bool) (width : ℕ) (old new ne
   OnceSoFar-step h d = record {
     grows = Grows-trans old new newer grown more h.grows g;
     sound = λ k same n o. production_sound k same n (h.sound k same n o);
-    added = λ e k q l read. let both = either_false grown more e in elim (cases_eq k i) [
+    added = λ e k q l read. let both = or_parts grown more e in elim (cases_eq k i) [
       | inl same ↦ (let one : q ≡ p = cc in rw one (d both.1))
       | inr other ↦ rw (g.same both.1) (h.added both.0 k q (omega arith) read)
     ];

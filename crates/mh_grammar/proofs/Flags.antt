@@ -24,11 +24,6 @@ Grows-trans a b c false true p q = let le' = not_more false a b p in record { le
 Grows-trans a b c true false p q = let le = not_more false b c q in record { len = q.len ∙ p.len; same = λ e. cc; fewer = λ e. omega (arith, p.fewer refl) }
 Grows-trans a b c false false p q = record { len = q.len ∙ p.len; same = λ e. q.same refl ∙ p.same refl; fewer = λ e. cc }
 
--- nothing new in both of two changes
-pub either_false : (g h : Bool) → (g || h) ≡ false → (g ≡ false) × (h ≡ false)
-either_false true h e = cc
-either_false false h e = (refl, e)
-
 -- the row `from` was added to the row `to` up to a column
 pub record RowAdded (width : ℕ) (old new : List Bool) (to from : ℕ) (grown : Bool) (upto : ℕ) : Type 0 where
   pub grows : Grows old new grown

@@ -10,18 +10,12 @@ use Rattle.mh_grammar.specs.Derivations as trees
 use Rattle.mh_grammar.specs.Derivations.{Derivation, Derivations}
 use Rattle.mh_grammar.specs.Plain.{PlainGrammar, IsToken, Produces, Derives, DerivesAll, IsNullable, IsProductive}
 use Rattle.mh_grammar.specs.Grid.{Grows}
-use Rattle.mh_grammar.proofs.Flags.{Grows-refl, Grows-trans, either_false}
+use Rattle.std.proofs.lemmas.Bool.{and_from, and_parts, or_parts}
+use Rattle.mh_grammar.proofs.Flags.{Grows-refl, Grows-trans}
+use Rattle.mh_grammar.proofs.Lists.{nil_parts}
 use Rattle.mh_grammar.proofs.Numbered.{produces_at, listed_from_for}
 use Rattle.mh_grammar.specs.Marked.{Marked, AllMarked, mark_of, all_marked, AreSound, AreClosed, AreMarks}
 use Rattle.mh_grammar.specs.Marked as marked
-
-both_true : (a b : Bool) → (a && b) ≡ true → (a ≡ true) × (b ≡ true)
-both_true true b e = (refl, e)
-both_true false b e = cc
-
-and_true : (a b : Bool) → a ≡ true → b ≡ true → (a && b) ≡ true
-and_true true b p q = q
-and_true false b p q = cc
 
 -- marks that are closed hold of all that is marked
 module _ (tokens : Bool) (ps : List Production) (marks : List Bool) (c : AreClosed tokens ps marks) where
@@ -32,7 +26,7 @@ module _ (tokens : Bool) (ps : List Production) (marks : List Bool) (c : AreClos
 
     pub all_marked-marked : (Xs : List Symbol) → AllMarked tokens ps Xs → all_marked tokens marks Xs ≡ true
     all_marked-marked Xs marked.AllMarked.none = refl
-    all_marked-marked Xs (marked.AllMarked.more m ms) = and_true _ _ (mark_of-marked _ m) (all_marked-marked _ ms)
+    all_marked-marked Xs (marked.AllMarked.more m ms) = and_from _ _ (mark_of-marked _ m) (all_marked-marked _ ms)
 
 -- what sound marks hold of is marked
 module _ (tokens : Bool) (ps : List Production) (marks : List Bool) (s : AreSound tokens ps marks) where
@@ -42,7 +36,7 @@ module _ (tokens : Bool) (ps : List Production) (marks : List Bool) (s : AreSoun
 
   pub marked-all_marked : (Xs : List Symbol) → all_marked tokens marks Xs ≡ true → AllMarked tokens ps Xs
   marked-all_marked [] e = marked.AllMarked.none
-  marked-all_marked (X ∷ Xs) e = let b = both_true (mark_of tokens marks X) _ e in marked.AllMarked.more (marked-mark_of X b.0) (marked-all_marked Xs b.1)
+  marked-all_marked (X ∷ Xs) e = let b = and_parts (mark_of tokens marks X) _ e in marked.AllMarked.more (marked-mark_of X b.0) (marked-all_marked Xs b.1)
 
 -- sound and closed marks are the least
 pub marks_of : (tokens : Bool) (ps : List Production) (marks : List Bool) → AreSound tokens ps marks → AreClosed tokens ps marks → AreMarks tokens ps marks
@@ -84,17 +78,13 @@ module _ (tokens : Bool) (ps : List Production) (old marks new : List Bool) (cha
   Pass-step h c = record {
     grows = Grows-trans old marks new changed more h.grows g;
     sound = λ o. s (h.sound o);
-    closed = λ e k q l read. let both = either_false changed more e in elim (cases_eq k i) [
+    closed = λ e k q l read. let both = or_parts changed more e in elim (cases_eq k i) [
       | inl same ↦ (let one : q ≡ p = cc in rw one (c both.1))
       | inr other ↦ rw (g.same both.1) (h.closed both.0 k q (omega arith) read)
     ];
   }
 
 -- with no token counted, what is marked is what derives the empty word
-nil_of-append : (u v : List ℕ) → [] ≡ u ++ v → (u ≡ []) × (v ≡ [])
-nil_of-append [] v e = (refl, sym e)
-nil_of-append (x ∷ u) v e = cc
-
 module _ (g : PlainGrammar) where
   node_marked : (tokens : Bool) (X : Symbol) (rhs : List Symbol) → Produces g X rhs → AllMarked tokens g.productions rhs → Marked tokens g.productions X
   node_marked tokens (T a) rhs p all = absurd p
@@ -112,7 +102,7 @@ module _ (g : PlainGrammar) where
 
     pub all-from_nil : (Xs : List Symbol) (w : List ℕ) → DerivesAll g Xs w → w ≡ [] → AllMarked false g.productions Xs
     all-from_nil Xs w trees.Derivations.none e = marked.AllMarked.none
-    all-from_nil Xs w (trees.Derivations.more j t f) e = let n = nil_of-append _ _ (sym e ∙ j) in marked.AllMarked.more (marked-from_nil _ _ t n.0) (all-from_nil _ _ f n.1)
+    all-from_nil Xs w (trees.Derivations.more j t f) e = let n = nil_parts _ _ (sym e ∙ j) in marked.AllMarked.more (marked-from_nil _ _ t n.0) (all-from_nil _ _ f n.1)
 
   -- with each token counted, what has a derivation is marked
   mutual

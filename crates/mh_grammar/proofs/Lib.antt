@@ -1,4 +1,5 @@
 pub mod Begins
+pub mod Costs
 pub mod EdgeOrder
 pub mod FirstSets
 pub mod Flags

@@ -1,18 +1,20 @@
--- Lists, for every crate above: items by their places, what a list contains, lists that rise, and the keys of a set in
--- its order. Where std has a lemma it is cited from there (`List.Elements`: of `Contains` and `++`, of `All`).
-use Rattle.std.proofs.Common.{◌≡◌, ℕ, zero, suc, ◌<◌, ◌⊎◌, ◌↔◌, List, [], ◌∷◌, ◌++◌, Some, length, get_or, refl, sym, ap, ◌∙◌, arith, inl, inr}
-use Rattle.std.specs.List.{slice_get, AllByRecursion, Contains}
+-- Lists, for every crate above: items by their places, what a list contains, fronts that grow by one item, items that are set, pairs at
+-- equal places, lists that rise, and the keys of a set in its order. Where std has a lemma it is cited from there (`List.Elements`: of
+-- `Contains` and `++`, of `All`; `Bool`: `and_parts`, `or_parts`; `Math.Bool`: `or-false`, `or_assoc`; `Option`: `same_Some`, `none-some`).
+use Rattle.std.proofs.Common.{◌≡◌, ℕ, zero, suc, ◌+◌, ◌<◌, ◌⊎◌, ◌↔◌, List, [], ◌∷◌, ◌++◌, Option, None, Some, length, get_or, take, drop, map, set, flat_map, refl, sym, ap, ◌∙◌, arith, inl, inr}
+use Rattle.std.specs.List.{slice_get, All, AllByRecursion, AllZip, Contains}
 use Rattle.std.specs.declared.cmp.Ordering.{Ordering}
 use Rattle.std.specs.declared.cmp.Ordering.TheVariants.{Less, Equal, Greater}
+use Rattle.std.specs.Option.{option_map}
 use Rattle.std.specs.Ordering.{match_ordering}
 use Rattle.std.specs.BTreeSet.{BTreeSet, IsOrdered, insert_key}
 use Rattle.std.specs.List.Sorted.{IsStrictlySortedBy}
 use Rattle.std.proofs.lemmas.Bool.{cases_eq}
-use Rattle.std.proofs.lemmas.List.{get_or_append_left, get_or_push, length_push, length-append}
-use Rattle.std.proofs.lemmas.List.Elements.{All-weaker, All-contains, All-from_recursion, recursion_from_All, Contains-append_right}
+use Rattle.std.proofs.lemmas.List.{get_or_append_left, get_or_push, get_or_default, length_push, length-append, take_more}
+use Rattle.std.proofs.lemmas.List.Elements.{All-nil, All-cons, All-weaker, All-contains, All-from_recursion, recursion_from_All, Contains-append_left, Contains-append_right, Contains-append_cases, Contains-push, Contains-push_cases}
 use Rattle.std.proofs.lemmas.Map.Keys.{sorted_tail}
 use Rattle.std.proofs.lemmas.Map.Views.{All-after_first}
-use Rattle.std.proofs.lemmas.Option.{slice_get-get_or, get_or_from_slice_get, slice_get_within}
+use Rattle.std.proofs.lemmas.Option.{slice_get-get_or, get_or_from_slice_get, slice_get_within, slice_get-map}
 use Rattle.mh_grammar.specs.Edges.{IsRising}
 
 module _ {X : Type 0} where
@@ -36,6 +38,27 @@ module _ {X : Type 0} where
         | inr other ↦ (let l : i < length xs = omega (arith, slice_get_within (xs ++ y ∷ []) i x e, length_push xs y) in
             inl (slice_get-get_or xs i x l ∙ ap Some (sym (get_or_append_left xs (y ∷ []) x i l) ∙ at)))
       ]
+
+  -- one place has one item
+  pub same_at : (xs : List X) (i : ℕ) (x y : X) → slice_get xs i ≡ Some x → slice_get xs i ≡ Some y → x ≡ y
+  same_at xs i x y e f = cc
+
+  -- each place has an item
+  pub has_place : (xs : List X) (i : ℕ) → i < length xs → (x : X) × (slice_get xs i ≡ Some x)
+  has_place [] i l = absurd (omega arith)
+  has_place (x ∷ xs) zero l = (x, refl)
+  has_place (x ∷ xs) (suc i) l = has_place xs i (omega arith)
+
+  -- an item that is read stands at its place
+  pub read_again : (xs : List X) (i : ℕ) (d : X) → i < length xs → get_or xs i d ≡ get_or xs i (get_or xs i d)
+  read_again xs i d l = get_or_default xs i d (get_or xs i d) l
+
+  -- the first item behind a front
+  pub at_drop : (xs : List X) (i : ℕ) (x : X) (ys : List X) → drop i xs ≡ x ∷ ys → slice_get xs i ≡ Some x
+  at_drop [] zero x ys e = cc
+  at_drop [] (suc i) x ys e = cc
+  at_drop (z ∷ xs) zero x ys e = cc
+  at_drop (z ∷ xs) (suc i) x ys e = at_drop xs i x ys e
 
   -- from a place to what the list contains, and back
   pub contains_at : (xs : List X) (i : ℕ) (x : X) → slice_get xs i ≡ Some x → Contains xs x
@@ -61,6 +84,9 @@ module _ {X : Type 0} where
   pub contains_none : (y : X) → Contains [] y → ⊥
   contains_none y c = omega (arith, c.1)
 
+  pub contains_one : (x y : X) → Contains (x ∷ []) y → x ≡ y
+  contains_one x y c = elim (contains_cases x [] y c) [ inl e ↦ e | inr d ↦ absurd (contains_none y d) ]
+
   -- and by their last
   pub contains_last : (xs : List X) (y : X) → Contains (xs ++ y ∷ []) y
   contains_last xs y = Contains-append_right xs (y ∷ []) y (contains_here y [])
@@ -70,12 +96,116 @@ module _ {X : Type 0} where
       let at = at_contains (xs ++ y ∷ []) x c in
       elim (get_cases xs y at.0 x at.1) [ inl e ↦ inl (contains_at xs at.0 x e) | inr l ↦ inr l.1 ]
 
+  -- an item of a list that is not empty
+  pub some_item : (xs : List X) → 0 < length xs → (x : X) × Contains xs x
+  some_item [] l = absurd (omega arith)
+  some_item (x ∷ xs) l = (x, contains_here x xs)
+
+  -- lists with equal parts
+  pub cons_same : (x y : X) (xs ys : List X) → x ≡ y → xs ≡ ys → x ∷ xs ≡ y ∷ ys
+  cons_same x y xs ys e f = λ i. e i ∷ f i
+
+  pub nil_parts : (xs ys : List X) → [] ≡ xs ++ ys → (xs ≡ []) × (ys ≡ [])
+  nil_parts [] ys e = (refl, sym e)
+  nil_parts (x ∷ xs) ys e = cc
+
+  -- where a list that ends in y is split
+  pub split_push : (xs : List X) (y : X) (before : List X) (x : X) (after : List X) → xs ++ y ∷ [] ≡ before ++ x ∷ after → ((xs ≡ before) × (y ≡ x)) ⊎ ((rest : List X) × (xs ≡ before ++ x ∷ rest))
+  split_push [] y [] x after e = let same : y ≡ x = cc in inl (refl, same)
+  split_push [] y (z ∷ []) x after e = cc
+  split_push [] y (z ∷ w ∷ before) x after e = cc
+  split_push (z ∷ xs) y [] x after e = let same : z ≡ x = cc in inr (xs, ap (λ v. v ∷ xs) same)
+  split_push (z ∷ xs) y (w ∷ before) x after e =
+      let same : z ≡ w = cc in
+      let rest : xs ++ y ∷ [] ≡ before ++ x ∷ after = cc in
+      elim (split_push xs y before x after rest) [
+        | inl l ↦ inl ((λ i. same i ∷ l.0 i), l.1)
+        | inr r ↦ inr (r.0, (λ i. same i ∷ r.1 i))
+      ]
+
+  -- a front with one more item: what it is, and what it contains
+  pub taken : (xs : List X) (i : ℕ) (x : X) → i < length xs → x ≡ get_or xs i x → take (i + 1) xs ≡ take i xs ++ x ∷ []
+  taken xs i x l e = take_more xs i x l ∙ ap (λ z. take i xs ++ z ∷ []) (sym e)
+
+  pub taken_cases : (xs : List X) (i : ℕ) (x : X) → i < length xs → x ≡ get_or xs i x → (y : X) → Contains (take (i + 1) xs) y → Contains (take i xs) y ⊎ (x ≡ y)
+  taken_cases xs i x l e y c = let more = taken xs i x l e in Contains-push_cases (take i xs) x y (rw more at c)
+
+  pub taken_last : (xs : List X) (i : ℕ) (x : X) → i < length xs → x ≡ get_or xs i x → Contains (take (i + 1) xs) x
+  taken_last xs i x l e = let more = taken xs i x l e in rw more (Contains-push (take i xs) x)
+
+  pub taken_before : (xs : List X) (i : ℕ) (x : X) → i < length xs → Contains (take i xs) x → Contains (take (i + 1) xs) x
+  taken_before xs i x l c = let more = take_more xs i x l in rw more (Contains-append_left (take i xs) (get_or xs i x ∷ []) x c)
+
+  -- the parts of a list before and behind an item
+  pub split_at : (xs : List X) (i : ℕ) (x : X) → i < length xs → x ≡ get_or xs i x → xs ≡ take i xs ++ x ∷ drop (suc i) xs
+  split_at [] i x l e = absurd (omega arith)
+  split_at (y ∷ xs) zero x l e = λ i. sym e i ∷ xs
+  split_at (y ∷ xs) (suc n) x l e = ap (λ zs. y ∷ zs) (split_at xs n x (omega arith) e)
+
+  -- one item is set
+  pub set_here : (xs : List X) (n : ℕ) (y : X) → n < length xs → slice_get (set xs n y) n ≡ Some y
+  set_here [] n y l = absurd (omega arith)
+  set_here (z ∷ xs) zero y l = refl
+  set_here (z ∷ xs) (suc n) y l = set_here xs n y (omega arith)
+
+  pub set_elsewhere : (xs : List X) (n : ℕ) (y : X) (m : ℕ) → (m ≡ n → ⊥) → slice_get (set xs n y) m ≡ slice_get xs m
+  set_elsewhere [] n y m h = refl
+  set_elsewhere (x ∷ xs) zero y zero h = absurd (h refl)
+  set_elsewhere (x ∷ xs) zero y (suc m) h = refl
+  set_elsewhere (x ∷ xs) (suc n) y zero h = refl
+  set_elsewhere (x ∷ xs) (suc n) y (suc m) h = set_elsewhere xs n y m (λ f. h (omega arith))
+
+  pub set_cases : (xs : List X) (n : ℕ) (y : X) (m : ℕ) (z : X) → slice_get (set xs n y) m ≡ Some z → ((m ≡ n) × (y ≡ z)) ⊎ ((m ≡ n → ⊥) × (slice_get xs m ≡ Some z))
+  set_cases [] n y m z e = cc
+  set_cases (x ∷ xs) zero y zero z e = inl (refl, cc)
+  set_cases (x ∷ xs) zero y (suc m) z e = inr ((λ h. omega arith), e)
+  set_cases (x ∷ xs) (suc n) y zero z e = inr ((λ h. omega arith), e)
+  set_cases (x ∷ xs) (suc n) y (suc m) z e = elim (set_cases xs n y m z e) [
+    | inl h ↦ inl ((let f : m ≡ n = h.0 in omega arith), h.1)
+    | inr h ↦ inr ((λ f. h.0 (omega arith)), h.1)
+  ]
+
+  -- what holds of every item
+  pub all_always : (P : X → Type 0) → ((x : X) → P x) → (xs : List X) → All P xs
+  all_always P h [] = All-nil P
+  all_always P h (x ∷ xs) = All-cons P x xs (h x) (all_always P h xs)
+
+  pub all_at : (P : X → Type 0) (xs : List X) (i : ℕ) (x : X) → All P xs → i < length xs → x ≡ get_or xs i x → P x
+  all_at P xs i x h l e = rw (← e) at (h i x l)
+
   -- what holds of all items, by recursion, holds of one of them
   pub recursion_contains : (P : X → Type 0) (xs : List X) → AllByRecursion P xs → (x : X) → Contains xs x → P x
   recursion_contains P xs a x c = All-contains P xs x (All-from_recursion P xs a) c
 
   pub recursion_at : (P : X → Type 0) (xs : List X) → AllByRecursion P xs → (k : ℕ) (x : X) → slice_get xs k ≡ Some x → P x
   recursion_at P xs a k x e = recursion_contains P xs a x (contains_at xs k x e)
+
+  -- and the other way, for lists with one more item, joined lists, and weaker facts
+  pub recursion-from : (P : X → Type 0) (xs : List X) → ((x : X) → Contains xs x → P x) → AllByRecursion P xs
+  recursion-from P [] h = tt
+  recursion-from P (x ∷ xs) h = (h x (contains_here x xs), recursion-from P xs (λ z c. h z (contains_there x xs z c)))
+
+  pub recursion-append : (P : X → Type 0) (xs ys : List X) → AllByRecursion P xs → AllByRecursion P ys → AllByRecursion P (xs ++ ys)
+  recursion-append P [] ys h k = k
+  recursion-append P (x ∷ xs) ys h k = (h.0, recursion-append P xs ys h.1 k)
+
+  pub recursion-push : (P : X → Type 0) (xs : List X) (y : X) → AllByRecursion P xs → P y → AllByRecursion P (xs ++ y ∷ [])
+  recursion-push P xs y h p = recursion-append P xs (y ∷ []) h (p, tt)
+
+  pub recursion-weaker : (P Q : X → Type 0) → ((x : X) → P x → Q x) → (xs : List X) → AllByRecursion P xs → AllByRecursion Q xs
+  recursion-weaker P Q w [] h = tt
+  recursion-weaker P Q w (x ∷ xs) h = (w x h.0, recursion-weaker P Q w xs h.1)
+
+  -- a rising list with items behind it
+  pub rising-append : (R : X → X → Type 0) (xs ys : List X) → IsRising R xs → IsRising R ys → ((x y : X) → Contains xs x → Contains ys y → R x y) → IsRising R (xs ++ ys)
+  rising-append R [] ys h k b = k
+  rising-append R (x ∷ xs) ys h k b = (
+    recursion-append (R x) xs ys h.0 (recursion-from (R x) ys (λ y c. b x y (contains_here x xs) c)),
+    rising-append R xs ys h.1 k (λ z y c d. b z y (contains_there x xs z c) d),
+  )
+
+  pub rising-push : (R : X → X → Type 0) (xs : List X) (y : X) → IsRising R xs → ((x : X) → Contains xs x → R x y) → IsRising R (xs ++ y ∷ [])
+  rising-push R xs y h b = rising-append R xs (y ∷ []) h (tt, tt) (λ x z c d. let same : z ≡ y = sym (contains_one y z d) in rw same (b x c))
 
   -- of two items of a rising list the earlier comes before
   pub rising_at : (R : X → X → Type 0) (xs : List X) → IsRising R xs → (i j : ℕ) (x y : X) → i < j → slice_get xs i ≡ Some x → slice_get xs j ≡ Some y → R x y
@@ -140,3 +270,67 @@ module _ {X : Type 0} where
             ]
           ]),
         )
+
+-- what a list of values contains, and of lists
+pub option_map_some : {X Y : Type 0} (f : X → Y) (o : Option X) (y : Y) → option_map f o ≡ Some y → (x : X) × (o ≡ Some x) × (f x ≡ y)
+option_map_some f None y h = cc
+option_map_some f (Some x) y h = (x, refl, cc)
+
+pub contains_map : {X Y : Type 0} (f : X → Y) (xs : List X) (x : X) → Contains xs x → Contains (map f xs) (f x)
+contains_map f xs x c =
+    let at = at_contains xs x c in
+    contains_at (map f xs) at.0 (f x) (slice_get-map f xs at.0 ∙ ap (option_map f) at.1)
+
+pub map_contains : {X Y : Type 0} (f : X → Y) (xs : List X) (y : Y) → Contains (map f xs) y → (x : X) × Contains xs x × (f x ≡ y)
+map_contains f xs y c =
+    let at = at_contains (map f xs) y c in
+    let found = option_map_some f (slice_get xs at.0) y (sym (slice_get-map f xs at.0) ∙ at.1) in
+    (found.0, contains_at xs at.0 found.0 found.1, found.2)
+
+pub flat_map_contains : {X Y : Type 0} (f : X → List Y) (xs : List X) (y : Y) → Contains (flat_map f xs) y → (x : X) × Contains xs x × Contains (f x) y
+flat_map_contains f [] y c = absurd (contains_none y c)
+flat_map_contains f (x ∷ xs) y c = elim (Contains-append_cases (f x) (flat_map f xs) y c) [
+  | inl d ↦ (x, contains_here x xs, d)
+  | inr d ↦ (let r = flat_map_contains f xs y d in (r.0, contains_there x xs r.0 r.1, r.2))
+]
+
+pub contains_flat_map : {X Y : Type 0} (f : X → List Y) (xs : List X) (x : X) (y : Y) → Contains xs x → Contains (f x) y → Contains (flat_map f xs) y
+contains_flat_map f [] x y c d = absurd (contains_none x c)
+contains_flat_map f (z ∷ xs) x y c d = elim (contains_cases z xs x c) [
+  | inl e ↦ (let here : Contains (f z) y = rw e d in Contains-append_left (f z) (flat_map f xs) y here)
+  | inr h ↦ Contains-append_right (f z) (flat_map f xs) y (contains_flat_map f xs x y h d)
+]
+
+-- pairs at equal places of two lists
+module _ {A B : Type 0} (R : A → B → Type 0) where
+  pub zip_push : (xs : List A) (ys : List B) (x : A) (y : B) → AllZip R xs ys → R x y → AllZip R (xs ++ x ∷ []) (ys ++ y ∷ [])
+  zip_push [] [] x y z r = (r, tt)
+  zip_push [] (w ∷ ys) x y z r = absurd z
+  zip_push (v ∷ xs) [] x y z r = absurd z
+  zip_push (v ∷ xs) (w ∷ ys) x y z r = (z.0, zip_push xs ys x y z.1 r)
+
+  pub zip_weaker : (S : A → B → Type 0) → ((x : A) (y : B) → R x y → S x y) → (xs : List A) (ys : List B) → AllZip R xs ys → AllZip S xs ys
+  zip_weaker S h [] [] z = tt
+  zip_weaker S h [] (w ∷ ys) z = absurd z
+  zip_weaker S h (v ∷ xs) [] z = absurd z
+  zip_weaker S h (v ∷ xs) (w ∷ ys) z = (h v w z.0, zip_weaker S h xs ys z.1)
+
+  pub zip_left : (xs : List A) (ys : List B) → AllZip R xs ys → (i : ℕ) (x : A) → slice_get xs i ≡ Some x → (y : B) × (slice_get ys i ≡ Some y) × R x y
+  zip_left [] [] z i x e = cc
+  zip_left [] (y ∷ ys) z i x e = absurd z
+  zip_left (w ∷ xs) [] z i x e = absurd z
+  zip_left (w ∷ xs) (y ∷ ys) z zero x e = let same : w ≡ x = cc in (y, refl, rw (← same) z.0)
+  zip_left (w ∷ xs) (y ∷ ys) z (suc i) x e = zip_left xs ys z.1 i x e
+
+  pub zip_right : (xs : List A) (ys : List B) → AllZip R xs ys → (i : ℕ) (y : B) → slice_get ys i ≡ Some y → (x : A) × (slice_get xs i ≡ Some x) × R x y
+  zip_right [] [] z i y e = cc
+  zip_right [] (w ∷ ys) z i y e = absurd z
+  zip_right (x ∷ xs) [] z i y e = absurd z
+  zip_right (x ∷ xs) (w ∷ ys) z zero y e = let same : w ≡ y = cc in (x, refl, rw (← same) z.0)
+  zip_right (x ∷ xs) (w ∷ ys) z (suc i) y e = zip_right xs ys z.1 i y e
+
+  pub zip_length : (xs : List A) (ys : List B) → AllZip R xs ys → length xs ≡ length ys
+  zip_length [] [] z = refl
+  zip_length [] (y ∷ ys) z = absurd z
+  zip_length (x ∷ xs) [] z = absurd z
+  zip_length (x ∷ xs) (y ∷ ys) z = ap suc (zip_length xs ys z.1)

@@ -1,3 +1,4 @@
+pub mod Costs
 pub mod Derivations
 pub mod Edges
 pub mod First

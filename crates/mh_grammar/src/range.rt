@@ -1,9 +1,10 @@
 //! Whether a grammar's numbers are in range.
 ghost use Rattle.std.specs.Prelude.{◌≡◌, ◌<◌, ◌≤◌, ◌↔◌, IsTrue, length, ◌^◌};
 ghost use Rattle.std.specs.List.{All};
+ghost use Rattle.mh_grammar.specs.Costs.{HaveCosts, IsCost};
 ghost use Rattle.mh_grammar.specs.Plain.{plain_of, IsInRange, IsSymbolBelow, IsProductionBelow};
 
-use crate::types::{Grammar, Production, Symbol};
+use crate::types::{Grammar, MAX_COST, Production, Symbol};
 
 /// The most tokens, nonterminals or starts: each has a number of 16 bits.
 const MAX_NUMBERED: usize = 65_535;
@@ -63,4 +64,21 @@ fn is_symbol_in_range(symbol: Symbol, tokens: usize, nonterminals: usize) -> boo
         Symbol::T(a) => usize::from(a) < tokens,
         Symbol::N(n) => usize::from(n) < nonterminals,
     }
+}
+
+/// Whether the cost of each token is from 1 to [`MAX_COST`](crate::MAX_COST).
+pub fn has_costs_in_range(grammar: &Grammar) -> bool
+    ensures { IsTrue result ↔ HaveCosts grammar.now.tokens }
+{
+    grammar
+        .tokens
+        .as_slice()
+        .iter()
+        .all(|token| is_cost(token.cost))
+}
+
+fn is_cost(cost: u32) -> bool
+    ensures { IsTrue result ↔ IsCost cost }
+{
+    1 <= cost && cost <= MAX_COST
 }

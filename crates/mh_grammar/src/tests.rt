@@ -15,6 +15,7 @@ fn token(alloc: Global, name: &[u8]) -> Result<TokenInfo, Memory> {
     Ok(TokenInfo {
         name: from_bytes(alloc, name)?,
         level: None,
+        cost: 1,
     })
 }
 

@@ -55,6 +55,9 @@ pub struct Level {
     pub assoc: Assoc,
 }
 
+/// The highest cost of a token; the lowest is 1.
+pub const MAX_COST: u32 = 1000;
+
 /// A token.
 #[derive(Clone, Debug, Drop, PartialEq, Eq)]
 pub struct TokenInfo {
@@ -62,6 +65,8 @@ pub struct TokenInfo {
     pub name: Name,
     /// Its level of precedence, where a declaration gives it one.
     pub level: Option<Level>,
+    /// What it costs in a least sentence: from 1 to [`MAX_COST`](crate::MAX_COST), and 1 where no declaration gives it a cost.
+    pub cost: u32,
 }
 
 /// A nonterminal.

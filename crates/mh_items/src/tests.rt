@@ -24,6 +24,7 @@ fn grammar(
         infos.push(TokenInfo {
             name: from_bytes(alloc, b"T")?,
             level: None,
+            cost: 1,
         })?;
     }
     let mut names = Vec::new(alloc);

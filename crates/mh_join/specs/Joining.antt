@@ -96,7 +96,7 @@ pub record AreRules (w : Meanings) (elsewhere : ℕ → Text → Bool) (outlines
 -- ALL
 
 abbrev pub token_info : Meanings → Text → TokenInfo
-token_info w x = record { name = x; level = w.level x }
+token_info w x = record { name = x; level = w.level x; cost = 1 }
 
 -- the on-error declarations of a file, where no name is a formal
 abbrev pub on_error_in : Meanings → ℕ × Module → List (Option (List Applied))

@@ -93,6 +93,7 @@ pub(crate) fn joined_tokens(alloc: Global, names: &Names) -> Result<Sequence<Tok
         tokens.push(TokenInfo {
             name: name.clone()?,
             level: names.levels.get(name).copied(),
+            cost: 1,
         })?;
     }
     Ok(tokens)

@@ -13,6 +13,7 @@ fn sample(alloc: Global, starts: &[u16]) -> Result<Grammar, Memory> {
         tokens.push(TokenInfo {
             name: from_bytes(alloc, name.as_bytes())?,
             level: None,
+            cost: 1,
         })?;
     }
     let mut nonterminals = Sequence::new(alloc);

@@ -24,7 +24,7 @@ use Rattle.mh_resolve.specs.Rows.{listed, AreCells, IsDecidedOn, IsStreamIn, IsD
 use Rattle.mh_resolve.specs.Whole.{closed_state, kept_of, IsFiller, filled_with, fallback_for, IsKnown, IsRow, AreEdgesKnown}
 use Rattle.mh_resolve.specs.Counting.{AreLooksKnown}
 use Rattle.mh_resolve.proofs.Same.{AreAlike, decided_same}
-use Rattle.mh_resolve.proofs.Places.{each_of}
+use Rattle.mh_grammar.proofs.Lists.{recursion_contains}
 use Rattle.mh_resolve.proofs.Stating.{stream_to, stream_from, found, fallback_is, cell_is}
 
 -- the closure is listed
@@ -110,8 +110,8 @@ known_is g kernel closed edges h e k = record { known = known }
     known (Token z) (Shift j) r = k z j r
     known (Token z) (Reduce p) r =
         let held = (e p (length (rhs_of (plain_of g) p)) (Token z)).1 r in
-        let is = each_of (IsKernelItem (plain_of g)) closed.items held.0 h.items held.1 in
-        each_of (IsLookBelow (length g.tokens)) held.0.looks (Token z) is.looks held.4
+        let is = recursion_contains (IsKernelItem (plain_of g)) closed.items h.items held.0 held.1 in
+        recursion_contains (IsLookBelow (length g.tokens)) held.0.looks is.looks (Token z) held.4
     known (Token z) Refuse r = absurd r
 
 pub looked_is : (g : Grammar) (closed : Kernel) → IsKernel (plain_of g) closed → All IsLooked closed.items

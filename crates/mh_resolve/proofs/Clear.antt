@@ -1,6 +1,6 @@
 -- What a table does, and what it does without conflicts.
 use Rattle.std.proofs.Common.{◌≡◌, ℕ, ◌<◌, ◌≤◌, ◌⊎◌, List, [], ◌∷◌, length, get_or, Option, Some, None, refl, ap, sym, ◌∙◌, arith, inl, inr}
-use Rattle.std.proofs.lemmas.Bool.{cases_lt}
+use Rattle.std.proofs.lemmas.Bool.{cases_eq, cases_lt}
 use Rattle.std.proofs.lemmas.List.{get_or_past}
 use Rattle.mh_grammar.specs.declared.types.Grammar.{Grammar}
 use Rattle.mh_grammar.specs.declared.types.Symbol.TheVariants.{T}
@@ -27,7 +27,7 @@ use Rattle.mh_resolve.specs.States.{State, state_of, Raw, IsHoleOn, Keeps, HasDe
 use Rattle.mh_resolve.specs.Clear.{IsClear, HasNoConflicts, Completes, IsDefaultOf, cell_at, ActsWithin, ActsClearly}
 use Rattle.mh_resolve.proofs.Closed.{closure_is_item}
 use Rattle.mh_resolve.proofs.Listing.{unsolved_conflict}
-use Rattle.mh_resolve.proofs.Places.{at_contains}
+use Rattle.mh_grammar.proofs.Lists.{contains_at}
 use Rattle.mh_resolve.proofs.Once.{raw_taken}
 use Rattle.mh_resolve.proofs.Stating.{unique, takes_raw, takes_stays}
 use Rattle.mh_resolve.proofs.Tabled.{named_ordinary}
@@ -44,19 +44,12 @@ raw_kept s clear End a r = (raw_taken s End (clear.one End) a r, clear.stream)
 no_hole : (s : State) → IsClear s → (look : Look) → IsHoleOn s look → ⊥
 no_hole s clear look h = h.none_stays h.action (takes_stays s look h.action (raw_taken s look (clear.one look) h.action h.raw))
 
-same_number : (a b : ℕ) → (a ≡ b) ⊎ (a ≡ b → ⊥)
-same_number a b =
-    elim (cases_lt a b) [
-      | inl lt ↦ inr (λ e. omega arith)
-      | inr ge ↦ elim (cases_lt b a) [ inl lt ↦ inr (λ e. omega arith) | inr le ↦ inl (omega arith) ]
-    ]
-
 same_action : (a b : Action) → (a ≡ b) ⊎ (a ≡ b → ⊥)
-same_action (Shift i) (Shift j) = elim (same_number i j) [ inl e ↦ inl (ap Shift e) | inr n ↦ inr (λ e. n (let same : i ≡ j = cc in same)) ]
+same_action (Shift i) (Shift j) = elim (cases_eq i j) [ inl e ↦ inl (ap Shift e) | inr n ↦ inr (λ e. n (let same : i ≡ j = cc in same)) ]
 same_action (Shift i) (Reduce q) = inr (λ e. cc)
 same_action (Shift i) Refuse = inr (λ e. cc)
 same_action (Reduce p) (Shift j) = inr (λ e. cc)
-same_action (Reduce p) (Reduce q) = elim (same_number p q) [ inl e ↦ inl (ap Reduce e) | inr n ↦ inr (λ e. n (let same : p ≡ q = cc in same)) ]
+same_action (Reduce p) (Reduce q) = elim (cases_eq p q) [ inl e ↦ inl (ap Reduce e) | inr n ↦ inr (λ e. n (let same : p ≡ q = cc in same)) ]
 same_action (Reduce p) Refuse = inr (λ e. cc)
 same_action Refuse (Shift j) = inr (λ e. cc)
 same_action Refuse (Reduce q) = inr (λ e. cc)
@@ -157,7 +150,7 @@ clear_none g a clear c h = go c.kind h.1
 
 pub none_listed : (g : Grammar) (a : Automaton) (conflicts : List Conflict) → AreConflicts g a conflicts → HasNoConflicts g a → conflicts ≡ []
 none_listed g a [] h clear = refl
-none_listed g a (c ∷ cs) h clear = absurd (clear_none g a clear c ((h.members c).0 (at_contains (c ∷ cs) 0 c refl)))
+none_listed g a (c ∷ cs) h clear = absurd (clear_none g a clear c ((h.members c).0 (contains_at (c ∷ cs) 0 c refl)))
 
 pub none_there : (g : Grammar) (a : Automaton) → AreConflicts g a [] → HasNoConflicts g a
 none_there g a h s lt = record { one = one; stream = λ x. listed (record { state = s; look = End; kind = Stream }) (lt, (refl, x)) }

@@ -13,21 +13,7 @@ use Rattle.mh_items.specs.declared.kernels.Kernel.{Kernel}
 use Rattle.mh_items.specs.declared.kernels.Automaton.{Automaton}
 use Rattle.mh_items.specs.Kernels.{Holds, HasPlace, IsKernelItem, IsKernel}
 use Rattle.mh_items.specs.Automaton.{IsAutomaton, no_kernel, kernel_at, kernel_of, closure_of, leads_to}
-use Rattle.mh_resolve.proofs.Places.{each_of, contains_at}
-
--- the symbol at a dot, in two forms
-pub at_dot : {X : Type 0} (xs : List X) (d : ℕ) (x : X) (ys : List X) → drop d xs ≡ x ∷ ys → slice_get xs d ≡ Some x
-at_dot [] zero x ys e = cc
-at_dot (z ∷ zs) zero x ys e = let same : z ≡ x = cc in ap Some same
-at_dot [] (suc d) x ys e = cc
-at_dot (z ∷ zs) (suc d) x ys e = at_dot zs d x ys e
-
-pub alone : {X : Type 0} (x y : X) → Contains (x ∷ []) y → y ≡ x
-alone x y c = let at = contains_at (x ∷ []) y c in only at.0 at.1
-  where
-    only : (k : ℕ) → slice_get (x ∷ []) k ≡ Some y → y ≡ x
-    only zero h = cc
-    only (suc k) h = cc
+use Rattle.mh_grammar.proofs.Lists.{at_contains, recursion_contains}
 
 -- what is so of each item of a closure
 pub record IsItem (g : PlainGrammar) (p d : ℕ) (look : Look) : Type 0 where
@@ -38,7 +24,7 @@ pub record IsItem (g : PlainGrammar) (p d : ℕ) (look : Look) : Type 0 where
 held_is_item : (g : PlainGrammar) (k : Kernel) → IsKernel g k → ((p d : ℕ) (look : Look) → Holds k p d look → p < length g.starts → look ≡ End) → (p d : ℕ) (look : Look) → Holds k p d look → IsItem g p d look
 held_is_item g k h at_end p d look held =
     let item = held.0 in
-    let is = each_of (IsKernelItem g) k.items item h.items held.1 in
+    let is = recursion_contains (IsKernelItem g) k.items h.items item held.1 in
     let same : item.production ≡ p = held.2 in
     let dot : item.dot ≡ d = held.3 in
     record {

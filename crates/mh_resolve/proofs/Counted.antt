@@ -14,7 +14,7 @@ use Rattle.mh_resolve.specs.Levels.{compared}
 use Rattle.mh_resolve.specs.Tallies.{empty_tally, tally_with, weighed, IsTally}
 use Rattle.mh_resolve.specs.Counting.{Seen, shift_in, tally_on, IsChanged, AreTallied, With}
 use Rattle.mh_resolve.proofs.Tallying.{IsMore, empty_is, more_is, same_is}
-use Rattle.mh_resolve.proofs.Places.{contains_more, contains_last, contains_before}
+use Rattle.mh_grammar.proofs.Lists.{taken_before, taken_cases, taken_last}
 
 -- the items so far
 abbrev pub Front : List KernelItem → ℕ → ItemSet
@@ -66,17 +66,17 @@ looks_more g I item shifts looks i look old new lt is complete changed h = recor
   where
     still : (p : ℕ) (l : Look) → Seen g (With I item (take i looks)) l p → Seen g (With I item (take (i + 1) looks)) l p
     still p l (inl x) = inl x
-    still p l (inr x) = inr (x.0, x.1, contains_before looks i l lt x.2)
+    still p l (inr x) = inr (x.0, x.1, taken_before looks i l lt x.2)
 
     kept : (l : Look) → (l ≡ look → ⊥) → (p : ℕ) → Seen g (With I item (take (i + 1) looks)) l p → Seen g (With I item (take i looks)) l p
     kept l ne p (inl x) = inl x
-    kept l ne p (inr x) = elim (contains_more looks i look lt is l x.2) [ inl c ↦ inr (x.0, x.1, c) | inr e ↦ absurd (ne (sym e)) ]
+    kept l ne p (inr x) = elim (taken_cases looks i look lt is l x.2) [ inl c ↦ inr (x.0, x.1, c) | inr e ↦ absurd (ne (sym e)) ]
 
     more : IsMore (Seen g (With I item (take i looks)) look) (Seen g (With I item (take (i + 1) looks)) look) item.production
     more = record {
       new = λ q x. elim x [ inl y ↦ inl (inl y) | inr y ↦ inr (sym y.0) ];
       old = λ q x. still q look x;
-      here = inr (refl, complete, contains_last looks i look lt is);
+      here = inr (refl, complete, taken_last looks i look lt is);
     }
 
     each : (l : Look) → IsLookBelow (length g.tokens) l → IsTally (weighed (compared g l) (shift_in shifts l)) (Seen g (With I item (take (i + 1) looks)) l) (tally_on new l)
@@ -94,14 +94,14 @@ looks_end g xs i item shifts t looks lt is whole = tallied_same g (With (Front x
   where
     to : (look : Look) (p : ℕ) → Seen g (Front xs (i + 1)) look p → Seen g (With (Front xs i) item looks) look p
     to look p h =
-        elim (contains_more xs i item lt is h.0 h.1) [
+        elim (taken_cases xs i item lt is h.0 h.1) [
           | inl c ↦ inl (h.0, c, h.2, h.3, h.4)
           | inr e ↦ inr (ap (λ (k : KernelItem). k.production) e ∙ h.2, ap (λ (k : KernelItem). k.dot) e ∙ h.3, rw whole (rw e h.4))
         ]
 
     from : (look : Look) (p : ℕ) → Seen g (With (Front xs i) item looks) look p → Seen g (Front xs (i + 1)) look p
-    from look p (inl h) = (h.0, contains_before xs i h.0 lt h.1, h.2, h.3, h.4)
-    from look p (inr h) = (item, contains_last xs i item lt is, h.0, h.1, rw (← whole) h.2)
+    from look p (inl h) = (h.0, taken_before xs i h.0 lt h.1, h.2, h.3, h.4)
+    from look p (inr h) = (item, taken_last xs i item lt is, h.0, h.1, rw (← whole) h.2)
 
 -- an item that is not complete
 pub item_passed : (g : Grammar) (xs : List KernelItem) (i : ℕ) (item : KernelItem) (shifts : List (Option ℕ)) (t : Tallies) → i < length xs → item ≡ get_or xs i item → (item.dot ≡ length (rhs_of (plain_of g) item.production) → ⊥) → AreTallied g (Front xs i) shifts t → AreTallied g (Front xs (i + 1)) shifts t
@@ -109,7 +109,7 @@ item_passed g xs i item shifts t lt is incomplete = tallied_same g (Front xs i) 
   where
     to : (look : Look) (p : ℕ) → Seen g (Front xs (i + 1)) look p → Seen g (Front xs i) look p
     to look p h =
-        elim (contains_more xs i item lt is h.0 h.1) [
+        elim (taken_cases xs i item lt is h.0 h.1) [
           | inl c ↦ (h.0, c, h.2, h.3, h.4)
           | inr e ↦ (
               let same : item.production ≡ p = ap (λ (k : KernelItem). k.production) e ∙ h.2 in
@@ -118,4 +118,4 @@ item_passed g xs i item shifts t lt is incomplete = tallied_same g (Front xs i) 
         ]
 
     from : (look : Look) (p : ℕ) → Seen g (Front xs i) look p → Seen g (Front xs (i + 1)) look p
-    from look p h = (h.0, contains_before xs i h.0 lt h.1, h.2, h.3, h.4)
+    from look p h = (h.0, taken_before xs i h.0 lt h.1, h.2, h.3, h.4)

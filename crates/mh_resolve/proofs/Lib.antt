@@ -5,7 +5,6 @@ pub mod Counted
 pub mod Deciding
 pub mod Listing
 pub mod Once
-pub mod Places
 pub mod Ranking
 pub mod Refusing
 pub mod Resolving

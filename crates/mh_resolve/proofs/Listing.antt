@@ -21,22 +21,7 @@ use Rattle.mh_resolve.specs.Tallies.{IsKind}
 use Rattle.mh_resolve.specs.Rows.{no_cell, IsDecidedOn}
 use Rattle.mh_resolve.specs.Whole.{IsRow}
 use Rattle.mh_resolve.specs.Conflicts.{IsConflictBefore, found_on, stream_kind, token_conflicts, row_conflicts}
-use Rattle.mh_resolve.proofs.Places.{contains_at, at_contains}
-
-pub all_from : {X : Type 0} (P : X → Type 0) (xs : List X) → ((x : X) → Contains xs x → P x) → AllByRecursion P xs
-all_from P [] h = tt
-all_from P (x ∷ xs) h = (h x (at_contains (x ∷ xs) zero x refl), all_from P xs (λ y c. let at = contains_at xs y c in h y (at_contains (x ∷ xs) (suc at.0) y at.1)))
-
-all_append : {X : Type 0} (P : X → Type 0) (xs ys : List X) → AllByRecursion P xs → AllByRecursion P ys → AllByRecursion P (xs ++ ys)
-all_append P [] ys h k = k
-all_append P (x ∷ xs) ys h k = (h.0, all_append P xs ys h.1 k)
-
-pub rising_append : {X : Type 0} (R : X → X → Type 0) (xs ys : List X) → IsRising R xs → IsRising R ys → ((x y : X) → Contains xs x → Contains ys y → R x y) → IsRising R (xs ++ ys)
-rising_append R [] ys h k b = k
-rising_append R (x ∷ xs) ys h k b = (
-  all_append (R x) xs ys h.0 (all_from (R x) ys (λ y c. b x y (at_contains (x ∷ xs) zero x refl) c)),
-  rising_append R xs ys h.1 k (λ z y c d. let at = contains_at xs z c in b z y (at_contains (x ∷ xs) (suc at.0) z at.1) d),
-)
+use Rattle.mh_grammar.proofs.Lists.{at_contains, contains_at, rising-append}
 
 -- a conflict that was found on a look
 pub record IsFoundOn (s : ℕ) (on : Look) (found : Option ConflictKind) (c : Conflict) : Type 0 where
@@ -46,7 +31,7 @@ pub record IsFoundOn (s : ℕ) (on : Look) (found : Option ConflictKind) (c : Co
 
 found_to : (s : ℕ) (look : Look) (kind : Option ConflictKind) (c : Conflict) → Contains (found_on s look kind) c → IsFoundOn s look kind c
 found_to s look None c h = absurd (omega (arith, h.1))
-found_to s look (Some k) c h = let at = contains_at (record { state = s; look = look; kind = k } ∷ []) c h in go at.0 at.1
+found_to s look (Some k) c h = let at = at_contains (record { state = s; look = look; kind = k } ∷ []) c h in go at.0 at.1
   where
     go : (n : ℕ) → slice_get (record { state = s; look = look; kind = k } ∷ []) n ≡ Some c → IsFoundOn s look (Some k) c
     go zero e = let same : c ≡ record { state = s; look = look; kind = k } = cc in record { state = ap (λ (x : Conflict). x.state) same; look = ap (λ (x : Conflict). x.look) same; kind = ap (λ (x : Conflict). Some x.kind) (sym same) }
@@ -59,7 +44,7 @@ found_from s look (Some k) c h =
     let b = h.look in
     let e : k ≡ c.kind = let f = h.kind in cc in
     let same : record { state = s; look = look; kind = k } ≡ c = λ i. record { state = sym a i; look = sym b i; kind = e i } in
-    at_contains (record { state = s; look = look; kind = k } ∷ []) zero c (ap Some same)
+    contains_at (record { state = s; look = look; kind = k } ∷ []) zero c (ap Some same)
 
 found_rising : (s : ℕ) (look : Look) (kind : Option ConflictKind) → IsRising IsConflictBefore (found_on s look kind)
 found_rising s look None = tt
@@ -97,7 +82,7 @@ below s a b c d e f g h lt = inr (e ∙ sym f, rw (g, h) (inl lt))
 tokens_rising : (s z : ℕ) (cells : List Cell) → IsRising IsConflictBefore (token_conflicts s z cells)
 tokens_rising s z [] = tt
 tokens_rising s z (cell ∷ cells) =
-    rising_append IsConflictBefore (found_on s (Token z) cell.kind) (token_conflicts s (z + 1) cells) (found_rising s (Token z) cell.kind) (tokens_rising s (z + 1) cells)
+    rising-append IsConflictBefore (found_on s (Token z) cell.kind) (token_conflicts s (z + 1) cells) (found_rising s (Token z) cell.kind) (tokens_rising s (z + 1) cells)
     (λ c d h k.
     let f = found_to s (Token z) cell.kind c h in
     let i = tokens_to s (z + 1) cells d k in
@@ -188,8 +173,8 @@ row_from s n row last stream r c e h = go c.look refl (at_look refl h)
 
 pub row_rising : (s : State) (n : ℕ) (row : List Cell) (last : Cell) (stream : Bool) → IsRow s row last stream → IsRising IsConflictBefore (row_conflicts n row last stream)
 row_rising s n row last stream r =
-    rising_append IsConflictBefore (token_conflicts n 0 row) (found_on n End last.kind ++ found_on n End (stream_kind stream)) (tokens_rising n 0 row)
-    (rising_append IsConflictBefore (found_on n End last.kind) (found_on n End (stream_kind stream)) (found_rising n End last.kind) (found_rising n End (stream_kind stream))
+    rising-append IsConflictBefore (token_conflicts n 0 row) (found_on n End last.kind ++ found_on n End (stream_kind stream)) (tokens_rising n 0 row)
+    (rising-append IsConflictBefore (found_on n End last.kind) (found_on n End (stream_kind stream)) (found_rising n End last.kind) (found_rising n End (stream_kind stream))
     (λ c d h k.
     let f = found_to n End last.kind c h in
     let g = found_to n End (stream_kind stream) d k in

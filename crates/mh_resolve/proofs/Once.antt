@@ -22,7 +22,8 @@ use Rattle.mh_grammar.specs.Edges.{IsRising, IsLookBefore}
 use Rattle.mh_tables.specs.Table.{TableData}
 use Rattle.mh_resolve.specs.declared.conflicts.Conflict.{Conflict}
 use Rattle.mh_resolve.specs.Conflicts.{AreConflicts, IsConflictBefore, IsKindBefore}
-use Rattle.mh_resolve.proofs.Places.{each_of, contains_at, at_contains}
+use Rattle.mh_grammar.proofs.EdgeOrder.{look_never}
+use Rattle.mh_grammar.proofs.Lists.{rising_same}
 use Rattle.mh_resolve.proofs.Stating.{unique, takes_raw}
 
 errors_once : (s : State) (p q : ℕ) → IsForErrors s p → IsForErrors s q → p ≡ q
@@ -94,49 +95,12 @@ raw_taken s look clear Refuse r = absurd r
 pub one_table : (g : Grammar) (a : Automaton) (mode : Mode) (x y : TableData) → IsTableOf g a mode x → IsTableOf g a mode y → x ≡ y
 one_table g a mode x y p q =
     let grammar : x.grammar ≡ y.grammar = p.grammar ∙ sym q.grammar in
+    let costs : x.costs ≡ y.costs = p.costs ∙ sym q.costs in
     let states : x.states ≡ y.states = table_once g a mode x.states y.states p.states q.states in
-    λ i. record { grammar = grammar i; states = states i }
-
--- two rising lists with the same elements are one
-rising_once : {X : Type 0} (R : X → X → Type 0) → ((x y : X) → R x y → R y x → ⊥) → (xs ys : List X) → IsRising R xs → IsRising R ys → ((x : X) → Contains xs x → Contains ys x) → ((x : X) → Contains ys x → Contains xs x) → xs ≡ ys
-rising_once R apart [] [] h k f g = refl
-rising_once R apart [] (y ∷ ys) h k f g = absurd (let c = g y (at_contains (y ∷ ys) zero y refl) in omega (arith, c.1))
-rising_once R apart (x ∷ xs) [] h k f g = absurd (let c = f x (at_contains (x ∷ xs) zero x refl) in omega (arith, c.1))
-rising_once {X} R apart (x ∷ xs) (y ∷ ys) h k f g = ap (λ z. z ∷ xs) same ∙ ap (λ zs. y ∷ zs) (rising_once R apart xs ys h.1 k.1 to from)
-  where
-    behind : (z : X) (zs : List X) (w : X) → Contains (z ∷ zs) w → (w ≡ z) ⊎ Contains zs w
-    behind z zs w c = let at = contains_at (z ∷ zs) w c in go at.0 at.1
-      where
-        go : (n : ℕ) → slice_get (z ∷ zs) n ≡ Some w → (w ≡ z) ⊎ Contains zs w
-        go zero e = inl (let s : z ≡ w = cc in sym s)
-        go (suc n) e = inr (at_contains zs n w e)
-
-    ahead : (z : X) (zs : List X) (w : X) → Contains zs w → Contains (z ∷ zs) w
-    ahead z zs w c = let at = contains_at zs w c in at_contains (z ∷ zs) (suc at.0) w at.1
-
-    same : x ≡ y
-    same =
-        elim (behind y ys x (f x (at_contains (x ∷ xs) zero x refl))) [
-          | inl e ↦ e
-          | inr c ↦ elim (behind x xs y (g y (at_contains (y ∷ ys) zero y refl))) [
-            | inl e ↦ sym e
-            | inr d ↦ absurd (apart x y (each_of (R x) xs y h.0 d) (each_of (R y) ys x k.0 c))
-          ]
-        ]
-
-    to : (z : X) → Contains xs z → Contains ys z
-    to z c = elim (behind y ys z (f z (ahead x xs z c))) [ inl e ↦ absurd (let r = each_of (R x) xs z h.0 c in let s : z ≡ x = e ∙ sym same in apart x x (rw s at r) (rw s at r)) | inr d ↦ d ]
-
-    from : (z : X) → Contains ys z → Contains xs z
-    from z c = elim (behind x xs z (g z (ahead y ys z c))) [ inl e ↦ absurd (let r = each_of (R y) ys z k.0 c in let s : z ≡ y = e ∙ same in apart y y (rw s at r) (rw s at r)) | inr d ↦ d ]
-
-looks_apart : (a b : Look) → IsLookBefore a b → IsLookBefore b a → ⊥
-looks_apart (Token x) (Token y) h k = omega arith
-looks_apart (Token x) End h k = k
-looks_apart End b h k = h
+    λ i. record { grammar = grammar i; costs = costs i; states = states i }
 
 looks_same : (a b : Look) → a ≡ b → IsLookBefore a b → ⊥
-looks_same a b e h = let r : IsLookBefore b b = rw e at h in looks_apart b b r r
+looks_same a b e h = let r : IsLookBefore b b = rw e at h in look_never b b r r
 
 conflicts_apart : (c d : Conflict) → IsConflictBefore c d → IsConflictBefore d c → ⊥
 conflicts_apart c d (inl h) (inl k) = omega arith
@@ -145,11 +109,11 @@ conflicts_apart c d (inr h) (inl k) = omega (arith, h.0)
 conflicts_apart c d (inr h) (inr k) = on_looks h.1 k.1
   where
     on_looks : IsLookBefore c.look d.look ⊎ ((c.look ≡ d.look) × IsKindBefore c.kind d.kind) → IsLookBefore d.look c.look ⊎ ((d.look ≡ c.look) × IsKindBefore d.kind c.kind) → ⊥
-    on_looks (inl x) (inl y) = looks_apart c.look d.look x y
+    on_looks (inl x) (inl y) = look_never c.look d.look x y
     on_looks (inl x) (inr y) = looks_same c.look d.look (sym y.0) x
     on_looks (inr x) (inl y) = looks_same d.look c.look (sym x.0) y
     on_looks (inr x) (inr y) = y.1.0 x.1.1
 
 -- an automaton has one list of conflicts
 pub conflicts_once : (g : Grammar) (a : Automaton) (xs ys : List Conflict) → AreConflicts g a xs → AreConflicts g a ys → xs ≡ ys
-conflicts_once g a xs ys p q = rising_once IsConflictBefore conflicts_apart xs ys p.order q.order (λ c h. (q.members c).1 ((p.members c).0 h)) (λ c h. (p.members c).1 ((q.members c).0 h))
+conflicts_once g a xs ys p q = rising_same IsConflictBefore conflicts_apart xs ys p.order q.order (λ c. ((λ h. (q.members c).1 ((p.members c).0 h)), (λ h. (p.members c).1 ((q.members c).0 h))))

@@ -12,7 +12,7 @@ use Rattle.mh_resolve.specs.declared.errors.Best.{Best}
 use Rattle.mh_resolve.specs.Levels.{error_rank}
 use Rattle.mh_resolve.specs.States.{IsCandidate, IsForErrors}
 use Rattle.mh_resolve.specs.Rows.{listed, rank_in, best_with, IsRanked, IsBest, IsLooked}
-use Rattle.mh_resolve.proofs.Places.{contains_more, contains_last, contains_before, first_of_some}
+use Rattle.mh_grammar.proofs.Lists.{some_item, taken_before, taken_cases, taken_last}
 
 abbrev IsTied : (ℕ → ℕ → Type 0) → ℕ → ℕ → Bool → Type 0
 IsTied Ranked p r b = MatchBool b ((q : ℕ) × Ranked q r × (q ≡ p → ⊥)) ((q : ℕ) → Ranked q r → q ≡ p)
@@ -73,22 +73,22 @@ pub ranked_more : (g : Grammar) (xs : List KernelItem) (i : ℕ) (item : KernelI
 ranked_more g xs i item r best new h is e f b =
     rw f (best_more (IsRanked g (take i xs)) (IsRanked g (take (i + 1) xs)) item.production r
     (record {
-      new = λ q s k. elim (contains_more xs i item h is k.item k.there) [
+      new = λ q s k. elim (taken_cases xs i item h is k.item k.there) [
         | inl c ↦ inl (record { item = k.item; there = c; production = k.production; rank = k.rank })
         | inr x ↦ inr (sym k.production ∙ ap (λ (y : KernelItem). y.production) (sym x), let y : Some s ≡ Some r = sym k.rank ∙ ap (rank_in g) (sym x) ∙ e in cc)
       ];
-      old = λ q s k. record { item = k.item; there = contains_before xs i k.item h k.there; production = k.production; rank = k.rank };
-      here = record { item = item; there = contains_last xs i item h is; production = refl; rank = e };
+      old = λ q s k. record { item = k.item; there = taken_before xs i k.item h k.there; production = k.production; rank = k.rank };
+      here = record { item = item; there = taken_last xs i item h is; production = refl; rank = e };
     }) best b)
 
 pub ranked_same : (g : Grammar) (xs : List KernelItem) (i : ℕ) (item : KernelItem) (best : Option Best) → i < length xs → item ≡ get_or xs i item → rank_in g item ≡ None → IsBest (IsRanked g (take i xs)) best → IsBest (IsRanked g (take (i + 1) xs)) best
 ranked_same g xs i item best h is e b =
     best_same (IsRanked g (take i xs)) (IsRanked g (take (i + 1) xs))
-    (λ q s k. elim (contains_more xs i item h is k.item k.there) [
+    (λ q s k. elim (taken_cases xs i item h is k.item k.there) [
       | inl c ↦ record { item = k.item; there = c; production = k.production; rank = k.rank }
       | inr x ↦ absurd (let y : Some s ≡ None = sym k.rank ∙ ap (rank_in g) (sym x) ∙ e in cc)
     ])
-    (λ q s k. record { item = k.item; there = contains_before xs i k.item h k.there; production = k.production; rank = k.rank })
+    (λ q s k. record { item = k.item; there = taken_before xs i k.item h k.there; production = k.production; rank = k.rank })
     best b
 
 complete_ranked : (g : Grammar) (item : KernelItem) (r : ℕ) (b : Bool) → eqb item.dot (length (rhs_of (plain_of g) item.production)) ≡ b → (if b then error_rank g item.production else None) ≡ Some r → (item.dot ≡ length (rhs_of (plain_of g) item.production)) × (error_rank g item.production ≡ Some r)
@@ -99,7 +99,7 @@ ranked_candidate : (g : Grammar) (xs : List KernelItem) → All IsLooked xs → 
 ranked_candidate g xs all p r k =
     let item = k.item in
     let is = complete_ranked g item r (eqb item.dot (length (rhs_of (plain_of g) item.production))) refl k.rank in
-    let look = first_of_some item.looks (All-contains IsLooked xs item all k.there) in
+    let look = some_item item.looks (All-contains IsLooked xs item all k.there) in
     let same : item.production ≡ p = k.production in
     record {
       look = look.0;

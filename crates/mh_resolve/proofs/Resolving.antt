@@ -4,6 +4,7 @@ use Rattle.std.proofs.lemmas.Bool.{cases_lt}
 use Rattle.std.proofs.lemmas.List.{get_or_push, get_or_append_left, get_or_default}
 use Rattle.mh_grammar.specs.declared.types.Grammar.{Grammar}
 use Rattle.mh_grammar.specs.declared.types.Symbol.TheVariants.{T}
+use Rattle.mh_grammar.specs.Costs.{HaveCosts}
 use Rattle.mh_grammar.specs.Plain.{plain_of, IsInRange}
 use Rattle.mh_items.specs.declared.kernels.Automaton.{Automaton}
 use Rattle.mh_grammar.specs.declared.edges.Edge.{Edge}
@@ -21,7 +22,8 @@ use Rattle.mh_resolve.specs.declared.cells.Cell.{Cell}
 use Rattle.mh_resolve.specs.States.{HasConflict}
 use Rattle.mh_resolve.specs.Whole.{IsRow}
 use Rattle.mh_resolve.specs.Conflicts.{AreConflicts, IsConflictBefore, row_conflicts}
-use Rattle.mh_resolve.proofs.Listing.{rising_append, row_to, row_from, row_rising}
+use Rattle.mh_grammar.proofs.Lists.{rising-append}
+use Rattle.mh_resolve.proofs.Listing.{row_to, row_from, row_rising}
 use Rattle.mh_resolve.specs.declared.kinds.Mode.{Mode}
 use Rattle.mh_resolve.specs.States.{state_of, IsResolved, AreResolved}
 use Rattle.mh_resolve.specs.Whole.{closed_state, AreEdgesKnown}
@@ -77,8 +79,8 @@ front_more g a h mode n kernel edges row lt e f k parts is states new more front
 pub all_resolved : (g : Grammar) (a : Automaton) (mode : Mode) (n : ℕ) (states : List StateParts) → n ≡ length a.kernels → Front g a mode n states → AreResolved g a mode states
 all_resolved g a mode n states e f = record { count = f.count ∙ e; each = λ s lt. f.each s (omega arith) }
 
-pub facts_of : (g : Grammar) (a : Automaton) (mode : Mode) (states : List StateParts) → IsInRange (plain_of g) → IsAutomaton (plain_of g) a → AreResolved g a mode states → Facts (table_data g states)
-facts_of g a mode states range h r = facts g a mode states (record { range = range; automaton = h; resolved = r })
+pub facts_of : (g : Grammar) (a : Automaton) (mode : Mode) (states : List StateParts) → IsInRange (plain_of g) → HaveCosts g.tokens → IsAutomaton (plain_of g) a → AreResolved g a mode states → Facts (table_data g states)
+facts_of g a mode states range costs h r = facts g a mode states (record { range = range; costs = costs; automaton = h; resolved = r })
 
 -- the conflicts of the first n states
 pub record Collected (g : Grammar) (a : Automaton) (n : ℕ) (conflicts : List Conflict) : Type 0 where
@@ -118,7 +120,7 @@ collected_more g a n cells last stream r conflicts new e k = rw e (record { memb
     ]
 
     rising : IsRising IsConflictBefore (conflicts ++ here)
-    rising = rising_append IsConflictBefore conflicts here k.order (row_rising (state_of g a n) n cells last stream r)
+    rising = rising-append IsConflictBefore conflicts here k.order (row_rising (state_of g a n) n cells last stream r)
         (λ c d h i.
         let old = (k.members c).0 h in
         let found = row_to (state_of g a n) n cells last stream r d i in

@@ -22,11 +22,11 @@ use Rattle.mh_resolve.specs.Tallies.{empty_tally, cell_from}
 use Rattle.mh_resolve.specs.Counting.{AreShifts, AreTallied}
 use Rattle.mh_resolve.specs.Rows.{listed, AreCells, AreSettled, IsDecidedOn, HasReduction, IsChoice, no_cell}
 use Rattle.mh_resolve.proofs.Deciding.{decided}
-use Rattle.mh_resolve.proofs.Places.{contains_more}
+use Rattle.mh_grammar.proofs.Lists.{taken_cases}
 
 pub no_more : (cells : List Cell) (i : ℕ) (d : Cell) → i < length cells → ((p : ℕ) → HasReduction (take i cells) p → ⊥) → ((p : ℕ) → (get_or cells i d).action ≡ Reduce p → ⊥) → (p : ℕ) → HasReduction (take (i + 1) cells) p → ⊥
 no_more cells i d h before here p r =
-    elim (contains_more cells i (get_or cells i d) h (get_or_default cells i d (get_or cells i d) h) r.cell r.there) [
+    elim (taken_cases cells i (get_or cells i d) h (get_or_default cells i d (get_or cells i d) h) r.cell r.there) [
       | inl c ↦ before p (record { cell = r.cell; there = c; reduces = r.reduces })
       | inr e ↦ here p (ap (λ (c : Cell). c.action) e ∙ r.reduces)
     ]

@@ -2,14 +2,14 @@
 use Rattle.std.proofs.Common.{◌≡◌, ℕ, suc, ◌<◌, ◌+◌, ◌⊎◌, List, [], ◌∷◌, length, drop, drop-cons, get_or, set, replicate, eqb, Option, Some, None, false, refl, ap, sym, ◌∙◌, arith, inl, inr}
 use Rattle.std.specs.List.{slice_get}
 use Rattle.std.proofs.lemmas.Bool.Decides.{nat_tests}
-use Rattle.std.proofs.lemmas.Bool.{cases_lt}
+use Rattle.std.proofs.lemmas.Bool.{cases_eq}
 use Rattle.std.proofs.lemmas.List.{get_or-replicate, get_or-set_same, get_or-set_other, length-set}
 use Rattle.mh_grammar.specs.declared.types.Symbol.TheVariants.{T, N}
 use Rattle.mh_grammar.specs.declared.edges.Edge.{Edge}
 use Rattle.mh_grammar.specs.Edges.{IsRising, IsEdgeBefore, find_edge, same_symbol}
 use Rattle.mh_resolve.specs.Counting.{AreShifts}
 use Rattle.mh_resolve.specs.Whole.{AreEdgesKnown}
-use Rattle.mh_resolve.proofs.Places.{found_edge}
+use Rattle.mh_grammar.proofs.EdgeOrder.{edge_found}
 
 -- the edge on a token is among those to come, or was found
 abbrev pub IsShiftSoFar : List Edge → ℕ → ℕ → Option ℕ → Type 0
@@ -27,13 +27,6 @@ none_so_far tokens edges shifts len e = record {
 
 passed : (edge : Edge) (es : List Edge) (z : ℕ) → same_symbol edge.symbol (T z) ≡ false → find_edge (edge ∷ es) (T z) ≡ find_edge es (T z)
 passed edge es z e = rw e refl
-
-cases_eq : (a b : ℕ) → (a ≡ b) ⊎ (a ≡ b → ⊥)
-cases_eq a b =
-    elim (cases_lt a b) [
-      | inl lt ↦ inr (λ e. omega arith)
-      | inr ge ↦ elim (cases_lt b a) [ inl lt ↦ inr (λ e. omega arith) | inr le ↦ inl (omega arith) ]
-    ]
 
 -- an edge on a nonterminal
 pub skipped : (tokens : ℕ) (edges : List Edge) (i n : ℕ) (edge : Edge) (shifts : List (Option ℕ)) → drop i edges ≡ edge ∷ drop (i + 1) edges → edge.symbol ≡ N n → AreShiftsSoFar tokens edges i shifts → AreShiftsSoFar tokens edges (i + 1) shifts
@@ -57,7 +50,7 @@ shifted tokens edges i b edge shifts rising here at is known a = record {
     | inl same ↦ inr (
       edge.target,
       ap (λ k. get_or (set shifts b (Some edge.target)) k None) same ∙ get_or-set_same shifts b (Some edge.target) None (let n = a.len in omega arith),
-      ap (λ k. find_edge edges (T k)) same ∙ ap (find_edge edges) (sym is) ∙ found_edge edges i edge rising here,
+      ap (λ k. find_edge edges (T k)) same ∙ ap (find_edge edges) (sym is) ∙ edge_found edges i edge rising here,
     )
     | inr ne ↦ (
         let old : get_or (set shifts b (Some edge.target)) z None ≡ get_or shifts z None = get_or-set_other shifts b z (Some edge.target) None ne in
@@ -83,4 +76,4 @@ all_shifts tokens edges i shifts done a = record {
 
 -- the token of an edge
 pub token_known : (tokens : ℕ) (edges : List Edge) (i b : ℕ) (edge : Edge) → IsRising IsEdgeBefore edges → slice_get edges i ≡ Some edge → edge.symbol ≡ T b → AreEdgesKnown tokens edges → b < tokens
-token_known tokens edges i b edge rising here is known = known b edge.target (ap (find_edge edges) (sym is) ∙ found_edge edges i edge rising here)
+token_known tokens edges i b edge rising here is known = known b edge.target (ap (find_edge edges) (sym is) ∙ edge_found edges i edge rising here)

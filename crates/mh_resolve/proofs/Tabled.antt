@@ -9,8 +9,11 @@ use Rattle.mh_grammar.specs.declared.types.Symbol.{Symbol}
 use Rattle.mh_grammar.specs.declared.types.Symbol.TheVariants.{T, N}
 use Rattle.mh_grammar.specs.declared.types.Production.{Production}
 use Rattle.mh_grammar.specs.declared.types.Grammar.{Grammar}
+use Rattle.mh_grammar.specs.declared.types.TokenInfo.{TokenInfo}
 use Rattle.mh_grammar.specs.declared.types.Look.{Look}
 use Rattle.mh_grammar.specs.declared.types.Look.TheVariants.{Token, End}
+use Rattle.mh_grammar.specs.Costs.{HaveCosts}
+use Rattle.mh_grammar.proofs.Costs.{costed}
 use Rattle.mh_grammar.specs.Plain.{PlainGrammar, plain_of, rhs_of, lhs_of, production_count, IsInRange, IsSymbolBelow, IsProductionBelow}
 use Rattle.mh_grammar.specs.Edges.{IsRising, IsEdgeBefore, find_edge}
 use Rattle.mh_items.specs.declared.kernels.Kernel.{Kernel}
@@ -29,12 +32,13 @@ use Rattle.mh_tables.specs.Facts.{Facts, InCore, HasGoto, ReducesBy, Behind}
 use Rattle.mh_resolve.specs.declared.kinds.Mode.{Mode}
 use Rattle.mh_resolve.specs.Levels.{error_rank}
 use Rattle.mh_resolve.specs.States.{State, state_of, Raw, Keeps, IsFallback, Fills, IsCell, place_of, AreResolved}
-use Rattle.mh_resolve.proofs.Places.{each_of, at_contains, contains_mapped, mapped_contains}
-use Rattle.mh_resolve.proofs.Closed.{closure_is_item, closure_within, stands, Begins, alone, at_dot, came_from}
+use Rattle.mh_grammar.proofs.Lists.{at_drop, contains_one, contains_at, contains_map, map_contains, recursion_contains}
+use Rattle.mh_resolve.proofs.Closed.{closure_is_item, closure_within, stands, Begins, came_from}
 
 -- what stands together
 pub record Made (g : Grammar) (a : Automaton) (mode : Mode) (states : List StateParts) : Type 0 where
   pub range : IsInRange (plain_of g)
+  pub costs : HaveCosts g.tokens
   pub automaton : IsAutomaton (plain_of g) a
   pub resolved : AreResolved g a mode states
 
@@ -74,7 +78,7 @@ core_place : {g : Grammar} {a : Automaton} {mode : Mode} {states : List StatePar
 unfolding InCore
 core_place {a = a} m s p d c =
     let core = (m.resolved.each s (core_within m s p d c)).core in
-    let found = contains_mapped place_of (kernel_at a s).items (record { production = p; dot = d }) (rw core at c) in
+    let found = map_contains place_of (kernel_at a s).items (record { production = p; dot = d }) (rw core at c) in
     (found.0, found.1, ap (λ (q : Place). q.production) found.2, ap (λ (q : Place). q.dot) found.2)
 
 place_core : {g : Grammar} {a : Automaton} {mode : Mode} {states : List StateParts} → Made g a mode states → (s p d : ℕ) → s < length a.kernels → HasPlace (kernel_at a s) p d → InCore (table_data g states) s p d
@@ -84,7 +88,7 @@ place_core {a = a} m s p d h place =
     let item = place.0 in
     let e : item.production ≡ p = place.2 in
     let f : item.dot ≡ d = place.3 in
-    let c = mapped_contains place_of (kernel_at a s).items item place.1 in
+    let c = contains_map place_of (kernel_at a s).items item place.1 in
     let is : place_of item ≡ record { production = p; dot = d } = cc in
     rw core (rw is at c)
 
@@ -101,7 +105,7 @@ behind {g} {a} m r X u p d e c =
     let lt = edge_within m r X u e in
     record {
       moved = omega arith;
-      symbol = rw back (at_dot (rhs_of (plain_of g) p) from.place X from.rest from.before);
+      symbol = rw back (at_drop (rhs_of (plain_of g) p) from.place X from.rest from.before);
       begun = elim (stands (plain_of g) a m.automaton r p from.place carried.0 from.there) [
         | inl place ↦ inl (place_core m r p (d - 1) lt (rw back place))
         | inr begins ↦ inr (omega (arith, begins.0), begins.1.ordinary, goto_of m r p lt begins.1)
@@ -234,7 +238,7 @@ only_item : (k : Kernel) (i p d : ℕ) → k ≡ start_kernel i → HasPlace k p
 only_item k i p d e place =
     let item = place.0 in
     let c = rw e at place.1 in
-    let same = alone (record { production = i; dot = 0; looks = End ∷ [] }) item c in
+    let same = sym (contains_one (record { production = i; dot = 0; looks = End ∷ [] }) item c) in
     let x : item.production ≡ p = place.2 in
     let y : item.dot ≡ d = place.3 in
     (sym x ∙ ap (λ (q : KernelItem). q.production) same, sym y ∙ ap (λ (q : KernelItem). q.dot) same)
@@ -270,14 +274,14 @@ symbol_below g h p k X e =
     of_production : (o : Option Production) → slice_get g.productions (p - length g.starts) ≡ o → slice_get (unwrap_or (option_map (λ (p : Production). p.rhs) o) []) k ≡ Some X → IsSymbolBelow g.tokens g.nonterminals X
     of_production None at f = cc
     of_production (Some q) at f =
-        let below = All-contains (IsProductionBelow g.tokens g.nonterminals) g.productions q h.productions (at_contains g.productions (p - length g.starts) q at) in
-        All-contains (IsSymbolBelow g.tokens g.nonterminals) q.rhs X below.rhs (at_contains q.rhs k X f)
+        let below = All-contains (IsProductionBelow g.tokens g.nonterminals) g.productions q h.productions (contains_at g.productions (p - length g.starts) q at) in
+        All-contains (IsSymbolBelow g.tokens g.nonterminals) q.rhs X below.rhs (contains_at q.rhs k X f)
 
 -- a symbol that moves an item is the grammar's
 pub moving_symbol : (g : PlainGrammar) (a : Automaton) → IsInRange g → (s : ℕ) (X : Symbol) → Moves g a s X → IsSymbolBelow g.tokens g.nonterminals X
 moving_symbol g a range s X m =
     let from = came_from g (closure_of g a s) X m.production m.dot m.look m.moves in
-    symbol_below g range m.production from.place X (at_dot (rhs_of g m.production) from.place X from.rest from.before)
+    symbol_below g range m.production from.place X (at_drop (rhs_of g m.production) from.place X from.rest from.before)
 
 each_symbol : {g : Grammar} {a : Automaton} {mode : Mode} {states : List StateParts} → Made g a mode states → (s : ℕ) (X : Symbol) (u : ℕ) → edge_of (table_data g states) s X ≡ Some u → IsSymbolBelow (length g.tokens) (length g.nonterminals) X
 each_symbol {g} {a} m s X u e = moving_symbol (plain_of g) a m.range s X (target_of m s X u e).0
@@ -289,7 +293,7 @@ each_core : {g : Grammar} {a : Automaton} {mode : Mode} {states : List StatePart
 each_core {g} {a} m s p d c =
     let place = core_place m s p d c in
     let item = place.0 in
-    let is = each_of (IsKernelItem (plain_of g)) (kernel_at a s).items item (m.automaton.each s (core_within m s p d c)).items place.1 in
+    let is = recursion_contains (IsKernelItem (plain_of g)) (kernel_at a s).items (m.automaton.each s (core_within m s p d c)).items item place.1 in
     let production : item.production ≡ p = place.2 in
     let dot : item.dot ≡ d = place.3 in
     placed (plain_of g) item p d production dot is
@@ -311,6 +315,8 @@ facts g a mode states m =
     record {
       ranges = record {
         grammar = range;
+        costs = costed g.tokens m.costs;
+        each_cost = length-map g.tokens (λ (token : TokenInfo). token.cost);
         few_states = omega arith;
         each_row = λ s lt. (m.resolved.each s (omega arith)).width;
         each_symbol = each_symbol m;

@@ -15,6 +15,7 @@ use Rattle.mh_items.specs.declared.kernels.Kernel.{Kernel}
 use Rattle.mh_items.specs.declared.kernels.KernelItem.{KernelItem}
 use Rattle.mh_items.specs.declared.kernels.Automaton.{Automaton}
 use Rattle.mh_tables.specs.declared.parts.StateParts.{StateParts}
+use Rattle.mh_grammar.specs.Costs.{costs_of}
 use Rattle.mh_grammar.specs.ItemSets.{ItemSet}
 use Rattle.mh_grammar.specs.Plain.{plain_of, rhs_of}
 use Rattle.mh_tables.specs.Table.{TableData, no_state}
@@ -124,6 +125,7 @@ pub record AreResolved (g : Grammar) (a : Automaton) (mode : Mode) (states : Lis
 -- the table of an automaton
 pub record IsTableOf (g : Grammar) (a : Automaton) (mode : Mode) (t : TableData) : Type 0 where
   pub grammar : t.grammar ≡ plain_of g
+  pub costs : t.costs ≡ costs_of g.tokens
   pub states : AreResolved g a mode t.states
 
 -- a conflict of a state on a look, with its kind

@@ -1,5 +1,6 @@
 //! The table of an automaton, and its conflicts.
 ghost use Rattle.std.specs.Prelude.{◌≡◌, ◌<◌, ◌↔◌, ℕ, [], length, IfOk, Some};
+ghost use Rattle.mh_grammar.specs.Costs.{HaveCosts};
 ghost use Rattle.mh_grammar.specs.Plain.{plain_of, IsInRange};
 ghost use Rattle.mh_grammar.specs.Edges.{IsRising, IsEdgeBefore};
 ghost use Rattle.mh_items.specs.Firsts.{AreFirsts};
@@ -58,6 +59,7 @@ fn resolve_states(
     mode: Mode,
 ) -> Result<(Vec<StateParts>, Vec<Conflict>), Memory>
     requires range { IsInRange (plain_of grammar.now) }
+    requires costs { HaveCosts grammar.now.tokens }
     requires automaton { IsAutomaton (plain_of grammar.now) automaton.now }
     ensures states { IfOk result (λ r. AreResolved grammar.now automaton.now mode r.0.items) }
     ensures facts { IfOk result (λ r. Facts (table_data grammar.now r.0.items)) }
@@ -88,6 +90,7 @@ pub fn resolve(
     mode: Mode,
 ) -> Result<(Table, Vec<Conflict>), Memory>
     requires range { IsInRange (plain_of grammar.now) }
+    requires costs { HaveCosts grammar.now.tokens }
     requires automaton { IsAutomaton (plain_of grammar.now) automaton.now }
     ensures table { IfOk result (λ r. IsTableOf grammar.now automaton.now mode r.0) }
     ensures conflicts { IfOk result (λ r. AreConflicts grammar.now automaton.now r.1.items) }

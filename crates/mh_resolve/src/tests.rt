@@ -35,6 +35,7 @@ fn add_token(
     tokens.push(TokenInfo {
         name: from_bytes(alloc, name)?,
         level,
+        cost: 1,
     })?;
     Ok(())
 }

@@ -20,7 +20,7 @@ use Rattle.mh_resolve.specs.States.{Raw, state_of, IsTableOf}
 use Rattle.mh_resolve.specs.Clear.{HasNoConflicts, IsDefaultOf, ActsClearly}
 use Rattle.mh_resolve.proofs.Clear.{state_acts_clearly}
 use Rattle.mh_resolve.proofs.Closed.{closure_is_item, closure_within}
-use Rattle.mh_resolve.proofs.Places.{each_of}
+use Rattle.mh_grammar.proofs.Lists.{recursion_contains}
 use Rattle.mh_tables.specs.declared.parts.Action.{Action}
 use Rattle.mh_tables.specs.declared.parts.Action.TheVariants as actions
 use Rattle.mh_tables.specs.declared.parts.Fallback.{Fallback}
@@ -49,8 +49,8 @@ may_begin_below g r y look next below h (items.MayBegin.passes d) = h
 looks_below : (g : PlainGrammar) (a : Automaton) (r : IsInRange g) (h : IsAutomaton g a) (s p d : ℕ) (look : Look) → closure_of g a s p d look → IsLookBelow g.tokens look
 looks_below g a r h s p d look (items.Close.given k) =
     let within : s < length a.kernels = closure_within g a s p d look (items.Close.given k) in
-    let item = each_of (IsKernelItem g) (kernel_at a s).items k.0 (h.each s within).items k.1 in
-    each_of (IsLookBelow g.tokens) k.0.looks look item.looks k.4
+    let item = recursion_contains (IsKernelItem g) (kernel_at a s).items (h.each s within).items k.0 k.1 in
+    recursion_contains (IsLookBelow g.tokens) k.0.looks item.looks look k.4
 looks_below g a r h s p d look (items.Close.added {p = q} {d = e} {n} {y} {a = from} c at i b) =
     let known : q < production_count g = (closure_is_item g a h s q e from c).production in
     let below : All (IsSymbolBelow g.tokens g.nonterminals) y = subst (All (IsSymbolBelow g.tokens g.nonterminals)) (drop_next e (rhs_of g q) _ y at) (behind_below g r q e known) in

@@ -2,11 +2,14 @@
 use Rattle.std.proofs.Common.{◌≡◌, ℕ, zero, suc, ◌<◌, ◌≤◌, List, [], ◌∷◌, length, drop, map, get_or, Some, None, false, refl, ap, sym, subst, arith, ◌∙◌, inl, inr, rules}
 use Rattle.std.proofs.lemmas.Bool.Decides.{nat_tests}
 use Rattle.std.proofs.lemmas.List.{get_or_past}
+use Rattle.std.proofs.lemmas.List.Elements.{All-cons, All-nil}
 use Rattle.mh_grammar.specs.declared.types.Symbol.{Symbol}
 use Rattle.mh_grammar.specs.declared.types.Symbol.TheVariants.{T, N}
 use Rattle.mh_grammar.specs.declared.types.Look.{Look}
 use Rattle.mh_grammar.specs.declared.types.Look.TheVariants.{Token, End}
+use Rattle.mh_grammar.specs.declared.types.TokenInfo.{TokenInfo}
 use Rattle.mh_grammar.specs.declared.edges.Edge.{Edge}
+use Rattle.mh_grammar.specs.Costs.{IsCost, HaveCosts}
 use Rattle.mh_grammar.specs.Derivations as trees
 use Rattle.mh_grammar.specs.Edges.{IsRising, IsEdgeBefore, find_edge, same_symbol}
 use Rattle.mh_grammar.specs.First.{FirstOf}
@@ -435,6 +438,9 @@ is_automaton = record {
 in_range : IsInRange g
 in_range = search rules
 
+have_costs : HaveCosts one_grammar.tokens
+have_costs = All-cons (λ (token : TokenInfo). IsCost token.cost) (record { name = 65 ∷ []; level = None; cost = 1 }) [] (omega arith, omega arith) (All-nil (λ (token : TokenInfo). IsCost token.cost))
+
 -- its one sentence is A
 one_sentence : Derives g (N 0) (0 ∷ [])
 one_sentence = trees.Derivation.node (1, one_is_for, rhs_1) (trees.Derivations.more refl (trees.Derivation.leaf refl) trees.Derivations.none)
@@ -446,9 +452,9 @@ all_productive (suc n) lt = absurd (omega arith)
 pub meets : MeetsPremises one_grammar one_automaton Canonical one_table
 meets = record {
   range = in_range;
-  facts = facts one_grammar one_automaton Canonical one_states (record { range = in_range; automaton = is_automaton; resolved = are_resolved });
+  facts = facts one_grammar one_automaton Canonical one_states (record { range = in_range; costs = have_costs; automaton = is_automaton; resolved = are_resolved });
   automaton = is_automaton;
-  table = record { grammar = refl; states = are_resolved };
+  table = record { grammar = refl; costs = refl; states = are_resolved };
   clear = each_clear;
   productive = all_productive;
   sentence = one_sentence;

@@ -19,8 +19,7 @@ use Rattle.mh_tables.specs.declared.parts.StateParts.{StateParts}
 use Rattle.mh_tables.specs.Table.{TableData, no_state, state_at, edge_of}
 use Rattle.mh_resolve.specs.declared.kinds.Mode.{Mode}
 use Rattle.mh_resolve.specs.States.{IsTableOf}
-use Rattle.mh_resolve.proofs.Closed.{alone}
-use Rattle.mh_resolve.proofs.Places.{at_contains}
+use Rattle.mh_grammar.proofs.Lists.{contains_at, contains_one}
 
 -- the automaton of a table
 pub record StandsFor (t : TableData) (a : Automaton) : Type 0 where
@@ -61,21 +60,21 @@ kernel_with q e = record { items = record { production = q; dot = e; looks = End
 pub with_holds : (q e : ℕ) → Holds (kernel_with q e) q e End
 with_holds q e =
     let item : KernelItem = record { production = q; dot = e; looks = End ∷ [] } in
-    (item, at_contains (item ∷ []) 0 item refl, refl, refl, at_contains (End ∷ []) 0 End refl)
+    (item, contains_at (item ∷ []) 0 item refl, refl, refl, contains_at (End ∷ []) 0 End refl)
 
 pub place_only : (q e p d : ℕ) → HasPlace (kernel_with q e) p d → (p ≡ q) × (d ≡ e)
 place_only q e p d (item, there, x, y) =
     let one : KernelItem = record { production = q; dot = e; looks = End ∷ [] } in
-    let same : item ≡ one = alone one item there in
+    let same : item ≡ one = sym (contains_one one item there) in
     (sym x ∙ ap (λ (i : KernelItem). i.production) same, sym y ∙ ap (λ (i : KernelItem). i.dot) same)
 
 pub with_only : (q e p d : ℕ) (look : Look) → Holds (kernel_with q e) p d look → IsAlone q e p d look
 with_only q e p d look (item, there, x, y, l) =
     let one : KernelItem = record { production = q; dot = e; looks = End ∷ [] } in
-    let same : item ≡ one = alone one item there in
+    let same : item ≡ one = sym (contains_one one item there) in
     let place = place_only q e p d (item, there, x, y) in
     let looks : Contains (End ∷ []) look = subst (λ (i : KernelItem). Contains i.looks look) same l in
-    record { production = place.0; dot = place.1; at_end = alone End look looks }
+    record { production = place.0; dot = place.1; at_end = sym (contains_one End look looks) }
 
 pub start_item : (g : PlainGrammar) (a : Automaton) → IsAutomaton g a → (i : ℕ) → i < length g.starts → kernel_of a i i 0 End
 start_item g a h i lt = subst (λ (k : Kernel). Holds k i 0 End) (sym (h.starts i lt)) (with_holds i 0)

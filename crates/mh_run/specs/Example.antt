@@ -19,7 +19,7 @@ use Rattle.mh_run.specs.Exactness.{AllProductive}
 -- `s: A`
 abbrev pub one_grammar : Grammar
 one_grammar = record {
-  tokens = record { name = 65 ∷ []; level = None } ∷ [];
+  tokens = record { name = 65 ∷ []; level = None; cost = 1 } ∷ [];
   nonterminals = record { name = 115 ∷ []; on_error = None } ∷ [];
   productions = record { lhs = 0; rhs = T 0 ∷ []; level = None } ∷ [];
   starts = 0 ∷ [];

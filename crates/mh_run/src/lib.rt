@@ -10,15 +10,9 @@ mod tracing;
 mod tree_run;
 
 pub use exactness::{
-    accepts_with_tree, overshoots_in_sentences, some_clean_table, trees_derive,
-    verdicts_are_exact,
+    accepts_with_tree, overshoots_in_sentences, some_clean_table, trees_derive, verdicts_are_exact,
 };
 pub use outcome::Verdict;
 pub use runs::verdict;
 pub use tracing::trace;
 pub use tree_run::{TreeOutcome, run_with_trees};
-
-#[cfg(test)]
-mod tests;
-#[cfg(test)]
-mod worked;

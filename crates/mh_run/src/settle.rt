@@ -73,7 +73,7 @@ fn tell_next<F: Follow>(
 }
 
 // Makes the reductions that come next, tells what goes along of them, and says what comes then. Each reduction either
-// leaves the state at the place `floor` on the stack, which at most 10,000 in a row do, or lowers that place.
+// leaves the state at the place `floor` on the stack, which at most `MAX_REDUCTIONS` in a row do, or lowers that place.
 pub(crate) fn settle<F: Follow>(
     alloc: Global,
     table: &Halting,

@@ -17,7 +17,7 @@ use Rattle.mh_tables.specs.Run.{reductions}
 use Rattle.mh_grammar.proofs.EdgeOrder.{edge_found}
 use Rattle.mh_tables.proofs.Reductions.{reductions_none, reductions_split, reductions_before}
 use Rattle.mh_tables.specs.Halting.{IsBeginning, IsLook, Loops, Clear, Before, LoopsAt, NoneLoops, Halts, look_list, beginning}
-use Rattle.mh_tables.specs.Relative.{FirstLook, FirstState, AllClear, AreTargets}
+use Rattle.mh_tables.specs.code.Relative.{FirstLook, FirstState, AllClear, AreTargets}
 
 pub first_look_is : (t : TableData) (below : Option ℕ) (s z : ℕ) → z < t.grammar.tokens → (Loops t below s None → ⊥) → ((y : ℕ) → y < z → Loops t below s (Some y) → ⊥) → Loops t below s (Some z) → FirstLook t below s (Some z)
 first_look_is t below s z lt none tokens loops = record { known = lt; loops = loops; no_look = earlier }

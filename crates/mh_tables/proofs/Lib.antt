@@ -2,9 +2,7 @@ pub mod Accepted
 pub mod Cut
 pub mod Depth
 pub mod Ending
-pub mod Examples
 pub mod Finding
-pub mod Fitting
 pub mod Longer
 pub mod OneTreeEnding
 pub mod Path

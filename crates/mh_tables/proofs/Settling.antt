@@ -18,7 +18,7 @@ pub record Relative (t : TableData) (look : Option ℕ) (stack : List ℕ) (floo
   pub within : floor < length stack
   pub made : reductions t (look_list look) count (beginning below state) ≡ Some (drop floor stack)
 
--- so there are no more than 10,000
+-- so there are no more than `MAX_REDUCTIONS`
 pub relative_few : (t : TableData) (h : Halts t) (look : Option ℕ) (l : IsLook t look) (stack : List ℕ) (floor count : ℕ) → Relative t look stack floor count → count ≤ 10000
 relative_few t h look l stack floor count r = h r.below r.state look count r.begins l (drop floor stack, r.made)
 

@@ -5,7 +5,7 @@ use Rattle.mh_grammar.specs.Plain.{rhs_of, lhs_of}
 use Rattle.mh_tables.specs.Table.{TableData, edge_of}
 use Rattle.mh_tables.specs.Facts.{Facts}
 use Rattle.mh_tables.specs.Run.{Move, Accepts, Asks, Refuses, Shifts, Reduces, move_of, top_of, reduce, push_goto, reduction, reductions, reduced_by}
-use Rattle.mh_tables.specs.Relative.{Leaves, ReducesNext}
+use Rattle.mh_tables.specs.code.Relative.{Leaves, ReducesNext}
 use Rattle.mh_tables.proofs.Path.{top_of_take}
 use Rattle.mh_tables.proofs.Reductions.{reduces_from_move, reductions_split, reductions_zero}
 

@@ -7,7 +7,7 @@ use Rattle.mh_tables.specs.declared.parts.Fallback.TheVariants as fallbacks
 use Rattle.mh_tables.specs.Table.{TableData, fallback_of, cell_of}
 use Rattle.mh_tables.specs.Run.{Move, Reduces, move_of, move_by_default, move_of_next, top_of, reduced_by, reduction, reductions}
 use Rattle.mh_tables.specs.Halting.{Loops, Clear, look_list, beginning}
-use Rattle.mh_tables.specs.Relative.{RunsOut, Waits}
+use Rattle.mh_tables.specs.code.Relative.{RunsOut, Waits}
 use Rattle.mh_tables.proofs.Reductions.{action_reduces, reduction_some, reduction_is, reductions_zero, reductions_none, reductions_split, reductions_before}
 use Rattle.mh_tables.proofs.Longer.{move_longer}
 use Rattle.mh_tables.proofs.Trying.{not_more, no_reduction}

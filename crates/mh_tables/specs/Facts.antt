@@ -1,9 +1,10 @@
 -- The facts that a table keeps: its numbers are in range, and its states fit together as those of an automaton do (Knuth 1965).
 -- Their list is this project's own.
 use Rattle.std.specs.Prelude.{◌≡◌, ℕ, length, slice_get, Some, ◌-◌, ◌^◌, ◌<◌, ◌≤◌, ◌⊎◌}
-use Rattle.std.specs.List.{Contains}
+use Rattle.std.specs.List.{All, Contains}
 use Rattle.mh_grammar.specs.declared.types.Symbol.{Symbol}
 use Rattle.mh_grammar.specs.declared.types.Symbol.TheVariants.{T, N}
+use Rattle.mh_grammar.specs.Costs.{IsCost}
 use Rattle.mh_grammar.specs.Plain.{production_count, rhs_of, lhs_of, IsInRange, IsSymbolBelow}
 use Rattle.mh_grammar.specs.Edges.{IsRising, IsEdgeBefore}
 use Rattle.mh_tables.specs.declared.parts.Action.TheVariants as actions
@@ -32,6 +33,8 @@ pub record Behind (t : TableData) (r : ℕ) (x : Symbol) (p d : ℕ) : Type 0 wh
 -- numbers and rows
 pub record Ranges (t : TableData) : Type 0 where
   pub grammar : IsInRange t.grammar
+  pub costs : All IsCost t.costs
+  pub each_cost : length t.costs ≡ t.grammar.tokens
   pub few_states : length t.states < 2 ^ 32
   pub each_row : (s : ℕ) → s < length t.states → length (state_at t s).cells ≡ t.grammar.tokens
   pub each_symbol : (s : ℕ) (x : Symbol) (u : ℕ) → edge_of t s x ≡ Some u → IsSymbolBelow t.grammar.tokens t.grammar.nonterminals x

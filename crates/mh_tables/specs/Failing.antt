@@ -3,7 +3,7 @@
 use Rattle.std.specs.Prelude.{◌≡◌, ℕ, List, [], ◌∷◌, length, ◌-◌, ◌+◌, ◌<◌, ◌≤◌}
 use Rattle.std.specs.List.{AllByRecursion, Contains}
 use Rattle.mh_grammar.specs.Edges.{IsRising}
-use Rattle.mh_tables.specs.Table.{TableData}
+use Rattle.mh_tables.specs.Table.{TableData, cost_of_token}
 use Rattle.mh_tables.specs.Run.{VerdictOf, Rejected}
 
 -- a start and tokens of the table
@@ -20,9 +20,6 @@ pub record Fails (t : TableData) (start : ℕ) (w : List ℕ) (s : ℕ) : Type 0
 -- some sentence fails there
 abbrev pub Failing : TableData → ℕ → Type 0
 Failing t s = (start : ℕ) × (w : List ℕ) × Fails t start w s
-
-abbrev pub cost_of_token : TableData → ℕ → ℕ
-cost_of_token t z = 1
 
 -- the sum of a weight of tokens over a word
 abbrev pub cost_by : (ℕ → ℕ) → List ℕ → ℕ

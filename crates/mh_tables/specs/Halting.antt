@@ -1,9 +1,12 @@
--- The tables on which no run reduces for ever. The test by relative runs of at most 10,000 reductions is this project's own.
-use Rattle.std.specs.Prelude.{◌≡◌, ℕ, List, [], ◌∷◌, length, Option, Some, None, ◌<◌, ◌≤◌}
+-- The tables on which no run reduces for ever. The test by relative runs of at most `MAX_REDUCTIONS` reductions is this project's own.
+use Rattle.std.specs.Prelude.{◌≡◌, ℕ, suc, List, [], ◌∷◌, length, Option, Some, None, ◌<◌, ◌≤◌}
 use Rattle.mh_grammar.specs.declared.types.Symbol.{Symbol}
 use Rattle.mh_tables.specs.Table.{TableData, edge_of}
 use Rattle.mh_tables.specs.Facts.{Facts}
 use Rattle.mh_tables.specs.Run.{reductions}
+use Rattle.mh_tables.specs.declared.relative.HaltFault.{HaltFault}
+use Rattle.mh_tables.specs.declared.relative.HaltFault.TheVariants as faults
+use Rattle.mh_tables.specs.declared.relative.TheConstants.{MAX_REDUCTIONS}
 
 -- a relative run begins in a start state alone, or in a state above another that has an edge to it
 abbrev pub IsBeginning : TableData → Option ℕ → ℕ → Type 0
@@ -27,18 +30,18 @@ look_list (Some z) = z ∷ []
 abbrev pub Makes : TableData → Option ℕ → ℕ → Option ℕ → ℕ → Type 0
 Makes t below s look n = (stack : List ℕ) × (reductions t (look_list look) n (beginning below s) ≡ Some stack)
 
--- no relative run makes more than 10,000 reductions
+-- no relative run makes more than `MAX_REDUCTIONS` reductions
 abbrev pub Halts : TableData → Type 0
-Halts t = (below : Option ℕ) (s : ℕ) (look : Option ℕ) (n : ℕ) → IsBeginning t below s → IsLook t look → Makes t below s look n → n ≤ 10000
+Halts t = (below : Option ℕ) (s : ℕ) (look : Option ℕ) (n : ℕ) → IsBeginning t below s → IsLook t look → Makes t below s look n → n ≤ MAX_REDUCTIONS
 
 -- what a table that was tested keeps
 pub record HaltingFacts (t : TableData) : Type 0 where
   pub facts : Facts t
   pub halts : Halts t
 
--- it makes more than 10,000
+-- it makes more
 abbrev pub Loops : TableData → Option ℕ → ℕ → Option ℕ → Type 0
-Loops t below s look = Makes t below s look 10001
+Loops t below s look = Makes t below s look (suc MAX_REDUCTIONS)
 
 abbrev pub Clear : TableData → Option ℕ → ℕ → Type 0
 Clear t below s = (look : Option ℕ) → IsLook t look → Loops t below s look → ⊥
@@ -50,7 +53,7 @@ Before None (Some b) = Unit {0}
 Before (Some a) None = ⊥
 Before (Some a) (Some b) = a < b
 
--- The first relative run that makes more than 10,000 reductions: start states alone come first, then edges by the
+-- The first relative run that makes more than `MAX_REDUCTIONS` reductions: start states alone come first, then edges by the
 -- lower state and then by the upper; with no token first, then with the tokens rising.
 pub record LoopsAt (t : TableData) (below : Option ℕ) (s : ℕ) (look : Option ℕ) : Type 0 where
   pub begins : IsBeginning t below s
@@ -63,3 +66,13 @@ pub record LoopsAt (t : TableData) (below : Option ℕ) (s : ℕ) (look : Option
 -- all relative runs were tried
 abbrev pub NoneLoops : TableData → Type 0
 NoneLoops t = (below : Option ℕ) (s : ℕ) → IsBeginning t below s → Clear t below s
+
+-- the fault of a table that doesn't halt: the first relative run that loops
+abbrev pub FaultOf : TableData → HaltFault → Type 0
+FaultOf t (faults.Loops below s look) = LoopsAt t below s look
+FaultOf t faults.Memory = Unit {0}
+
+-- a table with such a fault doesn't halt
+abbrev pub IsRefused : TableData → HaltFault → Type 0
+IsRefused t (faults.Loops below s look) = Halts t → ⊥
+IsRefused t faults.Memory = Unit {0}

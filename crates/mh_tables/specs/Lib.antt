@@ -1,11 +1,10 @@
 pub mod Deep
-pub mod Examples
 pub mod Facts
 pub mod Failing
 pub mod Halting
 pub mod Moves
-pub mod Relative
 pub mod Run
 pub mod RunTrees
 pub mod Table
 pub mod TreeRuns
+pub mod code

@@ -1,8 +1,7 @@
 //! A table on which every run ends.
 ghost use Rattle.std.specs.Prelude.{◌≡◌, ◌<◌, List, ℕ, length, IfOk, IfErr, OnOk};
 ghost use Rattle.std.specs.List.{AllByRecursion};
-ghost use Rattle.mh_tables.specs.Halting.{HaltingFacts, Halts};
-ghost use Rattle.mh_tables.specs.Relative.{FaultOf, IsRefused};
+ghost use Rattle.mh_tables.specs.Halting.{FaultOf, HaltingFacts, Halts, IsRefused};
 ghost use Rattle.mh_tables.specs.Run.{VerdictOf, Ending};
 
 use crate::relative::{HaltFault, first_loop};
@@ -10,7 +9,7 @@ use crate::table::Table;
 use std::alloc::Global;
 use std::marker::Model;
 
-/// A table on which no relative run makes more than 10,000 reductions, so that every run ends.
+/// A table on which no relative run makes more than `MAX_REDUCTIONS` reductions, so that every run ends.
 #[derive(Debug, Drop)]
 pub struct Halting {
     table: Table,
@@ -44,7 +43,7 @@ impl Halting {
     }
 }
 
-/// The table, where no relative run on it makes more than 10,000 reductions. Else the first that does is answered, and
+/// The table, where no relative run on it makes more than `MAX_REDUCTIONS` reductions. Else the first that does is answered, and
 /// the table is dropped.
 pub fn check_halts(alloc: Global, table: Table) -> Result<Halting, HaltFault>
     ensures same { IfOk result (λ halting. halting ≡ table) }

@@ -36,7 +36,7 @@ impl Table {
         ensures { (start : ℕ) (w : List ℕ) (a b : TreeEnding) → IsTreeEnding self.now start w a → IsTreeEnding self.now start w b → a ≡ b }
     {}
 
-    /// At most one relative run is the first that makes more than 10,000 reductions.
+    /// At most one relative run is the first that makes more than `MAX_REDUCTIONS` reductions.
     pub fn one_loop(&self)
         ensures { (below : Option ℕ) (s : ℕ) (look below' : Option ℕ) (s' : ℕ) (look' : Option ℕ) → LoopsAt self.now below s look → LoopsAt self.now below' s' look' → (below ≡ below') × (s ≡ s') × (look ≡ look') }
     {}

@@ -11,8 +11,5 @@ mod table;
 pub use halting::{Halting, check_halts};
 pub use moves::{Choice, choose};
 pub use parts::{Action, Fallback, Place, StateParts};
-pub use relative::HaltFault;
+pub use relative::{HaltFault, MAX_REDUCTIONS};
 pub use table::{Table, table_of};
-
-#[cfg(test)]
-mod tests;

@@ -6,7 +6,7 @@ ghost use Rattle.mh_grammar.specs.Plain.{production_count};
 ghost use Rattle.mh_tables.specs.Table.{TableData, state_at};
 ghost use Rattle.mh_tables.specs.Run.{top_of as top};
 ghost use Rattle.mh_tables.specs.Halting.{IsLook, look_list, IsBeginning, beginning};
-ghost use Rattle.mh_tables.specs.Relative.{ReducedOr, ReducesNext, StackReduced, TriedOr, LoopsOr, Waits, LookFound, TokenFound, StateFound, AreTargets, TestFound};
+ghost use Rattle.mh_tables.specs.code.Relative.{ReducedOr, ReducesNext, StackReduced, TriedOr, LoopsOr, Waits, LookFound, TokenFound, StateFound, AreTargets, TestFound};
 
 use crate::moves::{Choice, choose};
 use crate::parts::Action;
@@ -15,13 +15,13 @@ use mh_grammar::Token;
 use std::alloc::{AllocError, Global};
 
 /// The most reductions that a relative run may make: this project's own limit.
-const MAX_REDUCTIONS: u32 = 10_000;
+pub const MAX_REDUCTIONS: u32 = 10_000;
 
 /// Why a table is refused.
 #[derive(Clone, Copy, Debug, Drop, PartialEq, Eq)]
 pub enum HaltFault {
     /// The relative run of `state`, alone (`below` is None, and the state is a start state) or above the state
-    /// `below`, with this next token or none, makes more than 10,000 reductions, and none before it does. Start states
+    /// `below`, with this next token or none, makes more than `MAX_REDUCTIONS` reductions, and none before it does. Start states
     /// alone come first, then edges by the lower state and then by the upper; with no token first, then with the
     /// tokens rising.
     Loops {
@@ -125,7 +125,7 @@ fn begin(
     Ok(())
 }
 
-// Whether the relative run makes more than 10,000 reductions; where it doesn't, `stack` holds what they leave.
+// Whether the relative run makes more than `MAX_REDUCTIONS` reductions; where it doesn't, `stack` holds what they leave.
 fn loops(
     table: &Table,
     stack: &mut Vec<u32>,
@@ -150,7 +150,7 @@ fn loops(
     Ok(true)
 }
 
-// Whether the relative run makes more than 10,000 reductions with a token, where it stops in a state without default
+// Whether the relative run makes more than `MAX_REDUCTIONS` reductions with a token, where it stops in a state without default
 // before it looks at one. A cell that reduces nothing ends it there.
 fn loops_on(
     table: &Table,
@@ -173,7 +173,7 @@ fn loops_on(
     }
 }
 
-// The first token with which the relative run makes more than 10,000 reductions, where it stops in a state without
+// The first token with which the relative run makes more than `MAX_REDUCTIONS` reductions, where it stops in a state without
 // default before it looks at one.
 fn first_token(
     table: &Table,
@@ -196,7 +196,7 @@ fn first_token(
     Ok(None)
 }
 
-// The first look, in order, with which the relative run makes more than 10,000 reductions. The reductions that come
+// The first look, in order, with which the relative run makes more than `MAX_REDUCTIONS` reductions. The reductions that come
 // with no token come with each; where they stop in a state with a default, it accepts or takes off more states than there
 // are, and no token changes that.
 fn first_look(
@@ -222,7 +222,7 @@ fn first_look(
     }
 }
 
-// The first start state alone that begins a relative run of more than 10,000 reductions.
+// The first start state alone that begins a relative run of more than `MAX_REDUCTIONS` reductions.
 fn first_start(
     table: &Table,
     stack: &mut Vec<u32>,
@@ -253,7 +253,7 @@ fn targets_of(alloc: Global, table: &Table, from: u32) -> Result<Vec<u32>, Alloc
     Ok(targets)
 }
 
-// The first state over a lower one that begins a relative run of more than 10,000 reductions.
+// The first state over a lower one that begins a relative run of more than `MAX_REDUCTIONS` reductions.
 fn first_above(
     alloc: Global,
     table: &Table,
@@ -273,7 +273,7 @@ fn first_above(
     Ok(None)
 }
 
-/// The first relative run, in order, that makes more than 10,000 reductions.
+/// The first relative run, in order, that makes more than `MAX_REDUCTIONS` reductions.
 pub(crate) fn first_loop(alloc: Global, table: &Table) -> Result<Option<RelativeRun>, AllocError>
     ensures { IfOk result (λ found. TestFound table.now found) }
 {

@@ -3,11 +3,14 @@ ghost use Rattle.std.specs.Prelude.{◌≡◌, ◌<◌, ◌≤◌, Some, length,
 ghost use Rattle.mh_grammar.specs.declared.types.Symbol.TheVariants.{N};
 ghost use Rattle.mh_grammar.specs.Plain.{production_count, rhs_of, lhs_of};
 ghost use Rattle.mh_grammar.specs.Edges.{IsRising, IsEdgeBefore};
-ghost use Rattle.mh_tables.specs.Table.{TableData, state_at, cell_of, fallback_of, edge_of, table_data};
+ghost use Rattle.mh_grammar.specs.Costs.{costs_of};
+ghost use Rattle.mh_tables.specs.Table.{TableData, state_at, cell_of, fallback_of, edge_of, cost_of_token, table_data};
 ghost use Rattle.mh_tables.specs.Facts.{Facts};
 
 use crate::parts::{Action, Fallback, StateParts};
-use mh_grammar::{Edge, Grammar, Memory, Production, Sequence, Symbol, Token, find_edge};
+use mh_grammar::{
+    Edge, Grammar, Memory, Production, Sequence, Symbol, Token, TokenInfo, find_edge,
+};
 use std::alloc::{AllocError, Global};
 use std::marker::Model;
 
@@ -19,6 +22,7 @@ pub struct Table {
     nonterminals: u16,
     starts: Sequence<u16>,
     productions: Sequence<Production>,
+    costs: Sequence<u32>,
     states: Sequence<StateParts>,
 }
 
@@ -28,9 +32,9 @@ impl Model for Table {
 
     ghost Value = { TableData };
 
-    ghost view = { λ t. record { grammar = record { tokens = t.tokens; nonterminals = t.nonterminals; starts = t.starts; productions = t.productions }; states = t.states } };
+    ghost view = { λ t. record { grammar = record { tokens = t.tokens; nonterminals = t.nonterminals; starts = t.starts; productions = t.productions }; costs = t.costs; states = t.states } };
 
-    ghost invariant = { λ t. Facts (record { grammar = record { tokens = t.tokens; nonterminals = t.nonterminals; starts = t.starts; productions = t.productions }; states = t.states }) };
+    ghost invariant = { λ t. Facts (record { grammar = record { tokens = t.tokens; nonterminals = t.nonterminals; starts = t.starts; productions = t.productions }; costs = t.costs; states = t.states }) };
 }
 
 fn copy_of(alloc: Global, production: &Production) -> Result<Production, AllocError>
@@ -53,6 +57,16 @@ fn copies_of(alloc: Global, productions: &[Production]) -> Result<Vec<Production
     Ok(copies)
 }
 
+fn costs_of(alloc: Global, tokens: &[TokenInfo]) -> Result<Vec<u32>, AllocError>
+    ensures { IfOk result (λ costs. costs.items ≡ costs_of tokens.now) }
+{
+    let mut costs = Vec::new(alloc);
+    for token in tokens {
+        costs.push(token.cost)?;
+    }
+    Ok(costs)
+}
+
 /// The table of a grammar with these states. Fails for want of memory alone; the states are dropped then.
 pub fn table_of(alloc: Global, grammar: &Grammar, states: Vec<StateParts>) -> Result<Table, Memory>
     requires { Facts (table_data grammar.now states.items) }
@@ -60,11 +74,13 @@ pub fn table_of(alloc: Global, grammar: &Grammar, states: Vec<StateParts>) -> Re
 {
     let starts = Sequence::from_vec(Vec::from_slice(alloc, grammar.starts.as_slice())?);
     let productions = Sequence::from_vec(copies_of(alloc, grammar.productions.as_slice())?);
+    let costs = Sequence::from_vec(costs_of(alloc, grammar.tokens.as_slice())?);
     Ok(Table {
         tokens: grammar.tokens.len() as u16,
         nonterminals: grammar.nonterminals.len() as u16,
         starts,
         productions,
+        costs,
         states: Sequence::from_vec(states),
     })
 }
@@ -89,6 +105,22 @@ impl Table {
         ensures { result ≡ self.now.grammar.tokens }
     {
         self.tokens
+    }
+
+    /// How many nonterminals there are.
+    pub fn nonterminals(&self) -> u16
+        ensures { result ≡ self.now.grammar.nonterminals }
+    {
+        self.nonterminals
+    }
+
+    /// What a token costs in a least sentence: from 1 to [`MAX_COST`](mh_grammar::MAX_COST).
+    #[tactic(auto, unfolding(crate::specs::Table::cost_of_token))]
+    pub fn token_cost(&self, token: Token) -> u32
+        requires { token < self.now.grammar.tokens }
+        ensures { result ≡ cost_of_token self.now token }
+    {
+        self.costs.as_slice()[token as usize]
     }
 
     /// How many starts there are; state i below this count is the start state of start i.
@@ -127,7 +159,7 @@ impl Table {
     }
 
     /// The edges of a state, in the order of symbols.
-    pub(crate) fn edges(&self, state: u32) -> &[Edge]
+    pub fn edges(&self, state: u32) -> &[Edge]
         requires { state < length self.now.states }
         ensures edges { result.now ≡ (state_at self.now state).edges }
         ensures order { IsRising IsEdgeBefore result.now }

@@ -1,6 +1,6 @@
 use Rattle.std.proofs.Common.{sym, ◌∙◌}
 use Rattle.std.proofs.lemmas.List.{take_all}
-use Rattle.mh_resolve.proofs.Places.{read_again}
+use Rattle.mh_grammar.proofs.Lists.{read_again}
 use Rattle.mh_resolve.proofs.Counted.{Front, looks_begin, looks_more, looks_end, item_passed}
 use Rattle.mh_resolve.proofs.counting.tallies_of.Goals as goal
 use Rattle.mh_resolve.proofs.counting.tallies_of.Goals.{then-item-length_of+else-loop-look-test, else-item-length_of}

@@ -34,7 +34,7 @@ pub returns-clause-facts : goal.returns-clause-facts
 returns-clause-facts c =
     let n = c.len-state-end.ensures in
     let e : c.loop-state.state ≡ length c.args.automaton.now.kernels = omega arith in
-    facts_of c.args.grammar.now c.args.automaton.now c.args.mode c.loop-state.states.items c.requires.range c.requires.automaton (all_resolved c.args.grammar.now c.args.automaton.now c.args.mode c.loop-state.state c.loop-state.states.items e c.loop-state.invariant.0)
+    facts_of c.args.grammar.now c.args.automaton.now c.args.mode c.loop-state.states.items c.requires.range c.requires.costs c.requires.automaton (all_resolved c.args.grammar.now c.args.automaton.now c.args.mode c.loop-state.state c.loop-state.states.items e c.loop-state.invariant.0)
 
 pub returns-clause-conflicts : goal.returns-clause-conflicts
 returns-clause-conflicts c =

@@ -1,5 +1,5 @@
 use Rattle.std.proofs.Common.{◌<◌, length, arith}
-use Rattle.mh_resolve.proofs.Places.{read_again}
+use Rattle.mh_grammar.proofs.Lists.{read_again}
 use Rattle.mh_resolve.proofs.Rowing.{settled_more, all_settled}
 use Rattle.mh_resolve.proofs.row.cells_of.Goals as goal
 

@@ -1,5 +1,5 @@
 use Rattle.std.proofs.Common.{◌<◌, ℕ, Some, None}
-use Rattle.mh_tables.specs.Relative.{AllClear}
+use Rattle.mh_tables.specs.code.Relative.{AllClear}
 use Rattle.mh_tables.proofs.relative.first_loop.Given as goal
 
 abbrev pub invariant-lower : goal.invariant-lower
