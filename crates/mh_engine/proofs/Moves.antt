@@ -1,39 +1,18 @@
 -- What moves and phases say.
 use Rattle.std.proofs.Common.{◌≡◌, ℕ, suc, ◌+◌, inl, inr, ◌⊎◌, List, [], ◌∷◌, ◌++◌, length, Some, None, Option, Bool, true, false, refl, ap, sym, subst, arith, ◌∙◌, length-append}
-use Rattle.mh_tables.specs.declared.parts.Fallback.{Fallback}
-use Rattle.mh_tables.specs.declared.parts.Fallback.TheVariants as fallbacks
-use Rattle.mh_tables.specs.declared.parts.Action.{Action}
-use Rattle.mh_tables.specs.declared.parts.Action.TheVariants as actions
-use Rattle.mh_tables.specs.Table.{TableData, fallback_of, cell_of}
+use Rattle.mh_tables.specs.Table.{TableData}
 use Rattle.mh_tables.specs.Facts.{Facts}
-use Rattle.mh_tables.specs.Run.{Move, Accepts, Asks, Refuses, Shifts, Reduces, move_of, move_of_next, move_of_action, move_by_default, top_of, IsRunStack}
+use Rattle.mh_tables.specs.Run.{Move, Accepts, Asks, Refuses, Shifts, Reduces, move_of, top_of, IsRunStack}
 use Rattle.mh_tables.specs.RunTrees.{Grown}
 use Rattle.mh_tables.specs.Halting.{look_list}
 use Rattle.mh_tables.proofs.Trees.{accepts_one}
+use Rattle.mh_tables.proofs.Accepted.{accepts_by_default}
 use Rattle.mh_tables.proofs.Reductions.{no_shift_at_end}
 use Rattle.mh_tree.specs.Trees.{SyntaxTree}
 use Rattle.mh_engine.specs.Positions.{Position}
 use Rattle.mh_engine.specs.Phases.{next_move, phase_of, phase_by, phase_where}
 use Rattle.mh_engine.specs.declared.phase.Phase.{Phase}
 use Rattle.mh_engine.specs.declared.phase.Phase.TheVariants as phases
-
-action_not_accepts : (a : Action) → move_of_action a ≡ Accepts → ⊥
-action_not_accepts (actions.Shift j) e = cc
-action_not_accepts (actions.Reduce p) e = cc
-action_not_accepts actions.Refuse e = cc
-
-next_not_accepts : (t : TableData) (s : ℕ) (left : List ℕ) → move_of_next t s left ≡ Accepts → ⊥
-next_not_accepts t s [] e = cc
-next_not_accepts t s (z ∷ left) e = action_not_accepts (cell_of t s z) e
-
-default_accepted : (f : Option Fallback) (m : Move) → (m ≡ Accepts → ⊥) → move_by_default f m ≡ Accepts → f ≡ Some fallbacks.Accept
-default_accepted None m h e = absurd (h e)
-default_accepted (Some fallbacks.Accept) m h e = refl
-default_accepted (Some (fallbacks.Reduce p)) m h e = cc
-
-accepts_by_default : (t : TableData) (s : ℕ) (left : List ℕ) → move_of t s left ≡ Accepts → fallback_of t s ≡ Some fallbacks.Accept
-unfolding move_of
-accepts_by_default t s left e = default_accepted (fallback_of t s) (move_of_next t s left) (next_not_accepts t s left) e
 
 -- where no token waits, none is shifted
 pub no_shift_waiting : (c : Position) (look : Option ℕ) (j : ℕ) → look ≡ None → look_list look ≡ c.left → Shifts j ≡ next_move c → ⊥

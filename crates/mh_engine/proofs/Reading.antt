@@ -3,10 +3,9 @@ use Rattle.std.proofs.Common.{◌≡◌, ℕ, zero, suc, ◌+◌, ◌-◌, ◌<�
 use Rattle.std.proofs.lemmas.Bool.{cases_lt}
 use Rattle.std.proofs.lemmas.List.{take_more, take-append-drop, length-drop}
 use Rattle.std.proofs.Math.Seq.{take-length}
-use Rattle.mh_tables.specs.declared.parts.Fallback.{Fallback}
-use Rattle.mh_tables.specs.declared.parts.Fallback.TheVariants as fallbacks
-use Rattle.mh_tables.specs.Table.{TableData, fallback_of}
-use Rattle.mh_tables.specs.Run.{Move, Accepts as Accepting, Asks, Refuses, Shifts, Reduces, move_of, move_by_default, move_of_next, top_of}
+use Rattle.mh_tables.specs.Table.{TableData}
+use Rattle.mh_tables.specs.Run.{Move, Accepts as Accepting, Asks, Refuses, Shifts, Reduces, move_of, top_of}
+use Rattle.mh_tables.proofs.Asking.{no_refusal_at_end}
 use Rattle.mh_tables.proofs.Reductions.{no_shift_at_end}
 use Rattle.mh_tree.specs.Trees.{SyntaxTree, Leaf}
 use Rattle.std.specs.Prelude.{Result, Ok, Err, IfOk}
@@ -246,15 +245,6 @@ reads_more t start w i z s y c d r e is fits =
 -- PHASES THAT CANNOT BE
 
 -- with no token to come it asks or accepts, and with one it does not ask
-refuse_by_default : (f : Option Fallback) (m : Move) → (m ≡ Refuses → ⊥) → move_by_default f m ≡ Refuses → ⊥
-refuse_by_default None m h e = h e
-refuse_by_default (Some fallbacks.Accept) m h e = cc
-refuse_by_default (Some (fallbacks.Reduce p)) m h e = cc
-
-no_refusal_at_end : (t : TableData) (s : ℕ) → move_of t s [] ≡ Refuses → ⊥
-unfolding move_of
-no_refusal_at_end t s e = refuse_by_default (fallback_of t s) Asks (λ a. cc) e
-
 pub phase_at_end : (c : Position) → c.left ≡ [] → c.refused ≡ false → ((s p : ℕ) → phase_of c ≡ phases.AboutToReduce s p → ⊥) → ((s : ℕ) × (phase_of c ≡ phases.InputNeeded s)) ⊎ (phase_of c ≡ phases.Accepted)
 unfolding phase_of
 phase_at_end c l r none = go (next_move c) refl

@@ -5,14 +5,11 @@ use Rattle.std.proofs.lemmas.Bool.{cases_lt}
 use Rattle.std.proofs.lemmas.List.{length-take-le}
 use Rattle.mh_grammar.specs.declared.types.Symbol.TheVariants.{T, N}
 use Rattle.mh_grammar.specs.Plain.{rhs_of, lhs_of, production_count}
-use Rattle.mh_tables.specs.declared.parts.Fallback.{Fallback}
-use Rattle.mh_tables.specs.declared.parts.Fallback.TheVariants as fallbacks
-use Rattle.mh_tables.specs.declared.parts.Action.{Action}
-use Rattle.mh_tables.specs.declared.parts.Action.TheVariants as actions
-use Rattle.mh_tables.specs.Table.{TableData, edge_of, fallback_of, cell_of}
+use Rattle.mh_tables.specs.Table.{TableData, edge_of}
 use Rattle.mh_tables.specs.Facts.{Facts}
-use Rattle.mh_tables.specs.Run.{Config, Move, Accepts, Asks, Refuses, Shifts, Reduces, move_of, move_of_next, move_of_action, move_by_default, top_of, step, step_by, next_of, reduce}
+use Rattle.mh_tables.specs.Run.{Config, Move, Accepts, Asks, Refuses, Shifts, Reduces, move_of, top_of, step, step_by, next_of, reduce}
 use Rattle.mh_tables.specs.RunTrees.{Grown, grow}
+use Rattle.mh_tables.proofs.Asking.{no_ask}
 use Rattle.mh_tables.proofs.Trees.{grown_push, grown_reduced}
 use Rattle.mh_tables.proofs.Path.{finds, reduce_finds, run_take}
 use Rattle.mh_tables.proofs.Finding.{edge_source}
@@ -198,23 +195,9 @@ unfolding phase_of
 asking_moves c a = asking_where c.refused c a
 
 -- where it asks, no token waits
-action_not_asks : (a : Action) → move_of_action a ≡ Asks → ⊥
-action_not_asks (actions.Shift j) e = cc
-action_not_asks (actions.Reduce p) e = cc
-action_not_asks actions.Refuse e = cc
-
-default_asked : (f : Option Fallback) (m : Move) → move_by_default f m ≡ Asks → m ≡ Asks
-default_asked None m e = e
-default_asked (Some fallbacks.Accept) m e = cc
-default_asked (Some (fallbacks.Reduce p)) m e = cc
-
-next_asks : (t : TableData) (s : ℕ) (left : List ℕ) → move_of_next t s left ≡ Asks → left ≡ []
-next_asks t s [] e = refl
-next_asks t s (z ∷ left) e = absurd (action_not_asks (cell_of t s z) e)
-
 asks_empty : (t : TableData) (s : ℕ) (left : List ℕ) → move_of t s left ≡ Asks → left ≡ []
-unfolding move_of
-asks_empty t s left e = next_asks t s left (default_asked (fallback_of t s) (move_of_next t s left) e)
+asks_empty t s [] e = refl
+asks_empty t s (z ∷ left) e = absurd (no_ask t s z left e)
 
 pub asking_left : (c : Position) → IsAsking (phase_of c) → c.left ≡ []
 asking_left c a = asks_empty c.table (top_of c.pairs.states) c.left (asking_moves c a)

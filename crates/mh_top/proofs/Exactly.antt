@@ -23,11 +23,11 @@ use Rattle.mh_tables.specs.Facts.{Facts}
 use Rattle.mh_tables.specs.Run.{Ending as Ended, Accepted, Overshot, Rejected, VerdictOf, initial}
 use Rattle.mh_tables.proofs.Cut.{verdict_cut}
 use Rattle.mh_tables.proofs.Ending.{one_ending}
-use Rattle.mh_run.specs.Exactness.{IsPrefixSentence, AllProductive}
+use Rattle.mh_exact.specs.Exactness.{IsPrefixSentence, AllProductive}
 use Rattle.mh_tables.specs.TreeRuns.{IsTreeOfRead, IsTooDeep, TreeEnding, AcceptedTree, OvershotTree, RejectedTree, DeepTree, IsTreeEnding}
 use Rattle.mh_tree.specs.Trees.{SyntaxTree, IsTreeFor, text_of}
-use Rattle.mh_run.proofs.AcceptedSentence.{accepted_sentence}
-use Rattle.mh_run.proofs.Telling.{overshoots, tells_prefix, tells_refused}
+use Rattle.mh_exact.proofs.AcceptedSentence.{accepted_sentence}
+use Rattle.mh_exact.proofs.Telling.{overshoots, tells_prefix, tells_refused}
 use Rattle.mh_outside.specs.Shelf.{Files}
 use Rattle.mh_reader.specs.declared.modules.Module.{Module}
 use Rattle.mh_reader.specs.Spelling.{Spells}
