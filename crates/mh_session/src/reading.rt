@@ -184,11 +184,7 @@ pub fn read_command_by(
 /// `show NAME`, `tree NAME` or `forget NAME`, with blanks between and round these words. `Unreadable` comes for another
 /// form, then `MissingStart` or `UnknownStart`, and `UnknownToken`. `Memory` only where there was none. For many lines of
 /// one grammar, `read_command_by` collects its names only once.
-pub fn read_command(
-    alloc: Global,
-    grammar: &Grammar,
-    line: &[u8],
-) -> Result<Command, CommandFault>
+pub fn read_command(alloc: Global, grammar: &Grammar, line: &[u8]) -> Result<Command, CommandFault>
     requires { IsInRange (plain_of grammar.now) }
     ensures { ReadsCommand (vocabulary_of grammar.now) line.now result }
 {

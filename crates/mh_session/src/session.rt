@@ -12,8 +12,8 @@ ghost use Rattle.mh_session.specs.Served.{IsServed};
 ghost use Rattle.mh_session.specs.declared.command.Command.TheVariants as commands;
 
 use crate::command::{Command, Reply, SessionFault};
-use mh_engine::{Checkpoint, Phase, ResumeFault, begin};
 use indexmap::IndexMap;
+use mh_engine::{Checkpoint, Phase, ResumeFault, begin};
 use mh_grammar::{Name, Token};
 use mh_tables::Halting;
 use std::alloc::Global;

@@ -1,7 +1,0 @@
-//! Worked sessions.
-#![tactic(auto)]
-
-#[cfg(test)]
-mod made;
-#[cfg(test)]
-mod sessions;
