@@ -13,8 +13,6 @@ mod pairs;
 mod places;
 mod sets;
 mod starts;
-#[cfg(test)]
-mod tests;
 
 pub use closures::closure;
 pub use kernels::{Automaton, Kernel, KernelItem, StatesFault};

@@ -1,7 +1,8 @@
 -- A sentence that is read is one of the grammar: its start and its tokens are known.
 use Rattle.std.proofs.Common.{◌≡◌, ◌<◌, ◌+◌, ℕ, zero, suc, Bool, true, false, List, [], ◌∷◌, length, Option, None, Some, refl, sym, ◌∙◌, ap, subst, if◌then◌else◌, arith, take, drop, nat_lt, Err, is_some, true≢false}
 use Rattle.std.proofs.lemmas.List.{length-map}
-use Rattle.std.specs.List.{list_all, position_from, All}
+use Rattle.std.proofs.lemmas.List.Elements.{recursion_from_All}
+use Rattle.std.specs.List.{list_all, position_from, All, AllByRecursion}
 use Rattle.std.specs.Str.{bytes_eq}
 use Rattle.mh_lex.specs.Words.{is_word}
 use Rattle.mh_grammar.specs.declared.types.Sentence.{Sentence}
@@ -130,6 +131,9 @@ sentence_below g h line s tokens is same given =
     let below = known_in g line s is in
     let count : length (token_names g) ≡ h.tokens = length-map g.tokens (λ token. token.name) ∙ sym (ap (λ (x : PlainGrammar). x.tokens) same) in
     subst (λ (ts : List ℕ). All (λ z. z < h.tokens) ts) (sym given) (subst (λ (n : ℕ). All (λ z. z < n) s.tokens) count below.tokens)
+
+pub sentence_tokens : (g : Grammar) (line : Text) (s : Sentence) → sentence_in (vocabulary_of g) line ≡ IsSentence s → AllByRecursion (λ z. z < length g.tokens) s.tokens
+sentence_tokens g line s is = recursion_from_All (λ z. z < length g.tokens) s.tokens (sentence_below g (plain_of g) line s s.tokens is refl refl)
 
 -- a start that was not found
 pub no_start : (start : StartFound) (found : TokensFound) (fault : SentenceFault) → FindsStart start (Err fault) → ReadsSentence (with_start start found) (Err fault)

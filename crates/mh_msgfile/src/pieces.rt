@@ -38,7 +38,7 @@ fn size_of_piece(bytes: &[u8]) -> usize
     count
 }
 
-/// The first piece between blanks, with what stands behind it.
+/// The first piece between blanks (spaces, tabs and CR), with what stands behind it.
 pub fn first_piece(bytes: &[u8]) -> Option<(&[u8], &[u8])>
     ensures { FirstPiece is_blank_byte bytes.now result }
 {

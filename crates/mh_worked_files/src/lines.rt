@@ -1,8 +1,9 @@
 //! Lines and what they are, worked out by hand.
 ghost use Rattle.mh_grammar.specs.Plain.{plain_of, IsInRange};
 
-use crate::{SentenceFault, read_sentence};
+use crate::cases::{digit, parts};
 use mh_grammar::{Grammar, Memory, NontermInfo, Sequence, TokenInfo, from_bytes, is_in_range};
+use mh_msgfile::{SentenceFault, read_sentence};
 use std::alloc::Global;
 use std::test::Fail;
 
@@ -31,14 +32,6 @@ fn sample(alloc: Global, starts: &[u16]) -> Result<Grammar, Memory> {
     })
 }
 
-fn digit_of(number: u16) -> u8 {
-    if number < 10 {
-        b'0' + number as u8
-    } else {
-        b'?'
-    }
-}
-
 fn joined(alloc: Global, front: &str, name: &[u8]) -> Result<Vec<u8>, Memory> {
     let mut text = Vec::from_slice(alloc, front.as_bytes())?;
     text.extend_from_slice(name)?;
@@ -52,10 +45,10 @@ fn shown(alloc: Global, grammar: &Grammar, line: &[u8]) -> Result<Vec<u8>, Memor
     match read_sentence(alloc, grammar, line) {
         Ok(sentence) => {
             let mut text = Vec::new(alloc);
-            text.push(digit_of(sentence.start))?;
+            text.push(digit(u64::from(sentence.start)))?;
             text.push(b':')?;
             for token in sentence.tokens.as_slice() {
-                text.push(digit_of(*token))?;
+                text.push(digit(u64::from(*token)))?;
             }
             Ok(text)
         }
@@ -111,7 +104,7 @@ fn lines(rt: HostRuntime) -> Result<(), Fail> {
         let grammar = sample(alloc, starts)?;
         assert!(rt; is_in_range(&grammar));
         for case in cases.split('^') {
-            let (line, expected) = case.split_once('~').ok_or("a case without a `~`")?;
+            let (line, expected) = parts(case)?;
             let found = shown(alloc, &grammar, line.as_bytes())?;
             assert_eq!(rt; found.as_slice(), expected.as_bytes(), "at {line:?}");
         }

@@ -1,5 +1,6 @@
 //! Words, and the orders that they spell by hand.
-use crate::{Job, Order, UsageFault, read_words};
+use crate::cases::parts;
+use mh_opts::{Job, Order, UsageFault, read_words};
 use std::alloc::{AllocError, Global};
 use std::test::Fail;
 
@@ -69,7 +70,7 @@ const CASES: &str = "--interpret g.mly~interpret :g.mly^\
 fn cases(rt: HostRuntime) -> Result<(), Fail> {
     let alloc = rt.alloc();
     for case in CASES.split('^') {
-        let (line, expected) = case.split_once('~').ok_or("a case without a `~`")?;
+        let (line, expected) = parts(case)?;
         let mut words = Vec::new(alloc);
         for word in line.split(' ') {
             words.push(String::from_str(alloc, word)?)?;

@@ -1,9 +1,10 @@
 //! Grammar files and what they spell, worked out by hand.
 ghost use Rattle.std.specs.Prelude.{◌<◌, ◌^◌, length};
 
-use crate::{print_module, read_module, spelled_once};
+use crate::cases::parts;
 use mh_grammar::Memory;
 use mh_lex::SyntaxFault;
+use mh_reader::{print_module, read_module, spelled_once};
 use std::alloc::{AllocError, Global};
 use std::test::Fail;
 
@@ -114,7 +115,7 @@ fn cases() -> &'static str {
 #[test]
 fn verdicts(rt: HostRuntime) -> Result<(), Fail> {
     for case in cases().split('^') {
-        let (bytes, expected) = case.split_once('~').ok_or("a case without a `~`")?;
+        let (bytes, expected) = parts(case)?;
         assert!(rt; bytes.len() < 1000);
         let found = verdict(rt.alloc(), bytes.as_bytes())?;
         assert_eq!(rt; found.as_str(), expected, "at {bytes:?}");
@@ -208,7 +209,7 @@ fn is_kept(alloc: Global, bytes: &[u8]) -> Result<bool, Memory>
 #[test]
 fn printed_files(rt: HostRuntime) -> Result<(), Fail> {
     for case in cases().split('^') {
-        let (bytes, expected) = case.split_once('~').ok_or("a case without a `~`")?;
+        let (bytes, expected) = parts(case)?;
         assert!(rt; bytes.len() < 1000);
         assert_eq!(rt;
             is_kept(rt.alloc(), bytes.as_bytes())?,

@@ -1,7 +1,8 @@
+//! Devices in memory: what is read of them and written to them, where each call fails in turn.
 ghost use Rattle.std.specs.Prelude.{Some};
 ghost use Rattle.mh_outside.specs.Fakes.{sink_written, sink_calls};
 
-use crate::{
+use mh_outside::{
     Failed, LineFault, MemShelf, MemSink, MemSource, Shelf, ShelfFault, Sink, Source, WriteFault,
     read_line, write_whole,
 };
@@ -12,7 +13,7 @@ fn source(alloc: Global, bytes: &[u8], fails: &[u64]) -> Result<MemSource, Fail>
     Ok(MemSource::new(bytes.to_vec(alloc)?, fails.to_vec(alloc)?))
 }
 
-// The lines of the input, each behind a `>`, and a `!` where a read failed or `+` where a line was too big.
+/// The lines of the input, each behind a `>`, and a `!` where a read failed or `+` where a line was too big.
 fn lines(alloc: Global, input: &mut MemSource, limit: usize) -> Result<Vec<u8>, Fail> {
     let mut text = Vec::new(alloc);
     for _ in 0..9 {
@@ -49,7 +50,7 @@ fn lines_are_read(rt: HostRuntime) -> Result<(), Fail> {
     Ok(())
 }
 
-// Each read fails in turn: the bytes that were got of the line are lost, and the next call goes on behind them.
+/// Each read fails in turn: the bytes that were got of the line are lost, and the next call goes on behind them.
 #[test]
 fn each_read_fails_in_turn(rt: HostRuntime) -> Result<(), Fail> {
     let alloc = rt.alloc();
@@ -80,7 +81,7 @@ fn pieces_are_written(rt: HostRuntime) -> Result<(), Fail> {
     Ok(())
 }
 
-// A sink that takes one byte a call.
+/// A sink that takes one byte a call.
 #[derive(Drop)]
 struct Trickle {
     sink: MemSink,
@@ -96,7 +97,7 @@ impl Sink for Trickle {
     }
 }
 
-// Each of four short writes fails in turn, and the bytes before it were written.
+/// Each of four short writes fails in turn, and the bytes before it were written.
 #[test]
 fn each_write_fails_in_turn(rt: HostRuntime) -> Result<(), Fail> {
     let alloc = rt.alloc();
@@ -144,7 +145,7 @@ fn files_are_read(rt: HostRuntime) -> Result<(), Fail> {
     Ok(())
 }
 
-// A read takes as much as there is room for, and 0 comes at the end alone.
+/// A read takes as much as there is room for, and 0 comes at the end alone.
 #[test]
 fn reads_take_what_fits(rt: HostRuntime) -> Result<(), Fail> {
     let alloc = rt.alloc();
