@@ -10,7 +10,7 @@ use mh_grammar::{
 use mh_items::KernelItem;
 use std::alloc::Global;
 
-pub fn write_number(alloc: Global, text: &mut Vec<u8>, number: u32) -> Result<(), Memory>
+pub(crate) fn write_number(alloc: Global, text: &mut Vec<u8>, number: u32) -> Result<(), Memory>
     ensures { OnOk result (text.new.items ≡ text.old.items ++ decimal number) }
 {
     let digits = format!(in alloc; "{number}")?;
@@ -87,7 +87,7 @@ fn write_right_side(
     }
 }
 
-pub fn write_production(
+pub(crate) fn write_production(
     text: &mut Vec<u8>,
     grammar: &Grammar,
     production: u32,

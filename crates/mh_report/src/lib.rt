@@ -6,5 +6,4 @@ mod items;
 mod warnings;
 
 pub use automata::automaton_text;
-pub use items::{write_number, write_production};
 pub use warnings::warning_text;
