@@ -11,8 +11,8 @@ ghost use Rattle.mh_canon.specs.Moves.{IsState, IsSource, AreStarts, AreStates, 
 
 use crate::symbols::moving_symbols;
 use indexmap::IndexSet;
-use mh_items::{Automaton, Closer, Kernel, StatesFault, moved, start_kernel};
 use mh_grammar::{Edge, Grammar, Sequence, Symbol};
+use mh_items::{Automaton, Closer, Kernel, StatesFault, moved, start_kernel};
 use std::alloc::{AllocError, AllocFailed, Global};
 
 /// The most states that an automaton may have.

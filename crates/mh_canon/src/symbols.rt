@@ -6,8 +6,8 @@ ghost use Rattle.mh_grammar.specs.Edges.{IsRising, IsSymbolBefore};
 ghost use Rattle.mh_items.specs.Kernels.{IsKernel};
 ghost use Rattle.mh_canon.specs.Moves.{IsBehindDot};
 
-use mh_items::{Kernel, symbol_at};
 use mh_grammar::{Grammar, Memory, Symbol};
+use mh_items::{Kernel, symbol_at};
 use std::alloc::{AllocError, Global};
 use std::collections::BTreeSet;
 

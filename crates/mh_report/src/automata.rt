@@ -35,7 +35,11 @@ fn write_title(alloc: Global, text: &mut Vec<u8>, mode: Mode, states: u32) -> Re
     Ok(())
 }
 
-fn write_kernel_line<const W: usize>(text: &mut Vec<u8>, grammar: &Grammar, item: &KernelItem<W>) -> Result<(), Memory>
+fn write_kernel_line<const W: usize>(
+    text: &mut Vec<u8>,
+    grammar: &Grammar,
+    item: &KernelItem<W>,
+) -> Result<(), Memory>
     requires few { W ≤ 8 }
     requires item { IsKernelItem (plain_of grammar.now) item.now }
     ensures { OnOk result (text.new.items ≡ text.old.items ++ kernel_line grammar.now item.now) }

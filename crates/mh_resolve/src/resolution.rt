@@ -167,7 +167,11 @@ pub fn conflicts_are_one<const W: usize>(
 }
 
 /// The list of conflicts is empty exactly where no state has one: an empty call that says so to contracts.
-pub fn conflicts_tell<const W: usize>(grammar: &Grammar, automaton: &Automaton<W>, conflicts: &[Conflict])
+pub fn conflicts_tell<const W: usize>(
+    grammar: &Grammar,
+    automaton: &Automaton<W>,
+    conflicts: &[Conflict],
+)
     requires { AreConflicts grammar.now automaton.now conflicts.now }
     ensures { (conflicts.now ≡ []) ↔ HasNoConflicts grammar.now automaton.now }
 {
@@ -189,7 +193,12 @@ pub fn conflicts_are_raw<const W: usize>(grammar: &Grammar, automaton: &Automato
 
 /// A table shifts along its automaton's edges and reduces what is complete; without conflicts it takes every raw action:
 /// an empty call that says so to contracts.
-pub fn table_acts<const W: usize>(grammar: &Grammar, automaton: &Automaton<W>, mode: Mode, table: &Table)
+pub fn table_acts<const W: usize>(
+    grammar: &Grammar,
+    automaton: &Automaton<W>,
+    mode: Mode,
+    table: &Table,
+)
     requires automaton { IsAutomaton (plain_of grammar.now) automaton.now }
     requires table { IsTableOf grammar.now automaton.now mode table.now }
     ensures within { (s : ℕ) → s < length automaton.now.kernels → ActsWithin (state_of grammar.now automaton.now s) (state_at table.now s) }

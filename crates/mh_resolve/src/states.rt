@@ -33,7 +33,11 @@ fn kept_action(stream: bool, last: Action) -> Action
     if stream { Action::Refuse } else { last }
 }
 
-fn filler_of<const W: usize>(grammar: &Grammar, items: &[KernelItem<W>], default: Option<u32>) -> Option<u32>
+fn filler_of<const W: usize>(
+    grammar: &Grammar,
+    items: &[KernelItem<W>],
+    default: Option<u32>,
+) -> Option<u32>
     requires few { W ≤ 8 }
     requires items { All IsLooked items.now }
     ensures { IsFiller (listed grammar.now items.now []) default result }
