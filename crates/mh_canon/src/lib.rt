@@ -3,8 +3,6 @@
 
 mod collection;
 mod symbols;
-#[cfg(test)]
-mod tests;
 mod uniqueness;
 
 pub use collection::{MAX_STATES, canonical};

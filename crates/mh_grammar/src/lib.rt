@@ -11,8 +11,6 @@ mod name;
 mod names;
 mod range;
 mod sequence;
-#[cfg(test)]
-mod tests;
 mod types;
 
 pub use edges::{Edge, find_edge};

@@ -13,6 +13,3 @@ pub use kinds::{Kind, Lexeme, SyntaxFault};
 pub use laws::{lexed_always, lexed_apart, lexed_once, lexed_texts};
 pub use scanning::{lex, line_of};
 pub use words::is_word;
-
-#[cfg(test)]
-mod tests;

@@ -1,7 +1,8 @@
 -- A sentence that is read is one of the grammar: its start and its tokens are known.
 use Rattle.std.proofs.Common.{◌≡◌, ◌<◌, ◌+◌, ℕ, zero, suc, Bool, true, false, List, [], ◌∷◌, length, Option, None, Some, refl, sym, ◌∙◌, ap, subst, if◌then◌else◌, arith, take, drop, nat_lt, Err, is_some, true≢false}
 use Rattle.std.proofs.lemmas.List.{length-map}
-use Rattle.std.specs.List.{list_all, position_from, All}
+use Rattle.std.proofs.lemmas.List.Elements.{recursion_from_All}
+use Rattle.std.specs.List.{list_all, position_from, All, AllByRecursion}
 use Rattle.std.specs.Str.{bytes_eq}
 use Rattle.mh_lex.specs.Words.{is_word}
 use Rattle.mh_grammar.specs.declared.types.Sentence.{Sentence}
@@ -32,10 +33,10 @@ position_below p i k [] is = absurd (no_some k is)
 position_below p i k (x ∷ xs) is = position_on p i k x xs (p x) refl (position_below p (i + 1) k xs) is
 
 -- what names stand for is below these counts
-record IsBounded (n m : ℕ) (v : Vocabulary) : Type 0 where
-  starts : (name : Text) (k : ℕ) → v.start_named name ≡ Some k → k < n
-  only : (k : ℕ) → v.only_start ≡ Some k → k < n
-  tokens : (name : Text) (k : ℕ) → v.token_named name ≡ Some k → k < m
+pub record IsBounded (n m : ℕ) (v : Vocabulary) : Type 0 where
+  pub starts : (name : Text) (k : ℕ) → v.start_named name ≡ Some k → k < n
+  pub only : (k : ℕ) → v.only_start ≡ Some k → k < n
+  pub tokens : (name : Text) (k : ℕ) → v.token_named name ≡ Some k → k < m
 
 number_below : (names : List Text) (name : Text) (k : ℕ) → number_of names name ≡ Some k → k < length names
 number_below names name k is = let lt : k < 0 + length names = position_below (bytes_eq name) 0 k names is in omega (arith, lt)
@@ -45,7 +46,7 @@ only_below [] k is = absurd (no_some k is)
 only_below (name ∷ []) k is = let same : 0 ≡ k = ap (value_or 0) is in omega (arith, same)
 only_below (name ∷ other ∷ names) k is = absurd (no_some k is)
 
-bounded : (g : Grammar) → IsBounded (length (start_names g)) (length (token_names g)) (vocabulary_of g)
+pub bounded : (g : Grammar) → IsBounded (length (start_names g)) (length (token_names g)) (vocabulary_of g)
 bounded g = record { starts = number_below (start_names g); only = only_below (start_names g); tokens = number_below (token_names g) }
 
 abbrev AreBelow : ℕ → TokensFound → Type 0
@@ -130,6 +131,9 @@ sentence_below g h line s tokens is same given =
     let below = known_in g line s is in
     let count : length (token_names g) ≡ h.tokens = length-map g.tokens (λ token. token.name) ∙ sym (ap (λ (x : PlainGrammar). x.tokens) same) in
     subst (λ (ts : List ℕ). All (λ z. z < h.tokens) ts) (sym given) (subst (λ (n : ℕ). All (λ z. z < n) s.tokens) count below.tokens)
+
+pub sentence_tokens : (g : Grammar) (line : Text) (s : Sentence) → sentence_in (vocabulary_of g) line ≡ IsSentence s → AllByRecursion (λ z. z < length g.tokens) s.tokens
+sentence_tokens g line s is = recursion_from_All (λ z. z < length g.tokens) s.tokens (sentence_below g (plain_of g) line s s.tokens is refl refl)
 
 -- a start that was not found
 pub no_start : (start : StartFound) (found : TokensFound) (fault : SentenceFault) → FindsStart start (Err fault) → ReadsSentence (with_start start found) (Err fault)

@@ -1,3 +1,10 @@
 pub mod Fields
 pub mod Lexicons
 pub mod Below
+pub mod Lines
+pub mod Kept
+pub mod Turns
+pub mod Fitting
+pub mod Canonical
+pub mod Spelled
+pub mod Again

@@ -1,1 +1,3 @@
 pub mod Sentences
+pub mod Messages
+pub mod Printed

@@ -1,12 +1,16 @@
 //! Sentence lines, as input lines and messages files have them.
 #![tactic(auto)]
 
+mod laws;
 mod lexicon;
+mod messages;
 mod pieces;
+mod printing;
 mod sentence;
 
+pub use laws::{canonical_is_read, printed_again, spelled_once};
 pub use lexicon::Lexicon;
+pub use messages::{Entry, MsgFault, MsgFile, MsgSentence, read_messages};
+pub use pieces::first_piece;
+pub use printing::{echo, print_messages, write_sentence};
 pub use sentence::{SentenceFault, read_sentence};
-
-#[cfg(test)]
-mod tests;

@@ -38,8 +38,8 @@ fn size_of_piece(bytes: &[u8]) -> usize
     count
 }
 
-/// The first piece between blanks, with what stands behind it.
-pub(crate) fn first_piece(bytes: &[u8]) -> Option<(&[u8], &[u8])>
+/// The first piece between blanks (spaces, tabs and CR), with what stands behind it.
+pub fn first_piece(bytes: &[u8]) -> Option<(&[u8], &[u8])>
     ensures { FirstPiece is_blank_byte bytes.now result }
 {
     let (_, text) = bytes.split_at(count_blanks(bytes));

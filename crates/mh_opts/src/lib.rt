@@ -7,6 +7,3 @@ mod words;
 
 pub use order::{Job, Order, UsageFault};
 pub use words::read_words;
-
-#[cfg(test)]
-mod tests;

@@ -7,8 +7,6 @@ mod schedule;
 mod shelf;
 mod sink;
 mod source;
-#[cfg(test)]
-mod tests;
 
 pub use fakes::{MemShelf, MemSink, MemSource};
 pub use lines::{LineFault, read_line};

@@ -16,6 +16,3 @@ pub use laws::{line_once, spelled_once};
 pub use mh_rules::{Actual, Alternative, LevelDecl, Module, Ref, Rule, TokenDecl};
 pub use printing::print_module;
 pub use reading::read_module;
-
-#[cfg(test)]
-mod tests;

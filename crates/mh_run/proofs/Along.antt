@@ -7,8 +7,8 @@ use Rattle.mh_tables.specs.Run.{Config, Move, Accepts, Asks, Refuses, Shifts, Re
 use Rattle.mh_tables.specs.Halting.{look_list}
 use Rattle.mh_tables.proofs.Reductions.{move_at_next}
 use Rattle.mh_tables.proofs.Ending.{step_moves}
-use Rattle.mh_run.specs.Following.{Following, along, along_after}
-use Rattle.mh_run.specs.Settled.{left_with, standing, Leads, SettlesDeep}
+use Rattle.mh_run.specs.code.Following.{Following, along, along_after}
+use Rattle.mh_run.specs.code.Settled.{left_with, standing, Leads, SettlesDeep}
 use Rattle.mh_tables.proofs.Accepted.{EndsBy, step_ends}
 
 -- one more step

@@ -8,8 +8,8 @@ use Rattle.mh_tables.specs.Run.{Reduces, move_of, top_of, reduce, IsRunStack}
 use Rattle.mh_tables.proofs.Path.{reduce_keeps}
 use Rattle.mh_tables.proofs.Reductions.{reduced}
 use Rattle.mh_tables.proofs.Settling.{Relative, relative_begins, relative_more, relative_few}
-use Rattle.mh_run.specs.Following.{Following}
-use Rattle.mh_run.specs.Settled.{Leads, SettlesDeep}
+use Rattle.mh_run.specs.code.Following.{Following}
+use Rattle.mh_run.specs.code.Settled.{Leads, SettlesDeep}
 use Rattle.mh_run.proofs.Along.{leads_none, leads_more, leads_deep}
 
 -- The stack and the value so far. What stands from the place floor on is what so many reductions leave of a relative run.

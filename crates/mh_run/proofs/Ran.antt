@@ -9,7 +9,7 @@ use Rattle.mh_tables.specs.Deep.{too_deep}
 use Rattle.mh_tables.specs.TreeRuns.{IsTreeOfRead, IsTooDeep}
 use Rattle.mh_tables.proofs.Reductions.{no_shift_at_end}
 use Rattle.mh_tables.proofs.Accepted.{accepted_one, accepted_from}
-use Rattle.mh_run.specs.Following.{Following, along, along_after, RunsSo, RunsDeep}
+use Rattle.mh_run.specs.code.Following.{Following, along, along_after, RunsSo, RunsDeep}
 use Rattle.mh_run.specs.Trace.{since_move, reduced_since, TraceOf}
 
 -- a run with something along is a run

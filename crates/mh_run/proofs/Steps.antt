@@ -7,7 +7,7 @@ use Rattle.mh_tables.specs.Table.{TableData, edge_of}
 use Rattle.mh_tables.specs.Facts.{Facts, ReducesBy}
 use Rattle.mh_tables.specs.Run.{top_of, reduce, IsRunStack}
 use Rattle.mh_tables.proofs.Path.{Finds, finds, reduce_finds, top_of_take, state_known}
-use Rattle.mh_run.specs.Settled.{CanReduce, below_of}
+use Rattle.mh_run.specs.code.Settled.{CanReduce, below_of}
 
 below_is : (t : TableData) (p : ℕ) (stack : List ℕ) → length (rhs_of t.grammar p) < length stack → top_of (take (length stack - length (rhs_of t.grammar p)) stack) ≡ below_of t p stack
 below_is t p stack lt = top_of_take stack (length stack - length (rhs_of t.grammar p)) (omega arith) (omega arith)

@@ -11,34 +11,9 @@ use Rattle.mh_tables.specs.Facts.{Facts}
 use Rattle.mh_tables.specs.Run.{Config, Move, Asks, Refuses, Shifts, move_of, move_of_action, move_by_default, top_of, IsRunStack, Ends, step, step_by, next_of, after, Ending, initial}
 use Rattle.mh_tables.proofs.Reductions.{move_at_next, after-add}
 use Rattle.mh_tables.proofs.Ending.{step_moves, run_shift, run_begins}
-use Rattle.mh_run.specs.Following.{Following, along, along_after, RunsSo, RunsDeep}
-use Rattle.mh_run.specs.Settled.{left_with, standing, SettlesTo, SettlesDeep}
+use Rattle.mh_run.specs.code.Following.{Following, along, along_after, RunsSo, RunsDeep}
+use Rattle.mh_run.specs.code.Settled.{left_with, standing, SettlesTo, SettlesDeep}
 use Rattle.mh_run.proofs.Along.{after_one_more, along_one_more, along_add, along_ended}
-
-by_action_asks : (a : Action) → move_of_action a ≡ Asks → ⊥
-by_action_asks (actions.Shift j) e = cc
-by_action_asks (actions.Reduce p) e = cc
-by_action_asks actions.Refuse e = cc
-
-by_default_asks : (f : Option Fallback) (a : Action) → move_by_default f (move_of_action a) ≡ Asks → ⊥
-by_default_asks None a e = by_action_asks a e
-by_default_asks (Some fallbacks.Accept) a e = cc
-by_default_asks (Some (fallbacks.Reduce p)) a e = cc
-
--- no state asks where a token is there
-pub no_ask : (t : TableData) (s z : ℕ) (rest : List ℕ) → move_of t s (z ∷ rest) ≡ Asks → ⊥
-unfolding move_of
-no_ask t s z rest e = by_default_asks (fallback_of t s) (cell_of t s z) e
-
-by_default_refuses : (f : Option Fallback) → move_by_default f Asks ≡ Refuses → ⊥
-by_default_refuses None e = cc
-by_default_refuses (Some fallbacks.Accept) e = cc
-by_default_refuses (Some (fallbacks.Reduce p)) e = cc
-
--- no state refuses where none is
-pub no_refusal_at_end : (t : TableData) (s : ℕ) → move_of t s [] ≡ Refuses → ⊥
-unfolding move_of
-no_refusal_at_end t s e = by_default_refuses (fallback_of t s) e
 
 -- nothing is left past the end
 pub none_left : (w : List ℕ) (read : ℕ) → length w ≤ read → drop read w ≡ []

@@ -1,11 +1,11 @@
 //! Runs on whole sentences.
 ghost use Rattle.std.specs.Prelude.{◌≡◌, ◌<◌, ◌^◌, true, false, length, IfOk, IfErr, All};
 ghost use Rattle.mh_tables.specs.Run.{VerdictOf};
-ghost use Rattle.mh_run.specs.Following.{RunsSo, RunsDeep};
+ghost use Rattle.mh_run.specs.code.Following.{RunsSo, RunsDeep};
 ghost use Rattle.mh_run.specs.Verdicts.{ending_for};
-ghost use Rattle.mh_run.specs.declared.follow.Stop.TheVariants.{TooDeep};
+ghost use Rattle.mh_run.specs.declared.follow.Unfinished.TheVariants.{TooDeep};
 
-use crate::follow::{Alone, Follow, Stop};
+use crate::follow::{Alone, Follow, Unfinished};
 use crate::outcome::Verdict;
 use crate::settle::settle;
 use mh_grammar::{Memory, Token};
@@ -37,7 +37,7 @@ pub(crate) fn run<F: Follow>(
     start: u16,
     sentence: &[Token],
     follower: &mut F,
-) -> Result<Verdict, Stop>
+) -> Result<Verdict, Unfinished>
     requires start { start < length table.now.grammar.starts }
     requires tokens { All (λ z. z < table.now.grammar.tokens) sentence.now }
     requires few { length sentence.now < 2 ^ 32 }

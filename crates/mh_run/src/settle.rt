@@ -5,10 +5,10 @@ ghost use Rattle.mh_tables.specs.Table.{TableData};
 ghost use Rattle.mh_tables.specs.Run.{move_of, top_of, reduce, IsRunStack, Reduces};
 ghost use Rattle.mh_tables.specs.Halting.{IsLook, look_list};
 ghost use Rattle.mh_tables.specs.Moves.{move_for};
-ghost use Rattle.mh_run.specs.Settled.{CanReduce, SettlesTo, SettlesDeep};
-ghost use Rattle.mh_run.specs.declared.follow.Stop.TheVariants.{TooDeep};
+ghost use Rattle.mh_run.specs.code.Settled.{CanReduce, SettlesTo, SettlesDeep};
+ghost use Rattle.mh_run.specs.declared.follow.Unfinished.TheVariants.{TooDeep};
 
-use crate::follow::{Follow, Stop};
+use crate::follow::{Follow, Unfinished};
 use mh_grammar::Token;
 use mh_tables::{Choice, Halting, Table, choose};
 use std::alloc::{AllocError, Global};
@@ -60,7 +60,7 @@ fn tell_next<F: Follow>(
     look: Option<Token>,
     production: u32,
     follower: &mut F,
-) -> Result<(), Stop>
+) -> Result<(), Unfinished>
     requires run { IsRunStack table.now stack.now }
     requires next { move_of table.now (top_of stack.now) (look_list look) ≡ Reduces production }
     requires fits { F.following.deep follower.old ≡ false }
@@ -80,7 +80,7 @@ pub(crate) fn settle<F: Follow>(
     stack: &mut Vec<u32>,
     look: Option<Token>,
     follower: &mut F,
-) -> Result<Choice, Stop>
+) -> Result<Choice, Unfinished>
     requires run { IsRunStack table.now stack.old.items }
     requires look { IsLook table.now look }
     requires fits { F.following.deep follower.old ≡ false }

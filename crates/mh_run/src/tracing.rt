@@ -3,7 +3,7 @@ ghost use Rattle.std.specs.Prelude.{◌≡◌, ◌<◌, ◌^◌, length, IfOk, A
 ghost use Rattle.mh_run.specs.Trace.{TraceOf};
 ghost use Rattle.mh_run.specs.Verdicts.{ending_for};
 
-use crate::follow::{Follow, Stop};
+use crate::follow::{Follow, Unfinished};
 use crate::outcome::Verdict;
 use crate::runs::run;
 use mh_grammar::{Memory, Token};
@@ -30,12 +30,12 @@ impl Follow for SinceShift {
 
     ghost following = { record { shifted = λ ps z. []; reduced = λ ps m p. ps ++ p ∷ []; deep = λ ps. false } };
 
-    fn shift(&mut self, _: Global, _: Token) -> Result<(), Stop> {
+    fn shift(&mut self, _: Global, _: Token) -> Result<(), Unfinished> {
         self.productions.clear();
         Ok(())
     }
 
-    fn reduce(&mut self, _: Global, _: usize, production: u32) -> Result<(), Stop> {
+    fn reduce(&mut self, _: Global, _: usize, production: u32) -> Result<(), Unfinished> {
         self.productions.push(production)?;
         Ok(())
     }

@@ -3,7 +3,7 @@ ghost use Rattle.std.specs.Prelude.{◌≡◌, ◌<◌, ◌^◌, length, IfOk, A
 ghost use Rattle.mh_tables.specs.TreeRuns.{IsTreeEnding};
 ghost use Rattle.mh_run.specs.TreeRuns.{tree_ending_for};
 
-use crate::follow::{Follow, Stop};
+use crate::follow::{Follow, Unfinished};
 use crate::outcome::Verdict;
 use crate::runs::run;
 use mh_grammar::{Memory, Token};
@@ -24,7 +24,7 @@ pub enum TreeOutcome {
     Overshoot { state: u32 },
     /// This state refuses the token at this place, counted from 0.
     Reject { at: u32, state: u32 },
-    /// A step would make more than 4,000 pairs of a state and a tree, or a tree of a height of more than 4,000.
+    /// A step would make more than `MAX_PAIRS` pairs of a state and a tree, or a tree higher than `MAX_HEIGHT`.
     TooDeep,
 }
 
@@ -55,19 +55,19 @@ impl Follow for Trees {
 
     ghost following = { record { shifted = λ ts z. ts ++ Leaf z ∷ []; reduced = λ ts m p. take (length ts - m) ts ++ Node p (forest_of (drop (length ts - m) ts)) ∷ []; deep = too_deep } };
 
-    fn shift(&mut self, alloc: Global, token: Token) -> Result<(), Stop> {
+    fn shift(&mut self, alloc: Global, token: Token) -> Result<(), Unfinished> {
         if self.trees.len() >= MAX_PAIRS {
-            return Err(Stop::TooDeep);
+            return Err(Unfinished::TooDeep);
         }
         self.trees.push(leaf(alloc, token)?)?;
         Ok(())
     }
 
-    fn reduce(&mut self, alloc: Global, length: usize, production: u32) -> Result<(), Stop> {
+    fn reduce(&mut self, alloc: Global, length: usize, production: u32) -> Result<(), Unfinished> {
         let kept = self.trees.len().saturating_sub(length);
         let children = self.trees.split_off(kept)?;
         if kept >= MAX_PAIRS || !can_be_children(children.as_slice()) {
-            return Err(Stop::TooDeep);
+            return Err(Unfinished::TooDeep);
         }
         self.trees.push(node(alloc, production, children)?)?;
         Ok(())
@@ -75,8 +75,8 @@ impl Follow for Trees {
 }
 
 /// The run of a start, by its number, on a sentence of fewer than 2^32 tokens, with its trees. It is too deep exactly
-/// where a step of it, up to its end, makes more than 4,000 pairs of a state and a tree, or a tree of a height of more
-/// than 4,000. Fails for want of memory alone.
+/// where a step of it, up to its end, makes more than `MAX_PAIRS` pairs of a state and a tree, or a tree higher than
+/// [`MAX_HEIGHT`](mh_tree::MAX_HEIGHT). Fails for want of memory alone.
 pub fn run_with_trees(
     alloc: Global,
     table: &Halting,
@@ -99,7 +99,7 @@ pub fn run_with_trees(
         },
         Ok(Verdict::Overshoot { state }) => Ok(TreeOutcome::Overshoot { state }),
         Ok(Verdict::Reject { at, state }) => Ok(TreeOutcome::Reject { at, state }),
-        Err(Stop::TooDeep) => Ok(TreeOutcome::TooDeep),
-        Err(Stop::OutOfMemory) => Err(Memory),
+        Err(Unfinished::TooDeep) => Ok(TreeOutcome::TooDeep),
+        Err(Unfinished::OutOfMemory) => Err(Memory),
     }
 }

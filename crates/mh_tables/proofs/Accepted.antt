@@ -17,14 +17,11 @@ use Rattle.mh_tables.specs.Run.{Config, Move, Accepts, Asks, Refuses, Shifts, Re
 use Rattle.mh_tree.specs.Trees.{SyntaxTree, Leaf, IsTreeFor, yield_of}
 use Rattle.mh_tables.specs.RunTrees.{Stands, yields, trees_after}
 use Rattle.mh_tables.proofs.Reductions.{reduced}
+use Rattle.mh_grammar.proofs.Numbered.{rhs_of-start}
+use Rattle.mh_tables.proofs.Asking.{goes_not}
 use Rattle.mh_tables.proofs.Ending.{step_moves}
 use Rattle.mh_tables.proofs.Trees.{stands_from_start, accepts_one, AcceptsOne}
 use Rattle.mh_tables.specs.TreeRuns.{IsTreeOfRead}
-
--- the right side of a start production
-pub rhs-start : (g : PlainGrammar) (start : ℕ) → start < length g.starts → rhs_of g start ≡ N (get_or g.starts start 0) ∷ []
-unfolding rhs_of
-rhs-start g start lt = rw (lt-ltb start (length g.starts) lt) refl
 
 -- what a step that ends says of its move
 abbrev pub EndsBy : Move → Config → Ending → Type 0
@@ -33,10 +30,6 @@ EndsBy Asks c how = how ≡ Overshot (top_of c.stack)
 EndsBy Refuses c how = how ≡ Rejected c.read (top_of c.stack)
 EndsBy (Shifts j) c how = ⊥
 EndsBy (Reduces p) c how = ⊥
-
-goes_not : (c : Config) (o : Option (List ℕ)) (how : Ending) → goes_to c o ≡ Ends how → ⊥
-goes_not c None how e = cc
-goes_not c (Some s) how e = cc
 
 ends_by : (t : TableData) (c : Config) (m : Move) (how : Ending) → step_by t c m ≡ Ends how → EndsBy m c how
 ends_by t c Accepts how e = cc
@@ -142,7 +135,7 @@ module _ (t : TableData) (f : Facts t) (start : ℕ) (w : List ℕ) (read n : �
       let b : Bottom start c.stack = bottom_after t start n (initial start w) (record { some_state = omega arith; is = refl }) in
       let m = step_accepts t c read e in
       let a : AcceptsOne t c.stack trees = accepts in
-      let symbol : Some a.symbol ≡ Some (N (get_or t.grammar.starts start 0)) = sym (ap (λ (s : ℕ). slice_get (rhs_of t.grammar s) 0) (sym b.is) ∙ a.is_start) ∙ ap (λ (l : List Symbol). slice_get l 0) (rhs-start t.grammar start lt) in
+      let symbol : Some a.symbol ≡ Some (N (get_or t.grammar.starts start 0)) = sym (ap (λ (s : ℕ). slice_get (rhs_of t.grammar s) 0) (sym b.is) ∙ a.is_start) ∙ ap (λ (l : List Symbol). slice_get l 0) (rhs_of-start t.grammar start lt) in
       let same : a.symbol ≡ N (get_or t.grammar.starts start 0) = cc in
       let r = read_spelled w c.left trees (get_or trees 0 (Leaf 0)) read accepted_one h.spells (h.count ∙ m.1) in
       record {

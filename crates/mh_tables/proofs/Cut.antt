@@ -4,24 +4,12 @@ use Rattle.mh_tables.specs.declared.parts.Fallback.{Fallback}
 use Rattle.mh_tables.specs.declared.parts.Fallback.TheVariants as fallbacks
 use Rattle.mh_tables.specs.Table.{TableData, fallback_of}
 use Rattle.mh_tables.specs.Run.{Config, Move, Accepts, Asks, Refuses, Shifts, Reduces, move_of, move_by_default, top_of, reduce, step, step_by, goes_to, Step, Goes, Ends, Stuck, after, next_of, VerdictOf, Ending, Rejected, Accepted, Overshot}
+use Rattle.mh_tables.proofs.Asking.{no_refusal_at_end, goes_not}
 use Rattle.mh_tables.proofs.Reductions.{no_shift_at_end, move_at_next}
 use Rattle.mh_tables.proofs.Ending.{step_moves, after_ended}
 
 abbrev at_left : List ℕ → ℕ → List ℕ → Config
 at_left stack read left = record { stack = stack; read = read; left = left }
-
-default_refuses : (f : Option Fallback) → move_by_default f Asks ≡ Refuses → ⊥
-default_refuses None e = cc
-default_refuses (Some fallbacks.Accept) e = cc
-default_refuses (Some (fallbacks.Reduce p)) e = cc
-
-no_refusal_at_end : (t : TableData) (s : ℕ) → move_of t s [] ≡ Refuses → ⊥
-unfolding move_of
-no_refusal_at_end t s e = default_refuses (fallback_of t s) e
-
-goes_not : (c : Config) (o : Option (List ℕ)) (how : Ending) → goes_to c o ≡ Ends how → ⊥
-goes_not c None how e = cc
-goes_not c (Some stack) how e = cc
 
 record IsRefusal (c : Config) (m : Move) (at s : ℕ) : Type 0 where
   move : m ≡ Refuses

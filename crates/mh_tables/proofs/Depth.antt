@@ -1,43 +1,28 @@
 -- When trees are too deep.
 use Rattle.std.proofs.Common.{◌≡◌, ℕ, zero, suc, ◌+◌, ◌<◌, ◌≤◌, inl, inr, List, [], ◌∷◌, ◌++◌, length, take, drop, Bool, true, false, ◌||◌, nat_lt, refl, arith, lt-ltb, length-append}
 use Rattle.std.specs.List.{All}
-use Rattle.std.proofs.lemmas.Bool.{cases_lt, ltb-false, le-ltb}
+use Rattle.std.proofs.lemmas.Bool.{cases_lt, ltb-false, le-ltb, or_from, or_left, or_parts, or_right}
 use Rattle.std.proofs.lemmas.List.{length-take}
 use Rattle.std.proofs.lemmas.List.Elements.{All-nil, All-head, All-tail, All-cons}
+use Rattle.mh_tree.specs.declared.tree.TheConstants.{MAX_HEIGHT}
 use Rattle.mh_tree.specs.Trees.{SyntaxTree, Leaf, Node, height_of, forest_height, forest_of}
 use Rattle.mh_tree.proofs.Heights.{heights_append}
 use Rattle.mh_tables.specs.Deep.{too_deep}
 
-or_no : (a b : Bool) → (a || b) ≡ false → (a ≡ false) × (b ≡ false)
-or_no true b e = cc
-or_no false b e = (refl, e)
-
-or_left : (a b : Bool) → a ≡ true → (a || b) ≡ true
-or_left true b e = refl
-or_left false b e = cc
-
-or_right : (a b : Bool) → b ≡ true → (a || b) ≡ true
-or_right true b e = refl
-or_right false b e = e
-
-no_or : (a b : Bool) → a ≡ false → b ≡ false → (a || b) ≡ false
-no_or true b e f = e
-no_or false b e f = f
-
 abbrev heights : List SyntaxTree → ℕ
 heights ts = forest_height (forest_of ts)
 
-fits_heights : (ts : List SyntaxTree) → too_deep ts ≡ false → heights ts ≤ 4000
-fits_heights ts e = ltb-false 4000 (heights ts) ((or_no (nat_lt 4000 (length ts)) (nat_lt 4000 (heights ts)) e).1)
+fits_heights : (ts : List SyntaxTree) → too_deep ts ≡ false → heights ts ≤ MAX_HEIGHT
+fits_heights ts e = ltb-false MAX_HEIGHT (heights ts) ((or_parts (nat_lt MAX_HEIGHT (length ts)) (nat_lt MAX_HEIGHT (heights ts)) e).1)
 
-fits_from : (ts : List SyntaxTree) → length ts ≤ 4000 → heights ts ≤ 4000 → too_deep ts ≡ false
-fits_from ts l h = no_or (nat_lt 4000 (length ts)) (nat_lt 4000 (heights ts)) (le-ltb 4000 (length ts) l) (le-ltb 4000 (heights ts) h)
+fits_from : (ts : List SyntaxTree) → length ts ≤ MAX_HEIGHT → heights ts ≤ MAX_HEIGHT → too_deep ts ≡ false
+fits_from ts l h = or_from (nat_lt MAX_HEIGHT (length ts)) (nat_lt MAX_HEIGHT (heights ts)) (le-ltb MAX_HEIGHT (length ts) l) (le-ltb MAX_HEIGHT (heights ts) h)
 
-pub deep_pairs : (ts : List SyntaxTree) → 4000 < length ts → too_deep ts ≡ true
-deep_pairs ts l = or_left (nat_lt 4000 (length ts)) (nat_lt 4000 (heights ts)) (lt-ltb 4000 (length ts) l)
+pub deep_pairs : (ts : List SyntaxTree) → MAX_HEIGHT < length ts → too_deep ts ≡ true
+deep_pairs ts l = or_left (nat_lt MAX_HEIGHT (length ts)) (nat_lt MAX_HEIGHT (heights ts)) (lt-ltb MAX_HEIGHT (length ts) l)
 
-deep_heights : (ts : List SyntaxTree) → 4000 < heights ts → too_deep ts ≡ true
-deep_heights ts h = or_right (nat_lt 4000 (length ts)) (nat_lt 4000 (heights ts)) (lt-ltb 4000 (heights ts) h)
+deep_heights : (ts : List SyntaxTree) → MAX_HEIGHT < heights ts → too_deep ts ≡ true
+deep_heights ts h = or_right (nat_lt MAX_HEIGHT (length ts)) (nat_lt MAX_HEIGHT (heights ts)) (lt-ltb MAX_HEIGHT (heights ts) h)
 
 heights_take : (n : ℕ) (ts : List SyntaxTree) → heights (take n ts) ≤ heights ts
 heights_take zero [] = omega arith
@@ -45,16 +30,16 @@ heights_take (suc n) [] = omega arith
 heights_take zero (x ∷ ts) = omega arith
 heights_take (suc n) (x ∷ ts) = omega (arith, heights_take n ts)
 
-below_limit : (ts : List SyntaxTree) → All (λ t. height_of t < 4000) ts → heights ts < 4000
+below_limit : (ts : List SyntaxTree) → All (λ t. height_of t < MAX_HEIGHT) ts → heights ts < MAX_HEIGHT
 below_limit [] h = omega arith
-below_limit (x ∷ ts) h = let first = All-head (λ t. height_of t < 4000) x ts h in let rest = below_limit ts (All-tail (λ t. height_of t < 4000) x ts h) in omega arith
+below_limit (x ∷ ts) h = let first = All-head (λ t. height_of t < MAX_HEIGHT) x ts h in let rest = below_limit ts (All-tail (λ t. height_of t < MAX_HEIGHT) x ts h) in omega arith
 
-all_below : (ts : List SyntaxTree) → heights ts < 4000 → All (λ t. height_of t < 4000) ts
-all_below [] h = All-nil (λ t. height_of t < 4000)
-all_below (x ∷ ts) h = All-cons (λ t. height_of t < 4000) x ts (omega arith) (all_below ts (omega arith))
+all_below : (ts : List SyntaxTree) → heights ts < MAX_HEIGHT → All (λ t. height_of t < MAX_HEIGHT) ts
+all_below [] h = All-nil (λ t. height_of t < MAX_HEIGHT)
+all_below (x ∷ ts) h = All-cons (λ t. height_of t < MAX_HEIGHT) x ts (omega arith) (all_below ts (omega arith))
 
 -- a leaf more
-pub shift_fits : (ts : List SyntaxTree) (z : ℕ) → too_deep ts ≡ false → length ts < 4000 → too_deep (ts ++ Leaf z ∷ []) ≡ false
+pub shift_fits : (ts : List SyntaxTree) (z : ℕ) → too_deep ts ≡ false → length ts < MAX_HEIGHT → too_deep (ts ++ Leaf z ∷ []) ≡ false
 shift_fits ts z e lt =
     let l = length-append ts (Leaf z ∷ []) in
     let a = heights_append ts (Leaf z ∷ []) in
@@ -69,7 +54,7 @@ module _ (ts : List SyntaxTree) (n p : ℕ) (le : n ≤ length ts) where
   pairs : length after_node ≡ n + 1
   pairs = let l = length-append (take n ts) (Node p (forest_of (drop n ts)) ∷ []) in let k = length-take n ts in omega arith
 
-  pub reduce_fits : too_deep ts ≡ false → n < 4000 → All (λ t. height_of t < 4000) (drop n ts) → too_deep after_node ≡ false
+  pub reduce_fits : too_deep ts ≡ false → n < MAX_HEIGHT → All (λ t. height_of t < MAX_HEIGHT) (drop n ts) → too_deep after_node ≡ false
   reduce_fits e lt all =
       let l = pairs in
       let a = heights_append (take n ts) (Node p (forest_of (drop n ts)) ∷ []) in
@@ -78,13 +63,13 @@ module _ (ts : List SyntaxTree) (n p : ℕ) (le : n ≤ length ts) where
       let b = below_limit (drop n ts) all in
       fits_from after_node (omega arith) (omega arith)
 
-  pub reduce_many : 4000 ≤ n → too_deep after_node ≡ true
+  pub reduce_many : MAX_HEIGHT ≤ n → too_deep after_node ≡ true
   reduce_many le' = let l = pairs in deep_pairs after_node (omega arith)
 
-  pub reduce_high : (All (λ t. height_of t < 4000) (drop n ts) → ⊥) → too_deep after_node ≡ true
+  pub reduce_high : (All (λ t. height_of t < MAX_HEIGHT) (drop n ts) → ⊥) → too_deep after_node ≡ true
   reduce_high none =
       let a = heights_append (take n ts) (Node p (forest_of (drop n ts)) ∷ []) in
-      elim (cases_lt (heights (drop n ts)) 4000) [
+      elim (cases_lt (heights (drop n ts)) MAX_HEIGHT) [
         | inl low ↦ absurd (none (all_below (drop n ts) low))
         | inr high ↦ deep_heights after_node (omega arith)
       ]

@@ -1,4 +1,5 @@
 pub mod Accepted
+pub mod Asking
 pub mod Cut
 pub mod Depth
 pub mod Ending

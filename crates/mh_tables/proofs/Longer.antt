@@ -48,7 +48,7 @@ same_step t v stack read left h =
     ∙ by_longer t v stack read left m (λ j e s. no_shift_at_end t (top_of stack) j (subst (λ (l : List ℕ). move_of t (top_of stack) l ≡ Shifts j) e s))
     ∙ ap (step_longer v) (sym (step_moves t (record { stack = stack; read = read; left = left }) m refl))
 
-next_longer : (v : List ℕ) (c : Config) (s : Step) → next_of (longer v c) (step_longer v s) ≡ longer v (next_of c s)
+pub next_longer : (v : List ℕ) (c : Config) (s : Step) → next_of (longer v c) (step_longer v s) ≡ longer v (next_of c s)
 next_longer v c (Goes n) = refl
 next_longer v c (Ends how) = refl
 next_longer v c Stuck = refl

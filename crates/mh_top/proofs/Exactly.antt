@@ -6,8 +6,8 @@ use Rattle.std.proofs.lemmas.Option.{slice_get_within, slice_get-get_or}
 use Rattle.mh_grammar.specs.declared.types.Grammar.{Grammar}
 use Rattle.mh_grammar.specs.declared.types.Sentence.{Sentence}
 use Rattle.mh_grammar.specs.Plain.{PlainGrammar, plain_of, start_symbol, IsInRange, BeginsSentence}
-use Rattle.mh_items.specs.declared.kernels.Automaton.{Automaton}
-use Rattle.mh_items.specs.declared.kernels.Kernel.{Kernel}
+use Rattle.mh_items.specs.Shapes.{Automaton}
+use Rattle.mh_items.specs.Shapes.{Kernel}
 use Rattle.mh_items.specs.Automaton.{IsAutomaton, kernel_at}
 use Rattle.mh_canon.specs.Canonical.{IsCanonical}
 use Rattle.mh_canon.specs.Moves.{IsState, AreStates}
@@ -23,11 +23,11 @@ use Rattle.mh_tables.specs.Facts.{Facts}
 use Rattle.mh_tables.specs.Run.{Ending as Ended, Accepted, Overshot, Rejected, VerdictOf, initial}
 use Rattle.mh_tables.proofs.Cut.{verdict_cut}
 use Rattle.mh_tables.proofs.Ending.{one_ending}
-use Rattle.mh_run.specs.Exactness.{IsPrefixSentence, AllProductive}
+use Rattle.mh_exact.specs.Exactness.{IsPrefixSentence, AllProductive}
 use Rattle.mh_tables.specs.TreeRuns.{IsTreeOfRead, IsTooDeep, TreeEnding, AcceptedTree, OvershotTree, RejectedTree, DeepTree, IsTreeEnding}
 use Rattle.mh_tree.specs.Trees.{SyntaxTree, IsTreeFor, text_of}
-use Rattle.mh_run.proofs.AcceptedSentence.{accepted_sentence}
-use Rattle.mh_run.proofs.Telling.{overshoots, tells_prefix, tells_refused}
+use Rattle.mh_exact.proofs.AcceptedSentence.{accepted_sentence}
+use Rattle.mh_exact.proofs.Telling.{overshoots, tells_prefix, tells_refused}
 use Rattle.mh_outside.specs.Shelf.{Files}
 use Rattle.mh_rules.specs.declared.modules.Module.{Module}
 use Rattle.mh_reader.specs.Spelling.{Spells}

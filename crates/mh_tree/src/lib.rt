@@ -1,8 +1,6 @@
 //! Shared syntax trees: their height, their tokens and their text.
 #![tactic(auto)]
 
-#[cfg(test)]
-mod tests;
 mod text;
 mod tokens;
 mod tree;

@@ -38,11 +38,12 @@ impl Model for Tree {
 
     ghost coded = { tree_code };
 
+    ghost use Rattle.mh_tree.specs.declared.tree.TheConstants.{MAX_HEIGHT};
     ghost use Rattle.mh_tree.specs.Shapes.{tree_of};
 
     ghost view = { λ t. tree_of t.shape.value };
 
-    ghost invariant = { λ t. (t.height ≡ height_of (tree_of t.shape.value)) × (t.height ≤ 4000) };
+    ghost invariant = { λ t. (t.height ≡ height_of (tree_of t.shape.value)) × (t.height ≤ MAX_HEIGHT) };
 
     ghost size = { height_of };
 
@@ -97,7 +98,7 @@ impl Tree {
     /// `MAX_HEIGHT`.
     pub fn height(&self) -> u32
         ensures value { result ≡ height_of self.now }
-        ensures bound { result ≤ 4000 }
+        ensures bound { result ≤ MAX_HEIGHT }
     {
         self.height
     }
@@ -125,7 +126,7 @@ pub fn leaf(alloc: Global, token: Token) -> Result<Tree, Memory>
 
 /// Whether a node may stand over these trees: none of them has the height `MAX_HEIGHT`.
 pub fn can_be_children(trees: &[Tree]) -> bool
-    ensures { IsTrue result ↔ All (λ t. height_of t < 4000) trees.now }
+    ensures { IsTrue result ↔ All (λ t. height_of t < MAX_HEIGHT) trees.now }
 {
     trees.iter().all(|tree| tree.height() < MAX_HEIGHT)
 }
@@ -133,7 +134,7 @@ pub fn can_be_children(trees: &[Tree]) -> bool
 /// The tree of a production over its children, one higher than the highest of them. Fails for want of memory alone; the
 /// children are dropped then.
 pub fn node(alloc: Global, production: u32, children: Vec<Tree>) -> Result<Tree, Memory>
-    requires { All (λ t. height_of t < 4000) children.items }
+    requires { All (λ t. height_of t < MAX_HEIGHT) children.items }
     ensures { IfOk result (λ t. t ≡ Node production (forest_of children.items)) }
 {
     let height = highest(children.as_slice()) + 1;
@@ -145,9 +146,9 @@ pub fn node(alloc: Global, production: u32, children: Vec<Tree>) -> Result<Tree,
 
 /// The height of the highest tree, and 0 where there is none.
 fn highest(trees: &[Tree]) -> u32
-    requires { All (λ t. height_of t < 4000) trees.now }
+    requires { All (λ t. height_of t < MAX_HEIGHT) trees.now }
     ensures value { result ≡ forest_height (forest_of trees.now) }
-    ensures bound { result < 4000 }
+    ensures bound { result < MAX_HEIGHT }
 {
     let mut highest = 0u32;
     for tree in trees {

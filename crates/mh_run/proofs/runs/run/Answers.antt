@@ -1,9 +1,10 @@
 use Rattle.std.proofs.Common.{◌≡◌, refl, arith, length}
 use Rattle.mh_tables.specs.Run.{Accepts, Asks, Refuses, Accepted, Overshot, Rejected, top_of}
 use Rattle.mh_tables.proofs.Reductions.{no_shift_at_end}
-use Rattle.mh_run.specs.Following.{RunsSo}
+use Rattle.mh_run.specs.code.Following.{RunsSo}
 use Rattle.mh_run.proofs.Along.{leads_fits}
-use Rattle.mh_run.proofs.Turns.{turn_ends, turn_shifts, turn_shifts_deep, turn_deep, last_ends, last_deep, top_read, no_ask, no_refusal_at_end}
+use Rattle.mh_tables.proofs.Asking.{no_ask, no_refusal_at_end}
+use Rattle.mh_run.proofs.Turns.{turn_ends, turn_shifts, turn_shifts_deep, turn_deep, last_ends, last_deep, top_read}
 use Rattle.mh_run.proofs.runs.run.Goals as goal
 
 pub returns-in-Err-clause-deep : goal.returns-in-Err-clause-deep

@@ -1,0 +1,9 @@
+pub mod AcceptedSentence
+pub mod Begun
+pub mod Clearly
+pub mod Complete
+pub mod Derived
+pub mod Exact
+pub mod Example
+pub mod Standing
+pub mod Telling

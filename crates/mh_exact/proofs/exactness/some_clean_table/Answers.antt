@@ -1,0 +1,7 @@
+use Rattle.mh_resolve.specs.declared.kinds.Mode.TheVariants.{Canonical}
+use Rattle.mh_exact.specs.Example.{one_grammar, one_automaton, one_table}
+use Rattle.mh_exact.proofs.Example.{meets}
+use Rattle.mh_exact.proofs.exactness.some_clean_table.Goals as goal
+
+pub returns : goal.returns
+returns c = (one_grammar, one_automaton, Canonical, one_table, meets)

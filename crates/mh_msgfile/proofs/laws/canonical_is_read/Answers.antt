@@ -1,0 +1,5 @@
+use Rattle.mh_msgfile.proofs.Canonical.{canonical_line}
+use Rattle.mh_msgfile.proofs.laws.canonical_is_read.Goals as goal
+
+pub returns : goal.returns
+returns c = canonical_line c.args.grammar.now

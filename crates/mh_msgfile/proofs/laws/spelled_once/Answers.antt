@@ -1,0 +1,14 @@
+use Rattle.mh_msgfile.proofs.Spelled.{spelled_once, fault_once, spelled_right, spelled_or_not}
+use Rattle.mh_msgfile.proofs.laws.spelled_once.Goals as goal
+
+pub returns-clause-file : goal.returns-clause-file
+returns-clause-file c = spelled_once c.args.grammar.now
+
+pub returns-clause-fault : goal.returns-clause-fault
+returns-clause-fault c = fault_once c.args.grammar.now
+
+pub returns-clause-either : goal.returns-clause-either
+returns-clause-either c = spelled_or_not c.args.grammar.now
+
+pub returns-clause-apart : goal.returns-clause-apart
+returns-clause-apart c = spelled_right c.args.grammar.now

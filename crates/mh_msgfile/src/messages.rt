@@ -1,0 +1,288 @@
+//! Messages files: blocks of sentence lines, and behind each the block that is its message.
+ghost use Rattle.std.specs.Prelude.{◌≡◌, ◌<◌, ◌≤◌, ◌^◌, ◌∷◌, ◌++◌, [], length, filter, Err, IfOk, OnOk};
+ghost use Rattle.mh_grammar.specs.Plain.{plain_of, IsInRange};
+ghost use Rattle.mh_msgfile.specs.Sentences.{vocabulary_in, LineFound, FirstPiece, blank_count, piece_size, ReadsSentence};
+ghost use Rattle.mh_msgfile.specs.Messages.{AreLines, line_at as line_text, is_taken_out as has_number_sign, is_kept, kept_lines as kept, is_blank_line as is_blank_number, blocks, first_number, message_of as message_text, AreOf, ReadsMessages, ReadsBlock, ReadsEntries, TellsLine};
+
+use crate::lexicon::Lexicon;
+use crate::pieces::is_blank;
+use crate::sentence::SentenceFault;
+use bstr::ByteSlice;
+use mh_grammar::{Grammar, Memory, Name, Sequence, Token, from_bytes};
+use std::alloc::{AllocError, AllocFailed, Global};
+use thiserror::Error;
+
+/// A sentence of a messages file.
+#[derive(Debug, Drop)]
+pub struct MsgSentence {
+    /// The number of its line; lines are counted from 1.
+    pub line: u32,
+    /// The number of its start among the starts.
+    pub start: u16,
+    pub tokens: Sequence<Token>,
+}
+
+/// Some sentences, and their message.
+#[derive(Debug, Drop)]
+pub struct Entry {
+    pub sentences: Sequence<MsgSentence>,
+    /// The bytes of the message: its lines, each with an LF behind it.
+    pub message: Sequence<u8>,
+}
+
+/// A messages file.
+#[derive(Debug, Drop)]
+pub struct MsgFile {
+    /// All lines, without the LF or CR LF that ends them; also those that begin with `#`.
+    pub lines: Sequence<Name>,
+    pub entries: Sequence<Entry>,
+}
+
+/// Why bytes are no messages file: the first fault in order of lines.
+#[derive(Debug, Drop, Error)]
+pub enum MsgFault {
+    /// This line is no sentence line, or it begins a last block of sentences, which has no message.
+    #[error("line {line} has the wrong form")]
+    Shape { line: u32 },
+    /// No start symbol has the name before the colon.
+    #[error("no start symbol of the name in line {line}")]
+    UnknownStart { line: u32, name: Name },
+    /// The line names no start, and the grammar has none or several.
+    #[error("no start is named in line {line}")]
+    MissingStart { line: u32 },
+    /// No token has this name, the first such of the line.
+    #[error("no token of a name in line {line}")]
+    UnknownToken { line: u32, name: Name },
+    /// Memory ran out.
+    #[error("out of memory")]
+    Memory,
+}
+
+impl From<Memory> for MsgFault {
+    fn from(_: Memory) -> Self {
+        MsgFault::Memory
+    }
+}
+
+/// The lines of a file.
+fn split_lines(alloc: Global, bytes: &[u8]) -> Result<Sequence<Name>, Memory>
+    ensures lines { IfOk result (AreLines bytes.now) }
+    ensures few { IfOk result (λ lines. length lines ≤ length bytes.now) }
+{
+    let mut lines = Sequence::new(alloc);
+    for line in bytes.lines() {
+        lines.push(from_bytes(alloc, line)?)?;
+    }
+    Ok(lines)
+}
+
+/// The line of a number.
+fn line_at(lines: &[Name], number: u32) -> &[u8]
+    ensures { result.now ≡ line_text lines.now number }
+{
+    match lines.get((number as usize).saturating_sub(1)) {
+        Some(line) => line.as_slice(),
+        None => b"",
+    }
+}
+
+/// Whether the first byte is `#`.
+fn is_taken_out(line: &[u8]) -> bool
+    ensures { result ≡ has_number_sign line.now }
+{
+    match line.first() {
+        Some(first) => *first == b'#',
+        None => false,
+    }
+}
+
+/// Puts in the number of a line, if it is not taken out.
+fn put_kept(numbers: &mut Vec<u32>, lines: &[Name], number: u32) -> Result<(), Memory>
+    ensures { OnOk result (numbers.new.items ≡ numbers.old.items ++ filter (is_kept lines.now) (number ∷ [])) }
+{
+    if !is_taken_out(line_at(lines, number)) {
+        numbers.push(number)?;
+    }
+    Ok(())
+}
+
+/// The numbers of the lines that are not taken out.
+fn kept_lines(alloc: Global, lines: &[Name]) -> Result<Vec<u32>, Memory>
+    requires { length lines.now < 2 ^ 31 }
+    ensures { IfOk result (λ numbers. numbers.items ≡ kept lines.now) }
+{
+    let mut numbers = Vec::new(alloc);
+    for place in 0..lines.len() {
+        put_kept(&mut numbers, lines, place as u32 + 1)?;
+    }
+    Ok(numbers)
+}
+
+/// Whether nothing but blanks stands in the line of this number.
+fn is_blank_line(lines: &[Name], number: u32) -> bool
+    ensures { result ≡ is_blank_number lines.now number }
+{
+    line_at(lines, number).iter().all(|byte| is_blank(*byte))
+}
+
+/// How many lines in front are blank.
+fn count_blank_lines(lines: &[Name], numbers: &[u32]) -> usize
+    ensures value { result ≡ blank_count (is_blank_number lines.now) numbers.now }
+    ensures within { result ≤ length numbers.now }
+{
+    let mut count = 0usize;
+    for number in numbers {
+        if !is_blank_line(lines, *number) {
+            return count;
+        }
+        count += 1;
+    }
+    count
+}
+
+/// How many lines stand before the first blank one.
+fn size_of_block(lines: &[Name], numbers: &[u32]) -> usize
+    ensures value { result ≡ piece_size (is_blank_number lines.now) numbers.now }
+    ensures within { result ≤ length numbers.now }
+{
+    let mut count = 0usize;
+    for number in numbers {
+        if is_blank_line(lines, *number) {
+            return count;
+        }
+        count += 1;
+    }
+    count
+}
+
+/// The first block, with what stands behind it.
+fn first_block<'a>(lines: &[Name], numbers: &'a [u32]) -> Option<(&'a [u32], &'a [u32])>
+    ensures { FirstPiece (is_blank_number lines.now) numbers.now result }
+{
+    let (_, block) = numbers.split_at(count_blank_lines(lines, numbers));
+    match size_of_block(lines, block) {
+        0 => None,
+        size => Some(block.split_at(size)),
+    }
+}
+
+/// The message of a block.
+fn message_of(alloc: Global, lines: &[Name], block: &[u32]) -> Result<Sequence<u8>, Memory>
+    ensures { IfOk result (λ message. message ≡ message_text lines.now block.now) }
+{
+    let mut message = Vec::new(alloc);
+    for number in block {
+        message.extend_from_slice(line_at(lines, *number))?;
+        message.push(b'\n')?;
+    }
+    Ok(Sequence::from_vec(message))
+}
+
+/// The fault of a line that is no sentence.
+fn fault_of_line(line: u32, fault: SentenceFault) -> MsgFault
+    ensures { (found : LineFound) → ReadsSentence found (Err fault) → TellsLine line found result }
+{
+    match fault {
+        SentenceFault::Unreadable => MsgFault::Shape { line },
+        SentenceFault::UnknownStart { name } => MsgFault::UnknownStart { line, name },
+        SentenceFault::MissingStart => MsgFault::MissingStart { line },
+        SentenceFault::UnknownToken { name } => MsgFault::UnknownToken { line, name },
+        SentenceFault::Memory => MsgFault::Memory,
+    }
+}
+
+/// The sentences of a block.
+fn read_block(
+    alloc: Global,
+    lexicon: &Lexicon,
+    lines: &[Name],
+    block: &[u32],
+) -> Result<Sequence<MsgSentence>, MsgFault>
+    ensures { ReadsBlock (vocabulary_in lexicon.now) lines.now block.now result }
+{
+    let mut sentences = Sequence::new(alloc);
+    for line in block {
+        match lexicon.read(alloc, line_at(lines, *line)) {
+            Ok(sentence) => {
+                let sentence = MsgSentence {
+                    line: *line,
+                    start: sentence.start,
+                    tokens: sentence.tokens,
+                };
+                if sentences.push(sentence).is_err() {
+                    return Err(MsgFault::Memory);
+                }
+            }
+            Err(fault) => return Err(fault_of_line(*line, fault)),
+        }
+    }
+    Ok(sentences)
+}
+
+/// The number of a block's first line.
+fn first_line(block: &[u32]) -> u32
+    ensures { result ≡ first_number block.now }
+{
+    match block.first() {
+        Some(number) => *number,
+        None => 0,
+    }
+}
+
+/// The entries of these lines.
+fn read_entries(
+    alloc: Global,
+    lexicon: &Lexicon,
+    lines: &[Name],
+) -> Result<Sequence<Entry>, MsgFault>
+    requires { length lines.now < 2 ^ 31 }
+    ensures { ReadsEntries (vocabulary_in lexicon.now) lines.now (blocks lines.now) result }
+{
+    let kept = match kept_lines(alloc, lines) {
+        Ok(kept) => kept,
+        Err(Memory) => return Err(MsgFault::Memory),
+    };
+    let mut entries = Sequence::new(alloc);
+    let mut rest = kept.as_slice();
+    while let Some((block, behind)) = first_block(lines, rest) {
+        let sentences = match read_block(alloc, lexicon, lines, block) {
+            Ok(sentences) => sentences,
+            Err(fault) => return Err(fault),
+        };
+        let Some((message, behind)) = first_block(lines, behind) else {
+            return Err(MsgFault::Shape {
+                line: first_line(block),
+            });
+        };
+        let message = match message_of(alloc, lines, message) {
+            Ok(message) => message,
+            Err(Memory) => return Err(MsgFault::Memory),
+        };
+        if entries.push(Entry { sentences, message }).is_err() {
+            return Err(MsgFault::Memory);
+        }
+        rest = behind;
+    }
+    Ok(entries)
+}
+
+/// The messages file that the bytes spell. Lines that begin with `#` are taken out; runs of lines that are not blank then
+/// take turns as sentence lines, read as `read_sentence` has them, and as the message of those sentences. The first fault in
+/// order of lines is answered, and last that the number of blocks is odd. `Memory` only where there was none.
+pub fn read_messages(alloc: Global, bytes: &[u8], grammar: &Grammar) -> Result<MsgFile, MsgFault>
+    requires range { IsInRange (plain_of grammar.now) }
+    requires size { length bytes.now < 2 ^ 31 }
+    ensures file { ReadsMessages grammar.now bytes.now result }
+    ensures known { IfOk result (AreOf (length grammar.now.starts) (length grammar.now.tokens)) }
+{
+    let Ok(lexicon) = Lexicon::new(alloc, grammar) else {
+        return Err(MsgFault::Memory);
+    };
+    let Ok(lines) = split_lines(alloc, bytes) else {
+        return Err(MsgFault::Memory);
+    };
+    match read_entries(alloc, &lexicon, lines.as_slice()) {
+        Ok(entries) => Ok(MsgFile { lines, entries }),
+        Err(fault) => Err(fault),
+    }
+}

@@ -1,0 +1,12 @@
+use Rattle.std.proofs.Common.{refl}
+use Rattle.mh_sets.proofs.Places.{set_bits, each_set, or_fits, fresh_is}
+use Rattle.mh_sets.proofs.bits.set_bit.Goals as goal
+
+pub returns-clause-each : goal.returns-clause-each
+returns-clause-each c = each_set c.args.words.now c.args.a _ c.requires.within c.requires.each (or_fits c.args.words.now c.args.a c.requires.within c.requires.each)
+
+pub returns-clause-bits : goal.returns-clause-bits
+returns-clause-bits c = set_bits c.args.words.now c.args.a _ c.requires.within refl
+
+pub returns-clause-fresh : goal.returns-clause-fresh
+returns-clause-fresh c = fresh_is c.args.words.now c.args.a
