@@ -60,6 +60,22 @@ fn join_named(
     }
 }
 
+/// Joins files with this prelude.
+fn join_with(
+    alloc: Global,
+    modules: &[Module],
+    prelude: bool,
+    library: &[Rule],
+) -> Result<Joined, JoinFault>
+    requires { library.now ≡ spec.prelude_rules prelude }
+    ensures { Joins prelude modules.now result }
+{
+    match Names::of(alloc, modules, prelude, library) {
+        Ok(names) => join_named(alloc, &names, modules, prelude, library),
+        Err(_) => Err(JoinFault::Memory),
+    }
+}
+
 /// Joins the files of a grammar. Tokens of all files are shared and numbered in order of first declaration. A rule is
 /// public where it is marked so, or its name is a start symbol of any file, or another definition of its name in the
 /// file is public; public definitions of one name are joined, and other rules are their file's own. A name in a file
@@ -75,11 +91,8 @@ pub fn join(alloc: Global, modules: &[Module], prelude: bool) -> Result<Joined, 
     ensures joins { Joins prelude modules.now result }
     ensures ready { AreModulesReady modules.now → IfOk result IsReady }
 {
-    let Ok(library) = prelude_rules(alloc, prelude) else {
-        return Err(JoinFault::Memory);
-    };
-    let Ok(names) = Names::of(alloc, modules, prelude, library.as_slice()) else {
-        return Err(JoinFault::Memory);
-    };
-    join_named(alloc, &names, modules, prelude, library.as_slice())
+    match prelude_rules(alloc, prelude) {
+        Ok(library) => join_with(alloc, modules, prelude, library.as_slice()),
+        Err(_) => Err(JoinFault::Memory),
+    }
 }
