@@ -1,5 +1,5 @@
 //! What the names and strings of several files stand for.
-ghost use Rattle.std.specs.Prelude.{◌≡◌, ◌≤◌, is_some, length, IfOk};
+ghost use Rattle.std.specs.Prelude.{◌≡◌, ◌≤◌, is_some, length, IfOk, OnOk};
 ghost use Rattle.mh_join.specs.Names as spec;
 ghost use Rattle.mh_join.specs.Names.{user_head, visible_head};
 ghost use Rattle.mh_join.specs.Faults.{meant_by};
@@ -13,7 +13,7 @@ use crate::kinds::{Kinds, kinds_of};
 use crate::levels::{Levels, levels_of};
 use crate::numbering::Numbering;
 use crate::tokens::{start_names, token_names};
-use indexmap::IndexSet;
+use indexmap::{IndexMap, IndexSet};
 use mh_grammar::{Memory, Name, Token};
 use mh_rules::{Head, MAX_TOKENS, Module, Ref, Rule};
 use std::alloc::Global;
@@ -31,6 +31,49 @@ pub(crate) struct Names {
 }
 
 impl Names {
+    /// Names that stand for nothing.
+    fn none(alloc: Global) -> Result<Names, Memory> {
+        let numbering = Numbering::new(alloc, 0)?;
+        Ok(Names {
+            tokens: IndexSet::new(alloc),
+            starts: IndexSet::new(alloc),
+            aliases: IndexMap::new(alloc),
+            levels: IndexMap::new(alloc),
+            kinds: IndexMap::new(alloc),
+            definers: IndexMap::new(alloc),
+            numbering,
+        })
+    }
+
+    /// Puts in what the names of these files stand for, with this prelude. (One map at a time: what is owned at each way out
+    /// is proved to be let go.)
+    fn fill(
+        &mut self,
+        alloc: Global,
+        files: &[Module],
+        prelude: bool,
+        library: &[Rule],
+    ) -> Result<(), Memory>
+        requires { library.now ≡ prelude_rules prelude }
+        ensures { OnOk result (HasMeanings prelude files.now self.new) }
+    {
+        let tokens = token_names(alloc, files)?;
+        self.tokens = tokens;
+        let starts = start_names(alloc, files)?;
+        self.starts = starts;
+        let aliases = aliases_of(alloc, files)?;
+        self.aliases = aliases;
+        let levels = levels_of(alloc, &self.aliases, files)?;
+        self.levels = levels;
+        let kinds = kinds_of(alloc, files)?;
+        self.kinds = kinds;
+        let definers = definers_of(alloc, files)?;
+        self.definers = definers;
+        let numbering = Numbering::of(alloc, &self.starts, files, library)?;
+        self.numbering = numbering;
+        Ok(())
+    }
+
     /// What the names of these files stand for, with this prelude.
     pub(crate) fn of(
         alloc: Global,
@@ -41,22 +84,9 @@ impl Names {
         requires { library.now ≡ prelude_rules prelude }
         ensures { IfOk result (HasMeanings prelude files.now) }
     {
-        let tokens = token_names(alloc, files)?;
-        let starts = start_names(alloc, files)?;
-        let aliases = aliases_of(alloc, files)?;
-        let levels = levels_of(alloc, &aliases, files)?;
-        let kinds = kinds_of(alloc, files)?;
-        let definers = definers_of(alloc, files)?;
-        let numbering = Numbering::of(alloc, &starts, files, library)?;
-        Ok(Names {
-            tokens,
-            starts,
-            aliases,
-            levels,
-            kinds,
-            definers,
-            numbering,
-        })
+        let mut names = Names::none(alloc)?;
+        names.fill(alloc, files, prelude, library)?;
+        Ok(names)
     }
 
     /// Whether a name or string of a file stands for something, in a rule with these formals.

@@ -93,7 +93,7 @@ fn empty_maps(alloc: Global, count: usize) -> Result<Vec<IndexMap<Name, u64>>, M
 
 impl Numbering {
     /// No rules yet, and room for those of so many files beside the prelude.
-    fn new(alloc: Global, files: usize) -> Result<Numbering, Memory>
+    pub(crate) fn new(alloc: Global, files: usize) -> Result<Numbering, Memory>
         ensures numbered { IfOk result IsNumbered }
         ensures none { IfOk result (λ n. n.rules.items ≡ []) }
         ensures owners { IfOk result (λ n. length n.own.items ≡ files + 1) }
