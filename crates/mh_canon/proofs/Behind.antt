@@ -15,9 +15,9 @@ use Rattle.std.specs.BTreeSet.{BTreeSet, IsOrdered, insert_key}
 use Rattle.std.specs.List.Sorted.{IsStrictlySortedBy}
 use Rattle.std.proofs.lemmas.Map.Views.{All-after_first}
 use Rattle.std.proofs.lemmas.List.Elements.{All-weaker, recursion_from_All, Contains-append_cases, Contains-append_left, Contains-append_right}
-use Rattle.mh_items.specs.declared.kernels.KernelItem.{KernelItem}
+use Rattle.mh_items.specs.Shapes.{KernelItem}
 use Rattle.mh_canon.specs.Moves.{IsBehindDot}
-use Rattle.mh_canon.proofs.Rising.{contains_here, contains_there, contains_cases, contains_none}
+use Rattle.mh_grammar.proofs.Lists.{contains_here, contains_there, contains_cases, contains_none}
 
 symbol_less : (x y : Symbol) → order.cmp-value.it x y ≡ Less → IsSymbolBefore x y
 symbol_less (T a) (T b) e = let z : nat_cmp a b ≡ Less = e in grind (arith, nat_tests)

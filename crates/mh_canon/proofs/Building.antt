@@ -15,14 +15,14 @@ use Rattle.mh_grammar.specs.ItemSets.{AreSame, Close}
 use Rattle.mh_grammar.specs.Numbering.{InOrder}
 use Rattle.mh_grammar.specs.Placed.{Placed}
 use Rattle.mh_grammar.proofs.Placing.{contains_at, get_cases, get_left, get_last, AllPlaced-kept, AllPlaced-grows, AllPlaced-order, InOrder-append}
-use Rattle.mh_items.specs.declared.kernels.Kernel.{Kernel}
-use Rattle.mh_items.specs.declared.kernels.KernelItem.{KernelItem}
+use Rattle.mh_items.specs.Shapes.{Kernel}
+use Rattle.mh_items.specs.Shapes.{KernelItem}
 use Rattle.mh_items.specs.Kernels.{Holds, IsKernel}
 use Rattle.mh_items.specs.Automaton.{start_kernel}
 use Rattle.mh_canon.specs.Canonical.{targets_of}
 use Rattle.mh_canon.specs.Moves.{IsBehindDot, IsState, AreStates, AreStarts, IsSource, AreEdges}
 use Rattle.mh_canon.proofs.Edging.{IsRow, IsRow-kept, IsRow-new}
-use Rattle.mh_canon.proofs.Rising.{contains_here}
+use Rattle.mh_grammar.proofs.Lists.{contains_here}
 use Rattle.mh_canon.proofs.Sets.{start_holds}
 use Rattle.mh_canon.proofs.States.{IsSource-close, AreStates-edges}
 

@@ -12,11 +12,11 @@ use Rattle.mh_grammar.specs.ItemSets as items
 use Rattle.mh_grammar.specs.ItemSets.{ItemSet, AreSame, Close, Moved}
 use Rattle.mh_grammar.specs.Numbering.{Names}
 use Rattle.mh_grammar.proofs.Placing.{AllPlaced-names}
-use Rattle.mh_items.specs.declared.kernels.Kernel.{Kernel}
+use Rattle.mh_items.specs.Shapes.{Kernel}
 use Rattle.mh_items.specs.Kernels.{Holds}
 use Rattle.mh_canon.specs.Canonical.{HasItem, targets_of}
 use Rattle.mh_canon.specs.Moves.{IsBehindDot, IsMove, AreEdges}
-use Rattle.mh_canon.proofs.Rising.{contains_cases, contains_none}
+use Rattle.mh_grammar.proofs.Lists.{contains_cases, contains_none}
 use Rattle.mh_canon.proofs.Sets.{same_trans, same_sym, has_same, moved_same, get_from_drop}
 
 pub symbol_true : (a b : Symbol) → same_symbol a b ≡ true → a ≡ b

@@ -8,8 +8,8 @@ use Rattle.mh_grammar.specs.declared.types.Symbol.{Symbol}
 use Rattle.mh_grammar.specs.Plain.{PlainGrammar}
 use Rattle.mh_grammar.specs.Edges.{find_edge}
 use Rattle.mh_grammar.specs.ItemSets.{AreSame, Close, StartItems, Reach}
-use Rattle.mh_items.specs.declared.kernels.Kernel.{Kernel}
-use Rattle.mh_items.specs.declared.kernels.Automaton.{Automaton}
+use Rattle.mh_items.specs.Shapes.{Kernel}
+use Rattle.mh_items.specs.Shapes.{Automaton}
 use Rattle.mh_items.specs.Kernels.{HasPlace}
 use Rattle.mh_items.specs.Automaton.{no_kernel, kernel_at, kernel_of, edges_at, leads_to, move_of, start_kernel, Moves}
 use Rattle.mh_canon.specs.Canonical.{HasItem, IsCanonical}
@@ -17,7 +17,7 @@ use Rattle.mh_canon.specs.Moves.{IsState}
 use Rattle.mh_canon.proofs.Building.{Building}
 use Rattle.mh_canon.proofs.Edging.{IsRow}
 use Rattle.mh_items.proofs.OneList.{kernel_same}
-use Rattle.mh_canon.proofs.Rising.{contains_none}
+use Rattle.mh_grammar.proofs.Lists.{contains_none}
 use Rattle.mh_canon.proofs.Sets.{same_sym, same_trans, has_same, moved_same, close_same, reach_has, start_holds}
 
 pub kernel_get : (a : Automaton) (s : ℕ) → s < length a.kernels → slice_get a.kernels s ≡ Some (kernel_at a s)

@@ -13,8 +13,8 @@ use Rattle.mh_grammar.specs.ItemSets.{ItemSet, AreSame, Close, Moved, StartItems
 use Rattle.mh_grammar.specs.Numbering.{AreDistinct}
 use Rattle.mh_grammar.proofs.Placing.{contains_at, at_contains}
 use Rattle.mh_grammar.proofs.Pigeon.{length-distinct_in}
-use Rattle.mh_items.specs.declared.kernels.Kernel.{Kernel}
-use Rattle.mh_items.specs.declared.kernels.Automaton.{Automaton}
+use Rattle.mh_items.specs.Shapes.{Kernel}
+use Rattle.mh_items.specs.Shapes.{Automaton}
 use Rattle.mh_items.specs.Kernels.{Holds}
 use Rattle.mh_items.specs.Automaton.{kernel_at, kernel_of, start_kernel, IsAutomaton}
 use Rattle.mh_canon.specs.declared.collection.TheConstants.{MAX_STATES}

@@ -14,15 +14,15 @@ use Rattle.mh_grammar.specs.Numbering as numbering
 use Rattle.mh_grammar.specs.Numbering.{Reached, AreDistinct, InOrder, Names, IsRowOf, IsNumbering}
 use Rattle.mh_grammar.proofs.Placing.{contains_at, at_contains}
 use Rattle.mh_grammar.proofs.OneNumbering.{one_numbering, same_places, take_place}
-use Rattle.mh_items.specs.declared.kernels.Kernel.{Kernel}
-use Rattle.mh_items.specs.declared.kernels.Automaton.{Automaton}
+use Rattle.mh_items.specs.Shapes.{Kernel}
+use Rattle.mh_items.specs.Shapes.{Automaton}
 use Rattle.mh_items.specs.Kernels.{Holds, IsKernel}
 use Rattle.mh_items.specs.Automaton.{kernel_at, kernel_of, edges_at, leads_to, move_of}
 use Rattle.mh_canon.specs.Canonical.{HasItem, IsCanonical, targets_of}
 use Rattle.mh_canon.proofs.Edging.{symbol_true, symbol_itself, found_edge}
 use Rattle.mh_canon.proofs.Finished.{kernel_get, kernel_got, edges_get}
 use Rattle.mh_items.proofs.OneList.{kernel_same}
-use Rattle.mh_canon.proofs.Rising.{contains_here, contains_there, contains_cases, contains_none, below_all, rising_same}
+use Rattle.mh_grammar.proofs.Lists.{contains_here, contains_there, contains_cases, contains_none, recursion_contains, rising_same}
 use Rattle.mh_canon.proofs.Sets.{same_sym, same_trans, has_same, moved_same, close_same, reach_has}
 
 symbols_of : List Edge → List Symbol
@@ -55,7 +55,7 @@ own_edge (f ∷ row) r e c = go (same_symbol f.symbol e.symbol) refl (own_edge r
     go : (b : Bool) → same_symbol f.symbol e.symbol ≡ b → (Contains row e → find_edge row e.symbol ≡ Some e.target) → (if b then Some f.target else find_edge row e.symbol) ≡ Some e.target
     go true s rest = elim (contains_cases f row e c) [
       | inl same ↦ ap (λ (x : Edge). Some x.target) same
-      | inr d ↦ absurd (symbol_apart f.symbol e.symbol (below_all (IsEdgeBefore f) row e r.0 d) (symbol_true f.symbol e.symbol s))
+      | inr d ↦ absurd (symbol_apart f.symbol e.symbol (recursion_contains (IsEdgeBefore f) row r.0 e d) (symbol_true f.symbol e.symbol s))
     ]
     go false s rest = elim (contains_cases f row e c) [
       | inl same ↦ absurd (let t = symbol_itself f.symbol e.symbol (ap (λ (x : Edge). x.symbol) same) in let u : true ≡ false = sym t ∙ s in cc)

@@ -7,12 +7,12 @@ use Rattle.mh_grammar.specs.declared.types.Look.TheVariants.{End}
 use Rattle.mh_grammar.specs.Plain.{PlainGrammar}
 use Rattle.mh_grammar.specs.ItemSets as items
 use Rattle.mh_grammar.specs.ItemSets.{ItemSet, AreSame, Close, Moved, StartItems, Reach}
-use Rattle.mh_items.specs.declared.kernels.Kernel.{Kernel}
-use Rattle.mh_items.specs.declared.kernels.KernelItem.{KernelItem}
+use Rattle.mh_items.specs.Shapes.{Kernel}
+use Rattle.mh_items.specs.Shapes.{KernelItem}
 use Rattle.mh_items.specs.Kernels.{Holds, HasPlace, IsKernelItem, IsKernel}
 use Rattle.mh_items.specs.Automaton.{start_kernel}
 use Rattle.mh_canon.specs.Canonical.{HasItem}
-use Rattle.mh_canon.proofs.Rising.{contains_here, contains_cases, contains_none, below_all}
+use Rattle.mh_grammar.proofs.Lists.{contains_here, contains_cases, contains_none, recursion_contains}
 
 first_look : (looks : List Look) → 0 < length looks → (a : Look) × Contains looks a
 first_look [] l = absurd (omega arith)
@@ -77,7 +77,7 @@ start_holds i p d a = (to, back p d a)
 -- a place of a kernel stands with a look
 pub place_holds : (g : PlainGrammar) (k : Kernel) → IsKernel g k → (p d : ℕ) → HasPlace k p d → (a : Look) × Holds k p d a
 place_holds g k of_k p d h =
-    let look = first_look h.0.looks (below_all (IsKernelItem g) k.items h.0 of_k.items h.1).some in
+    let look = first_look h.0.looks (recursion_contains (IsKernelItem g) k.items of_k.items h.0 h.1).some in
     (look.0, (h.0, h.1, h.2, h.3, look.1))
 
 -- the symbol at a place of a list, in two forms

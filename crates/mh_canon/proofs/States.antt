@@ -11,7 +11,7 @@ use Rattle.mh_grammar.specs.ItemSets as items
 use Rattle.mh_grammar.specs.ItemSets.{ItemSet, AreSame, Close, Moved, Reach}
 use Rattle.mh_grammar.specs.Placed.{Placed}
 use Rattle.mh_grammar.proofs.Placing.{AllPlaced-push, AllPlaced-each, AllPlaced-distinct}
-use Rattle.mh_items.specs.declared.kernels.Kernel.{Kernel}
+use Rattle.mh_items.specs.Shapes.{Kernel}
 use Rattle.mh_items.specs.Kernels.{Holds, IsKernel}
 use Rattle.mh_canon.specs.Canonical.{Walk, walk_of, IsWalk, IsOver, targets_of}
 use Rattle.mh_canon.specs.Moves.{IsBehindDot, IsState, AreStates, IsSource, IsMove, AreEdges}

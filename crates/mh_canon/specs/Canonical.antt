@@ -9,7 +9,7 @@ use Rattle.mh_grammar.specs.Plain.{PlainGrammar}
 use Rattle.mh_grammar.specs.Edges.{IsRising, IsEdgeBefore}
 use Rattle.mh_grammar.specs.ItemSets.{ItemSet, AreSame, StartItems, Reach}
 use Rattle.mh_grammar.specs.Numbering.{InOrder}
-use Rattle.mh_items.specs.declared.kernels.Automaton.{Automaton}
+use Rattle.mh_items.specs.Shapes.{Automaton}
 use Rattle.mh_items.specs.Kernels.{IsKernel}
 use Rattle.mh_items.specs.Automaton.{kernel_at, kernel_of, edges_at, leads_to, move_of, Moves}
 

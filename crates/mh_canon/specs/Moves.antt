@@ -7,7 +7,7 @@ use Rattle.mh_grammar.specs.Plain.{PlainGrammar, rhs_of}
 use Rattle.mh_grammar.specs.ItemSets.{AreSame, Close, Moved, Reach}
 use Rattle.mh_grammar.specs.Numbering.{AreDistinct}
 use Rattle.mh_grammar.specs.Placed.{AllPlaced}
-use Rattle.mh_items.specs.declared.kernels.Kernel.{Kernel}
+use Rattle.mh_items.specs.Shapes.{Kernel}
 use Rattle.mh_items.specs.Kernels.{Holds, HasPlace, IsKernel}
 use Rattle.mh_items.specs.Automaton.{start_kernel}
 use Rattle.mh_canon.specs.Canonical.{HasItem, IsReach, targets_of}

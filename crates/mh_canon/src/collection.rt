@@ -1,5 +1,5 @@
 //! The canonical collection.
-ghost use Rattle.std.specs.Prelude.{◌≡◌, ◌<◌, ◌≤◌, ℕ, length, Err, IfOk};
+ghost use Rattle.std.specs.Prelude.{◌≡◌, ◌<◌, ◌≤◌, ◌*◌, ℕ, length, Err, IfOk};
 ghost use Rattle.std.specs.List.{All};
 ghost use Rattle.mh_grammar.specs.Plain.{plain_of, IsInRange};
 ghost use Rattle.mh_grammar.specs.Placed.{Placed};
@@ -12,7 +12,7 @@ ghost use Rattle.mh_canon.specs.Moves.{IsState, IsSource, AreStarts, AreStates, 
 use crate::symbols::moving_symbols;
 use indexmap::IndexSet;
 use mh_grammar::{Edge, Grammar, Sequence, Symbol};
-use mh_items::{Automaton, Kernel, StatesFault, closure, firsts, moved, start_kernel};
+use mh_items::{Automaton, Closer, Kernel, StatesFault, moved, start_kernel};
 use std::alloc::{AllocError, AllocFailed, Global};
 
 /// The most states that an automaton may have.
@@ -21,19 +21,25 @@ pub const MAX_STATES: usize = 200_000;
 /// The canonical LR(1) automaton of a grammar (Knuth 1965): the start kernels in order, and then what breadth-first
 /// search finds, over tokens rising and then nonterminals rising. `TooManyStates` comes exactly where it has more
 /// than `MAX_STATES` states; `Memory` may come at any grammar.
-pub fn canonical(alloc: Global, grammar: &Grammar) -> Result<Automaton, StatesFault>
-    requires { IsInRange (plain_of grammar.now) }
+pub fn canonical<const W: usize>(
+    alloc: Global,
+    grammar: &Grammar,
+) -> Result<Automaton<W>, StatesFault>
+    requires few { W ≤ 8 }
+    requires width { length grammar.now.tokens ≤ 64 * W }
+    requires range { IsInRange (plain_of grammar.now) }
     ensures ok { IfOk result (IsCanonical (plain_of grammar.now)) }
     ensures few { IfOk result (λ a. length a.kernels ≤ MAX_STATES) }
     ensures exact { IfOk result (λ _. IsOver (plain_of grammar.now) MAX_STATES → ⊥) }
     ensures over { result ≡ Err StatesFault.TooManyStates → IsOver (plain_of grammar.now) MAX_STATES }
     ensures automaton { IfOk result (IsAutomaton (plain_of grammar.now)) }
 {
-    let firsts = firsts(alloc, grammar)?;
+    let mut closer = Closer::new(alloc, grammar)?;
     let mut kernels = start_kernels(alloc, grammar)?;
     let mut edges = Vec::new(alloc);
     'states: while edges.len() < kernels.len() {
-        let closed = closure(alloc, grammar, &firsts, &kernels.as_slice()[edges.len()])?;
+        let kernel = &kernels.as_slice()[edges.len()];
+        let closed = closer.close(alloc, grammar, kernel)?;
         let symbols = moving_symbols(alloc, grammar, &closed)?;
         match next_edges(alloc, grammar, &closed, symbols.as_slice(), &mut kernels) {
             Ok(row) => edges.push(row)?,
@@ -46,16 +52,24 @@ pub fn canonical(alloc: Global, grammar: &Grammar) -> Result<Automaton, StatesFa
     })
 }
 
-fn in_order(alloc: Global, kernels: IndexSet<Kernel>) -> Result<Sequence<Kernel>, AllocError>
-    ensures { IfOk result (λ list. list ≡ kernels.keys) }
+fn in_order<const W: usize>(
+    alloc: Global,
+    kernels: IndexSet<Kernel<W>>,
+) -> Result<Sequence<Kernel<W>>, AllocError>
+    requires { W ≤ 8 }
+    ensures { IfOk result (λ list. list ≡ kernels.entry.keys) }
 {
     let list = kernels.into_iter().collect(alloc)?;
     Ok(Sequence::from_vec(list))
 }
 
 /// The start kernels, in order.
-fn start_kernels(alloc: Global, grammar: &Grammar) -> Result<IndexSet<Kernel>, StatesFault>
-    requires { IsInRange (plain_of grammar.now) }
+fn start_kernels<const W: usize>(
+    alloc: Global,
+    grammar: &Grammar,
+) -> Result<IndexSet<Kernel<W>>, StatesFault>
+    requires few { W ≤ 8 }
+    requires range { IsInRange (plain_of grammar.now) }
     ensures ok { IfOk result (λ k. AreStarts (length grammar.now.starts) k.keys) }
     ensures err { result ≡ Err StatesFault.TooManyStates → ⊥ }
 {
@@ -68,13 +82,14 @@ fn start_kernels(alloc: Global, grammar: &Grammar) -> Result<IndexSet<Kernel>, S
 }
 
 /// The edges of a state by its closure, with their targets placed among the kernels.
-fn next_edges(
+fn next_edges<const W: usize>(
     alloc: Global,
     grammar: &Grammar,
-    closed: &Kernel,
+    closed: &Kernel<W>,
     symbols: &[Symbol],
-    kernels: &mut IndexSet<Kernel>,
+    kernels: &mut IndexSet<Kernel<W>>,
 ) -> Result<Sequence<Edge>, StatesFault>
+    requires small { W ≤ 8 }
     requires range { IsInRange (plain_of grammar.now) }
     requires source { IsSource (plain_of grammar.now) closed.now }
     requires behind { All (IsBehindDot (plain_of grammar.now) closed.now) symbols.now }
@@ -99,9 +114,13 @@ fn next_edges(
 }
 
 /// The number of a kernel, of which there may be no more than `MAX_STATES`.
-fn place(kernels: &mut IndexSet<Kernel>, kernel: Kernel) -> Result<u32, StatesFault>
-    ensures ok { IfOk result (λ at. Placed kernels.old.keys kernels.new.keys kernel at × (at < MAX_STATES)) }
-    ensures over { result ≡ Err StatesFault.TooManyStates → (at : ℕ) × Placed kernels.old.keys kernels.new.keys kernel at × (MAX_STATES ≤ at) }
+fn place<const W: usize>(
+    kernels: &mut IndexSet<Kernel<W>>,
+    kernel: Kernel<W>,
+) -> Result<u32, StatesFault>
+    requires { W ≤ 8 }
+    ensures ok { IfOk result (λ at. Placed kernels.old.keys kernels.new.keys kernel.entry at × (at < MAX_STATES)) }
+    ensures over { result ≡ Err StatesFault.TooManyStates → (at : ℕ) × Placed kernels.old.keys kernels.new.keys kernel.entry at × (MAX_STATES ≤ at) }
 {
     let at = insert(kernels, kernel)?;
     if at >= MAX_STATES {
@@ -111,8 +130,12 @@ fn place(kernels: &mut IndexSet<Kernel>, kernel: Kernel) -> Result<u32, StatesFa
 }
 
 /// Where a kernel stands; a new one is put behind the others.
-fn insert(kernels: &mut IndexSet<Kernel>, kernel: Kernel) -> Result<usize, AllocFailed<Kernel>>
-    ensures { IfOk result (Placed kernels.old.keys kernels.new.keys kernel) }
+fn insert<const W: usize>(
+    kernels: &mut IndexSet<Kernel<W>>,
+    kernel: Kernel<W>,
+) -> Result<usize, AllocFailed<Kernel<W>>>
+    requires { W ≤ 8 }
+    ensures { IfOk result (Placed kernels.old.keys kernels.new.keys kernel.entry) }
 {
     let (at, _) = kernels.insert_full(kernel)?;
     Ok(at)

@@ -1,5 +1,5 @@
 //! The symbols behind the dots of a closure.
-ghost use Rattle.std.specs.Prelude.{◌≡◌, ◌↔◌, IfOk};
+ghost use Rattle.std.specs.Prelude.{◌≡◌, ◌≤◌, ◌↔◌, IfOk};
 ghost use Rattle.std.specs.List.{Contains};
 ghost use Rattle.mh_grammar.specs.Plain.{plain_of, IsInRange};
 ghost use Rattle.mh_grammar.specs.Edges.{IsRising, IsSymbolBefore};
@@ -12,11 +12,12 @@ use std::alloc::{AllocError, Global};
 use std::collections::BTreeSet;
 
 /// The symbols behind the dots of a kernel, tokens rising and then nonterminals rising.
-pub(crate) fn moving_symbols(
+pub(crate) fn moving_symbols<const W: usize>(
     alloc: Global,
     grammar: &Grammar,
-    closed: &Kernel,
+    closed: &Kernel<W>,
 ) -> Result<Vec<Symbol>, Memory>
+    requires few { W ≤ 8 }
     requires range { IsInRange (plain_of grammar.now) }
     requires kernel { IsKernel (plain_of grammar.now) closed.now }
     ensures rising { IfOk result (λ v. IsRising IsSymbolBefore v.items) }

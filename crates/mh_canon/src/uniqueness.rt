@@ -6,8 +6,12 @@ ghost use Rattle.mh_canon.specs.Canonical.{IsCanonical};
 use mh_grammar::Grammar;
 use mh_items::Automaton;
 
-/// Two canonical automata of one grammar are one, with the same numbers and the same order of edges.
-pub fn is_one_automaton(grammar: &Grammar, left: &Automaton, right: &Automaton)
+/// Two canonical automata of one grammar are one, with the same numbers and the same order of edges, whatever the widths of their sets.
+pub fn is_one_automaton<const V: usize, const W: usize>(
+    grammar: &Grammar,
+    left: &Automaton<V>,
+    right: &Automaton<W>,
+)
     requires left { IsCanonical (plain_of grammar.now) left.now }
     requires right { IsCanonical (plain_of grammar.now) right.now }
     ensures { left.now ≡ right.now }

@@ -11,10 +11,10 @@ use Rattle.mh_grammar.specs.ItemSets as items
 use Rattle.mh_grammar.specs.ItemSets.{MayBegin}
 use Rattle.mh_grammar.proofs.Begins.{first_of_from-derivations}
 use Rattle.mh_grammar.proofs.FirstSets.{first_of-below}
-use Rattle.mh_items.specs.declared.kernels.Automaton.{Automaton}
+use Rattle.mh_items.specs.Shapes.{Automaton}
 use Rattle.mh_items.specs.Kernels.{IsKernelItem}
 use Rattle.mh_items.specs.Automaton.{IsAutomaton, kernel_at, closure_of, leads_to}
-use Rattle.mh_items.proofs.Asking.{behind_below}
+use Rattle.mh_items.proofs.Following.{behind_below}
 use Rattle.mh_resolve.specs.declared.kinds.Mode.{Mode}
 use Rattle.mh_resolve.specs.States.{Raw, state_of, IsTableOf}
 use Rattle.mh_resolve.specs.Clear.{HasNoConflicts, IsDefaultOf, ActsClearly}

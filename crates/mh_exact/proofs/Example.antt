@@ -16,7 +16,7 @@ use Rattle.mh_grammar.specs.First.{FirstOf}
 use Rattle.mh_grammar.specs.ItemSets as items
 use Rattle.mh_grammar.specs.ItemSets.{Close, given, added, Moved, moved, MayBegin}
 use Rattle.mh_grammar.specs.Plain.{PlainGrammar, plain_of, rhs_of, lhs_of, IsProductionFor, Derives, IsInRange}
-use Rattle.mh_items.specs.declared.kernels.Kernel.{Kernel}
+use Rattle.mh_items.specs.Shapes.{Kernel}
 use Rattle.mh_items.specs.Kernels.{Holds, HasPlace, IsKernel}
 use Rattle.mh_items.specs.Automaton.{IsAutomaton, Moves, IsTarget, kernel_at, edges_at, kernel_of, closure_of, move_of, leads_to, no_kernel, start_kernel}
 use Rattle.mh_tables.specs.declared.parts.Action.{Action}

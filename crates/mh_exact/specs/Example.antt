@@ -4,7 +4,7 @@ use Rattle.mh_grammar.specs.declared.types.Symbol.TheVariants.{T, N}
 use Rattle.mh_grammar.specs.declared.types.Look.TheVariants.{End}
 use Rattle.mh_grammar.specs.declared.types.Grammar.{Grammar}
 use Rattle.mh_grammar.specs.Plain.{plain_of, IsInRange, IsSentence}
-use Rattle.mh_items.specs.declared.kernels.Automaton.{Automaton}
+use Rattle.mh_items.specs.Shapes.{Automaton}
 use Rattle.mh_items.specs.Automaton.{IsAutomaton}
 use Rattle.mh_tables.specs.declared.parts.Action.TheVariants.{Shift, Refuse}
 use Rattle.mh_tables.specs.declared.parts.Fallback.TheVariants as fallbacks

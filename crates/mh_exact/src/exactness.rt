@@ -1,7 +1,7 @@
 //! What the verdicts of a table say of the grammar's sentences (Knuth 1965): empty calls that tell it to contracts.
 ghost use Rattle.std.specs.Prelude.{◌≡◌, ◌↔◌, ◌<◌, ◌+◌, List, ℕ, length, take};
 ghost use Rattle.mh_grammar.specs.declared.types.Grammar.{Grammar};
-ghost use Rattle.mh_items.specs.declared.kernels.Automaton.{Automaton};
+ghost use Rattle.mh_items.specs.Shapes.{Automaton as AutomatonOf};
 ghost use Rattle.mh_tables.specs.Table.{TableData};
 ghost use Rattle.mh_resolve.specs.declared.kinds.Mode.{Mode};
 ghost use Rattle.mh_exact.specs.Example.{MeetsPremises};
@@ -36,7 +36,12 @@ pub fn trees_derive()
 
 /// On the table of an automaton, with conflicts or without, where each nonterminal derives some word: where the run of a
 /// start overshoots, some sentence begins with the tokens.
-pub fn overshoots_in_sentences(grammar: &Grammar, automaton: &Automaton, mode: Mode, table: &Table)
+pub fn overshoots_in_sentences<const W: usize>(
+    grammar: &Grammar,
+    automaton: &Automaton<W>,
+    mode: Mode,
+    table: &Table,
+)
     requires automaton { IsAutomaton (plain_of grammar.now) automaton.now }
     requires table { IsTableOf grammar.now automaton.now mode table.now }
     requires productive { AllProductive (plain_of grammar.now) }
@@ -51,7 +56,12 @@ pub fn overshoots_in_sentences(grammar: &Grammar, automaton: &Automaton, mode: M
 /// Without conflicts the verdicts are exact: a start accepts the whole list of tokens exactly where it is a sentence,
 /// and after some of them exactly where those are one; there is at most one such front; and no sentence begins with
 /// the tokens up to a refused one.
-pub fn verdicts_are_exact(grammar: &Grammar, automaton: &Automaton, mode: Mode, table: &Table)
+pub fn verdicts_are_exact<const W: usize>(
+    grammar: &Grammar,
+    automaton: &Automaton<W>,
+    mode: Mode,
+    table: &Table,
+)
     requires automaton { IsAutomaton (plain_of grammar.now) automaton.now }
     requires table { IsTableOf grammar.now automaton.now mode table.now }
     requires clear { HasNoConflicts grammar.now automaton.now }
@@ -69,5 +79,5 @@ pub fn verdicts_are_exact(grammar: &Grammar, automaton: &Automaton, mode: Mode, 
 /// The premises of these laws can be met: there is a grammar, with its automaton and its table, that has a sentence and
 /// no conflicts.
 pub fn some_clean_table()
-    ensures { (g : Grammar) × (a : Automaton) × (mode : Mode) × (t : TableData) × MeetsPremises g a mode t }
+    ensures { (g : Grammar) × (a : AutomatonOf) × (mode : Mode) × (t : TableData) × MeetsPremises g a mode t }
 {}

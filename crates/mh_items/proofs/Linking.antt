@@ -6,6 +6,8 @@ use Rattle.std.proofs.lemmas.List.Elements.{All-head, All-tail, All-push, Contai
 use Rattle.std.proofs.lemmas.Option.{slice_get_within, get_or_from_slice_get, slice_get_read}
 use Rattle.mh_grammar.specs.declared.types.Symbol.{Symbol}
 use Rattle.mh_grammar.specs.declared.types.Symbol.TheVariants.{T, N}
+use Rattle.mh_grammar.specs.declared.types.Look.{Look}
+use Rattle.mh_grammar.specs.declared.types.Look.TheVariants.{Token, End}
 use Rattle.mh_grammar.specs.declared.types.Production.{Production}
 use Rattle.mh_grammar.specs.Derivations as trees
 use Rattle.mh_grammar.specs.Marked.{Marked}
@@ -18,8 +20,8 @@ use Rattle.mh_grammar.proofs.FirstSets.{first_of-below}
 use Rattle.mh_grammar.proofs.Numbered.{IsProductionFor-ordinary, rhs_of-ordinary, listed_from_for}
 use Rattle.mh_items.specs.declared.links.Link.{Link}
 use Rattle.mh_items.specs.declared.first_sets.Sets.{Sets}
-use Rattle.mh_items.specs.Firsts.{AreSets, IsRest, IsLink, IsLinkBelow, IsLinked, AreLinksOf}
-use Rattle.mh_items.proofs.Lists.{same_at}
+use Rattle.mh_items.specs.Firsts.{AreSets, Begins, BeginsAll, IsRest, IsLink, IsLinked, AreLinksOf}
+use Rattle.mh_grammar.proofs.Lists.{same_at}
 
 unmarked : (ps : List Production) (a : ℕ) → Marked false ps (T a) → ⊥
 unmarked ps a (marked.Marked.token e) = false≢true e
@@ -31,31 +33,51 @@ full_token g a t = unmarked g.productions a (marked-from_nil g (T a) [] t refl)
 token_first : (g : PlainGrammar) (t a : ℕ) → First g (T t) a → t ≡ a
 token_first g t a first.First.token = refl
 
-pub add_token : (g : PlainGrammar) (old : List ℕ) (t a : ℕ) → Contains (old ++ t ∷ []) a ↔ (Contains old a ⊎ First g (T t) a)
-add_token g old t a = (
-  (λ c. elim (Contains-push_cases old t a c) [ inl k ↦ inl k | inr e ↦ inr (rw e first.First.token) ]),
-  (λ h. elim h [ inl k ↦ Contains-append_left old (t ∷ []) a k | inr f ↦ rw (token_first g t a f) (Contains-push old a) ]),
+token_begins : (g : PlainGrammar) (t : ℕ) (b : Look) → Begins g (T t) b → b ≡ Token t
+token_begins g t (Token a) f = ap Token (sym (token_first g t a f))
+token_begins g t End f = absurd f
+
+begins_token : (g : PlainGrammar) (t : ℕ) (b : Look) → b ≡ Token t → Begins g (T t) b
+begins_token g t b e = let P : Look → Type 0 = Begins g (T t) in subst P (sym e) first.First.token
+
+pub add_token : (g : PlainGrammar) (old new : List Look) (t : ℕ) → ((b : Look) → Contains new b ↔ (Contains old b ⊎ (b ≡ Token t))) → (b : Look) → Contains new b ↔ (Contains old b ⊎ Begins g (T t) b)
+add_token g old new t h b = (
+  (λ c. elim ((h b).0 c) [ inl k ↦ inl k | inr e ↦ inr (begins_token g t b e) ]),
+  (λ s. elim s [ inl k ↦ (h b).1 (inl k) | inr f ↦ (h b).1 (inr (token_begins g t b f)) ]),
 )
 
-pub add_row : (g : PlainGrammar) (old row : List ℕ) (n a : ℕ) → (Contains row a ↔ First g (N n) a) → Contains (old ++ row) a ↔ (Contains old a ⊎ First g (N n) a)
-add_row g old row n a e = (
-  (λ c. elim (Contains-append_cases old row a c) [ inl k ↦ inl k | inr k ↦ inr (e.0 k) ]),
-  (λ h. elim h [ inl k ↦ Contains-append_left old row a k | inr f ↦ Contains-append_right old row a (e.1 f) ]),
+pub add_row : (g : PlainGrammar) (old row new : List Look) (n : ℕ) → ((b : Look) → Contains new b ↔ (Contains old b ⊎ Contains row b)) → ((b : Look) → Contains row b ↔ Begins g (N n) b) → (b : Look) → Contains new b ↔ (Contains old b ⊎ Begins g (N n) b)
+add_row g old row new n h e b = (
+  (λ c. elim ((h b).0 c) [ inl k ↦ inl k | inr k ↦ inr ((e b).0 k) ]),
+  (λ s. elim s [ inl k ↦ (h b).1 (inl k) | inr f ↦ (h b).1 (inr ((e b).1 f)) ]),
 )
 
-pub row_of : (g : PlainGrammar) (sets : Sets) (n : ℕ) (row : List ℕ) → AreSets g sets → length sets.first ≡ length sets.nullable → n < length sets.nullable → row ≡ get_or sets.first n row → (a : ℕ) → Contains row a ↔ First g (N n) a
-row_of g sets n row s e l at a =
+pub row_of : {W : ℕ} (g : PlainGrammar) (sets : Sets W) (n : ℕ) (row : List Look) → AreSets g sets → length sets.first ≡ length sets.nullable → n < length sets.nullable → row ≡ get_or sets.first n row → (b : Look) → Contains row b ↔ Begins g (N n) b
+row_of g sets n row s e l at b =
     let within : n < length sets.first = omega arith in
     let here = get_or_from_slice_get sets.first n row [] (slice_get_read sets.first (length sets.first) n row refl within at) in
-    let f = s.first n a (omega (arith, s.nullable_len)) in
+    let f = s.first n b (omega (arith, s.nullable_len)) in
     rw here at f
 
 first_of_cases : (g : PlainGrammar) (X : Symbol) (Xs : List Symbol) (a : ℕ) → FirstOf g (X ∷ Xs) a → First g X a ⊎ (Derives g X [] × FirstOf g Xs a)
 first_of_cases g X Xs a (first.FirstOf.here f) = inl f
 first_of_cases g X Xs a (first.FirstOf.past t f) = inr (t, f)
 
-first_of_nil : (g : PlainGrammar) (a : ℕ) → FirstOf g [] a → ⊥
-first_of_nil g a f = elim f [ ]
+begins_cases : (g : PlainGrammar) (X : Symbol) (Xs : List Symbol) (b : Look) → BeginsAll g (X ∷ Xs) b → Begins g X b ⊎ (Derives g X [] × BeginsAll g Xs b)
+begins_cases g X Xs (Token a) f = first_of_cases g X Xs a f
+begins_cases g X Xs End f = absurd f
+
+begins_here : (g : PlainGrammar) (X : Symbol) (Xs : List Symbol) (b : Look) → Begins g X b → BeginsAll g (X ∷ Xs) b
+begins_here g X Xs (Token a) f = first.FirstOf.here f
+begins_here g X Xs End f = absurd f
+
+begins_past : (g : PlainGrammar) (X : Symbol) (Xs : List Symbol) (b : Look) → Derives g X [] → BeginsAll g Xs b → BeginsAll g (X ∷ Xs) b
+begins_past g X Xs (Token a) t f = first.FirstOf.past t f
+begins_past g X Xs End t f = absurd f
+
+begins_nil : (g : PlainGrammar) (b : Look) → BeginsAll g [] b → ⊥
+begins_nil g (Token a) f = elim f [ ]
+begins_nil g End f = f
 
 nil_parts : (u v : List ℕ) → [] ≡ u ++ v → (u ≡ []) × (v ≡ [])
 nil_parts [] v e = (refl, sym e)
@@ -65,28 +87,28 @@ all_parts : (g : PlainGrammar) (X : Symbol) (Xs : List Symbol) (w : List ℕ) �
 all_parts g X Xs w (trees.Derivations.more {u = u} {v = v} j t f) e = let n = nil_parts u v (sym e ∙ j) in (rw n.0 at t, rw n.1 at f)
 
 -- a string was read up to its rest
-pub record RestSoFar (sets : Sets) (symbols : List Symbol) (tokens : List ℕ) (rest : List Symbol) : Type 0 where
-  pub begins : (g : PlainGrammar) → AreSets g sets → (a : ℕ) → FirstOf g symbols a ↔ (Contains tokens a ⊎ FirstOf g rest a)
+pub record RestSoFar {W : ℕ} (sets : Sets W) (symbols : List Symbol) (tokens : List Look) (rest : List Symbol) : Type 0 where
+  pub begins : (g : PlainGrammar) → AreSets g sets → (a : Look) → BeginsAll g symbols a ↔ (Contains tokens a ⊎ BeginsAll g rest a)
   pub empty : (g : PlainGrammar) → AreSets g sets → DerivesAll g symbols [] ↔ DerivesAll g rest []
 
-pub RestSoFar-start : (sets : Sets) (symbols : List Symbol) → RestSoFar sets symbols [] symbols
+pub RestSoFar-start : {W : ℕ} (sets : Sets W) (symbols : List Symbol) → RestSoFar sets symbols [] symbols
 RestSoFar-start sets symbols = record {
   begins = λ g h a. (inr, λ k. elim k [ inl c ↦ absurd (omega (arith, c.1)) | inr f ↦ f ]);
   empty = λ g h. (λ d. d, λ d. d);
 }
 
-module _ (sets : Sets) (symbols : List Symbol) (old new : List ℕ) (X : Symbol) (rest : List Symbol) (h : RestSoFar sets symbols old (X ∷ rest))
-    (grown : (g : PlainGrammar) → AreSets g sets → (a : ℕ) → Contains new a ↔ (Contains old a ⊎ First g X a)) where
+module _ {W : ℕ} (sets : Sets W) (symbols : List Symbol) (old new : List Look) (X : Symbol) (rest : List Symbol) (h : RestSoFar sets symbols old (X ∷ rest))
+    (grown : (g : PlainGrammar) → AreSets g sets → (a : Look) → Contains new a ↔ (Contains old a ⊎ Begins g X a)) where
   pub RestSoFar-step : ((g : PlainGrammar) → AreSets g sets → Derives g X []) → RestSoFar sets symbols new rest
   RestSoFar-step nil = record {
     begins = λ g s a. (
       (λ f. elim ((h.begins g s a).0 f) [
         | inl c ↦ inl ((grown g s a).1 (inl c))
-        | inr k ↦ elim (first_of_cases g X rest a k) [ inl x ↦ inl ((grown g s a).1 (inr x)) | inr p ↦ inr p.1 ]
+        | inr k ↦ elim (begins_cases g X rest a k) [ inl x ↦ inl ((grown g s a).1 (inr x)) | inr p ↦ inr p.1 ]
       ]),
       (λ k. elim k [
-        | inl c ↦ elim ((grown g s a).0 c) [ inl d ↦ (h.begins g s a).1 (inl d) | inr x ↦ (h.begins g s a).1 (inr (first.FirstOf.here x)) ]
-        | inr f ↦ (h.begins g s a).1 (inr (first.FirstOf.past (nil g s) f))
+        | inl c ↦ elim ((grown g s a).0 c) [ inl d ↦ (h.begins g s a).1 (inl d) | inr x ↦ (h.begins g s a).1 (inr (begins_here g X rest a x)) ]
+        | inr f ↦ (h.begins g s a).1 (inr (begins_past g X rest a (nil g s) f))
       ]),
     );
     empty = λ g s. (
@@ -98,50 +120,46 @@ module _ (sets : Sets) (symbols : List Symbol) (old new : List ℕ) (X : Symbol)
   pub RestSoFar-stop : ((g : PlainGrammar) → AreSets g sets → Derives g X [] → ⊥) → (g : PlainGrammar) → AreSets g sets → IsRest g symbols new false
   RestSoFar-stop full g s = record {
     begins = λ a. (
-      (λ c. elim ((grown g s a).0 c) [ inl d ↦ (h.begins g s a).1 (inl d) | inr x ↦ (h.begins g s a).1 (inr (first.FirstOf.here x)) ]),
+      (λ c. elim ((grown g s a).0 c) [ inl d ↦ (h.begins g s a).1 (inl d) | inr x ↦ (h.begins g s a).1 (inr (begins_here g X rest a x)) ]),
       (λ f. elim ((h.begins g s a).0 f) [
         | inl c ↦ (grown g s a).1 (inl c)
-        | inr k ↦ elim (first_of_cases g X rest a k) [ inl x ↦ (grown g s a).1 (inr x) | inr p ↦ absurd (full g s p.0) ]
+        | inr k ↦ elim (begins_cases g X rest a k) [ inl x ↦ (grown g s a).1 (inr x) | inr p ↦ absurd (full g s p.0) ]
       ]),
     );
     empty = (λ e. absurd (false≢true e), λ d. absurd (full g s (all_parts g X rest [] ((h.empty g s).0 d) refl).0));
   }
 
-pub RestSoFar-all : (sets : Sets) (symbols : List Symbol) (tokens : List ℕ) → RestSoFar sets symbols tokens [] → (g : PlainGrammar) → AreSets g sets → IsRest g symbols tokens true
+pub RestSoFar-all : {W : ℕ} (sets : Sets W) (symbols : List Symbol) (tokens : List Look) → RestSoFar sets symbols tokens [] → (g : PlainGrammar) → AreSets g sets → IsRest g symbols tokens true
 RestSoFar-all sets symbols tokens h g s = record {
-  begins = λ a. (λ c. (h.begins g s a).1 (inl c), λ f. elim ((h.begins g s a).0 f) [ inl c ↦ c | inr k ↦ absurd (first_of_nil g a k) ]);
+  begins = λ a. (λ c. (h.begins g s a).1 (inl c), λ f. elim ((h.begins g s a).0 f) [ inl c ↦ c | inr k ↦ absurd (begins_nil g a k) ]);
   empty = (λ e. (h.empty g s).1 trees.Derivations.none, λ d. refl);
 }
 
--- a link's numbers are in range
-pub link_below : (g : PlainGrammar) (symbols : List Symbol) (link : Link) → IsInRange g → All (IsSymbolBelow g.tokens g.nonterminals) symbols → IsLink g symbols link → IsLinkBelow g.tokens g.nonterminals link
-link_below g symbols link r all h =
+-- a link's target is in range
+pub link_below : {W : ℕ} (g : PlainGrammar) (symbols : List Symbol) (link : Link W) → All (IsSymbolBelow g.tokens g.nonterminals) symbols → IsLink g symbols link → link.to < g.nonterminals
+link_below g symbols link all h =
     let B = IsSymbolBelow g.tokens g.nonterminals in
     let here : All B (N link.to ∷ h.behind) = rw h.side at all in
-    record {
-      target = All-head B (N link.to) h.behind here;
-      begins = λ k d l. first_of-below g g.tokens g.nonterminals r.productions (get_or link.tokens k d) h.behind
-          ((h.rest.begins (get_or link.tokens k d)).0 (Contains-get_or link.tokens k d l)) (All-tail B (N link.to) h.behind here);
-    }
+    All-head B (N link.to) h.behind here
 
 -- the links of the productions up to a place
-pub record LinksSoFar (g : PlainGrammar) (n : ℕ) (links : List Link) (upto : ℕ) : Type 0 where
-  pub below : All (IsLinkBelow g.tokens g.nonterminals) links
-  pub sound : (link : Link) → Contains links link → IsLinked g n link
-  pub complete : (k : ℕ) (p : Production) (m : ℕ) (y : List Symbol) → k < upto → slice_get g.productions k ≡ Some p → p.lhs ≡ n → p.rhs ≡ N m ∷ y → (link : Link) × Contains links link × IsLink g p.rhs link
+pub record LinksSoFar {W : ℕ} (g : PlainGrammar) (n : ℕ) (links : List (Link W)) (upto : ℕ) : Type 0 where
+  pub below : All (λ (link : Link W). link.to < g.nonterminals) links
+  pub sound : (link : Link W) → Contains links link → IsLinked g n link
+  pub complete : (k : ℕ) (p : Production) (m : ℕ) (y : List Symbol) → k < upto → slice_get g.productions k ≡ Some p → p.lhs ≡ n → p.rhs ≡ N m ∷ y → (link : Link W) × Contains links link × IsLink g p.rhs link
 
-pub LinksSoFar-start : (g : PlainGrammar) (n : ℕ) → LinksSoFar g n [] 0
-LinksSoFar-start g n = record { below = λ k d l. absurd (omega arith); sound = λ link c. absurd (omega (arith, c.1)); complete = λ k p m y l. absurd (omega arith) }
+pub LinksSoFar-start : {W : ℕ} (g : PlainGrammar) (n : ℕ) → LinksSoFar {W = W} g n [] 0
+LinksSoFar-start {W} g n = record { below = λ k d l. absurd (omega arith); sound = λ link c. absurd (omega (arith, c.1)); complete = λ k p m y l. absurd (omega arith) }
 
-module _ (g : PlainGrammar) (r : IsInRange g) (n : ℕ) (links : List Link) (i : ℕ) (p : Production) (h : LinksSoFar g n links i) (at : slice_get g.productions i ≡ Some p) where
-  pub LinksSoFar-push : (link : Link) → p.lhs ≡ n → IsLink g p.rhs link → LinksSoFar g n (links ++ link ∷ []) (i + 1)
+module _ {W : ℕ} (g : PlainGrammar) (r : IsInRange g) (n : ℕ) (links : List (Link W)) (i : ℕ) (p : Production) (h : LinksSoFar g n links i) (at : slice_get g.productions i ≡ Some p) where
+  pub LinksSoFar-push : (link : Link W) → p.lhs ≡ n → IsLink g p.rhs link → LinksSoFar g n (links ++ link ∷ []) (i + 1)
   LinksSoFar-push link lhs is =
       let rhs = rhs_of-ordinary g i p at in
       let side : IsLink g (rhs_of g (length g.starts + i)) link = rw rhs is in
       let here = get_or_from_slice_get g.productions i p p at in
       let below = rw here at (r.productions i p (slice_get_within g.productions i p at)) in
       record {
-        below = All-push (IsLinkBelow g.tokens g.nonterminals) links link h.below (link_below g p.rhs link r below.rhs is);
+        below = All-push (λ (z : Link W). z.to < g.nonterminals) links link h.below (link_below g p.rhs link below.rhs is);
         sound = λ other c. elim (Contains-push_cases links link other c) [
           | inl k ↦ h.sound other k
           | inr e ↦ (let made : IsLinked g n link = record { production = length g.starts + i; produced = rw lhs at (IsProductionFor-ordinary g i p at); is = side } in rw e at made)
@@ -162,7 +180,7 @@ module _ (g : PlainGrammar) (r : IsInRange g) (n : ℕ) (links : List Link) (i :
     ];
   }
 
-pub LinksSoFar-all : (g : PlainGrammar) (n : ℕ) (links : List Link) (upto : ℕ) → upto ≡ length g.productions → LinksSoFar g n links upto → AreLinksOf g n links
+pub LinksSoFar-all : {W : ℕ} (g : PlainGrammar) (n : ℕ) (links : List (Link W)) (upto : ℕ) → upto ≡ length g.productions → LinksSoFar g n links upto → AreLinksOf g n links
 LinksSoFar-all g n links upto e h = record {
   below = h.below;
   sound = h.sound;

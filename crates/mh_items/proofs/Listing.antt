@@ -1,6 +1,6 @@
 -- How the items that a closure adds are listed.
-use Rattle.std.proofs.Common.{◌≡◌, ℕ, ◌+◌, ◌-◌, ◌<◌, ◌≤◌, ◌↔◌, true, List, [], ◌∷◌, ◌++◌, Some, length, get_or, vec_len, refl, sym, ap, subst, ◌∙◌, arith, inl, inr}
-use Rattle.std.specs.List.{slice_get, Contains}
+use Rattle.std.proofs.Common.{◌≡◌, ℕ, suc, drop, ◌+◌, ◌-◌, ◌<◌, ◌≤◌, ◌↔◌, true, List, [], ◌∷◌, ◌++◌, Some, length, get_or, vec_len, refl, sym, ap, subst, ◌∙◌, arith, inl, inr}
+use Rattle.std.specs.List.{slice_get, All, Contains}
 use Rattle.std.proofs.lemmas.Bool.{cases_eq}
 use Rattle.std.proofs.lemmas.List.Elements.{Contains-push, Contains-push_cases, Contains-append_left, Contains-append_right, Contains-append_cases}
 use Rattle.std.specs.List.Sorted.{IsStrictlyIncreasing}
@@ -10,88 +10,98 @@ use Rattle.mh_grammar.specs.declared.types.Production.{Production}
 use Rattle.mh_grammar.specs.declared.types.Look.{Look}
 use Rattle.mh_grammar.specs.declared.types.Look.TheVariants.{Token, End}
 use Rattle.mh_grammar.specs.Plain.{PlainGrammar, IsLookBelow, IsProductionFor, lhs_of}
-use Rattle.mh_grammar.specs.Grid.{flag}
 use Rattle.mh_grammar.specs.ItemSets as sets
-use Rattle.mh_grammar.specs.ItemSets.{AreSame, Close}
+use Rattle.mh_grammar.specs.ItemSets.{AreSame, Close, MayBegin}
+use Rattle.mh_grammar.specs.declared.types.Symbol.{Symbol}
+use Rattle.mh_grammar.specs.declared.types.Symbol.TheVariants.{N}
+use Rattle.mh_grammar.specs.Plain.{IsInRange, IsSymbolBelow, production_count, rhs_of}
+use Rattle.mh_grammar.proofs.Lists.{recursion_contains, contains_here}
 use Rattle.mh_grammar.proofs.Numbered.{listed_from_for}
-use Rattle.mh_items.specs.declared.kernels.KernelItem.{KernelItem}
-use Rattle.mh_items.specs.declared.kernels.Kernel.{Kernel}
-use Rattle.mh_items.specs.declared.pairs.Pairs.{Pairs}
+use Rattle.mh_items.specs.Shapes.{KernelItem}
+use Rattle.mh_items.specs.Shapes.{Kernel}
+use Rattle.mh_items.specs.declared.asked.Asked.{Asked}
 use Rattle.mh_items.specs.Kernels.{Holds, IsKernel, IsKernelItem}
-use Rattle.mh_items.specs.Pairs.{column_of}
-use Rattle.mh_items.specs.Added.{AreRowLooks, AreAdded}
+use Rattle.mh_items.proofs.Dotted.{drop_tail}
+use Rattle.mh_items.specs.Added.{AreAdded, IsNumber}
 use Rattle.mh_items.specs.Merging.{IsUnion}
 use Rattle.mh_items.specs.Wanted as wanted
-use Rattle.mh_items.specs.Wanted.{IsTable, IsWanted, Wants}
-use Rattle.mh_items.proofs.Lists.{same_at, contains_at, at_contains, recursion-from}
+use Rattle.mh_items.specs.Wanted.{AreWanted, Wants}
+use Rattle.mh_items.specs.Asked.{looks_at, IsAsked, IsTable}
+use Rattle.mh_sets.specs.Sets.{IsSet}
+use Rattle.mh_grammar.proofs.Lists.{same_at, contains_at, at_contains, recursion-from}
 use Rattle.mh_items.proofs.Merged.{kernel_push, holds_push, holds_cases}
-use Rattle.mh_items.specs.declared.pairs.Pair.{Pair}
 use Rattle.mh_items.specs.declared.first_sets.Firsts.{Firsts}
 use Rattle.mh_items.specs.Firsts.{AreFirsts}
-use Rattle.mh_items.specs.Pairs.{AreQueued}
-use Rattle.mh_items.proofs.Wanting.{row_within}
+use Rattle.mh_items.proofs.Wanting.{asked_known}
+use Rattle.mh_items.proofs.Following.{behind_below}
+use Rattle.mh_grammar.proofs.FirstSets.{first_of-below}
 
 abbrev of_items : List KernelItem → Kernel
 of_items items = record { items = items }
 
-column_below : (tokens : ℕ) (b : Look) → column_of b < tokens + 2 → IsLookBelow tokens b
-column_below tokens (Token a) l = omega arith
-column_below tokens End l = tt
+-- ---- what a closure holds is in range
 
--- the productions that a closure asks for, by their numbers
-abbrev pub IsNumber : PlainGrammar → Pairs → ℕ → Type 0
-IsNumber g s p = (n : ℕ) × IsProductionFor g n p × (flag s.width s.flags.items n 1 ≡ true)
+module _ (g : PlainGrammar) (r : IsInRange g) (kernel : Kernel) (k : IsKernel g kernel) where
+  begins_below : (y : List Symbol) (a b : Look) → All (IsSymbolBelow g.tokens g.nonterminals) y → IsLookBelow g.tokens a → MayBegin g y a b → IsLookBelow g.tokens b
+  begins_below y a b all l (sets.MayBegin.begins {z = z} f) = first_of-below g g.tokens g.nonterminals r.productions z y f all
+  begins_below y a b all l (sets.MayBegin.passes d) = l
 
--- the numbers that the first pairs of the queue ask for
-pub record NumbersUpto (g : PlainGrammar) (s : Pairs) (numbers : List ℕ) (upto : ℕ) : Type 0 where
+  behind_side : (p d n : ℕ) (y : List Symbol) → p < production_count g → drop d (rhs_of g p) ≡ N n ∷ y → All (IsSymbolBelow g.tokens g.nonterminals) y
+  behind_side p d n y l e = rw (sym (drop_tail (rhs_of g p) d (N n) y e)) (behind_below g r p d l)
+
+  close_below : (p d : ℕ) (a : Look) → Close g (Holds kernel) p d a → (p < production_count g) × IsLookBelow g.tokens a
+  close_below p d a (sets.Close.given h) =
+      let item = recursion_contains (IsKernelItem g) kernel.items k.items h.0 h.1 in
+      (rw h.2 at item.production, recursion_contains (IsLookBelow g.tokens) h.0.looks item.looks a h.4)
+  close_below p d a (sets.Close.added {p = p'} {d = d'} {n = n} {y = y} {a = a'} c e for m) =
+      let from = close_below p' d' a' c in
+      (for.known, begins_below y a' a (behind_side p' d' n y from.0 e) from.1 m)
+
+  pub wants_below : (n : ℕ) (b : Look) → Wants g (Holds kernel) n b → IsLookBelow g.tokens b
+  wants_below n b (wanted.Wants.wants {p = p} {d = d} {y = y} {a = a} c e m) = let from = close_below p d a c in begins_below y a b (behind_side p d n y from.0 e) from.1 m
+
+-- ---- the numbers of the productions
+
+-- the numbers that the first of the queue ask for
+pub record NumbersUpto {W : ℕ} (g : PlainGrammar) (s : Asked W) (numbers : List ℕ) (upto : ℕ) : Type 0 where
   pub sound : (p : ℕ) → Contains numbers p → IsNumber g s p
-  pub complete : (k p : ℕ) (pair : Pair) → k < upto → slice_get s.queue.items k ≡ Some pair → pair.column ≡ 1 → IsProductionFor g pair.row p → Contains numbers p
+  pub complete : (k p n : ℕ) → k < upto → slice_get s.queue.items k ≡ Some n → IsProductionFor g n p → Contains numbers p
 
-pub NumbersUpto-start : (g : PlainGrammar) (s : Pairs) → NumbersUpto g s [] 0
-NumbersUpto-start g s = record { sound = λ p c. absurd (omega (arith, c.1)); complete = λ k p pair l. absurd (omega arith) }
+pub NumbersUpto-start : {W : ℕ} (g : PlainGrammar) (s : Asked W) → NumbersUpto g s [] 0
+NumbersUpto-start g s = record { sound = λ p c. absurd (omega (arith, c.1)); complete = λ k p n l. absurd (omega arith) }
 
-module _ (g : PlainGrammar) (s : Pairs) (numbers : List ℕ) (i : ℕ) (pair : Pair) (queued : AreQueued s) (h : NumbersUpto g s numbers i) (at : slice_get s.queue.items i ≡ Some pair) where
-  pub NumbersUpto-extend : (row : List ℕ) → pair.column ≡ 1 → ((p : ℕ) → Contains row p ↔ IsProductionFor g pair.row p) → NumbersUpto g s (numbers ++ row) (i + 1)
-  NumbersUpto-extend row any exact = record {
-    sound = λ p c. elim (Contains-append_cases numbers row p c) [
-      | inl k ↦ h.sound p k
-      | inr k ↦ (pair.row, (exact p).0 k, rw any at (queued.flagged pair (contains_at s.queue.items i pair at)))
-    ];
-    complete = λ k p other l read column for. elim (cases_eq k i) [
-      | inl e ↦ (let one : other ≡ pair = same_at s.queue.items i other pair (rw e at read) at in Contains-append_right numbers row p ((exact p).1 (rw one at for)))
-      | inr o ↦ Contains-append_left numbers row p (h.complete k p other (omega arith) read column for)
-    ];
-  }
+pub NumbersUpto-extend : {W : ℕ} (g : PlainGrammar) (s : Asked W) (numbers row : List ℕ) (i n : ℕ) → IsTable s → NumbersUpto g s numbers i → slice_get s.queue.items i ≡ Some n → ((p : ℕ) → Contains row p ↔ IsProductionFor g n p) → NumbersUpto g s (numbers ++ row) (i + 1)
+NumbersUpto-extend g s numbers row i n t h at exact = record {
+  sound = λ p c. elim (Contains-append_cases numbers row p c) [
+    | inl k ↦ h.sound p k
+    | inr k ↦ (n, (exact p).0 k, t.busy n (contains_at s.queue.items i n at))
+  ];
+  complete = λ k p m l read for. elim (cases_eq k i) [
+    | inl e ↦ (let one : m ≡ n = same_at s.queue.items i m n (rw e at read) at in let P : ℕ → Type 0 = λ x. IsProductionFor g x p in Contains-append_right numbers row p ((exact p).1 (subst P one for)))
+    | inr o ↦ Contains-append_left numbers row p (h.complete k p m (omega arith) read for)
+  ];
+}
 
-  pub NumbersUpto-skip : (pair.column ≡ 1 → ⊥) → NumbersUpto g s numbers (i + 1)
-  NumbersUpto-skip not_any = record {
-    sound = h.sound;
-    complete = λ k p other l read column for. elim (cases_eq k i) [
-      | inl e ↦ absurd (let one : other ≡ pair = same_at s.queue.items i other pair (rw e at read) at in not_any (sym (ap (λ (z : Pair). z.column) one) ∙ column))
-      | inr o ↦ h.complete k p other (omega arith) read column for
-    ];
-  }
-
-pub NumbersUpto-all : (g : PlainGrammar) (s : Pairs) (numbers : List ℕ) (upto : ℕ) → IsTable g s → length s.queue.items ≤ upto → NumbersUpto g s numbers upto → (p : ℕ) → Contains numbers p ↔ IsNumber g s p
+pub NumbersUpto-all : {W : ℕ} (g : PlainGrammar) (s : Asked W) (numbers : List ℕ) (upto : ℕ) → IsTable s → length s.queue.items ≤ upto → NumbersUpto g s numbers upto → (p : ℕ) → Contains numbers p ↔ IsNumber g s p
 NumbersUpto-all g s numbers upto t all h p = (
   h.sound p,
-  λ is. (let at = at_contains s.queue.items (record { row = is.0; column = 1 }) (t.sets.queued is.0 1 (omega (arith, t.columns)) is.2) in
-      h.complete at.0 p (record { row = is.0; column = 1 }) (omega (arith, slice_get_within s.queue.items at.0 (record { row = is.0; column = 1 }) at.1)) at.1 refl is.1),
+  λ is. (let at = at_contains s.queue.items is.0 (t.touched is.0 is.2.0 is.2.1) in h.complete at.0 p is.0 (omega (arith, slice_get_within s.queue.items at.0 is.0 at.1)) at.1 is.1),
 )
 
--- the row of the productions of a pair's nonterminal
-pub next_productions : (g : PlainGrammar) (s : Pairs) (f : Firsts) (i : ℕ) (pair : Pair) → IsTable g s → AreFirsts g f → length s.flags.items ≡ vec_len s.flags → slice_get s.queue.items i ≡ Some pair → pair.row < length f.productions
-next_productions g s f i pair t firsts len at = omega (arith, firsts.productions_len, row_within g s pair t len (contains_at s.queue.items i pair at))
+pub queue_known : {W : ℕ} (g : PlainGrammar) (s : Asked W) (n : ℕ) → IsTable s → vec_len s.looks ≡ g.nonterminals → length s.looks.items ≡ vec_len s.looks → Contains s.queue.items n → n < g.nonterminals
+queue_known g s n t size len c = let some = t.busy n c in asked_known g s size len n some.0 some.1
+
+-- ---- the items
 
 -- the first items are those of the first numbers
-pub record AddedSoFar (g : PlainGrammar) (s : Pairs) (numbers : List ℕ) (items : List KernelItem) (upto : ℕ) : Type 0 where
+pub record AddedSoFar {W : ℕ} (g : PlainGrammar) (s : Asked W) (numbers : List ℕ) (items : List KernelItem) (upto : ℕ) : Type 0 where
   pub kernel : IsKernel g (of_items items)
   pub among : (x : KernelItem) → Contains items x → (k : ℕ) × (k < upto) × (slice_get numbers k ≡ Some x.production)
   pub first : (x : KernelItem) → Contains items x → x.dot ≡ 0
-  pub sound : (p d : ℕ) (b : Look) → Holds (of_items items) p d b → (n : ℕ) × IsProductionFor g n p × (column_of b < s.width) × (flag s.width s.flags.items n (column_of b) ≡ true)
-  pub complete : (k p n : ℕ) (b : Look) → k < upto → slice_get numbers k ≡ Some p → IsProductionFor g n p → column_of b < s.width → flag s.width s.flags.items n (column_of b) ≡ true → Holds (of_items items) p 0 b
+  pub sound : (p d : ℕ) (b : Look) → Holds (of_items items) p d b → (n : ℕ) × IsProductionFor g n p × IsAsked s n b
+  pub complete : (k p n : ℕ) (b : Look) → k < upto → slice_get numbers k ≡ Some p → IsProductionFor g n p → IsAsked s n b → Holds (of_items items) p 0 b
 
-pub AddedSoFar-start : (g : PlainGrammar) (s : Pairs) (numbers : List ℕ) → AddedSoFar g s numbers [] 0
+pub AddedSoFar-start : {W : ℕ} (g : PlainGrammar) (s : Asked W) (numbers : List ℕ) → AddedSoFar g s numbers [] 0
 AddedSoFar-start g s numbers = record {
   kernel = record { items = tt; rising = tt };
   among = λ x c. absurd (let l = c.1 in omega arith);
@@ -100,23 +110,23 @@ AddedSoFar-start g s numbers = record {
   complete = λ k p n b l. absurd (omega arith);
 }
 
-module _ (g : PlainGrammar) (kernel : Kernel) (s : Pairs) (numbers : List ℕ) (items : List KernelItem) (i p n : ℕ) (w : IsWanted g kernel s) (rising : IsStrictlyIncreasing numbers)
-    (h : AddedSoFar g s numbers items i) (at : slice_get numbers i ≡ Some p) (for : IsProductionFor g n p) (set : flag s.width s.flags.items n 1 ≡ true)
-    (looks : List Look) (l : AreRowLooks s n looks) where
+module _ {W : ℕ} (g : PlainGrammar) (r : IsInRange g) (kernel : Kernel) (valid : IsKernel g kernel) (s : Asked W) (t : IsTable s) (numbers : List ℕ) (items : List KernelItem) (i p n : ℕ) (w : AreWanted g kernel s) (rising : IsStrictlyIncreasing numbers)
+    (h : AddedSoFar g s numbers items i) (at : slice_get numbers i ≡ Some p) (for : IsProductionFor g n p) (set : (b : Look) × IsAsked s n b)
+    (looks : List Look) (is_set : IsSet W looks) (l : looks ≡ looks_at s n) where
   abbrev made : KernelItem
   made = record { production = p; dot = 0; looks = looks }
 
+  asked_of : (b : Look) → Contains looks b → IsAsked s n b
+  asked_of b c = let P : List Look → Type 0 = λ xs. Contains xs b in subst P l c
+
   made_item : IsKernelItem g made
-  made_item =
-      let some = w.some n set in
-      let c = (l.exact some.0).1 (w.inside n some.0 some.1, w.complete n some.0 some.1) in
-      record {
-        production = for.known;
-        dot = omega arith;
-        looks = recursion-from (IsLookBelow g.tokens) looks (λ b k. column_below g.tokens b (let f = ((l.exact b).0 k).0 in omega (arith, w.columns)));
-        rising = l.rising;
-        some = (let k = c.1 in omega arith);
-      }
+  made_item = record {
+    production = for.known;
+    dot = omega arith;
+    looks = recursion-from (IsLookBelow g.tokens) looks (λ b c. wants_below g r kernel valid n b ((w.exact n b).0 (asked_of b c)));
+    rising = is_set.rising;
+    some = (let P : List Look → Type 0 = λ xs. Contains xs set.0 in let k = (subst P (sym l) set.1).1 in omega arith);
+  }
 
   made_after : (x : KernelItem) → Contains items x → x.production < p
   made_after x c =
@@ -137,24 +147,26 @@ module _ (g : PlainGrammar) (kernel : Kernel) (s : Pairs) (numbers : List ℕ) (
     first = λ x c. elim (Contains-push_cases items made x c) [ inl d ↦ h.first x d | inr same ↦ sym (ap (λ (k : KernelItem). k.dot) same) ];
     sound = λ q d b f. elim (holds_cases items made q d b f) [
       | inl k ↦ h.sound q d b k
-      | inr k ↦ (let fl = (l.exact b).0 k.2 in let P : ℕ → Type 0 = λ x. IsProductionFor g n x in (n, subst P k.0 for, fl.0, fl.1))
+      | inr k ↦ (let P : ℕ → Type 0 = λ x. IsProductionFor g n x in (n, subst P k.0 for, asked_of b k.2))
     ];
-    complete = λ k q m b short read by c f. elim (cases_eq k i) [
+    complete = λ k q m b short read by f. elim (cases_eq k i) [
       | inl same ↦ (let one : q ≡ p = same_at numbers i q p (rw same at read) at in
           let side : m ≡ n = sym by.lhs ∙ ap (lhs_of g) one ∙ for.lhs in
-          (made, Contains-push items made, sym one, refl, (l.exact b).1 (c, rw side at f)))
-      | inr o ↦ holds_push items made q 0 b (h.complete k q m b (omega arith) read by c f)
+          let f' : IsAsked s n b = subst (λ (x : ℕ). IsAsked s x b) side f in
+          let P : List Look → Type 0 = λ xs. Contains xs b in
+          (made, Contains-push items made, sym one, refl, subst P (sym l) f'))
+      | inr o ↦ holds_push items made q 0 b (h.complete k q m b (omega arith) read by f)
     ];
   }
 
 -- the number that is next
-pub record NextNumber (g : PlainGrammar) (s : Pairs) (numbers : List ℕ) (i p : ℕ) : Type 0 where
+pub record NextNumber {W : ℕ} (g : PlainGrammar) (s : Asked W) (numbers : List ℕ) (i p : ℕ) : Type 0 where
   pub at : slice_get numbers i ≡ Some p
   pub ordinary : length g.starts ≤ p
   pub within : p - length g.starts < length g.productions
-  pub is : (q : Production) → q ≡ get_or g.productions (p - length g.starts) q → IsProductionFor g q.lhs p × (flag s.width s.flags.items q.lhs 1 ≡ true)
+  pub is : (q : Production) → q ≡ get_or g.productions (p - length g.starts) q → IsProductionFor g q.lhs p × ((b : Look) × IsAsked s q.lhs b)
 
-pub next_number : (g : PlainGrammar) (s : Pairs) (numbers : List ℕ) (i : ℕ) → ((q : ℕ) → Contains numbers q ↔ IsNumber g s q) → i < length numbers → NextNumber g s numbers i (get_or numbers i 0)
+pub next_number : {W : ℕ} (g : PlainGrammar) (s : Asked W) (numbers : List ℕ) (i : ℕ) → ((q : ℕ) → Contains numbers q ↔ IsNumber g s q) → i < length numbers → NextNumber g s numbers i (get_or numbers i 0)
 next_number g s numbers i exact l =
     let p = get_or numbers i 0 in
     let at = slice_get-get_or numbers i 0 l in
@@ -170,27 +182,27 @@ next_number g s numbers i exact l =
           let here = get_or_from_slice_get g.productions listed.place listed.production q listed.at in
           let one : q ≡ listed.production = (rw place at read) ∙ here in
           let side : found.0 ≡ q.lhs = sym listed.lhs ∙ ap (λ (z : Production). z.lhs) (sym one) in
-          let P : ℕ → Type 0 = λ z. IsProductionFor g z p × (flag s.width s.flags.items z 1 ≡ true) in
+          let P : ℕ → Type 0 = λ z. IsProductionFor g z p × ((b : Look) × IsAsked s z b) in
           subst P side (found.1, found.2);
     }
 
-pub added_of : (g : PlainGrammar) (kernel : Kernel) (s : Pairs) (numbers : List ℕ) (items : List KernelItem) (upto : ℕ) → IsWanted g kernel s → ((q : ℕ) → Contains numbers q ↔ IsNumber g s q) → length numbers ≤ upto
+pub added_of : {W : ℕ} (g : PlainGrammar) (s : Asked W) (numbers : List ℕ) (items : List KernelItem) (upto : ℕ) → ((q : ℕ) → Contains numbers q ↔ IsNumber g s q) → length numbers ≤ upto
     → AddedSoFar g s numbers items upto → AreAdded g s items
-added_of g kernel s numbers items upto w exact all h = record {
+added_of g s numbers items upto exact all h = record {
   first = λ p d b f. sym f.3 ∙ h.first f.0 f.1;
   sound = h.sound;
-  complete = λ p n b for c f.
-      let at = at_contains numbers p ((exact p).1 (n, for, w.any n b (w.sound n b c f))) in
-      h.complete at.0 p n b (omega (arith, slice_get_within numbers at.0 p at.1)) at.1 for c f;
+  complete = λ p n b for f.
+      let at = at_contains numbers p ((exact p).1 (n, for, (b, f))) in
+      h.complete at.0 p n b (omega (arith, slice_get_within numbers at.0 p at.1)) at.1 for f;
 }
 
 -- the kernel and what was added are the closure
-module _ (g : PlainGrammar) (kernel : Kernel) (s : Pairs) (w : IsWanted g kernel s) (added items : List KernelItem) (a : AreAdded g s added) (u : IsUnion g kernel.items added items) where
+module _ {W : ℕ} (g : PlainGrammar) (kernel : Kernel) (s : Asked W) (w : AreWanted g kernel s) (added items : List KernelItem) (a : AreAdded g s added) (u : IsUnion g kernel.items added items) where
   in_close : (p d : ℕ) (b : Look) → Holds (of_items items) p d b → Close g (Holds kernel) p d b
   in_close p d b h = elim ((u.holds p d b).0 h) [
     | inl k ↦ sets.Close.given k
     | inr k ↦ (let f = a.sound p d b k in let first = a.first p d b k in
-        let P : ℕ → Type 0 = λ x. Close g (Holds kernel) p x b in subst P (sym first) (go f.0 f.1 (w.sound f.0 b f.2 f.3)))
+        let P : ℕ → Type 0 = λ x. Close g (Holds kernel) p x b in subst P (sym first) (go f.0 f.1 ((w.exact f.0 b).0 f.2)))
   ]
     where
       go : (n : ℕ) → IsProductionFor g n p → Wants g (Holds kernel) n b → Close g (Holds kernel) p 0 b
@@ -200,7 +212,7 @@ module _ (g : PlainGrammar) (kernel : Kernel) (s : Pairs) (w : IsWanted g kernel
   of_close p d b (sets.Close.given h) = (u.holds p d b).1 (inl h)
   of_close p d b (sets.Close.added {n = n} c e for m) =
       let want : Wants g (Holds kernel) n b = wanted.Wants.wants c e m in
-      (u.holds p 0 b).1 (inr (a.complete p n b for (w.inside n b want) (w.complete n b want)))
+      (u.holds p 0 b).1 (inr (a.complete p n b for ((w.exact n b).1 want)))
 
   pub closure_of_union : AreSame (Holds (of_items items)) (Close g (Holds kernel))
   closure_of_union p d b = (in_close p d b, of_close p d b)

@@ -11,10 +11,10 @@ use Rattle.mh_grammar.specs.Plain.{PlainGrammar, IsInRange, production_count, rh
 use Rattle.mh_grammar.proofs.Numbered.{rhs_of-start, rhs_of-ordinary}
 use Rattle.mh_grammar.specs.ItemSets as sets
 use Rattle.mh_grammar.specs.ItemSets.{AreSame, Moved}
-use Rattle.mh_items.specs.declared.kernels.KernelItem.{KernelItem}
-use Rattle.mh_items.specs.declared.kernels.Kernel.{Kernel}
+use Rattle.mh_items.specs.Shapes.{KernelItem}
+use Rattle.mh_items.specs.Shapes.{Kernel}
 use Rattle.mh_items.specs.Kernels.{Holds, IsKernel, IsKernelItem, IsItemBefore}
-use Rattle.mh_items.proofs.Lists.{same_at, contains_at, at_contains, recursion_at, rising_at}
+use Rattle.mh_grammar.proofs.Lists.{same_at, contains_at, at_contains, recursion_at, rising_at}
 use Rattle.mh_items.proofs.Dotted.{drop_from-slice_get, slice_get_from-drop}
 use Rattle.mh_items.proofs.Merged.{kernel_push}
 

@@ -7,10 +7,10 @@ use Rattle.mh_grammar.specs.declared.types.Look.TheVariants.{Token, End}
 use Rattle.mh_grammar.specs.Plain.{PlainGrammar}
 use Rattle.mh_grammar.specs.Edges.{IsRising, IsLookBefore}
 use Rattle.mh_grammar.specs.ItemSets.{AreSame}
-use Rattle.mh_items.specs.declared.kernels.KernelItem.{KernelItem}
-use Rattle.mh_items.specs.declared.kernels.Kernel.{Kernel}
+use Rattle.mh_items.specs.Shapes.{KernelItem}
+use Rattle.mh_items.specs.Shapes.{Kernel}
 use Rattle.mh_items.specs.Kernels.{Holds, IsKernel, IsKernelItem, IsItemBefore}
-use Rattle.mh_items.proofs.Lists.{contains_here, contains_there, contains_cases, recursion_contains, rising_same}
+use Rattle.mh_grammar.proofs.Lists.{contains_here, contains_there, contains_cases, recursion_contains, rising_same}
 
 pub look_never : (a b : Look) → IsLookBefore a b → IsLookBefore b a → ⊥
 look_never (Token a) (Token b) h k = omega arith

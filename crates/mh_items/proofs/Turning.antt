@@ -5,10 +5,10 @@ use Rattle.std.proofs.lemmas.Bool.{ltb-true, ltb-false}
 use Rattle.std.proofs.lemmas.Option.{slice_get_within}
 use Rattle.std.specs.declared.cmp.Ordering.{Ordering}
 use Rattle.std.specs.declared.cmp.Ordering.TheVariants.{Less, Equal, Greater}
-use Rattle.mh_items.specs.declared.kernels.KernelItem.{KernelItem}
+use Rattle.mh_items.specs.Shapes.{KernelItem}
 use Rattle.mh_items.specs.Kernels.{IsItemBefore}
 use Rattle.mh_items.specs.Merging.{IsTurn, order_of}
-use Rattle.mh_items.proofs.Lists.{same_at}
+use Rattle.mh_grammar.proofs.Lists.{same_at}
 
 -- what the order of two items says
 abbrev pub IsOrder : KernelItem → KernelItem → Ordering → Type 0

@@ -8,8 +8,8 @@ use Rattle.mh_grammar.specs.declared.edges.Edge.{Edge}
 use Rattle.mh_grammar.specs.Plain.{PlainGrammar}
 use Rattle.mh_grammar.specs.Edges.{IsRising, IsEdgeBefore, find_edge}
 use Rattle.mh_grammar.specs.ItemSets.{ItemSet, Close, Moved}
-use Rattle.mh_items.specs.declared.kernels.Kernel.{Kernel}
-use Rattle.mh_items.specs.declared.kernels.Automaton.{Automaton}
+use Rattle.mh_items.specs.Shapes.{Kernel}
+use Rattle.mh_items.specs.Shapes.{Automaton}
 use Rattle.mh_items.specs.Kernels.{Holds, HasPlace, IsKernel}
 
 abbrev pub no_kernel : Kernel

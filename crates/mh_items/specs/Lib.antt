@@ -1,7 +1,12 @@
 pub mod Added
-pub mod Automaton
+pub mod Asked
+pub mod Closer
+pub mod Collection
+pub mod Conflicts
+pub mod Empties
 pub mod Firsts
+pub mod Automaton
 pub mod Kernels
 pub mod Merging
-pub mod Pairs
+pub mod Shapes
 pub mod Wanted

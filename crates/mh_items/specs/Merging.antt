@@ -6,9 +6,8 @@ use Rattle.std.specs.declared.cmp.Ordering.TheVariants.{Less, Equal, Greater}
 use Rattle.mh_grammar.specs.declared.types.Look.{Look}
 use Rattle.mh_grammar.specs.Plain.{PlainGrammar}
 use Rattle.mh_grammar.specs.Edges.{IsRising, IsLookBefore}
-use Rattle.mh_items.specs.declared.kernels.KernelItem.{KernelItem}
+use Rattle.mh_items.specs.Shapes.{KernelItem}
 use Rattle.mh_items.specs.Kernels.{Holds, IsKernel, IsItemBefore}
-use Rattle.mh_items.specs.Pairs.{column_of}
 
 -- the items of both, and no others
 pub record IsUnion (g : PlainGrammar) (left right items : List KernelItem) : Type 0 where
@@ -42,10 +41,3 @@ pub record IsJoined (x y z : KernelItem) : Type 0 where
   pub dot : z.dot ≡ x.dot
   pub rising : IsRising IsLookBefore z.looks
   pub looks : (b : Look) → Contains z.looks b ↔ (Contains x.looks b ⊎ Contains y.looks b)
-
--- the columns of the looks were set
-pub record Marks (looks : List Look) (old new : List Bool) : Type 0 where
-  pub len : length new ≡ length old
-  pub kept : (c : ℕ) → slice_index_or old c false ≡ true → slice_index_or new c false ≡ true
-  pub origin : (c : ℕ) → slice_index_or new c false ≡ true → (slice_index_or old c false ≡ true) ⊎ ((b : Look) × Contains looks b × (c ≡ column_of b))
-  pub marked : (b : Look) → Contains looks b → slice_index_or new (column_of b) false ≡ true

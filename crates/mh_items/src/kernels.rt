@@ -1,29 +1,39 @@
 //! Kernels and automata.
-use mh_grammar::{Edge, Look, Memory, Sequence};
+use mh_grammar::{Edge, Memory, Sequence};
+use mh_sets::TokenSet;
 use std::alloc::{AllocError, AllocFailed};
 
-/// A production and a dot with the looks that it stands with, rising.
+/// A production and a dot with the looks that it stands with.
 #[derive(Debug, Drop, PartialEq, Eq, Hash)]
-pub struct KernelItem {
+pub struct ItemWith<L> {
     /// The number of the production; those of the starts come first.
     pub production: u32,
     /// How many symbols of the right side stand before the dot.
     pub dot: u32,
-    pub looks: Sequence<Look>,
+    pub looks: L,
 }
 
 /// Items, rising by production and dot.
 #[derive(Debug, Drop, PartialEq, Eq, Hash)]
-pub struct Kernel {
-    pub items: Sequence<KernelItem>,
+pub struct KernelWith<L> {
+    pub items: Sequence<ItemWith<L>>,
 }
 
 /// States by their kernels, with the edges of each in the order of symbols.
 #[derive(Debug, Drop)]
-pub struct Automaton {
-    pub kernels: Sequence<Kernel>,
+pub struct AutomatonWith<L> {
+    pub kernels: Sequence<KernelWith<L>>,
     pub edges: Sequence<Sequence<Edge>>,
 }
+
+/// An item whose looks are a set of a width.
+pub type KernelItem<const W: usize> = ItemWith<TokenSet<W>>;
+
+/// A kernel whose looks are sets of a width.
+pub type Kernel<const W: usize> = KernelWith<TokenSet<W>>;
+
+/// An automaton whose looks are sets of a width.
+pub type Automaton<const W: usize> = AutomatonWith<TokenSet<W>>;
 
 /// Why no automaton is given.
 #[derive(Clone, Copy, Debug, PartialEq, Eq)]

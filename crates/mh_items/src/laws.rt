@@ -2,7 +2,7 @@
 ghost use Rattle.std.specs.Prelude.{◌≡◌, ◌↔◌, IsTrue};
 ghost use Rattle.mh_grammar.specs.Plain.{plain_of};
 ghost use Rattle.mh_grammar.specs.ItemSets.{AreSame};
-ghost use Rattle.mh_items.specs.declared.kernels.Kernel.{Kernel as KernelOf};
+ghost use Rattle.mh_items.specs.Shapes.{Kernel as KernelOf};
 ghost use Rattle.mh_items.specs.Kernels.{Holds, IsKernel};
 
 use crate::kernels::Kernel;
@@ -16,7 +16,7 @@ pub fn one_list(grammar: &Grammar)
 }
 
 /// Whether two kernels are one.
-pub fn are_equal(left: &Kernel, right: &Kernel) -> bool
+pub fn are_equal<const W: usize>(left: &Kernel<W>, right: &Kernel<W>) -> bool
     ensures { IsTrue result ↔ (left.now ≡ right.now) }
 {
     left == right

@@ -2,22 +2,28 @@
 #![tactic(auto)]
 
 mod added;
+mod asked;
+mod closer;
 mod closures;
+mod empties;
 pub mod first_sets;
+mod gathering;
 mod kernels;
 mod laws;
 mod links;
 mod merging;
 mod moves;
-mod pairs;
 mod places;
-mod sets;
+mod spreading;
 mod starts;
 
+pub use closer::Closer;
 pub use closures::closure;
-pub use kernels::{Automaton, Kernel, KernelItem, StatesFault};
+pub use gathering::firsts;
+pub use kernels::{
+    Automaton, AutomatonWith, ItemWith, Kernel, KernelItem, KernelWith, StatesFault,
+};
 pub use laws::{are_equal, one_list};
 pub use moves::moved;
 pub use places::symbol_at;
-pub use sets::firsts;
 pub use starts::start_kernel;

@@ -1,90 +1,89 @@
 //! What strings of symbols may begin with, and the productions of a nonterminal that begin with another.
-ghost use Rattle.std.specs.Prelude.{◌≡◌, ◌<◌, ◌↔◌, ◌⊎◌, [], ℕ, List, length, IfOk, OnOk, IsTrue};
+ghost use Rattle.std.specs.Prelude.{◌≡◌, ◌<◌, ◌↔◌, ◌≤◌, ◌*◌, ◌⊎◌, [], length, IsTrue};
 ghost use Rattle.std.specs.List.{All, Contains};
 ghost use Rattle.mh_grammar.specs.Plain.{PlainGrammar, IsSymbolBelow, Derives};
-ghost use Rattle.mh_grammar.specs.First.{First};
-ghost use Rattle.mh_items.specs.Firsts.{AreSets, IsRest, IsLinkOf};
+ghost use Rattle.mh_grammar.specs.declared.types.Look.{Look as LookOf};
+ghost use Rattle.mh_items.specs.Firsts.{AreSets, Begins, IsRest, IsLinkOf};
 
 use crate::first_sets::Sets;
 use crate::places::{rest_from, symbol_in};
-use mh_grammar::{Memory, Sequence, Symbol, Token};
-use std::alloc::Global;
+use mh_grammar::{Look, Symbol};
+use mh_sets::TokenSet;
 
 /// The tokens that a string of symbols may begin with, and whether it may derive the empty word.
-#[derive(Debug, Drop)]
-pub(crate) struct Rest {
-    pub(crate) tokens: Vec<Token>,
+#[derive(Drop)]
+pub(crate) struct Rest<const W: usize> {
+    pub(crate) tokens: TokenSet<W>,
     pub(crate) passes: bool,
 }
 
 /// A production that begins with a nonterminal, and what may come behind that.
-#[derive(Debug, Drop)]
-pub(crate) struct Link {
+#[derive(Drop)]
+pub(crate) struct Link<const W: usize> {
     pub(crate) to: u16,
-    pub(crate) tokens: Sequence<Token>,
+    pub(crate) tokens: TokenSet<W>,
     pub(crate) passes: bool,
 }
 
 /// What a string of symbols may begin with.
-pub(crate) fn rest_of(alloc: Global, sets: &Sets, symbols: &[Symbol]) -> Result<Rest, Memory>
+pub(crate) fn rest_of<const W: usize>(sets: &Sets<W>, symbols: &[Symbol]) -> Rest<W>
+    requires few { W ≤ 8 }
     requires len { length sets.now.first ≡ length sets.now.nullable }
-    requires symbols { All (IsSymbolBelow 65536 (length sets.now.nullable)) symbols.now }
-    ensures { IfOk result (λ r. (g : PlainGrammar) → AreSets g sets.now → IsRest g symbols.now r.tokens.items r.passes) }
+    requires symbols { All (IsSymbolBelow (64 * W) (length sets.now.nullable)) symbols.now }
+    ensures { (g : PlainGrammar) → AreSets g sets.now → IsRest g symbols.now result.tokens result.passes }
 {
-    let mut tokens = Vec::new(alloc);
+    let mut tokens = TokenSet::empty();
     for symbol in symbols {
-        if !add_symbol(&mut tokens, sets, *symbol)? {
-            return Ok(Rest {
+        if !add_symbol(&mut tokens, sets, *symbol) {
+            return Rest {
                 tokens,
                 passes: false,
-            });
+            };
         }
     }
-    Ok(Rest {
+    Rest {
         tokens,
         passes: true,
-    })
+    }
 }
 
 /// Adds the FIRST of a symbol, and says whether the symbol is nullable.
-fn add_symbol(tokens: &mut Vec<Token>, sets: &Sets, symbol: Symbol) -> Result<bool, Memory>
+fn add_symbol<const W: usize>(tokens: &mut TokenSet<W>, sets: &Sets<W>, symbol: Symbol) -> bool
+    requires few { W ≤ 8 }
     requires len { length sets.now.first ≡ length sets.now.nullable }
-    requires symbol { IsSymbolBelow 65536 (length sets.now.nullable) symbol }
-    ensures first { OnOk result ((g : PlainGrammar) → AreSets g sets.now → (a : ℕ) → Contains tokens.new.items a ↔ (Contains tokens.old.items a ⊎ First g symbol a)) }
-    ensures empty { IfOk result (λ b. (g : PlainGrammar) → AreSets g sets.now → IsTrue b ↔ Derives g symbol []) }
+    requires symbol { IsSymbolBelow (64 * W) (length sets.now.nullable) symbol }
+    ensures first { (g : PlainGrammar) → AreSets g sets.now → (b : LookOf) → Contains tokens.new b ↔ (Contains tokens.old b ⊎ Begins g symbol b) }
+    ensures empty { (g : PlainGrammar) → AreSets g sets.now → IsTrue result ↔ Derives g symbol [] }
 {
     match symbol {
         Symbol::T(token) => {
-            tokens.push(token)?;
-            Ok(false)
+            tokens.insert(Look::Token(token));
+            false
         }
         Symbol::N(n) => {
-            tokens.extend_from_slice(sets.first[usize::from(n)].as_slice())?;
-            Ok(sets.nullable[usize::from(n)])
+            tokens.union_into(&sets.first[usize::from(n)]);
+            sets.nullable[usize::from(n)]
         }
     }
 }
 
 /// The link of a right side, where it begins with a nonterminal.
-pub(crate) fn link_of(
-    alloc: Global,
-    sets: &Sets,
-    symbols: &[Symbol],
-) -> Result<Option<Link>, Memory>
+pub(crate) fn link_of<const W: usize>(sets: &Sets<W>, symbols: &[Symbol]) -> Option<Link<W>>
+    requires few { W ≤ 8 }
     requires len { length sets.now.first ≡ length sets.now.nullable }
-    requires symbols { All (IsSymbolBelow 65536 (length sets.now.nullable)) symbols.now }
-    ensures { IfOk result (λ found. (g : PlainGrammar) → AreSets g sets.now → IsLinkOf g symbols.now found) }
+    requires symbols { All (IsSymbolBelow (64 * W) (length sets.now.nullable)) symbols.now }
+    ensures { (g : PlainGrammar) → AreSets g sets.now → IsLinkOf g symbols.now result }
 {
     match symbol_in(symbols, 0) {
         Some(Symbol::N(to)) => {
-            let rest = rest_of(alloc, sets, rest_from(symbols, 0))?;
-            Ok(Some(Link {
+            let rest = rest_of(sets, rest_from(symbols, 0));
+            Some(Link {
                 to,
-                tokens: Sequence::from_vec(rest.tokens),
+                tokens: rest.tokens,
                 passes: rest.passes,
-            }))
+            })
         }
-        Some(Symbol::T(_)) => Ok(None),
-        None => Ok(None),
+        Some(Symbol::T(_)) => None,
+        None => None,
     }
 }

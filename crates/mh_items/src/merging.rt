@@ -1,25 +1,22 @@
 //! Two rising lists of items as one.
-ghost use Rattle.std.specs.Prelude.{◌≡◌, ◌<◌, ◌≤◌, ◌+◌, ◌↔◌, ◌⊎◌, ℕ, true, false, length, vec_len, slice_index_or, ◌^◌, IfOk};
-ghost use Rattle.std.specs.List.{All, Contains};
+ghost use Rattle.std.specs.Prelude.{◌≡◌, ◌<◌, ◌≤◌, ◌+◌, ◌⊎◌, length, IfOk};
 ghost use Rattle.mh_grammar.specs.Plain.{plain_of, IsInRange};
-ghost use Rattle.mh_items.specs.Kernels.{IsKernel, IsKernelItem};
-ghost use Rattle.mh_items.specs.Pairs.{column_of};
-ghost use Rattle.mh_items.specs.Merging.{IsUnion, IsMerged, IsJoined, IsTurn, order_of, Marks};
+ghost use Rattle.mh_items.specs.Kernels.{IsKernel};
+ghost use Rattle.mh_items.specs.Merging.{IsUnion, IsMerged, IsJoined, IsTurn, order_of};
 
-use crate::added::looks_of;
 use crate::kernels::KernelItem;
-use crate::pairs::column;
-use mh_grammar::{Grammar, Look, Memory, Sequence};
+use mh_grammar::{Grammar, Memory};
 use std::alloc::Global;
 use std::cmp::Ordering;
 
 /// The items of both lists, rising; items with one place become one, with the looks of both.
-pub(crate) fn merged(
+pub(crate) fn merged<const W: usize>(
     alloc: Global,
     grammar: &Grammar,
-    left: &[KernelItem],
-    right: &[KernelItem],
-) -> Result<Vec<KernelItem>, Memory>
+    left: &[KernelItem<W>],
+    right: &[KernelItem<W>],
+) -> Result<Vec<KernelItem<W>>, Memory>
+    requires few { W ≤ 8 }
     requires range { IsInRange (plain_of grammar.now) }
     requires left { IsKernel (plain_of grammar.now) (record { items = left.now }) }
     requires right { IsKernel (plain_of grammar.now) (record { items = right.now }) }
@@ -29,7 +26,7 @@ pub(crate) fn merged(
     let mut i = 0;
     let mut j = 0;
     'items: while i < left.len() || j < right.len() {
-        let (next_i, next_j) = add_next(alloc, grammar, left, i, right, j, &mut items)?;
+        let (next_i, next_j) = add_next(grammar, left, i, right, j, &mut items)?;
         i = next_i;
         j = next_j;
     }
@@ -37,15 +34,15 @@ pub(crate) fn merged(
 }
 
 /// Adds the item that comes next, and says how far both lists are then.
-fn add_next(
-    alloc: Global,
+fn add_next<const W: usize>(
     grammar: &Grammar,
-    left: &[KernelItem],
+    left: &[KernelItem<W>],
     i: usize,
-    right: &[KernelItem],
+    right: &[KernelItem<W>],
     j: usize,
-    items: &mut Vec<KernelItem>,
+    items: &mut Vec<KernelItem<W>>,
 ) -> Result<(usize, usize), Memory>
+    requires few { W ≤ 8 }
     requires range { IsInRange (plain_of grammar.now) }
     requires left { IsKernel (plain_of grammar.now) (record { items = left.now }) }
     requires right { IsKernel (plain_of grammar.now) (record { items = right.now }) }
@@ -56,23 +53,29 @@ fn add_next(
 {
     match turn(left, i, right, j) {
         Ordering::Less => {
-            items.push(copied(&left[i])?)?;
+            items.push(copied(&left[i]))?;
             Ok((i + 1, j))
         }
         Ordering::Greater => {
-            items.push(copied(&right[j])?)?;
+            items.push(copied(&right[j]))?;
             Ok((i, j + 1))
         }
         Ordering::Equal => {
-            items.push(joined(alloc, grammar, &left[i], &right[j])?)?;
+            items.push(joined(&left[i], &right[j]))?;
             Ok((i + 1, j + 1))
         }
     }
 }
 
 /// Which list has the next item, or both.
-fn turn(left: &[KernelItem], i: usize, right: &[KernelItem], j: usize) -> Ordering
-    requires { (i < length left.now) ⊎ (j < length right.now) }
+fn turn<const W: usize>(
+    left: &[KernelItem<W>],
+    i: usize,
+    right: &[KernelItem<W>],
+    j: usize,
+) -> Ordering
+    requires few { W ≤ 8 }
+    requires more { (i < length left.now) ⊎ (j < length right.now) }
     ensures { IsTurn left.now i right.now j result }
 {
     if j >= right.len() {
@@ -84,7 +87,7 @@ fn turn(left: &[KernelItem], i: usize, right: &[KernelItem], j: usize) -> Orderi
     order(&left[i], &right[j])
 }
 
-fn order(x: &KernelItem, y: &KernelItem) -> Ordering
+fn order<const W: usize>(x: &KernelItem<W>, y: &KernelItem<W>) -> Ordering
     ensures { result ≡ order_of x.now y.now }
 {
     if x.production < y.production {
@@ -102,54 +105,25 @@ fn order(x: &KernelItem, y: &KernelItem) -> Ordering
     Ordering::Equal
 }
 
-fn copied(item: &KernelItem) -> Result<KernelItem, Memory>
-    ensures { IfOk result (λ copy. copy ≡ item.now) }
+fn copied<const W: usize>(item: &KernelItem<W>) -> KernelItem<W>
+    ensures { result ≡ item.now }
 {
-    Ok(KernelItem {
+    KernelItem {
         production: item.production,
         dot: item.dot,
-        looks: item.looks.clone()?,
-    })
+        looks: item.looks.copied(),
+    }
 }
 
 /// The item with the looks of both.
-fn joined(
-    alloc: Global,
-    grammar: &Grammar,
-    x: &KernelItem,
-    y: &KernelItem,
-) -> Result<KernelItem, Memory>
-    requires range { IsInRange (plain_of grammar.now) }
-    requires x { IsKernelItem (plain_of grammar.now) x.now }
-    requires y { IsKernelItem (plain_of grammar.now) y.now }
-    ensures { IfOk result (IsJoined x.now y.now) }
+fn joined<const W: usize>(x: &KernelItem<W>, y: &KernelItem<W>) -> KernelItem<W>
+    ensures { IsJoined x.now y.now result }
 {
-    let flags = unset(alloc, grammar.tokens.len() + 2)?;
-    let flags = marked(flags, x.looks.as_slice());
-    let flags = marked(flags, y.looks.as_slice());
-    Ok(KernelItem {
+    let mut looks = x.looks.copied();
+    looks.union_into(&y.looks);
+    KernelItem {
         production: x.production,
         dot: x.dot,
-        looks: Sequence::from_vec(looks_of(alloc, flags.as_slice())?),
-    })
-}
-
-fn unset(alloc: Global, len: usize) -> Result<Vec<bool>, Memory>
-    requires { len < 2 ^ 63 }
-    ensures len { IfOk result (λ v. vec_len v ≡ len) }
-    ensures none { IfOk result (λ v. (i : ℕ) → slice_index_or v.items i false ≡ false) }
-{
-    Ok(vec![in alloc; false; len]?)
-}
-
-/// The flags with the columns of looks set.
-fn marked(mut flags: Vec<bool>, looks: &[Look]) -> Vec<bool>
-    requires { All (λ look. column_of look < vec_len flags) looks.now }
-    ensures len { vec_len result ≡ vec_len flags }
-    ensures marks { Marks looks.now flags.items result.items }
-{
-    for look in looks {
-        flags[column(*look)] = true;
+        looks,
     }
-    flags
 }

@@ -1,5 +1,5 @@
 //! The moves of a closure.
-ghost use Rattle.std.specs.Prelude.{◌≡◌, ◌<◌, ◌+◌, ◌^◌, ◌↔◌, ℕ, Some, slice_get, IsTrue, IfOk};
+ghost use Rattle.std.specs.Prelude.{◌≡◌, ◌<◌, ◌≤◌, ◌+◌, ◌^◌, ◌↔◌, ℕ, Some, slice_get, IsTrue, IfOk};
 ghost use Rattle.mh_grammar.specs.Plain.{plain_of, rhs_of, production_count, IsInRange};
 ghost use Rattle.mh_grammar.specs.ItemSets.{AreSame, Moved};
 ghost use Rattle.mh_items.specs.Kernels.{Holds, IsKernel};
@@ -10,12 +10,13 @@ use mh_grammar::{Grammar, Memory, Sequence, Symbol};
 use std::alloc::Global;
 
 /// The items of a closure with the dot moved past the symbol, rising (Knuth 1965). It fails for want of memory alone.
-pub fn moved(
+pub fn moved<const W: usize>(
     alloc: Global,
     grammar: &Grammar,
-    closed: &Kernel,
+    closed: &Kernel<W>,
     symbol: Symbol,
-) -> Result<Kernel, Memory>
+) -> Result<Kernel<W>, Memory>
+    requires few { W ≤ 8 }
     requires range { IsInRange (plain_of grammar.now) }
     requires kernel { IsKernel (plain_of grammar.now) closed.now }
     ensures kernel { IfOk result (IsKernel (plain_of grammar.now)) }
@@ -24,7 +25,7 @@ pub fn moved(
     let mut items = Vec::new(alloc);
     for item in closed.items.as_slice() {
         if is_before(grammar, item, symbol) {
-            items.push(advanced(item)?)?;
+            items.push(advanced(item))?;
         }
     }
     Ok(Kernel {
@@ -33,7 +34,7 @@ pub fn moved(
 }
 
 /// Whether the symbol stands at the dot.
-fn is_before(grammar: &Grammar, item: &KernelItem, symbol: Symbol) -> bool
+fn is_before<const W: usize>(grammar: &Grammar, item: &KernelItem<W>, symbol: Symbol) -> bool
     requires range { IsInRange (plain_of grammar.now) }
     requires production { item.now.production < production_count (plain_of grammar.now) }
     ensures { IsTrue result ↔ (slice_get (rhs_of (plain_of grammar.now) item.now.production) item.now.dot ≡ Some symbol) }
@@ -42,13 +43,13 @@ fn is_before(grammar: &Grammar, item: &KernelItem, symbol: Symbol) -> bool
 }
 
 /// The item with the dot behind the next symbol.
-fn advanced(item: &KernelItem) -> Result<KernelItem, Memory>
+fn advanced<const W: usize>(item: &KernelItem<W>) -> KernelItem<W>
     requires { item.now.dot + 1 < 2 ^ 32 }
-    ensures { IfOk result (λ moved. moved ≡ record item.now { dot = item.now.dot + 1 }) }
+    ensures { result ≡ record item.now { dot = item.now.dot + 1 } }
 {
-    Ok(KernelItem {
+    KernelItem {
         production: item.production,
         dot: item.dot + 1,
-        looks: item.looks.clone()?,
-    })
+        looks: item.looks.copied(),
+    }
 }

@@ -33,10 +33,10 @@ position_below p i k [] is = absurd (no_some k is)
 position_below p i k (x ∷ xs) is = position_on p i k x xs (p x) refl (position_below p (i + 1) k xs) is
 
 -- what names stand for is below these counts
-record IsBounded (n m : ℕ) (v : Vocabulary) : Type 0 where
-  starts : (name : Text) (k : ℕ) → v.start_named name ≡ Some k → k < n
-  only : (k : ℕ) → v.only_start ≡ Some k → k < n
-  tokens : (name : Text) (k : ℕ) → v.token_named name ≡ Some k → k < m
+pub record IsBounded (n m : ℕ) (v : Vocabulary) : Type 0 where
+  pub starts : (name : Text) (k : ℕ) → v.start_named name ≡ Some k → k < n
+  pub only : (k : ℕ) → v.only_start ≡ Some k → k < n
+  pub tokens : (name : Text) (k : ℕ) → v.token_named name ≡ Some k → k < m
 
 number_below : (names : List Text) (name : Text) (k : ℕ) → number_of names name ≡ Some k → k < length names
 number_below names name k is = let lt : k < 0 + length names = position_below (bytes_eq name) 0 k names is in omega (arith, lt)
@@ -46,7 +46,7 @@ only_below [] k is = absurd (no_some k is)
 only_below (name ∷ []) k is = let same : 0 ≡ k = ap (value_or 0) is in omega (arith, same)
 only_below (name ∷ other ∷ names) k is = absurd (no_some k is)
 
-bounded : (g : Grammar) → IsBounded (length (start_names g)) (length (token_names g)) (vocabulary_of g)
+pub bounded : (g : Grammar) → IsBounded (length (start_names g)) (length (token_names g)) (vocabulary_of g)
 bounded g = record { starts = number_below (start_names g); only = only_below (start_names g); tokens = number_below (token_names g) }
 
 abbrev AreBelow : ℕ → TokensFound → Type 0

@@ -4,7 +4,7 @@ use Rattle.std.proofs.lemmas.List.{same_lists, get_or_default}
 use Rattle.std.specs.Prelude.{MatchBool}
 use Rattle.mh_grammar.specs.declared.types.Grammar.{Grammar}
 use Rattle.mh_grammar.specs.declared.types.Look.TheVariants.{Token}
-use Rattle.mh_items.specs.declared.kernels.Automaton.{Automaton}
+use Rattle.mh_items.specs.Shapes.{Automaton}
 use Rattle.mh_items.specs.Automaton.{kernel_at, edges_at}
 use Rattle.mh_tables.specs.declared.parts.Fallback.{Fallback}
 use Rattle.mh_tables.specs.declared.parts.Fallback.TheVariants as fallbacks

@@ -6,9 +6,9 @@ use Rattle.std.proofs.lemmas.List.Elements.{All-from_recursion}
 use Rattle.mh_grammar.specs.declared.types.Grammar.{Grammar}
 use Rattle.mh_grammar.specs.declared.edges.Edge.{Edge}
 use Rattle.mh_grammar.specs.Plain.{plain_of}
-use Rattle.mh_items.specs.declared.kernels.Kernel.{Kernel}
-use Rattle.mh_items.specs.declared.kernels.KernelItem.{KernelItem}
-use Rattle.mh_items.specs.declared.kernels.Automaton.{Automaton}
+use Rattle.mh_items.specs.Shapes.{Kernel}
+use Rattle.mh_items.specs.Shapes.{KernelItem}
+use Rattle.mh_items.specs.Shapes.{Automaton}
 use Rattle.mh_items.specs.Kernels.{IsKernelItem}
 use Rattle.mh_items.specs.Automaton.{IsAutomaton, kernel_at, edges_at}
 use Rattle.mh_tables.specs.Table.{TableData, fallback_of}

@@ -5,8 +5,8 @@ use Rattle.mh_grammar.specs.declared.types.Symbol.{Symbol}
 use Rattle.mh_grammar.specs.declared.types.Symbol.TheVariants.{T, N}
 use Rattle.mh_grammar.specs.declared.edges.Edge.{Edge}
 use Rattle.mh_grammar.specs.Names.{token_name, nonterminal_name}
-use Rattle.mh_items.specs.declared.kernels.KernelItem.{KernelItem}
-use Rattle.mh_items.specs.declared.kernels.Automaton.{Automaton}
+use Rattle.mh_items.specs.Shapes.{KernelItem}
+use Rattle.mh_items.specs.Shapes.{Automaton}
 use Rattle.mh_items.specs.Automaton.{kernel_at, edges_at}
 use Rattle.mh_tables.specs.declared.parts.Action.{Action}
 use Rattle.mh_tables.specs.declared.parts.Action.TheVariants.{Shift, Reduce, Refuse}

@@ -1,18 +1,17 @@
 //! The text of an automaton with its table.
-ghost use Rattle.std.specs.Prelude.{◌≡◌, ◌<◌, ◌++◌, length, codes, decimal, IfOk, OnOk};
+ghost use Rattle.std.specs.Prelude.{◌≡◌, ◌<◌, ◌≤◌, ◌++◌, length, codes, decimal, IfOk, OnOk};
 ghost use Rattle.std.specs.List.{All};
 ghost use Rattle.mh_grammar.specs.Plain.{plain_of, IsInRange};
-ghost use Rattle.mh_items.specs.Firsts.{AreFirsts};
 ghost use Rattle.mh_items.specs.Kernels.{IsKernelItem};
 ghost use Rattle.mh_items.specs.Automaton.{IsAutomaton, kernel_at, edges_at};
 ghost use Rattle.mh_tables.specs.Table.{cell_of, fallback_of};
+ghost use Rattle.mh_resolve.specs.declared.kinds.Mode.{Mode as ModeOf};
 ghost use Rattle.mh_resolve.specs.States.{IsTableOf};
 ghost use Rattle.mh_report.specs.Automata.{mode_name, title, kernel_line, kernel_lines, cell_line, cell_lines, goto_line, goto_lines, default_line, head_line, AreActionLines, IsStateText, IsAutomatonText, Adds};
 
 use crate::items::{write_item, write_number, write_production};
 use mh_grammar::{Edge, Grammar, Memory, Symbol, Token, nonterminal_name, token_name};
-use mh_items::first_sets::Firsts;
-use mh_items::{Automaton, KernelItem, firsts};
+use mh_items::{Automaton, KernelItem};
 use mh_resolve::{Mode, holes_of};
 use mh_tables::{Action, Fallback, Halting, Table};
 use std::alloc::Global;
@@ -36,8 +35,13 @@ fn write_title(alloc: Global, text: &mut Vec<u8>, mode: Mode, states: u32) -> Re
     Ok(())
 }
 
-fn write_kernel_line(text: &mut Vec<u8>, grammar: &Grammar, item: &KernelItem) -> Result<(), Memory>
-    requires { IsKernelItem (plain_of grammar.now) item.now }
+fn write_kernel_line<const W: usize>(
+    text: &mut Vec<u8>,
+    grammar: &Grammar,
+    item: &KernelItem<W>,
+) -> Result<(), Memory>
+    requires few { W ≤ 8 }
+    requires item { IsKernelItem (plain_of grammar.now) item.now }
     ensures { OnOk result (text.new.items ≡ text.old.items ++ kernel_line grammar.now item.now) }
 {
     text.extend_from_slice(b"  ")?;
@@ -46,12 +50,13 @@ fn write_kernel_line(text: &mut Vec<u8>, grammar: &Grammar, item: &KernelItem) -
     Ok(())
 }
 
-fn write_kernel_lines(
+fn write_kernel_lines<const W: usize>(
     text: &mut Vec<u8>,
     grammar: &Grammar,
-    items: &[KernelItem],
+    items: &[KernelItem<W>],
 ) -> Result<(), Memory>
-    requires { All (IsKernelItem (plain_of grammar.now)) items.now }
+    requires few { W ≤ 8 }
+    requires items { All (IsKernelItem (plain_of grammar.now)) items.now }
     ensures { OnOk result (text.new.items ≡ text.old.items ++ kernel_lines grammar.now items.now) }
 {
     for item in items {
@@ -169,19 +174,19 @@ fn write_default(text: &mut Vec<u8>, grammar: &Grammar, production: u32) -> Resu
 }
 
 // The default, or a line for each token that acts or is a hole.
-fn write_actions(
+fn write_actions<const W: usize>(
     alloc: Global,
     text: &mut Vec<u8>,
     grammar: &Grammar,
-    firsts: &Firsts,
-    automaton: &Automaton,
+    automaton: &Automaton<W>,
     table: &Table,
     state: u32,
 ) -> Result<(), Memory>
+    requires few { W ≤ 8 }
     requires range { IsInRange (plain_of grammar.now) }
-    requires firsts { AreFirsts (plain_of grammar.now) firsts.now }
     requires automaton { IsAutomaton (plain_of grammar.now) automaton.now }
     requires grammar { table.now.grammar ≡ plain_of grammar.now }
+    requires table { (mode : ModeOf) × IsTableOf grammar.now automaton.now mode table.now }
     requires states { length table.now.states ≡ length automaton.now.kernels }
     requires state { state < length automaton.now.kernels }
     ensures { OnOk result
@@ -195,7 +200,7 @@ fn write_actions(
         }
         Some(Fallback::Reduce(production)) => write_default(text, grammar, production),
         None => {
-            let holes = holes_of(alloc, grammar, firsts, automaton, state as usize)?;
+            let holes = holes_of(alloc, grammar, automaton, table, state)?;
             write_cell_lines(alloc, text, grammar, table, state, holes.as_slice())
         }
     }
@@ -210,12 +215,13 @@ fn write_head(alloc: Global, text: &mut Vec<u8>, state: u32) -> Result<(), Memor
     Ok(())
 }
 
-fn write_kernel(
+fn write_kernel<const W: usize>(
     text: &mut Vec<u8>,
     grammar: &Grammar,
-    automaton: &Automaton,
+    automaton: &Automaton<W>,
     state: u32,
 ) -> Result<(), Memory>
+    requires few { W ≤ 8 }
     requires automaton { IsAutomaton (plain_of grammar.now) automaton.now }
     requires state { state < length automaton.now.kernels }
     ensures { OnOk result (text.new.items ≡ text.old.items
@@ -225,13 +231,14 @@ fn write_kernel(
     write_kernel_lines(text, grammar, kernel.items.as_slice())
 }
 
-fn write_gotos(
+fn write_gotos<const W: usize>(
     alloc: Global,
     text: &mut Vec<u8>,
     grammar: &Grammar,
-    automaton: &Automaton,
+    automaton: &Automaton<W>,
     state: u32,
 ) -> Result<(), Memory>
+    requires few { W ≤ 8 }
     requires state { state < length automaton.now.edges }
     ensures { OnOk result (text.new.items ≡ text.old.items
         ++ goto_lines grammar.now (edges_at automaton.now state)) }
@@ -240,19 +247,19 @@ fn write_gotos(
     write_goto_lines(alloc, text, grammar, edges)
 }
 
-fn write_state(
+fn write_state<const W: usize>(
     alloc: Global,
     text: &mut Vec<u8>,
     grammar: &Grammar,
-    firsts: &Firsts,
-    automaton: &Automaton,
+    automaton: &Automaton<W>,
     table: &Table,
     state: u32,
 ) -> Result<(), Memory>
+    requires few { W ≤ 8 }
     requires range { IsInRange (plain_of grammar.now) }
-    requires firsts { AreFirsts (plain_of grammar.now) firsts.now }
     requires automaton { IsAutomaton (plain_of grammar.now) automaton.now }
     requires grammar { table.now.grammar ≡ plain_of grammar.now }
+    requires table { (mode : ModeOf) × IsTableOf grammar.now automaton.now mode table.now }
     requires states { length table.now.states ≡ length automaton.now.kernels }
     requires state { state < length automaton.now.kernels }
     ensures { OnOk result
@@ -261,40 +268,32 @@ fn write_state(
 {
     write_head(alloc, text, state)?;
     write_kernel(text, grammar, automaton, state)?;
-    write_actions(alloc, text, grammar, firsts, automaton, table, state)?;
+    write_actions(alloc, text, grammar, automaton, table, state)?;
     write_gotos(alloc, text, grammar, automaton, state)?;
     Ok(())
 }
 
 /// The states of an automaton, each with its kernel, its default or the cells that act or are holes, and its edges on
 /// nonterminals. The table is that of the automaton in the mode. Fails for want of memory alone.
-pub fn automaton_text(
+pub fn automaton_text<const W: usize>(
     alloc: Global,
     grammar: &Grammar,
-    automaton: &Automaton,
+    automaton: &Automaton<W>,
     table: &Halting,
     mode: Mode,
 ) -> Result<Vec<u8>, Memory>
+    requires few { W ≤ 8 }
     requires range { IsInRange (plain_of grammar.now) }
     requires automaton { IsAutomaton (plain_of grammar.now) automaton.now }
     requires table { IsTableOf grammar.now automaton.now mode table.now }
     ensures { IfOk result
         (λ text. IsAutomatonText grammar.now automaton.now mode table.now text.items) }
 {
-    let firsts = firsts(alloc, grammar)?;
     let states = automaton.kernels.len() as u32;
     let mut text = Vec::new(alloc);
     write_title(alloc, &mut text, mode, states)?;
     for state in 0..states {
-        write_state(
-            alloc,
-            &mut text,
-            grammar,
-            &firsts,
-            automaton,
-            table.table(),
-            state,
-        )?;
+        write_state(alloc, &mut text, grammar, automaton, table.table(), state)?;
     }
     Ok(text)
 }

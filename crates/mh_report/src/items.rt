@@ -8,9 +8,11 @@ use mh_grammar::{
     Grammar, Look, Memory, Symbol, left_side_name, nonterminal_name, symbol_name, token_name,
 };
 use mh_items::KernelItem;
+use mh_sets::TokenSet;
 use std::alloc::Global;
 
-pub(crate) fn write_number(alloc: Global, text: &mut Vec<u8>, number: u32) -> Result<(), Memory>
+/// Writes a number in decimal. Fails for want of memory alone; then a front of it may be written.
+pub fn write_number(alloc: Global, text: &mut Vec<u8>, number: u32) -> Result<(), Memory>
     ensures { OnOk result (text.new.items ≡ text.old.items ++ decimal number) }
 {
     let digits = format!(in alloc; "{number}")?;
@@ -87,7 +89,9 @@ fn write_right_side(
     }
 }
 
-pub(crate) fn write_production(
+/// Writes a production: its left side, an arrow, and its right side. Fails for want of memory alone; then a front of it
+/// may be written.
+pub fn write_production(
     text: &mut Vec<u8>,
     grammar: &Grammar,
     production: u32,
@@ -109,30 +113,36 @@ pub(crate) fn look_name(grammar: &Grammar, look: Look) -> &[u8]
     }
 }
 
-fn write_looks(text: &mut Vec<u8>, grammar: &Grammar, looks: &[Look]) -> Result<(), Memory>
+fn write_looks<const W: usize>(
+    text: &mut Vec<u8>,
+    grammar: &Grammar,
+    looks: &TokenSet<W>,
+) -> Result<(), Memory>
+    requires few { W ≤ 8 }
     ensures { OnOk result (text.new.items ≡ text.old.items ++ looks_after grammar.now looks.now) }
 {
-    for look in looks {
+    for look in looks.looks() {
         text.push(b' ')?;
-        text.extend_from_slice(look_name(grammar, *look))?;
+        text.extend_from_slice(look_name(grammar, look))?;
     }
     Ok(())
 }
 
 /// An item with its looks.
-pub(crate) fn write_item(
+pub(crate) fn write_item<const W: usize>(
     text: &mut Vec<u8>,
     grammar: &Grammar,
-    item: &KernelItem,
+    item: &KernelItem<W>,
 ) -> Result<(), Memory>
-    requires { IsKernelItem (plain_of grammar.now) item.now }
+    requires few { W ≤ 8 }
+    requires item { IsKernelItem (plain_of grammar.now) item.now }
     ensures { OnOk result (text.new.items ≡ text.old.items ++ kernel_text grammar.now item.now) }
 {
     write_left_side(text, grammar, item.production)?;
     text.extend_from_slice(b" ->")?;
     write_right_side(text, grammar, item.production, Some(item.dot))?;
     text.extend_from_slice(b" [")?;
-    write_looks(text, grammar, item.looks.as_slice())?;
+    write_looks(text, grammar, &item.looks)?;
     text.extend_from_slice(b" ]")?;
     Ok(())
 }

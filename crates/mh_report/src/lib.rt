@@ -6,4 +6,5 @@ mod items;
 mod warnings;
 
 pub use automata::automaton_text;
+pub use items::{write_number, write_production};
 pub use warnings::warning_text;

@@ -10,9 +10,9 @@ use Rattle.mh_grammar.specs.declared.types.Look.{Look}
 use Rattle.mh_grammar.specs.declared.types.Look.TheVariants.{Token, End}
 use Rattle.mh_grammar.specs.declared.edges.Edge.{Edge}
 use Rattle.mh_grammar.specs.Plain.{plain_of, rhs_of, IsLookBelow}
-use Rattle.mh_grammar.specs.ItemSets.{AreSame, Close}
-use Rattle.mh_items.specs.declared.kernels.Kernel.{Kernel}
-use Rattle.mh_items.specs.declared.kernels.KernelItem.{KernelItem}
+use Rattle.mh_items.specs.Empties.{HasComplete}
+use Rattle.mh_items.specs.Shapes.{Kernel}
+use Rattle.mh_items.specs.Shapes.{KernelItem}
 use Rattle.mh_items.specs.Kernels.{Holds, IsKernel, IsKernelItem}
 use Rattle.mh_tables.specs.declared.parts.Action.{Action}
 use Rattle.mh_tables.specs.declared.parts.Action.TheVariants.{Shift, Reduce, Refuse}
@@ -27,21 +27,21 @@ use Rattle.mh_resolve.proofs.Same.{AreAlike, decided_same}
 use Rattle.mh_grammar.proofs.Lists.{recursion_contains}
 use Rattle.mh_resolve.proofs.Stating.{stream_to, stream_from, found, fallback_is, cell_is}
 
--- the closure is listed
+-- the complete items of the closure are listed
 abbrev pub IsListed : Grammar → Kernel → Kernel → Type 0
-IsListed g kernel closed = AreSame (Holds closed) (Close (plain_of g) (Holds kernel))
+IsListed g kernel closed = HasComplete (plain_of g) kernel closed
 
 raw_listed : (g : Grammar) (kernel closed : Kernel) (edges : List Edge) → IsListed g kernel closed → (look : Look) → AreAlike (Raw (listed g closed.items edges) look) (Raw (closed_state g kernel edges) look)
 raw_listed g kernel closed edges e look = record { to = to; from = from }
   where
     to : (a : Action) → Raw (listed g closed.items edges) look a → Raw (closed_state g kernel edges) look a
     to (Shift j) r = r
-    to (Reduce p) r = (e p (length (rhs_of (plain_of g) p)) look).0 r
+    to (Reduce p) r = (e p look).0 r
     to Refuse r = r
 
     from : (a : Action) → Raw (closed_state g kernel edges) look a → Raw (listed g closed.items edges) look a
     from (Shift j) r = r
-    from (Reduce p) r = (e p (length (rhs_of (plain_of g) p)) look).1 r
+    from (Reduce p) r = (e p look).1 r
     from Refuse r = r
 
 pub row_is : (g : Grammar) (kernel closed : Kernel) (edges : List Edge) → IsListed g kernel closed → IsKnown (closed_state g kernel edges) → (items : List KernelItem) → items ≡ closed.items → (cells slice row : List Cell) (last : Cell) (stream : Bool)
@@ -65,10 +65,10 @@ row_is g kernel closed edges e k items same cells slice row last stream a d f h 
     }
 
 candidate_to : (g : Grammar) (kernel closed : Kernel) (edges : List Edge) → IsListed g kernel closed → (p r : ℕ) → IsCandidate (listed g closed.items []) p r → IsCandidate (closed_state g kernel edges) p r
-candidate_to g kernel closed edges e p r c = record { look = c.look; complete = (e p (length (rhs_of (plain_of g) p)) c.look).0 c.complete; named = c.named }
+candidate_to g kernel closed edges e p r c = record { look = c.look; complete = (e p c.look).0 c.complete; named = c.named }
 
 candidate_from : (g : Grammar) (kernel closed : Kernel) (edges : List Edge) → IsListed g kernel closed → (p r : ℕ) → IsCandidate (closed_state g kernel edges) p r → IsCandidate (listed g closed.items []) p r
-candidate_from g kernel closed edges e p r c = record { look = c.look; complete = (e p (length (rhs_of (plain_of g) p)) c.look).1 c.complete; named = c.named }
+candidate_from g kernel closed edges e p r c = record { look = c.look; complete = (e p c.look).1 c.complete; named = c.named }
 
 errors_to : (g : Grammar) (kernel closed : Kernel) (edges : List Edge) → IsListed g kernel closed → (p : ℕ) → IsForErrors (listed g closed.items []) p → IsForErrors (closed_state g kernel edges) p
 errors_to g kernel closed edges e p f = record { rank = f.rank; candidate = candidate_to g kernel closed edges e p f.rank f.candidate; lowest = λ q r c. f.lowest q r (candidate_from g kernel closed edges e q r c) }
@@ -109,7 +109,7 @@ known_is g kernel closed edges h e k = record { known = known }
     known End a r = tt
     known (Token z) (Shift j) r = k z j r
     known (Token z) (Reduce p) r =
-        let held = (e p (length (rhs_of (plain_of g) p)) (Token z)).1 r in
+        let held = (e p (Token z)).1 r in
         let is = recursion_contains (IsKernelItem (plain_of g)) closed.items h.items held.0 held.1 in
         recursion_contains (IsLookBelow (length g.tokens)) held.0.looks is.looks (Token z) held.4
     known (Token z) Refuse r = absurd r

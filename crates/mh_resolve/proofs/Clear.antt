@@ -8,8 +8,8 @@ use Rattle.mh_grammar.specs.declared.types.Look.{Look}
 use Rattle.mh_grammar.specs.declared.types.Look.TheVariants.{Token, End}
 use Rattle.mh_grammar.specs.Plain.{plain_of, rhs_of}
 use Rattle.mh_grammar.specs.Edges.{find_edge}
-use Rattle.mh_items.specs.declared.kernels.Kernel.{Kernel}
-use Rattle.mh_items.specs.declared.kernels.Automaton.{Automaton}
+use Rattle.mh_items.specs.Shapes.{Kernel}
+use Rattle.mh_items.specs.Shapes.{Automaton}
 use Rattle.mh_items.specs.Automaton.{IsAutomaton, kernel_at}
 use Rattle.mh_tables.specs.declared.parts.Action.{Action}
 use Rattle.mh_tables.specs.declared.parts.Action.TheVariants.{Shift, Reduce, Refuse}

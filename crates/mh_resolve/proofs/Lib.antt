@@ -1,4 +1,5 @@
 pub mod Assembling
+pub mod Bridging
 pub mod Clear
 pub mod Closed
 pub mod Counted

@@ -6,7 +6,7 @@ use Rattle.std.proofs.lemmas.Bool.{cases_lt}
 use Rattle.std.proofs.lemmas.Bool.Decides.{Decides-eqb}
 use Rattle.std.proofs.lemmas.List.Elements.{All-contains}
 use Rattle.mh_grammar.specs.declared.types.Grammar.{Grammar}
-use Rattle.mh_items.specs.declared.kernels.KernelItem.{KernelItem}
+use Rattle.mh_items.specs.Shapes.{KernelItem}
 use Rattle.mh_grammar.specs.Plain.{plain_of, rhs_of}
 use Rattle.mh_resolve.specs.declared.errors.Best.{Best}
 use Rattle.mh_resolve.specs.Levels.{error_rank}

@@ -6,9 +6,9 @@ use Rattle.mh_grammar.specs.declared.types.Grammar.{Grammar}
 use Rattle.mh_grammar.specs.declared.types.Symbol.TheVariants.{T}
 use Rattle.mh_grammar.specs.Costs.{HaveCosts}
 use Rattle.mh_grammar.specs.Plain.{plain_of, IsInRange}
-use Rattle.mh_items.specs.declared.kernels.Automaton.{Automaton}
+use Rattle.mh_items.specs.Shapes.{Automaton}
 use Rattle.mh_grammar.specs.declared.edges.Edge.{Edge}
-use Rattle.mh_items.specs.declared.kernels.Kernel.{Kernel}
+use Rattle.mh_items.specs.Shapes.{Kernel}
 use Rattle.mh_tables.specs.declared.parts.StateParts.{StateParts}
 use Rattle.mh_items.specs.Automaton.{IsAutomaton, kernel_at, edges_at, no_kernel}
 use Rattle.mh_items.specs.Kernels.{IsKernel}

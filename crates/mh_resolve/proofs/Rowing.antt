@@ -12,7 +12,7 @@ use Rattle.mh_tables.specs.declared.parts.Action.TheVariants.{Reduce, Refuse}
 use Rattle.std.specs.Prelude.{MatchOption}
 use Rattle.mh_resolve.specs.declared.kinds.Mode.{Mode}
 use Rattle.mh_resolve.specs.declared.kinds.Mode.TheVariants.{Merged}
-use Rattle.mh_items.specs.declared.kernels.KernelItem.{KernelItem}
+use Rattle.mh_items.specs.Shapes.{KernelItem}
 use Rattle.mh_items.specs.Kernels.{Holds}
 use Rattle.mh_resolve.specs.declared.cells.Cell.{Cell}
 use Rattle.mh_resolve.specs.declared.cells.Tally.{Tally}

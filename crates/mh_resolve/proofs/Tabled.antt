@@ -16,9 +16,9 @@ use Rattle.mh_grammar.specs.Costs.{HaveCosts}
 use Rattle.mh_grammar.proofs.Costs.{costed}
 use Rattle.mh_grammar.specs.Plain.{PlainGrammar, plain_of, rhs_of, lhs_of, production_count, IsInRange, IsSymbolBelow, IsProductionBelow}
 use Rattle.mh_grammar.specs.Edges.{IsRising, IsEdgeBefore, find_edge}
-use Rattle.mh_items.specs.declared.kernels.Kernel.{Kernel}
-use Rattle.mh_items.specs.declared.kernels.KernelItem.{KernelItem}
-use Rattle.mh_items.specs.declared.kernels.Automaton.{Automaton}
+use Rattle.mh_items.specs.Shapes.{Kernel}
+use Rattle.mh_items.specs.Shapes.{KernelItem}
+use Rattle.mh_items.specs.Shapes.{Automaton}
 use Rattle.mh_items.specs.Kernels.{IsKernelItem, HasPlace}
 use Rattle.mh_items.specs.Automaton.{IsAutomaton, IsTarget, Moves, kernel_at, edges_at, leads_to, closure_of, start_kernel}
 use Rattle.mh_tables.specs.declared.parts.Place.{Place}

@@ -4,7 +4,7 @@ use Rattle.mh_grammar.specs.declared.types.Symbol.TheVariants.{T}
 use Rattle.mh_grammar.specs.declared.types.Grammar.{Grammar}
 use Rattle.mh_grammar.specs.declared.types.Look.{Look}
 use Rattle.mh_grammar.specs.declared.types.Look.TheVariants.{Token, End}
-use Rattle.mh_items.specs.declared.kernels.Automaton.{Automaton}
+use Rattle.mh_items.specs.Shapes.{Automaton}
 use Rattle.mh_tables.specs.declared.parts.Action.{Action}
 use Rattle.mh_tables.specs.declared.parts.Action.TheVariants.{Shift, Reduce, Refuse}
 use Rattle.mh_tables.specs.declared.parts.Fallback.{Fallback}
@@ -23,6 +23,10 @@ pub record IsClear (s : State) : Type 0 where
 -- state has to know whether the stream has ended
 abbrev pub HasNoConflicts : Grammar → Automaton → Type 0
 HasNoConflicts g a = (s : ℕ) → s < length a.kernels → IsClear (state_of g a s)
+
+-- a cell of some state has two raw actions
+abbrev pub HasRawConflict : Grammar → Automaton → Type 0
+HasRawConflict g a = (s : ℕ) × (s < length a.kernels) × (look : Look) × IsConflict (Raw (state_of g a s) look)
 
 -- a production is complete on some look
 pub record Completes (s : State) (p : ℕ) : Type 0 where

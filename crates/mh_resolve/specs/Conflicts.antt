@@ -4,7 +4,7 @@ use Rattle.std.specs.List.{Contains}
 use Rattle.mh_grammar.specs.declared.types.Grammar.{Grammar}
 use Rattle.mh_grammar.specs.declared.types.Look.{Look}
 use Rattle.mh_grammar.specs.declared.types.Look.TheVariants.{Token, End}
-use Rattle.mh_items.specs.declared.kernels.Automaton.{Automaton}
+use Rattle.mh_items.specs.Shapes.{Automaton}
 use Rattle.mh_grammar.specs.Edges.{IsRising, IsLookBefore}
 use Rattle.mh_resolve.specs.declared.kinds.ConflictKind.{ConflictKind}
 use Rattle.mh_resolve.specs.declared.kinds.ConflictKind.TheVariants.{Stream}

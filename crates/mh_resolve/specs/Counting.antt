@@ -9,7 +9,7 @@ use Rattle.mh_grammar.specs.declared.edges.Edge.{Edge}
 use Rattle.mh_grammar.specs.Plain.{plain_of, rhs_of, IsLookBelow}
 use Rattle.mh_grammar.specs.Edges.{find_edge}
 use Rattle.mh_grammar.specs.ItemSets.{ItemSet}
-use Rattle.mh_items.specs.declared.kernels.KernelItem.{KernelItem}
+use Rattle.mh_items.specs.Shapes.{KernelItem}
 use Rattle.mh_resolve.specs.declared.cells.Tally.{Tally}
 use Rattle.mh_resolve.specs.declared.counting.Tallies.{Tallies}
 use Rattle.mh_resolve.specs.Levels.{compared}

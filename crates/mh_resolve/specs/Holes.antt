@@ -1,10 +1,9 @@
 -- The holes among the cells of a state's tokens: cells that have raw actions and none left, as %nonassoc of the Menhir manual leaves
 -- them. The word is this project's own.
-use Rattle.std.specs.Prelude.{◌≡◌, ◌<◌, ℕ, Bool, true, false, ◌&&◌, List, length, slice_index_or, MatchBool}
+use Rattle.std.specs.Prelude.{◌≡◌, ◌<◌, ℕ, Bool, true, false, List, length, slice_index_or, MatchBool}
 use Rattle.mh_grammar.specs.declared.types.Look.TheVariants.{Token}
 use Rattle.mh_tables.specs.declared.parts.Action.{Action}
 use Rattle.mh_tables.specs.declared.parts.Action.TheVariants.{Shift, Reduce, Refuse}
-use Rattle.mh_resolve.specs.declared.cells.Cell.{Cell}
 use Rattle.mh_resolve.specs.States.{State, IsHoleOn}
 
 pub record AreHoles (s : State) (holes : List Bool) : Type 0 where
@@ -16,6 +15,3 @@ abbrev pub refuses : Action → Bool
 refuses Refuse = true
 refuses (Shift j) = false
 refuses (Reduce p) = false
-
-abbrev pub marks_hole : Cell → Bool
-marks_hole cell = cell.raw && refuses cell.action

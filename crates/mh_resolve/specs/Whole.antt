@@ -8,7 +8,7 @@ use Rattle.mh_tables.specs.declared.parts.Action.TheVariants.{Reduce, Refuse}
 use Rattle.mh_tables.specs.declared.parts.Fallback.{Fallback}
 use Rattle.mh_tables.specs.declared.parts.Fallback.TheVariants as fallbacks
 use Rattle.mh_grammar.specs.declared.edges.Edge.{Edge}
-use Rattle.mh_items.specs.declared.kernels.Kernel.{Kernel}
+use Rattle.mh_items.specs.Shapes.{Kernel}
 use Rattle.mh_items.specs.Kernels.{Holds}
 use Rattle.mh_grammar.specs.ItemSets.{Close}
 use Rattle.mh_grammar.specs.Plain.{plain_of, IsLookBelow}

@@ -1,13 +1,14 @@
 //! The reductions of a state, counted on all looks at once, so that each item is read once.
-ghost use Rattle.std.specs.Prelude.{◌≡◌, length, IfOk};
+ghost use Rattle.std.specs.Prelude.{◌≡◌, ◌≤◌, List, length, IfOk};
 ghost use Rattle.std.specs.List.{All};
-ghost use Rattle.mh_grammar.specs.Plain.{IsLookBelow};
+ghost use Rattle.mh_grammar.specs.Plain.{plain_of, rhs_of, IsLookBelow};
 ghost use Rattle.mh_grammar.specs.Edges.{IsRising, IsEdgeBefore};
+ghost use Rattle.mh_items.specs.Shapes.{KernelItem as Item};
 ghost use Rattle.mh_items.specs.Kernels.{Holds};
 ghost use Rattle.mh_resolve.specs.Levels.{compared};
 ghost use Rattle.mh_resolve.specs.Tallies.{tally_with, weighed};
 ghost use Rattle.mh_resolve.specs.Whole.{AreEdgesKnown};
-ghost use Rattle.mh_resolve.specs.Counting.{AreShifts, shift_in, tally_on, IsChanged, AreTallied, AreLooksKnown};
+ghost use Rattle.mh_resolve.specs.Counting.{AreShifts, shift_in, tally_on, IsChanged, AreTallied, AreLooksKnown, With};
 
 use crate::cells::{Tally, add_reduction, new_tally};
 use crate::levels::length_of;
@@ -70,13 +71,36 @@ fn add(
     }
 }
 
+// Counts a complete item on each of its looks.
+fn add_item<const W: usize>(
+    tallies: &mut Tallies,
+    grammar: &Grammar,
+    shifts: &[Option<u32>],
+    item: &KernelItem<W>,
+)
+    requires few { W ≤ 8 }
+    requires known { AreLooksKnown (length grammar.now.tokens) item.now }
+    requires complete { item.now.dot ≡ length (rhs_of (plain_of grammar.now) item.now.production) }
+    requires len { length shifts.now ≡ length grammar.now.tokens }
+    requires size { length tallies.old.tokens.items ≡ length grammar.now.tokens }
+    ensures size { length tallies.new.tokens.items ≡ length grammar.now.tokens }
+    ensures tallied { (xs : List Item) → AreTallied grammar.now (Holds (record { items = xs })) shifts.now tallies.old
+        → AreTallied grammar.now (With (Holds (record { items = xs })) item.now item.now.looks) shifts.now tallies.new }
+{
+    let mut left = item.looks.copied();
+    'looks: while let Some(look) = left.take_first() {
+        add(tallies, grammar, shifts, look, item.production);
+    }
+}
+
 /// The tallies of all looks.
-pub(crate) fn tallies_of(
+pub(crate) fn tallies_of<const W: usize>(
     alloc: Global,
     grammar: &Grammar,
-    items: &[KernelItem],
+    items: &[KernelItem<W>],
     shifts: &[Option<u32>],
 ) -> Result<Tallies, Memory>
+    requires few { W ≤ 8 }
     requires known { All (AreLooksKnown (length grammar.now.tokens)) items.now }
     requires len { length shifts.now ≡ length grammar.now.tokens }
     ensures { IfOk result (AreTallied grammar.now (Holds (record { items = items.now })) shifts.now) }
@@ -87,9 +111,7 @@ pub(crate) fn tallies_of(
     };
     for item in items {
         if item.dot as usize == length_of(grammar, item.production) {
-            for look in item.looks.as_slice() {
-                add(&mut tallies, grammar, shifts, *look, item.production);
-            }
+            add_item(&mut tallies, grammar, shifts, item);
         }
     }
     Ok(tallies)

@@ -1,5 +1,5 @@
 //! The production that a state reduces where it has no action.
-ghost use Rattle.std.specs.Prelude.{◌≡◌, ◌<◌, ℕ, [], length, MatchOption};
+ghost use Rattle.std.specs.Prelude.{◌≡◌, ◌<◌, ◌≤◌, ℕ, [], length, MatchOption};
 ghost use Rattle.std.specs.List.{All};
 ghost use Rattle.mh_resolve.specs.States.{IsForErrors};
 ghost use Rattle.mh_resolve.specs.Rows.{listed, rank_in, best_with, IsLooked};
@@ -17,7 +17,7 @@ pub(crate) struct Best {
 }
 
 // The rank of an item that is a candidate.
-fn rank_of_item(grammar: &Grammar, item: &KernelItem) -> Option<u64>
+fn rank_of_item<const W: usize>(grammar: &Grammar, item: &KernelItem<W>) -> Option<u64>
     ensures { result ≡ rank_in grammar.now item.now }
 {
     if item.dot as usize == length_of(grammar, item.production) {
@@ -56,8 +56,9 @@ fn better(best: Option<Best>, production: u32, rank: u64) -> Best
 }
 
 /// The production of the only candidate of the lowest rank.
-pub(crate) fn for_errors(grammar: &Grammar, items: &[KernelItem]) -> Option<u32>
-    requires { All IsLooked items.now }
+pub(crate) fn for_errors<const W: usize>(grammar: &Grammar, items: &[KernelItem<W>]) -> Option<u32>
+    requires few { W ≤ 8 }
+    requires items { All IsLooked items.now }
     ensures { MatchOption result ((p : ℕ) → IsForErrors (listed grammar.now items.now []) p → ⊥) (IsForErrors (listed grammar.now items.now [])) }
 {
     let mut best = None;

@@ -1,71 +1,45 @@
 //! The holes of a state: cells with actions of which none is left.
-ghost use Rattle.std.specs.Prelude.{◌≡◌, ◌<◌, length, map, IfOk};
+ghost use Rattle.std.specs.Prelude.{◌≡◌, ◌≤◌, ◌<◌, ◌&&◌, length, is_some, IfOk};
 ghost use Rattle.mh_grammar.specs.Plain.{plain_of, IsInRange};
-ghost use Rattle.mh_items.specs.Firsts.{AreFirsts};
 ghost use Rattle.mh_items.specs.Automaton.{IsAutomaton};
-ghost use Rattle.mh_resolve.specs.States.{state_of};
-ghost use Rattle.mh_resolve.specs.Whole.{IsRow};
-ghost use Rattle.mh_resolve.specs.Holes.{AreHoles, marks_hole};
+ghost use Rattle.mh_resolve.specs.declared.kinds.Mode.{Mode};
+ghost use Rattle.mh_resolve.specs.States.{state_of, IsTableOf};
+ghost use Rattle.mh_resolve.specs.Holes.{AreHoles, refuses};
 
-use crate::cells::Cell;
-use crate::states::{Row, row_of};
-use mh_grammar::{Grammar, Memory};
-use mh_items::first_sets::Firsts;
-use mh_items::{Automaton, closure};
-use mh_tables::Action;
+use crate::counting::shifts_of;
+use mh_grammar::{Grammar, Memory, Token};
+use mh_items::Automaton;
+use mh_tables::{Action, Table};
 use std::alloc::Global;
 
-fn is_hole(cell: &Cell) -> bool
-    ensures { result ≡ marks_hole cell.now }
+// Whether a cell is a hole: where the state has no edge on the token, a reduction would be left.
+fn is_hole(shift: Option<u32>, action: Action) -> bool
+    ensures { result ≡ (is_some shift && refuses action) }
 {
-    cell.raw && matches!(cell.action, Action::Refuse)
+    shift.is_some() && matches!(action, Action::Refuse)
 }
 
-fn marks_of(alloc: Global, cells: &[Cell]) -> Result<Vec<bool>, Memory>
-    ensures { IfOk result (λ marks. marks.items ≡ map marks_hole cells.now) }
-{
-    let mut marks = Vec::with_capacity(alloc, cells.len())?;
-    for cell in cells {
-        marks.push(is_hole(cell))?;
-    }
-    Ok(marks)
-}
-
-// The row of a state of an automaton.
-fn row_at(
+/// For each token, whether its cell in this state is a hole: it has actions, and levels refuse them all. The table is that
+/// of the automaton. Fails for want of memory alone.
+pub fn holes_of<const W: usize>(
     alloc: Global,
     grammar: &Grammar,
-    firsts: &Firsts,
-    automaton: &Automaton,
-    state: usize,
-) -> Result<Row, Memory>
-    requires range { IsInRange (plain_of grammar.now) }
-    requires firsts { AreFirsts (plain_of grammar.now) firsts.now }
-    requires automaton { IsAutomaton (plain_of grammar.now) automaton.now }
-    requires state { state < length automaton.now.kernels }
-    ensures { IfOk result (λ row. IsRow (state_of grammar.now automaton.now state) row.cells row.last row.stream) }
-{
-    let kernel = &automaton.kernels[state];
-    let edges = automaton.edges[state].as_slice();
-    let closed = closure(alloc, grammar, firsts, kernel)?;
-    row_of(alloc, grammar, kernel, &closed, edges)
-}
-
-/// For each token, whether its cell in this state of the automaton is a hole: it has actions, and levels refuse them all.
-/// Fails for want of memory alone.
-pub fn holes_of(
-    alloc: Global,
-    grammar: &Grammar,
-    firsts: &Firsts,
-    automaton: &Automaton,
-    state: usize,
+    automaton: &Automaton<W>,
+    table: &Table,
+    state: u32,
 ) -> Result<Vec<bool>, Memory>
+    requires few { W ≤ 8 }
     requires range { IsInRange (plain_of grammar.now) }
-    requires firsts { AreFirsts (plain_of grammar.now) firsts.now }
     requires automaton { IsAutomaton (plain_of grammar.now) automaton.now }
+    requires table { (mode : Mode) × IsTableOf grammar.now automaton.now mode table.now }
     requires state { state < length automaton.now.kernels }
     ensures { IfOk result (λ holes. AreHoles (state_of grammar.now automaton.now state) holes.items) }
 {
-    let row = row_at(alloc, grammar, firsts, automaton, state)?;
-    marks_of(alloc, row.cells.as_slice())
+    let edges = automaton.edges[state as usize].as_slice();
+    let shifts = shifts_of(alloc, grammar.tokens.len(), edges)?;
+    let mut holes = Vec::with_capacity(alloc, shifts.len())?;
+    for token in 0..shifts.len() {
+        holes.push(is_hole(shifts[token], table.action(state, token as Token)))?;
+    }
+    Ok(holes)
 }

@@ -15,4 +15,6 @@ mod states;
 pub use conflicts::Conflict;
 pub use holes::holes_of;
 pub use kinds::{ConflictKind, Mode};
-pub use resolution::{conflicts_are_one, conflicts_tell, resolve, table_acts, table_is_one};
+pub use resolution::{
+    conflicts_are_one, conflicts_are_raw, conflicts_tell, resolve, table_acts, table_is_one,
+};

@@ -1,24 +1,25 @@
 //! The table of an automaton, and its conflicts.
-ghost use Rattle.std.specs.Prelude.{◌≡◌, ◌<◌, ◌↔◌, ℕ, [], length, IfOk, Some};
+ghost use Rattle.std.specs.Prelude.{◌≡◌, ◌≤◌, ◌*◌, ◌<◌, ◌↔◌, ℕ, [], length, IfOk, Some};
 ghost use Rattle.mh_grammar.specs.Costs.{HaveCosts};
 ghost use Rattle.mh_grammar.specs.Plain.{plain_of, IsInRange};
 ghost use Rattle.mh_grammar.specs.Edges.{IsRising, IsEdgeBefore};
-ghost use Rattle.mh_items.specs.Firsts.{AreFirsts};
+ghost use Rattle.mh_items.specs.Closer.{IsCloser};
 ghost use Rattle.mh_items.specs.Kernels.{IsKernel};
+ghost use Rattle.mh_items.specs.Empties.{HasComplete};
 ghost use Rattle.mh_items.specs.Automaton.{IsAutomaton};
 ghost use Rattle.mh_tables.specs.Table.{table_data, state_at};
 ghost use Rattle.mh_tables.specs.Facts.{Facts};
 ghost use Rattle.mh_resolve.specs.States.{state_of, IsResolved, AreResolved, IsTableOf};
 ghost use Rattle.mh_resolve.specs.Conflicts.{AreConflicts};
-ghost use Rattle.mh_resolve.specs.Clear.{HasNoConflicts, ActsWithin, ActsClearly};
+ghost use Rattle.mh_items.specs.Conflicts.{IsConflicting, IsFaulty};
+ghost use Rattle.mh_resolve.specs.Clear.{HasNoConflicts, HasRawConflict, ActsWithin, ActsClearly};
 ghost use Rattle.mh_resolve.specs.Whole.{closed_state, IsRow, AreEdgesKnown};
 
 use crate::conflicts::{Conflict, add_conflicts};
 use crate::kinds::Mode;
 use crate::states::{Row, parts_of, row_of};
 use mh_grammar::{Edge, Grammar, Memory};
-use mh_items::first_sets::Firsts;
-use mh_items::{Automaton, Kernel, closure, firsts};
+use mh_items::{Automaton, Closer, Kernel};
 use mh_tables::{StateParts, Table, table_of};
 use std::alloc::Global;
 
@@ -29,35 +30,63 @@ struct Resolved {
     row: Row,
 }
 
-fn resolve_state(
+fn resolve_state<const W: usize>(
     alloc: Global,
     grammar: &Grammar,
-    firsts: &Firsts,
-    kernel: &Kernel,
+    closer: &mut Closer<W>,
+    kernel: &Kernel<W>,
     edges: &[Edge],
     mode: Mode,
 ) -> Result<Resolved, Memory>
+    requires few { W ≤ 8 }
+    requires width { length grammar.now.tokens ≤ 64 * W }
     requires range { IsInRange (plain_of grammar.now) }
-    requires firsts { AreFirsts (plain_of grammar.now) firsts.now }
+    requires closer { IsCloser (plain_of grammar.now) closer.old }
     requires kernel { IsKernel (plain_of grammar.now) kernel.now }
     requires rising { IsRising IsEdgeBefore edges.now }
     requires known { AreEdgesKnown (length grammar.now.tokens) edges.now }
     ensures parts { IfOk result (λ r. IsResolved mode (closed_state grammar.now kernel.now edges.now) kernel.now r.parts) }
     ensures row { IfOk result (λ r. IsRow (closed_state grammar.now kernel.now edges.now) r.row.cells r.row.last r.row.stream) }
+    ensures closer { IfOk result (λ _. IsCloser (plain_of grammar.now) closer.new) }
 {
-    let closed = closure(alloc, grammar, firsts, kernel)?;
-    let row = row_of(alloc, grammar, kernel, &closed, edges)?;
-    let parts = parts_of(alloc, grammar, kernel, &closed, edges, mode, &row)?;
+    if !closer.adds_complete(grammar, kernel) {
+        return resolve_listed(alloc, grammar, kernel, kernel, edges, mode);
+    }
+    let closed = closer.close(alloc, grammar, kernel)?;
+    resolve_listed(alloc, grammar, kernel, &closed, edges, mode)
+}
+
+// By a list with the complete items of the state's closure.
+fn resolve_listed<const W: usize>(
+    alloc: Global,
+    grammar: &Grammar,
+    kernel: &Kernel<W>,
+    closed: &Kernel<W>,
+    edges: &[Edge],
+    mode: Mode,
+) -> Result<Resolved, Memory>
+    requires few { W ≤ 8 }
+    requires closed { IsKernel (plain_of grammar.now) closed.now }
+    requires exact { HasComplete (plain_of grammar.now) kernel.now closed.now }
+    requires rising { IsRising IsEdgeBefore edges.now }
+    requires known { AreEdgesKnown (length grammar.now.tokens) edges.now }
+    ensures parts { IfOk result (λ r. IsResolved mode (closed_state grammar.now kernel.now edges.now) kernel.now r.parts) }
+    ensures row { IfOk result (λ r. IsRow (closed_state grammar.now kernel.now edges.now) r.row.cells r.row.last r.row.stream) }
+{
+    let row = row_of(alloc, grammar, kernel, closed, edges)?;
+    let parts = parts_of(alloc, grammar, kernel, closed, edges, mode, &row)?;
     Ok(Resolved { parts, row })
 }
 
 // The states of the table, and the conflicts.
-fn resolve_states(
+fn resolve_states<const W: usize>(
     alloc: Global,
     grammar: &Grammar,
-    automaton: &Automaton,
+    automaton: &Automaton<W>,
     mode: Mode,
 ) -> Result<(Vec<StateParts>, Vec<Conflict>), Memory>
+    requires few { W ≤ 8 }
+    requires width { length grammar.now.tokens ≤ 64 * W }
     requires range { IsInRange (plain_of grammar.now) }
     requires costs { HaveCosts grammar.now.tokens }
     requires automaton { IsAutomaton (plain_of grammar.now) automaton.now }
@@ -65,13 +94,13 @@ fn resolve_states(
     ensures facts { IfOk result (λ r. Facts (table_data grammar.now r.0.items)) }
     ensures conflicts { IfOk result (λ r. AreConflicts grammar.now automaton.now r.1.items) }
 {
-    let known = firsts(alloc, grammar)?;
+    let mut closer = Closer::new(alloc, grammar)?;
     let mut states = Vec::with_capacity(alloc, automaton.kernels.len())?;
     let mut conflicts = Vec::new(alloc);
     for state in 0..automaton.kernels.len() {
         let kernel = &automaton.kernels[state];
         let edges = automaton.edges[state].as_slice();
-        let resolved = resolve_state(alloc, grammar, &known, kernel, edges, mode)?;
+        let resolved = resolve_state(alloc, grammar, &mut closer, kernel, edges, mode)?;
         add_conflicts(&mut conflicts, state as u32, &resolved.row)?;
         states.push(resolved.parts)?;
     }
@@ -83,12 +112,14 @@ fn resolve_states(
 ///
 /// The rules are those of yacc's precedence (Johnson 1975) as the Menhir manual gives them; what it leaves open is this
 /// project's profile. Fails for want of memory alone.
-pub fn resolve(
+pub fn resolve<const W: usize>(
     alloc: Global,
     grammar: &Grammar,
-    automaton: &Automaton,
+    automaton: &Automaton<W>,
     mode: Mode,
 ) -> Result<(Table, Vec<Conflict>), Memory>
+    requires few { W ≤ 8 }
+    requires width { length grammar.now.tokens ≤ 64 * W }
     requires range { IsInRange (plain_of grammar.now) }
     requires costs { HaveCosts grammar.now.tokens }
     requires automaton { IsAutomaton (plain_of grammar.now) automaton.now }
@@ -100,9 +131,9 @@ pub fn resolve(
 }
 
 /// An automaton has one table in each mode: an empty call that says so to contracts.
-pub fn table_is_one(
+pub fn table_is_one<const W: usize>(
     grammar: &Grammar,
-    automaton: &Automaton,
+    automaton: &Automaton<W>,
     mode: Mode,
     left: &Table,
     right: &Table,
@@ -119,9 +150,9 @@ pub fn table_is_one(
 }
 
 /// An automaton has one list of conflicts: an empty call that says so to contracts.
-pub fn conflicts_are_one(
+pub fn conflicts_are_one<const W: usize>(
     grammar: &Grammar,
-    automaton: &Automaton,
+    automaton: &Automaton<W>,
     left: &[Conflict],
     right: &[Conflict],
 )
@@ -136,7 +167,11 @@ pub fn conflicts_are_one(
 }
 
 /// The list of conflicts is empty exactly where no state has one: an empty call that says so to contracts.
-pub fn conflicts_tell(grammar: &Grammar, automaton: &Automaton, conflicts: &[Conflict])
+pub fn conflicts_tell<const W: usize>(
+    grammar: &Grammar,
+    automaton: &Automaton<W>,
+    conflicts: &[Conflict],
+)
     requires { AreConflicts grammar.now automaton.now conflicts.now }
     ensures { (conflicts.now ≡ []) ↔ HasNoConflicts grammar.now automaton.now }
 {
@@ -145,9 +180,25 @@ pub fn conflicts_tell(grammar: &Grammar, automaton: &Automaton, conflicts: &[Con
     let _conflicts = conflicts;
 }
 
+/// The states of an automaton have conflicts exactly where the item sets of their kernels do: an empty call that says so
+/// to contracts.
+pub fn conflicts_are_raw<const W: usize>(grammar: &Grammar, automaton: &Automaton<W>)
+    requires { IsAutomaton (plain_of grammar.now) automaton.now }
+    ensures none { HasNoConflicts grammar.now automaton.now ↔ (IsFaulty (plain_of grammar.now) automaton.now → ⊥) }
+    ensures raw { HasRawConflict grammar.now automaton.now ↔ IsConflicting (plain_of grammar.now) automaton.now }
+{
+    let _grammar = grammar;
+    let _automaton = automaton;
+}
+
 /// A table shifts along its automaton's edges and reduces what is complete; without conflicts it takes every raw action:
 /// an empty call that says so to contracts.
-pub fn table_acts(grammar: &Grammar, automaton: &Automaton, mode: Mode, table: &Table)
+pub fn table_acts<const W: usize>(
+    grammar: &Grammar,
+    automaton: &Automaton<W>,
+    mode: Mode,
+    table: &Table,
+)
     requires automaton { IsAutomaton (plain_of grammar.now) automaton.now }
     requires table { IsTableOf grammar.now automaton.now mode table.now }
     ensures within { (s : ℕ) → s < length automaton.now.kernels → ActsWithin (state_of grammar.now automaton.now s) (state_at table.now s) }

@@ -1,10 +1,10 @@
 //! The parts of a state of the table.
-ghost use Rattle.std.specs.Prelude.{◌≡◌, ◌<◌, length, map, IfOk, []};
+ghost use Rattle.std.specs.Prelude.{◌≡◌, ◌<◌, ◌≤◌, length, map, IfOk, []};
 ghost use Rattle.std.specs.List.{All};
 ghost use Rattle.mh_grammar.specs.Plain.{plain_of};
 ghost use Rattle.mh_grammar.specs.Edges.{IsRising, IsEdgeBefore};
-ghost use Rattle.mh_grammar.specs.ItemSets.{AreSame, Close};
-ghost use Rattle.mh_items.specs.Kernels.{Holds, IsKernel};
+ghost use Rattle.mh_items.specs.Kernels.{IsKernel};
+ghost use Rattle.mh_items.specs.Empties.{HasComplete};
 ghost use Rattle.mh_resolve.specs.States.{place_of, IsResolved};
 ghost use Rattle.mh_resolve.specs.Rows.{listed, IsLooked};
 ghost use Rattle.mh_resolve.specs.Whole.{closed_state, kept_of, IsFiller, filled_with, fallback_for, AreEdgesKnown, IsRow};
@@ -33,8 +33,13 @@ fn kept_action(stream: bool, last: Action) -> Action
     if stream { Action::Refuse } else { last }
 }
 
-fn filler_of(grammar: &Grammar, items: &[KernelItem], default: Option<u32>) -> Option<u32>
-    requires { All IsLooked items.now }
+fn filler_of<const W: usize>(
+    grammar: &Grammar,
+    items: &[KernelItem<W>],
+    default: Option<u32>,
+) -> Option<u32>
+    requires few { W ≤ 8 }
+    requires items { All IsLooked items.now }
     ensures { IsFiller (listed grammar.now items.now []) default result }
 {
     match default {
@@ -58,14 +63,14 @@ fn action_of(cell: &Cell, filler: Option<u32>) -> Action
 fn actions_of(alloc: Global, cells: &[Cell], filler: Option<u32>) -> Result<Vec<Action>, Memory>
     ensures { IfOk result (λ actions. actions.items ≡ map (filled_with filler) cells.now) }
 {
-    let mut actions = Vec::new(alloc);
+    let mut actions = Vec::with_capacity(alloc, cells.len())?;
     for cell in cells {
         actions.push(action_of(cell, filler))?;
     }
     Ok(actions)
 }
 
-fn place(item: &KernelItem) -> Place
+fn place<const W: usize>(item: &KernelItem<W>) -> Place
     ensures { result ≡ place_of item.now }
 {
     Place {
@@ -74,10 +79,11 @@ fn place(item: &KernelItem) -> Place
     }
 }
 
-fn core_of(alloc: Global, items: &[KernelItem]) -> Result<Vec<Place>, Memory>
+fn core_of<const W: usize>(alloc: Global, items: &[KernelItem<W>]) -> Result<Vec<Place>, Memory>
+    requires few { W ≤ 8 }
     ensures { IfOk result (λ core. core.items ≡ map place_of items.now) }
 {
-    let mut core = Vec::new(alloc);
+    let mut core = Vec::with_capacity(alloc, items.len())?;
     for item in items {
         core.push(place(item))?;
     }
@@ -100,16 +106,17 @@ pub(crate) fn fallback_of(grammar: &Grammar, default: Option<u32>) -> Option<Fal
     }
 }
 
-/// The row of a state.
-pub(crate) fn row_of(
+/// The row of a state, by a list with the complete items of its closure.
+pub(crate) fn row_of<const W: usize>(
     alloc: Global,
     grammar: &Grammar,
-    kernel: &Kernel,
-    closed: &Kernel,
+    kernel: &Kernel<W>,
+    closed: &Kernel<W>,
     edges: &[Edge],
 ) -> Result<Row, Memory>
+    requires few { W ≤ 8 }
     requires kernel { IsKernel (plain_of grammar.now) closed.now }
-    requires exact { AreSame (Holds closed.now) (Close (plain_of grammar.now) (Holds kernel.now)) }
+    requires exact { HasComplete (plain_of grammar.now) kernel.now closed.now }
     requires rising { IsRising IsEdgeBefore edges.now }
     requires known { AreEdgesKnown (length grammar.now.tokens) edges.now }
     ensures { IfOk result (λ row. IsRow (closed_state grammar.now kernel.now edges.now) row.cells row.last row.stream) }
@@ -127,18 +134,19 @@ pub(crate) fn row_of(
     })
 }
 
-/// The parts of a state, from its row.
-pub(crate) fn parts_of(
+/// The parts of a state, from its row and a list with the complete items of its closure.
+pub(crate) fn parts_of<const W: usize>(
     alloc: Global,
     grammar: &Grammar,
-    kernel: &Kernel,
-    closed: &Kernel,
+    kernel: &Kernel<W>,
+    closed: &Kernel<W>,
     edges: &[Edge],
     mode: Mode,
     row: &Row,
 ) -> Result<StateParts, Memory>
+    requires few { W ≤ 8 }
     requires closed { IsKernel (plain_of grammar.now) closed.now }
-    requires exact { AreSame (Holds closed.now) (Close (plain_of grammar.now) (Holds kernel.now)) }
+    requires exact { HasComplete (plain_of grammar.now) kernel.now closed.now }
     requires row { IsRow (closed_state grammar.now kernel.now edges.now) row.now.cells row.now.last row.now.stream }
     ensures { IfOk result (IsResolved mode (closed_state grammar.now kernel.now edges.now) kernel.now) }
 {

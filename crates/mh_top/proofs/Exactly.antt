@@ -6,8 +6,8 @@ use Rattle.std.proofs.lemmas.Option.{slice_get_within, slice_get-get_or}
 use Rattle.mh_grammar.specs.declared.types.Grammar.{Grammar}
 use Rattle.mh_grammar.specs.declared.types.Sentence.{Sentence}
 use Rattle.mh_grammar.specs.Plain.{PlainGrammar, plain_of, start_symbol, IsInRange, BeginsSentence}
-use Rattle.mh_items.specs.declared.kernels.Automaton.{Automaton}
-use Rattle.mh_items.specs.declared.kernels.Kernel.{Kernel}
+use Rattle.mh_items.specs.Shapes.{Automaton}
+use Rattle.mh_items.specs.Shapes.{Kernel}
 use Rattle.mh_items.specs.Automaton.{IsAutomaton, kernel_at}
 use Rattle.mh_canon.specs.Canonical.{IsCanonical}
 use Rattle.mh_canon.specs.Moves.{IsState, AreStates}

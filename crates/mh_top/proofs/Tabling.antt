@@ -3,7 +3,7 @@ use Rattle.std.proofs.Common.{◌≡◌, List, Option, ℕ, inr, sym, subst}
 use Rattle.std.specs.Prelude.{Err}
 use Rattle.mh_grammar.specs.declared.types.Grammar.{Grammar}
 use Rattle.mh_grammar.specs.Plain.{plain_of}
-use Rattle.mh_items.specs.declared.kernels.Automaton.{Automaton}
+use Rattle.mh_items.specs.Shapes.{Automaton}
 use Rattle.mh_canon.specs.Canonical.{IsCanonical}
 use Rattle.mh_resolve.specs.States.{IsTableOf}
 use Rattle.mh_resolve.specs.Conflicts.{AreConflicts}

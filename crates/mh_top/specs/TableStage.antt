@@ -2,7 +2,7 @@
 use Rattle.std.specs.Prelude.{◌≡◌, ◌⊎◌, ℕ, List, [], ◌++◌, slice_index_or, Option, None, Some, codes, decimal}
 use Rattle.mh_grammar.specs.declared.types.Grammar.{Grammar}
 use Rattle.mh_grammar.specs.Plain.{plain_of}
-use Rattle.mh_items.specs.declared.kernels.Automaton.{Automaton}
+use Rattle.mh_items.specs.Shapes.{Automaton}
 use Rattle.mh_canon.specs.Canonical.{IsCanonical, IsOver}
 use Rattle.mh_resolve.specs.States.{IsTableOf}
 use Rattle.mh_resolve.specs.Conflicts.{AreConflicts}

@@ -2,13 +2,25 @@
 use crate::made::grammar_of;
 use mh_grammar::{Grammar, Look, Memory, Symbol, is_in_range};
 use mh_items::{Kernel, are_equal, closure, firsts, moved, one_list, start_kernel, symbol_at};
+use mh_sets::TokenSet;
 use std::alloc::Global;
 use std::test::Fail;
 
-fn is_item(kernel: &Kernel, at: usize, production: u32, dot: u32, looks: &[Look]) -> bool {
+/// Whether a set has just these looks.
+fn are_looks(set: &TokenSet<1>, looks: &[Look]) -> bool {
+    let mut left = set.copied();
+    for look in looks {
+        if left.take_first() != Some(*look) {
+            return false;
+        }
+    }
+    left.first().is_none()
+}
+
+fn is_item(kernel: &Kernel<1>, at: usize, production: u32, dot: u32, looks: &[Look]) -> bool {
     match kernel.items.get(at) {
         Some(item) => {
-            item.production == production && item.dot == dot && item.looks.as_slice() == looks
+            item.production == production && item.dot == dot && are_looks(&item.looks, looks)
         }
         None => false,
     }
@@ -19,8 +31,8 @@ fn two_states(
     alloc: Global,
     grammar: &Grammar,
     symbol: Symbol,
-) -> Result<Option<(Kernel, Kernel)>, Memory> {
-    if !is_in_range(grammar) || grammar.starts.is_empty() {
+) -> Result<Option<(Kernel<1>, Kernel<1>)>, Memory> {
+    if !is_in_range(grammar) || grammar.starts.is_empty() || grammar.tokens.len() > 64 {
         return Ok(None);
     }
     if symbol_at(grammar, 0, 0).is_none() {

@@ -17,4 +17,8 @@ mod sets;
 #[cfg(test)]
 mod tables;
 #[cfg(test)]
+mod token_sets;
+#[cfg(test)]
 mod trees;
+#[cfg(test)]
+mod widths;

@@ -137,12 +137,12 @@ pub fn grammar_of(alloc: Global, text: &str) -> Result<Grammar, Fail> {
     })
 }
 
-/// The canonical automaton of a grammar.
-pub fn automaton_of(alloc: Global, grammar: &Grammar) -> Result<Automaton, Fail> {
-    if !is_in_range(grammar) {
+/// The canonical automaton of a grammar of at most 64 tokens.
+pub fn automaton_of(alloc: Global, grammar: &Grammar) -> Result<Automaton<1>, Fail> {
+    if !is_in_range(grammar) || grammar.tokens.len() > 64 {
         return Err(Fail::from("out of range"));
     }
-    Ok(canonical(alloc, grammar).map_err(|_| "no automaton")?)
+    Ok(canonical::<1>(alloc, grammar).map_err(|_| "no automaton")?)
 }
 
 /// The table and the conflicts of a grammar, by its canonical automaton.
@@ -151,10 +151,10 @@ pub fn resolved(
     grammar: &Grammar,
     mode: Mode,
 ) -> Result<(Table, Vec<Conflict>), Fail> {
-    if !is_in_range(grammar) || !has_costs_in_range(grammar) {
+    if !is_in_range(grammar) || !has_costs_in_range(grammar) || grammar.tokens.len() > 64 {
         return Err(Fail::from("out of range"));
     }
-    let automaton = canonical(alloc, grammar).map_err(|_| "no automaton")?;
+    let automaton = canonical::<1>(alloc, grammar).map_err(|_| "no automaton")?;
     Ok(resolve(alloc, grammar, &automaton, mode)?)
 }
 

@@ -11,7 +11,7 @@ use Rattle.mh_canon.proofs.States.{AreEdges-push, IsOver-placed, Placed-few}
 use Rattle.mh_canon.proofs.collection.next_edges.Goals as goal
 
 pub loop-symbol-preserved : goal.loop-symbol-preserved
-loop-symbol-preserved c =
+loop-symbol-preserved _ c =
     let X : Symbol = get_or c.args.symbols.now c.loop-symbol.symbol-index (T 0) in
     let m : IsMove (plain_of c.args.grammar.now) c.args.closed.now X c.in_ok-kernel.kernel = record { kernel = c.in_ok-kernel.ensures.kernel; same = c.in_ok-kernel.ensures.exact } in
     let placed = c.in-Ok.ensures.ok in
@@ -21,7 +21,7 @@ loop-symbol-preserved c =
     }
 
 pub returns-in-Err-clause-over : goal.returns-in-Err-clause-over
-returns-in-Err-clause-over c same =
+returns-in-Err-clause-over _ c same =
     let X : Symbol = get_or c.args.symbols.now c.loop-symbol.symbol-index (T 0) in
     let m : IsMove (plain_of c.args.grammar.now) c.args.closed.now X c.in_ok-kernel.kernel = record { kernel = c.in_ok-kernel.ensures.kernel; same = c.in_ok-kernel.ensures.exact } in
     let fault : c.in-Err.fault ≡ TooManyStates = cc in

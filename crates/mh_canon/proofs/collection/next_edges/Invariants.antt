@@ -5,7 +5,7 @@ use Rattle.mh_canon.specs.Moves.{AreEdges}
 use Rattle.mh_canon.proofs.collection.next_edges.Given as goal
 
 abbrev pub invariant-loop-symbol : goal.invariant-loop-symbol
-invariant-loop-symbol l = record {
+invariant-loop-symbol _ l = record {
   edges : AreEdges (plain_of l.grammar) l.closed (take l.symbol-index l.symbols) l.initial.kernels.keys l.kernels.keys l.row;
   few : length l.kernels.keys ≤ MAX_STATES;
 }

@@ -6,7 +6,7 @@ use Rattle.mh_canon.proofs.symbols.moving_symbols.Goals as goal
 use Rattle.mh_canon.proofs.symbols.moving_symbols.Goals.{in-Some+in_ok-insert, in_default}
 
 pub loop-item-preserved : goal.loop-item-preserved
-loop-item-preserved c =
+loop-item-preserved _ c =
     let items = c.as_slice-item-items.result.now in
     let item = c.item-item.result in
     let more = take_more items c.loop-item.item-index item c.loop-item-test.true ∙ ap (λ k. Rattle.std.proofs.Common.◌++◌ (take c.loop-item.item-index items) (Rattle.std.proofs.Common.◌∷◌ k Rattle.std.proofs.Common.[])) (sym c.item-item.is) in
@@ -16,7 +16,7 @@ loop-item-preserved c =
     ]
 
 pub returns-clause-exact : goal.returns-clause-exact
-returns-clause-exact c =
+returns-clause-exact _ c =
     let whole = take_all c.loop-item.item-index c.args.closed.now.items (rw c.as_slice-item-items.ensures at c.loop-item-test.false) in
     let exact = rw c.as_slice-item-items.ensures at c.loop-item.invariant.exact in
     rw c.in_ok-in_order.ensures (rw whole at exact)

@@ -7,7 +7,7 @@ use Rattle.mh_canon.specs.Moves.{IsBehindDot}
 use Rattle.mh_canon.proofs.symbols.moving_symbols.Given as goal
 
 abbrev pub invariant-loop-item : goal.invariant-loop-item
-invariant-loop-item l = record {
+invariant-loop-item _ l = record {
   rising : IsRising IsSymbolBefore l.symbols.keys;
   exact : (X : Symbol) → Contains l.symbols.keys X ↔ IsBehindDot (plain_of l.grammar) (record { items = take l.item-index l.item-items }) X;
 }

@@ -3,4 +3,4 @@ use Rattle.mh_canon.proofs.Only.{one_canonical}
 use Rattle.mh_canon.proofs.uniqueness.is_one_automaton.Goals as goal
 
 pub returns : goal.returns
-returns c = one_canonical (plain_of c.args.grammar.now) c.args.left.now c.args.right.now c.requires.left c.requires.right
+returns _ c = one_canonical (plain_of c.args.grammar.now) c.args.left.now c.args.right.now c.requires.left c.requires.right

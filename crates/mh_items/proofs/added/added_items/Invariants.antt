@@ -3,4 +3,4 @@ use Rattle.mh_items.proofs.Listing.{AddedSoFar}
 use Rattle.mh_items.proofs.added.added_items.Given as goal
 
 abbrev pub invariant-loop-number : goal.invariant-loop-number
-invariant-loop-number l = AddedSoFar (plain_of l.grammar) l.set l.number-items l.items.items l.number-index
+invariant-loop-number _ l = AddedSoFar (plain_of l.grammar) l.set l.number-items l.items.items l.number-index

@@ -1,30 +1,29 @@
-use Rattle.std.proofs.Common.{take}
+use Rattle.std.proofs.Common.{◌≡◌, List, take, sym, subst, ◌∙◌, rules, lit<}
 use Rattle.std.proofs.lemmas.List.{take_all}
 use Rattle.mh_grammar.specs.Plain.{plain_of}
-use Rattle.mh_items.proofs.Lists.{taken, all_at}
-use Rattle.mh_items.proofs.Adding.{Adds-none}
+use Rattle.mh_items.specs.Shapes.{KernelItem}
 use Rattle.mh_items.specs.Kernels.{IsKernelItem}
-use Rattle.mh_items.proofs.Asking.{seeds_step, no_seeds}
+use Rattle.mh_items.specs.Asked.{Adds}
+use Rattle.mh_items.specs.Wanted.{IsSeedOf}
+use Rattle.mh_grammar.proofs.Lists.{taken, all_at}
+use Rattle.mh_items.proofs.Growing.{Adds-none}
+use Rattle.mh_items.proofs.Following.{seeds_none, seeds_step}
 use Rattle.mh_items.proofs.closures.add_seeds.Goals as goal
 
 pub loop-item-init : goal.loop-item-init
-loop-item-init c = Adds-none _ _ c.requires.table.sets (no_seeds (plain_of c.args.grammar.now))
+loop-item-init _ c = Adds-none _ _ c.requires.table (seeds_none (plain_of c.args.grammar.now))
 
-pub add_item-requires-clause-item : goal.add_item-requires-clause-item
-add_item-requires-clause-item c = all_at (IsKernelItem (plain_of c.args.grammar.now)) c.args.items.now c.loop-item.item-index c.item-item.result c.requires.items c.loop-item-test.true c.item-item.is
-
-pub add_item-requires-clause-table : goal.add_item-requires-clause-table
-add_item-requires-clause-table c = record {
-  columns = rw c.loop-item.invariant.same_width c.requires.table.columns;
-  size = rw c.loop-item.invariant.same_size c.requires.table.size;
-  sets = c.loop-item.invariant.sets;
-}
+pub add_item-requires : goal.add_item-requires
+add_item-requires _ c =
+    let item = all_at (IsKernelItem (plain_of c.args.grammar.now)) c.args.items.now c.loop-item.item-index c.item-item.result c.requires.items c.loop-item-test.true c.item-item.is in
+    let table = c.loop-item.invariant.table in
+    let size = c.loop-item.invariant.size ∙ c.requires.size in
+    search rules
 
 pub loop-item-preserved : goal.loop-item-preserved
-loop-item-preserved c =
+loop-item-preserved _ c =
+    let items = c.args.items.now in
     let i = c.loop-item.item-index in
-    let at = taken c.args.items.now i c.item-item.result c.loop-item-test.true c.item-item.is in
-    rw at (seeds_step (plain_of c.args.grammar.now) (take i c.args.items.now) c.item-item.result _ _ _ c.loop-item.invariant c.in_ok-add_item.ensures)
-
-pub returns : goal.returns
-returns c = rw (take_all c.loop-item.item-index c.args.items.now c.loop-item-test.false) at c.loop-item.invariant
+    let at = taken items i c.item-item.result c.loop-item-test.true c.item-item.is in
+    let P : List KernelItem → Type 0 = λ xs. Adds (IsSeedOf (plain_of c.args.grammar.now) xs) c.args.set.now c.add_item.new.set in
+    subst P (sym at) (seeds_step (plain_of c.args.grammar.now) (take i items) c.item-item.result _ _ _ c.loop-item.invariant c.in_ok-add_item.ensures)

@@ -1,8 +1,8 @@
 use Rattle.std.proofs.Common.{take}
 use Rattle.mh_grammar.specs.Plain.{plain_of}
-use Rattle.mh_items.specs.Pairs.{Adds}
-use Rattle.mh_items.specs.Wanted.{IsSeed}
+use Rattle.mh_items.specs.Asked.{Adds}
+use Rattle.mh_items.specs.Wanted.{IsSeedOf}
 use Rattle.mh_items.proofs.closures.add_seeds.Given as goal
 
 abbrev pub invariant-loop-item : goal.invariant-loop-item
-invariant-loop-item l = Adds (IsSeed (plain_of l.grammar) (take l.item-index l.items)) l.initial.set l.set
+invariant-loop-item g l = Adds (IsSeedOf (plain_of l.grammar) (take l.item-index l.items)) l.initial.set l.set

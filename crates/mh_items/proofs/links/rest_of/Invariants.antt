@@ -3,4 +3,4 @@ use Rattle.mh_items.proofs.Linking.{RestSoFar}
 use Rattle.mh_items.proofs.links.rest_of.Given as goal
 
 abbrev pub invariant-loop-symbol : goal.invariant-loop-symbol
-invariant-loop-symbol l = RestSoFar l.sets l.symbols l.tokens.items (drop l.symbol-index l.symbols)
+invariant-loop-symbol g l = RestSoFar l.sets l.symbols l.tokens (drop l.symbol-index l.symbols)

@@ -3,43 +3,43 @@ use Rattle.std.specs.List.{slice_get}
 use Rattle.std.proofs.lemmas.Option.{slice_get_read}
 use Rattle.mh_grammar.specs.Plain.{plain_of}
 use Rattle.mh_items.specs.Kernels.{IsKernelItem}
-use Rattle.mh_items.proofs.Lists.{recursion_at}
-use Rattle.mh_items.proofs.LookRows.{joined_item}
+use Rattle.mh_grammar.proofs.Lists.{recursion_at}
+use Rattle.mh_items.proofs.Joining.{joined_item}
 use Rattle.mh_items.proofs.Merged.{IsMerged-left, IsMerged-right, IsMerged-both}
 use Rattle.mh_items.proofs.merging.add_next.Goals as goal
 
 pub returns-in_ok-push-in-Less-clause-merged : goal.returns-in_ok-push-in-Less-clause-merged
-returns-in_ok-push-in-Less-clause-merged c =
+returns-in_ok-push-in-Less-clause-merged _ c =
     let g = plain_of c.args.grammar.now in
     let left = c.args.left.now in
     let x = c.index-left-i.result in
     let t = rw c.in-Less.is at c.turn.ensures in
     let at : slice_get left c.args.i ≡ Some x = slice_get_read left (length left) c.args.i x refl t.0 c.index-left-i.is in
-    rw (c.in_ok-push-in-Less.ensures.items, c.in_ok-copied-in-Less.ensures)
+    rw (c.in_ok-push-in-Less.ensures.items, c.copied.ensures)
     (IsMerged-left g left c.args.right.now c.args.items.now.items c.args.i c.args.j c.requires.left c.requires.right c.requires.merged x at (λ y e. t.1 x y at e))
 
 pub returns-in_ok-push-in-Greater-clause-merged : goal.returns-in_ok-push-in-Greater-clause-merged
-returns-in_ok-push-in-Greater-clause-merged c =
+returns-in_ok-push-in-Greater-clause-merged _ c =
     let g = plain_of c.args.grammar.now in
     let right = c.args.right.now in
     let y = c.index-right-j.result in
     let t = rw c.in-Greater.is at c.turn.ensures in
     let at : slice_get right c.args.j ≡ Some y = slice_get_read right (length right) c.args.j y refl t.0 c.index-right-j.is in
-    rw (c.in_ok-push-in-Greater.ensures.items, c.in_ok-copied-in-Greater.ensures)
+    rw (c.in_ok-push-in-Greater.ensures.items, c.copied-in-Greater.ensures)
     (IsMerged-right g c.args.left.now right c.args.items.now.items c.args.i c.args.j c.requires.left c.requires.right c.requires.merged y at (λ x e. t.1 x y e at))
 
 pub returns-in_ok-push-in-Equal-clause-merged : goal.returns-in_ok-push-in-Equal-clause-merged
-returns-in_ok-push-in-Equal-clause-merged c =
+returns-in_ok-push-in-Equal-clause-merged _ c =
     let g = plain_of c.args.grammar.now in
     let left = c.args.left.now in
     let right = c.args.right.now in
     let x = c.index-left-i-in-Equal.result in
     let y = c.index-right-j-in-Equal.result in
-    let z = c.in_ok-joined-in-Equal.field-0 in
+    let z = c.joined.result in
     let t = rw c.in-Equal.is at c.turn.ensures in
     let at : slice_get left c.args.i ≡ Some x = slice_get_read left (length left) c.args.i x refl t.0 c.index-left-i-in-Equal.is in
     let at' : slice_get right c.args.j ≡ Some y = slice_get_read right (length right) c.args.j y refl t.1 c.index-right-j-in-Equal.is in
     let place = t.2 x y at at' in
-    let valid = joined_item g x y z (recursion_at (IsKernelItem g) left c.requires.left.items c.args.i x at) (recursion_at (IsKernelItem g) right c.requires.right.items c.args.j y at') c.in_ok-joined-in-Equal.ensures in
+    let valid = joined_item g x y z (recursion_at (IsKernelItem g) left c.requires.left.items c.args.i x at) (recursion_at (IsKernelItem g) right c.requires.right.items c.args.j y at') c.joined.ensures in
     rw c.in_ok-push-in-Equal.ensures.items
-    (IsMerged-both g left right c.args.items.now.items c.args.i c.args.j c.requires.left c.requires.right c.requires.merged x y z at at' place.0 place.1 valid c.in_ok-joined-in-Equal.ensures)
+    (IsMerged-both g left right c.args.items.now.items c.args.i c.args.j c.requires.left c.requires.right c.requires.merged x y z at at' place.0 place.1 valid c.joined.ensures)

@@ -3,7 +3,7 @@ use Rattle.mh_items.proofs.Merged.{IsMerged-start, union_of}
 use Rattle.mh_items.proofs.merging.merged.Goals as goal
 
 pub items-init : goal.items-init
-items-init c = rw c.new-items.ensures.items (IsMerged-start (plain_of c.args.grammar.now) c.args.left.now c.args.right.now)
+items-init _ c = rw c.new-items.ensures.items (IsMerged-start (plain_of c.args.grammar.now) c.args.left.now c.args.right.now)
 
 pub returns : goal.returns
-returns c = union_of (plain_of c.args.grammar.now) c.args.left.now c.args.right.now c.items.items.items c.items.i c.items.j c.if-i-left.false c.if-j-right.false c.items.invariant
+returns _ c = union_of (plain_of c.args.grammar.now) c.args.left.now c.args.right.now c.items.items.items c.items.i c.items.j c.if-i-left.false c.if-j-right.false c.items.invariant

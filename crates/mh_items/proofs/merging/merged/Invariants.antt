@@ -4,7 +4,7 @@ use Rattle.mh_items.specs.Merging.{IsMerged}
 use Rattle.mh_items.proofs.merging.merged.Given as goal
 
 abbrev pub invariant-items : goal.invariant-items
-invariant-items l = IsMerged (plain_of l.grammar) l.left l.i l.right l.j l.items.items
+invariant-items _ l = IsMerged (plain_of l.grammar) l.left l.i l.right l.j l.items.items
 
 abbrev pub decreases-items : goal.decreases-items
-decreases-items l = length l.left + length l.right - (l.i + l.j)
+decreases-items _ l = length l.left + length l.right - (l.i + l.j)

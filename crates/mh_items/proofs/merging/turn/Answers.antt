@@ -4,13 +4,13 @@ use Rattle.mh_items.proofs.Turning.{turn_left, turn_right, turn_of, order_says}
 use Rattle.mh_items.proofs.merging.turn.Goals as goal
 
 pub returns-then-j-right : goal.returns-then-j-right
-returns-then-j-right c = turn_left c.args.left.now c.args.right.now c.args.i c.args.j c.if-j-right.true (let far = c.if-j-right.true in elim c.requires [ inl l ↦ l | inr r ↦ absurd (omega arith) ])
+returns-then-j-right _ c = turn_left c.args.left.now c.args.right.now c.args.i c.args.j c.if-j-right.true (let far = c.if-j-right.true in elim c.requires.more [ inl l ↦ l | inr r ↦ absurd (omega arith) ])
 
 pub returns-then-i-left : goal.returns-then-i-left
-returns-then-i-left c = turn_right c.args.left.now c.args.right.now c.args.i c.args.j c.if-i-left.true c.if-j-right.false
+returns-then-i-left _ c = turn_right c.args.left.now c.args.right.now c.args.i c.args.j c.if-i-left.true c.if-j-right.false
 
 pub returns : goal.returns
-returns c =
+returns _ c =
     let x = c.index-left-i.result in
     let y = c.index-right-j.result in
     turn_of c.args.left.now c.args.right.now c.args.i c.args.j x y

@@ -1,16 +1,16 @@
-use Rattle.std.proofs.Common.{◌≡◌, ◌<◌, ◌≤◌, Some, length, refl, sym, ◌∙◌, arith}
+use Rattle.std.proofs.Common.{◌≡◌, ◌<◌, ◌≤◌, Some, length, refl, sym, ◌∙◌, arith, rules}
 use Rattle.std.specs.List.{slice_get}
 use Rattle.std.proofs.lemmas.Bool.{false≢true}
 use Rattle.std.proofs.lemmas.Option.{slice_get_read, slice_get_within}
 use Rattle.mh_grammar.specs.Plain.{plain_of, rhs_of}
 use Rattle.mh_items.specs.Kernels.{IsKernelItem}
-use Rattle.mh_items.proofs.Lists.{recursion_at}
+use Rattle.mh_grammar.proofs.Lists.{recursion_at}
 use Rattle.mh_items.proofs.Moving.{MovedSoFar-push, MovedSoFar-skip, moved_of, short_rhs}
 use Rattle.mh_items.proofs.moves.moved.Goals as goal
-use Rattle.mh_items.proofs.moves.moved.Goals.{then-is_before+in_ok-advanced+in_ok-push, else-is_before}
+use Rattle.mh_items.proofs.moves.moved.Goals.{then-is_before+in_ok-push, else-is_before}
 
-pub is_before-requires-clause-production : goal.is_before-requires-clause-production
-is_before-requires-clause-production c =
+pub is_before-requires : goal.is_before-requires
+is_before-requires g c =
     let g = plain_of c.args.grammar.now in
     let items = c.args.closed.now.items in
     let i = c.loop-item.item-index in
@@ -18,10 +18,10 @@ is_before-requires-clause-production c =
     let same = c.as_slice-item-items.ensures in
     let short : i < length items = rw same at c.loop-item-test.true in
     let at : slice_get items i ≡ Some y = slice_get_read items (length items) i y refl short (rw same at c.item-item.is) in
-    (recursion_at (IsKernelItem g) items c.requires.kernel.items i y at).production
+    (search rules, (c.requires.range, (recursion_at (IsKernelItem g) items c.requires.kernel.items i y at).production))
 
 pub advanced-requires : goal.advanced-requires
-advanced-requires c =
+advanced-requires g c =
     let g = plain_of c.args.grammar.now in
     let items = c.args.closed.now.items in
     let i = c.loop-item.item-index in
@@ -34,7 +34,7 @@ advanced-requires c =
     omega arith
 
 pub loop-item-preserved : goal.loop-item-preserved
-loop-item-preserved c =
+loop-item-preserved g c =
     let g = plain_of c.args.grammar.now in
     let items = c.args.closed.now.items in
     let out = c.loop-item.items.items in
@@ -44,15 +44,15 @@ loop-item-preserved c =
     let short : i < length items = rw same at c.loop-item-test.true in
     let at : slice_get items i ≡ Some y = slice_get_read items (length items) i y refl short (rw same at c.item-item.is) in
     elim c.if-is_before.branch [
-      | then-is_before+in_ok-advanced+in_ok-push w ↦ rw (w.items-is, w.in_ok-push.ensures.items, w.in_ok-advanced.ensures)
+      | then-is_before+in_ok-push w ↦ rw (w.items-is, w.in_ok-push.ensures.items, w.advanced.ensures)
           (MovedSoFar-push g c.args.symbol items out i y c.requires.kernel c.loop-item.invariant at (c.is_before.ensures.0 w.if-is_before.true))
       | else-is_before w ↦ rw w.items-is (MovedSoFar-skip g c.args.symbol items out i y c.requires.kernel c.loop-item.invariant at (λ e. false≢true (sym w.if-is_before.false ∙ c.is_before.ensures.1 e)))
     ]
 
 pub returns-clause-kernel : goal.returns-clause-kernel
-returns-clause-kernel c = rw c.from_vec.ensures c.loop-item.invariant.kernel
+returns-clause-kernel g c = rw c.from_vec.ensures c.loop-item.invariant.kernel
 
 pub returns-clause-exact : goal.returns-clause-exact
-returns-clause-exact c =
+returns-clause-exact g c =
     let all : length c.args.closed.now.items ≤ c.loop-item.item-index = rw c.as_slice-item-items.ensures at c.loop-item-test.false in
     rw c.from_vec.ensures (moved_of (plain_of c.args.grammar.now) c.args.symbol c.args.closed.now c.loop-item.items.items c.loop-item.item-index all c.loop-item.invariant)

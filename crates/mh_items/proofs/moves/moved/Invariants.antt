@@ -3,4 +3,4 @@ use Rattle.mh_items.proofs.Moving.{MovedSoFar}
 use Rattle.mh_items.proofs.moves.moved.Given as goal
 
 abbrev pub invariant-loop-item : goal.invariant-loop-item
-invariant-loop-item l = MovedSoFar (plain_of l.grammar) l.symbol l.closed.items l.items.items l.item-index
+invariant-loop-item g l = MovedSoFar (plain_of l.grammar) l.symbol l.closed.items l.items.items l.item-index

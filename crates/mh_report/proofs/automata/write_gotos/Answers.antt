@@ -5,7 +5,7 @@ use Rattle.mh_report.proofs.Parts.{goto_text_is, on_ok}
 use Rattle.mh_report.proofs.automata.write_gotos.Goals as goal
 
 pub returns : goal.returns
-returns c =
+returns g c =
     on_ok c.write_goto_lines.result
     (c.write_goto_lines.new.text.items ≡ c.args.text.now.items ++ goto_lines c.args.grammar.now c.as_slice-edges.result.now)
     (c.write_goto_lines.new.text.items ≡ c.args.text.now.items ++ goto_lines c.args.grammar.now (edges_at c.args.automaton.now c.args.state))

@@ -3,4 +3,4 @@ use Rattle.mh_resolve.specs.Rows.{IsBest, IsRanked}
 use Rattle.mh_resolve.proofs.errors.for_errors.Given as goal
 
 abbrev pub invariant-loop-item : goal.invariant-loop-item
-invariant-loop-item l = IsBest (IsRanked l.grammar (take l.item-index l.items)) l.best
+invariant-loop-item g l = IsBest (IsRanked l.grammar (take l.item-index l.items)) l.best

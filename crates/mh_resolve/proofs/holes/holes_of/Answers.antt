@@ -1,14 +1,27 @@
-use Rattle.std.proofs.Common.{◌≡◌, ◌∙◌, ap}
-use Rattle.std.specs.Prelude.{map}
-use Rattle.mh_resolve.specs.States.{state_of}
-use Rattle.mh_resolve.specs.Holes.{AreHoles, marks_hole}
-use Rattle.mh_resolve.proofs.Refusing.{mapped, marked}
+use Rattle.std.proofs.Common.{◌≡◌, ◌<◌, length, sym, arith}
+use Rattle.mh_grammar.specs.declared.edges.Edge.{Edge}
+use Rattle.mh_grammar.specs.Plain.{plain_of}
+use Rattle.mh_items.specs.Automaton.{edges_at}
+use Rattle.mh_resolve.specs.Counting.{AreShifts}
+use Rattle.mh_resolve.proofs.Refusing.{AreMarked, holes_are}
+use Rattle.mh_resolve.proofs.Resolving.{edges_are, edges_known, edges_rise}
 use Rattle.mh_resolve.proofs.holes.holes_of.Goals as goal
 
+pub shifts_of-requires-clause-rising : goal.shifts_of-requires-clause-rising
+shifts_of-requires-clause-rising g c =
+    edges_rise c.args.grammar.now c.args.automaton.now c.requires.automaton c.args.state c.as_slice-edges.result.now c.index.result.now c.requires.state c.index.ensures c.as_slice-edges.ensures
+
+pub shifts_of-requires-clause-known : goal.shifts_of-requires-clause-known
+shifts_of-requires-clause-known g c = λ z j e.
+    rw c.len.ensures (edges_known c.args.grammar.now c.args.automaton.now c.requires.range c.requires.automaton c.args.state c.as_slice-edges.result.now c.index.result.now c.requires.state c.index.ensures c.as_slice-edges.ensures z j e)
+
 pub returns : goal.returns
-returns c =
-    mapped c.marks_of.result
-    (λ marks. marks.items ≡ map marks_hole c.as_slice.result.now)
-    (λ holes. AreHoles (state_of c.args.grammar.now c.args.automaton.now c.args.state) holes.items)
-    (λ marks is. marked (state_of c.args.grammar.now c.args.automaton.now c.args.state) c.in_ok-row.row.cells marks.items c.in_ok-row.ensures.cells (is ∙ ap (map marks_hole) c.as_slice.ensures))
-    c.marks_of.ensures
+returns g c =
+    let tokens = length c.args.grammar.now.tokens in
+    let shifts = c.in_ok-shifts.shifts.items in
+    let within : c.args.state < length c.args.automaton.now.edges = omega (arith, c.requires.state, c.requires.automaton.rows) in
+    let same = edges_are c.args.automaton.now c.args.state c.as_slice-edges.result.now c.index.result.now within c.index.ensures c.as_slice-edges.ensures in
+    let are : AreShifts tokens c.as_slice-edges.result.now shifts = rw c.len.ensures at c.in_ok-shifts.ensures in
+    let all : c.loop-token.token ≡ tokens = omega (arith, are.len, c.len-token-end.ensures, c.in_ok-shifts.shifts.ok.0, c.loop-token-test.false, c.loop-token.auto.token-end) in
+    let marked : AreMarked shifts c.args.table.now c.args.state tokens c.loop-token.holes.items = rw all at c.loop-token.invariant in
+    holes_are c.args.grammar.now c.args.automaton.now c.requires.table.0 c.args.table.now c.args.state c.as_slice-edges.result.now shifts c.loop-token.holes.items c.requires.table.1 c.requires.state (sym same) are marked

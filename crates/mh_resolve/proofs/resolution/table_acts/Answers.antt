@@ -2,7 +2,7 @@ use Rattle.mh_resolve.proofs.Clear.{state_acts, state_acts_clearly}
 use Rattle.mh_resolve.proofs.resolution.table_acts.Goals as goal
 
 pub returns-clause-within : goal.returns-clause-within
-returns-clause-within c = λ s lt. state_acts c.args.grammar.now c.args.automaton.now c.args.mode c.args.table.now.states c.requires.automaton c.requires.table.states s lt
+returns-clause-within g c = λ s lt. state_acts c.args.grammar.now c.args.automaton.now c.args.mode c.args.table.now.states c.requires.automaton c.requires.table.states s lt
 
 pub returns-clause-clearly : goal.returns-clause-clearly
-returns-clause-clearly c = λ clear s lt. state_acts_clearly c.args.grammar.now c.args.automaton.now c.args.mode c.args.table.now.states c.requires.table.states clear s lt
+returns-clause-clearly g c = λ clear s lt. state_acts_clearly c.args.grammar.now c.args.automaton.now c.args.mode c.args.table.now.states c.requires.table.states clear s lt

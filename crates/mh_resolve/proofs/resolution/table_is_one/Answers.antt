@@ -2,4 +2,4 @@ use Rattle.mh_resolve.proofs.Once.{one_table}
 use Rattle.mh_resolve.proofs.resolution.table_is_one.Goals as goal
 
 pub returns : goal.returns
-returns c = one_table c.args.grammar.now c.args.automaton.now c.args.mode c.args.left.now c.args.right.now c.requires.left c.requires.right
+returns g c = one_table c.args.grammar.now c.args.automaton.now c.args.mode c.args.left.now c.args.right.now c.requires.left c.requires.right

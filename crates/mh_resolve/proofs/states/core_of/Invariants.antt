@@ -4,4 +4,4 @@ use Rattle.mh_resolve.specs.States.{place_of}
 use Rattle.mh_resolve.proofs.states.core_of.Given as goal
 
 abbrev pub invariant-loop-item : goal.invariant-loop-item
-invariant-loop-item l = l.core.items ≡ map place_of (take l.item-index l.items)
+invariant-loop-item g l = l.core.items ≡ map place_of (take l.item-index l.items)

@@ -3,7 +3,7 @@ use Rattle.mh_resolve.proofs.Rowing.{cells_are, last_is}
 use Rattle.mh_resolve.proofs.states.row_of.Goals as goal
 
 pub returns : goal.returns
-returns c =
+returns g c =
     let shifts = rw c.len.ensures at c.in_ok-shifts.ensures in
     let tallied = rw c.as_slice.ensures.value at c.in_ok-tallies.ensures in
     let settled = rw (c.as_slice-2.ensures.value, c.as_slice-3.ensures.value) at c.in_ok-cells.ensures in

@@ -1,0 +1,9 @@
+pub mod Branching
+pub mod Ending
+pub mod Moves
+pub mod OneMore
+pub mod Reading
+pub mod Resuming
+pub mod Running
+pub mod Settling
+pub mod Walks

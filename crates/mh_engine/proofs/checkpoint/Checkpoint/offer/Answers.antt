@@ -1,0 +1,24 @@
+use Rattle.std.proofs.Common.{◌≡◌, ap, sym, subst, ◌∙◌, inl, inr, refl, Some, arith}
+use Rattle.std.specs.List.{All}
+use Rattle.mh_tables.specs.Facts.{Facts}
+use Rattle.mh_tables.specs.Halting.{look_list}
+use Rattle.mh_tables.specs.Run.{Refuses, Shifts, Reduces}
+use Rattle.mh_engine.specs.Positions.{Position, waiting}
+use Rattle.mh_engine.specs.Phases.{next_move, phase_of, IsAsking}
+use Rattle.mh_engine.specs.Steps.{resumed, offered}
+use Rattle.mh_engine.specs.Sound.{IsSound}
+use Rattle.mh_tables.specs.Deep.{too_deep}
+use Rattle.mh_engine.specs.Reducing.{CanReduce}
+use Rattle.mh_engine.proofs.Moves.{no_shift_waiting}
+use Rattle.mh_engine.proofs.Resuming.{offered_made, refused_is, shifted_made, shifted_keeps, shifted_fits, shifted_deep, Found, reduced_made, reduced_keeps, reduced_low, reduced_deep, can_reduce, going}
+use Rattle.mh_engine.specs.Branches.{StandsAt, with_token}
+use Rattle.mh_engine.proofs.Branching.{stands_offered}
+use Rattle.mh_engine.proofs.checkpoint.Checkpoint.offer.Goals as goal
+
+pub returns-clause-made : goal.returns-clause-made
+returns-clause-made c =
+    let v : Position = waiting c.self.inside.table.now c.self.inside.stack c.self.inside.pending c.self.inside.refused in
+    offered_made v c.in_ok-share.field-0 c.args.token (subst (λ (p : Position). IsAsking (phase_of p)) (sym c.self.view_is) c.requires.asking) c.in_ok-share.ensures ∙ ap (λ (p : Position). offered p c.args.token) c.self.view_is
+
+pub returns-clause-branch : goal.returns-clause-branch
+returns-clause-branch c = λ b h. subst (StandsAt (with_token b c.args.token)) (sym (returns-clause-made c)) (stands_offered b c.args.self.now c.args.token h)

@@ -1,0 +1,21 @@
+-- What the cells of a stack say.
+use Rattle.std.specs.Prelude.{ℕ, List, [], ◌∷◌, ◌++◌, length, take, drop, ◌-◌}
+use Rattle.mh_tree.specs.Trees.{SyntaxTree}
+use Rattle.mh_engine.specs.Pairs.{Pairs}
+use Rattle.mh_engine.specs.declared.stack.Link.{Link}
+use Rattle.mh_engine.specs.declared.stack.Link.TheVariants as link
+
+abbrev pub bottom : ℕ → Pairs
+bottom start = record { states = start ∷ []; trees = [] }
+
+-- one more pair
+abbrev pub pushed : Pairs → ℕ → SyntaxTree → Pairs
+pushed below state tree = record { states = below.states ++ state ∷ []; trees = below.trees ++ tree ∷ [] }
+
+-- without the last pairs
+abbrev pub taken : ℕ → Pairs → Pairs
+taken n pairs = record { states = take (length pairs.states - n) pairs.states; trees = take (length pairs.trees - n) pairs.trees }
+
+abbrev pub pairs_of : Link → Pairs
+pairs_of (link.Bottom start) = bottom start
+pairs_of (link.Above cell) = pushed cell.value.below cell.value.state cell.value.tree

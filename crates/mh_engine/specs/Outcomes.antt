@@ -1,0 +1,11 @@
+-- How the run of a sentence with its trees ends, as an outcome of the code says it.
+use Rattle.mh_tables.specs.TreeRuns.{TreeEnding, AcceptedTree, OvershotTree, RejectedTree, DeepTree}
+use Rattle.mh_engine.specs.declared.sentence.TreeOutcome.{TreeOutcome}
+use Rattle.mh_engine.specs.declared.sentence.TreeOutcome.TheVariants as outcomes
+
+-- the ending that an outcome stands for
+abbrev pub tree_ending_for : TreeOutcome → TreeEnding
+tree_ending_for (outcomes.Accept read tree) = AcceptedTree read tree
+tree_ending_for (outcomes.Overshoot state) = OvershotTree state
+tree_ending_for (outcomes.Reject at state) = RejectedTree at state
+tree_ending_for outcomes.TooDeep = DeepTree

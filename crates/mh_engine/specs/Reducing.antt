@@ -1,0 +1,15 @@
+-- What a reduction finds.
+use Rattle.std.specs.Prelude.{ℕ, length, ◌<◌, ◌≤◌}
+use Rattle.mh_grammar.specs.Plain.{rhs_of, production_count}
+use Rattle.mh_tables.specs.Facts.{HasGoto}
+use Rattle.mh_tables.specs.Run.{top_of}
+use Rattle.mh_engine.specs.Cells.{taken}
+use Rattle.mh_engine.specs.Positions.{Position}
+
+-- its production, its pairs, and the edge on its left side
+pub record CanReduce (c : Position) (p : ℕ) : Type 0 where
+  pub ordinary : length c.table.grammar.starts ≤ p
+  pub known : p < production_count c.table.grammar
+  pub pairs : length (rhs_of c.table.grammar p) ≤ length c.pairs.trees
+  pub below : top_of (taken (length (rhs_of c.table.grammar p)) c.pairs).states < length c.table.states
+  pub goto : HasGoto c.table (top_of (taken (length (rhs_of c.table.grammar p)) c.pairs).states) p

@@ -1,0 +1,45 @@
+//! The reductions that come next.
+ghost use Rattle.std.specs.Prelude.{◌≡◌, IfOk, IfErr};
+ghost use Rattle.mh_engine.specs.Settled.{SettlesTo, SettlesDeep};
+ghost use Rattle.mh_engine.specs.declared.fault.ResumeFault.TheVariants as faults;
+
+use crate::checkpoint::Checkpoint;
+use crate::fault::ResumeFault;
+use crate::phase::Phase;
+use std::alloc::Global;
+
+/// The checkpoint after all reductions that come next. Each either leaves the pair at the place `floor`, which at most
+/// 10,000 in a row do, or lowers that place.
+pub fn settle<'t>(alloc: Global, from: Checkpoint<'t>) -> Result<Checkpoint<'t>, ResumeFault>
+    ensures settled { IfOk result (λ c. SettlesTo from.entry c) }
+    ensures deep { IfErr result (λ fault. fault ≡ faults.TooDeep → SettlesDeep from.entry) }
+{
+    from.facts();
+    let mut at = from;
+    let mut floor = at.depth().saturating_sub(1);
+    let mut count: u32 = 0;
+    'reductions: loop {
+        match at.phase() {
+            Phase::AboutToReduce {
+                state: _,
+                production: _,
+            } => {
+                let next = match at.resume(alloc) {
+                    Ok(next) => next,
+                    Err(fault) => return Err(fault),
+                };
+                next.facts();
+                let depth = next.depth();
+                if floor < depth {
+                    count += 1;
+                    at = next;
+                } else {
+                    floor = depth.saturating_sub(1);
+                    count = 0;
+                    at = next;
+                }
+            }
+            _ => return Ok(at),
+        }
+    }
+}

@@ -1,0 +1,120 @@
+//! Runs of whole sentences with their trees, by checkpoints.
+ghost use Rattle.std.specs.Prelude.{◌≡◌, ◌<◌, ◌^◌, length, IfOk, All};
+ghost use Rattle.mh_tables.specs.TreeRuns.{IsTreeEnding};
+ghost use Rattle.mh_engine.specs.Outcomes.{tree_ending_for};
+ghost use Rattle.mh_engine.specs.Reached.{HasReached, IsAccept};
+ghost use Rattle.mh_engine.specs.Phases.{phase_of};
+ghost use Rattle.mh_engine.specs.declared.phase.Phase.TheVariants as phases;
+
+use crate::checkpoint::{Checkpoint, begin};
+use crate::fault::ResumeFault;
+use crate::phase::Phase;
+use crate::reductions::settle;
+use mh_grammar::{Memory, Token};
+use mh_tables::Halting;
+use mh_tree::Tree;
+use std::alloc::Global;
+
+/// How the run of a sentence with its trees ends.
+#[derive(Drop)]
+pub enum TreeOutcome {
+    /// A state accepts after so many tokens were shifted, and this tree derives them; more may stand behind them.
+    Accept { read: u32, tree: Tree },
+    /// This state asks for a token where none is left.
+    Overshoot { state: u32 },
+    /// This state refuses the token at this place, counted from 0.
+    Reject { at: u32, state: u32 },
+    /// A step would make more than 4,000 pairs of a state and a tree, or a tree of a height of more than 4,000.
+    TooDeep,
+}
+
+/// The run of a start, by its number, on a sentence of fewer than 2^32 tokens, with its trees. It is too deep exactly
+/// where a step of it, up to its end, makes more than 4,000 pairs of a state and a tree, or a tree of a height of more
+/// than 4,000. Fails for want of memory alone.
+pub fn run_with_trees(
+    alloc: Global,
+    table: &Halting,
+    start: u16,
+    sentence: &[Token],
+) -> Result<TreeOutcome, Memory>
+    requires start { start < length table.now.grammar.starts }
+    requires tokens { All (λ z. z < table.now.grammar.tokens) sentence.now }
+    requires few { length sentence.now < 2 ^ 32 }
+    ensures { IfOk result (λ outcome. IsTreeEnding table.now start sentence.now (tree_ending_for outcome)) }
+{
+    let _rows = table.table();
+    run(alloc, table, start, sentence)
+}
+
+// The same, from checkpoint to checkpoint.
+fn run(
+    alloc: Global,
+    table: &Halting,
+    start: u16,
+    sentence: &[Token],
+) -> Result<TreeOutcome, Memory>
+    requires start { start < length table.now.grammar.starts }
+    requires tokens { All (λ z. z < table.now.grammar.tokens) sentence.now }
+    requires few { length sentence.now < 2 ^ 32 }
+    ensures { IfOk result (λ outcome. HasReached table.now start sentence.now outcome) }
+{
+    let mut at = begin(table, start);
+    for (place, token) in sentence.iter().enumerate() {
+        let asking = match settle(alloc, at) {
+            Ok(asking) => asking,
+            Err(ResumeFault::TooDeep) => return Ok(TreeOutcome::TooDeep),
+            Err(ResumeFault::Memory) => return Err(Memory),
+        };
+        match asking.phase() {
+            Phase::InputNeeded { state: _ } => {}
+            Phase::Accepted => return accept(place as u32, &asking),
+            _ => unreachable!(),
+        }
+        let offered = asking.offer(*token)?;
+        let fed = match settle(alloc, offered) {
+            Ok(fed) => fed,
+            Err(ResumeFault::TooDeep) => return Ok(TreeOutcome::TooDeep),
+            Err(ResumeFault::Memory) => return Err(Memory),
+        };
+        match fed.phase() {
+            Phase::Shifting { state: _, token: _ } => {}
+            Phase::Accepted => return accept(place as u32, &fed),
+            Phase::HandlingError { state } => {
+                return Ok(TreeOutcome::Reject {
+                    at: place as u32,
+                    state,
+                });
+            }
+            _ => unreachable!(),
+        }
+        at = match fed.resume(alloc) {
+            Ok(next) => next,
+            Err(ResumeFault::TooDeep) => return Ok(TreeOutcome::TooDeep),
+            Err(ResumeFault::Memory) => return Err(Memory),
+        };
+    }
+    let end = match settle(alloc, at) {
+        Ok(end) => end,
+        Err(ResumeFault::TooDeep) => return Ok(TreeOutcome::TooDeep),
+        Err(ResumeFault::Memory) => return Err(Memory),
+    };
+    match end.phase() {
+        Phase::InputNeeded { state } => Ok(TreeOutcome::Overshoot { state }),
+        Phase::Accepted => accept(sentence.len() as u32, &end),
+        _ => unreachable!(),
+    }
+}
+
+// The answer where the run accepts.
+fn accept(read: u32, at: &Checkpoint<'_>) -> Result<TreeOutcome, Memory>
+    requires { phase_of at.now ≡ phases.Accepted }
+    ensures { IfOk result (λ outcome. IsAccept at.now.pairs.trees read outcome) }
+{
+    match at.tree() {
+        Some(tree) => Ok(TreeOutcome::Accept {
+            read,
+            tree: tree.share()?,
+        }),
+        None => unreachable!(),
+    }
+}

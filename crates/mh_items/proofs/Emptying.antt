@@ -1,0 +1,110 @@
+-- A closure adds no complete item where nothing that is asked for may bring an empty production.
+use Rattle.std.proofs.Common.{◌≡◌, ℕ, ◌+◌, ◌<◌, ◌⊎◌, ◌↔◌, Bool, true, false, not, ◌||◌, List, [], ◌∷◌, Some, length, drop, get_or, set, count_by, cond, refl, sym, ap, ◌∙◌, arith, inl, inr, get_or-set_same}
+use Rattle.std.specs.List.{slice_get, Contains}
+use Rattle.std.proofs.lemmas.Bool.{cases_eq, or_parts}
+use Rattle.std.proofs.lemmas.List.{length-set}
+use Rattle.std.proofs.lemmas.List.Sums.{sum_by-set}
+use Rattle.mh_grammar.specs.declared.types.Symbol.{Symbol}
+use Rattle.mh_grammar.specs.declared.types.Symbol.TheVariants.{T, N}
+use Rattle.mh_grammar.specs.declared.types.Production.{Production}
+use Rattle.mh_grammar.specs.declared.types.Look.{Look}
+use Rattle.mh_grammar.specs.Grid.{Grows}
+use Rattle.mh_grammar.specs.Plain.{PlainGrammar, IsProductionFor, rhs_of}
+use Rattle.mh_grammar.specs.ItemSets as sets
+use Rattle.mh_grammar.specs.ItemSets.{Close}
+use Rattle.mh_grammar.proofs.Flags.{Grows-refl, Grows-trans}
+use Rattle.mh_grammar.proofs.Lists.{at_drop}
+use Rattle.mh_grammar.proofs.Numbered.{listed_from_for}
+use Rattle.mh_items.specs.Shapes.{Kernel}
+use Rattle.mh_items.specs.Kernels.{Holds}
+use Rattle.mh_items.specs.Empties.{begins_empty, AreEmpties, HasComplete}
+
+-- ---- passes over the productions
+
+-- what a pass keeps, up to the i-th production: old are the marks before it
+pub record Pass (ps : List Production) (old marks : List Bool) (changed : Bool) (i : ℕ) : Type 0 where
+  pub grows : Grows old marks changed
+  pub closed : changed ≡ false → (k : ℕ) (p : Production) → k < i → slice_get ps k ≡ Some p → begins_empty marks p.rhs ≡ true → get_or marks p.lhs false ≡ true
+
+pub Pass-start : (ps : List Production) (old : List Bool) → Pass ps old old false 0
+Pass-start ps old = record { grows = Grows-refl old; closed = λ e k p l. absurd (omega arith) }
+
+-- one production more: in the pass backward, which says nothing of what is closed, and in the one forward
+module _ (ps : List Production) (old marks new : List Bool) (changed more : Bool) (i : ℕ) (p : Production) (g : Grows marks new more) where
+  pub Pass-back : Pass ps old marks changed 0 → Pass ps old new (changed || more) 0
+  Pass-back h = record { grows = Grows-trans old marks new changed more h.grows g; closed = λ e k q l. absurd (omega arith) }
+
+  pub Pass-step : slice_get ps i ≡ Some p → Pass ps old marks changed i → (more ≡ false → begins_empty new p.rhs ≡ true → get_or new p.lhs false ≡ true) → Pass ps old new (changed || more) (i + 1)
+  Pass-step at h c = record {
+    grows = Grows-trans old marks new changed more h.grows g;
+    closed = λ e k q l read. let both = or_parts changed more e in elim (cases_eq k i) [
+      | inl same ↦ (let one : q ≡ p = cc in rw one (c both.1))
+      | inr other ↦ rw (g.same both.1) (h.closed both.0 k q (omega arith) read)
+    ];
+  }
+
+-- a new mark
+pub mark_set : (marks : List Bool) (n : ℕ) → n < length marks → get_or marks n false ≡ false → Grows marks (set marks n true) true
+mark_set marks n l e = record {
+  len = length-set marks n true;
+  same = λ f. cc;
+  fewer = λ f.
+      let h = sum_by-set (λ b. cond (not b) 1 0) marks n true false l in
+      let one : ℕ = 1 in
+      let k : cond (not (get_or marks n false)) 1 0 ≡ one = rw e refl in
+      omega (arith, h, k);
+}
+
+-- ---- what closures add
+
+-- no item of a kernel stands before a marked nonterminal
+pub record AsksNone (g : PlainGrammar) (kernel : Kernel) (marks : List Bool) : Type 0 where
+  pub none : (p d n : ℕ) (look : Look) → Holds kernel p d look → slice_get (rhs_of g p) d ≡ Some (N n) → get_or marks n false ≡ false
+
+not_both : (b : Bool) → b ≡ false → b ≡ true → ⊥
+not_both b e f = cc
+
+is_false : (b : Bool) → (b ≡ true → ⊥) → b ≡ false
+is_false true h = absurd (h refl)
+is_false false h = refl
+
+module _ (g : PlainGrammar) (kernel : Kernel) (marks : List Bool) (closed : AreEmpties g.productions marks) (asks : AsksNone g kernel marks) where
+  -- an added item is of a production of an unmarked nonterminal
+  record IsQuiet (p d : ℕ) : Type 0 where
+    start : d ≡ 0
+    n : ℕ
+    produced : IsProductionFor g n p
+    unmarked : get_or marks n false ≡ false
+
+  not_empty : (n p : ℕ) → IsProductionFor g n p → get_or marks n false ≡ false → begins_empty marks (rhs_of g p) ≡ true → ⊥
+  not_empty n p for off e =
+      let l = listed_from_for g n p for in
+      let begins : begins_empty marks l.production.rhs ≡ true = rw (← l.rhs) e in
+      not_both (get_or marks n false) off (rw l.lhs at (closed.closed l.place l.production l.at begins))
+
+  origin : (p d : ℕ) (a : Look) → Close g (Holds kernel) p d a → Holds kernel p d a ⊎ IsQuiet p d
+  origin p d a (sets.Close.given h) = inl h
+  origin p d a (sets.Close.added {p = q} {d = e} {n = n} {y = y} {a = b} c before for m) = inr (record {
+    start = refl;
+    n = n;
+    produced = for;
+    unmarked = elim (origin q e b c) [
+      | inl h ↦ asks.none q e n b h (at_drop (rhs_of g q) e (N n) y before)
+      | inr k ↦ is_false (get_or marks n false) (λ on.
+          let side : rhs_of g q ≡ N n ∷ y = rw k.start at before in
+          not_empty k.n q k.produced k.unmarked (rw side on))
+    ];
+  })
+
+  pub complete_there : HasComplete g kernel kernel
+  complete_there p look = (
+    sets.Close.given,
+    (λ c. elim (origin p (length (rhs_of g p)) look c) [
+      | inl h ↦ h
+      | inr k ↦ absurd (not_empty k.n p k.produced k.unmarked (nothing (rhs_of g p) k.start))
+    ]),
+  )
+    where
+      nothing : (xs : List Symbol) → length xs ≡ 0 → begins_empty marks xs ≡ true
+      nothing [] e = refl
+      nothing (x ∷ xs) e = absurd (omega arith)

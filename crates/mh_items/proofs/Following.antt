@@ -1,0 +1,132 @@
+-- What an item asks for by itself.
+use Rattle.std.proofs.Common.{◌≡◌, ℕ, suc, ◌+◌, ◌-◌, ◌*◌, ◌<◌, ◌≤◌, ◌⊎◌, ◌↔◌, Bool, true, false, List, [], ◌∷◌, ◌++◌, Some, None, length, get_or, drop, vec_len, refl, sym, ap, subst, ◌∙◌, arith, inl, inr}
+use Rattle.std.specs.List.{slice_get, All, Contains}
+use Rattle.std.proofs.lemmas.Bool.{cases_lt}
+use Rattle.std.proofs.lemmas.List.Elements.{Contains-push, Contains-push_cases, Contains-append_left, Contains-get_or, All-weaker, All-drop, All-cons, All-nil}
+use Rattle.std.proofs.lemmas.Option.{slice_get-get_or, get_or_from_slice_get, slice_get_within}
+use Rattle.mh_grammar.specs.declared.types.Symbol.{Symbol}
+use Rattle.mh_grammar.specs.declared.types.Symbol.TheVariants.{T, N}
+use Rattle.mh_grammar.specs.declared.types.Look.{Look}
+use Rattle.mh_grammar.specs.declared.types.Look.TheVariants.{Token, End}
+use Rattle.mh_grammar.specs.declared.types.Production.{Production}
+use Rattle.mh_grammar.specs.Plain.{PlainGrammar, IsInRange, IsSymbolBelow, production_count, rhs_of, DerivesAll}
+use Rattle.mh_grammar.proofs.Numbered.{rhs_of-start, rhs_of-ordinary}
+use Rattle.mh_grammar.specs.ItemSets as sets
+use Rattle.mh_grammar.specs.ItemSets.{MayBegin}
+use Rattle.mh_items.specs.Shapes.{KernelItem, Kernel}
+use Rattle.mh_items.specs.declared.asked.Asked.{Asked}
+use Rattle.mh_items.specs.Kernels.{Holds, IsKernelItem}
+use Rattle.mh_items.specs.Firsts.{AreSets, BeginsAll, IsRest}
+use Rattle.mh_items.specs.Asked.{IsAsked, IsTable, AreAwake, Adds, IsAt}
+use Rattle.mh_items.specs.Wanted as wanted
+use Rattle.mh_items.specs.Wanted.{Follows, IsItemSeed, IsSeedOf, IsSeed, AreSeeds}
+use Rattle.mh_grammar.proofs.Lists.{all_at}
+use Rattle.mh_items.proofs.Dotted.{drop_from-slice_get, slice_get_from-drop, drop_tail}
+use Rattle.mh_items.proofs.Growing.{Adds-then, Adds-as}
+
+-- the symbols of a right side are in range
+pub side_below : (g : PlainGrammar) → IsInRange g → (p : ℕ) → p < production_count g → All (IsSymbolBelow g.tokens g.nonterminals) (rhs_of g p)
+side_below g r p l = elim (cases_lt p (length g.starts)) [
+  | inl s ↦ rw (rhs_of-start g p s) (All-cons (IsSymbolBelow g.tokens g.nonterminals) (N (get_or g.starts p 0)) [] (r.starts p 0 s) (All-nil (IsSymbolBelow g.tokens g.nonterminals)))
+  | inr o ↦ (let k : ℕ = p - length g.starts in let number : p ≡ length g.starts + k = omega arith in let within : k < length g.productions = omega arith in
+      let none : Production = record { lhs = 0; rhs = []; level = None } in
+      let q = get_or g.productions k none in
+      let rhs = rhs_of-ordinary g k q (slice_get-get_or g.productions k none within) in
+      rw (number, rhs) (r.productions k none within).rhs)
+]
+
+below_wider : (a b m n : ℕ) → a ≤ b → m ≤ n → (xs : List Symbol) → All (IsSymbolBelow a m) xs → All (IsSymbolBelow b n) xs
+below_wider a b m n k l xs h = All-weaker (IsSymbolBelow a m) (IsSymbolBelow b n) (λ X s. wider X s) xs h
+  where
+    wider : (X : Symbol) → IsSymbolBelow a m X → IsSymbolBelow b n X
+    wider (T x) s = omega arith
+    wider (N x) s = omega arith
+
+pub behind_below : (g : PlainGrammar) → IsInRange g → (p d : ℕ) → p < production_count g → All (IsSymbolBelow g.tokens g.nonterminals) (drop (suc d) (rhs_of g p))
+behind_below g r p d l = All-drop (IsSymbolBelow g.tokens g.nonterminals) (suc d) (rhs_of g p) (side_below g r p l)
+
+pub behind_fits : (W : ℕ) (g : PlainGrammar) (count : ℕ) (xs : List Symbol) → IsInRange g → g.tokens ≤ 64 * W → count ≡ g.nonterminals → (p d : ℕ) → p < production_count g → xs ≡ drop (suc d) (rhs_of g p) → All (IsSymbolBelow (64 * W) count) xs
+behind_fits W g count xs r w e p d l at = rw at (below_wider g.tokens (64 * W) g.nonterminals count w (omega arith) (drop (suc d) (rhs_of g p)) (behind_below g r p d l))
+
+pub target_below : (g : PlainGrammar) → IsInRange g → (p d n : ℕ) → p < production_count g → slice_get (rhs_of g p) d ≡ Some (N n) → n < g.nonterminals
+target_below g r p d n l e = all_at (IsSymbolBelow g.tokens g.nonterminals) (rhs_of g p) d (N n) (side_below g r p l) (slice_get_within (rhs_of g p) d (N n) e) (sym (get_or_from_slice_get (rhs_of g p) d (N n) (N n) e))
+
+-- what follows an item, by the rest behind its symbol
+module _ (g : PlainGrammar) (item : KernelItem) (is : IsKernelItem g item) (tokens : List Look) (passes : Bool) (rest : IsRest g (drop (suc item.dot) (rhs_of g item.production)) tokens passes) where
+  some_held : (look : Look) × Contains item.looks look
+  some_held = (get_or item.looks 0 End, Contains-get_or item.looks 0 End is.some)
+
+  begins_of : (y : List Symbol) (a b : Look) → BeginsAll g y b → MayBegin g y a b
+  begins_of y a (Token z) f = sets.MayBegin.begins f
+  begins_of y a End f = absurd f
+
+  follows_back : (y : List Symbol) (a b : Look) → MayBegin g y a b → BeginsAll g y b ⊎ ((a ≡ b) × DerivesAll g y [])
+  follows_back y a b (sets.MayBegin.begins f) = inl f
+  follows_back y a b (sets.MayBegin.passes d) = inr (refl, d)
+
+  pub follows_is : (b : Look) → (Contains tokens b ⊎ ((passes ≡ true) × Contains item.looks b)) ↔ Follows g item b
+  follows_is b = (
+    (λ s. elim s [
+      | inl c ↦ record { look = some_held.0; held = some_held.1; begins = begins_of (drop (suc item.dot) (rhs_of g item.production)) some_held.0 b ((rest.begins b).0 c) }
+      | inr c ↦ record { look = b; held = c.1; begins = sets.MayBegin.passes (rest.empty.0 c.0) }
+    ]),
+    (λ f. elim (follows_back (drop (suc item.dot) (rhs_of g item.production)) f.look b f.begins) [
+      | inl k ↦ inl ((rest.begins b).1 k)
+      | inr k ↦ (let P : Look → Type 0 = Contains item.looks in inr (rest.empty.1 k.1, subst P k.0 f.held))
+    ]),
+  )
+
+module _ (g : PlainGrammar) where
+  module _ {W : ℕ} where
+    -- an item before a nonterminal
+    pub item_adds : (item : KernelItem) (n : ℕ) (looks : List Look) (a b : Asked W) → slice_get (rhs_of g item.production) item.dot ≡ Some (N n) → ((x : Look) → Contains looks x ↔ Follows g item x) → Adds (IsAt n looks) a b → Adds (IsItemSeed g item) a b
+    item_adds item n looks a b at exact h = Adds-as (IsAt n looks) (IsItemSeed g item) a b h
+        (λ m x s. let one : N m ≡ N n = (let e = sym s.at ∙ at in cc) in let same : m ≡ n = cc in record { row = same; among = (exact x).1 s.follows })
+        (λ m x s. record { at = at ∙ ap (λ k. Some (N k)) (sym s.row); follows = (exact x).0 s.among })
+
+  pub item_nothing : (item : KernelItem) → ((n : ℕ) → slice_get (rhs_of g item.production) item.dot ≡ Some (N n) → ⊥) → (n : ℕ) (b : Look) → IsItemSeed g item n b → ⊥
+  item_nothing item none n b s = none n s.at
+
+  pub seeds_none : (n : ℕ) (b : Look) → IsSeedOf g [] n b → ⊥
+  seeds_none n b s = let l = s.among.1 in omega arith
+
+  module _ {W : ℕ} where
+    pub seeds_step : (front : List KernelItem) (item : KernelItem) (a b c : Asked W) → Adds (IsSeedOf g front) a b → Adds (IsItemSeed g item) b c → Adds (IsSeedOf g (front ++ item ∷ [])) a c
+    seeds_step front item a b c h k = Adds-then (IsSeedOf g front) (IsItemSeed g item) (IsSeedOf g (front ++ item ∷ [])) a b c h k
+        (λ n x s. elim (Contains-push_cases front item s.item s.among) [
+          | inl d ↦ inl (record { item = s.item; among = d; is = s.is })
+          | inr e ↦ (let P : KernelItem → Type 0 = λ i. IsItemSeed g i n x in inr (subst P (sym e) s.is))
+        ])
+        (λ n x s. record { item = s.item; among = Contains-append_left front (item ∷ []) s.item s.among; is = s.is })
+        (λ n x s. record { item = item; among = Contains-push front item; is = s })
+
+  -- what the items of a kernel ask for, by item and by triple
+  seed_of : (kernel : Kernel) (n : ℕ) (b : Look) → IsSeedOf g kernel.items n b → IsSeed g (Holds kernel) n b
+  seed_of kernel n b s =
+      let held : Holds kernel s.item.production s.item.dot s.is.follows.look = (s.item, s.among, refl, refl, s.is.follows.held) in
+      wanted.IsSeed.seed held (drop_from-slice_get (rhs_of g s.item.production) s.item.dot (N n) s.is.at) s.is.follows.begins
+
+  of_seed : (kernel : Kernel) (n : ℕ) (b : Look) → IsSeed g (Holds kernel) n b → IsSeedOf g kernel.items n b
+  of_seed kernel n b (wanted.IsSeed.seed {p = p} {d = d} {y = y} {a = a} h e m) =
+      let item = h.0 in
+      let at : drop item.dot (rhs_of g item.production) ≡ N n ∷ y = rw (h.2, h.3) e in
+      let tail = drop_tail (rhs_of g item.production) item.dot (N n) y at in
+      record {
+        item = item;
+        among = h.1;
+        is = record {
+          at = slice_get_from-drop (rhs_of g item.production) item.dot (N n) y at;
+          follows = record { look = a; held = h.4; begins = rw tail m };
+        };
+      }
+
+  module _ {W : ℕ} where
+    pub seeds_are : (kernel : Kernel) (old new : Asked W) → ((n : ℕ) (b : Look) → IsAsked old n b → ⊥) → Adds (IsSeedOf g kernel.items) old new → AreSeeds g kernel new
+    seeds_are kernel old new empty h n b = (
+      (λ k. elim (h.origin n b k) [ inl c ↦ absurd (empty n b c) | inr s ↦ seed_of kernel n b s ]),
+      (λ s. h.added n b (of_seed kernel n b s)),
+    )
+
+    -- each that was asked is to be visited, where none was before
+    pub seeds_awake : (P : ℕ → Look → Type 0) (old new : Asked W) → ((n : ℕ) (b : Look) → IsAsked old n b → ⊥) → Adds P old new → AreAwake new
+    seeds_awake P old new empty h n b k = elim (h.changes n) [ inl w ↦ w | inr e ↦ absurd (let Q : List Look → Type 0 = λ xs. Contains xs b in empty n b (subst Q e k)) ]

@@ -1,0 +1,8 @@
+use Rattle.mh_items.proofs.Emptying.{Pass}
+use Rattle.mh_items.proofs.empties.mark_once.Given as goal
+
+abbrev pub invariant-loop-place : goal.invariant-loop-place
+invariant-loop-place l = Pass l.productions l.fn.marks l.marks l.changed 0
+
+abbrev pub invariant-loop-production : goal.invariant-loop-production
+invariant-loop-production l = Pass l.productions l.fn.marks l.marks l.changed l.production-index

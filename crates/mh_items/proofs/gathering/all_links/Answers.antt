@@ -1,0 +1,46 @@
+use Rattle.std.proofs.Common.{◌≡◌, ◌<◌, Some, length, refl, ap, arith}
+use Rattle.std.specs.List.{slice_get}
+use Rattle.std.proofs.lemmas.Option.{slice_get_read}
+use Rattle.mh_grammar.specs.Plain.{plain_of, IsProductionBelow}
+use Rattle.mh_items.specs.Firsts.{IsLink}
+use Rattle.mh_items.proofs.Linking.{LinksSoFar-skip, LinksSoFar-all}
+use Rattle.mh_grammar.proofs.Lists.{all_at}
+use Rattle.mh_items.proofs.Gathered.{links_set}
+use Rattle.mh_items.proofs.gathering.all_links.Goals as goal
+use Rattle.mh_items.proofs.gathering.all_links.Goals.{in-Some+in_ok-push, in_default}
+
+pub loop-production-preserved : goal.loop-production-preserved
+loop-production-preserved gg c =
+    let g = plain_of c.args.grammar.now in
+    let i = c.loop-production.production-index in
+    let p = c.production-item.result in
+    let rows = c.loop-production.rows in
+    let links = c.loop-production.invariant.links in
+    let same = c.as_slice-production-items.ensures in
+    let short : i < length g.productions = rw same at c.loop-production-test.true in
+    let item = rw same at c.production-item.is in
+    let at : slice_get g.productions i ≡ Some p = slice_get_read g.productions (length g.productions) i p refl short item in
+    let below = (all_at (IsProductionBelow g.tokens g.nonterminals) g.productions i p c.requires.range.productions short item).lhs in
+    let within : p.lhs < length rows.items = omega (arith, c.loop-production.invariant.len, rows.ok.0) in
+    let found = rw c.as_slice.ensures at (c.link_of.ensures g c.requires.sets) in
+    elim c.match-link_of.branch [
+      | in-Some+in_ok-push w ↦
+          (let link = w.in-Some.link in
+          let is : IsLink g p.rhs link = rw w.in-Some.is at found in
+          record {
+            len = rw w.rows-is c.loop-production.invariant.len;
+            links = rw (w.rows-is, w.in_ok-push.ensures.ok, w.from.ensures) (links_set g c.requires.range rows.items i p w.index_mut.result.now link at is within (rw w.from.ensures at w.index_mut.ensures.value) links);
+          })
+      | in_default w ↦
+          (let none = rw w.in_default.is at found in
+          record {
+            len = rw w.rows-is c.loop-production.invariant.len;
+            links = rw w.rows-is (λ n row read. LinksSoFar-skip g c.requires.range n row i p (links n row read) at (λ _. none));
+          })
+    ]
+
+pub returns-clause-exact : goal.returns-clause-exact
+returns-clause-exact gg c =
+    let g = plain_of c.args.grammar.now in
+    λ n row at. LinksSoFar-all g n row c.loop-production.production-index
+    (let same = ap length c.as_slice-production-items.ensures in omega (arith, c.loop-production.auto.production-index-end, c.loop-production-test.false)) (c.loop-production.invariant.links n row (rw c.from_vec.ensures at at))

@@ -1,0 +1,5 @@
+pub mod Known
+pub mod Naming
+pub mod Serving
+pub mod Spelling
+pub mod Telling

@@ -1,0 +1,161 @@
+-- What each command is answered.
+use Rattle.std.proofs.Common.{◌≡◌, ℕ, suc, Bool, true, false, cond, List, [], ◌∷◌, Option, Some, None, Bor, Result, Ok, Err, refl, sym, ap, subst, ◌∙◌}
+use Rattle.std.specs.Prelude.{IfOk, IfErr, OnOk, OnErr, is_some}
+use Rattle.std.specs.Option.{option_copied}
+use Rattle.mh_tables.specs.Table.{TableData}
+use Rattle.mh_engine.specs.Positions.{Position}
+use Rattle.mh_tables.specs.Deep.{too_deep}
+use Rattle.mh_engine.specs.Phases.{phase_of, IsAsking, CanGoOn}
+use Rattle.mh_engine.specs.Steps.{begun, offered, resumed}
+use Rattle.mh_engine.specs.Branches.{Branch, StandsAt, position_of, new_branch, with_token, with_step}
+use Rattle.mh_engine.specs.declared.checkpoint.Checkpoint.{Checkpoint}
+use Rattle.mh_engine.specs.declared.phase.Phase.{Phase}
+use Rattle.mh_engine.specs.declared.phase.Phase.TheVariants as phases
+use Rattle.mh_engine.proofs.OneMore.{table_stays}
+use Rattle.mh_engine.proofs.Branching.{stands_begun, stands_offered, stands_resumed}
+use Rattle.mh_session.specs.declared.command.Command.{Command}
+use Rattle.mh_session.specs.declared.command.Command.TheVariants as commands
+use Rattle.mh_session.specs.declared.command.Reply.{Reply}
+use Rattle.mh_session.specs.declared.command.Reply.TheVariants as replies
+use Rattle.mh_session.specs.declared.command.SessionFault.{SessionFault}
+use Rattle.mh_session.specs.declared.command.SessionFault.TheVariants as faults
+use Rattle.mh_session.specs.Names.{Text, at_name, without, with_name}
+use Rattle.mh_session.specs.Moments.{Moment}
+use Rattle.mh_session.specs.Answers.{Branches, Answer, answer, changed, next, next_by, phase_at, shown, of_held, of_fresh, to_offer, to_resume, step_or_deep, put_held}
+use Rattle.mh_session.specs.Standing.{Fits, StandsFor}
+use Rattle.mh_session.specs.Puts.{Puts, AreOf}
+use Rattle.mh_session.specs.Served.{IsServed}
+use Rattle.mh_session.proofs.Naming.{finds, lacks, puts_fit, removal_fits}
+
+-- nothing is found
+pub found_none : (o : Option (Bor Checkpoint)) (p : Option Position) → option_copied o ≡ p → is_some o ≡ false → p ≡ None
+found_none None p e h = sym e
+found_none (Some c) p e h = cc
+
+-- the position of a branch
+pub position_is : (t : TableData) (b : Branch) (c : Position) → StandsAt b c → c.table ≡ t → position_of t b ≡ c
+position_is t b c at e = ap (λ (u : TableData). position_of u b) (sym e) ∙ sym at.position
+
+phase_is : (t : TableData) (b : Branch) (c : Position) → StandsAt b c → c.table ≡ t → phase_at t b ≡ phase_of c
+phase_is t b c at e = ap phase_of (position_is t b c at e)
+
+-- a name was given a position, and its phase was answered
+pub record Gives (old : Moment) (command : Command) (name : Text) (c : Position) (bs : Branches) : Type 0 where
+  pub branch : Branch
+  pub stands : StandsAt branch c
+  pub theirs : answer old.table bs command ≡ Ok (replies.Phase (phase_of c))
+  pub change : changed bs command ≡ with_name name branch bs
+
+put_case : (old new : Moment) (command : Command) (name : Text) (c : Position) (r : Answer) → ((bs : Branches) → StandsFor old bs → Gives old command name c bs) → c.table ≡ old.table → IfOk r (λ x. x ≡ replies.Phase (phase_of c)) → IfErr r (λ f. f ≡ faults.Memory)
+    → OnOk r (Puts old name (Some c) new) → OnErr r (new ≡ old) → IsServed old command new r
+put_case old new command name c (Ok reply) gives is told fault put same = (
+  put.table,
+  λ bs all. let g = gives bs all in g.theirs ∙ ap (λ (x : Reply). Ok x) (sym told),
+  λ bs all.
+      let g = gives bs all in
+      let next_is : next old.table bs command ≡ with_name name g.branch bs = ap (λ (a : Answer). next_by a bs command) g.theirs ∙ g.change in
+      subst (StandsFor new) (sym next_is) (puts_fit old new bs name g.branch c all put g.stands is),
+)
+put_case old new command name c (Err fault) gives is told f put same = subst (λ (x : SessionFault). IsServed old command new (Err x)) (sym f) same
+
+-- what the code of `put` says, at the name that was cloned
+pub record DidPut (old new : Moment) (name : Text) (c : Position) (r : Answer) : Type 0 where
+  pub cloned : Text
+  pub same_name : cloned ≡ name
+  pub reply : IfOk r (λ x. x ≡ replies.Phase (phase_of c))
+  pub fault : IfErr r (λ f. f ≡ faults.Memory)
+  pub put : OnOk r (Puts old cloned (Some c) new)
+  pub same : OnErr r (new ≡ old)
+
+put_served : (old new : Moment) (command : Command) (name : Text) (c : Position) (r : Answer) → ((bs : Branches) → StandsFor old bs → Gives old command name c bs) → c.table ≡ old.table → DidPut old new name c r → IsServed old command new r
+put_served old new command name c r gives is did = put_case old new command name c r gives is did.reply did.fault (subst (λ (n : Text). OnOk r (Puts old n (Some c) new)) did.same_name did.put) did.same
+
+pub begin_served : (old new : Moment) (name : Text) (start : ℕ) (c : Position) (r : Answer) → at_name name old.held ≡ None → c ≡ begun old.table start [] → DidPut old new name c r → IsServed old (commands.Begin name start) new r
+begin_served old new name start c r free is did =
+    put_served old new (commands.Begin name start) name c r
+    (λ bs all. record {
+      branch = new_branch start;
+      stands = subst (StandsAt (new_branch start)) (sym is) (stands_begun old.table start);
+      theirs = ap (λ (o : Option Branch). of_fresh o (shown old.table (new_branch start))) (lacks old bs name all free) ∙ ap (λ (p : Position). Ok (replies.Phase (phase_of p))) (sym is);
+      change = refl;
+    }) (ap (λ (p : Position). p.table) is) did
+
+pub offer_served : (old new : Moment) (name : Text) (z s : ℕ) (c d : Position) (r : Answer) → at_name name old.held ≡ Some c → c.table ≡ old.table → phase_of c ≡ phases.InputNeeded s → d ≡ offered c z → DidPut old new name d r → IsServed old (commands.Offer name z) new r
+offer_served old new name z s c d r has of asks is did =
+    put_served old new (commands.Offer name z) name d r
+    (λ bs all.
+    let f = finds old bs name c all has in
+    let b : Branch = f.0 in
+    let at : StandsAt (with_token b z) d = subst (StandsAt (with_token b z)) (sym is) (stands_offered b c z f.2) in
+    let table_is : d.table ≡ old.table = ap (λ (p : Position). p.table) is ∙ of in
+    record {
+      branch = with_token b z;
+      stands = at;
+      theirs =
+          ap (λ (o : Option Branch). of_held o (λ b. to_offer old.table b z (phase_at old.table b))) f.1 ∙ ap (to_offer old.table b z) (phase_is old.table b c f.2 of ∙ asks)
+          ∙ ap (λ (p : Phase). Ok (replies.Phase p)) (phase_is old.table (with_token b z) d at table_is);
+      change = ap (λ (o : Option Branch). put_held name o (λ b. with_token b z) bs) f.1;
+    }) (ap (λ (p : Position). p.table) is ∙ of) did
+
+going_on : (t : TableData) (b : Branch) (p : Phase) → CanGoOn p → to_resume t b p ≡ step_or_deep t (with_step b)
+going_on t b (phases.InputNeeded s) g = absurd g
+going_on t b (phases.Shifting s y) g = refl
+going_on t b (phases.AboutToReduce s p) g = refl
+going_on t b (phases.HandlingError s) g = refl
+going_on t b phases.Accepted g = absurd g
+going_on t b phases.Rejected g = absurd g
+
+resume_theirs : (old : Moment) (bs : Branches) (name : Text) (b : Branch) (c : Position) → at_name name bs ≡ Some b → StandsAt b c → c.table ≡ old.table → CanGoOn (phase_of c)
+    → answer old.table bs (commands.Resume name) ≡ cond (too_deep (resumed c).pairs.trees) (Err faults.TooDeep) (Ok (replies.Phase (phase_of (resumed c))))
+resume_theirs old bs name b c has at of g =
+    ap (λ (o : Option Branch). of_held o (λ b. to_resume old.table b (phase_at old.table b))) has
+    ∙ going_on old.table b (phase_at old.table b) (subst CanGoOn (sym (phase_is old.table b c at of)) g)
+    ∙ ap (λ (p : Position). cond (too_deep p.pairs.trees) (Err faults.TooDeep) (Ok (replies.Phase (phase_of p)))) (position_is old.table (with_step b) (resumed c) (stands_resumed b c at g) (table_stays c ∙ of))
+
+pub resumed_of : (c d : Position) (t : TableData) → d ≡ resumed c → c.table ≡ t → d.table ≡ t
+resumed_of c d t is of = ap (λ (p : Position). p.table) is ∙ table_stays c ∙ of
+
+pub resume_served : (old new : Moment) (name : Text) (c d : Position) (r : Answer) → at_name name old.held ≡ Some c → c.table ≡ old.table → CanGoOn (phase_of c) → d ≡ resumed c → too_deep (resumed c).pairs.trees ≡ false → DidPut old new name d r → IsServed old (commands.Resume name) new r
+resume_served old new name c d r has of g is fits did =
+    put_served old new (commands.Resume name) name d r
+    (λ bs all.
+    let f = finds old bs name c all has in
+    let b : Branch = f.0 in
+    record {
+      branch = with_step b;
+      stands = subst (StandsAt (with_step b)) (sym is) (stands_resumed b c f.2 g);
+      theirs =
+          resume_theirs old bs name b c f.1 f.2 of g ∙ ap (λ (x : Bool). cond x (Err faults.TooDeep) (Ok (replies.Phase (phase_of (resumed c))))) fits
+          ∙ ap (λ (p : Position). Ok (replies.Phase (phase_of p))) (sym is);
+      change = ap (λ (o : Option Branch). put_held name o with_step bs) f.1;
+    }) (resumed_of c d old.table is of) did
+
+pub deep_served : (old : Moment) (name : Text) (c : Position) → at_name name old.held ≡ Some c → c.table ≡ old.table → CanGoOn (phase_of c) → too_deep (resumed c).pairs.trees ≡ true → (bs : Branches) → StandsFor old bs → answer old.table bs (commands.Resume name) ≡ Err faults.TooDeep
+deep_served old name c has of g deep bs all =
+    let f = finds old bs name c all has in
+    resume_theirs old bs name f.0 c f.1 f.2 of g ∙ ap (λ (x : Bool). cond x (Err faults.TooDeep) (Ok (replies.Phase (phase_of (resumed c))))) deep
+
+pub fork_served : (old new : Moment) (name fresh : Text) (c d : Position) (r : Answer) → at_name name old.held ≡ Some c → c.table ≡ old.table → at_name fresh old.held ≡ None → d ≡ c → DidPut old new fresh d r → IsServed old (commands.Fork name fresh) new r
+fork_served old new name fresh c d r has of free is did =
+    put_served old new (commands.Fork name fresh) fresh d r
+    (λ bs all.
+    let f = finds old bs name c all has in
+    let b : Branch = f.0 in
+    record {
+      branch = b;
+      stands = subst (StandsAt b) (sym is) f.2;
+      theirs =
+          ap (λ (o : Option Branch). of_held o (λ b. of_fresh (at_name fresh bs) (shown old.table b))) f.1 ∙ ap (λ (o : Option Branch). of_fresh o (shown old.table b)) (lacks old bs fresh all free)
+          ∙ ap (λ (p : Phase). Ok (replies.Phase p)) (phase_is old.table b c f.2 of ∙ ap phase_of (sym is));
+      change = ap (λ (o : Option Branch). put_held fresh o (λ b. b) bs) f.1;
+    }) (ap (λ (p : Position). p.table) is ∙ of) did
+
+pub forget_served : (old new : Moment) (name : Text) (c : Position) → at_name name old.held ≡ Some c → Puts old name None new → IsServed old (commands.Forget name) new (Ok replies.Forgotten)
+forget_served old new name c has put = (
+  put.table,
+  λ bs all. let f = finds old bs name c all has in ap (λ (o : Option Branch). of_held o (λ b. Ok replies.Forgotten)) f.1,
+  λ bs all.
+      let f = finds old bs name c all has in
+      let ok : answer old.table bs (commands.Forget name) ≡ Ok replies.Forgotten = ap (λ (o : Option Branch). of_held o (λ b. Ok replies.Forgotten)) f.1 in
+      subst (StandsFor new) (sym (ap (λ (a : Answer). next_by a bs (commands.Forget name)) ok)) (removal_fits old new bs name all put),
+)

@@ -1,0 +1,100 @@
+-- Lines and their forms.
+use Rattle.std.proofs.Common.{◌≡◌, ℕ, Bool, true, false, List, [], ◌∷◌, Option, Some, None, Result, Ok, Err, refl, ap, sym, ◌∙◌}
+use Rattle.std.specs.Prelude.{codes, if◌then◌else◌}
+use Rattle.std.specs.List.{list_all}
+use Rattle.mh_lex.specs.Words.{is_word}
+use Rattle.mh_msgfile.specs.Sentences.{Vocabulary, pieces}
+use Rattle.mh_session.specs.declared.command.Command.{Command}
+use Rattle.mh_session.specs.declared.fault.CommandFault.{CommandFault}
+use Rattle.mh_session.specs.declared.fault.CommandFault.TheVariants as faults
+use Rattle.mh_session.specs.Names.{Text, same}
+use Rattle.mh_session.specs.Lines.{Form, BeginOnly, BeginAt, OfferTo, ResumeOf, ForkTo, ShowOf, TreeOf, ForgetOf, words_of, HasForm, Said, said_by, LineSays, ReadsCommand}
+use Rattle.mh_session.specs.Forms.{of_one, of_two, of_words, form_of, ReadsSaid}
+use Rattle.mh_session.proofs.Naming.{same_is}
+
+-- ---- the words of a form are of that form
+
+of_its_words : (form : Form) → of_words (words_of form) ≡ Some form
+unfolding of_one of_two
+of_its_words (BeginOnly name) = refl
+of_its_words (BeginAt name start) = refl
+of_its_words (OfferTo name token) = refl
+of_its_words (ResumeOf name) = refl
+of_its_words (ForkTo name fresh) = refl
+of_its_words (ShowOf name) = refl
+of_its_words (TreeOf name) = refl
+of_its_words (ForgetOf name) = refl
+
+by_bool : (b : Bool) (x : Option Form) → b ≡ true → (if b then x else None) ≡ x
+by_bool true x e = refl
+by_bool false x e = cc
+
+pub has_form : (line : Text) (form : Form) → HasForm line form → form_of line ≡ Some form
+has_form line form h = by_bool (list_all is_word (pieces line)) (of_words (pieces line)) h.each ∙ ap of_words h.words ∙ of_its_words form
+
+-- ---- and only they are
+
+-- the words of a verb, if it is this one
+pick : (verb : Text) (text : Text) (a form : Form) (rest : List Text) (o : Option Form) → words_of a ≡ text ∷ rest → (o ≡ Some form → verb ∷ rest ≡ words_of form) → (b : Bool) → same verb text ≡ b → (if b then Some a else o) ≡ Some form → verb ∷ rest ≡ words_of form
+pick verb text a form rest o w later true e h = let is : verb ≡ text = same_is verb text e in let one : a ≡ form = cc in ap (λ (x : Text). x ∷ rest) is ∙ sym w ∙ ap words_of one
+pick verb text a form rest o w later false e h = later h
+
+one_words : (verb name : Text) (form : Form) → of_one verb name ≡ Some form → verb ∷ name ∷ [] ≡ words_of form
+unfolding of_one
+one_words verb name form =
+    pick verb (codes "begin") (BeginOnly name) form (name ∷ []) _ refl
+    (pick verb (codes "resume") (ResumeOf name) form (name ∷ []) _ refl
+    (pick verb (codes "show") (ShowOf name) form (name ∷ []) _ refl
+    (pick verb (codes "tree") (TreeOf name) form (name ∷ []) _ refl
+    (pick verb (codes "forget") (ForgetOf name) form (name ∷ []) None refl (λ h. cc) (same verb (codes "forget")) refl)
+    (same verb (codes "tree")) refl)
+    (same verb (codes "show")) refl)
+    (same verb (codes "resume")) refl)
+    (same verb (codes "begin")) refl
+
+two_words : (verb name other : Text) (form : Form) → of_two verb name other ≡ Some form → verb ∷ name ∷ other ∷ [] ≡ words_of form
+unfolding of_two
+two_words verb name other form =
+    pick verb (codes "begin") (BeginAt name other) form (name ∷ other ∷ []) _ refl
+    (pick verb (codes "offer") (OfferTo name other) form (name ∷ other ∷ []) _ refl
+    (pick verb (codes "fork") (ForkTo name other) form (name ∷ other ∷ []) None refl (λ h. cc) (same verb (codes "fork")) refl)
+    (same verb (codes "offer")) refl)
+    (same verb (codes "begin")) refl
+
+all_words : (words : List Text) (form : Form) → of_words words ≡ Some form → words ≡ words_of form
+all_words [] form e = cc
+all_words (verb ∷ []) form e = cc
+all_words (verb ∷ name ∷ []) form e = one_words verb name form e
+all_words (verb ∷ name ∷ other ∷ []) form e = two_words verb name other form e
+all_words (verb ∷ name ∷ other ∷ more ∷ words) form e = cc
+
+by_all : (b : Bool) (words : List Text) (form : Form) → (if b then of_words words else None) ≡ Some form → (b ≡ true) × (words ≡ words_of form)
+by_all true words form e = (refl, all_words words form e)
+by_all false words form e = cc
+
+pub its_form : (line : Text) (form : Form) → form_of line ≡ Some form → HasForm line form
+its_form line form e = let h = by_all (list_all is_word (pieces line)) (pieces line) form e in record { words = h.1; each = h.0 }
+
+-- a line has one form
+pub one_form : (line : Text) (a b : Form) → HasForm line a → HasForm line b → a ≡ b
+one_form line a b h k = let e = sym (has_form line a h) ∙ has_form line b k in cc
+
+pub says_once : (v : Vocabulary) (line : Text) (a b : Said) → LineSays v line a → LineSays v line b → a ≡ b
+says_once v line a b h k = sym h.2 ∙ ap (said_by v) (one_form line h.0 k.0 h.1 k.1) ∙ k.2
+
+-- ---- the code
+
+-- what a line says is answered
+reads_said : (v : Vocabulary) (line : Text) (form : Form) (r : Result Command CommandFault) → HasForm line form → ReadsSaid (said_by v form) r → ReadsCommand v line r
+reads_said v line form (Ok command) h s = (form, h, s)
+reads_said v line form (Err faults.Unreadable) h s = absurd s
+reads_said v line form (Err (faults.UnknownStart name)) h s = (form, h, s)
+reads_said v line form (Err faults.MissingStart) h s = (form, h, s)
+reads_said v line form (Err (faults.UnknownToken name)) h s = (form, h, s)
+reads_said v line form (Err faults.Memory) h s = tt
+
+pub reads : (v : Vocabulary) (line : Text) (form : Form) (r : Result Command CommandFault) → Some form ≡ form_of line → ReadsSaid (said_by v form) r → ReadsCommand v line r
+reads v line form r e s = reads_said v line form r (its_form line form (sym e)) s
+
+pub not_readable : (line : Text) → None ≡ form_of line → (form : Form) → HasForm line form → ⊥
+not_readable line e form h = let both = e ∙ has_form line form h in cc

@@ -1,0 +1,10 @@
+-- What a session is at a moment.
+use Rattle.std.specs.Prelude.{List}
+use Rattle.mh_tables.specs.Table.{TableData}
+use Rattle.mh_engine.specs.Positions.{Position}
+use Rattle.mh_session.specs.Names.{Text}
+
+-- a table, and the names with their positions
+pub record Moment : Type 0 where
+  pub table : TableData
+  pub held : List (Text × Position)

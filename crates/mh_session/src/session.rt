@@ -1,0 +1,204 @@
+//! Sessions.
+ghost use Rattle.std.specs.Prelude.{◌≡◌, ◌↔◌, ◌<◌, IsTrue, [], length, IfOk, IfErr, IfSome, OnOk, OnErr, Some, Ok, Err, ◌⊎◌};
+ghost use Rattle.std.specs.Option.{option_copied};
+ghost use Rattle.mh_engine.specs.Phases.{phase_of, CanGoOn};
+ghost use Rattle.mh_session.specs.declared.command.Reply.TheVariants as replies;
+ghost use Rattle.mh_session.specs.declared.command.SessionFault.TheVariants as faults;
+ghost use Rattle.mh_session.specs.Names.{at_name};
+ghost use Rattle.mh_session.specs.Puts.{Puts};
+ghost use Rattle.mh_session.specs.Answers.{IsKnown, Branches, answer, next};
+ghost use Rattle.mh_session.specs.Standing.{StandsFor};
+ghost use Rattle.mh_session.specs.Served.{IsServed};
+ghost use Rattle.mh_session.specs.declared.command.Command.TheVariants as commands;
+
+use crate::command::{Command, Reply, SessionFault};
+use indexmap::IndexMap;
+use mh_engine::{Checkpoint, Phase, ResumeFault, begin};
+use mh_grammar::{Name, Token};
+use mh_tables::Halting;
+use std::alloc::Global;
+use std::marker::Model;
+
+/// Branches of runs on one table, each with a name.
+#[derive(Drop)]
+pub struct Session<'t> {
+    alloc: Global,
+    table: &'t Halting,
+    branches: IndexMap<Name, Checkpoint<'t>>,
+}
+
+impl<'t> Model for Session<'t> {
+    ghost use Rattle.mh_session.specs.Moments.{Moment};
+
+    ghost Value = { Moment };
+
+    ghost use Rattle.mh_engine.specs.Pairs.{pairs_code};
+    ghost use Rattle.std.specs.Coded.{codes};
+
+    ghost coded = { Prim.hlevel (codes, pairs_code) };
+
+    ghost view = { λ s. record { table = s.table.now; held = s.branches.entries } };
+
+    ghost use Rattle.mh_session.specs.Puts.{AreOf};
+
+    ghost invariant = { λ s. AreOf s.table.now s.branches.entries };
+}
+
+impl<'t> Session<'t> {
+    /// A session with no names.
+    pub fn new(alloc: Global, table: &'t Halting) -> Session<'t>
+        ensures { result ≡ record { table = table.now; held = [] } }
+    {
+        Session {
+            alloc,
+            table,
+            branches: IndexMap::new(alloc),
+        }
+    }
+
+    // Gives a name a checkpoint, and answers its phase.
+    fn put(&mut self, name: Name, checkpoint: Checkpoint<'t>) -> Result<Reply, SessionFault>
+        requires { checkpoint.table ≡ self.old.table }
+        ensures reply { IfOk result (λ r. r ≡ replies.Phase (phase_of checkpoint.entry)) }
+        ensures fault { IfErr result (λ f. f ≡ faults.Memory) }
+        ensures put { OnOk result (Puts self.old name (Some checkpoint.entry) self.new) }
+        ensures same { OnErr result (self.new ≡ self.old) }
+    {
+        let phase = checkpoint.phase();
+        self.branches.insert(name, checkpoint)?;
+        Ok(Reply::Phase(phase))
+    }
+
+    // The checkpoint of a name.
+    fn find(&self, name: &Name) -> Option<&Checkpoint<'t>>
+        ensures found { option_copied result ≡ at_name name.now self.now.held }
+        ensures table { IfSome result (λ c. c.now.table ≡ self.now.table) }
+    {
+        self.branches.get(name)
+    }
+
+    fn begin(&mut self, name: &Name, start: u16) -> Result<Reply, SessionFault>
+        requires { start < length self.old.table.grammar.starts }
+        ensures { IsServed self.old (commands.Begin name.now start) self.new result }
+    {
+        if self.find(name).is_some() {
+            return Err(SessionFault::NameTaken);
+        }
+        let checkpoint = begin(self.table, start);
+        self.put(name.clone()?, checkpoint)
+    }
+
+    fn offer(&mut self, name: &Name, token: Token) -> Result<Reply, SessionFault>
+        requires { token < self.old.table.grammar.tokens }
+        ensures { IsServed self.old (commands.Offer name.now token) self.new result }
+    {
+        let Some(checkpoint) = self.find(name) else {
+            return Err(SessionFault::UnknownName);
+        };
+        let phase = checkpoint.phase();
+        let Phase::InputNeeded { state: _ } = phase else {
+            return Err(SessionFault::WrongPhase { phase });
+        };
+        let offered = checkpoint.offer(token)?;
+        self.put(name.clone()?, offered)
+    }
+
+    fn resume(&mut self, name: &Name) -> Result<Reply, SessionFault>
+        ensures { IsServed self.old (commands.Resume name.now) self.new result }
+    {
+        let Some(checkpoint) = self.find(name) else {
+            return Err(SessionFault::UnknownName);
+        };
+        let phase = checkpoint.phase();
+        if !can_go_on(phase) {
+            return Err(SessionFault::WrongPhase { phase });
+        }
+        let resumed = match checkpoint.resume(self.alloc) {
+            Ok(resumed) => resumed,
+            Err(ResumeFault::TooDeep) => return Err(SessionFault::TooDeep),
+            Err(ResumeFault::Memory) => return Err(SessionFault::Memory),
+        };
+        self.put(name.clone()?, resumed)
+    }
+
+    fn fork(&mut self, name: &Name, fresh: &Name) -> Result<Reply, SessionFault>
+        ensures { IsServed self.old (commands.Fork name.now fresh.now) self.new result }
+    {
+        let Some(checkpoint) = self.find(name) else {
+            return Err(SessionFault::UnknownName);
+        };
+        if self.find(fresh).is_some() {
+            return Err(SessionFault::NameTaken);
+        }
+        let forked = checkpoint.fork()?;
+        self.put(fresh.clone()?, forked)
+    }
+
+    fn show(&mut self, name: &Name) -> Result<Reply, SessionFault>
+        ensures { IsServed self.old (commands.Show name.now) self.new result }
+    {
+        match self.find(name) {
+            None => Err(SessionFault::UnknownName),
+            Some(checkpoint) => Ok(Reply::Phase(checkpoint.phase())),
+        }
+    }
+
+    fn tree(&mut self, name: &Name) -> Result<Reply, SessionFault>
+        ensures { IsServed self.old (commands.Tree name.now) self.new result }
+    {
+        let Some(checkpoint) = self.find(name) else {
+            return Err(SessionFault::UnknownName);
+        };
+        match checkpoint.tree() {
+            Some(tree) => Ok(Reply::Tree(tree.share()?)),
+            None => Err(SessionFault::WrongPhase {
+                phase: checkpoint.phase(),
+            }),
+        }
+    }
+
+    fn forget(&mut self, name: &Name) -> Result<Reply, SessionFault>
+        ensures { IsServed self.old (commands.Forget name.now) self.new result }
+    {
+        let Some(_) = self.branches.swap_remove(name) else {
+            return Err(SessionFault::UnknownName);
+        };
+        Ok(Reply::Forgotten)
+    }
+
+    /// Answers a command. A refused one changes nothing.
+    pub fn step(&mut self, command: &Command) -> Result<Reply, SessionFault>
+        requires { IsKnown self.old.table command.now }
+        ensures served { IsServed self.old command.now self.new result }
+        ensures reply { IfOk result (λ r. (bs : Branches) → StandsFor self.old bs → answer self.old.table bs command.now ≡ Ok r) }
+        ensures next { OnOk result ((bs : Branches) → StandsFor self.old bs → StandsFor self.new (next self.old.table bs command.now)) }
+        ensures same { OnErr result (self.new ≡ self.old) }
+        ensures fault { IfErr result (λ f. (f ≡ faults.Memory) ⊎ ((bs : Branches) → StandsFor self.old bs → answer self.old.table bs command.now ≡ Err f)) }
+        ensures table { self.new.table ≡ self.old.table }
+    {
+        match command {
+            Command::Begin { name, start } => self.begin(name, *start),
+            Command::Offer { name, token } => self.offer(name, *token),
+            Command::Resume { name } => self.resume(name),
+            Command::Fork { name, fresh } => self.fork(name, fresh),
+            Command::Show { name } => self.show(name),
+            Command::Tree { name } => self.tree(name),
+            Command::Forget { name } => self.forget(name),
+        }
+    }
+}
+
+// A step may be made in this phase.
+fn can_go_on(phase: Phase) -> bool
+    ensures { IsTrue result ↔ CanGoOn phase }
+{
+    match phase {
+        Phase::Shifting { state: _, token: _ } => true,
+        Phase::AboutToReduce {
+            state: _,
+            production: _,
+        } => true,
+        Phase::HandlingError { state: _ } => true,
+        _ => false,
+    }
+}
