@@ -4,9 +4,9 @@ use Rattle.std.specs.List.{slice_get, All}
 use Rattle.std.proofs.lemmas.List.{map-append, append-nil, append_assoc, length-append}
 use Rattle.std.proofs.lemmas.List.Elements.{All-push}
 use Rattle.std.proofs.lemmas.Option.{slice_get_within}
-use Rattle.mh_join.specs.declared.joined.Applied.{Applied}
-use Rattle.mh_join.specs.declared.joined.Applied.TheViews.{out-Applied}
-use Rattle.mh_join.specs.declared.joined.Applied.TheFolds.{fold_out-Applied}
+use Rattle.mh_rules.specs.declared.joined.Applied.{Applied}
+use Rattle.mh_rules.specs.declared.joined.Applied.TheViews.{out-Applied}
+use Rattle.mh_rules.specs.declared.joined.Applied.TheFolds.{fold_out-Applied}
 use Rattle.mh_grammar.specs.Placed.{Placed}
 use Rattle.mh_expand.specs.declared.terms.Application.{Application}
 use Rattle.mh_expand.specs.Terms.{Term, Atom, Apply, apply_all, term_step, term_of, replaced, replaced_head}

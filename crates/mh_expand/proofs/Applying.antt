@@ -1,7 +1,7 @@
 -- Terms with their arguments.
 use Rattle.std.proofs.Common.{◌≡◌, List, [], ◌∷◌, ◌++◌, map, refl, sym, ap, ◌∙◌, append_assoc}
 use Rattle.std.proofs.lemmas.List.{append-nil}
-use Rattle.mh_join.specs.declared.joined.Head.{Head}
+use Rattle.mh_rules.specs.declared.joined.Head.{Head}
 use Rattle.mh_expand.specs.Terms.{Term, Atom, Apply, apply_all, head_of, arguments, replaced}
 
 pub apply_all-push : (t : Term) (xs : List Term) (x : Term) → apply_all t (xs ++ x ∷ []) ≡ Apply (apply_all t xs) x

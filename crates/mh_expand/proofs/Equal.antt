@@ -3,8 +3,8 @@ use Rattle.std.proofs.Common.{◌≡◌, ℕ, List, Bool, true, false, ◌&&◌,
 use Rattle.std.specs.Cmp.Lexicographic.{pointwise}
 use Rattle.std.proofs.lemmas.Slice.Eq.{slice_eq-Decides}
 use Rattle.std.proofs.lemmas.Bool.Decides.{Decides-eqb}
-use Rattle.mh_join.specs.declared.joined.Head.{Head}
-use Rattle.mh_join.specs.declared.joined.Head.TheVariants.{Formal, Token, Rule}
+use Rattle.mh_rules.specs.declared.joined.Head.{Head}
+use Rattle.mh_rules.specs.declared.joined.Head.TheVariants.{Formal, Token, Rule}
 use Rattle.mh_expand.specs.declared.terms.Application.{Application}
 
 both : (p q : Bool) → (p && q) ≡ true → (p ≡ true) × (q ≡ true)

@@ -6,9 +6,9 @@ use Rattle.std.proofs.lemmas.List.{append-nil}
 use Rattle.std.proofs.lemmas.List.Elements.{Contains-append_left}
 use Rattle.std.proofs.lemmas.Option.{slice_get-get_or}
 use Rattle.mh_grammar.proofs.Placing.{contains_at}
-use Rattle.mh_join.specs.declared.joined.Joined.{Joined}
+use Rattle.mh_rules.specs.declared.joined.Joined.{Joined}
 use Rattle.mh_expand.specs.declared.fault.ExpandFault.TheVariants.{Arity, Expansion}
-use Rattle.mh_expand.specs.declared.instances.Expanded.{Expanded}
+use Rattle.mh_rules.specs.declared.instances.Expanded.{Expanded}
 use Rattle.mh_expand.specs.Terms.{Term, head_of, head_name, text}
 use Rattle.mh_expand.specs.Expansion as expansion
 use Rattle.mh_expand.specs.Expansion.{IsInstance, AreFirst, finds, producers_of, Fits, IsClear, IsInstanceOf, IsExpanded}

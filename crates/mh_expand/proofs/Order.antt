@@ -7,16 +7,16 @@ use Rattle.std.proofs.lemmas.List.Elements.{Contains-append_right}
 use Rattle.std.proofs.lemmas.Grind.{flat_map-append}
 use Rattle.mh_grammar.specs.Numbering.{AreDistinct}
 use Rattle.mh_grammar.proofs.Placing.{AreDistinct-push, contains_at}
-use Rattle.mh_join.specs.declared.joined.Applied.{Applied}
-use Rattle.mh_join.specs.declared.joined.Head.TheVariants.{Token}
-use Rattle.mh_join.specs.declared.joined.JoinedAlternative.{JoinedAlternative}
-use Rattle.mh_join.specs.declared.joined.Joined.{Joined}
+use Rattle.mh_rules.specs.declared.joined.Applied.{Applied}
+use Rattle.mh_rules.specs.declared.joined.Head.TheVariants.{Token}
+use Rattle.mh_rules.specs.declared.joined.JoinedAlternative.{JoinedAlternative}
+use Rattle.mh_rules.specs.declared.joined.Joined.{Joined}
 use Rattle.mh_expand.specs.declared.fault.ExpandFault.{ExpandFault}
-use Rattle.mh_expand.specs.declared.instances.Part.{Part}
-use Rattle.mh_expand.specs.declared.instances.Part.TheVariants as parts
-use Rattle.mh_expand.specs.declared.instances.InstanceProduction.{InstanceProduction}
-use Rattle.mh_expand.specs.declared.instances.Instance.{Instance}
-use Rattle.mh_expand.specs.declared.instances.Expanded.{Expanded}
+use Rattle.mh_rules.specs.declared.instances.Part.{Part}
+use Rattle.mh_rules.specs.declared.instances.Part.TheVariants as parts
+use Rattle.mh_rules.specs.declared.instances.InstanceProduction.{InstanceProduction}
+use Rattle.mh_rules.specs.declared.instances.Instance.{Instance}
+use Rattle.mh_rules.specs.declared.instances.Expanded.{Expanded}
 use Rattle.mh_expand.specs.Terms.{Term, Atom}
 use Rattle.mh_expand.specs.Expansion as expansion
 use Rattle.mh_expand.specs.Expansion.{IsInstance, AreFirst, finds, producers_of, alternatives_of, right_side, start_terms, IsFault, IsClear, Fails, IsFirstFault, IsReached, IsRank, Declares, IsPart, IsProduction, IsInstanceOf, IsExpanded}

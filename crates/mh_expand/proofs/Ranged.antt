@@ -1,32 +1,33 @@
 -- The numbers of instances are in range.
-use Rattle.std.proofs.Common.{◌≡◌, ℕ, zero, suc, ◌<◌, ◌≤◌, List, [], ◌∷◌, ◌++◌, Option, Some, None, map, flat_map, length, take, drop, get_or, refl, sym, ap, ◌∙◌, arith, inl, inr}
+use Rattle.std.proofs.Common.{◌≡◌, ℕ, zero, suc, ◌<◌, ◌≤◌, List, [], ◌∷◌, ◌++◌, Option, Some, None, map, flat_map, length, take, drop, get_or, refl, sym, ap, subst, ◌∙◌, arith, inl, inr}
 use Rattle.std.specs.List.{slice_get, All, AllZip, AllByRecursion, Contains}
 use Rattle.mh_expand.proofs.Same.{zip_left, zip_right, zip_length, reached_instance}
 use Rattle.mh_expand.proofs.Found.{some_of}
 use Rattle.std.specs.Option.{option_map}
 use Rattle.std.proofs.lemmas.Option.{slice_get_within, slice_get-get_or, slice_get-map, get_or_from_slice_get}
 use Rattle.std.proofs.lemmas.List.Elements.{recursion_from_All, All-from_recursion, All-contains, Contains-append_left, Contains-append_right}
-use Rattle.mh_join.specs.declared.joined.Head.{Head}
-use Rattle.mh_join.specs.declared.joined.Head.TheVariants.{Formal, Token, Rule}
-use Rattle.mh_join.specs.declared.joined.Applied.{Applied, out-roll-Applied}
-use Rattle.mh_join.specs.declared.joined.Applied.TheViews.{roll-Applied}
-use Rattle.mh_join.specs.declared.joined.Applied.TheFolds.{fold-roll-Applied, ind-Applied, every_here-Applied, every_held-Applied}
-use Rattle.mh_join.specs.declared.joined.JoinedAlternative.{JoinedAlternative}
-use Rattle.mh_join.specs.declared.joined.JoinedRule.{JoinedRule}
-use Rattle.mh_join.specs.declared.joined.Joined.{Joined}
+use Rattle.mh_grammar.specs.Costs.{HaveCosts}
+use Rattle.mh_rules.specs.declared.joined.Head.{Head}
+use Rattle.mh_rules.specs.declared.joined.Head.TheVariants.{Formal, Token, Rule}
+use Rattle.mh_rules.specs.declared.joined.Applied.{Applied, out-roll-Applied}
+use Rattle.mh_rules.specs.declared.joined.Applied.TheViews.{roll-Applied}
+use Rattle.mh_rules.specs.declared.joined.Applied.TheFolds.{fold-roll-Applied, ind-Applied, every_here-Applied, every_held-Applied}
+use Rattle.mh_rules.specs.declared.joined.JoinedAlternative.{JoinedAlternative}
+use Rattle.mh_rules.specs.declared.joined.JoinedRule.{JoinedRule}
+use Rattle.mh_rules.specs.declared.joined.Joined.{Joined}
 use Rattle.mh_expand.specs.declared.fault.ExpandFault.TheVariants.{Arity}
-use Rattle.mh_expand.specs.declared.instances.Part.{Part}
-use Rattle.mh_expand.specs.declared.instances.Part.TheVariants as parts
-use Rattle.mh_expand.specs.declared.instances.Instance.{Instance}
-use Rattle.mh_expand.specs.declared.instances.Expanded.{Expanded}
+use Rattle.mh_rules.specs.declared.instances.Part.{Part}
+use Rattle.mh_rules.specs.declared.instances.Part.TheVariants as parts
+use Rattle.mh_rules.specs.declared.instances.Instance.{Instance}
+use Rattle.mh_rules.specs.declared.instances.Expanded.{Expanded}
 use Rattle.mh_expand.specs.Terms.{Term, Atom, Apply, apply_all, head_of, arguments, term_step, term_of, replaced, text}
 use Rattle.mh_expand.specs.Expansion as expansion
 use Rattle.mh_expand.specs.Expansion.{IsInstance, IsRule, Takes, Fits, IsReached, IsExpanded, IsInstanceOf, IsProduction, IsPart, finds, producers_of, alternatives_of, right_side, rule_at, rule_of, start_term, start_terms}
 use Rattle.mh_expand.proofs.Going.{split_at, alternatives_there}
 use Rattle.mh_expand.proofs.Expanding.{fits_or, flat_contains, contains_flat}
 use Rattle.mh_grammar.proofs.Placing.{contains_at, at_contains}
-use Rattle.mh_join.specs.Ready.{IsHeadBelow, IsAppliedBelow, IsRuleReady}
-use Rattle.mh_expand.specs.Ready.{IsReady, IsPartBelow, IsInstanceReady, IsExpandedReady}
+use Rattle.mh_rules.specs.Ready.{IsHeadBelow, IsAppliedBelow, IsRuleReady}
+use Rattle.mh_rules.specs.Ready.{IsReady, IsPartBelow, IsInstanceReady, IsExpandedReady}
 
 -- each head in a term is there
 abbrev pub IsTermBelow : ℕ → ℕ → ℕ → Term → Type 0
@@ -206,7 +207,8 @@ module _ (j : Joined) (e : Expanded) (w : IsExpanded j e) (ready : IsReady j) wh
   pub IsExpandedReady-expanded : length e.instances ≤ 20000 → IsExpandedReady e
   unfolding tokens rules instances
   IsExpandedReady-expanded few = record {
-    few_tokens = rw w.tokens ready.few_tokens;
+    few_tokens = rw w.tokens (omega (arith, ready.few_tokens));
+    costs = subst HaveCosts (sym w.tokens) ready.costs;
     few_instances = few;
     starts_below = λ k d l.
         let n = get_or e.starts k d in

@@ -7,8 +7,8 @@ use Rattle.std.proofs.lemmas.List.Elements.{Contains-append_left}
 use Rattle.std.proofs.lemmas.Option.{slice_get_within}
 use Rattle.mh_grammar.specs.Numbering.{AreDistinct}
 use Rattle.mh_grammar.proofs.Placing.{get_left, get_last, get_cases, contains_at, at_contains}
-use Rattle.mh_join.specs.declared.joined.Applied.{Applied}
-use Rattle.mh_join.specs.declared.joined.Head.TheVariants.{Formal, Token, Rule}
+use Rattle.mh_rules.specs.declared.joined.Applied.{Applied}
+use Rattle.mh_rules.specs.declared.joined.Head.TheVariants.{Formal, Token, Rule}
 use Rattle.mh_expand.specs.Terms.{Term, Atom, Apply, term_of, replaced}
 use Rattle.mh_expand.specs.Expansion.{Declares, IsRank}
 use Rattle.mh_expand.specs.Sharing.{term_at, Grows}

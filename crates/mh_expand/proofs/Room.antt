@@ -1,8 +1,8 @@
 -- Texts of which only so many bytes are kept.
 use Rattle.std.proofs.Common.{◌≡◌, ℕ, zero, suc, ◌+◌, ◌<◌, ◌≤◌, List, [], ◌∷◌, ◌++◌, length, take, ◌⊎◌, get_or, refl, sym, ap, ◌∙◌, arith, inl, inr, add-one, Some}
 use Rattle.std.proofs.lemmas.List.{length-take, take_all, append_assoc}
-use Rattle.mh_join.specs.declared.joined.Joined.{Joined}
-use Rattle.mh_join.specs.declared.joined.Head.{Head}
+use Rattle.mh_rules.specs.declared.joined.Joined.{Joined}
+use Rattle.mh_rules.specs.declared.joined.Head.{Head}
 use Rattle.mh_expand.specs.Terms.{Term, Atom, Apply, apply_all, separator, text, unclosed, head_name}
 use Rattle.std.specs.List.{slice_get}
 use Rattle.std.proofs.lemmas.List.{map-append}

@@ -5,15 +5,16 @@ use Rattle.std.specs.Option.{option_map}
 use Rattle.std.proofs.lemmas.Option.{slice_get-map}
 use Rattle.std.proofs.lemmas.List.{length-map}
 use Rattle.mh_grammar.proofs.Placing.{contains_at, at_contains}
-use Rattle.mh_join.specs.declared.joined.Head.TheVariants.{Token}
-use Rattle.mh_join.specs.declared.joined.Joined.{Joined}
-use Rattle.mh_expand.specs.declared.instances.Part.{Part}
-use Rattle.mh_expand.specs.declared.instances.Part.TheVariants as parts
-use Rattle.mh_expand.specs.declared.instances.Expanded.{Expanded}
+use Rattle.mh_rules.specs.declared.joined.Head.TheVariants.{Token}
+use Rattle.mh_rules.specs.declared.joined.Joined.{Joined}
+use Rattle.mh_rules.specs.declared.instances.Part.{Part}
+use Rattle.mh_rules.specs.declared.instances.Part.TheVariants as parts
+use Rattle.mh_rules.specs.declared.instances.Expanded.{Expanded}
 use Rattle.mh_expand.specs.Terms.{Term, Atom}
 use Rattle.mh_expand.specs.Expansion as expansion
 use Rattle.mh_expand.specs.Expansion.{IsInstance, IsReached, IsPart, IsProduction, IsInstanceOf, IsExpanded, alternatives_of, right_side, start_term, start_terms}
-use Rattle.mh_expand.specs.Sentences.{IsTokenTerm, TermProduces, IsTokenPart, PartProduces, HasSameSentences}
+use Rattle.mh_rules.specs.Sentences.{IsTokenPart, PartProduces}
+use Rattle.mh_expand.specs.Sentences.{IsTokenTerm, TermProduces, HasSameSentences}
 use Rattle.mh_expand.proofs.Found.{contains_none}
 use Rattle.mh_expand.proofs.Expanding.{start_rule}
 use Rattle.mh_expand.proofs.Simulating.{derivation_along}

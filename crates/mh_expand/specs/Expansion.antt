@@ -4,19 +4,19 @@ use Rattle.std.specs.Prelude.{◌≡◌, ◌<◌, ◌↔◌, ℕ, List, [], ◌�
 use Rattle.std.specs.Option.{option_map, unwrap_or}
 use Rattle.std.specs.List.{All, AllZip, Contains}
 use Rattle.mh_grammar.specs.Numbering.{AreDistinct, Names}
-use Rattle.mh_join.specs.declared.joined.Head.{Head}
-use Rattle.mh_join.specs.declared.joined.Head.TheVariants.{Formal, Token, Rule}
-use Rattle.mh_join.specs.declared.joined.Applied.{Applied}
-use Rattle.mh_join.specs.declared.joined.JoinedAlternative.{JoinedAlternative}
-use Rattle.mh_join.specs.declared.joined.JoinedRule.{JoinedRule}
-use Rattle.mh_join.specs.declared.joined.Joined.{Joined}
+use Rattle.mh_rules.specs.declared.joined.Head.{Head}
+use Rattle.mh_rules.specs.declared.joined.Head.TheVariants.{Formal, Token, Rule}
+use Rattle.mh_rules.specs.declared.joined.Applied.{Applied}
+use Rattle.mh_rules.specs.declared.joined.JoinedAlternative.{JoinedAlternative}
+use Rattle.mh_rules.specs.declared.joined.JoinedRule.{JoinedRule}
+use Rattle.mh_rules.specs.declared.joined.Joined.{Joined}
 use Rattle.mh_expand.specs.declared.fault.ExpandFault.{ExpandFault}
 use Rattle.mh_expand.specs.declared.fault.ExpandFault.TheVariants.{Arity, Expansion, Memory}
-use Rattle.mh_expand.specs.declared.instances.Part.{Part}
-use Rattle.mh_expand.specs.declared.instances.Part.TheVariants as parts
-use Rattle.mh_expand.specs.declared.instances.InstanceProduction.{InstanceProduction}
-use Rattle.mh_expand.specs.declared.instances.Instance.{Instance}
-use Rattle.mh_expand.specs.declared.instances.Expanded.{Expanded}
+use Rattle.mh_rules.specs.declared.instances.Part.{Part}
+use Rattle.mh_rules.specs.declared.instances.Part.TheVariants as parts
+use Rattle.mh_rules.specs.declared.instances.InstanceProduction.{InstanceProduction}
+use Rattle.mh_rules.specs.declared.instances.Instance.{Instance}
+use Rattle.mh_rules.specs.declared.instances.Expanded.{Expanded}
 use Rattle.mh_expand.specs.Terms.{Term, Atom, head_of, arguments, term_of, replaced, head_name, text}
 
 -- RULES OF TERMS

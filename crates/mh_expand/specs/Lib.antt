@@ -1,5 +1,4 @@
 pub mod Expansion
-pub mod Ready
 pub mod Searching
 pub mod Sentences
 pub mod Sharing

@@ -2,13 +2,13 @@
 use Rattle.std.specs.Prelude.{◌≡◌, ◌<◌, ◌≤◌, ℕ, List, [], ◌∷◌, ◌++◌, Option, Some, None, length, take, slice_get}
 use Rattle.std.specs.List.{All, AllZip, Contains}
 use Rattle.mh_grammar.specs.Numbering.{AreDistinct, Names}
-use Rattle.mh_join.specs.declared.joined.Joined.{Joined}
-use Rattle.mh_expand.specs.declared.instances.Part.{Part}
+use Rattle.mh_rules.specs.declared.joined.Joined.{Joined}
+use Rattle.mh_rules.specs.declared.instances.Part.{Part}
 use Rattle.mh_expand.specs.Terms.{Term, text}
-use Rattle.mh_join.specs.declared.joined.Applied.{Applied}
-use Rattle.mh_join.specs.declared.joined.JoinedAlternative.{JoinedAlternative}
-use Rattle.mh_expand.specs.declared.instances.InstanceProduction.{InstanceProduction}
-use Rattle.mh_expand.specs.declared.instances.Instance.{Instance}
+use Rattle.mh_rules.specs.declared.joined.Applied.{Applied}
+use Rattle.mh_rules.specs.declared.joined.JoinedAlternative.{JoinedAlternative}
+use Rattle.mh_rules.specs.declared.instances.InstanceProduction.{InstanceProduction}
+use Rattle.mh_rules.specs.declared.instances.Instance.{Instance}
 use Rattle.mh_expand.specs.Expansion.{IsInstance, IsClear, Fits, IsPart, right_side, producers_of, start_terms, finds, AreFirst, Declares, IsRank, IsProduction, IsInstanceOf}
 use Rattle.mh_expand.specs.Sharing.{terms_at, Grows}
 

@@ -3,7 +3,7 @@ use Rattle.std.specs.Prelude.{◌≡◌, ◌<◌, ℕ, List, [], ◌∷◌, ◌+
 use Rattle.std.specs.Option.{unwrap_or}
 use Rattle.std.specs.List.{All}
 use Rattle.mh_grammar.specs.Numbering.{AreDistinct}
-use Rattle.mh_join.specs.declared.joined.Head.TheVariants.{Token}
+use Rattle.mh_rules.specs.declared.joined.Head.TheVariants.{Token}
 use Rattle.mh_expand.specs.declared.terms.Application.{Application}
 use Rattle.mh_expand.specs.Terms.{Term, Atom, apply_all}
 

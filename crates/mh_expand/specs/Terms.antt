@@ -2,12 +2,12 @@
 use Rattle.std.specs.Prelude.{ℕ, List, [], ◌∷◌, ◌++◌, slice_get}
 use Rattle.std.specs.Option.{option_map, unwrap_or}
 use Rattle.mh_grammar.specs.declared.types.TokenInfo.{TokenInfo}
-use Rattle.mh_join.specs.declared.joined.Head.{Head}
-use Rattle.mh_join.specs.declared.joined.Head.TheVariants.{Formal, Token, Rule}
-use Rattle.mh_join.specs.declared.joined.Applied.{Applied, fold-Applied}
-use Rattle.mh_join.specs.declared.joined.Applied.TheOpen.{Applied-F}
-use Rattle.mh_join.specs.declared.joined.JoinedRule.{JoinedRule}
-use Rattle.mh_join.specs.declared.joined.Joined.{Joined}
+use Rattle.mh_rules.specs.declared.joined.Head.{Head}
+use Rattle.mh_rules.specs.declared.joined.Head.TheVariants.{Formal, Token, Rule}
+use Rattle.mh_rules.specs.declared.joined.Applied.{Applied, fold-Applied}
+use Rattle.mh_rules.specs.declared.joined.Applied.TheOpen.{Applied-F}
+use Rattle.mh_rules.specs.declared.joined.JoinedRule.{JoinedRule}
+use Rattle.mh_rules.specs.declared.joined.Joined.{Joined}
 
 -- a head, or a term with one argument more; a formal stands in terms that wait for what it stands for
 pub data Term : Type 0 where

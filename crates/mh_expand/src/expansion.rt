@@ -5,13 +5,12 @@ ghost use Rattle.indexmap.specs.IndexMap.{get};
 ghost use Rattle.mh_expand.specs.declared.fault.ExpandFault.{ExpandFault};
 ghost use Rattle.mh_expand.specs.Terms.{Term, arguments, text};
 ghost use Rattle.mh_expand.specs.Expansion.{Fails, Causes, IsExpanded, IsFirstFault, producers_of, right_side, rule_at, start_terms};
-ghost use Rattle.mh_expand.specs.Ready.{IsReady, IsExpandedReady};
+ghost use Rattle.mh_rules.specs.Ready.{IsReady, IsExpandedReady};
 ghost use Rattle.mh_expand.specs.Sentences.{HasSameSentences};
 ghost use Rattle.mh_expand.specs.Sharing.{terms_of, term_at, terms_at, Grows};
 ghost use Rattle.mh_expand.specs.Searching.{IsSearch, IsFit, AreRanks, WentStarts, WentInstance, WentAlternative, IsExpanding, AreExpanded};
 
 use crate::fault::ExpandFault;
-use crate::instances::{Expanded, Instance, InstanceProduction};
 use crate::ranks::{Ranks, rank_of, ranks_of};
 use crate::replacing::replace;
 use crate::search::{MAX_INSTANCES, MAX_NAME, find, find_instance};
@@ -19,7 +18,9 @@ use crate::terms::{Application, Terms};
 use crate::texts::text_within;
 use indexmap::IndexSet;
 use mh_grammar::{Memory, Name, Sequence, TokenInfo};
-use mh_join::{Head, Joined, JoinedAlternative, JoinedRule};
+use mh_rules::{
+    Expanded, Head, Instance, InstanceProduction, Joined, JoinedAlternative, JoinedRule,
+};
 use std::alloc::Global;
 
 /// The instances that the starts reach: rules applied to actuals, each formal replaced by what it stands for. They are

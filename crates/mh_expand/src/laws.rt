@@ -3,8 +3,7 @@ ghost use Rattle.std.specs.Prelude.{◌≡◌};
 ghost use Rattle.mh_expand.specs.Expansion.{IsExpanded, IsFirstFault};
 
 use crate::fault::ExpandFault;
-use crate::instances::Expanded;
-use mh_join::Joined;
+use mh_rules::{Expanded, Joined};
 
 /// Two expansions of the same rules are one, with the same numbers and the same order of productions.
 pub fn is_one_expansion(joined: &Joined, left: &Expanded, right: &Expanded)

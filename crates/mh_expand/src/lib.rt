@@ -3,17 +3,14 @@
 
 mod expansion;
 mod fault;
-mod instances;
 mod laws;
 mod ranks;
 mod replacing;
 mod search;
 mod terms;
-#[cfg(test)]
-mod tests;
 mod texts;
 
 pub use expansion::expand;
 pub use fault::ExpandFault;
-pub use instances::{Expanded, Instance, InstanceProduction, Part};
 pub use laws::{is_one_expansion, is_one_fault};
+pub use mh_rules::{Expanded, Instance, InstanceProduction, Part};

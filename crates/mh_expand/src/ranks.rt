@@ -8,7 +8,7 @@ use crate::replacing::replace;
 use crate::terms::Terms;
 use indexmap::IndexMap;
 use mh_grammar::{Memory, Sequence};
-use mh_join::Applied;
+use mh_rules::Applied;
 use std::alloc::Global;
 
 /// For each term the place of the first declaration that names it.

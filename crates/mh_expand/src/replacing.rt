@@ -6,7 +6,7 @@ ghost use Rattle.mh_expand.specs.Sharing.{terms_of, terms_at, Grows, IsNode};
 
 use crate::terms::{Application, Terms};
 use mh_grammar::{Memory, Sequence};
-use mh_join::{Applied, Head};
+use mh_rules::{Applied, Head};
 use std::alloc::Global;
 
 /// The term that an actual stands for, where the formals stand for these terms.

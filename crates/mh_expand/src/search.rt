@@ -7,12 +7,11 @@ ghost use Rattle.mh_expand.specs.Sharing.{terms_of, term_at};
 ghost use Rattle.mh_expand.specs.Searching.{IsSearch, Finds};
 
 use crate::fault::ExpandFault;
-use crate::instances::Part;
 use crate::terms::Terms;
 use crate::texts::text_within;
 use indexmap::IndexSet;
 use mh_grammar::{Memory, Name};
-use mh_join::{Head, Joined, JoinedRule};
+use mh_rules::{Head, Joined, JoinedRule, Part};
 use std::alloc::{AllocFailed, Global};
 
 /// The most instances that there may be.

@@ -6,7 +6,7 @@ ghost use Rattle.mh_expand.specs.Sharing.{AreNodes, terms_of, node_term};
 
 use indexmap::IndexSet;
 use mh_grammar::Sequence;
-use mh_join::Head;
+use mh_rules::Head;
 use std::alloc::{AllocError, AllocFailed, Global};
 
 /// A head with the numbers of its arguments.

@@ -7,7 +7,7 @@ ghost use Rattle.mh_expand.specs.Searching.{IsTextWithin};
 
 use crate::terms::Terms;
 use mh_grammar::{Memory, Name, from_bytes};
-use mh_join::{Head, Joined};
+use mh_rules::{Head, Joined};
 use std::alloc::Global;
 
 /// The text of a term, if it has at most so many bytes.

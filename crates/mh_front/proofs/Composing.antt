@@ -3,8 +3,8 @@ use Rattle.std.proofs.Common.{◌<◌, length, get_or, sym, ap, subst, ◌∙◌
 use Rattle.std.proofs.lemmas.Option.{slice_get_within, slice_get-get_or}
 use Rattle.std.proofs.lemmas.List.{length-map}
 use Rattle.mh_grammar.specs.declared.types.Grammar.{Grammar}
-use Rattle.mh_join.specs.declared.joined.Joined.{Joined}
-use Rattle.mh_expand.specs.declared.instances.Expanded.{Expanded}
+use Rattle.mh_rules.specs.declared.joined.Joined.{Joined}
+use Rattle.mh_rules.specs.declared.instances.Expanded.{Expanded}
 use Rattle.mh_expand.specs.Sentences.{HasSameSentences}
 use Rattle.mh_inline.specs.Inlined.{IsInlined, number_of}
 use Rattle.mh_inline.specs.Sentences.{KeepsSentences}

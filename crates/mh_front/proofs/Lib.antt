@@ -1,5 +1,3 @@
 pub mod Passing
 pub mod Composing
-pub mod Readying
-pub mod Reading
 pub mod OneGrammar

@@ -1,25 +1,24 @@
 -- Modules give one grammar or one first fault, and the numbers of the grammar are in range.
-use Rattle.std.proofs.Common.{◌≡◌, ◌<◌, ◌⊎◌, Bool, List, [], ◌∷◌, ◌++◌, None, Some, Ok, flat_map, length, refl, sym, ap, subst, ◌∙◌, inl, inr, arith}
+use Rattle.std.proofs.Common.{◌≡◌, ◌<◌, ◌≤◌, ◌⊎◌, Bool, List, [], ◌∷◌, ◌++◌, None, Some, Ok, flat_map, length, refl, sym, ap, subst, ◌∙◌, inl, inr, arith}
 use Rattle.std.proofs.lemmas.List.{length-map}
 use Rattle.mh_grammar.specs.declared.types.Grammar.{Grammar}
 use Rattle.mh_grammar.specs.Costs.{HaveCosts}
 use Rattle.mh_grammar.specs.Numbering.{AreDistinct}
 use Rattle.mh_grammar.specs.Plain.{plain_of, IsInRange}
-use Rattle.mh_grammar.proofs.Costs.{each_costs}
-use Rattle.mh_reader.specs.declared.modules.Module.{Module}
+use Rattle.mh_rules.specs.declared.modules.Module.{Module}
 use Rattle.mh_join.specs.declared.fault.JoinFault.{JoinFault}
 use Rattle.mh_join.specs.declared.fault.JoinFault.TheVariants as joining
-use Rattle.mh_join.specs.declared.joined.Joined.{Joined}
+use Rattle.mh_rules.specs.declared.joined.Joined.{Joined}
 use Rattle.mh_join.specs.Names.{Text, files}
 use Rattle.mh_join.specs.Faults.{meanings, undefined_in_file, errors_in_file, unlevelled_in_file, many_tokens, other_faults, duplicates, join_faults, first, has_some, unless}
-use Rattle.mh_join.specs.Joining.{Joins, token_info}
-use Rattle.mh_join.specs.Ready.{HaveAlternatives}
+use Rattle.mh_join.specs.Joining.{Joins}
+use Rattle.mh_rules.specs.declared.joined.TheConstants.{MAX_TOKENS}
+use Rattle.mh_rules.specs.Ready.{AreModulesReady, IsExpandedReady}
 use Rattle.mh_join.proofs.Readying as joins
 use Rattle.mh_join.proofs.Resolving.{front_nil, back_nil}
 use Rattle.mh_expand.specs.declared.fault.ExpandFault.{ExpandFault}
 use Rattle.mh_expand.specs.declared.fault.ExpandFault.TheVariants as expanding
 use Rattle.mh_expand.specs.Expansion.{IsFirstFault}
-use Rattle.mh_expand.specs.Ready.{IsExpandedReady}
 use Rattle.mh_expand.proofs.Few.{few_instances}
 use Rattle.mh_expand.proofs.Order as order
 use Rattle.mh_expand.proofs.Ranged.{IsExpandedReady-expanded}
@@ -36,7 +35,6 @@ use Rattle.mh_front.specs.declared.fault.GrammarFault.TheVariants.{Undefined, Du
 use Rattle.mh_front.specs.Stages.{of_join, of_expand, of_inline, IsGrammarOfJoined, IsInstancesFault, IsJoinedFault, IsGrammarOfModules, IsGrammarFault, IsLaterFault}
 use Rattle.mh_front.specs.Sentences.{HasSentencesOf, HasSentencesOfModules}
 use Rattle.mh_front.proofs.Composing.{has_sentences}
-use Rattle.mh_front.proofs.Readying.{ready}
 
 -- OF JOINED RULES
 
@@ -175,19 +173,21 @@ module _ (p : Bool) (ms : List Module) where
       let of_grammar = ap length o.grammar.grammar.inlined.starts ∙ length-map e.starts (number_of e.instances) in
       omega arith
 
-  pub have_costs : (g : Grammar) → IsGrammarOfModules p ms g → HaveCosts g.tokens
-  have_costs g o =
-      let w = meanings p ms in
-      let tokens = o.grammar.grammar.inlined.tokens ∙ o.grammar.expands.tokens ∙ o.joins.1.tokens_are in
-      rw tokens (each_costs (token_info w) (λ x. (omega arith, omega arith)) w.tokens)
-
-  module _ (g : Grammar) (some : HaveAlternatives ms) (o : IsGrammarOfModules p ms g) where
+  module _ (g : Grammar) (some : AreModulesReady ms) (o : IsGrammarOfModules p ms g) where
     expanded_ready : IsExpandedReady o.grammar.expanded
     expanded_ready =
         let j = o.joined in
         let e = o.grammar.expanded in
         let x = o.grammar.expands in
-        IsExpandedReady-expanded j e x (ready j (joins.ready p ms j some o.joins)) (few_instances j e x)
+        IsExpandedReady-expanded j e x (joins.ready p ms j some o.joins) (few_instances j e x)
+
+    pub few_tokens : length g.tokens ≤ MAX_TOKENS
+    few_tokens =
+        let same = ap length (o.grammar.grammar.inlined.tokens ∙ o.grammar.expands.tokens) in
+        subst (λ n. n ≤ MAX_TOKENS) (sym same) (joins.ready p ms o.joined some o.joins).few_tokens
+
+    pub have_costs : HaveCosts g.tokens
+    have_costs = subst HaveCosts (sym o.grammar.grammar.inlined.tokens) expanded_ready.costs
 
     pub in_range : IsInRange (plain_of g)
     in_range = let i = o.grammar.grammar in ranges.in_range o.grammar.expanded expanded_ready i.kept g i.inlined i.small

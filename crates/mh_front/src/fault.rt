@@ -25,7 +25,7 @@ pub enum GrammarFault {
     /// A production has the level of this name, which is no token and has none.
     #[error("unknown level")]
     UnknownLevel { name: Name },
-    /// There are so many tokens, more than 256.
+    /// There are so many tokens, more than 512.
     #[error("too many tokens: {count}")]
     TooManyTokens { count: u64 },
     /// This applied rule or token has not as many arguments as it takes.

@@ -1,9 +1,9 @@
 //! The stages one after another: joining, expansion, inlining.
-ghost use Rattle.std.specs.Prelude.{IfOk, IfErr};
+ghost use Rattle.std.specs.Prelude.{◌≤◌, length, IfOk, IfErr};
 ghost use Rattle.mh_grammar.specs.Costs.{HaveCosts};
 ghost use Rattle.mh_grammar.specs.Numbering.{AreDistinct};
 ghost use Rattle.mh_grammar.specs.Plain.{plain_of, IsInRange};
-ghost use Rattle.mh_join.specs.Ready.{HaveAlternatives, IsReady};
+ghost use Rattle.mh_rules.specs.Ready.{AreModulesReady, IsReady};
 ghost use Rattle.mh_front.specs.Stages.{Causes, IsGrammarOfJoined, IsGrammarOfModules, IsJoinedFault, IsGrammarFault};
 ghost use Rattle.mh_front.specs.Sentences.{HasSentencesOfModules};
 
@@ -11,8 +11,8 @@ use crate::fault::GrammarFault;
 use mh_expand::expand;
 use mh_grammar::Grammar;
 use mh_inline::inline_rules;
-use mh_join::{Joined, join};
-use mh_reader::Module;
+use mh_join::join;
+use mh_rules::{Joined, MAX_TOKENS, Module};
 use std::alloc::Global;
 
 /// The grammar of joined rules.
@@ -35,9 +35,10 @@ fn grammar_of_joined(alloc: Global, joined: &Joined) -> Result<Grammar, GrammarF
 /// the first stage that has one, and `Memory` where memory runs out. Each start symbol has the sentences of the joined
 /// rules, whose formals are replaced at need.
 pub fn grammar_of(alloc: Global, modules: &[Module], prelude: bool) -> Result<Grammar, GrammarFault>
-    requires { HaveAlternatives modules.now }
+    requires { AreModulesReady modules.now }
     ensures grammar { IfOk result (IsGrammarOfModules prelude modules.now) }
     ensures fault { IfErr result (Causes (IsGrammarFault prelude modules.now)) }
+    ensures tokens { IfOk result (λ g. length g.tokens ≤ MAX_TOKENS) }
     ensures range { IfOk result (λ g. IsInRange (plain_of g)) }
     ensures costs { IfOk result (λ g. HaveCosts g.tokens) }
     ensures distinct { IfOk result (λ g. AreDistinct g.starts) }

@@ -5,7 +5,7 @@ ghost use Rattle.mh_front.specs.Stages.{IsGrammarFault, IsGrammarOfModules};
 
 use crate::fault::GrammarFault;
 use mh_grammar::Grammar;
-use mh_reader::Module;
+use mh_rules::Module;
 
 /// Two grammars of the same modules are one.
 pub fn is_one_grammar(modules: &[Module], prelude: bool, left: &Grammar, right: &Grammar)

@@ -4,11 +4,10 @@
 mod fault;
 mod front;
 mod laws;
-#[cfg(test)]
-mod tests;
 mod texts;
 
 pub use fault::GrammarFault;
 pub use front::grammar_of;
 pub use laws::{is_grammar_or_fault, is_one_fault, is_one_grammar};
+pub use mh_rules::MAX_TOKENS;
 pub use texts::fault_line;

@@ -3,15 +3,15 @@ use Rattle.std.proofs.Common.{◌≡◌, ℕ, zero, suc, ◌+◌, ◌<◌, ◌�
 use Rattle.std.specs.List.{slice_get}
 use Rattle.std.proofs.lemmas.Bool.{false≢true}
 use Rattle.std.proofs.lemmas.Option.{same_Some, none-some, slice_get_within, get_or_from_slice_get}
-use Rattle.mh_expand.specs.declared.instances.Part.TheVariants.{Instance as Applied}
-use Rattle.mh_expand.specs.declared.instances.Instance.{Instance}
-use Rattle.mh_expand.specs.declared.instances.Expanded.{Expanded}
+use Rattle.mh_rules.specs.declared.instances.Part.TheVariants.{Instance as Applied}
+use Rattle.mh_rules.specs.declared.instances.Instance.{Instance}
+use Rattle.mh_rules.specs.declared.instances.Expanded.{Expanded}
 use Rattle.mh_grammar.proofs.Placing.{at_contains}
 use Rattle.mh_inline.specs.declared.unfoldings.Unfolding.{Unfolding}
 use Rattle.mh_inline.specs.declared.sizes.Size.{Size}
 use Rattle.mh_inline.specs.declared.sizes.Sizing.{Sizing}
 use Rattle.mh_inline.specs.Instances.{is_inlined, Inlines}
-use Rattle.mh_expand.specs.Ready.{IsExpandedReady, IsInstanceReady}
+use Rattle.mh_rules.specs.Ready.{IsExpandedReady, IsInstanceReady}
 use Rattle.mh_inline.specs.Unfoldings as unfoldings
 use Rattle.mh_inline.specs.Unfoldings.{UnfoldsPart, UnfoldsEach}
 use Rattle.mh_inline.specs.Sizes.{IsSize, IsSizing, AreSmall}

@@ -1,11 +1,11 @@
 -- Unfoldings behind one another: a monoid, with all choices from lists of them.
 use Rattle.std.proofs.Common.{◌≡◌, List, [], ◌∷◌, ◌++◌, map, refl, sym, ap, ◌∙◌, append_assoc}
 use Rattle.std.proofs.lemmas.List.{append-nil, map-append}
-use Rattle.mh_join.specs.declared.joined.Prec.{Prec}
-use Rattle.mh_join.specs.declared.joined.Prec.TheVariants.{Absent, Given}
-use Rattle.mh_expand.specs.declared.instances.Part.{Part}
-use Rattle.mh_expand.specs.declared.instances.InstanceProduction.{InstanceProduction}
-use Rattle.mh_expand.specs.declared.instances.Instance.{Instance}
+use Rattle.mh_rules.specs.declared.joined.Prec.{Prec}
+use Rattle.mh_rules.specs.declared.joined.Prec.TheVariants.{Absent, Given}
+use Rattle.mh_rules.specs.declared.instances.Part.{Part}
+use Rattle.mh_rules.specs.declared.instances.InstanceProduction.{InstanceProduction}
+use Rattle.mh_rules.specs.declared.instances.Instance.{Instance}
 use Rattle.mh_inline.specs.declared.unfoldings.Unfolding.{Unfolding}
 use Rattle.mh_inline.specs.Unfoldings as unfoldings
 use Rattle.mh_inline.specs.Unfoldings.{rightmost, nothing, joined, own, choices, Unfolds, UnfoldsPart, UnfoldsEach}

@@ -8,10 +8,10 @@ use Rattle.std.proofs.lemmas.Option.{none-some, same_Some}
 use Rattle.mh_grammar.proofs.Flags.{kept-set, set-cases}
 use Rattle.mh_grammar.proofs.LeastMarks.{unmarked-set}
 use Rattle.mh_grammar.proofs.Placing.{get_left, get_last, get_cases, contains_at, at_contains}
-use Rattle.mh_expand.specs.declared.instances.Part.{Part}
-use Rattle.mh_expand.specs.declared.instances.Part.TheVariants.{Instance as Applied}
-use Rattle.mh_expand.specs.declared.instances.InstanceProduction.{InstanceProduction}
-use Rattle.mh_expand.specs.declared.instances.Instance.{Instance}
+use Rattle.mh_rules.specs.declared.instances.Part.{Part}
+use Rattle.mh_rules.specs.declared.instances.Part.TheVariants.{Instance as Applied}
+use Rattle.mh_rules.specs.declared.instances.InstanceProduction.{InstanceProduction}
+use Rattle.mh_rules.specs.declared.instances.Instance.{Instance}
 use Rattle.mh_inline.specs.declared.cycles.Found.{Found}
 use Rattle.mh_inline.specs.Instances.{is_inlined, inline_number, IsKept}
 use Rattle.mh_inline.specs.Found.{IsAmong, IsIn, IsMadeOf, AreQueued, Adds, IsTable, IsSame}

@@ -5,10 +5,10 @@ use Rattle.std.proofs.lemmas.Option.{cond_some, none-some, slice_get-get_or, get
 use Rattle.std.proofs.lemmas.Bool.{false≢true}
 use Rattle.std.proofs.lemmas.List.{take_more}
 use Rattle.mh_inline.proofs.Choices.{Unfolds-push, UnfoldsEach-push}
-use Rattle.mh_expand.specs.declared.instances.Part.{Part}
-use Rattle.mh_expand.specs.declared.instances.Part.TheVariants.{Token, Instance as Applied}
-use Rattle.mh_expand.specs.declared.instances.InstanceProduction.{InstanceProduction}
-use Rattle.mh_expand.specs.declared.instances.Instance.{Instance}
+use Rattle.mh_rules.specs.declared.instances.Part.{Part}
+use Rattle.mh_rules.specs.declared.instances.Part.TheVariants.{Token, Instance as Applied}
+use Rattle.mh_rules.specs.declared.instances.InstanceProduction.{InstanceProduction}
+use Rattle.mh_rules.specs.declared.instances.Instance.{Instance}
 use Rattle.mh_inline.specs.declared.unfoldings.Unfolding.{Unfolding}
 use Rattle.mh_inline.specs.Instances.{is_inlined, inline_number, IsKept}
 use Rattle.mh_inline.specs.Unfoldings as unfoldings

@@ -10,8 +10,8 @@ use Rattle.mh_grammar.specs.declared.types.Grammar.{Grammar}
 use Rattle.mh_grammar.specs.Edges.{IsRising}
 use Rattle.mh_grammar.specs.Plain.{plain_of, IsProductive}
 use Rattle.mh_grammar.proofs.Placing.{contains_at}
-use Rattle.mh_expand.specs.declared.instances.Expanded.{Expanded}
-use Rattle.mh_expand.specs.declared.instances.Instance.{Instance}
+use Rattle.mh_rules.specs.declared.instances.Expanded.{Expanded}
+use Rattle.mh_rules.specs.declared.instances.Instance.{Instance}
 use Rattle.mh_inline.specs.declared.fault.InlineFault.{InlineFault}
 use Rattle.mh_inline.specs.declared.fault.InlineFault.TheVariants.{InlineCycle, InlineStart, TooManyProductions, EmptyLanguage, Memory}
 use Rattle.mh_inline.specs.declared.origins.Origin.{Origin}

@@ -5,10 +5,10 @@ use Rattle.std.proofs.lemmas.Bool.{false≢true}
 use Rattle.std.proofs.lemmas.Option.{same_Some, none-some}
 use Rattle.std.proofs.lemmas.List.{length-map}
 use Rattle.mh_inline.proofs.Choices.{append_same}
-use Rattle.mh_join.specs.declared.joined.Prec.{Prec}
-use Rattle.mh_expand.specs.declared.instances.Part.{Part}
-use Rattle.mh_expand.specs.declared.instances.InstanceProduction.{InstanceProduction}
-use Rattle.mh_expand.specs.declared.instances.Instance.{Instance}
+use Rattle.mh_rules.specs.declared.joined.Prec.{Prec}
+use Rattle.mh_rules.specs.declared.instances.Part.{Part}
+use Rattle.mh_rules.specs.declared.instances.InstanceProduction.{InstanceProduction}
+use Rattle.mh_rules.specs.declared.instances.Instance.{Instance}
 use Rattle.mh_inline.specs.declared.unfoldings.Unfolding.{Unfolding}
 use Rattle.mh_inline.specs.Instances.{is_inlined}
 use Rattle.mh_inline.specs.Unfoldings as unfoldings

@@ -6,15 +6,15 @@ use Rattle.mh_grammar.specs.declared.types.Production.{Production}
 use Rattle.mh_grammar.specs.declared.types.Symbol.{Symbol}
 use Rattle.mh_grammar.specs.declared.types.Symbol.TheVariants.{T, N}
 use Rattle.mh_grammar.specs.Edges.{IsRising}
-use Rattle.mh_expand.specs.declared.instances.Part.{Part}
-use Rattle.mh_expand.specs.declared.instances.Part.TheVariants.{Token, Instance as Applied}
-use Rattle.mh_expand.specs.declared.instances.Instance.{Instance}
-use Rattle.mh_expand.specs.declared.instances.InstanceProduction.{InstanceProduction}
+use Rattle.mh_rules.specs.declared.instances.Part.{Part}
+use Rattle.mh_rules.specs.declared.instances.Part.TheVariants.{Token, Instance as Applied}
+use Rattle.mh_rules.specs.declared.instances.Instance.{Instance}
+use Rattle.mh_rules.specs.declared.instances.InstanceProduction.{InstanceProduction}
 use Rattle.mh_inline.specs.declared.unfoldings.Unfolding.{Unfolding}
 use Rattle.mh_inline.specs.declared.origins.Origin.{Origin}
 use Rattle.mh_inline.specs.declared.sizes.Size.{Size}
 use Rattle.mh_inline.specs.Instances.{IsAlternative}
-use Rattle.mh_expand.specs.Ready.{IsPartBelow}
+use Rattle.mh_rules.specs.Ready.{IsPartBelow}
 use Rattle.mh_inline.specs.Unfoldings.{own, Unfolds}
 use Rattle.mh_inline.specs.Inlined.{number_of, level_of, production_of, IsOrigin, IsOriginBefore, AreProductions}
 

@@ -2,8 +2,8 @@
 use Rattle.std.specs.Prelude.{◌≡◌, ◌↔◌, ℕ, List, Some, slice_get}
 use Rattle.mh_grammar.specs.declared.types.Grammar.{Grammar}
 use Rattle.mh_grammar.specs.Plain.{plain_of, IsSentence}
-use Rattle.mh_expand.specs.declared.instances.Expanded.{Expanded}
-use Rattle.mh_expand.specs.Sentences.{IsInstanceSentence}
+use Rattle.mh_rules.specs.declared.instances.Expanded.{Expanded}
+use Rattle.mh_rules.specs.Sentences.{IsInstanceSentence}
 
 -- each start has the same sentences over the instances and over the grammar
 abbrev pub KeepsSentences : Expanded → Grammar → Type 0

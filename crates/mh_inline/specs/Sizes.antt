@@ -2,10 +2,10 @@
 use Rattle.std.specs.Prelude.{◌≡◌, ◌<◌, ◌≤◌, ℕ, true, List, [], ◌∷◌, Option, Some, None, length, min, max, take, slice_get, count_by}
 use Rattle.std.specs.Option.{is_none}
 use Rattle.std.specs.List.{Contains}
-use Rattle.mh_expand.specs.declared.instances.Part.{Part}
-use Rattle.mh_expand.specs.declared.instances.Part.TheVariants.{Instance as Applied}
-use Rattle.mh_expand.specs.declared.instances.InstanceProduction.{InstanceProduction}
-use Rattle.mh_expand.specs.declared.instances.Instance.{Instance}
+use Rattle.mh_rules.specs.declared.instances.Part.{Part}
+use Rattle.mh_rules.specs.declared.instances.Part.TheVariants.{Instance as Applied}
+use Rattle.mh_rules.specs.declared.instances.InstanceProduction.{InstanceProduction}
+use Rattle.mh_rules.specs.declared.instances.Instance.{Instance}
 use Rattle.mh_inline.specs.declared.unfoldings.Unfolding.{Unfolding}
 use Rattle.mh_inline.specs.declared.sizes.Size.{Size}
 use Rattle.mh_inline.specs.declared.sizes.Sizing.{Sizing}

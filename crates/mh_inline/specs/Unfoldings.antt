@@ -1,11 +1,11 @@
 -- What producers become when each inline one is replaced by one of its own alternatives, fully inlined (Menhir manual, %inline).
 use Rattle.std.specs.Prelude.{◌≡◌, ℕ, true, List, [], ◌∷◌, ◌++◌, Some, slice_get, map}
-use Rattle.mh_join.specs.declared.joined.Prec.{Prec}
-use Rattle.mh_join.specs.declared.joined.Prec.TheVariants.{Absent, Given}
-use Rattle.mh_expand.specs.declared.instances.Part.{Part}
-use Rattle.mh_expand.specs.declared.instances.Part.TheVariants.{Instance as Applied}
-use Rattle.mh_expand.specs.declared.instances.InstanceProduction.{InstanceProduction}
-use Rattle.mh_expand.specs.declared.instances.Instance.{Instance}
+use Rattle.mh_rules.specs.declared.joined.Prec.{Prec}
+use Rattle.mh_rules.specs.declared.joined.Prec.TheVariants.{Absent, Given}
+use Rattle.mh_rules.specs.declared.instances.Part.{Part}
+use Rattle.mh_rules.specs.declared.instances.Part.TheVariants.{Instance as Applied}
+use Rattle.mh_rules.specs.declared.instances.InstanceProduction.{InstanceProduction}
+use Rattle.mh_rules.specs.declared.instances.Instance.{Instance}
 use Rattle.mh_inline.specs.declared.unfoldings.Unfolding.{Unfolding}
 use Rattle.mh_inline.specs.Instances.{IsKept}
 

@@ -1,8 +1,8 @@
 -- Until when the unfoldings of inline instances are needed, as places in the order in which they are made.
 use Rattle.std.specs.Prelude.{◌≡◌, ◌<◌, ◌≤◌, ℕ, false, List, Some, length, take, slice_get, slice_index_or}
 use Rattle.std.specs.List.{Contains}
-use Rattle.mh_expand.specs.declared.instances.Part.TheVariants.{Instance as Applied}
-use Rattle.mh_expand.specs.declared.instances.Instance.{Instance}
+use Rattle.mh_rules.specs.declared.instances.Part.TheVariants.{Instance as Applied}
+use Rattle.mh_rules.specs.declared.instances.Instance.{Instance}
 use Rattle.mh_inline.specs.declared.unfoldings.Unfolding.{Unfolding}
 use Rattle.mh_inline.specs.Instances.{is_inlined}
 use Rattle.mh_inline.specs.Unfoldings.{UnfoldsPart}

@@ -1,15 +1,15 @@
 //! Inline instances that reach themselves.
 ghost use Rattle.std.specs.Prelude.{◌≡◌, ◌<◌, ◌↔◌, ◌∷◌, [], true, false, length, replicate, IfNone, IfOk, OnOk, IsTrue, MatchOption};
 ghost use Rattle.mh_inline.specs.Instances.{is_inlined, Reaches};
-ghost use Rattle.mh_expand.specs.Ready.{IsExpandedReady};
+ghost use Rattle.mh_rules.specs.Ready.{IsExpandedReady};
 ghost use Rattle.mh_inline.specs.Faults.{HasNoCycle, IsFirstCyclicAt};
 ghost use Rattle.mh_inline.specs.Found.{Adds, AreQueued, IsAmong, IsIn, IsMadeOf, IsSame, IsTable};
 ghost use Rattle.mh_inline.specs.Sizes.{AreAllSized, AreSettled, IsSizing};
 
 use crate::instances::{inline_part, is_inline};
 use crate::sizes::Sizing;
-use mh_expand::{Expanded, InstanceProduction, Part};
 use mh_grammar::Memory;
+use mh_rules::{Expanded, InstanceProduction, Part};
 use std::alloc::Global;
 
 /// The instances that were found, as flags and in the order in which they came.

@@ -3,7 +3,7 @@ ghost use Rattle.std.specs.Prelude.{◌≡◌, ◌<◌, true, false, length, sli
 ghost use Rattle.std.specs.List.{All};
 ghost use Rattle.mh_grammar.specs.Plain.{plain_of, IsInRange};
 ghost use Rattle.mh_grammar.specs.Numbering.{AreDistinct};
-ghost use Rattle.mh_expand.specs.Ready.{IsExpandedReady};
+ghost use Rattle.mh_rules.specs.Ready.{IsExpandedReady};
 ghost use Rattle.mh_inline.specs.Sizes.{AreAllSized, IsSizing};
 ghost use Rattle.mh_inline.specs.Inlined.{AreOrigins, IsInlined};
 ghost use Rattle.mh_inline.specs.Making.{AreOriginsSmall};
@@ -18,8 +18,8 @@ use crate::origins::{Origin, origins_of};
 use crate::productions::{productions_of, size_of_origins};
 use crate::sizes::{Sizing, inline_sizes, is_small};
 use crate::unfoldings::unfold_inline;
-use mh_expand::Expanded;
 use mh_grammar::{Grammar, Memory, Name, Sequence, TokenInfo, productive};
+use mh_rules::Expanded;
 use std::alloc::Global;
 
 fn name_of(expanded: &Expanded, number: usize) -> Result<Name, Memory>

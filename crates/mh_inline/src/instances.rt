@@ -1,9 +1,9 @@
 //! Which producers are inline.
 ghost use Rattle.std.specs.Prelude.{◌≡◌, length};
 ghost use Rattle.mh_inline.specs.Instances.{inline_number, is_inlined};
-ghost use Rattle.mh_expand.specs.Ready.{IsPartBelow, IsExpandedReady};
+ghost use Rattle.mh_rules.specs.Ready.{IsPartBelow, IsExpandedReady};
 
-use mh_expand::{Expanded, Part};
+use mh_rules::{Expanded, Part};
 
 /// Whether an instance is inline.
 pub(crate) fn is_inline(expanded: &Expanded, number: usize) -> bool

@@ -4,8 +4,8 @@ ghost use Rattle.mh_inline.specs.Inlined.{IsInlined};
 ghost use Rattle.mh_inline.specs.Faults.{IsFault, IsGrammarOf, IsNoMemory};
 
 use crate::fault::InlineFault;
-use mh_expand::Expanded;
 use mh_grammar::Grammar;
+use mh_rules::Expanded;
 
 /// Instances give one grammar.
 pub fn is_one_grammar(expanded: &Expanded, left: &Grammar, right: &Grammar)

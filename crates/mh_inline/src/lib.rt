@@ -11,8 +11,6 @@ mod nonterminals;
 mod origins;
 mod productions;
 mod sizes;
-#[cfg(test)]
-mod tests;
 mod unfoldings;
 mod uses;
 

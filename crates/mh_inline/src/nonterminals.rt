@@ -1,12 +1,12 @@
 //! The nonterminals of the grammar, and their numbers.
 ghost use Rattle.std.specs.Prelude.{◌≡◌, ◌<◌, ◌≤◌, length, map, filter, slice_index, IfOk};
 ghost use Rattle.std.specs.List.{All};
-ghost use Rattle.mh_expand.specs.Ready.{IsPartBelow};
+ghost use Rattle.mh_rules.specs.Ready.{IsPartBelow};
 ghost use Rattle.mh_inline.specs.Inlined.{is_kept, nonterminal_of};
 ghost use Rattle.mh_inline.specs.Making.{symbol_by, AreNumbers};
 
-use mh_expand::{Instance, Part};
 use mh_grammar::{Memory, NontermInfo, Symbol};
+use mh_rules::{Instance, Part};
 use std::alloc::Global;
 
 /// For each instance, how many before it are not inline.

@@ -1,13 +1,13 @@
 //! The alternatives of the instances that are not inline, in the order of their productions.
 ghost use Rattle.std.specs.Prelude.{◌≡◌, ◌+◌, ◌<◌, ◌≤◌, false, length, IfOk, OnOk};
 ghost use Rattle.mh_inline.specs.Instances.{is_inlined};
-ghost use Rattle.mh_expand.specs.Ready.{IsExpandedReady};
+ghost use Rattle.mh_rules.specs.Ready.{IsExpandedReady};
 ghost use Rattle.mh_inline.specs.Inlined.{rank_of, AreOrigins};
 ghost use Rattle.mh_inline.specs.Making.{AreOriginsBelow};
 
 use crate::instances::is_inline;
-use mh_expand::{Expanded, InstanceProduction};
 use mh_grammar::Memory;
+use mh_rules::{Expanded, InstanceProduction};
 use std::alloc::{AllocError, Global};
 use std::collections::BTreeSet;
 

@@ -2,7 +2,7 @@
 ghost use Rattle.std.specs.Prelude.{◌≡◌, ◌++◌, length, map, IfOk, OnOk};
 ghost use Rattle.std.specs.List.{All};
 ghost use Rattle.mh_inline.specs.Instances.{IsAlternative};
-ghost use Rattle.mh_expand.specs.Ready.{IsExpandedReady};
+ghost use Rattle.mh_rules.specs.Ready.{IsExpandedReady};
 ghost use Rattle.mh_inline.specs.Unfoldings.{own};
 ghost use Rattle.mh_inline.specs.Known.{IsOriginKnown};
 ghost use Rattle.mh_inline.specs.Sizes.{AreAllSized, IsSizing};
@@ -13,9 +13,8 @@ use crate::nonterminals::symbols;
 use crate::origins::Origin;
 use crate::sizes::{Size, Sizing, plus, size_of_side};
 use crate::unfoldings::{Unfolding, rightmost_prec, unfold_side};
-use mh_expand::{Expanded, InstanceProduction, Part};
 use mh_grammar::{Level, Memory, Production, Sequence, Token, TokenInfo};
-use mh_join::Prec;
+use mh_rules::{Expanded, InstanceProduction, Part, Prec};
 use std::alloc::Global;
 
 fn last_token_of(parts: &[Part]) -> Option<Token>

@@ -1,11 +1,11 @@
 //! How many unfoldings there are, and how long they are, without making them: there may be exponentially many.
 ghost use Rattle.std.specs.Prelude.{◌≡◌, ◌+◌, ◌*◌, ◌<◌, ◌↔◌, [], ◌∷◌, false, min, max, length, IfOk, OnOk, OnSome, IsTrue, MatchOption};
-ghost use Rattle.mh_expand.specs.Ready.{IsExpandedReady};
+ghost use Rattle.mh_rules.specs.Ready.{IsExpandedReady};
 ghost use Rattle.mh_inline.specs.Sizes.{AreEachSized, AreSettled, AreSized, AreSizes, IsBlocked, IsEachBlocked, IsEachSize, IsPartSize, IsSettled, IsSideSize, IsSizing, IsWithin, unsized_count};
 
 use crate::instances::{inline_part, is_inline};
-use mh_expand::{Expanded, InstanceProduction, Part};
 use mh_grammar::Memory;
+use mh_rules::{Expanded, InstanceProduction, Part};
 use std::alloc::Global;
 
 /// How many productions there may be.

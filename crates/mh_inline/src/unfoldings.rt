@@ -1,7 +1,7 @@
 //! What producers become when each inline one is replaced by one of its own alternatives.
 ghost use Rattle.std.specs.Prelude.{◌≡◌, ◌++◌, ◌∷◌, [], List, map, IfOk, OnOk, length};
 ghost use Rattle.mh_inline.specs.declared.unfoldings.Unfolding.{Unfolding as Unfolded};
-ghost use Rattle.mh_expand.specs.Ready.{IsExpandedReady};
+ghost use Rattle.mh_rules.specs.Ready.{IsExpandedReady};
 ghost use Rattle.mh_inline.specs.Unfoldings.{choices, joined, nothing, only, own, rightmost, Unfolds, UnfoldsEach, UnfoldsPart};
 ghost use Rattle.mh_inline.specs.Known.{AreKnown, AreEachKnown, Extends, IsNext};
 ghost use Rattle.mh_inline.specs.Uses.{KnowsUsed};
@@ -10,9 +10,8 @@ ghost use Rattle.mh_inline.specs.Sizes.{AreSmall, IsSizing};
 use crate::instances::inline_part;
 use crate::sizes::{Sizing, is_small};
 use crate::uses::{forget, inlined_in, last_uses};
-use mh_expand::{Expanded, InstanceProduction, Part};
 use mh_grammar::{Memory, Sequence};
-use mh_join::Prec;
+use mh_rules::{Expanded, InstanceProduction, Part, Prec};
 use std::alloc::Global;
 
 /// Producers none of which is inline, and the `%prec` that came with what was inlined.

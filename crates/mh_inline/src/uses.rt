@@ -7,8 +7,8 @@ ghost use Rattle.mh_inline.specs.Uses.{AreLast, Forgets, IsPartOfKept, PutsOff};
 use crate::cycles::{add_inlined, nothing_found};
 use crate::instances::is_inline;
 use crate::unfoldings::Unfolding;
-use mh_expand::Expanded;
 use mh_grammar::{Memory, Sequence};
+use mh_rules::Expanded;
 use std::alloc::Global;
 
 /// The inline instances that an instance is made of.

@@ -5,13 +5,14 @@ use Rattle.std.specs.List.{flat_map, enumerate_from, list_any}
 use Rattle.std.proofs.lemmas.Bool.{cases_lt, lt-ltb}
 use Rattle.std.proofs.lemmas.List.Concat.{flat_map-append}
 use Rattle.indexmap.specs.IndexSet.{insert_all, insert_key}
-use Rattle.mh_reader.specs.declared.modules.Ref.{Ref}
-use Rattle.mh_reader.specs.declared.modules.Actual.{Actual}
-use Rattle.mh_reader.specs.declared.modules.Alternative.{Alternative}
-use Rattle.mh_reader.specs.declared.modules.Rule.{Rule}
-use Rattle.mh_reader.specs.declared.modules.Module.{Module}
-use Rattle.mh_join.specs.declared.joined.Head.{Head}
-use Rattle.mh_join.specs.declared.joined.Joined.{Joined}
+use Rattle.mh_rules.specs.declared.joined.TheConstants.{MAX_TOKENS}
+use Rattle.mh_rules.specs.declared.modules.Ref.{Ref}
+use Rattle.mh_rules.specs.declared.modules.Actual.{Actual}
+use Rattle.mh_rules.specs.declared.modules.Alternative.{Alternative}
+use Rattle.mh_rules.specs.declared.modules.Rule.{Rule}
+use Rattle.mh_rules.specs.declared.modules.Module.{Module}
+use Rattle.mh_rules.specs.declared.joined.Head.{Head}
+use Rattle.mh_rules.specs.declared.joined.Joined.{Joined}
 use Rattle.mh_join.specs.declared.fault.JoinFault.{JoinFault}
 use Rattle.mh_join.specs.declared.fault.JoinFault.TheVariants as faults
 use Rattle.mh_join.specs.declared.names.Names.{Names}
@@ -87,11 +88,11 @@ kept_nil {B = B} f ks (x ∷ xs) p q = kept_nil f (insert_key same ks x) xs (go 
     go true = p
     go false = flat_map-append f ks (x ∷ []) ∙ ap (λ k. k ++ (f x ++ [])) p ∙ ap (λ k. k ++ []) (front_nil (f x) (flat_map f xs) q)
 
-pub few_tokens : (n : ℕ) → many_tokens n ≡ [] → n ≤ 256
-few_tokens n h = go (cases_lt 256 n)
+pub few_tokens : (n : ℕ) → many_tokens n ≡ [] → n ≤ MAX_TOKENS
+few_tokens n h = go (cases_lt MAX_TOKENS n)
   where
-    go : (256 < n) ⊎ (n ≤ 256) → n ≤ 256
-    go (inl more) = let bad : faults.TooManyTokens n ∷ [] ≡ [] = sym (ap (λ b. unless (not b) (faults.TooManyTokens n)) (lt-ltb 256 n more)) ∙ h in cc
+    go : (MAX_TOKENS < n) ⊎ (n ≤ MAX_TOKENS) → n ≤ MAX_TOKENS
+    go (inl more) = let bad : faults.TooManyTokens n ∷ [] ≡ [] = sym (ap (λ b. unless (not b) (faults.TooManyTokens n)) (lt-ltb MAX_TOKENS n more)) ∙ h in cc
     go (inr few) = few
 
 flat_starts : (f : Text → List JoinFault) (ms : List Module) → flat_map (λ (m : Module). flat_map f m.starts) ms ≡ flat_map f (flat_map (λ m. m.starts) ms)

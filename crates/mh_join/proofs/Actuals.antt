@@ -3,10 +3,10 @@ use Rattle.std.proofs.Common.{◌≡◌, ℕ, suc, ◌<◌, ◌≤◌, List, [],
 use Rattle.std.specs.List.{flat_map}
 use Rattle.std.proofs.lemmas.List.Concat.{flat_map-append}
 use Rattle.std.proofs.lemmas.List.Folds.{flat_map-map, length-flat_map-take}
-use Rattle.mh_reader.specs.declared.modules.Ref.{Ref}
-use Rattle.mh_reader.specs.declared.modules.Actual.{Actual}
-use Rattle.mh_reader.specs.declared.modules.Actual.TheViews.{out-Actual}
-use Rattle.mh_reader.specs.declared.modules.Actual.TheFolds.{fold_out-Actual}
+use Rattle.mh_rules.specs.declared.modules.Ref.{Ref}
+use Rattle.mh_rules.specs.declared.modules.Actual.{Actual}
+use Rattle.mh_rules.specs.declared.modules.Actual.TheViews.{out-Actual}
+use Rattle.mh_rules.specs.declared.modules.Actual.TheFolds.{fold_out-Actual}
 use Rattle.mh_join.specs.Faults.{refs, refs_step}
 
 pub refs_out : (a : Actual) → refs a ≡ (out-Actual a).head ∷ flat_map refs (out-Actual a).args

@@ -6,8 +6,8 @@ use Rattle.std.specs.Map.{lookup}
 use Rattle.std.proofs.lemmas.List.{map-append}
 use Rattle.std.proofs.lemmas.Iterator.Adapters.{position_from-zero}
 use Rattle.indexmap.specs.IndexMap.{get}
-use Rattle.mh_reader.specs.declared.modules.Rule.{Rule}
-use Rattle.mh_reader.specs.declared.modules.Module.{Module}
+use Rattle.mh_rules.specs.declared.modules.Rule.{Rule}
+use Rattle.mh_rules.specs.declared.modules.Module.{Module}
 use Rattle.mh_join.specs.declared.names.Names.{Names}
 use Rattle.mh_join.specs.Prelude.{prelude_rules}
 use Rattle.mh_join.specs.Names.{Text, same, files, token_names, token_number, aliased, levels_in, level_of, is_elsewhere, start_names, definitions_from, definitions_in, library_definitions, outline_of, owner_in, is_rule, same_rule, firsts, rules, rule_number}

@@ -11,29 +11,32 @@ use Rattle.std.proofs.lemmas.List.Folds.{list_any-append}
 use Rattle.std.proofs.lemmas.List.Quantifiers.{position-Some}
 use Rattle.std.proofs.lemmas.Option.{slice_get_within, slice_get-get_or, slice_get-map}
 use Rattle.indexmap.specs.IndexSet.{insert_all, insert_key}
-use Rattle.mh_reader.specs.declared.modules.Ref.{Ref}
-use Rattle.mh_reader.specs.declared.modules.Ref.TheVariants.{Plain, Alias}
-use Rattle.mh_reader.specs.declared.modules.Actual.{Actual}
-use Rattle.mh_reader.specs.declared.modules.Actual.TheOpen.{Actual-F}
-use Rattle.mh_reader.specs.declared.modules.Actual.TheFolds.{fold-roll-Actual, ind-Actual}
-use Rattle.mh_reader.specs.declared.modules.Alternative.{Alternative}
-use Rattle.mh_reader.specs.declared.modules.Rule.{Rule}
-use Rattle.mh_reader.specs.declared.modules.Module.{Module}
-use Rattle.mh_join.specs.declared.joined.Head.{Head}
-use Rattle.mh_join.specs.declared.joined.Head.TheVariants as heads
-use Rattle.mh_join.specs.declared.joined.Applied.{Applied}
-use Rattle.mh_join.specs.declared.joined.Applied.TheFolds.{every-Applied, every_made-Applied}
-use Rattle.mh_join.specs.declared.joined.JoinedAlternative.{JoinedAlternative}
-use Rattle.mh_join.specs.declared.joined.JoinedRule.{JoinedRule}
-use Rattle.mh_join.specs.declared.joined.Joined.{Joined}
+use Rattle.mh_rules.specs.declared.joined.TheConstants.{MAX_TOKENS}
+use Rattle.mh_rules.specs.declared.modules.Ref.{Ref}
+use Rattle.mh_rules.specs.declared.modules.Ref.TheVariants.{Plain, Alias}
+use Rattle.mh_rules.specs.declared.modules.Actual.{Actual}
+use Rattle.mh_rules.specs.declared.modules.Actual.TheOpen.{Actual-F}
+use Rattle.mh_rules.specs.declared.modules.Actual.TheFolds.{fold-roll-Actual, ind-Actual}
+use Rattle.mh_rules.specs.declared.modules.Alternative.{Alternative}
+use Rattle.mh_rules.specs.declared.modules.Rule.{Rule}
+use Rattle.mh_rules.specs.declared.modules.Module.{Module}
+use Rattle.mh_rules.specs.declared.joined.Head.{Head}
+use Rattle.mh_rules.specs.declared.joined.Head.TheVariants as heads
+use Rattle.mh_rules.specs.declared.joined.Applied.{Applied}
+use Rattle.mh_rules.specs.declared.joined.Applied.TheFolds.{every-Applied, every_made-Applied}
+use Rattle.mh_rules.specs.declared.joined.JoinedAlternative.{JoinedAlternative}
+use Rattle.mh_rules.specs.declared.joined.JoinedRule.{JoinedRule}
+use Rattle.mh_rules.specs.declared.joined.Joined.{Joined}
 use Rattle.mh_join.specs.declared.numbering.Outline.{Outline}
 use Rattle.mh_join.specs.declared.fault.JoinFault.{JoinFault}
 use Rattle.mh_join.specs.declared.fault.JoinFault.TheVariants as faults
 use Rattle.mh_join.specs.Prelude.{prelude_rules}
 use Rattle.mh_join.specs.Names.{Text, same, files, firsts, token_names, start_names, is_elsewhere, is_public, owner_in, Definition, definitions, definitions_from, definitions_in, library_definitions, outline_of, same_owner, is_rule, same_rule, rules, rule_number, formal_number, visible_head, user_head, rule_head, token_head}
+use Rattle.mh_grammar.specs.Costs.{IsCost, HaveCosts}
+use Rattle.mh_grammar.proofs.Costs.{each_costs}
 use Rattle.mh_join.specs.Faults.{Meanings, meanings, meant_by, unless, agrees, same_flag, same_shape, repeats, own_name, own_names, own_in_file, formals_in_file, shapes_in_file, other_shape, name_duplicates, rule_duplicates, duplicates, levels_in_file, has_some, errors_in_file, unlevelled_in_file, many_tokens, other_faults, undefined_in_file, join_faults, first}
 use Rattle.mh_join.specs.Joining.{all_of, applied_to, apply_step, resolved, all_resolved, prec_by, alternative_with, alternative_by, alternatives_by, is_number, alternatives_for, rule_without, without_alternatives, token_info, on_error_in, IsJoined, Joins}
-use Rattle.mh_join.specs.Ready.{HaveAlternatives, IsHeadBelow, IsAppliedBelow, IsRuleReady, IsReady}
+use Rattle.mh_rules.specs.Ready.{IsModuleReady, AreModulesReady, IsHeadBelow, IsAppliedBelow, IsRuleReady, IsReady}
 use Rattle.mh_join.proofs.Lists.{same_is, same_self, position-push}
 use Rattle.mh_join.proofs.Numbers.{is_some-position, none_from}
 use Rattle.mh_join.proofs.Meaning.{find_position}
@@ -414,7 +417,7 @@ module _ (p : Bool) (ms : List Module) (none : join_faults p ms ≡ []) where
   shapes_once : flat_map (shapes_in_file w) ms ≡ []
   shapes_once = back_nil (flat_map formals_in_file ms) (flat_map (shapes_in_file w) ms) (back_nil (flat_map (own_in_file w) ms) (flat_map formals_in_file ms ++ flat_map (shapes_in_file w) ms) rules_once)
 
-  tokens_few : length (token_names ms) ≤ 256
+  tokens_few : length (token_names ms) ≤ MAX_TOKENS
   tokens_few =
       few_tokens (length (token_names ms))
       (back_nil (flat_map (unlevelled_in_file w) ms) (many_tokens (length (token_names ms)))
@@ -498,7 +501,7 @@ module _ (p : Bool) (ms : List Module) (none : join_faults p ms ≡ []) where
 
 -- FILLED
 
-module _ (p : Bool) (ms : List Module) (filled : HaveAlternatives ms) where
+module _ (p : Bool) (ms : List Module) (filled : AreModulesReady ms) where
   definition_filled : (d : Definition) → In (definitions p ms) d → 0 < length d.rule.alternatives
   definition_filled d h = go (placed p ms d h)
     where
@@ -506,7 +509,7 @@ module _ (p : Bool) (ms : List Module) (filled : HaveAlternatives ms) where
       go (in_file f at_f a) =
           at_in (λ (r : Rule). 0 < length r.alternatives) f.1.rules d.rule
           (recursion_from_All (λ (r : Rule). 0 < length r.alternatives) f.1.rules
-          (at_in (λ (m : Module). All (λ (r : Rule). 0 < length r.alternatives) m.rules) ms f.1 (recursion_from_All (λ (m : Module). All (λ (r : Rule). 0 < length r.alternatives) m.rules) ms filled) (number_from 1 ms f at_f).1))
+          (at_in IsModuleReady ms f.1 (recursion_from_All IsModuleReady ms filled) (number_from 1 ms f at_f).1).alternatives)
           a.rule_in
       go (in_prelude a) = ltb-true 0 (length d.rule.alternatives) (tested_in (λ (r : Rule). nat_lt 0 (length r.alternatives)) (prelude_rules p) d.rule (prelude_filled p) a.rule_in)
 
@@ -569,7 +572,7 @@ module _ (p : Bool) (ms : List Module) (j : Joined) (none : join_faults p ms ≡
       subst (λ n. All (IsAppliedBelow n (length j.tokens) (length j.rules)) a.producers) (sym (formals_are p ms none d i outline.0 from.1 there.0 outline.1) ∙ outline.2) (producers_below d one.0 a one.2)
 
   -- a rule has the alternatives of its first definition
-  rule_filled : HaveAlternatives ms → (i : ℕ) (r : JoinedRule) → slice_get j.rules i ≡ Some r → 0 < length r.alternatives
+  rule_filled : AreModulesReady ms → (i : ℕ) (r : JoinedRule) → slice_get j.rules i ≡ Some r → 0 < length r.alternatives
   rule_filled filled i r at =
       let some = definition_filled p ms filled from.0 from.1 in
       let mine : length (alternatives_for (meanings p ms) i from.0) ≡ length from.0.rule.alternatives =
@@ -593,7 +596,7 @@ module _ (p : Bool) (ms : List Module) (j : Joined) (none : join_faults p ms ≡
       number : rule_number p ms from.0.owner from.0.rule.name ≡ Some i
       number = ap (λ (o : Outline). position (is_rule o.owner o.name) (rules p ms)) from.2 ∙ firsts_first same_rule rule_self (map outline_of (definitions p ms)) i outline.0 outline.1
 
-  rule_ready : HaveAlternatives ms → (i : ℕ) (r : JoinedRule) → slice_get j.rules i ≡ Some r → IsRuleReady (length j.tokens) (length j.rules) r
+  rule_ready : AreModulesReady ms → (i : ℕ) (r : JoinedRule) → slice_get j.rules i ≡ Some r → IsRuleReady (length j.tokens) (length j.rules) r
   rule_ready filled i r at = record {
     has_some = rule_filled filled i r at;
     heads_below = all_in (λ (a : JoinedAlternative). All (IsAppliedBelow r.formals (length j.tokens) (length j.rules)) a.producers) r.alternatives (alternative_below i r at);
@@ -636,17 +639,25 @@ module _ (p : Bool) (ms : List Module) (j : Joined) (none : join_faults p ms ≡
       let one = in_map (all_resolved (meant_by (meanings p ms) f.0.0 (formal_number []))) f.0.1.on_error (Some ks) f.2 in
       below f.0.0 [] one.0 ks one.2
 
+-- each token costs 1
+one_costs : IsCost 1
+one_costs = (omega arith, omega arith)
+
+infos_costed : (w : Meanings) (xs : List Text) → HaveCosts (map (token_info w) xs)
+infos_costed w xs = each_costs (token_info w) (λ x. one_costs) xs
+
 -- files whose rules have alternatives are in range once they are joined
-pub ready : (p : Bool) (ms : List Module) (j : Joined) → HaveAlternatives ms → Joins p ms (Ok j) → IsReady j
+pub ready : (p : Bool) (ms : List Module) (j : Joined) → AreModulesReady ms → Joins p ms (Ok j) → IsReady j
 ready p ms j filled (none, joined) = record {
-  few_tokens = subst (λ n. n ≤ 256) (sym (tokens_length p ms j none joined)) (tokens_few p ms none);
+  few_tokens = subst (λ n. n ≤ MAX_TOKENS) (sym (tokens_length p ms j none joined)) (tokens_few p ms none);
+  costs = subst HaveCosts (sym joined.tokens_are) (infos_costed (meanings p ms) (token_names ms));
   starts_below = All-from_recursion (λ s. s < length j.rules) j.starts (all_at (λ s. s < length j.rules) j.starts (start_below p ms j none joined));
   starts_distinct = starts_distinct p ms j none joined;
   on_error_below = all_in (λ actuals. All (IsAppliedBelow 0 (length j.tokens) (length j.rules)) actuals) j.on_error (actuals_below p ms j none joined);
   rules_ready = All-from_recursion (IsRuleReady (length j.tokens) (length j.rules)) j.rules (all_at (IsRuleReady (length j.tokens) (length j.rules)) j.rules (rule_ready p ms j none joined filled));
 }
 
-pub readies : (p : Bool) (ms : List Module) (r : Result Joined JoinFault) → Joins p ms r → HaveAlternatives ms → IfOk r IsReady
+pub readies : (p : Bool) (ms : List Module) (r : Result Joined JoinFault) → Joins p ms r → AreModulesReady ms → IfOk r IsReady
 readies p ms (Ok j) joins filled = ready p ms j filled joins
 readies p ms (Err e) joins filled = tt
 

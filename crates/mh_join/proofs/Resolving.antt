@@ -4,12 +4,12 @@ use Rattle.std.specs.Prelude.{is_some, option_map, option_and_then}
 use Rattle.std.specs.List.{flat_map, enumerate_from}
 use Rattle.std.proofs.lemmas.List.{map-append, take-append-drop, append-nil}
 use Rattle.std.proofs.lemmas.List.Concat.{flat_map-append}
-use Rattle.mh_reader.specs.declared.modules.Ref.{Ref}
-use Rattle.mh_reader.specs.declared.modules.Actual.{Actual}
-use Rattle.mh_reader.specs.declared.modules.Actual.TheViews.{out-Actual}
-use Rattle.mh_reader.specs.declared.modules.Actual.TheFolds.{fold_out-Actual}
-use Rattle.mh_join.specs.declared.joined.Head.{Head}
-use Rattle.mh_join.specs.declared.joined.Applied.{Applied}
+use Rattle.mh_rules.specs.declared.modules.Ref.{Ref}
+use Rattle.mh_rules.specs.declared.modules.Actual.{Actual}
+use Rattle.mh_rules.specs.declared.modules.Actual.TheViews.{out-Actual}
+use Rattle.mh_rules.specs.declared.modules.Actual.TheFolds.{fold_out-Actual}
+use Rattle.mh_rules.specs.declared.joined.Head.{Head}
+use Rattle.mh_rules.specs.declared.joined.Applied.{Applied}
 use Rattle.mh_join.specs.declared.fault.JoinFault.{JoinFault}
 use Rattle.mh_join.specs.Faults.{unless, undefined, undefined_in_actual}
 use Rattle.mh_join.specs.Joining.{all_of, applied_to, apply_step, resolved}

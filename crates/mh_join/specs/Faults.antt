@@ -4,16 +4,17 @@ use Rattle.std.specs.Prelude.{◌≡◌, ◌==◌, ◌&&◌, ◌||◌, ◌⊎◌
 use Rattle.std.specs.List.{enumerate_from, list_any, flat_map, find}
 use Rattle.std.specs.Map.{lookup}
 use Rattle.mh_grammar.specs.declared.types.Level.{Level}
-use Rattle.mh_reader.specs.declared.modules.Ref.{Ref}
-use Rattle.mh_reader.specs.declared.modules.Ref.TheVariants.{Plain, Alias}
-use Rattle.mh_reader.specs.declared.modules.Actual.{Actual}
-use Rattle.mh_reader.specs.declared.modules.Actual.TheOpen.{Actual-F}
-use Rattle.mh_reader.specs.declared.modules.Actual.TheFolds.{fold-Actual}
-use Rattle.mh_reader.specs.declared.modules.Alternative.{Alternative}
-use Rattle.mh_reader.specs.declared.modules.LevelDecl.{LevelDecl}
-use Rattle.mh_reader.specs.declared.modules.Rule.{Rule}
-use Rattle.mh_reader.specs.declared.modules.Module.{Module}
-use Rattle.mh_join.specs.declared.joined.Head.{Head}
+use Rattle.mh_rules.specs.declared.joined.TheConstants.{MAX_TOKENS}
+use Rattle.mh_rules.specs.declared.modules.Ref.{Ref}
+use Rattle.mh_rules.specs.declared.modules.Ref.TheVariants.{Plain, Alias}
+use Rattle.mh_rules.specs.declared.modules.Actual.{Actual}
+use Rattle.mh_rules.specs.declared.modules.Actual.TheOpen.{Actual-F}
+use Rattle.mh_rules.specs.declared.modules.Actual.TheFolds.{fold-Actual}
+use Rattle.mh_rules.specs.declared.modules.Alternative.{Alternative}
+use Rattle.mh_rules.specs.declared.modules.LevelDecl.{LevelDecl}
+use Rattle.mh_rules.specs.declared.modules.Rule.{Rule}
+use Rattle.mh_rules.specs.declared.modules.Module.{Module}
+use Rattle.mh_rules.specs.declared.joined.Head.{Head}
 use Rattle.mh_join.specs.declared.numbering.Outline.{Outline}
 use Rattle.mh_join.specs.declared.kinds.Kind.{Kind}
 use Rattle.mh_join.specs.declared.kinds.Kind.TheVariants as kinds
@@ -247,9 +248,9 @@ unlevelled_in_rule w r = flat_map (λ a. unlevelled w a.prec) r.alternatives
 abbrev pub unlevelled_in_file : Meanings → Module → List JoinFault
 unlevelled_in_file w m = flat_map (unlevelled_in_rule w) m.rules
 
--- a grammar has at most 256 tokens
+-- a grammar does not have too many tokens
 abbrev pub many_tokens : ℕ → List JoinFault
-many_tokens n = unless (not (nat_lt 256 n)) (faults.TooManyTokens n)
+many_tokens n = unless (not (nat_lt MAX_TOKENS n)) (faults.TooManyTokens n)
 
 -- ALL, IN THE ORDER OF WORK
 

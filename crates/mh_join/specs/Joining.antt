@@ -3,19 +3,19 @@ use Rattle.std.specs.Prelude.{◌≡◌, ◌==◌, ◌⊎◌, ℕ, if◌then◌e
 use Rattle.std.specs.List.{enumerate_from, flat_map}
 use Rattle.mh_grammar.specs.declared.types.Level.{Level}
 use Rattle.mh_grammar.specs.declared.types.TokenInfo.{TokenInfo}
-use Rattle.mh_reader.specs.declared.modules.Ref.{Ref}
-use Rattle.mh_reader.specs.declared.modules.Actual.{Actual}
-use Rattle.mh_reader.specs.declared.modules.Actual.TheOpen.{Actual-F}
-use Rattle.mh_reader.specs.declared.modules.Actual.TheFolds.{fold-Actual}
-use Rattle.mh_reader.specs.declared.modules.Alternative.{Alternative}
-use Rattle.mh_reader.specs.declared.modules.Module.{Module}
-use Rattle.mh_join.specs.declared.joined.Head.{Head}
-use Rattle.mh_join.specs.declared.joined.Applied.{Applied, roll-Applied}
-use Rattle.mh_join.specs.declared.joined.Prec.{Prec}
-use Rattle.mh_join.specs.declared.joined.Prec.TheVariants as precs
-use Rattle.mh_join.specs.declared.joined.JoinedAlternative.{JoinedAlternative}
-use Rattle.mh_join.specs.declared.joined.JoinedRule.{JoinedRule}
-use Rattle.mh_join.specs.declared.joined.Joined.{Joined}
+use Rattle.mh_rules.specs.declared.modules.Ref.{Ref}
+use Rattle.mh_rules.specs.declared.modules.Actual.{Actual}
+use Rattle.mh_rules.specs.declared.modules.Actual.TheOpen.{Actual-F}
+use Rattle.mh_rules.specs.declared.modules.Actual.TheFolds.{fold-Actual}
+use Rattle.mh_rules.specs.declared.modules.Alternative.{Alternative}
+use Rattle.mh_rules.specs.declared.modules.Module.{Module}
+use Rattle.mh_rules.specs.declared.joined.Head.{Head}
+use Rattle.mh_rules.specs.declared.joined.Applied.{Applied, roll-Applied}
+use Rattle.mh_rules.specs.declared.joined.Prec.{Prec}
+use Rattle.mh_rules.specs.declared.joined.Prec.TheVariants as precs
+use Rattle.mh_rules.specs.declared.joined.JoinedAlternative.{JoinedAlternative}
+use Rattle.mh_rules.specs.declared.joined.JoinedRule.{JoinedRule}
+use Rattle.mh_rules.specs.declared.joined.Joined.{Joined}
 use Rattle.mh_join.specs.declared.numbering.Outline.{Outline}
 use Rattle.mh_join.specs.declared.fault.JoinFault.{JoinFault}
 use Rattle.mh_join.specs.declared.fault.JoinFault.TheVariants as faults

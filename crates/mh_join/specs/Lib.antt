@@ -8,4 +8,3 @@ pub mod Once
 pub mod Maps
 pub mod Joining
 pub mod Standing
-pub mod Ready

@@ -4,7 +4,7 @@ use Rattle.indexmap.specs.IndexMap.{get}
 use Rattle.indexmap.specs.IndexSet.{contains, index_of}
 use Rattle.std.specs.HashMap.{HashMap}
 use Rattle.std.specs.HashSet.{HashSet}
-use Rattle.mh_reader.specs.declared.modules.Module.{Module}
+use Rattle.mh_rules.specs.declared.modules.Module.{Module}
 use Rattle.mh_join.specs.declared.names.Names.{Names}
 use Rattle.mh_join.specs.Names.{Text, same, Numbers, is_elsewhere, rules}
 use Rattle.mh_join.specs.Faults.{Meanings, meanings}

@@ -2,11 +2,11 @@
 -- project's profile.
 use Rattle.std.specs.Prelude.{ℕ, codes, List, [], ◌∷◌, ◌++◌, map, None, Bool, true, false}
 use Prim.Native.String.{String}
-use Rattle.mh_reader.specs.declared.modules.Ref.TheVariants.{Plain}
-use Rattle.mh_reader.specs.declared.modules.Actual.{Actual}
-use Rattle.mh_reader.specs.declared.modules.Alternative.{Alternative}
-use Rattle.mh_reader.specs.declared.modules.Rule.{Rule}
-use Rattle.mh_reader.specs.Spelling.{applied, alternative}
+use Rattle.mh_rules.specs.declared.modules.Ref.TheVariants.{Plain}
+use Rattle.mh_rules.specs.declared.modules.Actual.{Actual}
+use Rattle.mh_rules.specs.declared.modules.Alternative.{Alternative}
+use Rattle.mh_rules.specs.declared.modules.Rule.{Rule}
+use Rattle.mh_rules.specs.Modules.{applied, alternative}
 
 -- a name applied to actual arguments
 abbrev pub call : List ℕ → List Actual → Actual

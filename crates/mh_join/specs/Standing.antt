@@ -1,12 +1,13 @@
 -- What is asked before files are put together: that everything in their rules stands for something, `error` too.
 use Rattle.std.specs.Prelude.{◌≡◌, ◌≤◌, ◌++◌, [], ℕ, length, false, List, map, Option, Some, slice_get}
 use Rattle.std.specs.List.{flat_map}
-use Rattle.mh_reader.specs.declared.modules.Ref.{Ref}
-use Rattle.mh_reader.specs.declared.modules.Alternative.{Alternative}
-use Rattle.mh_reader.specs.declared.modules.Rule.{Rule}
-use Rattle.mh_reader.specs.declared.modules.Module.{Module}
-use Rattle.mh_join.specs.declared.joined.Head.{Head}
-use Rattle.mh_join.specs.declared.joined.JoinedRule.{JoinedRule}
+use Rattle.mh_rules.specs.declared.joined.TheConstants.{MAX_TOKENS}
+use Rattle.mh_rules.specs.declared.modules.Ref.{Ref}
+use Rattle.mh_rules.specs.declared.modules.Alternative.{Alternative}
+use Rattle.mh_rules.specs.declared.modules.Rule.{Rule}
+use Rattle.mh_rules.specs.declared.modules.Module.{Module}
+use Rattle.mh_rules.specs.declared.joined.Head.{Head}
+use Rattle.mh_rules.specs.declared.joined.JoinedRule.{JoinedRule}
 use Rattle.mh_join.specs.declared.fault.JoinFault.{JoinFault}
 use Rattle.mh_join.specs.Names.{Definition, files, formal_number, definitions_in, library_definitions}
 use Rattle.mh_join.specs.Faults.{Meanings, meant_by, undefined_in_actual, undefined_in_on_error, undefined_start}
@@ -36,7 +37,7 @@ unresolved_on_error w f = flat_map (undefined_in_on_error (meant_by w f.0 (forma
 
 -- nothing is in the way of joining these files
 pub record CanJoin (n : Names) (ms : List Module) (library : List Rule) : Type 0 where
-  pub few : length n.tokens.keys ≤ 256
+  pub few : length n.tokens.keys ≤ MAX_TOKENS
   pub starts : flat_map (undefined_start (meanings_in n)) (meanings_in n).starts ≡ []
   pub on_error : flat_map (unresolved_on_error (meanings_in n)) (files ms) ≡ []
   pub rules : flat_map (unresolved_in_file (meanings_in n)) (files ms) ≡ []

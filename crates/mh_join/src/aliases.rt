@@ -10,7 +10,7 @@ ghost use Rattle.mh_join.specs.Puts.{Puts};
 use crate::maps::put_first;
 use indexmap::IndexMap;
 use mh_grammar::{Memory, Name};
-use mh_reader::{Module, Ref, TokenDecl};
+use mh_rules::{Module, Ref, TokenDecl};
 use std::alloc::Global;
 
 /// Each alias with the name of its first token.

@@ -10,12 +10,14 @@ ghost use Rattle.mh_join.specs.Standing.{unresolved, unresolved_in_rule, unresol
 
 use crate::aliases::name_by;
 use crate::formals::{Formals, formals_of};
-use crate::joined::{Applied, JoinedAlternative, JoinedRule, Prec};
 use crate::names::Names;
 use crate::numbering::{marked_public, owner_in};
 use crate::printing::printed;
 use mh_grammar::{Level, Memory, Name, Sequence, TokenInfo};
-use mh_reader::{Actual, Alternative, Module, Ref, Rule};
+use mh_rules::{
+    Actual, Alternative, Applied, JoinedAlternative, JoinedRule, MAX_TOKENS, Module, Prec, Ref,
+    Rule,
+};
 use std::alloc::Global;
 
 /// An actual with its names resolved.
@@ -27,7 +29,7 @@ fn joined_actual(
     formals: &Formals,
     actual: &Actual,
 ) -> Result<Applied, Memory>
-    requires few { length names.now.tokens.keys ≤ 256 }
+    requires few { length names.now.tokens.keys ≤ MAX_TOKENS }
     requires stand { undefined_in_actual false
         (meant_by (meanings_in names.now) file (formals_in formals.now)) actual.now
         ≡ [] }
@@ -48,7 +50,7 @@ fn joined_actuals(
     formals: &Formals,
     actuals: &[Actual],
 ) -> Result<Sequence<Applied>, Memory>
-    requires few { length names.now.tokens.keys ≤ 256 }
+    requires few { length names.now.tokens.keys ≤ MAX_TOKENS }
     requires stand { flat_map
         (undefined_in_actual false (meant_by (meanings_in names.now) file (formals_in formals.now)))
         actuals.now
@@ -127,7 +129,7 @@ fn add_on_error(
     declared: &[Sequence<Actual>],
     joined: &mut Sequence<Sequence<Applied>>,
 ) -> Result<(), Memory>
-    requires few { length names.now.tokens.keys ≤ 256 }
+    requires few { length names.now.tokens.keys ≤ MAX_TOKENS }
     requires stand { flat_map
         (undefined_in_on_error (meant_by (meanings_in names.now) file (formals_in none.now)))
         declared.now
@@ -148,7 +150,7 @@ pub(crate) fn joined_on_error(
     names: &Names,
     modules: &[Module],
 ) -> Result<Sequence<Sequence<Applied>>, Memory>
-    requires few { length names.now.tokens.keys ≤ 256 }
+    requires few { length names.now.tokens.keys ≤ MAX_TOKENS }
     requires stand { flat_map (unresolved_on_error (meanings_in names.now)) (files modules.now) ≡ [] }
     ensures { IfOk result
         (λ joined. map Some joined ≡ flat_map (on_error_in (meanings_in names.now)) (files modules.now)) }
@@ -170,7 +172,7 @@ fn joined_alternative(
     place: u64,
     alternative: &Alternative,
 ) -> Result<JoinedAlternative, Memory>
-    requires few { length names.now.tokens.keys ≤ 256 }
+    requires few { length names.now.tokens.keys ≤ MAX_TOKENS }
     requires stand { unresolved (meant_by (meanings_in names.now) file (formals_in formals.now)) alternative.now ≡ [] }
     ensures { IfOk result (λ a. Some a
         ≡ alternative_by (meanings_in names.now) file
@@ -199,7 +201,7 @@ fn add_alternatives(
     alternatives: &[Alternative],
     joined: &mut Sequence<JoinedAlternative>,
 ) -> Result<(), Memory>
-    requires few { length names.now.tokens.keys ≤ 256 }
+    requires few { length names.now.tokens.keys ≤ MAX_TOKENS }
     requires fits { place + length alternatives.now < 2 ^ 64 }
     requires stand { flat_map
         (unresolved (meant_by (meanings_in names.now) file (formals_in formals.now))) alternatives.now
@@ -227,7 +229,7 @@ fn add_definition(
     rule: &Rule,
     joined: &mut Sequence<JoinedAlternative>,
 ) -> Result<(), Memory>
-    requires few { length names.now.tokens.keys ≤ 256 }
+    requires few { length names.now.tokens.keys ≤ MAX_TOKENS }
     requires fits { place + length rule.now.alternatives < 2 ^ 64 }
     requires stand { unresolved_in_rule (meanings_in names.now) file rule.now ≡ [] }
     ensures { OnOk result (map Some joined.new
@@ -252,7 +254,7 @@ fn add_rule(
     rule: &Rule,
     joined: &mut [JoinedRule],
 ) -> Result<(), Memory>
-    requires few { length names.now.tokens.keys ≤ 256 }
+    requires few { length names.now.tokens.keys ≤ MAX_TOKENS }
     requires fits { place + length rule.now.alternatives < 2 ^ 64 }
     requires stand { unresolved_in_rule (meanings_in names.now) file rule.now ≡ [] }
     ensures { OnOk result (Adds (meanings_in names.now)
@@ -289,7 +291,7 @@ fn add_file(
     rules: &[Rule],
     joined: &mut [JoinedRule],
 ) -> Result<(), Memory>
-    requires few { length names.now.tokens.keys ≤ 256 }
+    requires few { length names.now.tokens.keys ≤ MAX_TOKENS }
     requires stand { unresolved_in_rules (meanings_in names.now) file rules.now ≡ [] }
     ensures { OnOk result (Adds (meanings_in names.now)
         (definitions_from (names_spec.owner_in names.now.starts.keys file rules.now) file 0
@@ -314,7 +316,7 @@ fn add_prelude(
     rules: &[Rule],
     joined: &mut [JoinedRule],
 ) -> Result<(), Memory>
-    requires few { length names.now.tokens.keys ≤ 256 }
+    requires few { length names.now.tokens.keys ≤ MAX_TOKENS }
     requires stand { unresolved_in_rules (meanings_in names.now) 0 rules.now ≡ [] }
     ensures { OnOk result
         (Adds (meanings_in names.now) (names_spec.library_definitions rules.now) joined.old joined.new) }
@@ -351,7 +353,7 @@ fn add_files(
     modules: &[Module],
     joined: &mut [JoinedRule],
 ) -> Result<(), Memory>
-    requires few { length names.now.tokens.keys ≤ 256 }
+    requires few { length names.now.tokens.keys ≤ MAX_TOKENS }
     requires stand { flat_map (unresolved_in_file (meanings_in names.now)) (files modules.now) ≡ [] }
     ensures { OnOk result (Adds (meanings_in names.now)
         (flat_map (definitions_in names.now.starts.keys) (files modules.now)) joined.old joined.new) }
@@ -370,7 +372,7 @@ fn add_all(
     library: &[Rule],
     joined: &mut [JoinedRule],
 ) -> Result<(), Memory>
-    requires few { length names.now.tokens.keys ≤ 256 }
+    requires few { length names.now.tokens.keys ≤ MAX_TOKENS }
     requires stand { flat_map (unresolved_in_file (meanings_in names.now)) (files modules.now) ≡ [] }
     requires library_stands { unresolved_in_rules (meanings_in names.now) 0 library.now ≡ [] }
     ensures { OnOk result
@@ -389,7 +391,7 @@ pub(crate) fn joined_rules(
     modules: &[Module],
     library: &[Rule],
 ) -> Result<Sequence<JoinedRule>, Memory>
-    requires few { length names.now.tokens.keys ≤ 256 }
+    requires few { length names.now.tokens.keys ≤ MAX_TOKENS }
     requires stand { flat_map (unresolved_in_file (meanings_in names.now)) (files modules.now) ≡ [] }
     requires library_stands { unresolved_in_rules (meanings_in names.now) 0 library.now ≡ [] }
     ensures { IfOk result

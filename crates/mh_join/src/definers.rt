@@ -7,7 +7,7 @@ ghost use Rattle.mh_join.specs.Definers.{elsewhere_by, Defines};
 
 use indexmap::IndexMap;
 use mh_grammar::{Memory, Name};
-use mh_reader::{Module, Rule};
+use mh_rules::{Module, Rule};
 use std::alloc::Global;
 
 /// The files that define a rule of one name.

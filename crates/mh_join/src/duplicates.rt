@@ -16,7 +16,7 @@ use crate::names::Names;
 use crate::numbering::{Outline, is_public, marked_public};
 use indexmap::IndexSet;
 use mh_grammar::{Level, Name};
-use mh_reader::{LevelDecl, Module, Ref, Rule, TokenDecl};
+use mh_rules::{LevelDecl, Module, Ref, Rule, TokenDecl};
 use std::alloc::Global;
 
 /// Refuses a name, unless it agrees with what came first.

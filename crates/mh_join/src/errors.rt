@@ -9,11 +9,8 @@ use crate::fault::JoinFault;
 use crate::names::Names;
 use crate::undefined::{check_undefined, is_error};
 use mh_grammar::Name;
-use mh_reader::{Actual, Module, Ref, Rule};
+use mh_rules::{Actual, MAX_TOKENS, Module, Ref, Rule};
 use std::alloc::Global;
-
-/// No grammar has more tokens.
-const MAX_TOKENS: usize = 256;
 
 fn check_start(names: &Names) -> Result<(), JoinFault>
     ensures { Finds (unless (has_some (meanings_in names.now).starts) JoinFault.NoStart) result }

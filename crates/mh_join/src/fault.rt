@@ -25,7 +25,7 @@ pub enum JoinFault {
     /// The name behind a `%prec` is no token and has no level.
     #[error("unknown level")]
     UnknownLevel { name: Name },
-    /// The files declare so many tokens of different names, more than 256.
+    /// The files declare so many tokens of different names, more than 512.
     #[error("too many tokens: {count}")]
     TooManyTokens { count: u64 },
     /// Memory ran out.

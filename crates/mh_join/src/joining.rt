@@ -3,17 +3,16 @@ ghost use Rattle.std.specs.Prelude.{◌≡◌, IfOk};
 ghost use Rattle.mh_join.specs.Joining.{IsJoinedBy, Joins};
 ghost use Rattle.mh_join.specs.Maps.{meanings_in, elsewhere_in, HasMeanings};
 ghost use Rattle.mh_join.specs.Prelude as spec;
-ghost use Rattle.mh_join.specs.Ready.{HaveAlternatives, IsReady};
+ghost use Rattle.mh_rules.specs.Ready.{AreModulesReady, IsReady};
 ghost use Rattle.mh_join.specs.Standing.{CanJoin, definitions_by};
 
 use crate::building::{joined_on_error, joined_rules, joined_starts, joined_tokens};
 use crate::errors::check;
 use crate::fault::JoinFault;
-use crate::joined::Joined;
 use crate::names::Names;
 use crate::prelude::prelude_rules;
 use mh_grammar::Memory;
-use mh_reader::{Module, Rule};
+use mh_rules::{Joined, Module, Rule};
 use std::alloc::Global;
 
 /// The files joined, where nothing is in the way.
@@ -61,6 +60,22 @@ fn join_named(
     }
 }
 
+/// Joins files with this prelude.
+fn join_with(
+    alloc: Global,
+    modules: &[Module],
+    prelude: bool,
+    library: &[Rule],
+) -> Result<Joined, JoinFault>
+    requires { library.now ≡ spec.prelude_rules prelude }
+    ensures { Joins prelude modules.now result }
+{
+    match Names::of(alloc, modules, prelude, library) {
+        Ok(names) => join_named(alloc, &names, modules, prelude, library),
+        Err(_) => Err(JoinFault::Memory),
+    }
+}
+
 /// Joins the files of a grammar. Tokens of all files are shared and numbered in order of first declaration. A rule is
 /// public where it is marked so, or its name is a start symbol of any file, or another definition of its name in the
 /// file is public; public definitions of one name are joined, and other rules are their file's own. A name in a file
@@ -70,17 +85,14 @@ fn join_named(
 /// with `@` and the number of its file, and a rule of the prelude whose name a file defines with `@0`. With `prelude` false
 /// there is no prelude. Answers the first fault
 /// where there is one: all names and strings stand for something; nothing has two meanings; some start symbol is named;
-/// no rule speaks of `error`; each `%prec` is of a token or has a level; there are at most 256 tokens. Answers `Memory`
+/// no rule speaks of `error`; each `%prec` is of a token or has a level; there are at most 512 tokens. Answers `Memory`
 /// only where memory runs out. (The Menhir manual on grammars split into files; this project's profile.)
 pub fn join(alloc: Global, modules: &[Module], prelude: bool) -> Result<Joined, JoinFault>
     ensures joins { Joins prelude modules.now result }
-    ensures ready { HaveAlternatives modules.now → IfOk result IsReady }
+    ensures ready { AreModulesReady modules.now → IfOk result IsReady }
 {
-    let Ok(library) = prelude_rules(alloc, prelude) else {
-        return Err(JoinFault::Memory);
-    };
-    let Ok(names) = Names::of(alloc, modules, prelude, library.as_slice()) else {
-        return Err(JoinFault::Memory);
-    };
-    join_named(alloc, &names, modules, prelude, library.as_slice())
+    match prelude_rules(alloc, prelude) {
+        Ok(library) => join_with(alloc, modules, prelude, library.as_slice()),
+        Err(_) => Err(JoinFault::Memory),
+    }
 }

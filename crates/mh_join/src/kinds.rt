@@ -9,7 +9,7 @@ ghost use Rattle.mh_join.specs.Puts.{Puts};
 use crate::maps::put_first;
 use indexmap::IndexMap;
 use mh_grammar::{Memory, Name};
-use mh_reader::{Module, Rule, TokenDecl};
+use mh_rules::{Module, Rule, TokenDecl};
 use std::alloc::Global;
 
 #[derive(Clone, Copy, Debug, PartialEq, Eq)]

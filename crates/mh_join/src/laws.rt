@@ -3,8 +3,7 @@ ghost use Rattle.std.specs.Prelude.{◌≡◌, ◌≢◌, Err, Ok};
 ghost use Rattle.mh_join.specs.Joining.{Joins};
 
 use crate::fault::JoinFault;
-use crate::joined::Joined;
-use mh_reader::Module;
+use mh_rules::{Joined, Module};
 
 /// The files of a grammar are joined in one way.
 pub fn is_one_joined(prelude: bool, modules: &[Module], left: &Joined, right: &Joined)

@@ -11,7 +11,7 @@ use crate::aliases::{Aliases, name_by};
 use crate::maps::put_first;
 use indexmap::IndexMap;
 use mh_grammar::{Level, Memory, Name};
-use mh_reader::{LevelDecl, Module, Ref};
+use mh_rules::{LevelDecl, Module, Ref};
 use std::alloc::Global;
 
 /// Each name with its first level.

@@ -8,7 +8,6 @@ mod duplicates;
 mod errors;
 mod fault;
 mod formals;
-mod joined;
 mod joining;
 mod kinds;
 mod laws;
@@ -18,12 +17,11 @@ mod names;
 mod numbering;
 mod prelude;
 mod printing;
-#[cfg(test)]
-mod tests;
 mod tokens;
 mod undefined;
 
 pub use fault::JoinFault;
-pub use joined::{Applied, Head, Joined, JoinedAlternative, JoinedRule, Prec};
 pub use joining::join;
 pub use laws::{is_joined_or_fault, is_one_fault, is_one_joined};
+pub use mh_rules::{Applied, Head, Joined, JoinedAlternative, JoinedRule, Prec};
+pub use prelude::prelude_rules;

@@ -9,14 +9,13 @@ ghost use Rattle.mh_join.specs.Maps.{numbers_in, meanings_in, elsewhere_in, form
 use crate::aliases::{Aliases, aliases_of};
 use crate::definers::{Definers, DefinersOf, definers_of};
 use crate::formals::Formals;
-use crate::joined::Head;
 use crate::kinds::{Kinds, kinds_of};
 use crate::levels::{Levels, levels_of};
 use crate::numbering::Numbering;
 use crate::tokens::{start_names, token_names};
 use indexmap::IndexSet;
 use mh_grammar::{Memory, Name, Token};
-use mh_reader::{Module, Ref, Rule};
+use mh_rules::{Head, MAX_TOKENS, Module, Ref, Rule};
 use std::alloc::Global;
 
 /// What the names of all files stand for. Files count from 1, and the prelude is file 0.
@@ -126,7 +125,7 @@ impl Names {
     }
 
     fn token_head(&self, name: &Name) -> Option<Head>
-        requires { length self.now.tokens.keys ≤ 256 }
+        requires { length self.now.tokens.keys ≤ MAX_TOKENS }
         ensures { result ≡ spec.token_head (numbers_in self.now) name.now }
     {
         match self.tokens.get_index_of(name) {
@@ -136,7 +135,7 @@ impl Names {
     }
 
     fn user_head(&self, file: u64, name: &Name) -> Option<Head>
-        requires { length self.now.tokens.keys ≤ 256 }
+        requires { length self.now.tokens.keys ≤ MAX_TOKENS }
         ensures { result ≡ user_head (numbers_in self.now) file name.now }
     {
         if let Some(head) = self.token_head(name) {
@@ -149,7 +148,7 @@ impl Names {
     }
 
     fn visible_head(&self, file: u64, name: &Name) -> Option<Head>
-        requires { length self.now.tokens.keys ≤ 256 }
+        requires { length self.now.tokens.keys ≤ MAX_TOKENS }
         ensures { result ≡ visible_head (numbers_in self.now) file name.now }
     {
         if file == 0 {
@@ -160,7 +159,7 @@ impl Names {
     }
 
     fn head_of_name(&self, file: u64, formals: &Formals, name: &Name) -> Option<Head>
-        requires { length self.now.tokens.keys ≤ 256 }
+        requires { length self.now.tokens.keys ≤ MAX_TOKENS }
         ensures { result ≡ spec.head_of_name (numbers_in self.now) file (formals_in formals.now) name.now }
     {
         if let Some(number) = formals.get(name) {
@@ -174,7 +173,7 @@ impl Names {
 
     /// What a name or string of a file stands for, in a rule with these formals.
     pub(crate) fn head_of(&self, file: u64, formals: &Formals, reference: &Ref) -> Option<Head>
-        requires { length self.now.tokens.keys ≤ 256 }
+        requires { length self.now.tokens.keys ≤ MAX_TOKENS }
         ensures { result ≡ meant_by (meanings_in self.now) file (formals_in formals.now) reference.now }
     {
         match reference {

@@ -9,7 +9,7 @@ ghost use Rattle.mh_join.specs.Numbering.{number_in, outline_by, outline_in, out
 use crate::maps::{put_first, put_name};
 use indexmap::{IndexMap, IndexSet};
 use mh_grammar::{Memory, Name};
-use mh_reader::{Module, Rule};
+use mh_rules::{Module, Rule};
 use std::alloc::Global;
 
 /// What a rule is like by its first definition.

@@ -1,10 +1,10 @@
 //! The standard library of rules.
-ghost use Rattle.std.specs.Prelude.{◌≡◌, ◌∷◌, ◌++◌, [], codes, map, true, IfOk, OnOk};
+ghost use Rattle.std.specs.Prelude.{◌≡◌, ◌∷◌, ◌++◌, [], codes, map, true, false, IfOk, OnOk};
 ghost use Rattle.mh_join.specs.Prelude as spec;
 ghost use Rattle.mh_join.specs.Prelude.{plain, rule_of, in_order, list_rule, nonempty_list_rule, separated_items, separated_list_rule, separated_nonempty_list_rule, option_rules, pair_rules, list_rules, other_rules};
 
 use mh_grammar::{Memory, Name, Sequence, from_bytes};
-use mh_reader::{Actual, Alternative, Ref, Rule};
+use mh_rules::{Actual, Alternative, Ref, Rule};
 use std::alloc::Global;
 
 /// A name applied to actual arguments.
@@ -70,37 +70,50 @@ fn with_alternative(rule: Rule, producers: Sequence<Actual>) -> Result<Rule, Mem
     Ok(rule)
 }
 
+/// A rule that may be nothing.
+fn empty(alloc: Global, inlined: bool, name: &str) -> Result<Rule, Memory>
+    ensures { IfOk result (λ r. r ≡ rule_of inlined name.now (spec.texts ("X" ∷ [])) (plain [] ∷ [])) }
+{
+    with_alternative(rule(alloc, inlined, name, &["X"])?, Sequence::new(alloc))
+}
+
 /// Nothing, or the formal.
 fn optional(alloc: Global, inlined: bool, name: &str) -> Result<Rule, Memory>
     ensures { IfOk result (λ r. r ≡ spec.optional inlined name.now) }
 {
-    let empty = with_alternative(rule(alloc, inlined, name, &["X"])?, Sequence::new(alloc))?;
-    with_alternative(empty, words(alloc, &["X"])?)
+    let formal = words(alloc, &["X"])?;
+    with_alternative(empty(alloc, inlined, name)?, formal)
 }
 
 /// The formals in order.
 fn in_order(alloc: Global, inlined: bool, name: &str, formals: &[&str]) -> Result<Rule, Memory>
     ensures { IfOk result (λ r. r ≡ in_order inlined name.now (map (λ n. n.now) formals.now)) }
 {
-    with_alternative(rule(alloc, inlined, name, formals)?, words(alloc, formals)?)
+    let producers = words(alloc, formals)?;
+    with_alternative(rule(alloc, inlined, name, formals)?, producers)
+}
+
+/// Names, and an actual behind them.
+fn words_before(alloc: Global, names: &[&str], last: Actual) -> Result<Sequence<Actual>, Memory>
+    ensures { IfOk result (λ all. all ≡ spec.words (map (λ n. n.now) names.now) ++ last ∷ []) }
+{
+    let mut all = words(alloc, names)?;
+    all.push(last)?;
+    Ok(all)
 }
 
 fn list(alloc: Global) -> Result<Rule, Memory>
     ensures { IfOk result (λ r. r ≡ list_rule) }
 {
-    let empty = with_alternative(rule(alloc, false, "list", &["X"])?, Sequence::new(alloc))?;
-    let mut more = words(alloc, &["X"])?;
-    more.push(applied(alloc, "list", &["X"])?)?;
-    with_alternative(empty, more)
+    let more = words_before(alloc, &["X"], applied(alloc, "list", &["X"])?)?;
+    with_alternative(empty(alloc, false, "list")?, more)
 }
 
 fn nonempty_list(alloc: Global) -> Result<Rule, Memory>
     ensures { IfOk result (λ r. r ≡ nonempty_list_rule) }
 {
-    let one = in_order(alloc, false, "nonempty_list", &["X"])?;
-    let mut more = words(alloc, &["X"])?;
-    more.push(applied(alloc, "nonempty_list", &["X"])?)?;
-    with_alternative(one, more)
+    let more = words_before(alloc, &["X"], applied(alloc, "nonempty_list", &["X"])?)?;
+    with_alternative(in_order(alloc, false, "nonempty_list", &["X"])?, more)
 }
 
 fn separated_items(alloc: Global) -> Result<Actual, Memory>
@@ -112,26 +125,32 @@ fn separated_items(alloc: Global) -> Result<Actual, Memory>
 fn separated_list(alloc: Global) -> Result<Rule, Memory>
     ensures { IfOk result (λ r. r ≡ separated_list_rule) }
 {
-    let mut args = Sequence::new(alloc);
-    args.push(separated_items(alloc)?)?;
-    let mut producers = Sequence::new(alloc);
-    producers.push(call(alloc, "loption", args)?)?;
+    let args = words_before(alloc, &[], separated_items(alloc)?)?;
+    let producers = words_before(alloc, &[], call(alloc, "loption", args)?)?;
     with_alternative(
         rule(alloc, true, "separated_list", &["separator", "X"])?,
         producers,
     )
 }
 
+/// The rule of separated items before it says that there may be more.
+fn one_or_more(alloc: Global) -> Result<Rule, Memory>
+    ensures { IfOk result (λ r. r ≡ rule_of false (codes "separated_nonempty_list")
+        (spec.texts ("separator" ∷ "X" ∷ [])) (plain (spec.words (spec.texts ("X" ∷ []))) ∷ [])) }
+{
+    let one = words(alloc, &["X"])?;
+    let formals = ["separator", "X"];
+    with_alternative(
+        rule(alloc, false, "separated_nonempty_list", &formals)?,
+        one,
+    )
+}
+
 fn separated_nonempty_list(alloc: Global) -> Result<Rule, Memory>
     ensures { IfOk result (λ r. r ≡ separated_nonempty_list_rule) }
 {
-    let one = with_alternative(
-        rule(alloc, false, "separated_nonempty_list", &["separator", "X"])?,
-        words(alloc, &["X"])?,
-    )?;
-    let mut more = words(alloc, &["X", "separator"])?;
-    more.push(separated_items(alloc)?)?;
-    with_alternative(one, more)
+    let more = words_before(alloc, &["X", "separator"], separated_items(alloc)?)?;
+    with_alternative(one_or_more(alloc)?, more)
 }
 
 fn add_options(alloc: Global, rules: &mut Sequence<Rule>) -> Result<(), Memory>
@@ -178,7 +197,7 @@ fn add_others(alloc: Global, rules: &mut Sequence<Rule>) -> Result<(), Memory>
 
 #[tactic(auto, unfolding(crate::specs::Prelude::prelude_rules))]
 /// The prelude's rules, or none where it is left out. (The Menhir manual's standard library.)
-pub(crate) fn prelude_rules(alloc: Global, with: bool) -> Result<Sequence<Rule>, Memory>
+pub fn prelude_rules(alloc: Global, with: bool) -> Result<Sequence<Rule>, Memory>
     ensures { IfOk result (λ rules. rules ≡ spec.prelude_rules with) }
 {
     let mut rules = Sequence::new(alloc);

@@ -7,7 +7,7 @@ ghost use Rattle.mh_join.specs.Names.{same};
 use crate::maps::put_name;
 use indexmap::IndexSet;
 use mh_grammar::{Memory, Name};
-use mh_reader::{Module, TokenDecl};
+use mh_rules::{Module, TokenDecl};
 use std::alloc::Global;
 
 fn add_tokens(names: &mut IndexSet<Name>, tokens: &[TokenDecl]) -> Result<(), Memory>

@@ -10,7 +10,7 @@ use crate::fault::JoinFault;
 use crate::formals::{Formals, formals_of};
 use crate::names::Names;
 use mh_grammar::{Name, Sequence};
-use mh_reader::{Actual, Alternative, LevelDecl, Module, Ref, Rule};
+use mh_rules::{Actual, Alternative, LevelDecl, Module, Ref, Rule};
 use std::alloc::Global;
 
 /// Refuses a name, unless the test passes.

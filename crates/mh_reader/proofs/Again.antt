@@ -3,13 +3,13 @@ use Rattle.std.proofs.Math.Nat.{le-max_left, le-max_right}
 use Rattle.std.proofs.lemmas.Bool.{le-leb}
 use Rattle.std.proofs.Common.{◌≡◌, ◌≤◌, ◌+◌, ℕ, suc, max, List, [], ◌∷◌, ◌++◌, length, map, Option, Some, None, Bool, true, false, refl, sym, ap, ◌∙◌, arith}
 use Rattle.mh_grammar.specs.declared.types.Assoc.{Assoc}
-use Rattle.mh_reader.specs.declared.modules.Ref.{Ref}
-use Rattle.mh_reader.specs.declared.modules.Ref.TheVariants.{Plain, Alias}
-use Rattle.mh_reader.specs.declared.modules.Actual.{Actual}
-use Rattle.mh_reader.specs.declared.modules.Alternative.{Alternative}
-use Rattle.mh_reader.specs.declared.modules.Rule.{Rule}
-use Rattle.mh_reader.specs.declared.modules.TokenDecl.{TokenDecl}
-use Rattle.mh_reader.specs.declared.modules.Module.{Module}
+use Rattle.mh_rules.specs.declared.modules.Ref.{Ref}
+use Rattle.mh_rules.specs.declared.modules.Ref.TheVariants.{Plain, Alias}
+use Rattle.mh_rules.specs.declared.modules.Actual.{Actual}
+use Rattle.mh_rules.specs.declared.modules.Alternative.{Alternative}
+use Rattle.mh_rules.specs.declared.modules.Rule.{Rule}
+use Rattle.mh_rules.specs.declared.modules.TokenDecl.{TokenDecl}
+use Rattle.mh_rules.specs.declared.modules.Module.{Module}
 use Rattle.mh_reader.specs.declared.signs.Sign.{Sign}
 use Rattle.mh_reader.specs.declared.signs.Sign.TheVariants as signs
 use Rattle.mh_reader.specs.declared.places.Pending.{Pending}
@@ -23,7 +23,8 @@ use Rattle.mh_reader.specs.declared.places.Place.TheVariants as places
 use Rattle.mh_reader.specs.declared.places.Reader.{Reader}
 use Rattle.mh_reader.specs.Signs.{Read, is_capital}
 use Rattle.mh_reader.specs.Spelling as spelling
-use Rattle.mh_reader.specs.Spelling.{applied, ref_by, ref_of, suffix_of, alternative, with_prec, own_or, starts_with_bar, is_bar, Suffixed, Base, Args, IsActual, Limited, ListOf, IsAlias, IsToken, IsWord, IsRef, MayType, Declaration, Semicolons, IsProducer, Producers, IsPrec, Productions, Groups, Modifiers, Formals, MayFormals, MayBar, IsRule, Rules, File}
+use Rattle.mh_rules.specs.Modules.{applied, alternative}
+use Rattle.mh_reader.specs.Spelling.{ref_by, ref_of, suffix_of, with_prec, own_or, starts_with_bar, is_bar, Suffixed, Base, Args, IsActual, Limited, ListOf, IsAlias, IsToken, IsWord, IsRef, MayType, Declaration, Semicolons, IsProducer, Producers, IsPrec, Productions, Groups, Modifiers, Formals, MayFormals, MayBar, IsRule, Rules, File}
 use Rattle.mh_reader.specs.Machine as machine
 use Rattle.mh_reader.specs.Machine.{at, next_at, finish_at, run, go_on, fits, close, with_token, named, drafted, produced, with_producer, with_argument, grouped, grouped_with, ruled}
 use Rattle.mh_reader.proofs.Heads.{IsHead, Head-along, Head-here, is_quiet, is_calm, is_firm, is_end, is_unquoted, is_untyped, is_unlevelled, is_begin, end_calm, end_unquoted, end_untyped, ref_untyped, Suffixed-quiet, Limited-calm, Producers-firm, Semicolons-calm, Semicolons-unlevelled, Prec-firm, List-head, Rules-begin, File-end}

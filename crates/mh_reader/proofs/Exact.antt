@@ -9,12 +9,12 @@ use Rattle.mh_lex.specs.declared.kinds.SyntaxFault.{SyntaxFault}
 use Rattle.mh_lex.specs.declared.kinds.SyntaxFault.TheVariants.{Syntax, Memory}
 use Rattle.mh_lex.specs.Lexing.{Lexes, line_at}
 use Rattle.mh_lex.specs.Texts.{bytes_of}
-use Rattle.mh_reader.specs.declared.modules.Ref.{Ref}
-use Rattle.mh_reader.specs.declared.modules.Actual.{Actual}
-use Rattle.mh_reader.specs.declared.modules.Module.{Module}
+use Rattle.mh_rules.specs.declared.modules.Ref.{Ref}
+use Rattle.mh_rules.specs.declared.modules.Actual.{Actual}
+use Rattle.mh_rules.specs.declared.modules.Module.{Module}
 use Rattle.mh_reader.specs.declared.signs.Sign.{Sign}
 use Rattle.mh_reader.specs.declared.signs.Sign.TheVariants as signs
-use Rattle.mh_reader.specs.declared.modules.Rule.{Rule}
+use Rattle.mh_rules.specs.declared.modules.Rule.{Rule}
 use Rattle.mh_reader.specs.declared.places.Draft.{Draft}
 use Rattle.mh_reader.specs.declared.places.Pending.{Pending}
 use Rattle.mh_reader.specs.declared.places.Listing.{Listing}
@@ -25,7 +25,8 @@ use Rattle.mh_reader.specs.declared.places.Place.{Place}
 use Rattle.mh_reader.specs.declared.places.Place.TheVariants as places
 use Rattle.mh_reader.specs.declared.places.Reader.{Reader}
 use Rattle.mh_reader.specs.Signs.{Read, reads_of, read_of, kept, sign_by, text_by}
-use Rattle.mh_reader.specs.Spelling.{applied, no_module, File, Spells, Begins}
+use Rattle.mh_rules.specs.Modules.{applied, no_module}
+use Rattle.mh_reader.specs.Spelling.{File, Spells, Begins}
 use Rattle.mh_reader.specs.Limits.{IsShallow}
 use Rattle.mh_reader.specs.Faults.{IsHalt, IsSyntaxLine, Stops, Refuses}
 use Rattle.mh_reader.specs.Faults.IsHalt.{unexpected, unfinished}

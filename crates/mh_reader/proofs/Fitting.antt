@@ -9,20 +9,21 @@ use Rattle.mh_lex.specs.declared.kinds.Lexeme.{Lexeme}
 use Rattle.mh_lex.specs.Texts as texts
 use Rattle.mh_lex.specs.Texts.{Text, is_content, HasText, IsSpelled, bytes_of, one_of}
 use Rattle.mh_lex.specs.Bytes.{byte_at, is_mark}
-use Rattle.mh_reader.specs.declared.modules.Ref.{Ref}
-use Rattle.mh_reader.specs.declared.modules.Ref.TheVariants.{Plain, Alias}
-use Rattle.mh_reader.specs.declared.modules.Actual.{Actual}
-use Rattle.mh_reader.specs.declared.modules.Actual.TheFolds.{fold-roll-Actual}
-use Rattle.mh_reader.specs.declared.modules.Alternative.{Alternative}
-use Rattle.mh_reader.specs.declared.modules.Rule.{Rule}
-use Rattle.mh_reader.specs.declared.modules.TokenDecl.{TokenDecl}
-use Rattle.mh_reader.specs.declared.modules.LevelDecl.{LevelDecl}
-use Rattle.mh_reader.specs.declared.modules.Module.{Module}
+use Rattle.mh_rules.specs.declared.modules.Ref.{Ref}
+use Rattle.mh_rules.specs.declared.modules.Ref.TheVariants.{Plain, Alias}
+use Rattle.mh_rules.specs.declared.modules.Actual.{Actual}
+use Rattle.mh_rules.specs.declared.modules.Actual.TheFolds.{fold-roll-Actual}
+use Rattle.mh_rules.specs.declared.modules.Alternative.{Alternative}
+use Rattle.mh_rules.specs.declared.modules.Rule.{Rule}
+use Rattle.mh_rules.specs.declared.modules.TokenDecl.{TokenDecl}
+use Rattle.mh_rules.specs.declared.modules.LevelDecl.{LevelDecl}
+use Rattle.mh_rules.specs.declared.modules.Module.{Module}
 use Rattle.mh_reader.specs.declared.signs.Sign.{Sign}
 use Rattle.mh_reader.specs.declared.signs.Sign.TheVariants as signs
 use Rattle.mh_reader.specs.Signs.{Read, kept, sign_by, text_by, mark_sign, keyword_sign, reads_of, read_of, is_capital}
 use Rattle.mh_reader.specs.Spelling as spelling
-use Rattle.mh_reader.specs.Spelling.{applied, ref_by, ref_of, suffix_of, with_prec, own_or, Suffixed, Base, Args, IsActual, Limited, ListOf, IsAlias, IsToken, IsWord, IsRef, MayType, Declaration, Semicolons, IsProducer, Producers, IsPrec, Productions, Groups, Modifiers, Formals, MayFormals, MayBar, IsRule, Rules, File, no_module}
+use Rattle.mh_rules.specs.Modules.{applied, alternative, no_module}
+use Rattle.mh_reader.specs.Spelling.{ref_by, ref_of, suffix_of, with_prec, own_or, Suffixed, Base, Args, IsActual, Limited, ListOf, IsAlias, IsToken, IsWord, IsRef, MayType, Declaration, Semicolons, IsProducer, Producers, IsPrec, Productions, Groups, Modifiers, Formals, MayFormals, MayBar, IsRule, Rules, File}
 use Rattle.mh_reader.specs.Printed.{Piece, mark, ref_piece, bracketed, bracket_end, actual_pieces}
 
 -- LEXEMES
@@ -261,6 +262,7 @@ pub record FitsToken (t : TokenDecl) : Type 0 where
   pub name : Text kinds.Word t.name
   pub capital : is_capital t.name ≡ true
   pub alias : FitsContent t.alias
+  pub cost : t.cost ≡ None
 
 pub record FitsAlternative (a : Alternative) : Type 0 where
   pub producers : AllByRecursion FitsActual a.producers
@@ -291,7 +293,7 @@ Alias-fits (spelling.IsAlias.given {y = y} e) h = (sign_fits y signs.Quoted e h.
 
 Token-fits : (xs rest : List Read) (t : TokenDecl) → IsToken xs rest t → AllFit xs → FitsToken t × AllFit rest
 Token-fits xs rest t (spelling.IsToken.token {x = x} e c a) h =
-    let p = Alias-fits a h.1 in (record { name = sign_fits x signs.Word e h.0; capital = c; alias = p.0 }, p.1)
+    let p = Alias-fits a h.1 in (record { name = sign_fits x signs.Word e h.0; capital = c; alias = p.0; cost = refl }, p.1)
 
 Word-fits : (xs rest : List Read) (n : List ℕ) → IsWord xs rest n → AllFit xs → Text kinds.Word n × AllFit rest
 Word-fits xs rest n (spelling.IsWord.word {x = x} e) h = (sign_fits x signs.Word e h.0, h.1)
@@ -346,10 +348,10 @@ Productions-fit : {done all : List Alternative} {xs rest : List Read} → Produc
     AllByRecursion FitsAlternative all × AllFit rest
 Productions-fit (spelling.Productions.last {done = done} {ps = ps} {p = p} b q e) h k =
     let x = Producers-fit b h tt in let y = Prec-fits q x.1 in
-    (all_more FitsAlternative done (spelling.alternative ps p) k (record { producers = x.0; prec = y.0 }), y.1.1)
+    (all_more FitsAlternative done (alternative ps p) k (record { producers = x.0; prec = y.0 }), y.1.1)
 Productions-fit (spelling.Productions.more {done = done} {ps = ps} {p = p} b q e t) h k =
     let x = Producers-fit b h tt in let y = Prec-fits q x.1 in
-    Productions-fit t y.1.1 (all_more FitsAlternative done (spelling.alternative ps p) k (record { producers = x.0; prec = y.0 }))
+    Productions-fit t y.1.1 (all_more FitsAlternative done (alternative ps p) k (record { producers = x.0; prec = y.0 }))
 
 own_fits : (g p : Option Ref) → FitsPrec g → FitsPrec p → FitsPrec (own_or g p)
 own_fits g None h k = h
@@ -377,7 +379,7 @@ map_some f [] h e = h refl
 map_some f (x ∷ xs) h e = absurd (cc)
 
 Productions-some : {done all : List Alternative} {xs rest : List Read} → Productions done xs rest all → all ≢ []
-Productions-some (spelling.Productions.last {done = done} {ps = ps} {p = p} b q e) = joined_some done (spelling.alternative ps p ∷ []) (λ e. absurd (cc))
+Productions-some (spelling.Productions.last {done = done} {ps = ps} {p = p} b q e) = joined_some done (alternative ps p ∷ []) (λ e. absurd (cc))
 Productions-some (spelling.Productions.more b q e t) = Productions-some t
 
 Groups-some : {done all : List Alternative} {xs rest : List Read} → Groups done xs rest all → all ≢ []

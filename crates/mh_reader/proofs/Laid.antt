@@ -2,8 +2,8 @@
 use Rattle.std.proofs.Common.{◌≡◌, ℕ, suc, ◌+◌, ◌<◌, List, [], ◌∷◌, ◌++◌, length, map, get_or, drop, refl, ap, sym, ◌∙◌, append_assoc, add-one, drop-cons}
 use Rattle.std.specs.List.{flat_map}
 use Rattle.mh_lex.specs.Texts.{laid}
-use Rattle.mh_reader.specs.declared.modules.Actual.{Actual, out-Actual}
-use Rattle.mh_reader.specs.declared.modules.Actual.TheFolds.{fold_out-Actual}
+use Rattle.mh_rules.specs.declared.modules.Actual.{Actual, out-Actual}
+use Rattle.mh_rules.specs.declared.modules.Actual.TheFolds.{fold_out-Actual}
 use Rattle.mh_reader.specs.Printed.{Piece, Writes, ref_piece, bracketed, actual_pieces}
 
 pub laid_joined : (ts us : List Piece) → laid (ts ++ us) ≡ laid ts ++ laid us

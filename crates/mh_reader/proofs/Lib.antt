@@ -7,3 +7,4 @@ pub mod Fitting
 pub mod Reprinted
 pub mod Lines
 pub mod Short
+pub mod Filled

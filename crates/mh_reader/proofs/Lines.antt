@@ -3,9 +3,10 @@ use Rattle.std.proofs.Common.{◌≡◌, ℕ, List, [], ◌∷◌, ◌++◌, Som
 use Rattle.mh_lex.specs.declared.kinds.Lexeme.{Lexeme}
 use Rattle.mh_lex.specs.Lexing.{line_at}
 use Rattle.mh_lex.proofs.Takes.{LexesFrom-once}
-use Rattle.mh_reader.specs.declared.modules.Module.{Module}
+use Rattle.mh_rules.specs.declared.modules.Module.{Module}
 use Rattle.mh_reader.specs.Signs.{Read, reads_of}
-use Rattle.mh_reader.specs.Spelling.{no_module, File, Spells, Begins}
+use Rattle.mh_rules.specs.Modules.{no_module}
+use Rattle.mh_reader.specs.Spelling.{File, Spells, Begins}
 use Rattle.mh_reader.specs.Faults.{IsHalt, IsSyntaxLine}
 use Rattle.mh_reader.specs.Faults.IsHalt.{unexpected, unfinished}
 use Rattle.mh_reader.specs.Faults.IsSyntaxLine.{lexical, syntactic}

@@ -13,16 +13,17 @@ use Rattle.mh_lex.specs.Texts as texts
 use Rattle.mh_lex.specs.Texts.{Text, IsText, is_content, laid, places, count_of_percents, one_of, bytes_of}
 use Rattle.mh_lex.proofs.LaidOut.{drop_all, laid_lexes}
 use Rattle.mh_lex.proofs.Spelled.{lexemes_spelled}
-use Rattle.mh_reader.specs.declared.modules.Ref.{Ref}
-use Rattle.mh_reader.specs.declared.modules.Actual.{Actual}
-use Rattle.mh_reader.specs.declared.modules.Alternative.{Alternative}
-use Rattle.mh_reader.specs.declared.modules.Rule.{Rule}
-use Rattle.mh_reader.specs.declared.modules.TokenDecl.{TokenDecl}
-use Rattle.mh_reader.specs.declared.modules.LevelDecl.{LevelDecl}
-use Rattle.mh_reader.specs.declared.modules.Module.{Module}
+use Rattle.mh_rules.specs.declared.modules.Ref.{Ref}
+use Rattle.mh_rules.specs.declared.modules.Actual.{Actual}
+use Rattle.mh_rules.specs.declared.modules.Alternative.{Alternative}
+use Rattle.mh_rules.specs.declared.modules.Rule.{Rule}
+use Rattle.mh_rules.specs.declared.modules.TokenDecl.{TokenDecl}
+use Rattle.mh_rules.specs.declared.modules.LevelDecl.{LevelDecl}
+use Rattle.mh_rules.specs.declared.modules.Module.{Module}
 use Rattle.mh_reader.specs.Signs.{Read, kept, sign_by, text_by, reads_of, keyword_sign}
 use Rattle.mh_reader.specs.Spelling as spelling
-use Rattle.mh_reader.specs.Spelling.{Limited, ListOf, IsAlias, IsToken, IsRef, Declaration, Producers, IsPrec, Productions, Groups, Modifiers, Formals, MayFormals, IsRule, Rules, File, Spells, no_module}
+use Rattle.mh_rules.specs.Modules.{no_module}
+use Rattle.mh_reader.specs.Spelling.{Limited, ListOf, IsAlias, IsToken, IsRef, Declaration, Producers, IsPrec, Productions, Groups, Modifiers, Formals, MayFormals, IsRule, Rules, File, Spells}
 use Rattle.mh_reader.specs.Faults.{Reads}
 use Rattle.mh_reader.specs.Printed.{Piece, word, mark, keyword, percents, action, ref_piece, bracket_end, actual_pieces, prec_pieces, alternative_pieces, modifier_pieces, formals_pieces, rule_pieces, alias_pieces, token_pieces, start_pieces, assoc_word, level_pieces, on_error_pieces, module_pieces}
 use Rattle.mh_reader.proofs.Again.{map_none}
@@ -64,7 +65,8 @@ token_again : (m : Module) (done : List TokenDecl) (t : TokenDecl) (rest : List 
     Declaration (record m { tokens = done }) (reads (token_pieces t) rest) rest (record m { tokens = done ++ t ∷ [] })
 unfolding keyword_sign
 token_again m done t rest h =
-    spelling.Declaration.tokens refl spelling.MayType.absent (spelling.ListOf.next (spelling.IsToken.token refl h.capital (alias_again t.alias rest)) spelling.ListOf.none)
+    subst (λ c. Declaration (record m { tokens = done }) (reads (token_pieces t) rest) rest (record m { tokens = done ++ record t { cost = c } ∷ [] })) (sym h.cost)
+    (spelling.Declaration.tokens refl spelling.MayType.absent (spelling.ListOf.next (spelling.IsToken.token refl h.capital (alias_again t.alias rest)) spelling.ListOf.none))
 
 start_again : (m : Module) (done : List (List ℕ)) (n : List ℕ) (rest : List Read) → Text kinds.Word n →
     Declaration (record m { starts = done }) (reads (start_pieces n) rest) rest (record m { starts = done ++ n ∷ [] })

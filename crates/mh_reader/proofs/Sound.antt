@@ -3,13 +3,13 @@ use Rattle.std.specs.Prelude.{◌⊎◌}
 use Rattle.std.proofs.Math.Nat.{max-le}
 use Rattle.std.proofs.lemmas.Bool.{leb-true}
 use Rattle.std.proofs.Common.{inl, inr, ◌≡◌, ◌≤◌, ◌+◌, ◌-◌, ℕ, suc, max, List, [], ◌∷◌, ◌++◌, length, map, Option, Some, None, Bool, true, false, refl, sym, subst, arith}
-use Rattle.mh_reader.specs.declared.modules.Ref.{Ref}
-use Rattle.mh_reader.specs.declared.modules.Ref.TheVariants.{Plain, Alias}
-use Rattle.mh_reader.specs.declared.modules.Actual.{Actual}
-use Rattle.mh_reader.specs.declared.modules.Alternative.{Alternative}
-use Rattle.mh_reader.specs.declared.modules.Rule.{Rule}
-use Rattle.mh_reader.specs.declared.modules.TokenDecl.{TokenDecl}
-use Rattle.mh_reader.specs.declared.modules.Module.{Module}
+use Rattle.mh_rules.specs.declared.modules.Ref.{Ref}
+use Rattle.mh_rules.specs.declared.modules.Ref.TheVariants.{Plain, Alias}
+use Rattle.mh_rules.specs.declared.modules.Actual.{Actual}
+use Rattle.mh_rules.specs.declared.modules.Alternative.{Alternative}
+use Rattle.mh_rules.specs.declared.modules.Rule.{Rule}
+use Rattle.mh_rules.specs.declared.modules.TokenDecl.{TokenDecl}
+use Rattle.mh_rules.specs.declared.modules.Module.{Module}
 use Rattle.mh_reader.specs.declared.signs.Sign.{Sign}
 use Rattle.mh_reader.specs.declared.signs.Sign.TheVariants as signs
 use Rattle.mh_reader.specs.declared.places.Pending.{Pending}
@@ -23,7 +23,8 @@ use Rattle.mh_reader.specs.declared.places.Place.TheVariants as places
 use Rattle.mh_reader.specs.declared.places.Reader.{Reader}
 use Rattle.mh_reader.specs.Signs.{Read, is_capital}
 use Rattle.mh_reader.specs.Spelling as spelling
-use Rattle.mh_reader.specs.Spelling.{applied, ref_by, ref_of, suffix_of, alternative, with_prec, starts_with_bar, is_bar, Suffixed, Base, Args, IsActual, Limited, ListOf, IsAlias, IsToken, IsWord, IsRef, MayType, Declaration, Semicolons, IsProducer, Producers, IsPrec, Productions, Groups, Modifiers, Formals, MayFormals, MayBar, IsRule, Rules, File}
+use Rattle.mh_rules.specs.Modules.{applied, alternative}
+use Rattle.mh_reader.specs.Spelling.{ref_by, ref_of, suffix_of, with_prec, starts_with_bar, is_bar, Suffixed, Base, Args, IsActual, Limited, ListOf, IsAlias, IsToken, IsWord, IsRef, MayType, Declaration, Semicolons, IsProducer, Producers, IsPrec, Productions, Groups, Modifiers, Formals, MayFormals, MayBar, IsRule, Rules, File}
 use Rattle.mh_reader.specs.Limits.{Deep, IsShallow}
 use Rattle.mh_reader.specs.Machine as machine
 use Rattle.mh_reader.specs.Machine.{at, next_at, finish_at, run, go_on, fits, close, with_token, with_formal, named, drafted, produced, with_producer, with_argument, grouped, grouped_with, ruled}
@@ -312,7 +313,7 @@ module _ (x : Read) (xs : List Read) (out : Module) where
   back_declare m _ e h = absurd h
 
   back_token_name : (m : Module) (b : Bool) → x.sign ≡ signs.Word → is_capital x.text ≡ b → Stepped (machine.named_token m b x.text) Rest → AtItem m lists.Tokens (x ∷ xs) out
-  back_token_name m true e f (mid, o, a, h) = (mid, record { name = x.text; alias = o }, spelling.IsToken.token e f a, h)
+  back_token_name m true e f (mid, o, a, h) = (mid, record { name = x.text; alias = o; cost = None }, spelling.IsToken.token e f a, h)
   back_token_name m false e f h = absurd h
 
   back_word : (m : Module) (l : Listing) → x.sign ≡ signs.Word → Stepped (machine.list_word m l x.text) Rest → AtItem m l (x ∷ xs) out

@@ -1,10 +1,10 @@
 -- Reading one lexeme at a time.
 use Rattle.std.specs.Prelude.{◌≡◌, ◌+◌, ℕ, suc, max, nat_le, List, [], ◌∷◌, ◌++◌, length, map, Option, Some, None, Bool, true, false, Result, Ok, Err}
-use Rattle.mh_reader.specs.declared.modules.Ref.{Ref}
-use Rattle.mh_reader.specs.declared.modules.Ref.TheVariants.{Plain, Alias}
-use Rattle.mh_reader.specs.declared.modules.Actual.{Actual}
-use Rattle.mh_reader.specs.declared.modules.Rule.{Rule}
-use Rattle.mh_reader.specs.declared.modules.Module.{Module}
+use Rattle.mh_rules.specs.declared.modules.Ref.{Ref}
+use Rattle.mh_rules.specs.declared.modules.Ref.TheVariants.{Plain, Alias}
+use Rattle.mh_rules.specs.declared.modules.Actual.{Actual}
+use Rattle.mh_rules.specs.declared.modules.Rule.{Rule}
+use Rattle.mh_rules.specs.declared.modules.Module.{Module}
 use Rattle.mh_reader.specs.declared.signs.Sign.{Sign}
 use Rattle.mh_reader.specs.declared.signs.Sign.TheVariants as signs
 use Rattle.mh_reader.specs.declared.places.Pending.{Pending}
@@ -19,7 +19,8 @@ use Rattle.mh_reader.specs.declared.places.Reader.{Reader}
 use Rattle.mh_reader.specs.declared.places.Refusal.{Refusal}
 use Rattle.mh_reader.specs.declared.places.Refusal.TheVariants.{Unexpected, Memory}
 use Rattle.mh_reader.specs.Signs.{Read, is_capital}
-use Rattle.mh_reader.specs.Spelling.{applied, ref_by, suffix_of, alternative, with_prec, no_module}
+use Rattle.mh_rules.specs.Modules.{applied, alternative, no_module}
+use Rattle.mh_reader.specs.Spelling.{ref_by, suffix_of, with_prec}
 
 abbrev pub at : Module → Place → Reader
 at m p = record { made = m; place = p }
@@ -92,7 +93,7 @@ at_parameter m signs.TypeText = goes m places.Declarations
 at_parameter m _ = None
 
 abbrev pub with_token : Module → List ℕ → Option (List ℕ) → Module
-with_token m name o = record m { tokens = m.tokens ++ record { name = name; alias = o } ∷ [] }
+with_token m name o = record m { tokens = m.tokens ++ record { name = name; alias = o; cost = None } ∷ [] }
 
 abbrev pub at_token : Module → List ℕ → Sign → List ℕ → Option Reader
 at_token m name signs.Quoted text = goes (with_token m name (Some text)) (places.Items lists.Tokens)

@@ -6,14 +6,14 @@ use Rattle.mh_grammar.specs.declared.types.Assoc.TheVariants.{Left, Right, Nonas
 use Rattle.mh_lex.specs.declared.kinds.Kind.{Kind}
 use Rattle.mh_lex.specs.declared.kinds.Kind.TheVariants as kinds
 use Rattle.mh_lex.specs.Texts.{laid}
-use Rattle.mh_reader.specs.declared.modules.Ref.{Ref}
-use Rattle.mh_reader.specs.declared.modules.Ref.TheVariants.{Plain, Alias}
-use Rattle.mh_reader.specs.declared.modules.Actual.{Actual, fold-Actual}
-use Rattle.mh_reader.specs.declared.modules.Alternative.{Alternative}
-use Rattle.mh_reader.specs.declared.modules.Rule.{Rule}
-use Rattle.mh_reader.specs.declared.modules.TokenDecl.{TokenDecl}
-use Rattle.mh_reader.specs.declared.modules.LevelDecl.{LevelDecl}
-use Rattle.mh_reader.specs.declared.modules.Module.{Module}
+use Rattle.mh_rules.specs.declared.modules.Ref.{Ref}
+use Rattle.mh_rules.specs.declared.modules.Ref.TheVariants.{Plain, Alias}
+use Rattle.mh_rules.specs.declared.modules.Actual.{Actual, fold-Actual}
+use Rattle.mh_rules.specs.declared.modules.Alternative.{Alternative}
+use Rattle.mh_rules.specs.declared.modules.Rule.{Rule}
+use Rattle.mh_rules.specs.declared.modules.TokenDecl.{TokenDecl}
+use Rattle.mh_rules.specs.declared.modules.LevelDecl.{LevelDecl}
+use Rattle.mh_rules.specs.declared.modules.Module.{Module}
 
 -- the bytes of a lexeme, with its kind
 abbrev pub Piece : Type 0

@@ -5,19 +5,17 @@ use Rattle.std.specs.Prelude.{◌≡◌, ◌≤◌, ℕ, suc, max, List, [], ◌
 use Rattle.mh_grammar.specs.declared.types.Assoc.{Assoc}
 use Rattle.mh_lex.specs.declared.kinds.Lexeme.{Lexeme}
 use Rattle.mh_lex.specs.Lexing.{Lexes}
-use Rattle.mh_reader.specs.declared.modules.Ref.{Ref}
-use Rattle.mh_reader.specs.declared.modules.Ref.TheVariants.{Plain, Alias}
-use Rattle.mh_reader.specs.declared.modules.Actual.{Actual, roll-Actual}
-use Rattle.mh_reader.specs.declared.modules.Alternative.{Alternative}
-use Rattle.mh_reader.specs.declared.modules.Rule.{Rule}
-use Rattle.mh_reader.specs.declared.modules.TokenDecl.{TokenDecl}
-use Rattle.mh_reader.specs.declared.modules.Module.{Module}
+use Rattle.mh_rules.specs.declared.modules.Ref.{Ref}
+use Rattle.mh_rules.specs.declared.modules.Ref.TheVariants.{Plain, Alias}
+use Rattle.mh_rules.specs.declared.modules.Actual.{Actual}
+use Rattle.mh_rules.specs.declared.modules.Alternative.{Alternative}
+use Rattle.mh_rules.specs.declared.modules.Rule.{Rule}
+use Rattle.mh_rules.specs.declared.modules.TokenDecl.{TokenDecl}
+use Rattle.mh_rules.specs.declared.modules.Module.{Module}
 use Rattle.mh_reader.specs.declared.signs.Sign.{Sign}
 use Rattle.mh_reader.specs.declared.signs.Sign.TheVariants as signs
+use Rattle.mh_rules.specs.Modules.{applied, alternative, no_module}
 use Rattle.mh_reader.specs.Signs.{Read, reads_of, is_capital}
-
-abbrev pub applied : Ref → List Actual → Actual
-applied r ks = roll-Actual (record { head = r; args = ks })
 
 -- what a word or a string refers to
 abbrev pub ref_by : Sign → List ℕ → Option Ref
@@ -78,7 +76,7 @@ pub data IsAlias : List Read → List Read → Option (List ℕ) → Type 0 wher
 -- capital-word [string]
 pub data IsToken : List Read → List Read → TokenDecl → Type 0 where
   token : {x : Read} {xs rest : List Read} {o : Option (List ℕ)} →
-      x.sign ≡ signs.Word → is_capital x.text ≡ true → IsAlias xs rest o → IsToken (x ∷ xs) rest (record { name = x.text; alias = o })
+      x.sign ≡ signs.Word → is_capital x.text ≡ true → IsAlias xs rest o → IsToken (x ∷ xs) rest (record { name = x.text; alias = o; cost = None })
 
 pub data IsWord : List Read → List Read → List ℕ → Type 0 where
   word : {x : Read} {xs : List Read} → x.sign ≡ signs.Word → IsWord (x ∷ xs) xs x.text
@@ -129,9 +127,6 @@ pub data Producers : List Actual → List Read → List Read → List Actual →
 pub data IsPrec : List Read → List Read → Option Ref → Type 0 where
   absent : {xs : List Read} → IsPrec xs xs None
   given : {x y : Read} {xs : List Read} {r : Ref} → x.sign ≡ signs.Prec → ref_of y ≡ Some r → IsPrec (x ∷ y ∷ xs) xs (Some r)
-
-abbrev pub alternative : List Actual → Option Ref → Alternative
-alternative ps p = record { producers = ps; prec = p }
 
 -- production ("|" production)* action, behind other productions
 pub data Productions : List Alternative → List Read → List Read → List Alternative → Type 0 where
@@ -203,9 +198,6 @@ pub data Rules : Module → List Read → Module → Type 0 where
 pub data File : Module → List Read → Module → Type 0 where
   declared : {m n out : Module} {xs mid : List Read} → Declaration m xs mid n → File n mid out → File m xs out
   ruled : {m out : Module} {x : Read} {xs : List Read} → x.sign ≡ signs.Percents → Rules m xs out → File m (x ∷ xs) out
-
-abbrev pub no_module : Module
-no_module = record { tokens = []; starts = []; levels = []; on_error = []; rules = [] }
 
 -- the bytes' lexemes without attributes have a derivation that leaves this module
 abbrev pub Spells : List ℕ → Module → Type 0

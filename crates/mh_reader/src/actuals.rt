@@ -1,18 +1,19 @@
 //! Actuals: names with arguments and suffixes.
 ghost use Rattle.std.specs.Prelude.{◌≡◌, ◌+◌, ◌≤◌, ◌∷◌, ◌++◌, [], suc, IfOk, length, nat_le, max};
-ghost use Rattle.mh_reader.specs.declared.modules.Ref.TheVariants.{Plain};
-ghost use Rattle.mh_reader.specs.Spelling.{applied, ref_by};
+ghost use Rattle.mh_rules.specs.declared.modules.Ref.TheVariants.{Plain};
+ghost use Rattle.mh_rules.specs.Modules.{applied};
+ghost use Rattle.mh_reader.specs.Spelling.{ref_by};
 ghost use Rattle.mh_reader.specs.Machine as machine;
 ghost use Rattle.mh_reader.specs.Machine.{Refers, with_argument, with_producer};
 ghost use Rattle.mh_reader.specs.Limits.{Deep};
 
 use crate::declarations::at_items;
-use crate::modules::{Actual, Module, Ref};
 use crate::places::{Draft, Listing, Pending, Place, Purpose, Reader, Refusal, go_to};
 use crate::rules::{at_spaced, reference};
 use crate::signs::Sign;
 use crate::stack::Stack;
 use mh_grammar::{Memory, Name, Sequence, from_bytes};
+use mh_rules::{Actual, Module, Ref};
 use std::alloc::Global;
 
 /// The greatest depth of an actual.

@@ -4,11 +4,11 @@ ghost use Rattle.mh_reader.specs.Signs.{is_capital};
 ghost use Rattle.mh_reader.specs.Machine as machine;
 ghost use Rattle.mh_reader.specs.Machine.{Refers};
 
-use crate::modules::{LevelDecl, Module, Ref, TokenDecl};
 use crate::places::{Listing, Place, Purpose, Reader, Refusal, go_to};
 use crate::signs::{Sign, is_capital_word};
 use crate::stack::Stack;
 use mh_grammar::{Memory, Name, Sequence, from_bytes};
+use mh_rules::{LevelDecl, Module, Ref, TokenDecl};
 use std::alloc::Global;
 
 /// The module behind a list.
@@ -71,7 +71,11 @@ fn add_token(made: Module, name: Name, alias: Option<Name>) -> Result<Module, Me
     ensures { IfOk result (λ m. m ≡ machine.with_token made name alias) }
 {
     let mut made = made;
-    made.tokens.push(TokenDecl { name, alias })?;
+    made.tokens.push(TokenDecl {
+        name,
+        alias,
+        cost: None,
+    })?;
     Ok(made)
 }
 

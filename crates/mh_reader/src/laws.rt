@@ -1,6 +1,6 @@
 //! What holds of bytes and the module that they spell.
 ghost use Rattle.std.specs.Prelude.{◌≡◌, ℕ, List};
-ghost use Rattle.mh_reader.specs.declared.modules.Module.{Module};
+ghost use Rattle.mh_rules.specs.declared.modules.Module.{Module};
 ghost use Rattle.mh_reader.specs.Spelling.{Spells};
 ghost use Rattle.mh_reader.specs.Faults.{IsSyntaxLine};
 

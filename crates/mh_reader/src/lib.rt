@@ -5,7 +5,6 @@ mod actuals;
 mod advance;
 mod declarations;
 mod laws;
-mod modules;
 mod places;
 mod printing;
 mod reading;
@@ -14,6 +13,6 @@ mod signs;
 mod stack;
 
 pub use laws::{line_once, spelled_once};
-pub use modules::{Actual, Alternative, LevelDecl, Module, Ref, Rule, TokenDecl};
+pub use mh_rules::{Actual, Alternative, LevelDecl, Module, Ref, Rule, TokenDecl};
 pub use printing::print_module;
 pub use reading::read_module;

@@ -4,9 +4,9 @@ ghost use Rattle.mh_reader.specs.Machine as machine;
 ghost use Rattle.mh_reader.specs.Machine.{Refers};
 ghost use Rattle.mh_reader.specs.declared.places.Refusal.TheVariants as refusals;
 
-use crate::modules::{Actual, Alternative, Module, Ref, Rule};
 use crate::stack::Stack;
 use mh_grammar::{Assoc, Memory, Name, Sequence};
+use mh_rules::{Actual, Alternative, Module, Ref, Rule};
 use std::alloc::AllocError;
 
 /// Why a lexeme is not taken.

@@ -4,13 +4,13 @@ ghost use Rattle.std.specs.List.{flat_map};
 ghost use Rattle.mh_reader.specs.Printed.{Writes, word, quoted, keyword, ref_piece, actual_pieces, prec_pieces, alternative_pieces, modifier_pieces, formals_pieces, rule_pieces, alias_pieces, token_pieces, start_pieces, assoc_word, level_pieces, on_error_pieces, module_pieces};
 ghost use Rattle.mh_lex.specs.declared.kinds.SyntaxFault.{SyntaxFault};
 ghost use Rattle.mh_lex.specs.declared.kinds.SyntaxFault.TheVariants as faults;
-ghost use Rattle.mh_reader.specs.declared.modules.Module.{Module};
+ghost use Rattle.mh_rules.specs.declared.modules.Module.{Module};
 ghost use Rattle.mh_reader.specs.Spelling.{Spells};
 ghost use Rattle.mh_reader.specs.Faults.{Reads};
 
 use crate::laws::spelled_once;
-use crate::modules::{Actual, Alternative, LevelDecl, Module, Ref, Rule, TokenDecl};
 use mh_grammar::{Assoc, Memory, Name, Sequence};
+use mh_rules::{Actual, Alternative, LevelDecl, Module, Ref, Rule, TokenDecl};
 use std::alloc::Global;
 
 /// Writes a lexeme and a space.

@@ -3,20 +3,22 @@ ghost use Rattle.std.specs.Prelude.{◌≡◌, ◌<◌, ◌^◌, ◌≤◌, ℕ,
 ghost use Rattle.std.specs.List.{All};
 ghost use Rattle.mh_lex.specs.Lexing.{IsWithin, line_at};
 ghost use Rattle.mh_lex.specs.Texts.{bytes_of};
-ghost use Rattle.mh_reader.specs.declared.modules.Module.{Module};
+ghost use Rattle.mh_rules.specs.declared.modules.Module.{Module};
+ghost use Rattle.mh_rules.specs.Ready.{IsModuleReady};
 ghost use Rattle.mh_reader.specs.Signs.{reads_of, sign_by, text_by};
 ghost use Rattle.mh_reader.specs.Limits.{IsShallow};
-ghost use Rattle.mh_reader.specs.Spelling.{File, Spells, no_module};
+ghost use Rattle.mh_rules.specs.Modules.{no_module};
+ghost use Rattle.mh_reader.specs.Spelling.{File, Spells};
 ghost use Rattle.mh_reader.specs.Machine.{Refers, finish_at, start, taken};
 ghost use Rattle.mh_reader.specs.Faults.{Refuses, Stops};
 
 use crate::advance::advance;
-use crate::modules::Module;
 use crate::places::{Place, Reader, Refusal};
 use crate::rules::{add_rule, group_of};
 use crate::signs::{Sign, content_of, sign_of};
 use mh_grammar::Sequence;
 use mh_lex::{Lexeme, SyntaxFault, lex, lexed_once, line_of};
+use mh_rules::Module;
 use std::alloc::Global;
 
 /// A reader that has read nothing.
@@ -119,14 +121,15 @@ fn read_lexemes(alloc: Global, bytes: &[u8], lexemes: &[Lexeme]) -> Result<Modul
     }
 }
 
-/// The module that a grammar file spells. Answers `Syntax` exactly where it spells none, with the line, from 1 on, on
-/// which the first begins that is no lexeme or comment or is not closed; where there is none, the first lexeme with
-/// which the lexemes so far are how no file begins; where the file ends too early, one more than its line feeds. An
-/// actual is at most 1,000 deep: 1 without arguments, else one more than its deepest, and one more for each suffix.
-/// Answers `Memory` only where memory runs out. (The Menhir manual's syntax of grammars; this project's profile.)
+/// The module that a grammar file spells; each rule of it has an alternative. Answers `Syntax` exactly where it spells none,
+/// with the line, from 1 on, on which the first begins that is no lexeme or comment or is not closed; where there is none,
+/// the first lexeme with which the lexemes so far are how no file begins; where the file ends too early, one more than its
+/// line feeds. An actual is at most 1,000 deep: 1 without arguments, else one more than its deepest, and one more for each
+/// suffix. Answers `Memory` only where memory runs out. (The Menhir manual's syntax of grammars; this project's profile.)
 pub fn read_module(alloc: Global, bytes: &[u8]) -> Result<Module, SyntaxFault>
     requires { length bytes.now < 2 ^ 31 }
     ensures spelled { IfOk result (λ m. Spells bytes.now m) }
+    ensures ready { IfOk result IsModuleReady }
     ensures fault { Refuses bytes.now result }
 {
     lexed_once();

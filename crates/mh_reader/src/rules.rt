@@ -5,11 +5,11 @@ ghost use Rattle.mh_reader.specs.Spelling.{ref_by, with_prec};
 ghost use Rattle.mh_reader.specs.Machine as machine;
 ghost use Rattle.mh_reader.specs.Machine.{Refers, ruled, grouped, grouped_with, produced, drafted, named, with_formal};
 
-use crate::modules::{Alternative, Module, Ref, Rule};
 use crate::places::{Draft, Place, Purpose, Reader, Refusal, go_to};
 use crate::signs::Sign;
 use crate::stack::Stack;
 use mh_grammar::{Memory, Name, Sequence, from_bytes};
+use mh_rules::{Alternative, Module, Ref, Rule};
 use std::alloc::Global;
 
 /// What a word or a string refers to.

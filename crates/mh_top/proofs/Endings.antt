@@ -6,7 +6,7 @@ use Rattle.mh_grammar.specs.declared.types.Grammar.{Grammar}
 use Rattle.mh_opts.specs.declared.order.Job.{Job}
 use Rattle.mh_opts.specs.declared.order.Job.TheVariants.{Interpret, ShowAutomaton}
 use Rattle.mh_outside.specs.Shelf.{Files, Found, found, NoFile, Long, Bytes}
-use Rattle.mh_reader.specs.declared.modules.Module.{Module}
+use Rattle.mh_rules.specs.declared.modules.Module.{Module}
 use Rattle.mh_opts.specs.declared.order.Order.{Order}
 use Rattle.mh_top.specs.Text.{Text, cannot_read, too_big}
 use Rattle.mh_top.specs.Causes.{Staged, Go, Halt}

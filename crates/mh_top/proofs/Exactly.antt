@@ -29,11 +29,11 @@ use Rattle.mh_tree.specs.Trees.{SyntaxTree, IsTreeFor, text_of}
 use Rattle.mh_exact.proofs.AcceptedSentence.{accepted_sentence}
 use Rattle.mh_exact.proofs.Telling.{overshoots, tells_prefix, tells_refused}
 use Rattle.mh_outside.specs.Shelf.{Files}
-use Rattle.mh_reader.specs.declared.modules.Module.{Module}
+use Rattle.mh_rules.specs.declared.modules.Module.{Module}
 use Rattle.mh_reader.specs.Spelling.{Spells}
-use Rattle.mh_join.specs.Ready.{HaveAlternatives}
+use Rattle.mh_rules.specs.Ready.{AreModulesReady}
 use Rattle.mh_front.proofs.OneGrammar.{in_range}
-use Rattle.mh_front.proofs.Reading.{push_spelled}
+use Rattle.mh_reader.proofs.Filled.{push_spelled}
 use Rattle.mh_opts.specs.declared.order.Job.{Job}
 use Rattle.mh_opts.specs.declared.order.Job.TheVariants.{Interpret, ShowAutomaton}
 use Rattle.mh_opts.specs.declared.order.Order.{Order}
@@ -96,7 +96,7 @@ module _ (warnings : Text) (trees : Bool) (g : Grammar) (t : TableData) where
       (record { range = range; few = stage.0; table = record { automaton = tabled.automaton; canonical = stage.1.canonical; table = stage.1.table } }) is.1
   of_table order h range (Halt cause line) stage is = absurd (not_halted cause line is)
 
-  of_modules : (order : Order) (modules : List Module) → HaveAlternatives modules → (s : Staged Grammar) → IsGrammarStage order.stdlib modules s → Then s (IsWorkOfGrammar order) work → IsTabled g t
+  of_modules : (order : Order) (modules : List Module) → AreModulesReady modules → (s : Staged Grammar) → IsGrammarStage order.stdlib modules s → Then s (IsWorkOfGrammar order) work → IsTabled g t
   of_modules order modules some (Go h) stage is = of_table order h (in_range order.stdlib modules h some stage) is.0 is.1 is.2
   of_modules order modules some (Halt cause line) stage is = absurd (not_halted cause line is)
 
@@ -104,7 +104,7 @@ module _ (warnings : Text) (trees : Bool) (g : Grammar) (t : TableData) where
   of_file files name Next (Go m) stage next is = next m (file_spelled files name m stage) is
   of_file files name Next (Halt cause line) stage next is = absurd (not_halted cause line is)
 
-  of_files : (files : Option Files) (order : Order) (modules : List Module) → HaveAlternatives modules → (names : List Text) → IsWorkOfFiles files order modules names work → IsTabled g t
+  of_files : (files : Option Files) (order : Order) (modules : List Module) → AreModulesReady modules → (names : List Text) → IsWorkOfFiles files order modules names work → IsTabled g t
   of_files files order modules some [] is = of_modules order modules some is.0 is.1 is.2
   of_files files order modules some (name ∷ names) is =
       of_file files name (λ m. IsWorkOfFiles files order (modules ++ m ∷ []) names) is.0 is.1

@@ -21,7 +21,7 @@ use Rattle.mh_top.specs.Causes.{Staged, Go, Halt}
 use Rattle.mh_top.specs.Order.{order_of}
 use Rattle.mh_msgfile.specs.Sentences.{token_names}
 use Rattle.mh_front.proofs.OneGrammar.{one_grammar, one_fault, grammar_or_fault}
-use Rattle.mh_reader.specs.declared.modules.Module.{Module}
+use Rattle.mh_rules.specs.declared.modules.Module.{Module}
 use Rattle.mh_opts.specs.declared.order.Order.{Order}
 use Rattle.mh_top.specs.GrammarStage.{IsGrammarStage, refusal}
 use Rattle.mh_top.specs.TableStage.{HasTooMany, HasTable, AreTabled, LoopsFirst, IsTableStage, loops_line}

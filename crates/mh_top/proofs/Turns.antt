@@ -2,11 +2,11 @@
 use Rattle.std.proofs.Common.{◌≡◌, ◌<◌, ◌+◌, ℕ, List, length, drop, get_or, [], ◌∷◌, ◌++◌, Option, None, Some, refl, sym, ◌∙◌, ap, ap₂, subst, Ok, Err}
 use Rattle.std.proofs.lemmas.List.{drop_more}
 use Rattle.std.specs.List.{All}
-use Rattle.mh_front.proofs.Reading.{push_spelled}
+use Rattle.mh_reader.proofs.Filled.{push_spelled}
 use Rattle.std.proofs.lemmas.List.Elements.{All-nil, All-cons}
-use Rattle.mh_reader.specs.declared.modules.Module.{Module}
-use Rattle.mh_reader.specs.declared.modules.Rule.{Rule}
-use Rattle.mh_join.specs.Ready.{HaveAlternatives}
+use Rattle.mh_rules.specs.declared.modules.Module.{Module}
+use Rattle.mh_rules.specs.declared.modules.Rule.{Rule}
+use Rattle.mh_rules.specs.Ready.{IsModuleReady, AreModulesReady}
 use Rattle.mh_reader.specs.Spelling.{Spells}
 use Rattle.mh_reader.proofs.Lines.{line_once, one_module}
 use Rattle.mh_opts.specs.declared.order.Order.{Order}
@@ -36,8 +36,8 @@ file_spelled files name m has = at_read has.0 has.2
     at_read (Go bytes) is = (bytes, is)
     at_read (Halt cause line) is = absurd (cc)
 
-pub none_spelled : HaveAlternatives []
-none_spelled = All-nil (λ (m : Module). All (λ (r : Rule). 0 < length r.alternatives) m.rules)
+pub none_spelled : AreModulesReady []
+none_spelled = All-nil IsModuleReady
 
 -- ---- it gives one thing
 
@@ -105,5 +105,5 @@ module _ (files : Option Files) (order : Order) where
     so_far_halts modules stop so_far has = so_far_stops modules name (drop (i + 1) order.grammars) stop (at_place modules so_far) (subst (λ (t : Option Files). FileHas t name (Err stop)) kept has)
 
 -- and what is spelled has alternatives
-pub file_pushed : (files : Option Files) (name : Text) (modules : List Module) (m : Module) → HaveAlternatives modules → IsFileStage files name (Go m) → HaveAlternatives (modules ++ m ∷ [])
+pub file_pushed : (files : Option Files) (name : Text) (modules : List Module) (m : Module) → AreModulesReady modules → IsFileStage files name (Go m) → AreModulesReady (modules ++ m ∷ [])
 file_pushed files name modules m some has = let p = file_spelled files name m has in push_spelled modules p.0 m some p.1

@@ -9,7 +9,7 @@ use Rattle.mh_top.specs.Text.{Text, too_big_input}
 use Rattle.mh_top.specs.Causes.{Staged, Go, Halt}
 use Rattle.mh_opts.specs.Orders as spelled
 use Rattle.mh_opts.specs.declared.order.Order.{Order}
-use Rattle.mh_reader.specs.declared.modules.Module.{Module}
+use Rattle.mh_rules.specs.declared.modules.Module.{Module}
 use Rattle.mh_opts.specs.declared.order.UsageFault.{UsageFault}
 use Rattle.mh_top.specs.Order.{order_of, staged}
 use Rattle.mh_top.specs.Stages.{StageHas}

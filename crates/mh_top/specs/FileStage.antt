@@ -1,7 +1,7 @@
 -- The files of a grammar: each is read, and its bytes spell a module.
 use Rattle.std.specs.Prelude.{◌≡◌, ◌++◌, ◌∷◌, ℕ, List, Option, None, Some, codes, decimal}
 use Rattle.std.specs.List.{All}
-use Rattle.mh_reader.specs.declared.modules.Module.{Module}
+use Rattle.mh_rules.specs.declared.modules.Module.{Module}
 use Rattle.mh_reader.specs.Spelling.{Spells}
 use Rattle.mh_reader.specs.Faults.{IsSyntaxLine}
 use Rattle.mh_outside.specs.Shelf.{Files, Found, found, NoFile, Long, Bytes}

@@ -1,7 +1,7 @@
 -- The grammar of the modules that the files spell.
 use Rattle.std.specs.Prelude.{◌≡◌, ◌++◌, Bool, List, codes}
 use Rattle.mh_grammar.specs.declared.types.Grammar.{Grammar}
-use Rattle.mh_reader.specs.declared.modules.Module.{Module}
+use Rattle.mh_rules.specs.declared.modules.Module.{Module}
 use Rattle.mh_front.specs.declared.fault.GrammarFault.{GrammarFault}
 use Rattle.mh_front.specs.declared.fault.GrammarFault.TheVariants.{Memory}
 use Rattle.mh_front.specs.Stages.{IsGrammarOfModules, IsGrammarFault}

@@ -1,7 +1,7 @@
 -- What the reading of files answers.
 use Rattle.std.specs.Prelude.{◌≡◌, ℕ, ◌≤◌, Option, Some, Result, Ok, Err, Vec, ⊤}
 use Rattle.std.specs.declared.alloc.Global.{Global}
-use Rattle.mh_reader.specs.declared.modules.Module.{Module}
+use Rattle.mh_rules.specs.declared.modules.Module.{Module}
 use Rattle.mh_opts.specs.declared.order.Order.{Order}
 use Rattle.mh_outside.specs.Faults.{Rose}
 use Rattle.mh_outside.specs.Shelf.{Files}

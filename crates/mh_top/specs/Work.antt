@@ -12,7 +12,7 @@ use Rattle.mh_report.specs.Warnings.{warning_lines}
 use Rattle.mh_opts.specs.declared.order.Job.{Job}
 use Rattle.mh_opts.specs.declared.order.Job.TheVariants.{Interpret, ShowAutomaton}
 use Rattle.mh_opts.specs.declared.order.Order.{Order}
-use Rattle.mh_reader.specs.declared.modules.Module.{Module}
+use Rattle.mh_rules.specs.declared.modules.Module.{Module}
 use Rattle.mh_outside.specs.Shelf.{Files}
 use Rattle.mh_top.specs.Text.{Text, too_big_input}
 use Rattle.mh_top.specs.Causes.{Staged, Go, Halt}

@@ -1,6 +1,6 @@
 //! The modules of the grammar files.
 ghost use Rattle.std.specs.Prelude.{◌≡◌, ◌<◌, ◌^◌, ◌++◌, length, IfOk, codes, decimal, string_bytes};
-ghost use Rattle.mh_join.specs.Ready.{HaveAlternatives};
+ghost use Rattle.mh_rules.specs.Ready.{AreModulesReady};
 ghost use Rattle.mh_top.specs.FileStage.{IsModuleStage, syntax_error};
 ghost use Rattle.mh_top.specs.Load.{FileHas, FilesHave, LoadCounts};
 ghost use Rattle.mh_top.specs.Stages.{StageHas, Halts};
@@ -62,7 +62,7 @@ pub(crate) fn read_files<F: Shelf>(
     order: &Order,
 ) -> Result<Vec<Module>, Stop>
     ensures modules { FilesHave (F.files shelf.old) order.now result }
-    ensures spelled { IfOk result (λ modules. HaveAlternatives modules.items) }
+    ensures spelled { IfOk result (λ modules. AreModulesReady modules.items) }
     ensures kept { F.files shelf.new ≡ F.files shelf.old }
     ensures counts { LoadCounts (F.faults shelf.old) (F.faults shelf.new) result }
 {

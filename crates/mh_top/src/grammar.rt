@@ -1,7 +1,7 @@
 //! The grammar of modules.
 ghost use Rattle.std.specs.Prelude.{IfOk};
 ghost use Rattle.mh_grammar.specs.Plain.{plain_of, IsInRange};
-ghost use Rattle.mh_join.specs.Ready.{HaveAlternatives};
+ghost use Rattle.mh_rules.specs.Ready.{AreModulesReady};
 ghost use Rattle.mh_top.specs.GrammarStage.{IsGrammarStage, RefusesBy, refusal};
 ghost use Rattle.mh_top.specs.Stages.{StageHas, Halts};
 ghost use Rattle.mh_top.specs.declared.stop.Cause.TheVariants.{Refused};
@@ -36,7 +36,7 @@ pub(crate) fn grammar_in(
     modules: Vec<Module>,
     prelude: bool,
 ) -> Result<Grammar, Stop>
-    requires { HaveAlternatives modules.items }
+    requires { AreModulesReady modules.items }
     ensures grammar { StageHas (IsGrammarStage prelude modules.items) result }
     ensures range { IfOk result (λ grammar. IsInRange (plain_of grammar)) }
 {

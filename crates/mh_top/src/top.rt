@@ -1,7 +1,7 @@
 //! All that the program does.
 ghost use Rattle.std.specs.Prelude.{◌≡◌, ℕ, Option, map, string_bytes};
 ghost use Rattle.mh_grammar.specs.Plain.{plain_of, IsInRange};
-ghost use Rattle.mh_join.specs.Ready.{HaveAlternatives};
+ghost use Rattle.mh_rules.specs.Ready.{AreModulesReady};
 ghost use Rattle.mh_outside.specs.Shelf.{Files};
 ghost use Rattle.mh_top.specs.FileStage.{IsFileLine};
 ghost use Rattle.mh_top.specs.Work.{IsWorkOfGrammar, IsWorkOfModules, IsWorkOfOrder, IsWork};
@@ -55,7 +55,7 @@ fn work_on_modules<I: Source, O: Sink, E: Sink>(
     out: &mut O,
     err: &mut E,
 ) -> Result<(), Stop>
-    requires { HaveAlternatives modules.items }
+    requires { AreModulesReady modules.items }
     ensures { (files : Option Files) (shelf_faults : ℕ) →
         Worked (IsWorkOfModules order.now modules.items) (λ line. ⊥)
         (world_beside files shelf_faults I.left I.faults O.written O.faults E.written E.faults

@@ -671,16 +671,16 @@ fn with_tokens(alloc: Global, count: u16) -> Result<Vec<u8>, Fail> {
 fn tokens_up_to_a_limit(rt: HostRuntime) -> Result<(), Fail> {
     let alloc = rt.alloc();
     let words = "--interpret g.mly";
-    let most = with_tokens(alloc, 256)?;
+    let most = with_tokens(alloc, 512)?;
     let got = run_on(&rt, alloc, words, &most, b"T000\n".to_vec(alloc)?)?;
     assert_eq!(rt; got.status, 0);
     assert_eq!(rt; got.out.as_slice(), b"ACCEPT\n".as_slice());
-    let more = with_tokens(alloc, 257)?;
+    let more = with_tokens(alloc, 513)?;
     let got = run_on(&rt, alloc, words, &more, b"T000\n".to_vec(alloc)?)?;
     assert_eq!(rt; got.status, 1);
     assert_eq!(rt;
         got.err.as_slice(),
-        b"menhir: too many tokens: 257\n".as_slice()
+        b"menhir: too many tokens: 513\n".as_slice()
     );
     Ok(())
 }
@@ -690,7 +690,7 @@ fn tokens_up_to_a_limit(rt: HostRuntime) -> Result<(), Fail> {
 fn too_many_tokens_of_two_files(rt: HostRuntime) -> Result<(), Fail> {
     let alloc = rt.alloc();
     let mut files = Vec::new(alloc);
-    files.push((b"a.mly".to_vec(alloc)?, with_tokens(alloc, 256)?))?;
+    files.push((b"a.mly".to_vec(alloc)?, with_tokens(alloc, 512)?))?;
     files.push((
         b"b.mly".to_vec(alloc)?,
         b"%token T000 B\n%%\n".to_vec(alloc)?,
@@ -702,7 +702,7 @@ fn too_many_tokens_of_two_files(rt: HostRuntime) -> Result<(), Fail> {
     assert_eq!(rt; got.out.as_slice(), b"".as_slice());
     assert_eq!(rt;
         got.err.as_slice(),
-        b"menhir: too many tokens: 257\n".as_slice()
+        b"menhir: too many tokens: 513\n".as_slice()
     );
     Ok(())
 }

@@ -2,7 +2,7 @@ use Rattle.std.proofs.Common.{[], nat_eq, refl, arith}
 use Rattle.indexmap.specs.IndexMap.{get}
 use Rattle.mh_grammar.specs.Numbering.{Names}
 use Rattle.mh_expand.specs.Expansion.{start_terms}
-use Rattle.mh_expand.specs.declared.instances.Expanded.{Expanded}
+use Rattle.mh_rules.specs.declared.instances.Expanded.{Expanded}
 use Rattle.mh_expand.specs.Sharing.{terms_of, terms_at}
 use Rattle.mh_expand.specs.Searching.{IsSearch, WentStarts, AreRanks}
 use Rattle.mh_expand.proofs.Shared.{terms_of-distinct}

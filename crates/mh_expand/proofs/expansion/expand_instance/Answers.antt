@@ -2,7 +2,7 @@ use Rattle.std.proofs.Common.{◌≡◌, ◌<◌, ◌++◌, Some, length, flat_m
 use Rattle.std.specs.List.{All}
 use Rattle.std.specs.Option.{option_map}
 use Rattle.std.proofs.lemmas.List.{take_all}
-use Rattle.mh_join.specs.declared.joined.JoinedRule.{JoinedRule}
+use Rattle.mh_rules.specs.declared.joined.JoinedRule.{JoinedRule}
 use Rattle.mh_expand.specs.Terms.{Term, arguments}
 use Rattle.mh_expand.specs.Expansion.{Fails, Causes, rule_at, rule_of, alternatives_of, producers_of, right_side, IsRank}
 use Rattle.mh_expand.specs.Sharing.{terms_of, term_at, terms_at}

@@ -2,8 +2,8 @@ use Rattle.std.proofs.Common.{◌≡◌, ◌∷◌, ◌++◌, ◌+◌, [], Some,
 use Rattle.std.specs.List.{slice_get}
 use Rattle.std.proofs.lemmas.List.{map-append}
 use Rattle.mh_expand.specs.declared.terms.Application.{Application}
-use Rattle.mh_join.specs.declared.joined.Head.TheVariants.{Rule}
-use Rattle.mh_expand.specs.declared.instances.Part.TheVariants.{Instance}
+use Rattle.mh_rules.specs.declared.joined.Head.TheVariants.{Rule}
+use Rattle.mh_rules.specs.declared.instances.Part.TheVariants.{Instance}
 use Rattle.mh_expand.specs.Terms.{Atom, apply_all}
 use Rattle.mh_expand.specs.Expansion.{start_term, start_terms}
 use Rattle.mh_expand.specs.Sharing.{terms_of, term_at, terms_at, node_term}

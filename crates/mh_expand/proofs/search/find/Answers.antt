@@ -1,5 +1,5 @@
 use Rattle.std.proofs.Common.{◌≡◌, refl, sym, ap, ◌∙◌}
-use Rattle.mh_join.specs.declared.joined.Head.TheVariants.{Token}
+use Rattle.mh_rules.specs.declared.joined.Head.TheVariants.{Token}
 use Rattle.mh_expand.specs.Terms.{Atom, apply_all}
 use Rattle.mh_expand.specs.Sharing.{terms_of, term_at, terms_at, node_term}
 use Rattle.mh_expand.proofs.Shared.{node_count, node_head, term_got}

@@ -1,11 +1,18 @@
+use Rattle.std.proofs.Common.{◌≤◌, length}
 use Rattle.std.proofs.lemmas.Result.{IfOk-weaker}
 use Rattle.mh_grammar.specs.Costs.{HaveCosts}
 use Rattle.mh_grammar.specs.Numbering.{AreDistinct}
 use Rattle.mh_grammar.specs.Plain.{plain_of, IsInRange}
+use Rattle.mh_rules.specs.declared.joined.TheConstants.{MAX_TOKENS}
 use Rattle.mh_front.specs.Sentences.{HasSentencesOfModules}
 use Rattle.mh_front.specs.Stages.{IsGrammarOfJoined}
 use Rattle.mh_front.proofs.OneGrammar as one
 use Rattle.mh_front.proofs.front.grammar_of.Goals as goal
+
+pub returns-in-Ok-clause-tokens : goal.returns-in-Ok-clause-tokens
+returns-in-Ok-clause-tokens c =
+    let ms = c.args.modules.now in
+    IfOk-weaker c.grammar_of_joined.result (IsGrammarOfJoined c.in-Ok.joined) (λ g. length g.tokens ≤ MAX_TOKENS) (λ g o. one.few_tokens c.args.prelude ms g c.requires (record { joined = c.in-Ok.joined; joins = c.in-Ok.ensures.joins; grammar = o })) c.grammar_of_joined.ensures.grammar
 
 pub returns-in-Ok-clause-range : goal.returns-in-Ok-clause-range
 returns-in-Ok-clause-range c =
@@ -15,7 +22,7 @@ returns-in-Ok-clause-range c =
 pub returns-in-Ok-clause-costs : goal.returns-in-Ok-clause-costs
 returns-in-Ok-clause-costs c =
     let ms = c.args.modules.now in
-    IfOk-weaker c.grammar_of_joined.result (IsGrammarOfJoined c.in-Ok.joined) (λ g. HaveCosts g.tokens) (λ g o. one.have_costs c.args.prelude ms g (record { joined = c.in-Ok.joined; joins = c.in-Ok.ensures.joins; grammar = o })) c.grammar_of_joined.ensures.grammar
+    IfOk-weaker c.grammar_of_joined.result (IsGrammarOfJoined c.in-Ok.joined) (λ g. HaveCosts g.tokens) (λ g o. one.have_costs c.args.prelude ms g c.requires (record { joined = c.in-Ok.joined; joins = c.in-Ok.ensures.joins; grammar = o })) c.grammar_of_joined.ensures.grammar
 
 pub returns-in-Ok-clause-distinct : goal.returns-in-Ok-clause-distinct
 returns-in-Ok-clause-distinct c =

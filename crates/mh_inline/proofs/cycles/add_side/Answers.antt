@@ -1,4 +1,4 @@
-use Rattle.mh_expand.specs.declared.instances.Part.TheVariants.{Token}
+use Rattle.mh_rules.specs.declared.instances.Part.TheVariants.{Token}
 use Rattle.mh_inline.proofs.Finding.{Adds-none, IsTable-after, side_none, side_step}
 use Rattle.mh_inline.proofs.cycles.add_side.Goals as goal
 

@@ -1,5 +1,5 @@
 use Rattle.std.proofs.Common.{refl}
-use Rattle.mh_expand.specs.declared.instances.Part.TheVariants.{Token}
+use Rattle.mh_rules.specs.declared.instances.Part.TheVariants.{Token}
 use Rattle.mh_inline.proofs.Counting.{blocked_at, side_none, side_more, sized_none, sized_more}
 use Rattle.mh_inline.proofs.sizes.size_of_side.Goals as goal
 

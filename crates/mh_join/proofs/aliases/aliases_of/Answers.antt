@@ -1,4 +1,4 @@
-use Rattle.mh_reader.specs.declared.modules.Module.{Module}
+use Rattle.mh_rules.specs.declared.modules.Module.{Module}
 use Rattle.std.specs.List.{flat_map}
 use Rattle.mh_join.specs.Names.{alias_of}
 use Rattle.mh_join.proofs.Lists.{Puts-more}

@@ -8,7 +8,7 @@ use Rattle.std.specs.List.{flat_map, enumerate_from}
 use Rattle.std.proofs.Common.{subst}
 use Rattle.std.proofs.lemmas.List.{take_all}
 use Rattle.mh_join.specs.Standing.{Adds}
-use Rattle.mh_reader.specs.declared.modules.Module.{Module}
+use Rattle.mh_rules.specs.declared.modules.Module.{Module}
 use Rattle.std.proofs.Common.{List}
 use Rattle.mh_join.proofs.building.add_files.Goals as goal
 

@@ -1,5 +1,5 @@
 use Rattle.std.proofs.Common.{List, ◌∙◌, sym, subst, arith}
-use Rattle.mh_join.specs.declared.joined.JoinedRule.{JoinedRule}
+use Rattle.mh_rules.specs.declared.joined.JoinedRule.{JoinedRule}
 use Rattle.mh_join.specs.Maps.{meanings_in, elsewhere_in}
 use Rattle.mh_join.specs.Standing.{Adds, definitions_by}
 use Rattle.mh_join.proofs.Adding.{AreRules-from, written}

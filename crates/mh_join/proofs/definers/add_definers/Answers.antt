@@ -1,6 +1,6 @@
 use Rattle.std.proofs.Common.{◌+◌, take}
 use Rattle.std.specs.List.{list_any}
-use Rattle.mh_reader.specs.declared.modules.Rule.{Rule}
+use Rattle.mh_rules.specs.declared.modules.Rule.{Rule}
 use Rattle.mh_join.specs.Names.{Text, same}
 use Rattle.mh_join.proofs.Lists.{any_more}
 use Rattle.mh_join.proofs.Defining.{Defines-none, Defines-both}

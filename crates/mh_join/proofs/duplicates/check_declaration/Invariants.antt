@@ -1,6 +1,6 @@
 use Rattle.std.proofs.Common.{◌≡◌, drop}
 use Rattle.std.specs.List.{flat_map}
-use Rattle.mh_reader.specs.declared.modules.Ref.{Ref}
+use Rattle.mh_rules.specs.declared.modules.Ref.{Ref}
 use Rattle.mh_join.specs.Names.{name_by, level_in}
 use Rattle.mh_join.specs.Faults.{other_level}
 use Rattle.mh_join.specs.Maps.{meanings_in}

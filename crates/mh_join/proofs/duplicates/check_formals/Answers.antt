@@ -1,5 +1,5 @@
 use Rattle.std.proofs.Common.{[]}
-use Rattle.mh_reader.specs.declared.modules.Rule.{Rule}
+use Rattle.mh_rules.specs.declared.modules.Rule.{Rule}
 use Rattle.mh_join.specs.Faults.{repeats}
 use Rattle.mh_join.proofs.Finding.{finds_more, finds_err}
 use Rattle.mh_join.proofs.duplicates.check_formals.Goals as goal

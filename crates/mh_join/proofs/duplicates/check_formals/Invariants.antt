@@ -1,6 +1,6 @@
 use Rattle.std.proofs.Common.{◌≡◌, [], drop}
 use Rattle.std.specs.List.{flat_map}
-use Rattle.mh_reader.specs.declared.modules.Rule.{Rule}
+use Rattle.mh_rules.specs.declared.modules.Rule.{Rule}
 use Rattle.mh_join.specs.Faults.{repeats}
 use Rattle.mh_join.proofs.duplicates.check_formals.Given as goal
 

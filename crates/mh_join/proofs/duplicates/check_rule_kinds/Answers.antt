@@ -1,4 +1,4 @@
-use Rattle.mh_reader.specs.declared.modules.Rule.{Rule}
+use Rattle.mh_rules.specs.declared.modules.Rule.{Rule}
 use Rattle.mh_join.specs.declared.kinds.Kind.TheVariants as kinds
 use Rattle.mh_join.specs.Faults.{other_kind}
 use Rattle.mh_join.specs.Maps.{meanings_in}

@@ -1,6 +1,6 @@
 use Rattle.std.proofs.Common.{◌≡◌, drop}
 use Rattle.std.specs.List.{flat_map}
-use Rattle.mh_reader.specs.declared.modules.TokenDecl.{TokenDecl}
+use Rattle.mh_rules.specs.declared.modules.TokenDecl.{TokenDecl}
 use Rattle.mh_join.specs.declared.kinds.Kind.TheVariants as kinds
 use Rattle.mh_join.specs.Faults.{other_kind}
 use Rattle.mh_join.specs.Maps.{meanings_in}

@@ -1,7 +1,7 @@
 use Rattle.std.proofs.Common.{sym, ap, subst, inr}
 use Rattle.std.specs.Prelude.{not}
 use Rattle.std.specs.List.{flat_map}
-use Rattle.mh_reader.specs.declared.modules.Actual.TheViews.{out-Actual}
+use Rattle.mh_rules.specs.declared.modules.Actual.TheViews.{out-Actual}
 use Rattle.mh_join.specs.declared.fault.JoinFault.TheVariants.{ErrorToken}
 use Rattle.mh_join.specs.Faults.{Finds, first, unless, error_token, errors_in_actual}
 use Rattle.mh_join.proofs.Actuals.{actual_out}

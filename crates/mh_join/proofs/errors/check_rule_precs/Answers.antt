@@ -1,4 +1,4 @@
-use Rattle.mh_reader.specs.declared.modules.Alternative.{Alternative}
+use Rattle.mh_rules.specs.declared.modules.Alternative.{Alternative}
 use Rattle.mh_join.specs.Faults.{unlevelled}
 use Rattle.mh_join.specs.Maps.{meanings_in}
 use Rattle.mh_join.proofs.Finding.{finds_more, finds_err}

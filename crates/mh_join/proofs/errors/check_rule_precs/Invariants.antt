@@ -1,6 +1,6 @@
 use Rattle.std.proofs.Common.{◌≡◌, drop}
 use Rattle.std.specs.List.{flat_map}
-use Rattle.mh_reader.specs.declared.modules.Alternative.{Alternative}
+use Rattle.mh_rules.specs.declared.modules.Alternative.{Alternative}
 use Rattle.mh_join.specs.Faults.{unlevelled}
 use Rattle.mh_join.specs.Maps.{meanings_in}
 use Rattle.mh_join.proofs.errors.check_rule_precs.Given as goal

@@ -1,7 +1,7 @@
 use Rattle.std.proofs.Common.{◌∷◌, []}
 use Rattle.std.specs.List.{flat_map}
-use Rattle.mh_reader.specs.declared.modules.TokenDecl.{TokenDecl}
-use Rattle.mh_reader.specs.declared.modules.Rule.{Rule}
+use Rattle.mh_rules.specs.declared.modules.TokenDecl.{TokenDecl}
+use Rattle.mh_rules.specs.declared.modules.Rule.{Rule}
 use Rattle.mh_join.specs.declared.kinds.Kind.TheVariants as kinds
 use Rattle.mh_join.proofs.Lists.{Puts-append}
 use Rattle.mh_join.proofs.kinds.add_kinds.Goals as goal

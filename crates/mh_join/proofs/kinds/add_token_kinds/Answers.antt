@@ -1,5 +1,5 @@
 use Rattle.std.proofs.Common.{◌∷◌, []}
-use Rattle.mh_reader.specs.declared.modules.TokenDecl.{TokenDecl}
+use Rattle.mh_rules.specs.declared.modules.TokenDecl.{TokenDecl}
 use Rattle.mh_join.specs.declared.kinds.Kind.TheVariants as kinds
 use Rattle.mh_join.proofs.Lists.{Puts-more}
 use Rattle.mh_join.proofs.kinds.add_token_kinds.Goals as goal

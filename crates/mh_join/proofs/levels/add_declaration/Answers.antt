@@ -1,5 +1,5 @@
 use Rattle.indexmap.specs.IndexMap.{get}
-use Rattle.mh_reader.specs.declared.modules.Ref.{Ref}
+use Rattle.mh_rules.specs.declared.modules.Ref.{Ref}
 use Rattle.mh_join.specs.Names.{same, with_level, name_by, level_in}
 use Rattle.mh_join.proofs.Lists.{Puts-more}
 use Rattle.mh_join.proofs.levels.add_declaration.Goals as goal

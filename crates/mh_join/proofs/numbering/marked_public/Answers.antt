@@ -1,6 +1,6 @@
 use Rattle.std.proofs.Common.{ap, ◌∙◌}
 use Rattle.std.specs.Prelude.{◌&&◌, ◌||◌}
-use Rattle.mh_reader.specs.declared.modules.Rule.{Rule}
+use Rattle.mh_rules.specs.declared.modules.Rule.{Rule}
 use Rattle.mh_join.specs.Names.{same}
 use Rattle.mh_join.proofs.Lists.{any_more}
 use Rattle.mh_join.proofs.numbering.marked_public.Goals as goal

@@ -1,5 +1,5 @@
 use Rattle.std.specs.List.{flat_map}
-use Rattle.mh_reader.specs.declared.modules.Actual.TheViews.{out-Actual}
+use Rattle.mh_rules.specs.declared.modules.Actual.TheViews.{out-Actual}
 use Rattle.std.proofs.Common.{subst}
 use Rattle.mh_join.specs.Faults.{Finds, meant_by, undefined, undefined_in_actual}
 use Rattle.mh_join.specs.Maps.{meanings_in, formals_in}

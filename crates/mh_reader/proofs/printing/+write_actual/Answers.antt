@@ -1,7 +1,7 @@
 use Rattle.std.proofs.Common.{◌≡◌, [], ◌∷◌, ◌++◌, map, refl, sym, ap, subst, ◌∙◌}
 use Rattle.std.proofs.lemmas.List.{at_drop_all}
 use Rattle.mh_lex.specs.Texts.{laid}
-use Rattle.mh_reader.specs.declared.modules.Actual.{out-Actual}
+use Rattle.mh_rules.specs.declared.modules.Actual.{out-Actual}
 use Rattle.mh_reader.specs.Printed.{Writes, mark, ref_piece, bracketed, bracket_end, actual_pieces}
 use Rattle.mh_reader.proofs.Laid.{writes_then, writes_one, actual_split}
 use Rattle.mh_reader.proofs.printing.+write_actual.Goals as goal

@@ -1,4 +1,5 @@
 use Rattle.mh_reader.proofs.Exact as exact
+use Rattle.mh_reader.proofs.Filled.{read_ready}
 use Rattle.mh_reader.proofs.reading.read_module.Goals as goal
 
 pub returns-in-Ok-clause-fault : goal.returns-in-Ok-clause-fault
@@ -6,3 +7,6 @@ returns-in-Ok-clause-fault c = exact.no_whole_module c.lexed_once.ensures c.args
 
 pub returns-in-Err-Syntax-clause-fault : goal.returns-in-Err-Syntax-clause-fault
 returns-in-Err-Syntax-clause-fault c = exact.lexical_along c.lexed_once.ensures c.args.bytes.now c.in-Err-Syntax.line _ (cc c.in-Err-Syntax.line-is) (rw c.in-Err-Syntax.field-0-is at c.in-Err-Syntax.ensures.fault)
+
+pub returns-in-Ok-clause-ready : goal.returns-in-Ok-clause-ready
+returns-in-Ok-clause-ready c = read_ready _ c.read_lexemes.result c.read_lexemes.ensures.spelled

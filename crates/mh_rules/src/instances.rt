@@ -1,6 +1,6 @@
 //! Rules without formals: each applied rule that is reached is one of its own.
+use crate::joined::Prec;
 use mh_grammar::{Name, Sequence, Token, TokenInfo};
-use mh_join::Prec;
 
 /// A producer: a token, or an instance by its number, each from 0.
 #[derive(Clone, Copy, Debug, PartialEq, Eq, Hash)]

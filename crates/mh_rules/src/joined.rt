@@ -1,6 +1,9 @@
 //! What several files give together.
 use mh_grammar::{Level, Name, Sequence, Token, TokenInfo};
 
+/// The most tokens that a grammar may have.
+pub const MAX_TOKENS: usize = 512;
+
 /// What a name stands for: a formal of its rule by its place, a token, or a rule by its place in the list of rules, each
 /// from 0.
 #[derive(Clone, Copy, Debug, PartialEq, Eq, Hash)]

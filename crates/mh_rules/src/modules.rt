@@ -1,4 +1,4 @@
-//! What a grammar file spells. Code, types and attributes leave nothing here.
+//! What a grammar file spells. Code and types leave nothing here, and of attributes only the costs of tokens do.
 use mh_grammar::{Assoc, Name, Sequence};
 
 /// A name, or a string that is to be an alias: the bytes between its quotes.
@@ -32,11 +32,13 @@ pub struct Rule {
     pub alternatives: Sequence<Alternative>,
 }
 
-/// A token with its alias, if it has one.
+/// A token with its alias and its cost, where they are given.
 #[derive(Debug, Drop)]
 pub struct TokenDecl {
     pub name: Name,
     pub alias: Option<Name>,
+    /// From 1 to 1,000.
+    pub cost: Option<u32>,
 }
 
 /// A `%left`, `%right` or `%nonassoc` declaration.

@@ -1,0 +1,79 @@
+-- What each stage gives the next: of the modules that are read, of the joined rules, and of the instances.
+use Rattle.std.specs.Prelude.{◌<◌, ◌≤◌, ◌≢◌, ℕ, List, length, AllPairs, IfSome}
+use Rattle.std.specs.List.{All}
+use Rattle.mh_grammar.specs.Costs.{IsCost, HaveCosts}
+use Rattle.mh_rules.specs.declared.modules.Rule.{Rule}
+use Rattle.mh_rules.specs.declared.modules.TokenDecl.{TokenDecl}
+use Rattle.mh_rules.specs.declared.modules.Module.{Module}
+use Rattle.mh_rules.specs.declared.joined.TheConstants.{MAX_TOKENS}
+use Rattle.mh_rules.specs.declared.joined.Head.{Head}
+use Rattle.mh_rules.specs.declared.joined.Head.TheVariants as heads
+use Rattle.mh_rules.specs.declared.joined.Applied.{Applied}
+use Rattle.mh_rules.specs.declared.joined.Applied.TheFolds.{every-Applied}
+use Rattle.mh_rules.specs.declared.joined.JoinedRule.{JoinedRule}
+use Rattle.mh_rules.specs.declared.joined.Joined.{Joined}
+use Rattle.mh_rules.specs.declared.instances.Part.{Part}
+use Rattle.mh_rules.specs.declared.instances.Part.TheVariants as parts
+use Rattle.mh_rules.specs.declared.instances.InstanceProduction.{InstanceProduction}
+use Rattle.mh_rules.specs.declared.instances.Instance.{Instance}
+use Rattle.mh_rules.specs.declared.instances.Expanded.{Expanded}
+
+-- MODULES
+
+-- the cost of a token, where it is given, is in range
+abbrev pub IsTokenReady : TokenDecl → Type 0
+IsTokenReady t = IfSome t.cost IsCost
+
+-- each rule has an alternative, and costs are in range
+pub record IsModuleReady (m : Module) : Type 0 where
+  pub alternatives : All (λ (r : Rule). 0 < length r.alternatives) m.rules
+  pub costs : All IsTokenReady m.tokens
+
+abbrev pub AreModulesReady : List Module → Type 0
+AreModulesReady modules = All IsModuleReady modules
+
+-- JOINED RULES
+
+-- a formal, a token or a rule that is there, of so many
+abbrev pub IsHeadBelow : ℕ → ℕ → ℕ → Head → Type 0
+IsHeadBelow formals tokens rules (heads.Formal n) = n < formals
+IsHeadBelow formals tokens rules (heads.Token n) = n < tokens
+IsHeadBelow formals tokens rules (heads.Rule n) = n < rules
+
+-- each head in an applied head is there
+abbrev pub IsAppliedBelow : ℕ → ℕ → ℕ → Applied → Type 0
+IsAppliedBelow formals tokens rules = every-Applied (λ a. IsHeadBelow formals tokens rules a.head)
+
+-- a rule has an alternative, and the heads in it are there
+pub record IsRuleReady (tokens rules : ℕ) (r : JoinedRule) : Type 0 where
+  pub has_some : 0 < length r.alternatives
+  pub heads_below : All (λ a. All (IsAppliedBelow r.formals tokens rules) a.producers) r.alternatives
+
+-- All numbers and costs are in range, each rule has an alternative, no start stands twice, and there are not too many tokens.
+pub record IsReady (j : Joined) : Type 0 where
+  pub few_tokens : length j.tokens ≤ MAX_TOKENS
+  pub costs : HaveCosts j.tokens
+  pub starts_below : All (λ s. s < length j.rules) j.starts
+  pub starts_distinct : AllPairs (λ a b. a ≢ b) j.starts
+  pub on_error_below : All (λ actuals. All (IsAppliedBelow 0 (length j.tokens) (length j.rules)) actuals) j.on_error
+  pub rules_ready : All (IsRuleReady (length j.tokens) (length j.rules)) j.rules
+
+-- INSTANCES
+
+abbrev pub IsPartBelow : ℕ → ℕ → Part → Type 0
+IsPartBelow tokens instances (parts.Token z) = z < tokens
+IsPartBelow tokens instances (parts.Instance n) = n < instances
+
+-- an instance has an alternative, and the parts in it are there
+pub record IsInstanceReady (tokens instances : ℕ) (i : Instance) : Type 0 where
+  pub has_some : 0 < length i.productions
+  pub parts_below : All (λ (p : InstanceProduction). All (IsPartBelow tokens instances) p.rhs) i.productions
+
+-- All numbers and costs are in range, each instance has an alternative, no start stands twice, and there are few tokens and instances.
+pub record IsExpandedReady (e : Expanded) : Type 0 where
+  pub few_tokens : length e.tokens ≤ 65535
+  pub costs : HaveCosts e.tokens
+  pub few_instances : length e.instances ≤ 20000
+  pub starts_below : All (λ s. s < length e.instances) e.starts
+  pub starts_distinct : AllPairs (λ a b. a ≢ b) e.starts
+  pub instances_ready : All (IsInstanceReady (length e.tokens) (length e.instances)) e.instances
