@@ -25,6 +25,7 @@ use Rattle.mh_tables.specs.Table.{no_state}
 use Rattle.mh_resolve.specs.declared.kinds.Mode.TheVariants.{Canonical}
 use Rattle.mh_resolve.specs.States.{State, state_of, Raw, Keeps, HasDefault, IsCell, IsResolved, AreResolved, place_of}
 use Rattle.mh_resolve.specs.Clear.{IsClear}
+use Rattle.mh_resolve.proofs.Clear.{kept_raw}
 use Rattle.mh_resolve.proofs.Closed.{came_from, closure_within}
 use Rattle.mh_resolve.proofs.Once.{raw_taken}
 use Rattle.mh_resolve.proofs.Stating.{takes_raw, takes_stays}
@@ -185,10 +186,6 @@ clear_by s look a h = record {
   one = λ l c. c.two ((h l c.one c.raw_one).1 ∙ sym (h l c.other c.raw_other).1);
   stream = λ x. (let no : End ≡ Token x.token = (h End x.last (takes_raw s End x.last x.takes_last)).0 ∙ sym (h (Token x.token) x.other (takes_raw s (Token x.token) x.other x.takes_other)).0 in cc);
 }
-
-kept_raw : (s : State) (look : Look) (a : Action) → Keeps s look a → Raw s look a
-kept_raw s (Token z) a k = takes_raw s (Token z) a k
-kept_raw s End a k = takes_raw s End a k.0
 
 -- the state reduces p by its default
 module _ (s : State) (p : ℕ) (h : OnlyRaw s End (Reduce p)) (r : Raw s End (Reduce p)) where

@@ -4,9 +4,10 @@ use Rattle.std.specs.List.{slice_get, Contains}
 use Rattle.std.specs.Option.{option_map}
 use Rattle.std.proofs.lemmas.Bool.{cases_lt, cases_eq}
 use Rattle.std.proofs.lemmas.List.{append-nil, length-map, length_push, take-append-le, take_all}
-use Rattle.std.proofs.lemmas.List.Elements.{Contains-append_left, Contains-append_right}
+use Rattle.std.proofs.lemmas.List.Elements.{Contains-append_left, Contains-append_right, Contains-append_cases}
 use Rattle.std.proofs.lemmas.Grind.{flat_map-append}
 use Rattle.std.proofs.lemmas.Option.{slice_get-map, slice_get-get_or, slice_get_within, get_or_from_slice_get}
+use Rattle.mh_grammar.proofs.Lists.{contains_flat_map, contains_here, contains_none, contains_push, flat_map_contains, taken, zip_push, zip_weaker}
 use Rattle.mh_grammar.specs.Numbering.{AreDistinct, Names}
 use Rattle.mh_grammar.proofs.Placing.{get_left, contains_at, at_contains}
 use Rattle.mh_rules.specs.declared.joined.Head.{Head}
@@ -22,8 +23,8 @@ use Rattle.mh_expand.specs.Expansion as expansion
 use Rattle.mh_expand.specs.Expansion.{IsInstance, IsRule, Takes, Fits, IsNew, IsFault, IsClear, IsReached, AreFirst, finds, Fails, IsFirstFault, Causes, producers_of, alternatives_of, start_term, start_terms, IsProduction, IsInstanceOf, IsExpanded}
 use Rattle.mh_expand.specs.Sharing.{term_at, terms_at}
 use Rattle.mh_expand.specs.Searching.{AreFound, IsSearch, IsFit, WentInstance, WentStarts, AreRanks, IsLonger, IsExpanding}
-use Rattle.mh_expand.proofs.Found.{contains_here, contains_push, contains_none, AreFound-none, IsClear-none, Causes-from}
-use Rattle.mh_expand.proofs.Going.{IsLonger-found, IsProduction-kept, zip_push, zip_weaker, take_push}
+use Rattle.mh_expand.proofs.Found.{AreFound-none, IsClear-none, Causes-from}
+use Rattle.mh_expand.proofs.Going.{IsLonger-found, IsProduction-kept}
 use Rattle.mh_expand.proofs.Ranking.{AreRanks-grows}
 
 -- whether a head takes so many arguments
@@ -67,43 +68,10 @@ finds-push j ts t =
     ap (λ l. start_terms j ++ l) (flat_map-append (producers_of j) ts (t ∷ []) ∙ ap (λ l. flat_map (producers_of j) ts ++ l) (append-nil (producers_of j t)))
     ∙ sym (append_assoc (start_terms j) (flat_map (producers_of j) ts) (producers_of j t))
 
--- where an item of a joined list stands
-contains_cons : {X : Type 0} (y : X) (xs : List X) (x : X) → Contains (y ∷ xs) x → (y ≡ x) ⊎ Contains xs x
-contains_cons y xs x c = let at = at_contains (y ∷ xs) x c in go at.0 at.1
-  where
-    go : (i : ℕ) → slice_get (y ∷ xs) i ≡ Some x → (y ≡ x) ⊎ Contains xs x
-    go zero e = let same : y ≡ x = cc in inl same
-    go (suc i) e = inr (contains_at xs i x e)
-
-contains_there : {X : Type 0} (y : X) (xs : List X) (x : X) → Contains xs x → Contains (y ∷ xs) x
-contains_there y xs x c = let at = at_contains xs x c in contains_at (y ∷ xs) (suc at.0) x at.1
-
-contains_append : {X : Type 0} (xs ys : List X) (x : X) → Contains (xs ++ ys) x → Contains xs x ⊎ Contains ys x
-contains_append [] ys x c = inr c
-contains_append (y ∷ xs) ys x c = elim (contains_cons y (xs ++ ys) x c) [
-  | inl e ↦ inl (contains_at (y ∷ xs) 0 x (ap Some e))
-  | inr d ↦ elim (contains_append xs ys x d) [ inl f ↦ inl (contains_there y xs x f) | inr f ↦ inr f ]
-]
-
--- the instance whose producer it is
-pub contains_flat : {X Y : Type 0} (f : X → List Y) (xs : List X) (y : Y) → Contains (flat_map f xs) y → (x : X) × Contains xs x × Contains (f x) y
-contains_flat f [] y c = absurd (contains_none y c)
-contains_flat f (x ∷ xs) y c = elim (contains_append (f x) (flat_map f xs) y c) [
-  | inl d ↦ (x, contains_here x xs, d)
-  | inr d ↦ (let r = contains_flat f xs y d in (r.0, contains_there x xs r.0 r.1, r.2))
-]
-
-pub flat_contains : {X Y : Type 0} (f : X → List Y) (xs : List X) (x : X) (y : Y) → Contains xs x → Contains (f x) y → Contains (flat_map f xs) y
-flat_contains f [] x y c d = absurd (contains_none x c)
-flat_contains f (z ∷ xs) x y c d = elim (contains_cons z xs x c) [
-  | inl e ↦ Contains-append_left (f z) (flat_map f xs) y (rw e d)
-  | inr b ↦ Contains-append_right (f z) (flat_map f xs) y (flat_contains f xs x y b d)
-]
-
 pub found_reached : (j : Joined) (ts : List Term) → ((t : Term) → Contains ts t → IsReached j t) → (x : Term) → Contains (finds j ts) x → IsInstance x → IsReached j x
-found_reached j ts h x c i = elim (contains_append (start_terms j) (flat_map (producers_of j) ts) x c) [
+found_reached j ts h x c i = elim (Contains-append_cases (start_terms j) (flat_map (producers_of j) ts) x c) [
   | inl d ↦ expansion.IsReached.start d
-  | inr d ↦ (let r = contains_flat (producers_of j) ts x d in expansion.IsReached.producer (h r.0 r.1) r.2 i)
+  | inr d ↦ (let r = flat_map_contains (producers_of j) ts x d in expansion.IsReached.producer (h r.0 r.1) r.2 i)
 ]
 
 pub first_reached : (j : Joined) (ts : List Term) → AreFirst j ts → (t : Term) → Contains ts t → IsReached j t
@@ -124,7 +92,7 @@ start_rule j t c = let at = at_contains (start_terms j) t c in go j.starts at.0 
 pub reached_found : (j : Joined) (ts : List Term) → AreFound (finds j ts) ts → (t : Term) → IsReached j t → Contains ts t
 reached_found j ts a t (expansion.IsReached.start c) = a.all t (Contains-append_left (start_terms j) (flat_map (producers_of j) ts) t c) (start_rule j t c)
 reached_found j ts a x (expansion.IsReached.producer {t} r c i) =
-    a.all x (Contains-append_right (start_terms j) (flat_map (producers_of j) ts) x (flat_contains (producers_of j) ts t x (reached_found j ts a t r) c)) i
+    a.all x (Contains-append_right (start_terms j) (flat_map (producers_of j) ts) x (contains_flat_map (producers_of j) ts t x (reached_found j ts a t r) c)) i
 
 pub IsSearch-none : (j : Joined) (ts : List Term) → IsSearch j [] ts []
 IsSearch-none j ts = record { below = λ k d l. absurd (omega arith); clear = IsClear-none j; found = AreFound-none }
@@ -189,7 +157,7 @@ module _ (j : Joined) (ts : List Term) (numbers : List ℕ) (instances : List In
         let here : slice_get new_terms n ≡ Some next = rw longer.longer (get_left old_terms longer.more n next next_here) in
         let m : n < length new_terms = slice_get_within new_terms n next here in
         let all : take (length (instances ++ i ∷ [])) new_terms ≡ take n old_terms ++ next ∷ [] =
-        ap (λ k. take k new_terms) count ∙ take_push new_terms n next m (sym (get_or_from_slice_get new_terms n next next here)) ∙ ap (λ xs. xs ++ next ∷ []) front in
+        ap (λ k. take k new_terms) count ∙ taken new_terms n next m (sym (get_or_from_slice_get new_terms n next next here)) ∙ ap (λ xs. xs ++ next ∷ []) front in
         record {
           few = few;
           within = omega (arith, count, length-map new (term_at us));

@@ -5,6 +5,7 @@ use Rattle.std.proofs.lemmas.Bool.{cases_lt}
 use Rattle.std.proofs.lemmas.List.{append-nil}
 use Rattle.std.proofs.lemmas.List.Elements.{Contains-append_left}
 use Rattle.std.proofs.lemmas.Option.{slice_get-get_or}
+use Rattle.mh_grammar.proofs.Lists.{contains_last, contains_none, contains_push, zip_length}
 use Rattle.mh_grammar.proofs.Placing.{contains_at}
 use Rattle.mh_rules.specs.declared.joined.Joined.{Joined}
 use Rattle.mh_expand.specs.declared.fault.ExpandFault.TheVariants.{Arity, Expansion}
@@ -12,10 +13,9 @@ use Rattle.mh_rules.specs.declared.instances.Expanded.{Expanded}
 use Rattle.mh_expand.specs.Terms.{Term, head_of, head_name, text}
 use Rattle.mh_expand.specs.Expansion as expansion
 use Rattle.mh_expand.specs.Expansion.{IsInstance, AreFirst, finds, producers_of, Fits, IsClear, IsInstanceOf, IsExpanded}
-use Rattle.mh_expand.proofs.Found.{contains_none, contains_push, contains_last}
 use Rattle.mh_expand.proofs.Expanding.{fits_or, first_reached}
 use Rattle.mh_expand.proofs.Order.{split_compare, inside, finds-append, first_distinct}
-use Rattle.mh_expand.proofs.Same.{reached_instance, zip_length}
+use Rattle.mh_expand.proofs.Same.{reached_instance}
 
 -- what begins a list without faults has none
 clear_front : (j : Joined) (xs ys zs : List Term) → zs ≡ xs ++ ys → IsClear j zs → IsClear j xs

@@ -10,6 +10,7 @@ use Rattle.std.proofs.lemmas.List.{length-map, take-append-le, append-nil}
 use Rattle.std.proofs.Math.Seq.{take-append_seam}
 use Rattle.std.proofs.lemmas.List.Elements.{Contains-append_left, Contains-append_right}
 use Rattle.std.proofs.lemmas.Option.{slice_get_within, slice_get-get_or}
+use Rattle.mh_grammar.proofs.Lists.{contains_here, contains_last, contains_none, contains_push, option_map_some, split_push}
 use Rattle.mh_grammar.specs.Numbering.{AreDistinct}
 use Rattle.mh_grammar.proofs.Placing.{get_last, get_cases, contains_at, at_contains, AreDistinct-push}
 use Rattle.mh_grammar.proofs.Pigeon.{length-distinct_in}
@@ -24,38 +25,6 @@ use Rattle.mh_expand.specs.declared.fault.ExpandFault.TheVariants.{Arity, Expans
 use Rattle.mh_expand.specs.Sharing.{term_at, terms_at}
 use Rattle.mh_expand.specs.Searching.{IsSight, AreFound, IsSearch, Finds}
 use Rattle.mh_expand.proofs.Shared.{get_term, term_got}
-
-module _ {X : Type 0} where
-  pub contains_here : (x : X) (xs : List X) → Contains (x ∷ xs) x
-  contains_here x xs = contains_at (x ∷ xs) 0 x refl
-
-  pub contains_there : (y : X) (xs : List X) (x : X) → Contains xs x → Contains (y ∷ xs) x
-  contains_there y xs x c = let at = at_contains xs x c in contains_at (y ∷ xs) (suc at.0) x at.1
-
-  pub contains_none : (x : X) → Contains [] x → ⊥
-  contains_none x c = omega (arith, c.1)
-
-  pub contains_push : (xs : List X) (y x : X) → Contains (xs ++ y ∷ []) x → Contains xs x ⊎ (x ≡ y)
-  contains_push xs y x c =
-      let at = at_contains (xs ++ y ∷ []) x c in
-      elim (get_cases xs y at.0 x at.1) [ inl e ↦ inl (contains_at xs at.0 x e) | inr l ↦ inr l.1 ]
-
-  pub contains_last : (xs : List X) (y : X) → Contains (xs ++ y ∷ []) y
-  contains_last xs y = Contains-append_right xs (y ∷ []) y (contains_here y [])
-
-  -- where a list that ends in y is split
-  pub split_push : (xs : List X) (y : X) (before : List X) (x : X) (after : List X) → xs ++ y ∷ [] ≡ before ++ x ∷ after → ((xs ≡ before) × (y ≡ x)) ⊎ ((rest : List X) × (xs ≡ before ++ x ∷ rest))
-  split_push [] y [] x after e = let same : y ≡ x = cc in inl (refl, same)
-  split_push [] y (z ∷ []) x after e = cc
-  split_push [] y (z ∷ w ∷ before) x after e = cc
-  split_push (z ∷ xs) y [] x after e = let same : z ≡ x = cc in inr (xs, ap (λ v. v ∷ xs) same)
-  split_push (z ∷ xs) y (w ∷ before) x after e =
-      let same : z ≡ w = cc in
-      let rest : xs ++ y ∷ [] ≡ before ++ x ∷ after = cc in
-      elim (split_push xs y before x after rest) [
-        | inl l ↦ inl ((λ i. same i ∷ l.0 i), l.1)
-        | inr r ↦ inr (r.0, (λ i. same i ∷ r.1 i))
-      ]
 
 pub IsClear-none : (j : Joined) → IsClear j []
 IsClear-none j [] after t e s f = cc
@@ -122,16 +91,12 @@ not_full before fs a f =
     let le = length-distinct_in fs f.some f.distinct (λ x c. let w = f.found c.0 x c.1 in a.all x (rw c.2 at w).0 (rw c.2 at w).1) in
     omega (arith, le, f.full)
 
-pub some_of : {X Y : Type 0} (f : X → Y) (o : Option X) (y : Y) → option_map f o ≡ Some y → (x : X) × (o ≡ Some x) × (f x ≡ y)
-some_of f None y e = cc
-some_of f (Some x) y e = let same : f x ≡ y = cc in (x, refl, same)
-
 -- the number of a term that stands once
 module _ (ts : List Term) (d : AreDistinct ts) (number : ℕ) (t : Term) (here : slice_get ts number ≡ Some t) (numbers : List ℕ) (below : All (λ n. n < length ts) numbers) where
   pub number_in : Contains (terms_at ts numbers) t → Contains numbers number
   number_in c =
       let at = at_contains (terms_at ts numbers) t c in
-      let n = some_of (term_at ts) (slice_get numbers at.0) t (sym (slice_get-map (term_at ts) numbers at.0) ∙ at.1) in
+      let n = option_map_some (term_at ts) (slice_get numbers at.0) t (sym (slice_get-map (term_at ts) numbers at.0) ∙ at.1) in
       let in_list = contains_at numbers at.0 n.0 n.1 in
       let l : n.0 < length ts = rw in_list.2 at (below in_list.0 n.0 in_list.1) in
       let same : n.0 ≡ number = d.same n.0 number t (get_term ts n.0 l ∙ ap Some n.2) here in

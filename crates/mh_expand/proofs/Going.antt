@@ -3,6 +3,7 @@ use Rattle.std.proofs.Common.{◌≡◌, ℕ, zero, suc, ◌+◌, ◌<◌, List,
 use Rattle.std.proofs.Math.Seq.{take-suc}
 use Rattle.std.specs.List.{slice_get, All, AllZip}
 use Rattle.std.specs.Option.{option_map, unwrap_or}
+use Rattle.mh_grammar.proofs.Lists.{split_at, zip_push, zip_weaker}
 use Rattle.mh_rules.specs.declared.joined.Head.{Head}
 use Rattle.mh_rules.specs.declared.joined.Head.TheVariants.{Formal, Token, Rule}
 use Rattle.mh_rules.specs.declared.joined.JoinedRule.{JoinedRule}
@@ -23,19 +24,6 @@ use Rattle.mh_expand.specs.Searching.{IsSearch, Finds, Went, WentAlternative, Is
 use Rattle.mh_expand.proofs.Actuals.{Grows-none, Grows-more, stands}
 use Rattle.mh_expand.proofs.Shared.{terms_at-kept}
 use Rattle.mh_expand.proofs.Found.{Causes-from}
-
--- zipped lists with one item more
-pub zip_push : {A B : Type 0} (R : A → B → Type 0) (xs : List A) (ys : List B) (x : A) (y : B) → AllZip R xs ys → R x y → AllZip R (xs ++ x ∷ []) (ys ++ y ∷ [])
-zip_push R [] [] x y z r = (r, tt)
-zip_push R [] (w ∷ ys) x y z r = absurd z
-zip_push R (v ∷ xs) [] x y z r = absurd z
-zip_push R (v ∷ xs) (w ∷ ys) x y z r = (z.0, zip_push R xs ys x y z.1 r)
-
-pub zip_weaker : {A B : Type 0} (R S : A → B → Type 0) → ((x : A) (y : B) → R x y → S x y) → (xs : List A) (ys : List B) → AllZip R xs ys → AllZip S xs ys
-zip_weaker R S h [] [] z = tt
-zip_weaker R S h [] (w ∷ ys) z = absurd z
-zip_weaker R S h (v ∷ xs) [] z = absurd z
-zip_weaker R S h (v ∷ xs) (w ∷ ys) z = (h v w z.0, zip_weaker R S h xs ys z.1)
 
 pub below_grows : (ts us : List Term) (ns : List ℕ) → Grows ts us → All (λ n. n < length ts) ns → All (λ n. n < length us) ns
 below_grows ts us ns g a = λ k d l. omega (arith, a k d l, ap length g.1, length-append ts g.0)
@@ -137,15 +125,6 @@ AreThrough-step j before ts us vs old mid new t alternatives productions a p w v
       went = rw (flat_push t alternatives a) (Went-more j before (flat_map (right_side t) alternatives) (right_side t a) ts us vs old mid new w.went v.went);
       made = zip_push (IsProduction (terms_at vs new) t) alternatives productions a p (zip_weaker (IsProduction (terms_at us mid) t) (IsProduction (terms_at vs new) t) (IsProduction-kept (terms_at us mid) (terms_at vs new) longer t) alternatives productions w.made) v.made;
     }
-
--- a list with an item at a place
-pub split_at : {X : Type 0} (xs : List X) (i : ℕ) (x : X) → i < length xs → x ≡ get_or xs i x → xs ≡ take i xs ++ x ∷ drop (suc i) xs
-split_at [] i x l e = absurd (omega arith)
-split_at (y ∷ xs) zero x l e = λ i. sym e i ∷ xs
-split_at (y ∷ xs) (suc n) x l e = ap (λ zs. y ∷ zs) (split_at xs n x (omega arith) e)
-
-pub take_push : {X : Type 0} (xs : List X) (i : ℕ) (x : X) → i < length xs → x ≡ get_or xs i x → take (i + 1) xs ≡ take i xs ++ x ∷ []
-take_push xs i x l e = rw add-one (take-suc xs i x l ∙ ap (λ y. take i xs ++ y ∷ []) (sym e))
 
 pub side_split : (fs : List Term) (items : List Applied) (i : ℕ) (a : Applied) → i < length items → a ≡ get_or items i a → map (stands fs) items ≡ map (stands fs) (take i items) ++ stands fs a ∷ map (stands fs) (drop (suc i) items)
 side_split fs items i a l e = ap (map (stands fs)) (split_at items i a l e) ∙ map-append (stands fs) (take i items) (a ∷ drop (suc i) items)

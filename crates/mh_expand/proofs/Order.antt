@@ -5,6 +5,7 @@ use Rattle.std.proofs.lemmas.List.{append-nil}
 use Rattle.std.proofs.lemmas.Bool.{cases_lt}
 use Rattle.std.proofs.lemmas.List.Elements.{Contains-append_right}
 use Rattle.std.proofs.lemmas.Grind.{flat_map-append}
+use Rattle.mh_grammar.proofs.Lists.{contains_here, contains_there, split_push}
 use Rattle.mh_grammar.specs.Numbering.{AreDistinct}
 use Rattle.mh_grammar.proofs.Placing.{AreDistinct-push, contains_at}
 use Rattle.mh_rules.specs.declared.joined.Applied.{Applied}
@@ -20,7 +21,6 @@ use Rattle.mh_rules.specs.declared.instances.Expanded.{Expanded}
 use Rattle.mh_expand.specs.Terms.{Term, Atom}
 use Rattle.mh_expand.specs.Expansion as expansion
 use Rattle.mh_expand.specs.Expansion.{IsInstance, AreFirst, finds, producers_of, alternatives_of, right_side, start_terms, IsFault, IsClear, Fails, IsFirstFault, IsReached, IsRank, Declares, IsPart, IsProduction, IsInstanceOf, IsExpanded}
-use Rattle.mh_expand.proofs.Found.{contains_here, contains_there, split_push}
 use Rattle.mh_expand.proofs.Expanding.{found_reached, first_reached}
 use Rattle.mh_expand.proofs.Same.{reached_instance}
 

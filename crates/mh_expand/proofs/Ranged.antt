@@ -1,8 +1,8 @@
 -- The numbers of instances are in range.
 use Rattle.std.proofs.Common.{◌≡◌, ℕ, zero, suc, ◌<◌, ◌≤◌, List, [], ◌∷◌, ◌++◌, Option, Some, None, map, flat_map, length, take, drop, get_or, refl, sym, ap, subst, ◌∙◌, arith, inl, inr}
 use Rattle.std.specs.List.{slice_get, All, AllZip, AllByRecursion, Contains}
-use Rattle.mh_expand.proofs.Same.{zip_left, zip_right, zip_length, reached_instance}
-use Rattle.mh_expand.proofs.Found.{some_of}
+use Rattle.mh_grammar.proofs.Lists.{contains_flat_map, flat_map_contains, option_map_some, recursion-push, split_at, zip_left, zip_length, zip_right}
+use Rattle.mh_expand.proofs.Same.{reached_instance}
 use Rattle.std.specs.Option.{option_map}
 use Rattle.std.proofs.lemmas.Option.{slice_get_within, slice_get-get_or, slice_get-map, get_or_from_slice_get}
 use Rattle.std.proofs.lemmas.List.Elements.{recursion_from_All, All-from_recursion, All-contains, Contains-append_left, Contains-append_right}
@@ -23,8 +23,8 @@ use Rattle.mh_rules.specs.declared.instances.Expanded.{Expanded}
 use Rattle.mh_expand.specs.Terms.{Term, Atom, Apply, apply_all, head_of, arguments, term_step, term_of, replaced, text}
 use Rattle.mh_expand.specs.Expansion as expansion
 use Rattle.mh_expand.specs.Expansion.{IsInstance, IsRule, Takes, Fits, IsReached, IsExpanded, IsInstanceOf, IsProduction, IsPart, finds, producers_of, alternatives_of, right_side, rule_at, rule_of, start_term, start_terms}
-use Rattle.mh_expand.proofs.Going.{split_at, alternatives_there}
-use Rattle.mh_expand.proofs.Expanding.{fits_or, flat_contains, contains_flat}
+use Rattle.mh_expand.proofs.Going.{alternatives_there}
+use Rattle.mh_expand.proofs.Expanding.{fits_or}
 use Rattle.mh_grammar.proofs.Placing.{contains_at, at_contains}
 use Rattle.mh_rules.specs.Ready.{IsHeadBelow, IsAppliedBelow, IsRuleReady}
 use Rattle.mh_rules.specs.Ready.{IsReady, IsPartBelow, IsInstanceReady, IsExpandedReady}
@@ -74,13 +74,9 @@ replaced_below k r fs (Atom (Rule q)) a b = b
 replaced_below k r fs (Apply g x) a b = (replaced_below k r fs g a b.0, replaced_below k r fs x a b.1)
 
 -- the arguments of a closed term are closed
-all_push : {X : Type 0} (P : X → Type 0) (xs : List X) (x : X) → AllByRecursion P xs → P x → AllByRecursion P (xs ++ x ∷ [])
-all_push P [] x a p = (p, tt)
-all_push P (y ∷ ys) x a p = (a.0, all_push P ys x a.1 p)
-
 pub arguments_below : (k r : ℕ) (t : Term) → IsTermBelow 0 k r t → AllByRecursion (IsTermBelow 0 k r) (arguments t)
 arguments_below k r (Atom h) b = tt
-arguments_below k r (Apply f x) b = all_push (IsTermBelow 0 k r) (arguments f) x (arguments_below k r f b.0) b.1
+arguments_below k r (Apply f x) b = recursion-push (IsTermBelow 0 k r) (arguments f) x (arguments_below k r f b.0) b.1
 
 module _ (j : Joined) (e : Expanded) (w : IsExpanded j e) (ready : IsReady j) where
   tokens : ℕ
@@ -101,7 +97,7 @@ module _ (j : Joined) (e : Expanded) (w : IsExpanded j e) (ready : IsReady j) wh
 
   reached_fits : (t : Term) → IsReached j t → Fits j t
   reached_fits t (expansion.IsReached.start c) = found_fits t (Contains-append_left (start_terms j) (flat_map (producers_of j) w.terms) t c)
-  reached_fits x (expansion.IsReached.producer {t} r c i) = found_fits x (Contains-append_right (start_terms j) (flat_map (producers_of j) w.terms) x (flat_contains (producers_of j) w.terms t x ((w.exact t).1 r) c))
+  reached_fits x (expansion.IsReached.producer {t} r c i) = found_fits x (Contains-append_right (start_terms j) (flat_map (producers_of j) w.terms) x (contains_flat_map (producers_of j) w.terms t x ((w.exact t).1 r) c))
 
   -- the rule of an instance
   fit_rule : (t : Term) → IsInstance t → Fits j t → (q : JoinedRule) × (rule_of j t ≡ Some q) × (q.formals ≡ length (arguments t)) × IsRuleReady tokens rules q
@@ -157,7 +153,7 @@ module _ (j : Joined) (e : Expanded) (w : IsExpanded j e) (ready : IsReady j) wh
   closed : (t : Term) → IsReached j t → IsTermBelow 0 tokens rules t
   closed t (expansion.IsReached.start c) = closed_start t c
   closed x (expansion.IsReached.producer {t} r c i) =
-      let a = contains_flat (right_side t) (alternatives_of j t) x c in
+      let a = flat_map_contains (right_side t) (alternatives_of j t) x c in
       all_at (IsTermBelow 0 tokens rules) (right_side t a.0) x (side_below t (reached_instance j t r) (reached_fits t r) (closed t r) a.0 a.1) a.2
 
   instances : ℕ
@@ -198,7 +194,7 @@ module _ (j : Joined) (e : Expanded) (w : IsExpanded j e) (ready : IsReady j) wh
   start_at : (k n : ℕ) → slice_get e.starts k ≡ Some n → (r : ℕ) × (slice_get j.starts k ≡ Some r) × (slice_get w.terms n ≡ Some (start_term r))
   start_at k n at =
       let t = zip_left (λ m x. slice_get w.terms m ≡ Some x) e.starts (start_terms j) w.starts k n at in
-      let r = some_of start_term (slice_get j.starts k) t.0 (sym (slice_get-map start_term j.starts k) ∙ t.1) in
+      let r = option_map_some start_term (slice_get j.starts k) t.0 (sym (slice_get-map start_term j.starts k) ∙ t.1) in
       (r.0, r.1, t.2 ∙ ap Some (sym r.2))
 
   one_rule : (r s : ℕ) → start_term r ≡ start_term s → r ≡ s

@@ -5,6 +5,7 @@ use Rattle.std.proofs.lemmas.Bool.{cases_lt, cases_eq}
 use Rattle.std.proofs.lemmas.List.{map-append, length-append}
 use Rattle.std.proofs.lemmas.List.Elements.{Contains-append_left}
 use Rattle.std.proofs.lemmas.Option.{slice_get_within}
+use Rattle.mh_grammar.proofs.Lists.{contains_last, contains_none, contains_push}
 use Rattle.mh_grammar.specs.Numbering.{AreDistinct}
 use Rattle.mh_grammar.proofs.Placing.{get_left, get_last, get_cases, contains_at, at_contains}
 use Rattle.mh_rules.specs.declared.joined.Applied.{Applied}
@@ -14,7 +15,6 @@ use Rattle.mh_expand.specs.Expansion.{Declares, IsRank}
 use Rattle.mh_expand.specs.Sharing.{term_at, Grows}
 use Rattle.mh_expand.proofs.Shared.{get_term}
 use Rattle.mh_expand.specs.Searching.{AreRanks, AddsRank}
-use Rattle.mh_expand.proofs.Found.{contains_none, contains_push, contains_last}
 
 pub replaced-none : (t : Term) → replaced [] t ≡ t
 replaced-none (Atom (Formal k)) = refl

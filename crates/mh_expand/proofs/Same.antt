@@ -4,6 +4,7 @@ use Rattle.std.specs.List.{slice_get, AllZip}
 use Rattle.std.specs.Option.{option_map}
 use Rattle.std.proofs.lemmas.Option.{slice_get-map}
 use Rattle.std.proofs.lemmas.List.{length-map}
+use Rattle.mh_grammar.proofs.Lists.{contains_none, zip_left, zip_length, zip_right}
 use Rattle.mh_grammar.proofs.Placing.{contains_at, at_contains}
 use Rattle.mh_rules.specs.declared.joined.Head.TheVariants.{Token}
 use Rattle.mh_rules.specs.declared.joined.Joined.{Joined}
@@ -15,35 +16,14 @@ use Rattle.mh_expand.specs.Expansion as expansion
 use Rattle.mh_expand.specs.Expansion.{IsInstance, IsReached, IsPart, IsProduction, IsInstanceOf, IsExpanded, alternatives_of, right_side, start_term, start_terms}
 use Rattle.mh_rules.specs.Sentences.{IsTokenPart, PartProduces}
 use Rattle.mh_expand.specs.Sentences.{IsTokenTerm, TermProduces, HasSameSentences}
-use Rattle.mh_expand.proofs.Found.{contains_none}
 use Rattle.mh_expand.proofs.Expanding.{start_rule}
 use Rattle.mh_expand.proofs.Simulating.{derivation_along}
-
--- partners in zipped lists
-pub zip_left : {A B : Type 0} (R : A → B → Type 0) (xs : List A) (ys : List B) → AllZip R xs ys → (i : ℕ) (x : A) → slice_get xs i ≡ Some x → (y : B) × (slice_get ys i ≡ Some y) × R x y
-zip_left R [] ys z i x e = cc
-zip_left R (v ∷ xs) [] z i x e = absurd z
-zip_left R (v ∷ xs) (w ∷ ys) z zero x e = let same : v ≡ x = cc in (w, refl, rw (← same) z.0)
-zip_left R (v ∷ xs) (w ∷ ys) z (suc i) x e = zip_left R xs ys z.1 i x e
-
-pub zip_right : {A B : Type 0} (R : A → B → Type 0) (xs : List A) (ys : List B) → AllZip R xs ys → (i : ℕ) (y : B) → slice_get ys i ≡ Some y → (x : A) × (slice_get xs i ≡ Some x) × R x y
-zip_right R [] [] z i y e = cc
-zip_right R [] (w ∷ ys) z i y e = absurd z
-zip_right R (v ∷ xs) [] z i y e = absurd z
-zip_right R (v ∷ xs) (w ∷ ys) z zero y e = let same : w ≡ y = cc in (v, refl, rw (← same) z.0)
-zip_right R (v ∷ xs) (w ∷ ys) z (suc i) y e = zip_right R xs ys z.1 i y e
 
 zip_flip : {A B : Type 0} (R : A → B → Type 0) (xs : List A) (ys : List B) → AllZip R xs ys → AllZip (λ y x. R x y) ys xs
 zip_flip R [] [] z = tt
 zip_flip R [] (w ∷ ys) z = absurd z
 zip_flip R (v ∷ xs) [] z = absurd z
 zip_flip R (v ∷ xs) (w ∷ ys) z = (z.0, zip_flip R xs ys z.1)
-
-pub zip_length : {A B : Type 0} (R : A → B → Type 0) (xs : List A) (ys : List B) → AllZip R xs ys → length xs ≡ length ys
-zip_length R [] [] z = refl
-zip_length R [] (w ∷ ys) z = absurd z
-zip_length R (v ∷ xs) [] z = absurd z
-zip_length R (v ∷ xs) (w ∷ ys) z = ap suc (zip_length R xs ys z.1)
 
 pub reached_instance : (j : Joined) (t : Term) → IsReached j t → IsInstance t
 reached_instance j t (expansion.IsReached.start c) = start_rule j t c

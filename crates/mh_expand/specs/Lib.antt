@@ -3,3 +3,4 @@ pub mod Searching
 pub mod Sentences
 pub mod Sharing
 pub mod Terms
+pub mod Whole

@@ -8,6 +8,7 @@ ghost use Rattle.mh_expand.specs.Expansion.{Fails, Causes, IsExpanded, IsFirstFa
 ghost use Rattle.mh_rules.specs.Ready.{IsReady, IsExpandedReady};
 ghost use Rattle.mh_expand.specs.Sentences.{HasSameSentences};
 ghost use Rattle.mh_expand.specs.Sharing.{terms_of, term_at, terms_at, Grows};
+ghost use Rattle.mh_expand.specs.Whole.{IsExpandedWhole};
 ghost use Rattle.mh_expand.specs.Searching.{IsSearch, IsFit, AreRanks, WentStarts, WentInstance, WentAlternative, IsExpanding, AreExpanded};
 
 use crate::fault::ExpandFault;
@@ -38,26 +39,74 @@ pub fn expand(alloc: Global, joined: &Joined) -> Result<Expanded, ExpandFault>
     ensures exact { IfOk result (λ _. (fault : ExpandFault) → IsFirstFault joined.now fault → ⊥) }
 {
     let mut terms = Terms::new(alloc);
-    let ranks = ranks_of(alloc, &mut terms, joined.on_error.as_slice())?;
+    expand_with(alloc, joined, &mut terms)
+}
+
+/// The expansion, from no terms. Each part of the work is owned by a function of its own: to let all go at each fault is
+/// far longer to prove.
+fn expand_with(alloc: Global, joined: &Joined, terms: &mut Terms) -> Result<Expanded, ExpandFault>
+    requires { terms_of terms.old.nodes.keys ≡ [] }
+    ensures ok { IfOk result (IsExpandedWhole joined.now) }
+    ensures err { IfErr result (Causes (IsFirstFault joined.now)) }
+{
+    let ranks = ranks_of(alloc, terms, joined.on_error.as_slice())?;
+    expand_ranked(alloc, joined, terms, &ranks)
+}
+
+/// The expansion, with the ranks of terms.
+fn expand_ranked(
+    alloc: Global,
+    joined: &Joined,
+    terms: &mut Terms,
+    ranks: &Ranks,
+) -> Result<Expanded, ExpandFault>
+    requires { AreRanks joined.now.on_error (terms_of terms.old.nodes.keys) (get nat_eq ranks.now) }
+    ensures ok { IfOk result (IsExpandedWhole joined.now) }
+    ensures err { IfErr result (Causes (IsFirstFault joined.now)) }
+{
     let mut found = IndexSet::new(alloc);
-    let starts = match find_starts(alloc, joined, &mut terms, &mut found) {
-        Ok(starts) => starts,
-        Err(fault) => return Err(fault),
-    };
-    match expand_all(alloc, joined, &mut terms, &ranks, &mut found) {
-        Ok(instances) => Ok(Expanded {
-            tokens: copy_of_tokens(&joined.tokens)?,
-            starts,
-            instances,
-        }),
+    expand_found(alloc, joined, terms, ranks, &mut found)
+}
+
+/// The expansion, where nothing is found yet.
+fn expand_found(
+    alloc: Global,
+    joined: &Joined,
+    terms: &mut Terms,
+    ranks: &Ranks,
+    found: &mut IndexSet<usize>,
+) -> Result<Expanded, ExpandFault>
+    requires none { found.old.keys ≡ [] }
+    requires ranks { AreRanks joined.now.on_error (terms_of terms.old.nodes.keys) (get nat_eq ranks.now) }
+    ensures ok { IfOk result (IsExpandedWhole joined.now) }
+    ensures err { IfErr result (Causes (IsFirstFault joined.now)) }
+{
+    match find_starts(alloc, joined, terms, found) {
+        Ok(starts) => match expand_all(alloc, joined, terms, ranks, found) {
+            Ok(instances) => {
+                let expanded = with_tokens(joined, starts, instances)?;
+                Ok(expanded)
+            }
+            Err(fault) => Err(fault),
+        },
         Err(fault) => Err(fault),
     }
 }
 
-fn copy_of_tokens(tokens: &Sequence<TokenInfo>) -> Result<Sequence<TokenInfo>, Memory>
-    ensures { IfOk result (λ t. t ≡ tokens.now) }
+/// The instances with the tokens of the joined rules.
+fn with_tokens(
+    joined: &Joined,
+    starts: Sequence<u32>,
+    instances: Sequence<Instance>,
+) -> Result<Expanded, Memory>
+    ensures { IfOk result
+        (λ e. e ≡ record { tokens = joined.now.tokens; starts = starts; instances = instances }) }
 {
-    Ok(tokens.clone()?)
+    Ok(Expanded {
+        tokens: joined.tokens.clone()?,
+        starts,
+        instances,
+    })
 }
 
 /// The instances that were found, and those that are found while they are expanded.

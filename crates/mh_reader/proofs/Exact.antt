@@ -246,16 +246,6 @@ early_at bytes ls i s line h g e n = ends_early bytes ls s line (goes_whole byte
 pub shallow_at : (bytes : List ℕ) (l : Lexeme) (s t : Reader) → IsShallow s.place → taken s (sign_by l.kind (bytes_of bytes l)) (text_by l.kind (bytes_of bytes l)) ≡ Some t → IsShallow t.place
 shallow_at bytes l s t h e = taken_shallow (sign_by l.kind (bytes_of bytes l)) (text_by l.kind (bytes_of bytes l)) s t h e
 
--- where no file ends
-pub no_end : (p : Place) (m : Module) → (p ≡ places.Rules → ⊥) → ((d : Draft) → p ≡ places.Group d → ⊥) → ((r : Rule) → p ≡ places.GroupClosed r → ⊥) → (p ≡ places.RuleEnd → ⊥) → (p ≡ places.Ended → ⊥) → finish_at m p ≡ None
-unfolding finish_at
-no_end places.Rules m a b c d e = absurd (a refl)
-no_end (places.Group x) m a b c d e = absurd (b x refl)
-no_end (places.GroupClosed x) m a b c d e = absurd (c x refl)
-no_end places.RuleEnd m a b c d e = absurd (d refl)
-no_end places.Ended m a b c d e = absurd (e refl)
-no_end _ m a b c d e = refl
-
 pub lexical_along : LexedOnce → (bytes : List ℕ) (line other : ℕ) → other ≡ line → (ls : List Lexeme) × (place : ℕ) × Lexes bytes ls (Some place) × (line ≡ line_at bytes place) →
     IsSyntaxLine bytes other × ((m : Module) → Spells bytes m → ⊥)
 lexical_along once bytes line other e h = subst (λ k. IsSyntaxLine bytes k × ((m : Module) → Spells bytes m → ⊥)) (sym e) (lexical_fault once bytes line h)

@@ -2,13 +2,16 @@
 ghost use Rattle.std.specs.Prelude.{◌≡◌, ◌+◌, ◌≤◌, ◌∷◌, ◌++◌, [], suc, IfOk, length, nat_le, max};
 ghost use Rattle.mh_rules.specs.declared.modules.Ref.TheVariants.{Plain};
 ghost use Rattle.mh_rules.specs.Modules.{applied};
+ghost use Rattle.mh_reader.specs.declared.places.Place.TheVariants as places;
 ghost use Rattle.mh_reader.specs.Spelling.{ref_by};
 ghost use Rattle.mh_reader.specs.Machine as machine;
 ghost use Rattle.mh_reader.specs.Machine.{Refers, with_argument, with_producer};
 ghost use Rattle.mh_reader.specs.Limits.{Deep};
 
 use crate::declarations::at_items;
-use crate::places::{Draft, Listing, Pending, Place, Purpose, Reader, Refusal, go_to};
+use crate::places::{
+    Draft, Listing, Pending, Place, Purpose, Reader, Refusal, go_to, no_memory, unexpected,
+};
 use crate::rules::{at_spaced, reference};
 use crate::signs::Sign;
 use crate::stack::Stack;
@@ -41,16 +44,43 @@ fn add_actual(actuals: Sequence<Actual>, actual: Actual) -> Result<Sequence<Actu
     Ok(actuals)
 }
 
-/// An actual with one argument, for which alone there is room: a suffix of one byte makes one.
+/// Adds a producer to a production.
+fn add_producer(draft: Draft, actual: Actual) -> Result<Draft, Memory>
+    ensures { IfOk result (λ d. d ≡ with_producer draft actual) }
+{
+    let mut draft = draft;
+    draft.producers.push(actual)?;
+    Ok(draft)
+}
+
+/// Adds an argument of this depth.
+fn add_argument(inner: Pending, actual: Actual, depth: usize) -> Result<Pending, Memory>
+    ensures { IfOk result (λ p. p ≡ with_argument inner actual depth) }
+{
+    let mut inner = inner;
+    inner.args.push(actual)?;
+    inner.depth = deeper_of(inner.depth, depth);
+    Ok(inner)
+}
+
+/// A list of one actual, for which alone there is room.
+fn alone(alloc: Global, actual: Actual) -> Result<Sequence<Actual>, Memory>
+    ensures { IfOk result (λ all. all ≡ actual ∷ []) }
+{
+    let mut all = Vec::with_capacity(alloc, 1)?;
+    all.push(actual)?;
+    Ok(Sequence::from_vec(all))
+}
+
+/// An actual with one argument: a suffix of one byte makes one.
 fn wrapped(alloc: Global, name: &[u8], inner: Actual) -> Result<Actual, Memory>
     ensures { IfOk result (λ a. a ≡ applied (Plain name.now) (inner ∷ [])) }
 {
-    let head = Ref::Plain(from_bytes(alloc, name)?);
-    let mut args = Vec::with_capacity(alloc, 1)?;
-    args.push(inner)?;
+    let args = alone(alloc, inner)?;
+    let name = from_bytes(alloc, name)?;
     Ok(Actual {
-        head,
-        args: Sequence::from_vec(args),
+        head: Ref::Plain(name),
+        args,
     })
 }
 
@@ -66,19 +96,30 @@ fn whole(
     ensures { Refers (machine.whole made purpose actual sign text.now) result }
 {
     match purpose {
-        Purpose::Producer(draft) => {
-            let producers = add_actual(draft.producers, actual)?;
-            let draft = Draft {
-                rule: draft.rule,
-                productions: draft.productions,
-                producers,
-            };
-            at_spaced(alloc, made, draft, sign, text)
-        }
-        Purpose::Listed(kept, actuals) => {
-            let actuals = add_actual(actuals, actual)?;
-            at_items(alloc, made, Listing::Actuals(kept, actuals), sign, text)
-        }
+        Purpose::Producer(draft) => match add_producer(draft, actual) {
+            Ok(draft) => at_spaced(alloc, made, draft, sign, text),
+            Err(_) => no_memory(made),
+        },
+        Purpose::Listed(kept, actuals) => match add_actual(actuals, actual) {
+            Ok(actuals) => at_items(alloc, made, Listing::Actuals(kept, actuals), sign, text),
+            Err(_) => no_memory(made),
+        },
+    }
+}
+
+/// Where the next argument of an open bracket begins.
+fn next_argument(
+    made: Module,
+    purpose: Purpose,
+    outer: Stack<Pending>,
+    inner: Pending,
+) -> Result<Reader, Refusal>
+    ensures { Refers (machine.goes made (places.Argument purpose (inner ∷ outer))) result }
+{
+    let mut pending = outer;
+    match pending.push(inner) {
+        Ok(()) => go_to(made, Place::Argument(purpose, pending)),
+        Err(_) => no_memory((made, purpose, pending)),
     }
 }
 
@@ -96,31 +137,20 @@ fn behind_argument(
     requires outer { depth ≤ 1000 }
     ensures { Refers (machine.within made purpose inner rest actual depth sign) result }
 {
-    let mut pending = rest;
-    let deepest = deeper_of(inner.depth, depth);
-    let args = add_actual(inner.args, actual)?;
-    match sign {
-        Sign::Comma => {
-            pending.push(Pending {
-                head: inner.head,
-                args,
-                depth: deepest,
-            })?;
-            go_to(made, Place::Argument(purpose, pending))
-        }
-        Sign::Close => go_to(
-            made,
-            Place::After(
-                purpose,
-                pending,
-                Actual {
+    match add_argument(inner, actual, depth) {
+        Ok(inner) => match sign {
+            Sign::Comma => next_argument(made, purpose, rest, inner),
+            Sign::Close => {
+                let depth = inner.depth + 1;
+                let actual = Actual {
                     head: inner.head,
-                    args,
-                },
-                deepest + 1,
-            ),
-        ),
-        _ => Err(Refusal::Unexpected),
+                    args: inner.args,
+                };
+                go_to(made, Place::After(purpose, rest, actual, depth))
+            }
+            _ => unexpected((made, purpose, rest, inner)),
+        },
+        Err(_) => no_memory((made, purpose, rest)),
     }
 }
 
@@ -158,11 +188,14 @@ fn suffix(
 ) -> Result<Reader, Refusal>
     ensures { Refers (machine.deeper made purpose pending actual depth (machine.fits (suc depth) pending) name.now) result }
 {
-    if !has_room(depth, pending.len()) {
-        return Err(Refusal::Unexpected);
+    if has_room(depth, pending.len()) {
+        match wrapped(alloc, name, actual) {
+            Ok(actual) => go_to(made, Place::After(purpose, pending, actual, depth + 1)),
+            Err(_) => no_memory((made, purpose, pending)),
+        }
+    } else {
+        unexpected((made, purpose, pending, actual))
     }
-    let actual = wrapped(alloc, name, actual)?;
-    go_to(made, Place::After(purpose, pending, actual, depth + 1))
 }
 
 /// Behind an actual, where a suffix may stand.
@@ -206,16 +239,16 @@ fn open(
 ) -> Result<Reader, Refusal>
     ensures { Refers (machine.opened made purpose pending head (machine.fits 2 pending)) result }
 {
-    if !has_room(1, pending.len()) {
-        return Err(Refusal::Unexpected);
+    if has_room(1, pending.len()) {
+        let inner = Pending {
+            head,
+            args: Sequence::new(alloc),
+            depth: 0,
+        };
+        next_argument(made, purpose, pending, inner)
+    } else {
+        unexpected((made, purpose, pending, head))
     }
-    let mut pending = pending;
-    pending.push(Pending {
-        head,
-        args: Sequence::new(alloc),
-        depth: 0,
-    })?;
-    go_to(made, Place::Argument(purpose, pending))
 }
 
 /// Behind the name of an actual.
@@ -276,7 +309,7 @@ pub(crate) fn at_argument(
 {
     match reference(alloc, sign, text) {
         Ok(head) => go_to(made, Place::Head(purpose, pending, head)),
-        Err(Refusal::Unexpected) => Err(Refusal::Unexpected),
-        Err(Refusal::Memory) => Err(Refusal::Memory),
+        Err(Refusal::Unexpected) => unexpected((made, purpose, pending)),
+        Err(Refusal::Memory) => no_memory((made, purpose, pending)),
     }
 }

@@ -4,28 +4,39 @@ ghost use Rattle.mh_reader.specs.Signs.{is_capital};
 ghost use Rattle.mh_reader.specs.Machine as machine;
 ghost use Rattle.mh_reader.specs.Machine.{Refers};
 
-use crate::places::{Listing, Place, Purpose, Reader, Refusal, go_to};
+use crate::places::{Listing, Place, Purpose, Reader, Refusal, go_to, no_memory, unexpected};
 use crate::signs::{Sign, is_capital_word};
 use crate::stack::Stack;
 use mh_grammar::{Memory, Name, Sequence, from_bytes};
-use mh_rules::{LevelDecl, Module, Ref, TokenDecl};
+use mh_rules::{Actual, LevelDecl, Module, Ref, TokenDecl};
 use std::alloc::Global;
+
+/// A declaration of levels.
+fn add_level(made: Module, level: LevelDecl) -> Result<Module, Memory>
+    ensures { IfOk result (λ m. m ≡ record made { levels = made.levels ++ level ∷ [] }) }
+{
+    let mut made = made;
+    made.levels.push(level)?;
+    Ok(made)
+}
+
+/// An on-error declaration.
+fn add_on_error(made: Module, actuals: Sequence<Actual>) -> Result<Module, Memory>
+    ensures { IfOk result (λ m. m ≡ record made { on_error = made.on_error ++ actuals ∷ [] }) }
+{
+    let mut made = made;
+    made.on_error.push(actuals)?;
+    Ok(made)
+}
 
 /// The module behind a list.
 fn close(made: Module, listing: Listing) -> Result<Module, Memory>
     ensures { IfOk result (λ m. m ≡ machine.close made listing) }
 {
-    let mut made = made;
     match listing {
         Listing::Tokens | Listing::Starts | Listing::Actuals(false, _) => Ok(made),
-        Listing::Levels(assoc, names) => {
-            made.levels.push(LevelDecl { assoc, names })?;
-            Ok(made)
-        }
-        Listing::Actuals(true, actuals) => {
-            made.on_error.push(actuals)?;
-            Ok(made)
-        }
+        Listing::Levels(assoc, names) => add_level(made, LevelDecl { assoc, names }),
+        Listing::Actuals(true, actuals) => add_on_error(made, actuals),
     }
 }
 
@@ -43,7 +54,7 @@ pub(crate) fn declare(alloc: Global, made: Module, sign: Sign) -> Result<Reader,
         Sign::Parameter => Place::ParameterType,
         Sign::Attribute => Place::Items(Listing::Actuals(false, Sequence::new(alloc))),
         Sign::Percents => Place::Rules,
-        _ => return Err(Refusal::Unexpected),
+        _ => return unexpected(made),
     };
     go_to(made, place)
 }
@@ -83,23 +94,25 @@ fn add_token(made: Module, name: Name, alias: Option<Name>) -> Result<Module, Me
 fn list_word(alloc: Global, made: Module, listing: Listing, text: &[u8]) -> Result<Reader, Refusal>
     ensures { Refers (machine.list_word made listing text.now) result }
 {
-    let name = from_bytes(alloc, text)?;
+    let Ok(name) = from_bytes(alloc, text) else {
+        return no_memory((made, listing));
+    };
     match listing {
         Listing::Tokens => {
             if is_capital_word(text) {
                 go_to(made, Place::TokenNamed(name))
             } else {
-                Err(Refusal::Unexpected)
+                unexpected((made, name))
             }
         }
         Listing::Starts => {
             let made = add_start(made, name)?;
             go_to(made, Place::Items(Listing::Starts))
         }
-        Listing::Levels(assoc, names) => {
-            let names = add_name(names, Ref::Plain(name))?;
-            go_to(made, Place::Items(Listing::Levels(assoc, names)))
-        }
+        Listing::Levels(assoc, names) => match add_name(names, Ref::Plain(name)) {
+            Ok(names) => go_to(made, Place::Items(Listing::Levels(assoc, names))),
+            Err(_) => no_memory(made),
+        },
         Listing::Actuals(kept, actuals) => go_to(
             made,
             Place::Head(
@@ -120,13 +133,15 @@ fn list_quoted(
 ) -> Result<Reader, Refusal>
     ensures { Refers (machine.list_quoted made listing text.now) result }
 {
-    let name = from_bytes(alloc, text)?;
+    let Ok(name) = from_bytes(alloc, text) else {
+        return no_memory((made, listing));
+    };
     match listing {
-        Listing::Tokens | Listing::Starts => Err(Refusal::Unexpected),
-        Listing::Levels(assoc, names) => {
-            let names = add_name(names, Ref::Alias(name))?;
-            go_to(made, Place::Items(Listing::Levels(assoc, names)))
-        }
+        Listing::Tokens | Listing::Starts => unexpected((made, name)),
+        Listing::Levels(assoc, names) => match add_name(names, Ref::Alias(name)) {
+            Ok(names) => go_to(made, Place::Items(Listing::Levels(assoc, names))),
+            Err(_) => no_memory(made),
+        },
         Listing::Actuals(kept, actuals) => go_to(
             made,
             Place::Head(
@@ -172,7 +187,7 @@ pub(crate) fn at_comma(
     match sign {
         Sign::Word => list_word(alloc, made, listing, text),
         Sign::Quoted => list_quoted(alloc, made, listing, text),
-        _ => Err(Refusal::Unexpected),
+        _ => unexpected((made, listing)),
     }
 }
 
@@ -201,7 +216,7 @@ pub(crate) fn at_type(alloc: Global, made: Module, sign: Sign) -> Result<Reader,
             made,
             Place::Items(Listing::Actuals(false, Sequence::new(alloc))),
         ),
-        _ => Err(Refusal::Unexpected),
+        _ => unexpected(made),
     }
 }
 
@@ -211,7 +226,7 @@ pub(crate) fn at_parameter(made: Module, sign: Sign) -> Result<Reader, Refusal>
 {
     match sign {
         Sign::TypeText => go_to(made, Place::Declarations),
-        _ => Err(Refusal::Unexpected),
+        _ => unexpected(made),
     }
 }
 
@@ -226,11 +241,13 @@ pub(crate) fn at_token(
     ensures { Refers (machine.at_token made name sign text.now) result }
 {
     match sign {
-        Sign::Quoted => {
-            let alias = from_bytes(alloc, text)?;
-            let made = add_token(made, name, Some(alias))?;
-            go_to(made, Place::Items(Listing::Tokens))
-        }
+        Sign::Quoted => match from_bytes(alloc, text) {
+            Ok(alias) => {
+                let made = add_token(made, name, Some(alias))?;
+                go_to(made, Place::Items(Listing::Tokens))
+            }
+            Err(_) => no_memory((made, name)),
+        },
         _ => {
             let made = add_token(made, name, None)?;
             at_items(alloc, made, Listing::Tokens, sign, text)

@@ -1,5 +1,5 @@
 //! Where a reader stands.
-ghost use Rattle.std.specs.Prelude.{◌≡◌};
+ghost use Rattle.std.specs.Prelude.{◌≡◌, Err, None};
 ghost use Rattle.mh_reader.specs.Machine as machine;
 ghost use Rattle.mh_reader.specs.Machine.{Refers};
 ghost use Rattle.mh_reader.specs.declared.places.Refusal.TheVariants as refusals;
@@ -129,4 +129,21 @@ pub(crate) fn go_to(made: Module, place: Place) -> Result<Reader, Refusal>
     ensures { Refers (machine.goes made place) result }
 {
     Ok(Reader { made, place })
+}
+
+/// No lexeme like this one may stand here. What was read is let go in one call: a step that did so itself at each way out
+/// would be far longer to prove.
+pub(crate) fn unexpected<T: Drop, X>(read: T) -> Result<X, Refusal>
+    ensures { Refers None result }
+{
+    drop(read);
+    Err(Refusal::Unexpected)
+}
+
+/// There is no memory for what was read, which is let go.
+pub(crate) fn no_memory<T: Drop, X>(read: T) -> Result<X, Refusal>
+    ensures { result ≡ Err refusals.Memory }
+{
+    drop(read);
+    Err(Refusal::Memory)
 }

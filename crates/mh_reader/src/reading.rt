@@ -13,7 +13,7 @@ ghost use Rattle.mh_reader.specs.Machine.{Refers, finish_at, start, taken};
 ghost use Rattle.mh_reader.specs.Faults.{Refuses, Stops};
 
 use crate::advance::advance;
-use crate::places::{Place, Reader, Refusal};
+use crate::places::{Place, Reader, Refusal, no_memory, unexpected};
 use crate::rules::{add_rule, group_of};
 use crate::signs::{Sign, content_of, sign_of};
 use mh_grammar::Sequence;
@@ -45,9 +45,34 @@ fn ended(reader: Reader) -> Result<Module, Refusal>
     let made = reader.made;
     match reader.place {
         Place::Rules | Place::RuleEnd | Place::Ended => Ok(made),
-        Place::Group(draft) => Ok(add_rule(made, group_of(draft)?)?),
+        Place::Group(draft) => match group_of(draft) {
+            Ok(rule) => Ok(add_rule(made, rule)?),
+            Err(_) => no_memory(made),
+        },
         Place::GroupClosed(rule) => Ok(add_rule(made, rule)?),
-        _ => Err(Refusal::Unexpected),
+        // Not `_`: to let go of any place at once is far longer to prove.
+        Place::Declarations | Place::TypeOf | Place::ParameterType | Place::Modified(_, _) => {
+            unexpected(made)
+        }
+        Place::Opening(listing) | Place::Items(listing) | Place::Comma(listing) => {
+            unexpected((made, listing))
+        }
+        Place::TokenNamed(name) => unexpected((made, name)),
+        Place::RuleNamed(rule)
+        | Place::FormalsOpen(rule)
+        | Place::FormalRead(rule)
+        | Place::FormalComma(rule)
+        | Place::FormalsClosed(rule)
+        | Place::Begin(rule) => unexpected((made, rule)),
+        Place::Production(draft)
+        | Place::Spaced(draft)
+        | Place::Prec(draft)
+        | Place::Closed(draft)
+        | Place::GroupPrec(draft) => unexpected((made, draft)),
+        Place::Named(draft, name) => unexpected((made, draft, name)),
+        Place::Argument(purpose, pending) => unexpected((made, purpose, pending)),
+        Place::Head(purpose, pending, head) => unexpected((made, purpose, pending, head)),
+        Place::After(purpose, pending, actual, _) => unexpected((made, purpose, pending, actual)),
     }
 }
 

@@ -5,12 +5,13 @@ ghost use Rattle.mh_reader.specs.Spelling.{ref_by, with_prec};
 ghost use Rattle.mh_reader.specs.Machine as machine;
 ghost use Rattle.mh_reader.specs.Machine.{Refers, ruled, grouped, grouped_with, produced, drafted, named, with_formal};
 
-use crate::places::{Draft, Place, Purpose, Reader, Refusal, go_to};
+use crate::places::{Draft, Place, Purpose, Reader, Refusal, go_to, no_memory, unexpected};
 use crate::signs::Sign;
 use crate::stack::Stack;
 use mh_grammar::{Memory, Name, Sequence, from_bytes};
 use mh_rules::{Alternative, Module, Ref, Rule};
 use std::alloc::Global;
+use std::mem;
 
 /// What a word or a string refers to.
 pub(crate) fn reference(alloc: Global, sign: Sign, text: &[u8]) -> Result<Ref, Refusal>
@@ -34,17 +35,19 @@ fn name_rule(
 ) -> Result<Reader, Refusal>
     ensures { Refers (machine.goes made (machine.name_place public inlined text.now)) result }
 {
-    let name = from_bytes(alloc, text)?;
-    go_to(
-        made,
-        Place::RuleNamed(Rule {
-            public,
-            inlined,
-            name,
-            formals: Sequence::new(alloc),
-            alternatives: Sequence::new(alloc),
-        }),
-    )
+    match from_bytes(alloc, text) {
+        Ok(name) => go_to(
+            made,
+            Place::RuleNamed(Rule {
+                public,
+                inlined,
+                name,
+                formals: Sequence::new(alloc),
+                alternatives: Sequence::new(alloc),
+            }),
+        ),
+        Err(_) => no_memory(made),
+    }
 }
 
 /// Where a rule may begin.
@@ -61,7 +64,7 @@ pub(crate) fn in_rules(
         Sign::Public => go_to(made, Place::Modified(true, false)),
         Sign::Inline => go_to(made, Place::Modified(false, true)),
         Sign::Percents => go_to(made, Place::Ended),
-        _ => Err(Refusal::Unexpected),
+        _ => unexpected(made),
     }
 }
 
@@ -80,7 +83,7 @@ pub(crate) fn at_modified(
         Sign::Word => name_rule(alloc, made, public, inlined, text),
         Sign::Public => go_to(made, Place::Modified(true, inlined)),
         Sign::Inline => go_to(made, Place::Modified(public, true)),
-        _ => Err(Refusal::Unexpected),
+        _ => unexpected(made),
     }
 }
 
@@ -91,18 +94,28 @@ pub(crate) fn at_rule_named(made: Module, rule: Rule, sign: Sign) -> Result<Read
     match sign {
         Sign::Open => go_to(made, Place::FormalsOpen(rule)),
         Sign::Colon => go_to(made, Place::Begin(rule)),
-        _ => Err(Refusal::Unexpected),
+        _ => unexpected((made, rule)),
     }
+}
+
+/// The rule with one more formal.
+fn with_formal_of(alloc: Global, rule: Rule, text: &[u8]) -> Result<Rule, Memory>
+    ensures { IfOk result (λ r. r ≡ with_formal rule text.now) }
+{
+    let mut rule = rule;
+    let name = from_bytes(alloc, text)?;
+    rule.formals.push(name)?;
+    Ok(rule)
 }
 
 /// A formal.
 fn add_formal(alloc: Global, made: Module, rule: Rule, text: &[u8]) -> Result<Reader, Refusal>
     ensures { Refers (machine.goes made (machine.formal_place rule text.now)) result }
 {
-    let name = from_bytes(alloc, text)?;
-    let mut rule = rule;
-    rule.formals.push(name)?;
-    go_to(made, Place::FormalRead(rule))
+    match with_formal_of(alloc, rule, text) {
+        Ok(rule) => go_to(made, Place::FormalRead(rule)),
+        Err(_) => no_memory(made),
+    }
 }
 
 /// Behind the bracket of formals.
@@ -118,7 +131,7 @@ pub(crate) fn at_formals_open(
     match sign {
         Sign::Word => add_formal(alloc, made, rule, text),
         Sign::Close => go_to(made, Place::FormalsClosed(rule)),
-        _ => Err(Refusal::Unexpected),
+        _ => unexpected((made, rule)),
     }
 }
 
@@ -129,7 +142,7 @@ pub(crate) fn at_formal_read(made: Module, rule: Rule, sign: Sign) -> Result<Rea
     match sign {
         Sign::Comma => go_to(made, Place::FormalComma(rule)),
         Sign::Close => go_to(made, Place::FormalsClosed(rule)),
-        _ => Err(Refusal::Unexpected),
+        _ => unexpected((made, rule)),
     }
 }
 
@@ -145,7 +158,7 @@ pub(crate) fn at_formal_comma(
 {
     match sign {
         Sign::Word => add_formal(alloc, made, rule, text),
-        _ => Err(Refusal::Unexpected),
+        _ => unexpected((made, rule)),
     }
 }
 
@@ -155,7 +168,7 @@ pub(crate) fn at_formals_closed(made: Module, rule: Rule, sign: Sign) -> Result<
 {
     match sign {
         Sign::Colon => go_to(made, Place::Begin(rule)),
-        _ => Err(Refusal::Unexpected),
+        _ => unexpected((made, rule)),
     }
 }
 
@@ -174,32 +187,30 @@ fn draft_of(alloc: Global, rule: Rule) -> Draft
 fn end_production(alloc: Global, draft: Draft, prec: Option<Ref>) -> Result<Draft, Memory>
     ensures { IfOk result (λ d. d ≡ produced draft prec) }
 {
-    let mut productions = draft.productions;
-    productions.push(Alternative {
-        producers: draft.producers,
-        prec,
-    })?;
-    Ok(Draft {
-        rule: draft.rule,
-        productions,
-        producers: Sequence::new(alloc),
-    })
+    let mut draft = draft;
+    let producers = mem::replace(&mut draft.producers, Sequence::new(alloc));
+    draft.productions.push(Alternative { producers, prec })?;
+    Ok(draft)
 }
 
 /// A production ends at a bar.
 fn end_at_bar(alloc: Global, made: Module, draft: Draft) -> Result<Reader, Refusal>
     ensures { Refers (machine.goes made (machine.bar_place draft)) result }
 {
-    let draft = end_production(alloc, draft, None)?;
-    go_to(made, Place::Production(draft))
+    match end_production(alloc, draft, None) {
+        Ok(draft) => go_to(made, Place::Production(draft)),
+        Err(_) => no_memory(made),
+    }
 }
 
 /// A production ends at the action of its group.
 fn end_at_action(alloc: Global, made: Module, draft: Draft) -> Result<Reader, Refusal>
     ensures { Refers (machine.goes made (machine.action_place draft)) result }
 {
-    let draft = end_production(alloc, draft, None)?;
-    go_to(made, Place::Group(draft))
+    match end_production(alloc, draft, None) {
+        Ok(draft) => go_to(made, Place::Group(draft)),
+        Err(_) => no_memory(made),
+    }
 }
 
 /// In a production.
@@ -213,25 +224,22 @@ pub(crate) fn in_production(
     ensures { Refers (machine.in_production made draft sign text.now) result }
 {
     match sign {
-        Sign::Word => {
-            let name = from_bytes(alloc, text)?;
-            go_to(made, Place::Named(draft, name))
-        }
-        Sign::Quoted => {
-            let name = from_bytes(alloc, text)?;
-            go_to(
-                made,
-                Place::Head(
-                    Purpose::Producer(draft),
-                    Stack::new(alloc),
-                    Ref::Alias(name),
-                ),
-            )
-        }
+        Sign::Word => match from_bytes(alloc, text) {
+            Ok(name) => go_to(made, Place::Named(draft, name)),
+            Err(_) => no_memory((made, draft)),
+        },
+        Sign::Quoted => match from_bytes(alloc, text) {
+            Ok(name) => {
+                let purpose = Purpose::Producer(draft);
+                let head = Ref::Alias(name);
+                go_to(made, Place::Head(purpose, Stack::new(alloc), head))
+            }
+            Err(_) => no_memory((made, draft)),
+        },
         Sign::Prec => go_to(made, Place::Prec(draft)),
         Sign::Bar => end_at_bar(alloc, made, draft),
         Sign::Action => end_at_action(alloc, made, draft),
-        _ => Err(Refusal::Unexpected),
+        _ => unexpected((made, draft)),
     }
 }
 
@@ -280,11 +288,13 @@ pub(crate) fn at_prec(
 {
     match reference(alloc, sign, text) {
         Ok(prec) => {
-            let draft = end_production(alloc, draft, Some(prec))?;
-            go_to(made, Place::Closed(draft))
+            match end_production(alloc, draft, Some(prec)) {
+                Ok(draft) => go_to(made, Place::Closed(draft)),
+                Err(_) => no_memory(made),
+            }
         }
-        Err(Refusal::Unexpected) => Err(Refusal::Unexpected),
-        Err(Refusal::Memory) => Err(Refusal::Memory),
+        Err(Refusal::Unexpected) => unexpected((made, draft)),
+        Err(Refusal::Memory) => no_memory((made, draft)),
     }
 }
 
@@ -306,7 +316,7 @@ pub(crate) fn at_closed(
             }),
         ),
         Sign::Action => go_to(made, Place::Group(draft)),
-        _ => Err(Refusal::Unexpected),
+        _ => unexpected((made, draft)),
     }
 }
 
@@ -389,8 +399,10 @@ pub(crate) fn at_group(
     match sign {
         Sign::Prec => go_to(made, Place::GroupPrec(draft)),
         _ => {
-            let rule = group_of(draft)?;
-            behind_group(alloc, made, rule, sign, text)
+            match group_of(draft) {
+                Ok(rule) => behind_group(alloc, made, rule, sign, text),
+                Err(_) => no_memory(made),
+            }
         }
     }
 }
@@ -429,6 +441,17 @@ fn own_or(alloc: Global, group: &Ref, prec: Option<Ref>) -> Result<Option<Ref>, 
     }
 }
 
+/// The group's level goes to a production without its own.
+fn levelled_one(alloc: Global, production: Alternative, group: &Ref) -> Result<Alternative, Memory>
+    ensures { IfOk result (λ p. p ≡ with_prec (Some group.now) production) }
+{
+    let prec = own_or(alloc, group, production.prec)?;
+    Ok(Alternative {
+        producers: production.producers,
+        prec,
+    })
+}
+
 /// The group's level goes to each production without its own.
 fn levelled(
     alloc: Global,
@@ -439,11 +462,7 @@ fn levelled(
 {
     let mut all = Sequence::new(alloc);
     for production in productions.into_vec() {
-        let prec = own_or(alloc, group, production.prec)?;
-        all.push(Alternative {
-            producers: production.producers,
-            prec,
-        })?;
+        all.push(levelled_one(alloc, production, group)?)?;
     }
     Ok(all)
 }
@@ -468,11 +487,13 @@ pub(crate) fn at_group_prec(
 {
     match reference(alloc, sign, text) {
         Ok(prec) => {
-            let rule = levelled_group(alloc, draft, &prec)?;
-            go_to(made, Place::GroupClosed(rule))
+            match levelled_group(alloc, draft, &prec) {
+                Ok(rule) => go_to(made, Place::GroupClosed(rule)),
+                Err(_) => no_memory(made),
+            }
         }
-        Err(Refusal::Unexpected) => Err(Refusal::Unexpected),
-        Err(Refusal::Memory) => Err(Refusal::Memory),
+        Err(Refusal::Unexpected) => unexpected((made, draft)),
+        Err(Refusal::Memory) => no_memory((made, draft)),
     }
 }
 

@@ -20,9 +20,9 @@ use Rattle.mh_tables.specs.declared.parts.StateParts.{StateParts}
 use Rattle.mh_resolve.specs.declared.kinds.Mode.{Mode}
 use Rattle.mh_resolve.specs.declared.cells.Cell.{Cell}
 use Rattle.mh_resolve.specs.States.{Raw, IsCandidate, IsForErrors, place_of, IsResolved}
-use Rattle.mh_resolve.specs.Rows.{listed, AreCells, IsDecidedOn, IsStreamIn, IsDefaultIn, IsLooked, no_cell}
-use Rattle.mh_resolve.specs.Whole.{closed_state, kept_of, IsFiller, filled_with, fallback_for, IsKnown, IsRow, AreEdgesKnown}
-use Rattle.mh_resolve.specs.Counting.{AreLooksKnown}
+use Rattle.mh_resolve.specs.code.Rows.{listed, AreCells, IsDecidedOn, IsStreamIn, IsDefaultIn, IsLooked, no_cell}
+use Rattle.mh_resolve.specs.code.Whole.{closed_state, kept_of, IsFiller, filled_with, fallback_for, IsKnown, IsRow, AreEdgesKnown}
+use Rattle.mh_resolve.specs.code.Counting.{AreLooksKnown}
 use Rattle.mh_resolve.proofs.Same.{AreAlike, decided_same}
 use Rattle.mh_grammar.proofs.Lists.{recursion_contains}
 use Rattle.mh_resolve.proofs.Stating.{stream_to, stream_from, found, fallback_is, cell_is}

@@ -33,7 +33,7 @@ use Rattle.mh_resolve.proofs.Stating.{unique, takes_raw, takes_stays}
 use Rattle.mh_resolve.proofs.Tabled.{named_ordinary}
 
 -- a kept action is raw
-kept_raw : (s : State) (look : Look) (a : Action) → Keeps s look a → Raw s look a
+pub kept_raw : (s : State) (look : Look) (a : Action) → Keeps s look a → Raw s look a
 kept_raw s (Token z) a k = takes_raw s (Token z) a k
 kept_raw s End a k = takes_raw s End a k.0
 

@@ -13,8 +13,8 @@ use Rattle.mh_items.specs.Shapes.{KernelItem}
 use Rattle.mh_items.specs.Kernels.{Holds}
 use Rattle.mh_resolve.specs.declared.counting.Tallies.{Tallies}
 use Rattle.mh_resolve.specs.Levels.{compared}
-use Rattle.mh_resolve.specs.Tallies.{empty_tally, tally_with, weighed, IsTally}
-use Rattle.mh_resolve.specs.Counting.{Seen, shift_in, tally_on, IsChanged, AreTallied, With}
+use Rattle.mh_resolve.specs.code.Tallies.{empty_tally, tally_with, weighed, IsTally}
+use Rattle.mh_resolve.specs.code.Counting.{Seen, shift_in, tally_on, IsChanged, AreTallied, With}
 use Rattle.mh_resolve.proofs.Tallying.{IsMore, empty_is, more_is, same_is}
 use Rattle.mh_grammar.proofs.Lists.{contains_here, contains_last, contains_push, recursion_contains, taken_before, taken_cases, taken_last}
 

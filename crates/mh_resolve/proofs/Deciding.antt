@@ -12,8 +12,8 @@ use Rattle.mh_resolve.specs.declared.kinds.ConflictKind.TheVariants.{Solved, Uns
 use Rattle.mh_resolve.specs.declared.cells.Tally.{Tally}
 use Rattle.mh_resolve.specs.Cells.{IsForShift, Stays, HasTwo}
 use Rattle.mh_resolve.specs.States.{RawOf}
-use Rattle.mh_resolve.specs.Counting.{Seen}
-use Rattle.mh_resolve.specs.Tallies.{weighed, action_from, cell_from, IsLowest, AreTwo, IsTally, IsTaken, IsKind, IsDecided}
+use Rattle.mh_resolve.specs.code.Counting.{Seen}
+use Rattle.mh_resolve.specs.code.Tallies.{weighed, action_from, cell_from, IsLowest, AreTwo, IsTally, IsTaken, IsKind, IsDecided}
 
 action_is : (by : ℕ → Comparison) (g : Grammar) (items : ItemSet) (look : Look) (shift lo : Option ℕ) (b : Bool) → IsLowest (weighed by shift) (Seen g items look) lo
     → MatchBool b ((p : ℕ) → Seen g items look p → IsForShift (weighed by shift p)) ((p : ℕ) × Seen g items look p × (IsForShift (weighed by shift p) → ⊥))

@@ -17,9 +17,9 @@ use Rattle.mh_resolve.specs.declared.cells.Cell.{Cell}
 use Rattle.mh_resolve.specs.Levels.{compared}
 use Rattle.mh_resolve.specs.Cells.{IsConflict, IsUnsolved}
 use Rattle.mh_resolve.specs.States.{State, Raw, HasConflict, IsStreamConflict}
-use Rattle.mh_resolve.specs.Tallies.{IsKind}
-use Rattle.mh_resolve.specs.Rows.{no_cell, IsDecidedOn}
-use Rattle.mh_resolve.specs.Whole.{IsRow}
+use Rattle.mh_resolve.specs.code.Tallies.{IsKind}
+use Rattle.mh_resolve.specs.code.Rows.{no_cell, IsDecidedOn}
+use Rattle.mh_resolve.specs.code.Whole.{IsRow}
 use Rattle.mh_resolve.specs.Conflicts.{IsConflictBefore, found_on, stream_kind, token_conflicts, row_conflicts}
 use Rattle.mh_grammar.proofs.Lists.{at_contains, contains_at, rising-append}
 

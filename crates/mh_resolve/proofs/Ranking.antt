@@ -11,7 +11,7 @@ use Rattle.mh_grammar.specs.Plain.{plain_of, rhs_of}
 use Rattle.mh_resolve.specs.declared.errors.Best.{Best}
 use Rattle.mh_resolve.specs.Levels.{error_rank}
 use Rattle.mh_resolve.specs.States.{IsCandidate, IsForErrors}
-use Rattle.mh_resolve.specs.Rows.{listed, rank_in, best_with, IsRanked, IsBest, IsLooked}
+use Rattle.mh_resolve.specs.code.Rows.{listed, rank_in, best_with, IsRanked, IsBest, IsLooked}
 use Rattle.mh_grammar.proofs.Lists.{some_item, taken_before, taken_cases, taken_last}
 
 abbrev IsTied : (ℕ → ℕ → Type 0) → ℕ → ℕ → Bool → Type 0

@@ -17,7 +17,7 @@ use Rattle.mh_resolve.specs.declared.kinds.Mode.{Mode}
 use Rattle.mh_resolve.specs.Levels.{compared}
 use Rattle.mh_resolve.specs.Cells.{Stays}
 use Rattle.mh_resolve.specs.States.{State, state_of, Raw, TakesOn, IsHoleOn, IsCell, Fills, IsTableOf}
-use Rattle.mh_resolve.specs.Counting.{AreShifts}
+use Rattle.mh_resolve.specs.code.Counting.{AreShifts}
 use Rattle.mh_resolve.specs.Holes.{AreHoles, refuses}
 use Rattle.mh_resolve.proofs.Stating.{takes_stays}
 

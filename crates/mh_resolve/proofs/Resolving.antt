@@ -20,13 +20,13 @@ use Rattle.std.proofs.lemmas.List.Elements.{Contains-append_cases, Contains-appe
 use Rattle.mh_resolve.specs.declared.conflicts.Conflict.{Conflict}
 use Rattle.mh_resolve.specs.declared.cells.Cell.{Cell}
 use Rattle.mh_resolve.specs.States.{HasConflict}
-use Rattle.mh_resolve.specs.Whole.{IsRow}
+use Rattle.mh_resolve.specs.code.Whole.{IsRow}
 use Rattle.mh_resolve.specs.Conflicts.{AreConflicts, IsConflictBefore, row_conflicts}
 use Rattle.mh_grammar.proofs.Lists.{rising-append}
 use Rattle.mh_resolve.proofs.Listing.{row_to, row_from, row_rising}
 use Rattle.mh_resolve.specs.declared.kinds.Mode.{Mode}
 use Rattle.mh_resolve.specs.States.{state_of, IsResolved, AreResolved}
-use Rattle.mh_resolve.specs.Whole.{closed_state, AreEdgesKnown}
+use Rattle.mh_resolve.specs.code.Whole.{closed_state, AreEdgesKnown}
 use Rattle.mh_resolve.proofs.Tabled.{facts, moving_symbol}
 
 -- the first n states

@@ -18,9 +18,9 @@ use Rattle.mh_resolve.specs.declared.cells.Cell.{Cell}
 use Rattle.mh_resolve.specs.declared.cells.Tally.{Tally}
 use Rattle.mh_resolve.specs.declared.counting.Tallies.{Tallies}
 use Rattle.mh_resolve.specs.Levels.{compared}
-use Rattle.mh_resolve.specs.Tallies.{empty_tally, cell_from}
-use Rattle.mh_resolve.specs.Counting.{AreShifts, AreTallied}
-use Rattle.mh_resolve.specs.Rows.{listed, AreCells, AreSettled, IsDecidedOn, HasReduction, IsChoice, no_cell}
+use Rattle.mh_resolve.specs.code.Tallies.{empty_tally, cell_from}
+use Rattle.mh_resolve.specs.code.Counting.{AreShifts, AreTallied}
+use Rattle.mh_resolve.specs.code.Rows.{listed, AreCells, AreSettled, IsDecidedOn, HasReduction, IsChoice, no_cell}
 use Rattle.mh_resolve.proofs.Deciding.{decided}
 use Rattle.mh_grammar.proofs.Lists.{taken_cases}
 

@@ -8,7 +8,7 @@ use Rattle.mh_resolve.specs.declared.kinds.ConflictKind.{ConflictKind}
 use Rattle.mh_resolve.specs.declared.kinds.ConflictKind.TheVariants.{Solved, Unsolved, Stream}
 use Rattle.mh_resolve.specs.declared.cells.Cell.{Cell}
 use Rattle.mh_resolve.specs.Cells.{Stays, Takes, IsConflict, IsUnsolved}
-use Rattle.mh_resolve.specs.Tallies.{IsTaken, IsKind, IsDecided}
+use Rattle.mh_resolve.specs.code.Tallies.{IsTaken, IsKind, IsDecided}
 
 pub record AreAlike (R S : Action → Type 0) : Type 0 where
   pub to : (a : Action) → R a → S a

@@ -7,8 +7,8 @@ use Rattle.std.proofs.lemmas.List.{get_or-replicate, get_or-set_same, get_or-set
 use Rattle.mh_grammar.specs.declared.types.Symbol.TheVariants.{T, N}
 use Rattle.mh_grammar.specs.declared.edges.Edge.{Edge}
 use Rattle.mh_grammar.specs.Edges.{IsRising, IsEdgeBefore, find_edge, same_symbol}
-use Rattle.mh_resolve.specs.Counting.{AreShifts}
-use Rattle.mh_resolve.specs.Whole.{AreEdgesKnown}
+use Rattle.mh_resolve.specs.code.Counting.{AreShifts}
+use Rattle.mh_resolve.specs.code.Whole.{AreEdgesKnown}
 use Rattle.mh_grammar.proofs.EdgeOrder.{edge_found}
 
 -- the edge on a token is among those to come, or was found

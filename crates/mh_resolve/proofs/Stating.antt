@@ -16,8 +16,8 @@ use Rattle.mh_resolve.specs.declared.cells.Cell.{Cell}
 use Rattle.mh_resolve.specs.Levels.{compared}
 use Rattle.mh_resolve.specs.Cells.{Stays}
 use Rattle.mh_resolve.specs.States.{State, Raw, TakesOn, IsHoleOn, IsStreamConflict, Keeps, HasDefault, IsFallback, IsCell}
-use Rattle.mh_resolve.specs.Rows.{AreCells, IsDecidedOn, IsStreamIn, HasReduction, IsFit, IsDefaultIn, no_cell}
-use Rattle.mh_resolve.specs.Whole.{kept_of, IsFiller, filling, filled_with, fallback_for, IsKnown, IsRow}
+use Rattle.mh_resolve.specs.code.Rows.{AreCells, IsDecidedOn, IsStreamIn, HasReduction, IsFit, IsDefaultIn, no_cell}
+use Rattle.mh_resolve.specs.code.Whole.{kept_of, IsFiller, filling, filled_with, fallback_for, IsKnown, IsRow}
 
 not_both : (s : State) (look : Look) (j p : ℕ) → TakesOn s look (Shift j) → Stays (compared s.grammar look) (Raw s look) (Reduce p) → ⊥
 not_both s look j p t r =

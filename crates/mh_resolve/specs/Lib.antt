@@ -1,10 +1,7 @@
 pub mod Cells
 pub mod Clear
 pub mod Conflicts
-pub mod Counting
 pub mod Holes
 pub mod Levels
-pub mod Rows
 pub mod States
-pub mod Tallies
-pub mod Whole
+pub mod code

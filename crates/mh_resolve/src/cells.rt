@@ -1,7 +1,7 @@
 //! One cell of a state.
 ghost use Rattle.std.specs.Prelude.{◌≡◌};
 ghost use Rattle.mh_resolve.specs.Levels.{compared};
-ghost use Rattle.mh_resolve.specs.Tallies.{empty_tally, lower, is_other, tally_with, weighed, cell_from};
+ghost use Rattle.mh_resolve.specs.code.Tallies.{empty_tally, lower, is_other, tally_with, weighed, cell_from};
 
 use crate::kinds::{Comparison, ConflictKind};
 use crate::levels::compare_on;

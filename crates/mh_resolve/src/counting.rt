@@ -6,9 +6,9 @@ ghost use Rattle.mh_grammar.specs.Edges.{IsRising, IsEdgeBefore};
 ghost use Rattle.mh_items.specs.Shapes.{KernelItem as Item};
 ghost use Rattle.mh_items.specs.Kernels.{Holds};
 ghost use Rattle.mh_resolve.specs.Levels.{compared};
-ghost use Rattle.mh_resolve.specs.Tallies.{tally_with, weighed};
-ghost use Rattle.mh_resolve.specs.Whole.{AreEdgesKnown};
-ghost use Rattle.mh_resolve.specs.Counting.{AreShifts, shift_in, tally_on, IsChanged, AreTallied, AreLooksKnown, With};
+ghost use Rattle.mh_resolve.specs.code.Tallies.{tally_with, weighed};
+ghost use Rattle.mh_resolve.specs.code.Whole.{AreEdgesKnown};
+ghost use Rattle.mh_resolve.specs.code.Counting.{AreShifts, shift_in, tally_on, IsChanged, AreTallied, AreLooksKnown, With};
 
 use crate::cells::{Tally, add_reduction, new_tally};
 use crate::levels::length_of;

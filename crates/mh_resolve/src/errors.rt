@@ -2,7 +2,7 @@
 ghost use Rattle.std.specs.Prelude.{◌≡◌, ◌<◌, ◌≤◌, ℕ, [], length, MatchOption};
 ghost use Rattle.std.specs.List.{All};
 ghost use Rattle.mh_resolve.specs.States.{IsForErrors};
-ghost use Rattle.mh_resolve.specs.Rows.{listed, rank_in, best_with, IsLooked};
+ghost use Rattle.mh_resolve.specs.code.Rows.{listed, rank_in, best_with, IsLooked};
 
 use crate::levels::{length_of, rank_of};
 use mh_grammar::Grammar;

@@ -13,7 +13,7 @@ ghost use Rattle.mh_resolve.specs.States.{state_of, IsResolved, AreResolved, IsT
 ghost use Rattle.mh_resolve.specs.Conflicts.{AreConflicts};
 ghost use Rattle.mh_items.specs.Conflicts.{IsConflicting, IsFaulty};
 ghost use Rattle.mh_resolve.specs.Clear.{HasNoConflicts, HasRawConflict, ActsWithin, ActsClearly};
-ghost use Rattle.mh_resolve.specs.Whole.{closed_state, IsRow, AreEdgesKnown};
+ghost use Rattle.mh_resolve.specs.code.Whole.{closed_state, IsRow, AreEdgesKnown};
 
 use crate::conflicts::{Conflict, add_conflicts};
 use crate::kinds::Mode;

@@ -1,7 +1,7 @@
 //! The cells of a state together: the end of the stream, and the default.
 ghost use Rattle.std.specs.Prelude.{◌≡◌, ◌≢◌, ◌<◌, ◌↔◌, ℕ, length, IsTrue, IfOk, MatchOption};
 ghost use Rattle.std.specs.List.{All};
-ghost use Rattle.mh_resolve.specs.Rows.{AreSettled, IsStreamIn, IsChoice, IsDefaultIn, IsOtherwise, HasReduction, IsFit};
+ghost use Rattle.mh_resolve.specs.code.Rows.{AreSettled, IsStreamIn, IsChoice, IsDefaultIn, IsOtherwise, HasReduction, IsFit};
 
 use crate::cells::{Cell, Tally, settle};
 use crate::kinds::Mode;

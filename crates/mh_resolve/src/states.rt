@@ -6,8 +6,8 @@ ghost use Rattle.mh_grammar.specs.Edges.{IsRising, IsEdgeBefore};
 ghost use Rattle.mh_items.specs.Kernels.{IsKernel};
 ghost use Rattle.mh_items.specs.Empties.{HasComplete};
 ghost use Rattle.mh_resolve.specs.States.{place_of, IsResolved};
-ghost use Rattle.mh_resolve.specs.Rows.{listed, IsLooked};
-ghost use Rattle.mh_resolve.specs.Whole.{closed_state, kept_of, IsFiller, filled_with, fallback_for, AreEdgesKnown, IsRow};
+ghost use Rattle.mh_resolve.specs.code.Rows.{listed, IsLooked};
+ghost use Rattle.mh_resolve.specs.code.Whole.{closed_state, kept_of, IsFiller, filled_with, fallback_for, AreEdgesKnown, IsRow};
 
 use crate::cells::{Cell, settle};
 use crate::counting::{shifts_of, tallies_of};

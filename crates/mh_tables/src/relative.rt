@@ -1,12 +1,12 @@
 //! Relative runs, tried one after another.
-ghost use Rattle.std.specs.Prelude.{◌≡◌, ◌<◌, ◌≤◌, length, All, IfOk, OnOk, Some, None};
+ghost use Rattle.std.specs.Prelude.{◌≡◌, ◌<◌, ◌≤◌, length, All, IfOk, OnOk, Some, None, false};
 ghost use Rattle.std.specs.Option.{ForSome};
 ghost use Rattle.std.specs.List.Sorted.{IsPermutation};
-ghost use Rattle.mh_grammar.specs.Plain.{production_count};
-ghost use Rattle.mh_tables.specs.Table.{TableData, state_at};
+ghost use Rattle.mh_grammar.specs.Plain.{production_count, rhs_of};
+ghost use Rattle.mh_tables.specs.Table.{TableData, state_at, cell_of};
 ghost use Rattle.mh_tables.specs.Run.{top_of as top};
 ghost use Rattle.mh_tables.specs.Halting.{IsLook, look_list, IsBeginning, beginning};
-ghost use Rattle.mh_tables.specs.code.Relative.{ReducedOr, ReducesNext, StackReduced, TriedOr, LoopsOr, Waits, LookFound, TokenFound, StateFound, AreTargets, TestFound};
+ghost use Rattle.mh_tables.specs.code.Relative.{ReducedOr, ReducesNext, StackReduced, TriedOr, LoopsOr, Waits, LookFound, TokenFound, StateFound, AreTargets, TestFound, IsLong, AllLong, AreShort};
 
 use crate::moves::{Choice, choose};
 use crate::parts::Action;
@@ -222,16 +222,82 @@ fn first_look(
     }
 }
 
+// Whether the cell of a state and a token reduces a production of at most one symbol.
+fn is_short(table: &Table, state: u32, token: Token) -> bool
+    requires state { state < length table.now.states }
+    requires token { token < table.now.grammar.tokens }
+    ensures { result ≡ false → IsLong table.now state token }
+{
+    table.facts();
+    match table.action(state, token) {
+        Action::Reduce(production) => table.length_of(production) < 2,
+        _ => false,
+    }
+}
+
+// Whether some cell of a state does.
+fn reduces_short(table: &Table, state: u32) -> bool
+    requires { state < length table.now.states }
+    ensures { result ≡ false → AllLong table.now state }
+{
+    'tokens: for token in 0..table.tokens() {
+        if is_short(table, state, token) {
+            return true;
+        }
+    }
+    false
+}
+
+// For each state, whether it has such a cell.
+fn short_states(alloc: Global, table: &Table) -> Result<Vec<bool>, AllocError>
+    ensures length { IfOk result (λ marks. length marks.items ≡ length table.now.states) }
+    ensures marks { IfOk result (λ marks. AreShort table.now marks.items) }
+{
+    let states = table.states();
+    let mut marks = Vec::with_capacity(alloc, states as usize)?;
+    'states: for state in 0..states {
+        marks.push(reduces_short(table, state))?;
+    }
+    Ok(marks)
+}
+
+// The first look with which the relative run loops. A state without default whose cells reduce no production of at most one
+// symbol is not tried: its first reduction takes off all states with which the run begins.
+fn tried_look(
+    table: &Table,
+    stack: &mut Vec<u32>,
+    short: &[bool],
+    below: Option<u32>,
+    state: u32,
+) -> Result<Option<Option<Token>>, AllocError>
+    requires marks { length short.now ≡ length table.now.states }
+    requires short { AreShort table.now short.now }
+    requires below { ForSome below (λ r. r < length table.now.states) }
+    requires state { state < length table.now.states }
+    ensures { IfOk result (λ found. LookFound table.now below state found) }
+{
+    if short[state as usize] {
+        return first_look(table, stack, below, state);
+    }
+    match table.fallback(state) {
+        Some(_) => first_look(table, stack, below, state),
+        None => Ok(None),
+    }
+}
+
 // The first start state alone that begins a relative run of more than `MAX_REDUCTIONS` reductions.
 fn first_start(
     table: &Table,
     stack: &mut Vec<u32>,
+    short: &[bool],
 ) -> Result<Option<(u32, Option<Token>)>, AllocError>
+    requires marks { length short.now ≡ length table.now.states }
+    requires short { AreShort table.now short.now }
     ensures { IfOk result (λ found. StateFound table.now None found) }
 {
     table.facts();
     'states: for state in 0..u32::from(table.starts()) {
-        if let Some(look) = first_look(table, stack, None, state)? {
+        if let Some(look) = tried_look(table, stack, short, None, state)? {
             return Ok(Some((state, look)));
         }
     }
@@ -258,15 +324,18 @@ fn first_above(
     alloc: Global,
     table: &Table,
     stack: &mut Vec<u32>,
+    short: &[bool],
     below: u32,
 ) -> Result<Option<(u32, Option<Token>)>, AllocError>
-    requires { below < length table.now.states }
+    requires marks { length short.now ≡ length table.now.states }
+    requires short { AreShort table.now short.now }
+    requires below { below < length table.now.states }
     ensures { IfOk result (λ found. StateFound table.now (Some below) found) }
 {
     table.facts();
     let targets = targets_of(alloc, table, below)?;
     'targets: for target in targets.as_slice() {
-        if let Some(look) = first_look(table, stack, Some(below), *target)? {
+        if let Some(look) = tried_look(table, stack, short, Some(below), *target)? {
             return Ok(Some((*target, look)));
         }
     }
@@ -278,8 +347,9 @@ pub(crate) fn first_loop(alloc: Global, table: &Table) -> Result<Option<Relative
     ensures { IfOk result (λ found. TestFound table.now found) }
 {
     table.facts();
+    let short = short_states(alloc, table)?;
     let mut stack = Vec::new(alloc);
-    if let Some((state, token)) = first_start(table, &mut stack)? {
+    if let Some((state, token)) = first_start(table, &mut stack, &short)? {
         return Ok(Some(RelativeRun {
             below: None,
             state,
@@ -287,7 +357,7 @@ pub(crate) fn first_loop(alloc: Global, table: &Table) -> Result<Option<Relative
         }));
     }
     'lower: for below in 0..table.states() {
-        if let Some((state, token)) = first_above(alloc, table, &mut stack, below)? {
+        if let Some((state, token)) = first_above(alloc, table, &mut stack, &short, below)? {
             return Ok(Some(RelativeRun {
                 below: Some(below),
                 state,

@@ -1,10 +1,11 @@
 use Rattle.std.proofs.Common.{◌≡◌, ◌∷◌, ◌++◌, map, take, drop, refl, suc, sym, ap, ◌∙◌}
 use Rattle.std.proofs.lemmas.List.{take_all}
+use Rattle.mh_grammar.proofs.Lists.{taken}
 use Rattle.mh_expand.specs.Terms.{arguments}
 use Rattle.mh_expand.specs.Sharing.{terms_of, term_at, terms_at}
 use Rattle.mh_expand.proofs.Actuals.{stands, Grows-none, Grows-more}
 use Rattle.mh_expand.proofs.Shared.{terms_at-kept, term_got}
-use Rattle.mh_expand.proofs.Going.{below_grows, IsSearch-grows, IsThrough-none, IsThrough-step, Fails-here, side_split, take_push}
+use Rattle.mh_expand.proofs.Going.{below_grows, IsSearch-grows, IsThrough-none, IsThrough-step, Fails-here, side_split}
 use Rattle.mh_expand.proofs.expansion.expand_alternative.Goals as goal
 
 pub replace-requires : goal.replace-requires
@@ -38,7 +39,7 @@ loop-producer-preserved c =
           term_got vs c.in_ok-number.number (stands (terms_at us c.args.formals.now) a) c.in_ok-number.ensures.term ∙ ap (λ fs. stands fs a) (kept ∙ sym e) in
           let before_here = before ++ map (stands (arguments t)) (take i items) in
           let f = c.in-Ok.ensures.ok before_here (IsSearch-grows j before_here us vs c.loop-producer.found.keys w.went.search c.in_ok-number.ensures.grows) in
-          rw (take_push items i a c.loop-producer-test.true c.producer-item.is, c.in_ok-push-in-Ok.ensures.ok) (IsThrough-step j before ts us vs c.args.found.now.keys c.loop-producer.found.keys c.find.new.found.keys t (take i items) c.loop-producer.rhs a c.in-Ok.part w c.in_ok-number.ensures.grows (rw same at f));
+          rw (taken items i a c.loop-producer-test.true c.producer-item.is, c.in_ok-push-in-Ok.ensures.ok) (IsThrough-step j before ts us vs c.args.found.now.keys c.loop-producer.found.keys c.find.new.found.keys t (take i items) c.loop-producer.rhs a c.in-Ok.part w c.in_ok-number.ensures.grows (rw same at f));
     }
 
 pub returns-in-Err-clause-err : goal.returns-in-Err-clause-err

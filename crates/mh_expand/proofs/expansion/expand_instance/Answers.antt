@@ -2,6 +2,7 @@ use Rattle.std.proofs.Common.{◌≡◌, ◌<◌, ◌++◌, Some, length, flat_m
 use Rattle.std.specs.List.{All}
 use Rattle.std.specs.Option.{option_map}
 use Rattle.std.proofs.lemmas.List.{take_all}
+use Rattle.mh_grammar.proofs.Lists.{taken}
 use Rattle.mh_rules.specs.declared.joined.JoinedRule.{JoinedRule}
 use Rattle.mh_expand.specs.Terms.{Term, arguments}
 use Rattle.mh_expand.specs.Expansion.{Fails, Causes, rule_at, rule_of, alternatives_of, producers_of, right_side, IsRank}
@@ -9,7 +10,7 @@ use Rattle.mh_expand.specs.Sharing.{terms_of, term_at, terms_at}
 use Rattle.mh_expand.specs.Searching.{IsFit, WentInstance}
 use Rattle.mh_expand.proofs.Actuals.{Grows-none, Grows-more}
 use Rattle.mh_expand.proofs.Shared.{terms_at-kept, get_term, node_head, node_arguments}
-use Rattle.mh_expand.proofs.Going.{below_grows, AreThrough-none, AreThrough-step, Fails-more, flat_split, take_push, rule_there, alternatives_there, regroup}
+use Rattle.mh_expand.proofs.Going.{below_grows, AreThrough-none, AreThrough-step, Fails-more, flat_split, rule_there, alternatives_there, regroup}
 use Rattle.mh_expand.proofs.expansion.expand_instance.Goals as goal
 
 pub rule_of-rule-requires : goal.rule_of-rule-requires
@@ -61,7 +62,7 @@ loop-alternative-preserved c =
           let w = c.loop-alternative.invariant.through before s in
           let before_here = before ++ flat_map (right_side t) (take i items) in
           let f = c.in-Ok.ensures.ok before_here t args w.went.search in
-          rw (take_push items i a c.loop-alternative-test.true c.alternative-item.is, c.in_ok-push-in-Ok.ensures.ok) (AreThrough-step j before ts us vs c.args.found.now.keys c.loop-alternative.found.keys c.expand_alternative.new.found.keys t (take i items) c.loop-alternative.productions a c.in-Ok.production w f);
+          rw (taken items i a c.loop-alternative-test.true c.alternative-item.is, c.in_ok-push-in-Ok.ensures.ok) (AreThrough-step j before ts us vs c.args.found.now.keys c.loop-alternative.found.keys c.expand_alternative.new.found.keys t (take i items) c.loop-alternative.productions a c.in-Ok.production w f);
     }
 
 pub returns-in-Err-clause-err : goal.returns-in-Err-clause-err

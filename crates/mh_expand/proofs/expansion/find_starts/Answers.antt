@@ -1,6 +1,7 @@
 use Rattle.std.proofs.Common.{◌≡◌, ◌∷◌, ◌++◌, ◌+◌, [], Some, map, take, drop, get_or, suc, sym, ap, ◌∙◌}
 use Rattle.std.specs.List.{slice_get}
 use Rattle.std.proofs.lemmas.List.{map-append}
+use Rattle.mh_grammar.proofs.Lists.{split_at, taken, zip_push}
 use Rattle.mh_expand.specs.declared.terms.Application.{Application}
 use Rattle.mh_rules.specs.declared.joined.Head.TheVariants.{Rule}
 use Rattle.mh_rules.specs.declared.instances.Part.TheVariants.{Instance}
@@ -9,7 +10,7 @@ use Rattle.mh_expand.specs.Expansion.{start_term, start_terms}
 use Rattle.mh_expand.specs.Sharing.{terms_of, term_at, terms_at, node_term}
 use Rattle.mh_expand.proofs.Actuals.{Grows-placed}
 use Rattle.mh_expand.proofs.Shared.{term_got}
-use Rattle.mh_expand.proofs.Going.{IsSearch-grows, Went-none, Went-more, Went-one, Fails-here, IsLonger-found, split_at, take_push, zip_push, default_same}
+use Rattle.mh_expand.proofs.Going.{IsSearch-grows, Went-none, Went-more, Went-one, Fails-here, IsLonger-found, default_same}
 use Rattle.mh_expand.proofs.Expanding.{Names-longer}
 use Rattle.mh_expand.proofs.expansion.find_starts.Goals as goal
 
@@ -34,7 +35,7 @@ loop-rule-preserved c =
     let number = c.in_ok-number.number in
     let g = Grows-placed us vs (node_term us node) number c.in_ok-number.ensures in
     let same : term_at vs number ≡ start_term r = term_got vs number (node_term us node) c.in_ok-number.ensures.at ∙ ap (λ ns. apply_all (Atom (Rule r)) (terms_at us ns)) c.new.ensures in
-    let list : map start_term (take (i + 1) items) ≡ seen ++ start_term r ∷ [] = ap (map start_term) (take_push items i r c.loop-rule-test.true r_is) ∙ map-append start_term (take i items) (r ∷ []) in
+    let list : map start_term (take (i + 1) items) ≡ seen ++ start_term r ∷ [] = ap (map start_term) (taken items i r c.loop-rule-test.true r_is) ∙ map-append start_term (take i items) (r ∷ []) in
     record {
       few = c.in-Ok.ensures.few;
       through = λ s.

@@ -2,11 +2,11 @@ use Rattle.std.proofs.Common.{◌≡◌, ◌∷◌, ◌++◌, [], Some, nat_eq, 
 use Rattle.std.specs.List.{slice_get}
 use Rattle.std.proofs.lemmas.List.{take_all, length-take-le}
 use Rattle.indexmap.specs.IndexMap.{get}
+use Rattle.mh_grammar.proofs.Lists.{taken}
 use Rattle.mh_expand.specs.Terms.{term_of}
 use Rattle.mh_expand.specs.Sharing.{terms_of}
 use Rattle.mh_expand.specs.Searching.{AddsRank}
 use Rattle.mh_expand.proofs.Shared.{terms_of-distinct}
-use Rattle.mh_expand.proofs.Going.{take_push}
 use Rattle.mh_expand.proofs.Ranking.{replaced-none, AreRanks-none, AreRanks-open, AreRanks-grows, AreRanks-add}
 use Rattle.mh_expand.proofs.ranks.ranks_of.Goals as goal
 
@@ -17,7 +17,7 @@ pub loop-rank-preserved : goal.loop-rank-preserved
 loop-rank-preserved c =
     let items = c.as_slice-applied-items.result.now in
     let all = take_all c.loop-applied.applied-index items c.loop-applied-test.false in
-    rw (take_push c.args.declarations.now c.loop-rank.rank c.index-declarations-rank.result c.loop-rank-test.true c.index-declarations-rank.is, ← c.as_slice-applied-items.ensures) (rw all at c.loop-applied.invariant)
+    rw (taken c.args.declarations.now c.loop-rank.rank c.index-declarations-rank.result c.loop-rank-test.true c.index-declarations-rank.is, ← c.as_slice-applied-items.ensures) (rw all at c.loop-applied.invariant)
 
 pub loop-applied-init : goal.loop-applied-init
 loop-applied-init c = AreRanks-open (take c.loop-rank.rank c.args.declarations.now) (terms_of c.loop-rank.terms.nodes.keys) (get nat_eq c.loop-rank.ranks) c.loop-rank.invariant
@@ -35,4 +35,4 @@ loop-applied-preserved c =
     let here : slice_get us c.in_ok-number.number ≡ Some (term_of a) = c.in_ok-number.ensures.term ∙ ap Some (replaced-none (term_of a)) in
     let w = AreRanks-grows (ds ++ take i items ∷ []) ts us (get nat_eq c.loop-applied.ranks) distinct c.in_ok-number.ensures.grows c.loop-applied.invariant in
     let add : AddsRank (get nat_eq c.loop-applied.ranks) (get nat_eq c.add_rank.new.ranks) c.in_ok-number.number (length ds) = rw len c.in_ok-add_rank.ensures in
-    rw (take_push items i a c.loop-applied-test.true c.applied-item.is) (AreRanks-add ds (take i items) a us (get nat_eq c.loop-applied.ranks) (get nat_eq c.add_rank.new.ranks) c.in_ok-number.number distinct here w add)
+    rw (taken items i a c.loop-applied-test.true c.applied-item.is) (AreRanks-add ds (take i items) a us (get nat_eq c.loop-applied.ranks) (get nat_eq c.add_rank.new.ranks) c.in_ok-number.number distinct here w add)

@@ -1,4 +1,4 @@
-use Rattle.mh_resolve.specs.Counting.{AreTallied}
+use Rattle.mh_resolve.specs.code.Counting.{AreTallied}
 use Rattle.mh_resolve.proofs.Counted.{Front}
 use Rattle.mh_resolve.proofs.counting.tallies_of.Given as goal
 

@@ -1,5 +1,5 @@
 use Rattle.std.proofs.Common.{take}
-use Rattle.mh_resolve.specs.Rows.{IsBest, IsRanked}
+use Rattle.mh_resolve.specs.code.Rows.{IsBest, IsRanked}
 use Rattle.mh_resolve.proofs.errors.for_errors.Given as goal
 
 abbrev pub invariant-loop-item : goal.invariant-loop-item

@@ -13,7 +13,7 @@ use Rattle.mh_items.specs.Shapes.{KernelItem}
 use Rattle.mh_resolve.specs.declared.cells.Tally.{Tally}
 use Rattle.mh_resolve.specs.declared.counting.Tallies.{Tallies}
 use Rattle.mh_resolve.specs.Levels.{compared}
-use Rattle.mh_resolve.specs.Tallies.{empty_tally, weighed, IsTally}
+use Rattle.mh_resolve.specs.code.Tallies.{empty_tally, weighed, IsTally}
 
 -- the reductions on a look
 abbrev pub Seen : Grammar → ItemSet → Look → ℕ → Type 0

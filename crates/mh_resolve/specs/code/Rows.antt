@@ -17,7 +17,7 @@ use Rattle.mh_resolve.specs.declared.errors.Best.{Best}
 use Rattle.mh_resolve.specs.Levels.{compared, error_rank}
 use Rattle.mh_resolve.specs.States.{State, Raw}
 use Rattle.mh_resolve.specs.declared.cells.Tally.{Tally}
-use Rattle.mh_resolve.specs.Tallies.{empty_tally, cell_from, IsDecided}
+use Rattle.mh_resolve.specs.code.Tallies.{empty_tally, cell_from, IsDecided}
 
 -- the state of a listed closure
 abbrev pub listed : Grammar → List KernelItem → List Edge → State

@@ -16,7 +16,7 @@ use Rattle.mh_grammar.specs.Edges.{find_edge}
 use Rattle.mh_grammar.specs.declared.types.Symbol.TheVariants.{T}
 use Rattle.mh_resolve.specs.declared.cells.Cell.{Cell}
 use Rattle.mh_resolve.specs.States.{State, Raw, IsStreamConflict, IsForErrors}
-use Rattle.mh_resolve.specs.Rows.{AreCells, IsDecidedOn}
+use Rattle.mh_resolve.specs.code.Rows.{AreCells, IsDecidedOn}
 
 -- the state of a kernel
 abbrev pub closed_state : Grammar → Kernel → List Edge → State
