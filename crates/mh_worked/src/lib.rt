@@ -10,6 +10,8 @@ mod interpreting;
 #[cfg(test)]
 mod limits;
 #[cfg(test)]
+mod many_tokens;
+#[cfg(test)]
 mod refused;
 #[cfg(test)]
 mod runs;
