@@ -1,0 +1,6 @@
+pub mod Known
+pub mod Placing
+pub mod Files
+pub mod Missing
+pub mod Listing
+pub mod Once

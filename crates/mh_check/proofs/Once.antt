@@ -1,0 +1,116 @@
+-- A file has one first fault or is sound, and not both; and it is compiled to one list of messages.
+use Rattle.std.proofs.Common.{◌≡◌, ℕ, suc, ◌-◌, ◌<◌, List, [], ◌∷◌, ◌++◌, length, Option, None, Some, refl, sym, ◌∙◌, ap, subst, arith}
+use Rattle.std.specs.List.{slice_get}
+use Rattle.std.proofs.lemmas.Option.{slice_get_within}
+use Rattle.std.proofs.lemmas.List.Elements.{Contains-append_right}
+use Rattle.mh_grammar.proofs.Lists.{at_contains, get_left, contains_here}
+use Rattle.mh_tables.specs.Table.{TableData}
+use Rattle.mh_tables.specs.Run.{Ending, Rejected}
+use Rattle.mh_msgfile.specs.declared.messages.MsgSentence.{MsgSentence}
+use Rattle.mh_msgfile.specs.declared.messages.MsgFile.{MsgFile}
+use Rattle.mh_check.specs.Checks.{FailsIn, Sound, FaultFound, NotRefusedAt, SharedBy, IsNoRefusal, Accepts, Overshoots, Breaks, NotRefused, RefusedEarly, Shared, FirstFault}
+use Rattle.mh_check.specs.Compiling.{message_at, IsCompiled}
+use Rattle.mh_check.proofs.Known.{fails_once, one_verdict}
+
+-- ---- where two splits of one list stand
+
+pub data Stand {A : Type 0} (a : List A) (x : A) (b c : List A) (y : A) (d : List A) : Type 0 where
+  Same : a ≡ c → x ≡ y → Stand a x b c y d
+  Before : (m : List A) → c ≡ a ++ x ∷ m → Stand a x b c y d
+  Behind : (m : List A) → a ≡ c ++ y ∷ m → Stand a x b c y d
+
+stand_on : {A : Type 0} (z w : A) (a : List A) (x : A) (b c : List A) (y : A) (d : List A) → z ≡ w → Stand a x b c y d → Stand (z ∷ a) x b (w ∷ c) y d
+stand_on z w a x b c y d first (Same is same) = Same (λ i. first i ∷ is i) same
+stand_on z w a x b c y d first (Before m is) = Before m (λ i. sym first i ∷ is i)
+stand_on z w a x b c y d first (Behind m is) = Behind m (λ i. first i ∷ is i)
+
+stand : {A : Type 0} (a : List A) (x : A) (b c : List A) (y : A) (d : List A) → a ++ x ∷ b ≡ c ++ y ∷ d → Stand a x b c y d
+stand [] x b [] y d is = Same refl (cc)
+stand [] x b (w ∷ c) y d is = Before c (let first : x ≡ w = cc in λ i. sym first i ∷ c)
+stand (z ∷ a) x b [] y d is = Behind a (let first : z ≡ y = cc in λ i. first i ∷ a)
+stand (z ∷ a) x b (w ∷ c) y d is =
+    let first : z ≡ w = cc in
+    let rest : a ++ x ∷ b ≡ c ++ y ∷ d = cc in stand_on z w a x b c y d first (stand a x b c y d rest)
+
+module _ (t : TableData) where
+  refuses_not : (how : Ending) (at s : ℕ) → IsNoRefusal how → how ≡ Rejected at s → ⊥
+  refuses_not how at s (Accepts read) is = cc
+  refuses_not how at s (Overshoots state) is = cc
+
+  -- a place of the sentence behind some others
+  behind_place : (a m : List MsgSentence) (x : MsgSentence) → slice_get (a ++ x ∷ m) (length a) ≡ Some x
+  behind_place [] m x = refl
+  behind_place (z ∷ a) m x = behind_place a m x
+
+  never_sound : (a m : List MsgSentence) (x : MsgSentence) (f : FaultFound) → Sound t (a ++ x ∷ m) → Breaks t a x f → ⊥
+  never_sound a m x f sound (NotRefused how none verdict) =
+      let fails = sound.each x (Contains-append_right a (x ∷ m) x (contains_here x m)) in
+      refuses_not how (length x.tokens - 1) fails.0 none (one_verdict t x.start x.tokens how (Rejected (length x.tokens - 1) fails.0) verdict fails.1.verdict)
+  never_sound a m x f sound (RefusedEarly at s lt verdict) =
+      let fails = sound.each x (Contains-append_right a (x ∷ m) x (contains_here x m)) in
+      let same : Rejected at s ≡ Rejected (length x.tokens - 1) fails.0 = one_verdict t x.start x.tokens (Rejected at s) (Rejected (length x.tokens - 1) fails.0) verdict fails.1.verdict in
+      let place : at ≡ length x.tokens - 1 = cc in omega arith
+  never_sound a m x f sound (Shared y s c in_y in_x) =
+      let at = at_contains a y c in
+      let same : at.0 ≡ length a = sound.apart at.0 (length a) s y x (get_left a (x ∷ m) at.0 y at.1) (behind_place a m x) in_y in_x in
+      let within : at.0 < length a = slice_get_within a at.0 y at.1 in omega arith
+
+  breaks_once : (a : List MsgSentence) (x : MsgSentence) (f g : FaultFound) → Sound t a → Breaks t a x f → Breaks t a x g → f ≡ g
+  breaks_once a x f g sound (NotRefused how none verdict) (NotRefused how' none' verdict') = ap (NotRefusedAt x.line) (one_verdict t x.start x.tokens how how' verdict verdict')
+  breaks_once a x f g sound (NotRefused how none verdict) (RefusedEarly at s lt verdict') = absurd (refuses_not how at s none (one_verdict t x.start x.tokens how (Rejected at s) verdict verdict'))
+  breaks_once a x f g sound (NotRefused how none verdict) (Shared y s c in_y in_x) = absurd (refuses_not how (length x.tokens - 1) s none (one_verdict t x.start x.tokens how (Rejected (length x.tokens - 1) s) verdict in_x.verdict))
+  breaks_once a x f g sound (RefusedEarly at s lt verdict) (NotRefused how none verdict') = absurd (refuses_not how at s none (one_verdict t x.start x.tokens how (Rejected at s) verdict' verdict))
+  breaks_once a x f g sound (RefusedEarly at s lt verdict) (RefusedEarly at' s' lt' verdict') =
+      let same : Rejected at s ≡ Rejected at' s' = one_verdict t x.start x.tokens (Rejected at s) (Rejected at' s') verdict verdict' in cc
+  breaks_once a x f g sound (RefusedEarly at s lt verdict) (Shared y s' c in_y in_x) =
+      let same : Rejected at s ≡ Rejected (length x.tokens - 1) s' = one_verdict t x.start x.tokens (Rejected at s) (Rejected (length x.tokens - 1) s') verdict in_x.verdict in
+      let place : at ≡ length x.tokens - 1 = cc in absurd (omega arith)
+  breaks_once a x f g sound (Shared y s c in_y in_x) (NotRefused how none verdict) = absurd (refuses_not how (length x.tokens - 1) s none (one_verdict t x.start x.tokens how (Rejected (length x.tokens - 1) s) verdict in_x.verdict))
+  breaks_once a x f g sound (Shared y s c in_y in_x) (RefusedEarly at s' lt verdict) =
+      let same : Rejected at s' ≡ Rejected (length x.tokens - 1) s = one_verdict t x.start x.tokens (Rejected at s') (Rejected (length x.tokens - 1) s) verdict in_x.verdict in
+      let place : at ≡ length x.tokens - 1 = cc in absurd (omega arith)
+  breaks_once a x f g sound (Shared y s c in_y in_x) (Shared y' s' c' in_y' in_x') =
+      let state : s' ≡ s = fails_once t x s' s in_x' in_x in
+      let at = at_contains a y c in
+      let at' = at_contains a y' c' in
+      let place : at.0 ≡ at'.0 = sound.apart at.0 at'.0 s y y' at.1 at'.1 in_y (subst (λ (k : ℕ). FailsIn t y' k) state in_y') in
+      let both : Some y ≡ Some y' = sym at.1 ∙ ap (slice_get a) place ∙ at'.1 in
+      let same : y ≡ y' = cc in λ i. SharedBy (same i).line x.line (sym state i)
+
+  module _ (xs : List MsgSentence) where
+    pub fault_once : (f g : FaultFound) → FirstFault t xs f → FirstFault t xs g → f ≡ g
+    fault_once f g p q = by (stand p.before p.sentence p.later q.before q.sentence q.later (sym p.order ∙ q.order))
+      where
+        by : Stand p.before p.sentence p.later q.before q.sentence q.later → f ≡ g
+        by (Same before sentence) =
+            breaks_once q.before q.sentence f g q.sound
+            (subst (λ (x : MsgSentence). Breaks t q.before x f) sentence (subst (λ (a : List MsgSentence). Breaks t a p.sentence f) before p.breaks)) q.breaks
+        by (Before m is) = absurd (never_sound p.before m p.sentence f (subst (Sound t) is q.sound) p.breaks)
+        by (Behind m is) = absurd (never_sound q.before m q.sentence g (subst (Sound t) is p.sound) q.breaks)
+
+    pub sound_right : (f : FaultFound) → Sound t xs → FirstFault t xs f → ⊥
+    sound_right f sound p = never_sound p.before p.later p.sentence f (subst (Sound t) p.order sound) p.breaks
+
+  -- ---- one list of messages
+
+  abbrev Message : Type 0
+  Message = Option (List ℕ)
+
+  abbrev AreSame : List Message → List Message → Type 0
+  AreSame xs ys = (s : ℕ) (m : List ℕ) → (message_at xs s ≡ Some m → message_at ys s ≡ Some m) × (message_at ys s ≡ Some m → message_at xs s ≡ Some m)
+
+  same_one : (x y : Message) → ((m : List ℕ) → (x ≡ Some m → y ≡ Some m) × (y ≡ Some m → x ≡ Some m)) → x ≡ y
+  same_one None None same = refl
+  same_one None (Some m) same = (same m).1 refl
+  same_one (Some m) y same = sym ((same m).0 refl)
+
+  same_lists : (xs ys : List Message) → length xs ≡ length ys → AreSame xs ys → xs ≡ ys
+  same_lists [] [] len same = refl
+  same_lists [] (y ∷ ys) len same = absurd (omega arith)
+  same_lists (x ∷ xs) [] len same = absurd (omega arith)
+  same_lists (x ∷ xs) (y ∷ ys) len same =
+      let first : x ≡ y = same_one x y (λ m. same 0 m) in
+      let rest : xs ≡ ys = same_lists xs ys (omega arith) (λ s m. same (suc s) m) in λ i. first i ∷ rest i
+
+  pub compiled_once : (file : MsgFile) (a b : List Message) → IsCompiled t file a → IsCompiled t file b → a ≡ b
+  compiled_once file a b p q = same_lists a b (p.states ∙ sym q.states) (λ s m. ((λ h. (q.messages s m).1 ((p.messages s m).0 h)), (λ h. (p.messages s m).1 ((q.messages s m).0 h))))

@@ -1,0 +1,11 @@
+use Rattle.mh_check.proofs.Once.{fault_once, sound_right, compiled_once}
+use Rattle.mh_check.proofs.laws.checked_once.Goals as goal
+
+pub returns-clause-fault : goal.returns-clause-fault
+returns-clause-fault c = fault_once c.args.table.now
+
+pub returns-clause-apart : goal.returns-clause-apart
+returns-clause-apart c = sound_right c.args.table.now
+
+pub returns-clause-messages : goal.returns-clause-messages
+returns-clause-messages c = compiled_once c.args.table.now

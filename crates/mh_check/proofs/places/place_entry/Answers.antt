@@ -1,0 +1,16 @@
+use Rattle.std.proofs.Common.{◌+◌, ◌++◌, ◌∷◌, [], List, take, drop, subst}
+use Rattle.mh_check.specs.Checks.{FirstFault}
+use Rattle.mh_check.specs.Compiling.{Item, item, items_of, sentences_in, Tells}
+use Rattle.mh_check.proofs.Placing.{fault_more}
+use Rattle.mh_check.proofs.Files.{sentence_split}
+use Rattle.mh_check.proofs.places.place_entry.Goals as goal
+
+pub returns-in-Err-clause-places : goal.returns-in-Err-clause-places
+returns-in-Err-clause-places c = λ done placed.
+    let t = c.args.table.now in
+    let xs = c.args.sentences.now in
+    let i = c.loop-sentence.sentence-index in
+    let before = done ++ items_of c.args.entry (take i xs) in
+    let told = c.in-Err.ensures.places before (c.loop-sentence.invariant.so_far done placed) in
+    let more = fault_more t (before ++ item c.args.entry c.sentence-item.result ∷ []) (items_of c.args.entry (drop (i + 1) xs)) c.in-Err.fault told in
+    subst (λ (l : List Item). Tells c.in-Err.fault (FirstFault t (sentences_in l))) (sentence_split done c.args.entry xs i c.sentence-item.result c.loop-sentence-test.true c.sentence-item.is) more

@@ -1,0 +1,111 @@
+-- What is kept of the sentences that were looked at, and what the calls answer.
+use Rattle.std.specs.Prelude.{◌≡◌, ◌↔◌, ℕ, zero, suc, ◌+◌, ◌&&◌, not, Bool, List, [], ◌∷◌, ◌++◌, map, filter, length, slice_get, Option, Some, None, is_some, option_and_then, Result, Ok, Err, Vec, ⊤}
+use Rattle.std.specs.declared.alloc.Global.{Global}
+use Rattle.std.specs.List.{Contains}
+use Rattle.mh_tables.specs.Table.{TableData}
+use Rattle.mh_msgfile.specs.declared.messages.MsgSentence.{MsgSentence}
+use Rattle.mh_msgfile.specs.declared.messages.Entry.{Entry}
+use Rattle.mh_msgfile.specs.declared.messages.MsgFile.{MsgFile}
+use Rattle.mh_run.specs.Verdicts.{ending_for}
+use Rattle.mh_check.specs.declared.places.Place.{Place}
+use Rattle.mh_check.specs.declared.compiling.CheckFault.{CheckFault}
+use Rattle.mh_check.specs.declared.compiling.CheckFault.TheVariants as faults
+use Rattle.mh_check.specs.Checks.{FailsIn, Sound, FaultFound, NotRefusedAt, RefusedEarlyAt, SharedBy, FirstFault, IsMessage, sentences_of}
+
+-- ---- while sentences are looked at
+
+-- a sentence, and the number of its entry
+pub record Item : Type 0 where
+  pub sentence : MsgSentence
+  pub entry : ℕ
+
+abbrev pub item : ℕ → MsgSentence → Item
+item entry sentence = record { sentence = sentence; entry = entry }
+
+abbrev pub items_of : ℕ → List MsgSentence → List Item
+items_of entry xs = map (item entry) xs
+
+-- of entries, from one's number on
+abbrev pub items_from : ℕ → List Entry → List Item
+items_from entry [] = []
+items_from entry (e ∷ es) = items_of entry e.sentences ++ items_from (entry + 1) es
+
+abbrev pub sentences_in : List Item → List MsgSentence
+sentences_in xs = map (λ x. x.sentence) xs
+
+abbrev pub place_of : Item → Place
+place_of x = record { line = x.sentence.line; entry = x.entry }
+
+-- the places of some sound sentences, by the states that they fail in
+pub record Placed (t : TableData) (done : List Item) (places : List (Option Place)) : Type 0 where
+  pub sound : Sound t (sentences_in done)
+  pub found : (s : ℕ) (p : Place) → slice_get places s ≡ Some (Some p) → (x : Item) × Contains done x × FailsIn t x.sentence s × (p ≡ place_of x)
+  pub kept : (x : Item) (s : ℕ) → Contains done x → FailsIn t x.sentence s → slice_get places s ≡ Some (Some (place_of x))
+
+-- the fault that a call tells
+abbrev pub Tells : CheckFault → (FaultFound → Type 0) → Type 0
+Tells (faults.NotRefused line verdict) Is = Is (NotRefusedAt line (ending_for verdict))
+Tells (faults.RefusedEarly line at) Is = Is (RefusedEarlyAt line at)
+Tells (faults.SharedState first second state) Is = Is (SharedBy first second state)
+Tells faults.Memory Is = ⊤
+
+-- what a call answers that looks at some sentences more
+abbrev pub PlacesMore : TableData → List Item → List Item → List (Option Place) → {T : Type 0} → Result T CheckFault → Type 0
+PlacesMore t done more new (Ok _) = Placed t (done ++ more) new
+PlacesMore t done more new (Err fault) = Tells fault (FirstFault t (sentences_in (done ++ more)))
+
+-- the places of a file's sentences, or its first fault
+abbrev pub PlacesAll : TableData → List Entry → Result (List (Option Place)) CheckFault → Type 0
+PlacesAll t es (Ok places) = (length places ≡ length t.states) × Placed t (items_from 0 es) places
+PlacesAll t es (Err fault) = Tells fault (FirstFault t (sentences_in (items_from 0 es)))
+
+-- the items of a vector
+abbrev pub listed : Result (Vec (Option Place) Global) CheckFault → Result (List (Option Place)) CheckFault
+listed (Ok places) = Ok places.items
+listed (Err fault) = Err fault
+
+-- ---- what was compiled
+
+abbrev pub itself_place : Option Place → Option Place
+itself_place o = o
+
+-- the place of a state, if it has one
+abbrev pub place_in : List (Option Place) → ℕ → Option Place
+place_in places s = option_and_then itself_place (slice_get places s)
+
+-- the message of the entry at a place
+abbrev pub message_of_place : List (List ℕ) → Option Place → Option (List ℕ)
+message_of_place messages None = None
+message_of_place messages (Some p) = slice_get messages p.entry
+
+abbrev pub itself : Option (List ℕ) → Option (List ℕ)
+itself o = o
+
+-- the message of a state, if it has one
+abbrev pub message_at : List (Option (List ℕ)) → ℕ → Option (List ℕ)
+message_at compiled s = option_and_then itself (slice_get compiled s)
+
+-- a sound file, and for each state the message of its sentence
+pub record IsCompiled (t : TableData) (file : MsgFile) (compiled : List (Option (List ℕ))) : Type 0 where
+  pub sound : Sound t (sentences_of file)
+  pub states : length compiled ≡ length t.states
+  pub messages : (s : ℕ) (message : List ℕ) → (message_at compiled s ≡ Some message) ↔ IsMessage t file s message
+
+abbrev pub Compiles : TableData → MsgFile → Result (List (Option (List ℕ))) CheckFault → Type 0
+Compiles t file (Ok compiled) = IsCompiled t file compiled
+Compiles t file (Err fault) = Tells fault (FirstFault t (sentences_of file))
+
+-- ---- two files
+
+-- so many numbers, from one on
+abbrev pub numbers_from : ℕ → ℕ → List ℕ
+numbers_from number zero = []
+numbers_from number (suc count) = number ∷ numbers_from (number + 1) count
+
+-- the first has a message for the state, and the second has none
+abbrev pub is_missing : List (Option (List ℕ)) → List (Option (List ℕ)) → ℕ → Bool
+is_missing left right s = is_some (message_at left s) && not (is_some (message_at right s))
+
+-- the states of the first that the second lacks, rising
+abbrev pub missing : List (Option (List ℕ)) → List (Option (List ℕ)) → List ℕ
+missing left right = filter (is_missing left right) (numbers_from 0 (length left))

@@ -1,0 +1,108 @@
+//! The messages of states.
+ghost use Rattle.std.specs.Prelude.{◌≡◌, ◌≤◌, ◌^◌, ◌∷◌, ◌++◌, [], length, map, filter, is_some, slice_get, MatchOption, IfOk, OnOk, Some, None};
+ghost use Rattle.mh_check.specs.Compiling.{message_at, message_of_place, place_in, is_missing, missing};
+
+use crate::places::Place;
+use mh_grammar::{Memory, Sequence};
+use std::alloc::Global;
+use std::marker::Model;
+
+/// Messages by the states that they are for. The states of one entry share its message.
+#[derive(Drop)]
+pub struct Compiled {
+    places: Vec<Option<Place>>,
+    messages: Vec<Sequence<u8>>,
+}
+
+impl Model for Compiled {
+    ghost use Rattle.std.specs.Prelude.{List, ℕ, Option, map};
+    ghost use Rattle.mh_check.specs.Compiling.{message_of_place};
+
+    ghost Value = { List (Option (List ℕ)) };
+
+    ghost view = { λ c. map (message_of_place c.messages.items) c.places.items };
+}
+
+/// These messages, by the entries of the states' places.
+pub(crate) fn compiled_of(places: Vec<Option<Place>>, messages: Vec<Sequence<u8>>) -> Compiled
+    ensures { result ≡ map (message_of_place messages.items) places.items }
+{
+    Compiled { places, messages }
+}
+
+/// The place of a state, if it has one.
+fn place_at(places: &[Option<Place>], state: u32) -> Option<Place>
+    ensures { result ≡ place_in places.now state }
+{
+    match places.get(state as usize) {
+        Some(place) => *place,
+        None => None,
+    }
+}
+
+/// The message of an entry.
+fn message_at_place(messages: &[Sequence<u8>], place: Place) -> Option<&[u8]>
+    ensures { MatchOption result (slice_get messages.now place.entry ≡ None) (λ message. slice_get messages.now place.entry ≡ Some message.now) }
+{
+    match messages.get(place.entry) {
+        Some(message) => Some(message.as_slice()),
+        None => None,
+    }
+}
+
+impl Compiled {
+    /// The message of the entry whose sentence fails in this state, or none. It takes no memory, and looks the state up by
+    /// its number.
+    pub fn message(&self, state: u32) -> Option<&[u8]>
+        ensures { MatchOption result (message_at self.now state ≡ None) (λ message. message_at self.now state ≡ Some message.now) }
+    {
+        match place_at(self.places.as_slice(), state) {
+            Some(place) => message_at_place(self.messages.as_slice(), place),
+            None => None,
+        }
+    }
+
+    /// Whether a state has a message.
+    fn has_message(&self, state: u32) -> bool
+        ensures { result ≡ is_some (message_at self.now state) }
+    {
+        match self.message(state) {
+            Some(_) => true,
+            None => false,
+        }
+    }
+
+    /// How many states the table has, those without a message too.
+    pub fn states(&self) -> usize
+        ensures { result ≡ length self.now }
+    {
+        self.places.len()
+    }
+}
+
+/// Puts in a state for which the first has a message and the second has none.
+fn put_missing(
+    states: &mut Vec<u32>,
+    left: &Compiled,
+    right: &Compiled,
+    state: u32,
+) -> Result<(), Memory>
+    ensures { OnOk result (states.new.items ≡ states.old.items ++ filter (is_missing left.now right.now) (state ∷ [])) }
+{
+    if left.has_message(state) && !right.has_message(state) {
+        states.push(state)?;
+    }
+    Ok(())
+}
+
+/// The states for which the first has a message and the second has none, rising. `Memory` only where there was none.
+pub fn compare(alloc: Global, left: &Compiled, right: &Compiled) -> Result<Vec<u32>, Memory>
+    requires { length left.now ≤ 2 ^ 32 }
+    ensures { IfOk result (λ states. states.items ≡ missing left.now right.now) }
+{
+    let mut states = Vec::new(alloc);
+    for state in 0..left.states() {
+        put_missing(&mut states, left, right, state as u32)?;
+    }
+    Ok(states)
+}

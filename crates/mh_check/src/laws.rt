@@ -1,0 +1,17 @@
+//! What readers may rely on of messages files against a table. The call does nothing; each clause is a theorem.
+ghost use Rattle.std.specs.Prelude.{◌≡◌, List, ℕ, Option};
+ghost use Rattle.mh_check.specs.Checks.{FaultFound, FirstFault, Sound};
+ghost use Rattle.mh_check.specs.Compiling.{IsCompiled};
+ghost use Rattle.mh_msgfile.specs.declared.messages.MsgSentence.{MsgSentence};
+ghost use Rattle.mh_msgfile.specs.declared.messages.MsgFile.{MsgFile};
+
+use mh_tables::Halting;
+
+/// Sentences are sound or have one first fault, and not both; a file is compiled to one list of messages.
+pub fn checked_once(table: &Halting)
+    ensures fault { (xs : List MsgSentence) (a b : FaultFound) → FirstFault table.now xs a → FirstFault table.now xs b → a ≡ b }
+    ensures apart { (xs : List MsgSentence) (fault : FaultFound) → Sound table.now xs → FirstFault table.now xs fault → ⊥ }
+    ensures messages { (file : MsgFile) (a b : List (Option (List ℕ))) → IsCompiled table.now file a → IsCompiled table.now file b → a ≡ b }
+{
+    let _table = table;
+}

@@ -1,0 +1,13 @@
+//! Messages files against a table: each sentence fails at its last token, and no two fail in one state.
+#![tactic(auto)]
+
+mod compiled;
+mod compiling;
+mod laws;
+mod places;
+mod texts;
+
+pub use compiled::{Compiled, compare};
+pub use compiling::{CheckFault, compile};
+pub use laws::checked_once;
+pub use texts::{check_fault_line, compiled_text, ending_text, file_fault_line, write_early};

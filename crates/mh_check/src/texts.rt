@@ -1,0 +1,170 @@
+//! The texts of faults and of compiled messages.
+ghost use Rattle.std.specs.Prelude.{◌≡◌, ◌≤◌, ◌^◌, ◌++◌, length, decimal, IfOk, OnOk};
+ghost use Rattle.mh_run.specs.Verdicts.{ending_for};
+ghost use Rattle.mh_msgfile.specs.Messages.{Tells as TellsFile};
+ghost use Rattle.mh_check.specs.Compiling.{Tells, message_at};
+ghost use Rattle.mh_check.specs.Texts.{place_text, file_line, ending_text as ending_line, early_text, shared_text, check_line, state_text, message_text, compiled_text as compiled_lines};
+
+use crate::compiled::Compiled;
+use crate::compiling::CheckFault;
+use mh_grammar::Memory;
+use mh_msgfile::MsgFault;
+use mh_run::Verdict;
+use std::alloc::Global;
+
+fn write_number(alloc: Global, text: &mut Vec<u8>, number: usize) -> Result<(), Memory>
+    ensures { OnOk result (text.new.items ≡ text.old.items ++ decimal number) }
+{
+    let digits = format!(in alloc; "{number}")?;
+    text.extend_from_slice(digits.as_bytes())?;
+    Ok(())
+}
+
+/// The beginning of a line on err that speaks of a line of a file.
+#[tactic(auto, unfolding(crate::specs::Texts::place_text))]
+fn place_of(alloc: Global, name: &[u8], line: u32) -> Result<Vec<u8>, Memory>
+    ensures { IfOk result (λ text. text.items ≡ place_text name.now line) }
+{
+    let mut text = b"menhir: ".to_vec(alloc)?;
+    text.extend_from_slice(name)?;
+    text.push(b':')?;
+    write_number(alloc, &mut text, line as usize)?;
+    text.extend_from_slice(b": ")?;
+    Ok(text)
+}
+
+/// The line on err that tells the fault of a messages file of this name. For want of memory it tells nothing.
+pub fn file_fault_line(alloc: Global, name: &[u8], fault: &MsgFault) -> Result<Vec<u8>, Memory>
+    ensures { IfOk result (λ text. TellsFile fault.now (λ found. text.items ≡ file_line name.now found)) }
+{
+    match fault {
+        MsgFault::Shape { line } => {
+            let mut text = place_of(alloc, name, *line)?;
+            text.extend_from_slice(b"shape\n")?;
+            Ok(text)
+        }
+        MsgFault::UnknownStart { line, name: start } => {
+            let mut text = place_of(alloc, name, *line)?;
+            text.extend_from_slice(b"unknown start ")?;
+            text.extend_from_slice(start.as_slice())?;
+            text.push(b'\n')?;
+            Ok(text)
+        }
+        MsgFault::MissingStart { line } => {
+            let mut text = place_of(alloc, name, *line)?;
+            text.extend_from_slice(b"missing start\n")?;
+            Ok(text)
+        }
+        MsgFault::UnknownToken { line, name: token } => {
+            let mut text = place_of(alloc, name, *line)?;
+            text.extend_from_slice(b"unknown token ")?;
+            text.extend_from_slice(token.as_slice())?;
+            text.push(b'\n')?;
+            Ok(text)
+        }
+        MsgFault::Memory => Err(Memory),
+    }
+}
+
+/// The words for a run that does not refuse.
+pub fn ending_text(verdict: Verdict) -> &'static [u8]
+    ensures { result.now ≡ ending_line (ending_for verdict) }
+{
+    match verdict {
+        Verdict::Accept { .. } => b"not refused: ACCEPT\n",
+        Verdict::Overshoot { .. } => b"not refused: OVERSHOOT\n",
+        Verdict::Reject { .. } => b"",
+    }
+}
+
+/// Writes that a sentence is refused at this place, counted from 0, before its last token.
+#[tactic(auto, unfolding(crate::specs::Texts::early_text))]
+pub fn write_early(alloc: Global, text: &mut Vec<u8>, at: u32) -> Result<(), Memory>
+    ensures { OnOk result (text.new.items ≡ text.old.items ++ early_text at) }
+{
+    text.extend_from_slice(b"refused early at index ")?;
+    write_number(alloc, text, at as usize)?;
+    text.push(b'\n')?;
+    Ok(())
+}
+
+#[tactic(auto, unfolding(crate::specs::Texts::shared_text))]
+fn write_shared(alloc: Global, text: &mut Vec<u8>, state: u32, line: u32) -> Result<(), Memory>
+    ensures { OnOk result (text.new.items ≡ text.old.items ++ shared_text state line) }
+{
+    text.extend_from_slice(b"state ")?;
+    write_number(alloc, text, state as usize)?;
+    text.extend_from_slice(b" is shared with line ")?;
+    write_number(alloc, text, line as usize)?;
+    text.push(b'\n')?;
+    Ok(())
+}
+
+/// The line on err that tells why a messages file of this name does not fit a table. For want of memory it tells nothing.
+pub fn check_fault_line(alloc: Global, name: &[u8], fault: &CheckFault) -> Result<Vec<u8>, Memory>
+    ensures { IfOk result (λ text. Tells fault.now (λ found. text.items ≡ check_line name.now found)) }
+{
+    match fault {
+        CheckFault::NotRefused { line, verdict } => {
+            let mut text = place_of(alloc, name, *line)?;
+            text.extend_from_slice(ending_text(*verdict))?;
+            Ok(text)
+        }
+        CheckFault::RefusedEarly { line, at } => {
+            let mut text = place_of(alloc, name, *line)?;
+            write_early(alloc, &mut text, *at)?;
+            Ok(text)
+        }
+        CheckFault::SharedState {
+            first,
+            second,
+            state,
+        } => {
+            let mut text = place_of(alloc, name, *second)?;
+            write_shared(alloc, &mut text, *state, *first)?;
+            Ok(text)
+        }
+        CheckFault::Memory => Err(Memory),
+    }
+}
+
+#[tactic(auto, unfolding(crate::specs::Texts::state_text))]
+fn write_state(alloc: Global, text: &mut Vec<u8>, state: usize, size: usize) -> Result<(), Memory>
+    ensures { OnOk result (text.new.items ≡ text.old.items ++ state_text state size) }
+{
+    text.extend_from_slice(b"state ")?;
+    write_number(alloc, text, state)?;
+    text.push(b' ')?;
+    write_number(alloc, text, size)?;
+    text.push(b'\n')?;
+    Ok(())
+}
+
+/// Writes the message of a state, if it has one.
+fn write_message(
+    alloc: Global,
+    text: &mut Vec<u8>,
+    compiled: &Compiled,
+    state: u32,
+) -> Result<(), Memory>
+    ensures { OnOk result (text.new.items ≡ text.old.items ++ message_text state (message_at compiled.now state)) }
+{
+    let Some(message) = compiled.message(state) else {
+        return Ok(());
+    };
+    write_state(alloc, text, state as usize, message.len())?;
+    text.extend_from_slice(message)?;
+    Ok(())
+}
+
+/// The messages of all states that have one, rising: the state, the size of its message, and the message.
+pub fn compiled_text(alloc: Global, compiled: &Compiled) -> Result<Vec<u8>, Memory>
+    requires { length compiled.now ≤ 2 ^ 32 }
+    ensures { IfOk result (λ text. text.items ≡ compiled_lines compiled.now) }
+{
+    let mut text = Vec::new(alloc);
+    for state in 0..compiled.states() {
+        write_message(alloc, &mut text, compiled, state as u32)?;
+    }
+    Ok(text)
+}
