@@ -1,0 +1,35 @@
+-- What a shift of the second search puts in.
+use Rattle.std.proofs.Common.{◌≡◌, ℕ, ◌+◌, List, [], ◌∷◌, Some, None, Option, true, false, refl, sym, ◌∙◌}
+use Rattle.std.specs.Prelude.{min}
+use Rattle.std.specs.Option.{is_some}
+use Rattle.std.specs.Global.{Vec}
+use Rattle.mh_tables.specs.Table.{TableData, cost_of_token}
+use Rattle.mh_tables.specs.Run.{Shifts, move_of}
+use Rattle.mh_least.specs.Orders.{cap}
+use Rattle.mh_reach.specs.declared.arrivals.Spot.{Spot}
+use Rattle.mh_reach.specs.declared.arrivals.Step.TheVariants as steps
+use Rattle.mh_reach.specs.declared.arrivals.Arrival.{Arrival}
+use Rattle.mh_reach.specs.declared.arrivals.Coming.{Coming}
+use Rattle.mh_reach.specs.declared.classes.Classes.{Classes}
+use Rattle.mh_reach.specs.Rows.{Gains, Among}
+use Rattle.mh_reach.specs.Classes.{rep_of, list_at}
+use Rattle.mh_reach.specs.Arriving.{StepsOn, StepsAlong}
+use Rattle.mh_reach.proofs.Gaining.{gains_by}
+use Rattle.mh_reach.proofs.Shifting.{one_shift}
+
+module _ (t : TableData) (c : Classes) (k : Spot) (cost token end at : ℕ) (like : rep_of c k.state token ≡ k.next) (move : move_of t k.state (token ∷ []) ≡ Shifts end) (at_is : at ≡ min (cost + cost_of_token t token) cap) where
+  pub along_gains : (old new : List (Vec Coming)) → Gains (Among (StepsOn at end (steps.Shift k token)) (list_at c end)) old new → Gains (StepsAlong t c k cost token) old new
+  along_gains old new g = gains_by (Among (StepsOn at end (steps.Shift k token)) (list_at c end)) (StepsAlong t c k cost token) old new
+      (λ p o h. record { end = end; z = h.0; token = like; move = move; listed = h.1; cost_is = h.2.0 ∙ at_is; is = h.2.1 })
+      (λ p o s.
+      let ends : s.end ≡ end = one_shift s.end end (sym s.move ∙ move) in
+      (s.z, rw ends at s.listed, (s.cost_is ∙ sym at_is, s.is ∙ rw ends refl)))
+      g
+
+pub none_there : (o : Option Arrival) {r : Option Arrival} → r ≡ o → is_some r ≡ false → o ≡ None
+none_there None e h = refl
+none_there (Some f) e h = absurd (let y : is_some (Some f) ≡ false = rw e at h in let z : true ≡ false = y in cc)
+
+pub some_there : (o : Option Arrival) {r : Option Arrival} → r ≡ o → is_some r ≡ true → (f : Arrival) × (o ≡ Some f)
+some_there None e h = absurd (let y : is_some {T = Arrival} None ≡ true = rw e at h in let z : false ≡ true = y in cc)
+some_there (Some f) e h = (f, refl)

@@ -1,0 +1,72 @@
+-- The least cost of a sentence that fails in a state, and the sentence.
+use Rattle.std.specs.Prelude.{◌≡◌, ℕ, List, [], ◌∷◌, ◌++◌, length, slice_get, Option, Some, None, ◌<◌, ◌≤◌, ◌+◌, min, Bool, true, false, nat_lt}
+use Rattle.mh_tables.specs.Table.{TableData, cost_of_token}
+use Rattle.mh_tables.specs.Run.{Refuses, move_of}
+use Rattle.mh_facts.specs.declared.store.FactKey.{FactKey}
+use Rattle.mh_tables.specs.Failing.{Fails, Failing, cost_of_word}
+use Rattle.mh_facts.specs.Stored.{Facts}
+use Rattle.mh_least.specs.Least.{Label}
+use Rattle.mh_least.specs.Orders.{cap}
+use Rattle.mh_reach.specs.declared.sentences.Best.{Best}
+use Rattle.mh_reach.specs.Tales.{Tale, capped}
+use Rattle.mh_reach.specs.declared.arrivals.Spot.{Spot}
+use Rattle.mh_reach.specs.declared.arrivals.Arrival.{Arrival}
+use Rattle.mh_reach.specs.declared.classes.Classes.{Classes}
+use Rattle.mh_reach.specs.Classes.{rep_of}
+use Rattle.mh_reach.specs.Arriving.{Spots, Journey, arrival_at, spot}
+
+-- no sentence fails in the state, or this is the least cost of one that does, up to the highest
+abbrev pub LeastCost : TableData → ℕ → Option ℕ → Type 0
+LeastCost t s None = Failing t s → ⊥
+LeastCost t s (Some c) = ((start : ℕ) (w : List ℕ) → Fails t start w s → c ≤ min (cost_of_word t w) cap) × ((start : ℕ) × (w : List ℕ) × Fails t start w s × (c ≡ min (cost_of_word t w) cap))
+
+-- what is kept of a state: a spot, and the token that is refused behind it
+pub record BestOk (t : TableData) (words : FactKey → Option (List ℕ)) (labels : Spot → Option Label) (s : ℕ) (b : Best) : Type 0 where
+  pub label : Label
+  pub is : labels b.spot ≡ Some label
+  pub fails : Fails t label.start (label.word ++ b.token ∷ []) s
+  pub cost_is : b.cost ≡ capped t (label.word ++ b.token ∷ [])
+  pub least : (start : ℕ) (w : List ℕ) → Fails t start w s → b.cost ≤ capped t w
+
+abbrev pub BestAt : (t : TableData) → (FactKey → Option (List ℕ)) → (Spot → Option Label) → ℕ → Option Best → Type 0
+BestAt t words labels s None = Failing t s → ⊥
+BestAt t words labels s (Some b) = BestOk t words labels s b
+
+-- no arrival costs more than the highest
+abbrev pub AreCheap : Spots → Type 0
+AreCheap spots = (k : Spot) (r : Arrival) → arrival_at spots k ≡ Some r → r.cost ≤ cap
+
+abbrev pub spot_of : Classes → ℕ → ℕ → Spot
+spot_of c s z = spot s (rep_of c s z)
+
+-- the way to fail in a state on one token
+abbrev pub BestOn : TableData → Classes → Spots → ℕ → ℕ → Option Best → Type 0
+BestOn t c spots s z None = (r : Arrival) → move_of t s (z ∷ []) ≡ Refuses → arrival_at spots (spot_of c s z) ≡ Some r → ⊥
+BestOn t c spots s z (Some b) = (r : Arrival) × (move_of t s (z ∷ []) ≡ Refuses) × (arrival_at spots (spot_of c s z) ≡ Some r) × (b ≡ record { cost = min (r.cost + cost_of_token t z) cap; spot = spot_of c s z; token = z })
+
+-- the best on the tokens below n
+abbrev pub BestBelow : TableData → Classes → Spots → ℕ → ℕ → Option Best → Type 0
+BestBelow t c spots s n None = (z : ℕ) (r : Arrival) → z < n → move_of t s (z ∷ []) ≡ Refuses → arrival_at spots (spot_of c s z) ≡ Some r → ⊥
+BestBelow t c spots s n (Some b) = ((z : ℕ) (r : Arrival) → z < n → move_of t s (z ∷ []) ≡ Refuses → arrival_at spots (spot_of c s z) ≡ Some r → b.cost ≤ min (r.cost + cost_of_token t z) cap)
+    × ((z : ℕ) × (z < n) × BestOn t c spots s z (Some b))
+
+-- the best in each state below n
+pub record AreBest (t : TableData) (c : Classes) (spots : Spots) (n : ℕ) (best : List (Option Best)) : Type 0 where
+  pub long : length best ≡ n
+  pub each : (s : ℕ) (b : Option Best) → slice_get best s ≡ Some b → BestBelow t c spots s t.grammar.tokens b
+
+abbrev pub cheaper : Bool → Best → Best → Option Best
+cheaper true a b = Some b
+cheaper false a b = Some a
+
+abbrev pub lesser : Option Best → Option Best → Option Best
+lesser None b = b
+lesser (Some a) None = Some a
+lesser (Some a) (Some b) = cheaper (nat_lt b.cost a.cost) a b
+
+-- what both searches leave
+pub record IsReach (t : TableData) (facts : Facts) (spots : Spots) (best : List (Option Best)) : Type 0 where
+  pub tale : Tale t facts
+  pub journey : Journey t tale.words spots
+  pub long : length best ≡ length t.states
+  pub each : (s : ℕ) (b : Option Best) → slice_get best s ≡ Some b → BestAt t tale.words journey.labels s b
