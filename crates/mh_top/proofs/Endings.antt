@@ -17,7 +17,7 @@ use Rattle.mh_top.specs.TableStage.{IsTableStage}
 use Rattle.mh_top.specs.Verdicts.{Answering}
 use Rattle.mh_top.specs.Work.{Work, Plan, Ending, Ends, AsksEach, Outcome, Gives, PlanGives, Then, IsWork, IsWorkOfOrder, IsWorkOfFiles, IsWorkOfGrammar, IsWorkOfTable, IsPlanOfJob, IsPlanUnless, has_warning, halted}
 use Rattle.mh_top.specs.Claims.{HoldsFile}
-use Rattle.mh_top.specs.declared.tabled.Tabled.{Tabled}
+use Rattle.mh_top.specs.Shapes.{Tabled}
 use Rattle.mh_top.specs.declared.stop.Cause.{Cause}
 use Rattle.mh_top.specs.declared.stop.Cause.TheVariants.{Refused, Misused, Missing, TooBig}
 use Rattle.mh_top.proofs.Turns.{turn_first, turn_later, file_once}

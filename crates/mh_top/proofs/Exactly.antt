@@ -37,7 +37,7 @@ use Rattle.mh_reader.proofs.Filled.{push_spelled}
 use Rattle.mh_opts.specs.declared.order.Job.{Job}
 use Rattle.mh_opts.specs.declared.order.Job.TheVariants.{Interpret, ShowAutomaton}
 use Rattle.mh_opts.specs.declared.order.Order.{Order}
-use Rattle.mh_top.specs.declared.tabled.Tabled.{Tabled}
+use Rattle.mh_top.specs.Shapes.{Tabled}
 use Rattle.mh_top.specs.Text.{Text}
 use Rattle.mh_top.specs.Causes.{Staged, Go, Halt}
 use Rattle.mh_top.specs.Order.{order_of}

@@ -27,7 +27,7 @@ use Rattle.mh_top.specs.GrammarStage.{IsGrammarStage, refusal}
 use Rattle.mh_top.specs.TableStage.{HasTooMany, HasTable, AreTabled, LoopsFirst, IsTableStage, loops_line}
 use Rattle.mh_top.specs.Work.{Work, Plan, Then, IsWork, IsWorkOfOrder, IsWorkOfFiles, IsWorkOfModules, IsWorkOfGrammar, IsWorkOfTable, IsPlanOfJob, IsPlanUnless, has_warning, showing}
 use Rattle.mh_top.specs.declared.stop.Cause.{Cause}
-use Rattle.mh_top.specs.declared.tabled.Tabled.{Tabled}
+use Rattle.mh_top.specs.Shapes.{Tabled}
 use Rattle.mh_top.proofs.Turns.{file_once}
 
 -- ---- a table

@@ -15,7 +15,7 @@ use Rattle.mh_top.specs.Work.{IsWork, IsWorkOfOrder, IsWorkOfModules, IsWorkOfGr
 use Rattle.mh_top.specs.Run.{World, Worked}
 use Rattle.mh_top.specs.Claims.{FileOf}
 use Rattle.mh_top.specs.declared.stop.Stop.{Stop}
-use Rattle.mh_top.specs.declared.tabled.Tabled.{Tabled}
+use Rattle.mh_top.specs.Shapes.{Tabled}
 use Rattle.mh_top.proofs.Turns.{may_refuse}
 use Rattle.mh_top.proofs.Worked.{wider, stage_halts, order_on, order_halts}
 

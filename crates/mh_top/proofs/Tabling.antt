@@ -18,7 +18,7 @@ use Rattle.mh_top.specs.TableStage.{HasTooMany, AreTabled, IsTableStage, loops_l
 use Rattle.mh_top.specs.declared.stop.Cause.TheVariants.{Refused}
 use Rattle.mh_top.specs.declared.stop.Stop.{Stop}
 use Rattle.mh_top.specs.declared.stop.Stop.TheVariants.{Halted, ShelfFailed, InputFailed, WriteFailed, OutOfMemory}
-use Rattle.mh_top.specs.declared.tabled.Tabled.{Tabled}
+use Rattle.mh_top.specs.Shapes.{Tabled}
 
 module _ (g : Grammar) (a : Automaton) (t : TableData) (few : HasTooMany g → ⊥) (canonical : IsCanonical (plain_of g) a) (table : IsTableOf g a Canonical t) where
   are_tabled : (found conflicts : List Conflict) → conflicts ≡ found → AreConflicts g a found → AreTabled g a t conflicts

@@ -14,3 +14,4 @@ pub mod Run
 pub mod Load
 pub mod Claims
 pub mod Exact
+pub mod Shapes

@@ -14,7 +14,7 @@ use Rattle.mh_top.specs.Text.{Text, too_many_states}
 use Rattle.mh_top.specs.Causes.{Staged, Go, Halt}
 use Rattle.mh_msgfile.specs.Sentences.{token_names}
 use Rattle.mh_top.specs.declared.stop.Cause.TheVariants.{Refused}
-use Rattle.mh_top.specs.declared.tabled.Tabled.{Tabled}
+use Rattle.mh_top.specs.Shapes.{Tabled}
 
 -- an automaton has at most so many states
 abbrev pub max_states : ℕ

@@ -24,7 +24,7 @@ use Rattle.mh_top.specs.GrammarStage.{IsGrammarStage}
 use Rattle.mh_top.specs.TableStage.{IsTableStage}
 use Rattle.mh_top.specs.declared.stop.Cause.{Cause}
 use Rattle.mh_top.specs.declared.stop.Cause.TheVariants.{Refused, TooBig}
-use Rattle.mh_top.specs.declared.tabled.Tabled.{Tabled}
+use Rattle.mh_top.specs.Shapes.{Tabled}
 
 -- ---- plans
 

@@ -1,5 +1,6 @@
 //! The grammar of modules.
-ghost use Rattle.std.specs.Prelude.{IfOk};
+ghost use Rattle.std.specs.Prelude.{◌≤◌, length, IfOk};
+ghost use Rattle.mh_grammar.specs.Costs.{HaveCosts};
 ghost use Rattle.mh_grammar.specs.Plain.{plain_of, IsInRange};
 ghost use Rattle.mh_rules.specs.Ready.{AreModulesReady};
 ghost use Rattle.mh_top.specs.GrammarStage.{IsGrammarStage, RefusesBy, refusal};
@@ -39,6 +40,8 @@ pub(crate) fn grammar_in(
     requires { AreModulesReady modules.items }
     ensures grammar { StageHas (IsGrammarStage prelude modules.items) result }
     ensures range { IfOk result (λ grammar. IsInRange (plain_of grammar)) }
+    ensures costs { IfOk result (λ grammar. HaveCosts grammar.tokens) }
+    ensures tokens { IfOk result (λ grammar. length grammar.tokens ≤ 512) }
 {
     match grammar_of(alloc, &modules, prelude) {
         Ok(grammar) => Ok(grammar),

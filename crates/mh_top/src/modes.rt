@@ -1,5 +1,5 @@
 //! What is done with a table: the warnings on its conflicts, and then the refusal by `--strict`, or the mode.
-ghost use Rattle.std.specs.Prelude.{◌≡◌, ℕ, Option, IfOk};
+ghost use Rattle.std.specs.Prelude.{◌≡◌, ◌≤◌, ℕ, Option, IfOk};
 ghost use Rattle.mh_grammar.specs.Plain.{plain_of, IsInRange};
 ghost use Rattle.mh_items.specs.Automaton.{IsAutomaton};
 ghost use Rattle.mh_report.specs.Automata.{IsAutomatonText};
@@ -13,7 +13,7 @@ ghost use Rattle.mh_top.specs.Work.{IsPlanOf, IsWorkOfTable, has_warning as has_
 
 use crate::interpret::interpret;
 use crate::stop::{Cause, Stop, halted};
-use crate::tabled::Tabled;
+use crate::tabled::{Tabled, into_halting};
 use mh_grammar::{Grammar, Memory, Sequence};
 use mh_opts::{Job, Order};
 use mh_outside::{Sink, Source, write_whole};
@@ -51,7 +51,12 @@ fn has_warning(conflicts: &[Conflict]) -> bool
 }
 
 /// The text of the automaton.
-fn shown(alloc: Global, grammar: &Grammar, tabled: &Tabled) -> Result<Sequence<u8>, Memory>
+fn shown<const W: usize>(
+    alloc: Global,
+    grammar: &Grammar,
+    tabled: &Tabled<W>,
+) -> Result<Sequence<u8>, Memory>
+    requires width_few { W ≤ 8 }
     requires range { IsInRange (plain_of grammar.now) }
     requires automaton { IsAutomaton (plain_of grammar.now) tabled.now.automaton }
     requires table { IsTableOf grammar.now tabled.now.automaton Canonical tabled.now.halting }
@@ -70,7 +75,13 @@ fn shown(alloc: Global, grammar: &Grammar, tabled: &Tabled) -> Result<Sequence<u
 
 /// What follows the warnings. A text is made whole before they are written, so that what stands on err is always that of
 /// one work.
-fn next_of(alloc: Global, order: &Order, grammar: &Grammar, tabled: &Tabled) -> Result<Next, Memory>
+fn next_of<const W: usize>(
+    alloc: Global,
+    order: &Order,
+    grammar: &Grammar,
+    tabled: &Tabled<W>,
+) -> Result<Next, Memory>
+    requires width_few { W ≤ 8 }
     requires range { IsInRange (plain_of grammar.now) }
     requires automaton { IsAutomaton (plain_of grammar.now) tabled.now.automaton }
     requires table { IsTableOf grammar.now tabled.now.automaton Canonical tabled.now.halting }
@@ -137,20 +148,21 @@ fn follow<I: Source, O: Sink>(
 }
 
 /// The work on a table.
-pub(crate) fn work_on_table<I: Source, O: Sink, E: Sink>(
+pub(crate) fn work_on_table<I: Source, O: Sink, E: Sink, const W: usize>(
     alloc: Global,
     order: &Order,
     grammar: Grammar,
-    tabled: Tabled,
+    tabled: Tabled<W>,
     input: &mut I,
     out: &mut O,
     err: &mut E,
 ) -> Result<(), Stop>
+    requires width_few { W ≤ 8 }
     requires range { IsInRange (plain_of grammar) }
     requires automaton { IsAutomaton (plain_of grammar) tabled.automaton }
     requires table { IsTableOf grammar tabled.automaton Canonical tabled.halting }
     ensures { (files : Option Files) (shelf_faults : ℕ) →
-        Worked (IsWorkOfTable order.now grammar tabled) (λ line. ⊥)
+        Worked (IsWorkOfTable order.now grammar tabled.entry) (λ line. ⊥)
         (world_beside files shelf_faults I.left I.faults O.written O.faults E.written E.faults
         input.old out.old err.old)
         (world_beside files shelf_faults I.left I.faults O.written O.faults E.written E.faults
@@ -164,7 +176,7 @@ pub(crate) fn work_on_table<I: Source, O: Sink, E: Sink>(
             next,
             order.show_cst,
             grammar,
-            tabled.into_halting(),
+            into_halting(tabled),
             input,
             out,
         ),

@@ -1,5 +1,6 @@
 //! The canonical automaton of a grammar with its table, where every run on it ends, and the list of its conflicts.
-ghost use Rattle.std.specs.Prelude.{◌≡◌, ◌<◌, length, IfOk, string_bytes, MatchOption, ⊤};
+ghost use Rattle.std.specs.Prelude.{◌≡◌, ◌<◌, ◌≤◌, ◌*◌, length, IfOk, string_bytes, MatchOption, ⊤};
+ghost use Rattle.mh_grammar.specs.Costs.{HaveCosts};
 ghost use Rattle.mh_grammar.specs.Plain.{plain_of, IsInRange};
 ghost use Rattle.mh_canon.specs.Canonical.{IsCanonical};
 ghost use Rattle.mh_items.specs.Automaton.{IsAutomaton};
@@ -12,26 +13,30 @@ ghost use Rattle.mh_top.specs.declared.stop.Cause.TheVariants.{Refused};
 use crate::stop::{Cause, Stop, halted};
 use mh_canon::canonical;
 use mh_grammar::{Grammar, Sequence, Token};
-use mh_items::{Automaton, StatesFault};
+use mh_items::{Automaton, AutomatonWith, StatesFault};
 use mh_resolve::{Conflict, Mode, resolve};
+use mh_sets::TokenSet;
 use mh_tables::{HaltFault, Halting, check_halts};
 use std::alloc::{AllocError, Global};
 
 /// The canonical automaton of a grammar, its table, and the list of its conflicts.
 #[derive(Drop)]
-pub(crate) struct Tabled {
-    pub(crate) automaton: Automaton,
+pub(crate) struct TabledWith<L> {
+    pub(crate) automaton: AutomatonWith<L>,
     pub(crate) halting: Halting,
     pub(crate) conflicts: Sequence<Conflict>,
 }
 
-impl Tabled {
-    /// The table alone. The automaton and the conflicts are let go.
-    pub(crate) fn into_halting(self) -> Halting
-        ensures { result ≡ self.halting }
-    {
-        self.halting
-    }
+/// One whose sets of tokens have a width.
+pub(crate) type Tabled<const W: usize> = TabledWith<TokenSet<W>>;
+
+/// The table alone. The automaton and the conflicts are let go.
+pub(crate) fn into_halting<const W: usize>(tabled: Tabled<W>) -> Halting
+    requires { W ≤ 8 }
+    ensures { result ≡ tabled.entry.halting }
+{
+    let TabledWith { halting, .. } = tabled;
+    halting
 }
 
 fn too_many_states(alloc: Global) -> Stop
@@ -90,8 +95,15 @@ fn loops(
 }
 
 /// The canonical automaton with its table, where every run on it ends.
-fn with_table(alloc: Global, grammar: &Grammar, automaton: Automaton) -> Result<Tabled, Stop>
+fn with_table<const W: usize>(
+    alloc: Global,
+    grammar: &Grammar,
+    automaton: Automaton<W>,
+) -> Result<Tabled<W>, Stop>
+    requires width_few { W ≤ 8 }
+    requires width { length grammar.now.tokens ≤ 64 * W }
     requires range { IsInRange (plain_of grammar.now) }
+    requires costs { HaveCosts grammar.now.tokens }
     requires few { HasTooMany grammar.now → ⊥ }
     requires canonical { IsCanonical (plain_of grammar.now) automaton }
     requires automaton { IsAutomaton (plain_of grammar.now) automaton }
@@ -101,7 +113,7 @@ fn with_table(alloc: Global, grammar: &Grammar, automaton: Automaton) -> Result<
 {
     let (table, conflicts) = resolve(alloc, grammar, &automaton, Mode::Canonical)?;
     match check_halts(alloc, table) {
-        Ok(halting) => Ok(Tabled {
+        Ok(halting) => Ok(TabledWith {
             automaton,
             halting,
             conflicts: Sequence::from_vec(conflicts),
@@ -119,8 +131,11 @@ fn with_table(alloc: Global, grammar: &Grammar, automaton: Automaton) -> Result<
 
 /// The canonical automaton of a grammar with its table and its conflicts. It halts with the first of these: the
 /// automaton has too many states; a run on the table never ends.
-pub(crate) fn table_of(alloc: Global, grammar: &Grammar) -> Result<Tabled, Stop>
-    requires { IsInRange (plain_of grammar.now) }
+pub(crate) fn table_of<const W: usize>(alloc: Global, grammar: &Grammar) -> Result<Tabled<W>, Stop>
+    requires width_few { W ≤ 8 }
+    requires width { length grammar.now.tokens ≤ 64 * W }
+    requires range { IsInRange (plain_of grammar.now) }
+    requires costs { HaveCosts grammar.now.tokens }
     ensures stage { StageHas (IsTableStage grammar.now) result }
     ensures automaton { IfOk result (λ tabled.
         IsAutomaton (plain_of grammar.now) tabled.automaton) }

@@ -1,5 +1,6 @@
 //! All that the program does.
-ghost use Rattle.std.specs.Prelude.{◌≡◌, ℕ, Option, map, string_bytes};
+ghost use Rattle.std.specs.Prelude.{◌≡◌, ◌≤◌, ◌*◌, ℕ, Option, length, map, string_bytes};
+ghost use Rattle.mh_grammar.specs.Costs.{HaveCosts};
 ghost use Rattle.mh_grammar.specs.Plain.{plain_of, IsInRange};
 ghost use Rattle.mh_rules.specs.Ready.{AreModulesReady};
 ghost use Rattle.mh_outside.specs.Shelf.{Files};
@@ -20,9 +21,37 @@ use mh_grammar::Grammar;
 use mh_opts::Order;
 use mh_outside::{Shelf, Sink, Source, write_whole};
 use mh_reader::Module;
+use mh_sets::with_width;
 use std::alloc::Global;
 
-/// The work on a grammar.
+/// The work on a grammar, with sets of tokens of a width.
+fn work_at<I: Source, O: Sink, E: Sink, const W: usize>(
+    alloc: Global,
+    order: &Order,
+    grammar: Grammar,
+    input: &mut I,
+    out: &mut O,
+    err: &mut E,
+) -> Result<(), Stop>
+    requires width_few { W ≤ 8 }
+    requires width { length grammar.tokens ≤ 64 * W }
+    requires range { IsInRange (plain_of grammar) }
+    requires costs { HaveCosts grammar.tokens }
+    ensures { (files : Option Files) (shelf_faults : ℕ) →
+        Worked (IsWorkOfGrammar order.now grammar) (λ line. ⊥)
+        (world_beside files shelf_faults I.left I.faults O.written O.faults E.written E.faults
+        input.old out.old err.old)
+        (world_beside files shelf_faults I.left I.faults O.written O.faults E.written E.faults
+        input.new out.new err.new)
+        result }
+{
+    match table_of::<W>(alloc, &grammar) {
+        Ok(tabled) => work_on_table(alloc, order, grammar, tabled, input, out, err),
+        Err(stop) => Err(stop),
+    }
+}
+
+/// The work on a grammar, at the least width that holds its tokens.
 fn work_on_grammar<I: Source, O: Sink, E: Sink>(
     alloc: Global,
     order: &Order,
@@ -32,6 +61,8 @@ fn work_on_grammar<I: Source, O: Sink, E: Sink>(
     err: &mut E,
 ) -> Result<(), Stop>
     requires range { IsInRange (plain_of grammar) }
+    requires costs { HaveCosts grammar.tokens }
+    requires tokens { length grammar.tokens ≤ 512 }
     ensures { (files : Option Files) (shelf_faults : ℕ) →
         Worked (IsWorkOfGrammar order.now grammar) (λ line. ⊥)
         (world_beside files shelf_faults I.left I.faults O.written O.faults E.written E.faults
@@ -40,10 +71,7 @@ fn work_on_grammar<I: Source, O: Sink, E: Sink>(
         input.new out.new err.new)
         result }
 {
-    match table_of(alloc, &grammar) {
-        Ok(tabled) => work_on_table(alloc, order, grammar, tabled, input, out, err),
-        Err(stop) => Err(stop),
-    }
+    with_width!(grammar.tokens.len(); work_at; I, O, E; alloc, order, grammar, input, out, err)
 }
 
 /// The work on the modules of all files, which are let go once they have given the grammar.

@@ -1,0 +1,7 @@
+-- Tables with their automata as definitions see them, whatever the width of their sets.
+use Rattle.std.specs.Prelude.{List}
+use Rattle.mh_grammar.specs.declared.types.Look.{Look}
+use Rattle.mh_top.specs.declared.tabled.TabledWith.{TabledWith}
+
+abbrev pub Tabled : Type 0
+Tabled = TabledWith (List Look)
