@@ -5,6 +5,7 @@ use Rattle.std.proofs.lemmas.Bool.{cases_lt}
 use Rattle.std.proofs.lemmas.Option.{slice_get_within, slice_get-get_or}
 use Rattle.mh_grammar.specs.declared.types.Grammar.{Grammar}
 use Rattle.mh_grammar.specs.declared.types.Sentence.{Sentence}
+use Rattle.mh_grammar.specs.Costs.{HaveCosts}
 use Rattle.mh_grammar.specs.Plain.{PlainGrammar, plain_of, start_symbol, IsInRange, BeginsSentence}
 use Rattle.mh_items.specs.Shapes.{Automaton}
 use Rattle.mh_items.specs.Shapes.{Kernel}
@@ -32,7 +33,7 @@ use Rattle.mh_outside.specs.Shelf.{Files}
 use Rattle.mh_rules.specs.declared.modules.Module.{Module}
 use Rattle.mh_reader.specs.Spelling.{Spells}
 use Rattle.mh_rules.specs.Ready.{AreModulesReady}
-use Rattle.mh_front.proofs.OneGrammar.{in_range}
+use Rattle.mh_front.proofs.OneGrammar.{have_costs, in_range}
 use Rattle.mh_reader.proofs.Filled.{push_spelled}
 use Rattle.mh_opts.specs.declared.order.Job.{Job}
 use Rattle.mh_opts.specs.declared.order.Job.TheVariants.{Interpret, ShowAutomaton}
@@ -56,6 +57,7 @@ use Rattle.mh_top.proofs.Turns.{file_spelled, none_spelled}
 
 pub record IsTabled (g : Grammar) (t : TableData) : Type 0 where
   range : IsInRange (plain_of g)
+  costs : HaveCosts g.tokens
   few : HasTooMany g → ⊥
   table : HasTable g t
 
@@ -90,14 +92,14 @@ module _ (warnings : Text) (trees : Bool) (g : Grammar) (t : TableData) where
   of_plan true order h tabled has is = absurd (no_end (by trees g t) _ is)
   of_plan false order h tabled has is = of_job order.job order.show_cst h tabled has is
 
-  of_table : (order : Order) (h : Grammar) → IsInRange (plain_of h) → (s : Staged Tabled) → IsTableStage h s → Then s (IsWorkOfTable order h) work → IsTabled g t
-  of_table order h range (Go tabled) stage is =
+  of_table : (order : Order) (h : Grammar) → IsInRange (plain_of h) → HaveCosts h.tokens → (s : Staged Tabled) → IsTableStage h s → Then s (IsWorkOfTable order h) work → IsTabled g t
+  of_table order h range costs (Go tabled) stage is =
       of_plan (order.strict && has_warning tabled.conflicts) order h tabled
-      (record { range = range; few = stage.0; table = record { automaton = tabled.automaton; canonical = stage.1.canonical; table = stage.1.table } }) is.1
-  of_table order h range (Halt cause line) stage is = absurd (not_halted cause line is)
+      (record { range = range; costs = costs; few = stage.0; table = record { automaton = tabled.automaton; canonical = stage.1.canonical; table = stage.1.table } }) is.1
+  of_table order h range costs (Halt cause line) stage is = absurd (not_halted cause line is)
 
   of_modules : (order : Order) (modules : List Module) → AreModulesReady modules → (s : Staged Grammar) → IsGrammarStage order.stdlib modules s → Then s (IsWorkOfGrammar order) work → IsTabled g t
-  of_modules order modules some (Go h) stage is = of_table order h (in_range order.stdlib modules h some stage) is.0 is.1 is.2
+  of_modules order modules some (Go h) stage is = of_table order h (in_range order.stdlib modules h some stage) (have_costs order.stdlib modules h some stage) is.0 is.1 is.2
   of_modules order modules some (Halt cause line) stage is = absurd (not_halted cause line is)
 
   of_file : (files : Option Files) (name : Text) (Next : Module → Work → Type 0) (s : Staged Module) → IsFileStage files name s → ((m : Module) → (bytes : Text) × Spells bytes m → Next m work → IsTabled g t) → Then s Next work → IsTabled g t
@@ -151,8 +153,8 @@ module _ (g : Grammar) (t : TableData) (is : IsTabled g t) where
   facts =
       let table = is.table.table in
       let grammar : t.grammar ≡ plain_of g = table.grammar in
-      let whole : table_data g t.states ≡ t = (λ i. record { grammar = sym grammar i; states = t.states }) in
-      subst Facts whole (facts_of g is.table.automaton Canonical t.states is.range automaton table.states)
+      let whole : table_data g t.states ≡ t = (λ i. record { grammar = sym grammar i; costs = sym table.costs i; states = t.states }) in
+      subst Facts whole (facts_of g is.table.automaton Canonical t.states is.range is.costs automaton table.states)
 
   clear : IsLR1 g → HasNoConflicts g is.table.automaton
   clear lr1 = subst (HasNoConflicts g) (one_canonical (plain_of g) lr1.automaton is.table.automaton lr1.canonical is.table.canonical) lr1.clear
