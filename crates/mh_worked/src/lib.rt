@@ -10,8 +10,6 @@ mod interpreting;
 #[cfg(test)]
 mod limits;
 #[cfg(test)]
-mod many_tokens;
-#[cfg(test)]
 mod refused;
 #[cfg(test)]
 mod runs;
