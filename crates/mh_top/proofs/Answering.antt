@@ -1,6 +1,5 @@
 -- How a line is answered.
-use Rattle.std.proofs.Common.{◌≡◌, Bool, true, false, ◌++◌, sym, ◌∙◌, ap, Vec, ℕ, Result, Ok, Err, IfOk}
-use Rattle.std.specs.declared.alloc.Global.{Global}
+use Rattle.std.proofs.Common.{◌≡◌, Bool, true, false, sym, ◌∙◌, ap}
 use Rattle.mh_grammar.specs.declared.types.Sentence.{Sentence}
 use Rattle.mh_grammar.specs.declared.types.Grammar.{Grammar}
 use Rattle.mh_tables.specs.Table.{TableData}
@@ -9,8 +8,7 @@ use Rattle.mh_tables.proofs.Ending.{one_ending}
 use Rattle.mh_tables.proofs.OneTreeEnding.{one_tree_ending}
 use Rattle.mh_msgfile.specs.Sentences.{LineFound, IsSentence, IsUnreadable, NamesNoStart, LacksStart, NamesUnknown, sentence_in, vocabulary_of}
 use Rattle.mh_top.specs.Text.{Text}
-use Rattle.mh_top.specs.Each.{AnswersLine}
-use Rattle.mh_top.specs.Verdicts.{Answering, Answers, AnswersOne, FoundBy, SentenceText, verdict_text, outcome_text}
+use Rattle.mh_top.specs.Verdicts.{Answering, AnswersOne, FoundBy, SentenceText, verdict_text, outcome_text}
 
 -- ---- a line has one text
 
@@ -27,13 +25,3 @@ found_once Says once (NamesUnknown name) a b p q = p ∙ sym q
 
 pub one_once : (by : Answering) (line a b : Text) → AnswersOne by line a → AnswersOne by line b → a ≡ b
 one_once by line a b p q = found_once (SentenceText by.trees by.grammar by.table) (sentence_once by.trees by.grammar by.table) (sentence_in (vocabulary_of by.grammar) line) a b p q
-
-pub answers_line : (by : Answering) (line text : Text) → AnswersOne by line text → AnswersLine (Answers by) (Answers by) line text
-answers_line by line text is lines whole = (
-  λ h. (h.1, h.3 ∙ ap (λ (l : Text). l ++ h.1) (one_once by line h.0 text h.2 is), h.4),
-  λ h. (text, h.0, is, h.1, h.2),
-)
-
-pub answers_ok : {E : Type 0} (by : Answering) (line : Text) (r : Result (Vec ℕ Global) E) → IfOk r (λ text. AnswersOne by line text.items) → IfOk r (λ text. AnswersLine (Answers by) (Answers by) line text.items)
-answers_ok by line (Ok text) is = answers_line by line text.items is
-answers_ok by line (Err e) is = is

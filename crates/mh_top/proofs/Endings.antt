@@ -1,135 +1,231 @@
 -- How the work that the words ask for ends, by its cause.
-use Rattle.std.proofs.Common.{◌≡◌, Bool, true, false, ◌&&◌, List, [], ◌∷◌, ◌++◌, Option, None, Some, refl, sym, ◌∙◌, ap, ap₂, subst}
+use Rattle.std.proofs.Common.{◌≡◌, Bool, true, false, ◌&&◌, List, [], ◌∷◌, ◌++◌, Option, None, Some, refl, sym, ◌∙◌, ap, subst}
+use Rattle.std.specs.Bool.{⊤}
 use Rattle.std.specs.List.{All}
 use Rattle.std.proofs.lemmas.List.Elements.{All-head, All-tail}
-use Rattle.mh_grammar.specs.declared.types.Grammar.{Grammar}
-use Rattle.mh_opts.specs.declared.order.Job.{Job}
-use Rattle.mh_opts.specs.declared.order.Job.TheVariants.{Interpret, ShowAutomaton}
-use Rattle.mh_outside.specs.Shelf.{Files, Found, found, NoFile, Long, Bytes}
+use Rattle.mh_outside.specs.Shelf.{Files, Found, NoFile, Long, Bytes}
 use Rattle.mh_rules.specs.declared.modules.Module.{Module}
+use Rattle.mh_opts.specs.Orders as spelled
 use Rattle.mh_opts.specs.declared.order.Order.{Order}
-use Rattle.mh_top.specs.Text.{Text, cannot_read, too_big}
-use Rattle.mh_top.specs.Causes.{Staged, Go, Halt}
-use Rattle.mh_top.specs.Order.{order_of}
-use Rattle.mh_top.specs.FileStage.{IsLoaded, IsModuleStage, IsFileStage, IsSpelled, IsTurn, Behind, Over, loaded, loaded_from, file_limit}
+use Rattle.mh_opts.specs.declared.order.UsageFault.{UsageFault}
+use Rattle.std.specs.Prelude.{Result, Ok, Err}
+use Rattle.mh_top.specs.Text.{Text, usage_line}
+use Rattle.mh_top.specs.Causes.{Staged, Go, Halt, On, Then, Gives, said}
+use Rattle.mh_top.specs.Order.{order_of, staged}
+use Rattle.mh_top.specs.FileStage.{AreFiles, IsFile, IsFound, IsLoaded, IsModule, loaded}
+use Rattle.mh_top.specs.Turns.{IsSpelled, IsTurn}
 use Rattle.mh_top.specs.GrammarStage.{IsGrammarStage}
-use Rattle.mh_top.specs.TableStage.{IsTableStage}
-use Rattle.mh_top.specs.Verdicts.{Answering}
-use Rattle.mh_top.specs.Work.{Work, Plan, Ending, Ends, AsksEach, Outcome, Gives, PlanGives, Then, IsWork, IsWorkOfOrder, IsWorkOfFiles, IsWorkOfGrammar, IsWorkOfTable, IsPlanOfJob, IsPlanUnless, has_warning, halted}
-use Rattle.mh_top.specs.Claims.{HoldsFile}
-use Rattle.mh_top.specs.Shapes.{Tabled}
+use Rattle.mh_top.specs.TableStage.{IsAutomatonStage, IsResolvedStage, IsTableStage, mode_of, source_of}
+use Rattle.mh_top.specs.Plan.{Ending, Plan, AnswersAll, EndsWith, asks_of, halts}
+use Rattle.mh_top.specs.Work.{Work, AsksFor, EndsBehind, IsFront, IsPlanUnless, IsPrepared, IsTabledFront, IsWork, IsWorkOf, Outcome, Yields, err_of, has_warning}
+use Rattle.mh_top.specs.Claims.{AsksLines, HoldsFile, IsPast}
+use Rattle.mh_top.specs.declared.drive.Asks.{Asks}
+use Rattle.mh_top.specs.declared.drive.Asks.TheVariants.{NoLine, FirstLine, EachLine}
+use Rattle.mh_top.specs.declared.prepared.Front.{Front}
+use Rattle.mh_top.specs.Shapes.{Prepared, Tabled}
 use Rattle.mh_top.specs.declared.stop.Cause.{Cause}
-use Rattle.mh_top.specs.declared.stop.Cause.TheVariants.{Refused, Misused, Missing, TooBig}
-use Rattle.mh_top.proofs.Turns.{turn_first, turn_later, file_once}
-use Rattle.mh_top.proofs.Worked.{words_misused}
+use Rattle.mh_top.specs.declared.stop.Cause.TheVariants.{Refused, Misused, Missing, LongFile, LongInput}
+use Rattle.mh_top.specs.declared.tabled.Source.{Source}
+use Rattle.mh_top.specs.declared.tabled.Source.TheVariants.{Canonical}
+use Rattle.mh_top.proofs.Turns.{turn_first, turn_later}
+use Rattle.mh_top.proofs.Once.{prepared_once}
+use Rattle.mh_top.proofs.EachMode.{EndsRight, IsRight, answer_right, ends_right, job_right}
 
--- `Has` says what stands under the name of the order's file
-pub data Ended (words : List Text) (Has : Found → Type 0) (w : Work) (o : Outcome) : Type 0 where
-  Misuse : o.cause ≡ Some Misused → (cause : Cause) → (line : Text) → order_of words ≡ Halt cause line → o.err ≡ line → Ended words Has w o
-  NoSuchFile : o.cause ≡ Some Missing → Has NoFile → Ended words Has w o
-  LongFile : o.cause ≡ Some TooBig → Has Long → Ended words Has w o
-  Refusal : o.cause ≡ Some Refused → Ended words Has w o
-  Done : o.cause ≡ None → Ended words Has w o
-  Lines : (by : Answering) → w.plan ≡ AsksEach by → Ended words Has w o
+-- a cause that no words, no file and no input have to account for
+abbrev IsRefusal : Cause → Type 0
+IsRefusal (Refused line) = ⊤
+IsRefusal _ = ⊥
 
--- the outcome of a work that halts
-cause_halted : (w : Work) (input : Option Text) (o : Outcome) (cause : Cause) (line : Text) → w ≡ halted cause line → Gives w input o → (o.cause ≡ Some cause) × (o.err ≡ line)
-cause_halted w input o cause line is gives =
-    let same : o ≡ record { cause = Some cause; out = []; err = line; left = input } = subst (λ (x : Work). Gives x input o) is gives in (ap (λ (x : Outcome). x.cause) same, ap (λ (x : Outcome). x.err) same)
+-- ---- before the warnings
 
--- where what is read halts, a file is not there or too long
-over_found : (files : Option Files) (name : Text) (s : Staged Text) → IsLoaded files name s → (what : Found) × Over files (λ known. found known name file_limit ≡ what) × (loaded_from name what ≡ s)
-over_found None name s is = (found is.0 name file_limit, (is.0, refl), is.1)
-over_found (Some fs) name s is = (found fs name file_limit, refl, is)
+module _ (words : List Text) (files : Option Files) where
+  -- what accounts for a cause
+  abbrev pub Accounts : Cause → Type 0
+  Accounts (Refused line) = ⊤
+  Accounts (Misused line) = order_of words ≡ Halt (Misused line)
+  Accounts (Missing name) = HoldsFile words NoFile files
+  Accounts (LongFile name) = HoldsFile words Long files
+  Accounts LongInput = ⊥
 
-module _ (words : List Text) (files : Option Files) (w : Work) (input : Option Text) (o : Outcome) (gives : Gives w input o) where
-  abbrev Has : Found → Type 0
-  Has what = HoldsFile words what files
+  refusal_accounts : (cause : Cause) → IsRefusal cause → Accounts cause
+  refusal_accounts (Refused line) is = tt
+  refusal_accounts (Misused line) is = absurd is
+  refusal_accounts (Missing name) is = absurd is
+  refusal_accounts (LongFile name) is = absurd is
+  refusal_accounts LongInput is = absurd is
 
-  refusal : (cause : Cause) (line : Text) → w ≡ halted cause line → cause ≡ Refused → Ended words Has w o
-  refusal cause line is refused = Refusal ((cause_halted w input o cause line is gives).0 ∙ ap Some refused)
+  refused_so : (cause : Cause) (line : Text) → cause ≡ Refused line → Accounts cause
+  refused_so cause line is = subst Accounts (sym is) tt
 
-  -- the outcome of a plan that asks for no line
-  cause_ended : (e : Ending) → w.plan ≡ Ends e → o.cause ≡ e.cause
-  cause_ended e is =
-      let same : PlanGives w.warnings (Ends e) input o = subst (λ (p : Plan). PlanGives w.warnings p input o) is gives in ap (λ (x : Outcome). x.cause) same
-
-  of_job : (job : Job) (trees : Bool) (g : Grammar) (tabled : Tabled) → IsPlanOfJob job trees g tabled w.plan → Ended words Has w o
-  of_job Interpret trees g tabled is = Lines (record { trees = trees; grammar = g; table = tabled.halting }) is
-  of_job ShowAutomaton trees g tabled is = Done (cause_ended _ is.2)
-
-  of_plan : (refused : Bool) (order : Order) (g : Grammar) (tabled : Tabled) → IsPlanUnless refused order g tabled w.plan → Ended words Has w o
-  of_plan true order g tabled is = Refusal (cause_ended _ is)
-  of_plan false order g tabled is = of_job order.job order.show_cst g tabled is
-
-  of_table : (order : Order) (g : Grammar) (s : Staged Tabled) → IsTableStage g s → Then s (IsWorkOfTable order g) w → Ended words Has w o
-  of_table order g (Go tabled) stage is = of_plan (order.strict && has_warning tabled.conflicts) order g tabled is.1
-  of_table order g (Halt cause line) stage is = refusal cause line is stage.0
-
-  of_modules : (order : Order) (modules : List Module) (s : Staged Grammar) → IsGrammarStage order.stdlib modules s → Then s (IsWorkOfGrammar order) w → Ended words Has w o
-  of_modules order modules (Go g) stage is = of_table order g is.0 is.1 is.2
-  of_modules order modules (Halt cause line) stage is = refusal cause line is stage.0
+  usage_so : (given : Result Order UsageFault) (cause : Cause) → staged given ≡ Halt cause → order_of words ≡ Halt cause → Accounts cause
+  usage_so (Ok order) cause is on = absurd (cc)
+  usage_so (Err fault) cause is on =
+      let same : Misused (usage_line fault) ≡ cause = cc in
+      subst Accounts same (on ∙ ap Halt (sym same))
 
   module _ (order : Order) (on : order_of words ≡ Go order) where
-    of_found : (name : Text) → IsTurn files order.grammars name → (what : Found) → Over files (λ known. found known name file_limit ≡ what) → (cause : Cause) (line : Text) → loaded_from name what ≡ Halt cause line → w ≡ halted cause line → Ended words Has w o
-    of_found name turn NoFile here cause line from is = let same : Missing ≡ cause = cc in NoSuchFile ((cause_halted w input o cause line is gives).0 ∙ ap Some (sym same)) (order, on, (name, turn, here))
-    of_found name turn Long here cause line from is = let same : TooBig ≡ cause = cc in LongFile ((cause_halted w input o cause line is gives).0 ∙ ap Some (sym same)) (order, on, (name, turn, here))
-    of_found name turn (Bytes bytes) here cause line from is = absurd (cc)
+    of_found : (name : Text) → IsTurn files IsModule order.grammars name → (what : Found) → IsFound files name what → (cause : Cause) → Halt cause ≡ loaded name what → Accounts cause
+    of_found name turn NoFile is cause from = let same : Missing name ≡ cause = cc in subst Accounts same (order, on, (name, turn, is))
+    of_found name turn Long is cause from = let same : LongFile name ≡ cause = cc in subst Accounts same (order, on, (name, turn, is))
+    of_found name turn (Bytes bytes) is cause from = absurd (cc)
 
-    of_read : (name : Text) → IsTurn files order.grammars name → (read : Staged Text) → IsLoaded files name read → (cause : Cause) (line : Text) → Behind read (IsModuleStage name) (Halt cause line) → w ≡ halted cause line → Ended words Has w o
-    of_read name turn (Go bytes) told cause line behind is = refusal cause line is behind.0
-    of_read name turn (Halt cause' line') told cause line behind is =
-        let p = over_found files name (Halt cause' line') told in
-        let same_cause : cause ≡ cause' = cc in
-        let same_line : line ≡ line' = cc in
-        of_found name turn p.0 p.1 cause' line' p.2 (is ∙ ap₂ halted same_cause same_line)
+    of_read : (name : Text) → IsTurn files IsModule order.grammars name → (read : Staged Text) → IsLoaded files name read → (cause : Cause) → On read (IsModule name) (Halt cause) → Accounts cause
+    of_read name turn (Go bytes) told cause fault = refused_so cause _ fault.cause_is
+    of_read name turn (Halt cause') told cause is =
+        let same : cause' ≡ cause = cc in subst Accounts same (of_found name turn told.0 told.1 cause' told.2)
 
-    of_file : (name : Text) → IsTurn files order.grammars name → (Next : Module → Work → Type 0) (s : Staged Module) → IsFileStage files name s → ((m : Module) → IsFileStage files name (Go m) → Next m w → Ended words Has w o) → Then s Next w → Ended words Has w o
-    of_file name turn Next (Go m) stage next is = next m stage is
-    of_file name turn Next (Halt cause line) stage next is = of_read name turn stage.0 stage.1 cause line stage.2 is
+    of_files : (names : List Text) → ((name : Text) → IsTurn files IsModule names name → IsTurn files IsModule order.grammars name) → (cause : Cause) → AreFiles files IsModule names (Halt cause) → Accounts cause
+    of_files [] turn cause is = absurd (cc)
+    of_files (name ∷ names) turn cause is = at (λ inner halt are. of_files names inner halt are) is.0 is.1 is.2
+      where
+        behind : (((next : Text) → IsTurn files IsModule names next → IsTurn files IsModule order.grammars next) → (halt : Cause) → AreFiles files IsModule names (Halt halt) → Accounts halt) → (m : Module) → IsFile files IsModule name (Go m) → (rest : Staged (List Module)) → AreFiles files IsModule names rest → On rest (λ xs. Gives (m ∷ xs)) (Halt cause) → Accounts cause
+        behind again m spelled (Go xs) are same = absurd (cc)
+        behind again m spelled (Halt cause') are same =
+            let one : cause' ≡ cause = cc in
+            subst Accounts one (again (λ next later. turn next (turn_later files IsModule name names next (m, spelled) later)) cause' are)
 
-    of_files : (modules : List Module) (names : List Text) → ((name : Text) → IsTurn files names name → IsTurn files order.grammars name) → IsWorkOfFiles files order modules names w → Ended words Has w o
-    of_files modules [] turn is = of_modules order modules is.0 is.1 is.2
-    of_files modules (name ∷ names) turn is =
-        of_file name (turn name (turn_first files name names)) (λ m. IsWorkOfFiles files order (modules ++ m ∷ []) names) is.0 is.1
-        (λ m stage rest. of_files (modules ++ m ∷ []) names (λ next later. turn next (turn_later files name names next (m, stage) later)) rest) is.2
+        at : (((next : Text) → IsTurn files IsModule names next → IsTurn files IsModule order.grammars next) → (halt : Cause) → AreFiles files IsModule names (Halt halt) → Accounts halt) → (first : Staged Module) → IsFile files IsModule name first → On first (λ x. Then (AreFiles files IsModule names) (λ xs. Gives (x ∷ xs))) (Halt cause) → Accounts cause
+        at again (Go m) spelled rest = behind again m spelled rest.0 rest.1 rest.2
+        at again (Halt cause') stage same =
+            let one : cause' ≡ cause = cc in
+            subst Accounts one (of_read name (turn name (turn_first files IsModule name names)) stage.0 stage.1 cause' stage.2)
 
-  of_words : (s : Staged Order) → order_of words ≡ s → Then s (IsWorkOfOrder files) w → Ended words Has w o
-  of_words (Go order) here is = of_files order here [] order.grammars (λ name turn. turn) is
-  of_words (Halt cause line) here is =
-      let p = cause_halted w input o cause line is gives in Misuse (p.0 ∙ ap Some (words_misused words cause line here)) cause line here p.1
+    of_grammar : (modules : List Module) (s : Staged _) → IsGrammarStage order.stdlib modules s → (cause : Cause) → On {B = Front} s (λ grammar. Gives (record { order = order; grammar = grammar })) (Halt cause) → Accounts cause
+    of_grammar modules (Go g) stage cause same = absurd (cc)
+    of_grammar modules (Halt cause') stage cause same = let one : cause' ≡ cause = cc in subst Accounts one (refused_so cause' _ stage.2)
 
-  pub ended : IsWork words files w → Ended words Has w o
-  ended is = of_words (order_of words) refl is
+    of_modules : (s : Staged (List Module)) → AreFiles files IsModule order.grammars s → (cause : Cause) → On {B = Front} s (λ modules. Then (IsGrammarStage order.stdlib modules) (λ grammar. Gives (record { order = order; grammar = grammar }))) (Halt cause) → Accounts cause
+    of_modules (Go modules) are cause rest = of_grammar modules rest.0 rest.1 cause rest.2
+    of_modules (Halt cause') are cause same = let one : cause' ≡ cause = cc in subst Accounts one (of_files order.grammars (λ name turn. turn) cause' are)
+
+  of_front : (cause : Cause) → IsFront words files (Halt cause) → Accounts cause
+  of_front cause is = at is.0 is.1 is.2
+    where
+      at : (s : Staged Order) → order_of words ≡ s → On {B = Front} s (λ order. Then (AreFiles files IsModule order.grammars) (λ modules. Then (IsGrammarStage order.stdlib modules) (λ grammar. Gives (record { order = order; grammar = grammar })))) (Halt cause) → Accounts cause
+      at (Go order) on rest = of_modules order on rest.0 rest.1 cause rest.2
+      at (Halt cause') on same = let one : cause' ≡ cause = cc in subst Accounts one (usage_so (spelled.order_of words) cause' on on)
+
+  of_automaton : (source : Source) (g : _) (s : _) → IsAutomatonStage source g s → (cause : Cause) → On s (IsResolvedStage (mode_of source) g) (Halt cause) → Accounts cause
+  of_automaton source g (Go a) stage cause first = refused_so cause _ first.cause_is
+  of_automaton Canonical g (Halt cause') stage cause same = let one : cause' ≡ cause = cc in subst Accounts one (refused_so cause' _ stage.1)
+
+  of_table : (front : Front) (s : Staged Tabled) → IsTableStage (source_of front.order) front.grammar s → (cause : Cause) → On {B = Prepared} s (λ tabled. Gives (record { order = front.order; grammar = front.grammar; tabled = tabled })) (Halt cause) → Accounts cause
+  of_table front (Go tabled) stage cause same = absurd (cc)
+  of_table front (Halt cause') stage cause same = let one : cause' ≡ cause = cc in subst Accounts one (of_automaton (source_of front.order) front.grammar stage.0 stage.1 cause' stage.2)
+
+  of_prepared : (cause : Cause) → IsPrepared words files (Halt cause) → Accounts cause
+  of_prepared cause is = at is.0 is.1 is.2
+    where
+      at : (s : Staged Front) → IsFront words files s → On s IsTabledFront (Halt cause) → Accounts cause
+      at (Go front) here rest = of_table front rest.0 rest.1 cause rest.2
+      at (Halt cause') here same = let one : cause' ≡ cause = cc in subst Accounts one (of_front cause' here)
+
+  -- ---- behind the warnings
+
+  plan_right : (refused : Bool) (p : Prepared) (plan : Plan) → IsPlanUnless refused files p plan → EndsRight Accounts plan
+  plan_right true p plan is = subst (EndsRight Accounts) (sym is) tt
+  plan_right false p plan is = job_right Accounts p.order.job files p plan is
+
+  work_right : (s : Staged Prepared) (w : Work) → IsPrepared words files s → IsWorkOf files s w → EndsRight Accounts w.plan
+  work_right (Go p) w prepared is = plan_right (p.order.strict && has_warning p.tabled.conflicts) p w.plan is.1
+  work_right (Halt cause) w prepared is = subst (λ (x : Work). EndsRight Accounts x.plan) (sym is) (of_prepared cause prepared)
+
+  answers_right : (plan : Plan) (lines : List Text) (text : Text) (next : Plan) → AnswersAll plan lines text next → EndsRight Accounts plan → EndsRight Accounts next
+  answers_right plan [] text next all right = subst (EndsRight Accounts) (sym all.1) right
+  answers_right plan (line ∷ lines) text next all right = answers_right all.2 lines all.1 next all.4 (answer_right Accounts plan line all.0 all.2 all.3 right)
+
+  -- what accounts for the cause of an outcome: some of the above, or that the input passes a limit
+  abbrev pub AccountsOn : Work → Option Text → Option Cause → Type 0
+  AccountsOn w input None = ⊤
+  AccountsOn w input (Some LongInput) = AsksLines w.plan × IsPast (asks_of w.plan) input
+  AccountsOn w input (Some cause) = Accounts cause
+
+  on_input : (w : Work) (input : Option Text) (cause : Option Cause) → IsRight Accounts cause → AccountsOn w input cause
+  on_input w input None is = tt
+  on_input w input (Some (Refused line)) is = is
+  on_input w input (Some (Misused line)) is = is
+  on_input w input (Some (Missing name)) is = is
+  on_input w input (Some (LongFile name)) is = is
+  on_input w input (Some LongInput) is = absurd is
+
+  past_asks : (asks : Asks) (input : Option Text) (lines : List Text) → AsksFor asks input lines false → asks ≡ NoLine → ⊥
+  past_asks NoLine input lines is none = let same : false ≡ true = is.1 in absurd (cc)
+  past_asks FirstLine input lines is none = absurd (cc)
+  past_asks EachLine input lines is none = absurd (cc)
+
+  past_input : (asks : Asks) (input : Option Text) (lines : List Text) → AsksFor asks input lines false → IsPast asks input
+  past_input asks None lines is = tt
+  past_input NoLine (Some input) lines is = let same : false ≡ true = is.1 in absurd (cc)
+  past_input FirstLine (Some input) lines is = is.1
+  past_input EachLine (Some input) lines is = is.1
+
+  outcome_right : (w : Work) (input : Option Text) (lines : List Text) (whole : Bool) (text : Text) (last : Plan) (cause : Option Cause) (out : Text) → AsksFor (asks_of w.plan) input lines whole → EndsRight Accounts last → EndsBehind whole last text cause out → AccountsOn w input cause
+  outcome_right w input lines true text last cause out asks right ends = subst (AccountsOn w input) (sym ends.2) (on_input w input ends.0.cause (ends_right Accounts (λ line. tt) last ends.0 right ends.1))
+  outcome_right w input lines false text last cause out asks right ends = subst (AccountsOn w input) (sym ends.0) (past_asks (asks_of w.plan) input lines asks, past_input (asks_of w.plan) input lines asks)
+
+  pub ended : (w : Work) (input : Option Text) (o : Outcome) → IsWork words files w → Yields w.plan input o → AccountsOn w input o.cause
+  ended w input o asked yields =
+      outcome_right w input yields.lines yields.whole yields.text yields.last o.cause o.out yields.asks
+      (answers_right w.plan yields.lines yields.text yields.last yields.answers (work_right asked.0 w asked.1 asked.2)) yields.ends
+
+  -- misuse says its line alone
+  misused_work : (line : Text) → order_of words ≡ Halt (Misused line) → (s : Staged Prepared) → IsPrepared words files s → (w : Work) → IsWorkOf files s w → w.warnings ≡ []
+  misused_work line on (Halt cause) prepared w is = ap (λ (x : Work). x.warnings) is
+  misused_work line on (Go p) prepared w is = absurd (no_front prepared.0 prepared.1 prepared.2)
+    where
+      no_order : (s : Staged Order) → order_of words ≡ s → (front : Front) → On {B = Front} s (λ order. Then (AreFiles files IsModule order.grammars) (λ modules. Then (IsGrammarStage order.stdlib modules) (λ grammar. Gives (record { order = order; grammar = grammar })))) (Go front) → ⊥
+      no_order (Go order) at front rest = let same : Halt (Misused line) ≡ Go order = sym on ∙ at in absurd (cc)
+      no_order (Halt cause) at front rest = absurd (cc)
+
+      no_front : (s : Staged Front) → IsFront words files s → On s IsTabledFront (Go p) → ⊥
+      no_front (Go front) is rest = no_order is.0 is.1 front is.2
+      no_front (Halt cause) is rest = absurd (cc)
+
+  pub misused_says : (w : Work) (o : Outcome) (line : Text) → order_of words ≡ Halt (Misused line) → o.cause ≡ Some (Misused line) → IsWork words files w → err_of w o ≡ line
+  misused_says w o line on cause asked =
+      ap (λ (t : Text). t ++ said o.cause) (misused_work line on asked.0 asked.1 w asked.2) ∙ ap said cause
 
 -- ---- and what follows of the files
 
-module _ (files : Files) (order : Order) (w : Work) where
-  -- the work on the files from one of them on, where those before it are read and spelled
-  from_turn : (name : Text) (after : List Text) (modules : List Module) (before : List Text) → All (IsSpelled (Some files)) before → IsWorkOfFiles (Some files) order modules (before ++ name ∷ after) w → (ms : List Module) × IsWorkOfFiles (Some files) order ms (name ∷ after) w
-  from_turn name after modules [] spelled is = (modules, is)
-  from_turn name after modules (first ∷ before) spelled is =
-      let here : IsSpelled (Some files) first = All-head (IsSpelled (Some files)) first before spelled in
-      let same : is.0 ≡ Go here.0 = file_once files first is.0 (Go here.0) is.1 here.1 in
-      from_turn name after (modules ++ here.0 ∷ []) before (All-tail (IsSpelled (Some files)) first before spelled)
-      (subst (λ (s : Staged Module). Then s (λ m. IsWorkOfFiles (Some files) order (modules ++ m ∷ []) (before ++ name ∷ after)) w) same is.2)
+-- the outcome of a work that halts
+halts_gives : (cause : Cause) (input : Option Text) (lines : List Text) (whole : Bool) (text : Text) (last : Plan) (given : Option Cause) (out : Text) → AsksFor NoLine input lines whole → AnswersAll (halts cause) lines text last → EndsBehind whole last text given out → given ≡ Some cause
+halts_gives cause input [] true text last given out asks all ends =
+    let end : EndsWith (halts cause) ends.0 = subst (λ (l : Plan). EndsWith l ends.0) all.1 ends.1 in
+    ends.2 ∙ ap (λ (e : Ending). e.cause) end
+halts_gives cause input [] false text last given out asks all ends = let same : false ≡ true = asks.1 in absurd (cc)
+halts_gives cause input (line ∷ lines) whole text last given out asks all ends = let same : line ∷ lines ≡ [] = asks.0 in absurd (cc)
 
-  turn_halts : (name : Text) (cause : Cause) (line : Text) → IsTurn (Some files) order.grammars name → IsFileStage (Some files) name (Halt cause line) → IsWorkOfOrder (Some files) order w → w ≡ halted cause line
-  turn_halts name cause line turn stage is =
-      let p = from_turn name turn.after [] turn.before turn.spelled (subst (λ (names : List Text). IsWorkOfFiles (Some files) order [] names w) turn.names_are is) in
-      let same : p.1.0 ≡ Halt cause line = file_once files name p.1.0 (Halt cause line) p.1.1 stage in
-      subst (λ (s : Staged Module). Then s (λ m. IsWorkOfFiles (Some files) order (p.0 ++ m ∷ []) turn.after) w) same p.1.2
+yields_halts : (cause : Cause) (input : Option Text) (o : Outcome) → Yields (halts cause) input o → o.cause ≡ Some cause
+yields_halts cause input o y = halts_gives cause input y.lines y.whole y.text y.last o.cause o.out y.asks y.answers y.ends
 
-pub file_halts : (words : List Text) (files : Files) (w : Work) (what : Found) (cause : Cause) (line : Text → Text) → IsWork words (Some files) w → HoldsFile words what (Some files) → ((name : Text) → loaded_from name what ≡ Halt cause (line name)) → (said : Text) × (w ≡ halted cause said)
-file_halts words files w what cause line is has from =
-    let order = has.0 in
-    let name = has.2.0 in
-    let here : IsWorkOfOrder (Some files) order w = subst (λ (s : Staged Order). Then s (IsWorkOfOrder (Some files)) w) has.1 is in
-    let read : loaded files name ≡ Halt cause (line name) = ap (loaded_from name) has.2.2 ∙ from name in
-    (line name, turn_halts files order w name cause (line name) has.2.1 (Halt cause (line name), read, refl) here)
+module _ (words : List Text) (files : Files) where
+  told : Option Files
+  told = Some files
 
-pub missing_gives : (words : List Text) (files : Files) (w : Work) (input : Option Text) (o : Outcome) → Gives w input o → IsWork words (Some files) w → HoldsFile words NoFile (Some files) → o.cause ≡ Some Missing
-missing_gives words files w input o gives is has = let p = file_halts words files w NoFile Missing cannot_read is has (λ name. refl) in (cause_halted w input o Missing p.0 p.1 gives).0
+  files_halt : (name : Text) (after : List Text) (cause : Cause) → IsFile (Some files) IsModule name (Halt cause) → (before : List Text) → All (IsSpelled (Some files) IsModule) before → AreFiles (Some files) IsModule (before ++ name ∷ after) (Halt cause)
+  files_halt name after cause is [] spelled = (Halt cause, is, refl)
+  files_halt name after cause is (first ∷ before) spelled =
+      let here : IsSpelled (Some files) IsModule first = All-head (IsSpelled (Some files) IsModule) first before spelled in
+      (Go here.0, here.1, (Halt cause, files_halt name after cause is before (All-tail (IsSpelled (Some files) IsModule) first before spelled), refl))
 
-pub long_gives : (words : List Text) (files : Files) (w : Work) (input : Option Text) (o : Outcome) → Gives w input o → IsWork words (Some files) w → HoldsFile words Long (Some files) → o.cause ≡ Some TooBig
-long_gives words files w input o gives is has = let p = file_halts words files w Long TooBig too_big is has (λ name. refl) in (cause_halted w input o TooBig p.0 p.1 gives).0
+  prepared_halts : (order : Order) → order_of words ≡ Go order → (name : Text) → IsTurn (Some files) IsModule order.grammars name → (cause : Cause) → IsFile (Some files) IsModule name (Halt cause) → IsPrepared words (Some files) (Halt cause)
+  prepared_halts order on name turn cause is =
+      let are : AreFiles (Some files) IsModule order.grammars (Halt cause) = subst (λ (l : List Text). AreFiles (Some files) IsModule l (Halt cause)) (sym turn.names_are) (files_halt name turn.after cause is turn.before turn.spelled) in
+      (Halt cause, (Go order, on, (Halt cause, are, refl)), refl)
+
+  held_halts : (what : Found) (cause : Text → Cause) → ((name : Text) → loaded name what ≡ Halt (cause name)) → HoldsFile words what (Some files) → (name : Text) × IsPrepared words (Some files) (Halt (cause name))
+  held_halts what cause halts_so has =
+      let name = has.2.0 in
+      (name, prepared_halts has.0 has.1 name has.2.1 (cause name) (Halt (cause name), (what, has.2.2, sym (halts_so name)), refl))
+
+  halted_work : (cause : Cause) (w : Work) (input : Option Text) (o : Outcome) → IsPrepared words (Some files) (Halt cause) → IsWork words (Some files) w → Yields w.plan input o → o.cause ≡ Some cause
+  halted_work cause w input o prepared asked yields =
+      let same : asked.0 ≡ Halt cause = prepared_once words files asked.0 (Halt cause) asked.1 prepared in
+      let work_is : w ≡ record { warnings = []; plan = halts cause } = subst (λ (s : Staged Prepared). IsWorkOf (Some files) s w) same asked.2 in
+      yields_halts cause input o (subst (λ (x : Work). Yields x.plan input o) work_is yields)
+
+  pub missing_gives : (w : Work) (input : Option Text) (o : Outcome) → Yields w.plan input o → IsWork words (Some files) w → HoldsFile words NoFile (Some files) → (name : Text) × (o.cause ≡ Some (Missing name))
+  missing_gives w input o yields asked has = let p = held_halts NoFile Missing (λ name. refl) has in (p.0, halted_work (Missing p.0) w input o p.1 asked yields)
+
+  pub long_gives : (w : Work) (input : Option Text) (o : Outcome) → Yields w.plan input o → IsWork words (Some files) w → HoldsFile words Long (Some files) → (name : Text) × (o.cause ≡ Some (LongFile name))
+  long_gives w input o yields asked has = let p = held_halts Long LongFile (λ name. refl) has in (p.0, halted_work (LongFile p.0) w input o p.1 asked yields)

@@ -1,5 +1,5 @@
 -- The answers to sentence lines, over the work that the words ask for.
-use Rattle.std.proofs.Common.{◌≡◌, ◌⊎◌, ◌↔◌, ℕ, ◌+◌, ◌<◌, ◌≤◌, List, [], ◌∷◌, ◌++◌, length, take, get_or, Bool, true, false, ◌&&◌, Option, refl, sym, ◌∙◌, ap, subst, arith, inl, inr}
+use Rattle.std.proofs.Common.{◌≡◌, ◌⊎◌, ◌↔◌, ℕ, ◌+◌, ◌<◌, ◌≤◌, List, [], ◌∷◌, ◌++◌, length, take, get_or, Bool, true, false, ◌&&◌, Option, sym, ◌∙◌, ap, subst, arith, inl, inr}
 use Rattle.std.specs.Prelude.{codes}
 use Rattle.std.proofs.lemmas.Bool.{cases_lt}
 use Rattle.std.proofs.lemmas.Option.{slice_get_within, slice_get-get_or}
@@ -17,7 +17,8 @@ use Rattle.mh_canon.proofs.Meaning.{IsAutomaton-canonical}
 use Rattle.mh_canon.proofs.Only.{one_canonical}
 use Rattle.mh_canon.proofs.States.{IsOver-states}
 use Rattle.mh_resolve.specs.Clear.{HasNoConflicts}
-use Rattle.mh_resolve.specs.declared.kinds.Mode.TheVariants.{Canonical}
+use Rattle.mh_resolve.specs.declared.kinds.Mode.TheVariants as modes
+use Rattle.mh_resolve.specs.States.{IsTableOf}
 use Rattle.mh_resolve.proofs.Resolving.{facts_of}
 use Rattle.mh_tables.specs.Table.{TableData, table_data}
 use Rattle.mh_tables.specs.Facts.{Facts}
@@ -32,28 +33,37 @@ use Rattle.mh_exact.proofs.Telling.{overshoots, tells_prefix, tells_refused}
 use Rattle.mh_outside.specs.Shelf.{Files}
 use Rattle.mh_rules.specs.declared.modules.Module.{Module}
 use Rattle.mh_reader.specs.Spelling.{Spells}
-use Rattle.mh_rules.specs.Ready.{AreModulesReady}
+use Rattle.mh_rules.specs.Ready.{IsModuleReady, AreModulesReady}
 use Rattle.mh_front.proofs.OneGrammar.{have_costs, in_range}
 use Rattle.mh_reader.proofs.Filled.{push_spelled}
-use Rattle.mh_opts.specs.declared.order.Job.{Job}
-use Rattle.mh_opts.specs.declared.order.Job.TheVariants.{Interpret, ShowAutomaton}
 use Rattle.mh_opts.specs.declared.order.Order.{Order}
-use Rattle.mh_top.specs.Shapes.{Tabled}
+use Rattle.std.proofs.lemmas.List.Elements.{All-cons, All-head, All-nil}
 use Rattle.mh_top.specs.Text.{Text}
-use Rattle.mh_top.specs.Causes.{Staged, Go, Halt}
+use Rattle.mh_top.specs.Causes.{Staged, Go, Halt, On, Then, Gives}
 use Rattle.mh_top.specs.Order.{order_of}
-use Rattle.mh_top.specs.FileStage.{IsFileStage}
+use Rattle.mh_top.specs.FileStage.{AreFiles, IsFile, IsModule}
 use Rattle.mh_top.specs.GrammarStage.{IsGrammarStage}
-use Rattle.mh_top.specs.TableStage.{HasTooMany, HasTable, IsTableStage}
-use Rattle.mh_msgfile.specs.Sentences.{LineFound, IsSentence}
-use Rattle.mh_top.specs.Verdicts.{Answering, FoundBy, SentenceText, verdict_text, outcome_text}
-use Rattle.mh_top.specs.Work.{Work, Ending, Ends, AsksEach, Then, IsWork, IsWorkOfOrder, IsWorkOfFiles, IsWorkOfGrammar, IsWorkOfTable, IsPlanOfJob, IsPlanUnless, has_warning, halted, answering}
-use Rattle.mh_top.specs.Exact.{IsLR1, AnswersSentence, Accepts, IsTooDeepText, ShowsTree, AcceptsExactly, RejectsRightly, OvershootsRightly, AcceptsRightly, TooDeepExactly}
-use Rattle.mh_top.specs.declared.stop.Cause.{Cause}
+use Rattle.mh_top.specs.TableStage.{HasTooMany, IsAutomatonStage, IsResolvedStage, IsTableStage, mode_of, source_of}
+use Rattle.mh_msgfile.specs.Sentences.{LineFound}
 use Rattle.mh_msgfile.proofs.Below.{sentence_start}
-use Rattle.mh_top.proofs.Turns.{file_spelled, none_spelled}
+use Rattle.mh_top.specs.Verdicts.{Answering, FoundBy, SentenceText, verdict_text, outcome_text}
+use Rattle.mh_top.specs.Plan.{Judges, halts}
+use Rattle.mh_top.specs.Work.{Work, IsFront, IsPlanUnless, IsPrepared, IsTabledFront, IsWork, IsWorkOf, has_warning}
+use Rattle.mh_top.specs.Exact.{IsLR1, AnswersSentence, Accepts, IsTooDeepText, ShowsTree, AcceptsExactly, RejectsRightly, OvershootsRightly, AcceptsRightly, TooDeepExactly}
+use Rattle.mh_top.specs.declared.prepared.Front.{Front}
+use Rattle.mh_top.specs.Shapes.{Prepared, Tabled}
+use Rattle.mh_top.specs.declared.stop.Cause.{Cause}
+use Rattle.mh_top.specs.declared.tabled.Source.{Source}
+use Rattle.mh_top.specs.declared.tabled.Source.TheVariants.{Canonical}
+use Rattle.mh_top.proofs.EachMode.{job_judges}
 
 -- ---- the grammar and the table that verdicts go by
+
+-- the table of the grammar's canonical automaton
+pub record HasTable (g : Grammar) (t : TableData) : Type 0 where
+  pub automaton : Automaton
+  pub canonical : IsCanonical (plain_of g) automaton
+  pub table : IsTableOf g automaton modes.Canonical t
 
 pub record IsTabled (g : Grammar) (t : TableData) : Type 0 where
   range : IsInRange (plain_of g)
@@ -61,63 +71,85 @@ pub record IsTabled (g : Grammar) (t : TableData) : Type 0 where
   few : HasTooMany g → ⊥
   table : HasTable g t
 
+tabled_so : (source : Source) (g : Grammar) → IsInRange (plain_of g) × HaveCosts g.tokens → (s : Staged Automaton) → IsAutomatonStage source g s → (x : Tabled) → On s (IsResolvedStage (mode_of source) g) (Go x) → IsTabled g x.halting
+tabled_so Canonical g range (Go a) stage x is = record { range = range.0; costs = range.1; few = stage.0; table = record { automaton = a; canonical = stage.1; table = is.table } }
+tabled_so Canonical g range (Halt cause) stage x is = absurd (cc)
+
+-- some bytes spell a module that is read
+spelled_module : (files : Option Files) (name : Text) (m : Module) → IsFile files IsModule name (Go m) → (bytes : Text) × Spells bytes m
+spelled_module files name m is = at is.0 is.2
+  where
+    at : (read : Staged Text) → On read (IsModule name) (Go m) → (bytes : Text) × Spells bytes m
+    at (Go bytes) spells = (bytes, spells)
+    at (Halt cause) same = absurd (cc)
+
+pub have_alternatives : (files : Option Files) (names : List Text) (ms : List Module) → AreFiles files IsModule names (Go ms) → AreModulesReady ms
+have_alternatives files [] ms is = let same : ms ≡ [] = cc in subst AreModulesReady (sym same) (All-nil IsModuleReady)
+have_alternatives files (name ∷ names) ms is = at (λ xs are. have_alternatives files names xs are) is.0 is.1 is.2
+  where
+    behind : ((xs : List Module) → AreFiles files IsModule names (Go xs) → AreModulesReady xs) → (m : Module) → IsFile files IsModule name (Go m) → (rest : Staged (List Module)) → AreFiles files IsModule names rest → On rest (λ xs. Gives (m ∷ xs)) (Go ms) → AreModulesReady ms
+    behind again m spelled (Halt cause) are same = absurd (cc)
+    behind again m spelled (Go xs) are same =
+        let one : m ∷ xs ≡ ms = cc in
+        let bytes = spelled_module files name m spelled in
+        let some : IsModuleReady m = All-head IsModuleReady m [] (push_spelled [] bytes.0 m (All-nil IsModuleReady) bytes.1) in
+        subst AreModulesReady one (All-cons IsModuleReady m xs some (again xs are))
+
+    at : ((xs : List Module) → AreFiles files IsModule names (Go xs) → AreModulesReady xs) → (first : Staged Module) → IsFile files IsModule name first → On first (λ x. Then (AreFiles files IsModule names) (λ xs. Gives (x ∷ xs))) (Go ms) → AreModulesReady ms
+    at again (Go m) spelled rest = behind again m spelled rest.0 rest.1 rest.2
+    at again (Halt cause) spelled same = absurd (cc)
+
+module _ (words : List Text) (files : Option Files) where
+  front_range : (front : Front) → IsFront words files (Go front) → IsInRange (plain_of front.grammar) × HaveCosts front.grammar.tokens
+  front_range front is = at is.0 is.1 is.2
+    where
+      of_grammar : (order : Order) (modules : List Module) → AreModulesReady modules → (s : Staged Grammar) → IsGrammarStage order.stdlib modules s → On s (λ grammar. Gives (record { order = order; grammar = grammar })) (Go front) → IsInRange (plain_of front.grammar) × HaveCosts front.grammar.tokens
+      of_grammar order modules some (Halt cause) stage same = absurd (cc)
+      of_grammar order modules some (Go g) stage same =
+          let one : front ≡ record { order = order; grammar = g } = cc in
+          subst (λ (f : Front). IsInRange (plain_of f.grammar) × HaveCosts f.grammar.tokens) (sym one) (in_range order.stdlib modules g some stage, have_costs order.stdlib modules g some stage)
+
+      of_modules : (order : Order) (s : Staged (List Module)) → AreFiles files IsModule order.grammars s → On s (λ modules. Then (IsGrammarStage order.stdlib modules) (λ grammar. Gives (record { order = order; grammar = grammar }))) (Go front) → IsInRange (plain_of front.grammar) × HaveCosts front.grammar.tokens
+      of_modules order (Go modules) are rest = of_grammar order modules (have_alternatives files order.grammars modules are) rest.0 rest.1 rest.2
+      of_modules order (Halt cause) are same = absurd (cc)
+
+      at : (s : Staged Order) → order_of words ≡ s → On s (λ order. Then (AreFiles files IsModule order.grammars) (λ modules. Then (IsGrammarStage order.stdlib modules) (λ grammar. Gives (record { order = order; grammar = grammar })))) (Go front) → IsInRange (plain_of front.grammar) × HaveCosts front.grammar.tokens
+      at (Go order) on rest = of_modules order rest.0 rest.1 rest.2
+      at (Halt cause) on same = absurd (cc)
+
+  prepared_tabled : (p : Prepared) → IsPrepared words files (Go p) → IsTabled p.grammar p.tabled.halting
+  prepared_tabled p is = at is.0 is.1 is.2
+    where
+      of_table : (front : Front) → IsInRange (plain_of front.grammar) × HaveCosts front.grammar.tokens → (s : Staged Tabled) → IsTableStage (source_of front.order) front.grammar s → On s (λ tabled. Gives (record { order = front.order; grammar = front.grammar; tabled = tabled })) (Go p) → IsTabled p.grammar p.tabled.halting
+      of_table front range (Halt cause) stage same = absurd (cc)
+      of_table front range (Go x) stage same =
+          let one : p ≡ record { order = front.order; grammar = front.grammar; tabled = x } = cc in
+          subst (λ (q : Prepared). IsTabled q.grammar q.tabled.halting) (sym one) (tabled_so (source_of front.order) front.grammar range stage.0 stage.1 x stage.2)
+
+      at : (s : Staged Front) → IsFront words files s → On s IsTabledFront (Go p) → IsTabled p.grammar p.tabled.halting
+      at (Go front) here rest = of_table front (front_range front here) rest.0 rest.1 rest.2
+      at (Halt cause) here same = absurd (cc)
+
 abbrev by : Bool → Grammar → TableData → Answering
 by trees g t = record { trees = trees; grammar = g; table = t }
 
-same_answering : (x y : Answering) → AsksEach x ≡ AsksEach y → y ≡ x
-same_answering x y e = cc
-
-no_end : (x : Answering) (e : Ending) → AsksEach x ≡ Ends e → ⊥
-no_end x e is = cc
-
 module _ (warnings : Text) (trees : Bool) (g : Grammar) (t : TableData) where
   abbrev work : Work
-  work = record { warnings = warnings; plan = answering trees g t }
+  work = record { warnings = warnings; plan = Judges (by trees g t) }
 
-  not_halted : (cause : Cause) (line : Text) → work ≡ halted cause line → ⊥
-  not_halted cause line e = no_end (by trees g t) _ (ap (λ (w : Work). w.plan) e)
-
-  same_tabled : (shown : Bool) (h : Grammar) (u : TableData) → answering trees g t ≡ answering shown h u → IsTabled h u → IsTabled g t
-  same_tabled shown h u e is =
-      let same : by shown h u ≡ by trees g t = same_answering (by trees g t) (by shown h u) e in
-      let grammar : h ≡ g = ap (λ (a : Answering). a.grammar) same in
-      let table : u ≡ t = ap (λ (a : Answering). a.table) same in
-      subst (λ (x : TableData). IsTabled g x) table (subst (λ (x : Grammar). IsTabled x u) grammar is)
-
-  of_job : (job : Job) (shown : Bool) (h : Grammar) (tabled : Tabled) → IsTabled h tabled.halting → IsPlanOfJob job shown h tabled (answering trees g t) → IsTabled g t
-  of_job Interpret shown h tabled has is = same_tabled shown h tabled.halting is has
-  of_job ShowAutomaton shown h tabled has is = absurd (no_end (by trees g t) _ is.2)
-
-  of_plan : (refused : Bool) (order : Order) (h : Grammar) (tabled : Tabled) → IsTabled h tabled.halting → IsPlanUnless refused order h tabled (answering trees g t) → IsTabled g t
-  of_plan true order h tabled has is = absurd (no_end (by trees g t) _ is)
-  of_plan false order h tabled has is = of_job order.job order.show_cst h tabled has is
-
-  of_table : (order : Order) (h : Grammar) → IsInRange (plain_of h) → HaveCosts h.tokens → (s : Staged Tabled) → IsTableStage h s → Then s (IsWorkOfTable order h) work → IsTabled g t
-  of_table order h range costs (Go tabled) stage is =
-      of_plan (order.strict && has_warning tabled.conflicts) order h tabled
-      (record { range = range; costs = costs; few = stage.0; table = record { automaton = tabled.automaton; canonical = stage.1.canonical; table = stage.1.table } }) is.1
-  of_table order h range costs (Halt cause line) stage is = absurd (not_halted cause line is)
-
-  of_modules : (order : Order) (modules : List Module) → AreModulesReady modules → (s : Staged Grammar) → IsGrammarStage order.stdlib modules s → Then s (IsWorkOfGrammar order) work → IsTabled g t
-  of_modules order modules some (Go h) stage is = of_table order h (in_range order.stdlib modules h some stage) (have_costs order.stdlib modules h some stage) is.0 is.1 is.2
-  of_modules order modules some (Halt cause line) stage is = absurd (not_halted cause line is)
-
-  of_file : (files : Option Files) (name : Text) (Next : Module → Work → Type 0) (s : Staged Module) → IsFileStage files name s → ((m : Module) → (bytes : Text) × Spells bytes m → Next m work → IsTabled g t) → Then s Next work → IsTabled g t
-  of_file files name Next (Go m) stage next is = next m (file_spelled files name m stage) is
-  of_file files name Next (Halt cause line) stage next is = absurd (not_halted cause line is)
-
-  of_files : (files : Option Files) (order : Order) (modules : List Module) → AreModulesReady modules → (names : List Text) → IsWorkOfFiles files order modules names work → IsTabled g t
-  of_files files order modules some [] is = of_modules order modules some is.0 is.1 is.2
-  of_files files order modules some (name ∷ names) is =
-      of_file files name (λ m. IsWorkOfFiles files order (modules ++ m ∷ []) names) is.0 is.1
-      (λ m spelled rest. of_files files order (modules ++ m ∷ []) (push_spelled modules spelled.0 m some spelled.1) names rest) is.2
-
-  of_words : (files : Option Files) (s : Staged Order) → Then s (IsWorkOfOrder files) work → IsTabled g t
-  of_words files (Go order) is = of_files files order [] none_spelled order.grammars is
-  of_words files (Halt cause line) is = absurd (not_halted cause line is)
+  of_plan : (refused : Bool) (files : Option Files) (p : Prepared) → IsTabled p.grammar p.tabled.halting → IsPlanUnless refused files p (Judges (by trees g t)) → IsTabled g t
+  of_plan true files p has is = absurd (cc)
+  of_plan false files p has is = job_judges IsTabled p.order.job files p (by trees g t) has is
 
   pub asked_tabled : (words : List Text) (files : Option Files) → IsWork words files work → IsTabled g t
-  asked_tabled words files asked = of_words files (order_of words) asked
+  asked_tabled words files asked = at asked.0 asked.1 asked.2
+    where
+      no_halt : (cause : Cause) → work ≡ record { warnings = []; plan = halts cause } → ⊥
+      no_halt cause e = let same : Judges (by trees g t) ≡ halts cause = ap (λ (w : Work). w.plan) e in absurd (cc)
+
+      at : (s : Staged Prepared) → IsPrepared words files s → IsWorkOf files s work → IsTabled g t
+      at (Go p) prepared is = of_plan (p.order.strict && has_warning p.tabled.conflicts) files p (prepared_tabled words files p prepared) is.1
+      at (Halt cause) prepared is = absurd (no_halt cause is)
 
 -- ---- the automaton of the table
 
@@ -154,14 +186,14 @@ module _ (g : Grammar) (t : TableData) (is : IsTabled g t) where
       let table = is.table.table in
       let grammar : t.grammar ≡ plain_of g = table.grammar in
       let whole : table_data g t.states ≡ t = (λ i. record { grammar = sym grammar i; costs = sym table.costs i; states = t.states }) in
-      subst Facts whole (facts_of g is.table.automaton Canonical t.states is.range is.costs automaton table.states)
+      subst Facts whole (facts_of g is.table.automaton modes.Canonical t.states is.range is.costs automaton table.states)
 
   clear : IsLR1 g → HasNoConflicts g is.table.automaton
   clear lr1 = subst (HasNoConflicts g) (one_canonical (plain_of g) lr1.automaton is.table.automaton lr1.canonical is.table.canonical) lr1.clear
 
   module _ (start : ℕ) (known : start < length g.starts) where
     accepts : IsLR1 g → (w : List ℕ) (read : ℕ) → VerdictOf t start w (Accepted read) ↔ IsPrefixSentence (plain_of g) start w read
-    accepts lr1 w read = tells_prefix g is.table.automaton Canonical t facts automaton is.table.table (clear lr1) start w read known
+    accepts lr1 w read = tells_prefix g is.table.automaton modes.Canonical t facts automaton is.table.table (clear lr1) start w read known
 
     accepts_rightly : (w : List ℕ) (read : ℕ) → VerdictOf t start w (Accepted read) → IsPrefixSentence (plain_of g) start w read
     accepts_rightly w read v =
@@ -170,10 +202,10 @@ module _ (g : Grammar) (t : TableData) (is : IsTabled g t) where
         subst (λ (p : PlainGrammar). IsPrefixSentence p start w read) grammar (accepted_sentence t facts start w read some v)
 
     rejects : IsLR1 g → (w : List ℕ) (at s : ℕ) → VerdictOf t start w (Rejected at s) → BeginsSentence (plain_of g) start (take (at + 1) w) → ⊥
-    rejects lr1 w at s v = tells_refused g is.table.automaton Canonical t facts automaton is.table.table (clear lr1) start w at s known v
+    rejects lr1 w at s v = tells_refused g is.table.automaton modes.Canonical t facts automaton is.table.table (clear lr1) start w at s known v
 
     overshot : AllProductive (plain_of g) → (w : List ℕ) (s : ℕ) → VerdictOf t start w (Overshot s) → BeginsSentence (plain_of g) start w
-    overshot productive w s v = overshoots g is.table.automaton Canonical t facts automaton is.table.table productive start w s known v
+    overshot productive w s v = overshoots g is.table.automaton modes.Canonical t facts automaton is.table.table productive start w s known v
 
 -- ---- the texts
 

@@ -1,68 +1,72 @@
--- The loop that answers each line, after some lines.
-use Rattle.std.proofs.Common.{◌≡◌, ◌↔◌, inl, inr, ◌<◌, ◌≤◌, ◌+◌, ℕ, suc, true, false, List, [], ◌∷◌, ◌++◌, length, Option, None, Some, refl, sym, ◌∙◌, ap, subst, arith, append_assoc}
+-- The lines that a mode has answered, after some of them.
+use Rattle.std.proofs.Common.{◌≡◌, ◌⊎◌, inl, inr, ◌<◌, ◌≤◌, ◌+◌, ℕ, zero, suc, true, false, List, [], ◌∷◌, ◌++◌, length, take, Option, None, Some, refl, sym, ◌∙◌, ap, ap₂, subst, arith, append_assoc, length-append}
 use Rattle.std.proofs.lemmas.List.{append-nil}
-use Rattle.std.specs.Prelude.{Ok, Err}
+use Rattle.std.specs.Prelude.{Ok, Err, Bool}
 use Rattle.std.specs.Io.KnownBytes.{Appends, Keeps, IsAtEnd}
-use Rattle.mh_outside.specs.Lines.{HasNoEnd, ReadsLine, TakesLine, Loses}
-use Rattle.mh_outside.specs.Sink.{IsPrefix}
+use Rattle.mh_outside.specs.Lines.{HasNoEnd, TakesLine, Loses, behind_line}
 use Rattle.mh_outside.proofs.Pieces.{Appends-append}
-use Rattle.mh_outside.specs.declared.lines.LineFault.{LineFault}
-use Rattle.mh_outside.specs.declared.lines.LineFault.TheVariants as line_faults
-use Rattle.mh_top.specs.Text.{Text, too_big_input}
-use Rattle.mh_top.specs.Stages.{Halts}
-use Rattle.mh_top.specs.Lines.{split, asked, is_small}
-use Rattle.mh_top.specs.Each.{Asks, AsksFirst, IsPart, GotLines, Finishes, EachRan, AnswersLine, LineRan, StopIs}
-use Rattle.mh_top.specs.declared.stop.Cause.TheVariants.{TooBig}
+use Rattle.mh_top.specs.Text.{Text}
+use Rattle.mh_top.specs.Lines.{split, asked, is_small, behind}
+use Rattle.mh_top.specs.Plan.{Ending, Plan, Answers, AnswersAll, EndsWith, asks_of}
+use Rattle.mh_top.specs.Work.{AsksFor, asked_of, left_behind, line_limit, most, wanted}
+use Rattle.mh_top.specs.Drive.{AreFirst, Ended, LeftIs, Ran, Stands, Took, TookPart}
+use Rattle.mh_top.specs.Steps.{AllAsked, EndRan, LineRan, LinesRan, PastRan, TookLine}
+use Rattle.mh_top.specs.declared.drive.Asks.{Asks}
+use Rattle.mh_top.specs.declared.drive.Asks.TheVariants.{NoLine, FirstLine, EachLine}
+use Rattle.mh_top.specs.declared.stop.Cause.{Cause}
+use Rattle.mh_top.specs.declared.stop.Cause.TheVariants.{LongInput}
 use Rattle.mh_top.specs.declared.stop.Stop.{Stop}
 use Rattle.mh_top.specs.declared.stop.Stop.TheVariants.{Halted, ShelfFailed, InputFailed, WriteFailed, OutOfMemory}
 use Rattle.mh_top.proofs.Splits.{split-line, split-open, split-last, asked-line, is_small-line, asked-long, is_small-long}
 
--- the input began with these lines, and at most m more are asked for
-pub record GotSome (limit max m : ℕ) (input now : Text) (lines : List Text) : Type 0 where
-  pub first : split input ≡ lines ++ split now
-  pub asks : asked limit max (split input) ≡ lines ++ asked limit m (split now)
-  pub small : is_small limit max (split input) ≡ is_small limit m (split now)
+-- ---- what is known of the input
 
-abbrev pub Got : ℕ → ℕ → ℕ → Option Text → Option Text → List Text → Type 0
-Got limit max m None now lines = Unit {0}
-Got limit max m (Some input) None lines = ⊥
-Got limit max m (Some input) (Some now) lines = GotSome limit max m input now lines
+-- it began with these lines, and at most m more are asked for
+pub record GotSome (asks : Asks) (m : ℕ) (input now : Text) (lines : List Text) : Type 0 where
+  pub at : now ≡ behind (length lines) input
+  pub first : asked_of asks input ≡ lines ++ asked line_limit m (wanted asks m (split now))
+  pub small : is_small line_limit (most asks) (wanted asks (most asks) (split input)) ≡ is_small line_limit m (wanted asks m (split now))
 
--- what `all` says of the lines goes on behind those that were answered, with `now`
-abbrev pub GoesOn : (List Text → Text → Type 0) → (List Text → Text → Type 0) → List Text → Text → Type 0
-GoesOn all now lines written = (more : List Text) → (whole : Text) → all (lines ++ more) whole ↔ ((rest : Text) × (whole ≡ written ++ rest) × now more rest)
+abbrev pub Known : Asks → ℕ → Option Text → Option Text → List Text → Type 0
+Known asks m None now lines = Unit {0}
+Known asks m (Some input) None lines = ⊥
+Known asks m (Some input) (Some now) lines = GotSome asks m input now lines
 
-abbrev pub SaysNothing : (List Text → Text → Type 0) → Type 0
-SaysNothing now = (text : Text) → now [] text ↔ (text ≡ [])
+pub record Got (asks : Asks) (m : ℕ) (old new : Option Text) (lines : List Text) : Type 0 where
+  pub none : asks ≡ NoLine → (m ≡ 0) × (new ≡ old) × (lines ≡ [])
+  pub known : Known asks m old new lines
 
-pub record SoFar (limit max m : ℕ) (all now : List Text → Text → Type 0) (in0 in1 out0 out1 : Option Text) : Type 0 where
+pub record SoFar (plan : Plan) (m : ℕ) (in0 in1 out0 out1 : Option Text) (next : Plan) : Type 0 where
   pub lines : List Text
-  pub written : Text
-  pub appended : Appends out0 out1 written
-  pub goes_on : GoesOn all now lines written
-  pub got : Got limit max m in0 in1 lines
+  pub text : Text
+  pub answers : AnswersAll plan lines text next
+  pub on_out : Appends out0 out1 text
+  pub got : Got (asks_of plan) m in0 in1 lines
 
 Appends-nil : (out : Option Text) → Appends out out []
 Appends-nil None = tt
 Appends-nil (Some out) = sym (append-nil out)
 
-Got-start : (limit max : ℕ) (input : Option Text) → Got limit max max input input []
-Got-start limit max None = tt
-Got-start limit max (Some input) = record { first = refl; asks = refl; small = refl }
+known_start : (asks : Asks) (input : Option Text) → Known asks (most asks) input input []
+known_start asks None = tt
+known_start asks (Some input) = record { at = refl; first = refl; small = refl }
 
-pub started : (limit max m : ℕ) (all : List Text → Text → Type 0) (input out : Option Text) → m ≡ max → SoFar limit max m all all input input out out
-started limit max m all input out is = record {
+pub started : (plan : Plan) (m : ℕ) (input out : Option Text) → m ≡ most (asks_of plan) → SoFar plan m input input out out plan
+started plan m input out is = record {
   lines = [];
-  written = [];
-  appended = Appends-nil out;
-  goes_on = λ more whole. (λ h. (whole, refl, h), λ h. subst (λ (t : Text). all more t) (sym h.1) h.2);
-  got = subst (λ (k : ℕ). Got limit max k input input []) (sym is) (Got-start limit max input);
+  text = [];
+  answers = (refl, refl);
+  on_out = Appends-nil out;
+  got = subst (λ (k : ℕ). Got (asks_of plan) k input input []) (sym is) (record {
+    none = λ none. (ap most none, refl, refl);
+    known = known_start (asks_of plan) input;
+  });
 }
 
 -- ---- a line more
 
-behind_line : (now next line : Text) → now ≡ line ++ 10 ∷ next → HasNoEnd line → split now ≡ line ∷ split next
-behind_line now next line is h = ap split is ∙ split-line line next h
+behind_first : (now next line : Text) → now ≡ line ++ 10 ∷ next → HasNoEnd line → split now ≡ line ∷ split next
+behind_first now next line is h = ap split is ∙ split-line line next h
 
 last_line : (now next line : Text) → now ≡ line ++ next → next ≡ [] → 0 < length line → HasNoEnd line → split now ≡ line ∷ split next
 last_line now next [] is none some h = absurd (omega arith)
@@ -70,189 +74,128 @@ last_line now next (b ∷ line) is none some h =
     ap split is ∙ ap (λ (l : Text). split ((b ∷ line) ++ l)) none ∙ ap split (append-nil (b ∷ line)) ∙ split-last b line h ∙ ap (λ (l : Text). (b ∷ line) ∷ split l) (sym none)
 
 -- a line that was taken was the first
-taken_first : (now : Text) (next : Text) (line : Text) → TakesLine (Some now) (Some next) line → HasNoEnd line → split now ≡ line ∷ split next
-taken_first now next line (inl whole) h = behind_line now next line (whole ∙ append_assoc line (10 ∷ []) next) h
+taken_first : (now next line : Text) → TakesLine (Some now) (Some next) line → HasNoEnd line → split now ≡ line ∷ split next
+taken_first now next line (inl whole) h = behind_first now next line (whole ∙ append_assoc line (10 ∷ []) next) h
 taken_first now next line (inr last) h = last_line now next line last.0 last.1 last.2 h
 
-TakesLine-None : (now : Text) (line : Text) → TakesLine (Some now) None line → ⊥
+TakesLine-None : (now line : Text) → TakesLine (Some now) None line → ⊥
 TakesLine-None now line (inl bad) = bad
 TakesLine-None now line (inr bad) = bad.0
 
-Got-line : (limit max m k : ℕ) (in0 in1 in2 : Option Text) (lines : List Text) (line : Text) → k ≡ suc m → Got limit max k in0 in1 lines → TakesLine in1 in2 line → HasNoEnd line → length line ≤ limit → Got limit max m in0 in2 (lines ++ line ∷ [])
-Got-line limit max m k None in1 in2 lines line is got takes h le = tt
-Got-line limit max m k (Some input) None in2 lines line is got takes h le = absurd got
-Got-line limit max m k (Some input) (Some now) None lines line is got takes h le = absurd (TakesLine-None now line takes)
-Got-line limit max m k (Some input) (Some now) (Some next) lines line is got takes h le =
-    let front = taken_first now next line takes h in
+length_more : (lines : List Text) (line : Text) → length (lines ++ line ∷ []) ≡ suc (length lines)
+length_more lines line = omega (arith, length-append lines (line ∷ []))
+
+-- the lines to come begin with this one
+wanted_line : (asks : Asks) (m : ℕ) (line : Text) (lines : List Text) → (asks ≡ NoLine → ⊥) → length line ≤ line_limit → asked line_limit (suc m) (wanted asks (suc m) (line ∷ lines)) ≡ line ∷ asked line_limit m (wanted asks m lines)
+wanted_line NoLine m line lines some le = absurd (some refl)
+wanted_line FirstLine m line lines some le = asked-line line_limit m line (take m lines) le
+wanted_line EachLine m line lines some le = asked-line line_limit m line lines le
+
+small_line : (asks : Asks) (m : ℕ) (line : Text) (lines : List Text) → (asks ≡ NoLine → ⊥) → length line ≤ line_limit → is_small line_limit (suc m) (wanted asks (suc m) (line ∷ lines)) ≡ is_small line_limit m (wanted asks m lines)
+small_line NoLine m line lines some le = absurd (some refl)
+small_line FirstLine m line lines some le = is_small-line line_limit m line (take m lines) le
+small_line EachLine m line lines some le = is_small-line line_limit m line lines le
+
+-- where a line may be asked for
+asks_some : (asks : Asks) (m k : ℕ) (old new : Option Text) (lines : List Text) → k ≡ suc m → Got asks k old new lines → asks ≡ NoLine → ⊥
+asks_some asks m k old new lines is got none = let zero_is = (got.none none).0 in omega arith
+
+known_line : (asks : Asks) (m k : ℕ) (in0 in1 in2 : Option Text) (lines : List Text) (line : Text) → k ≡ suc m → (asks ≡ NoLine → ⊥) → Known asks k in0 in1 lines → TookLine in1 in2 line → Known asks m in0 in2 (lines ++ line ∷ [])
+known_line asks m k None in1 in2 lines line is some known took = tt
+known_line asks m k (Some input) None in2 lines line is some known took = absurd known
+known_line asks m k (Some input) (Some now) None lines line is some known took = absurd (TakesLine-None now line took.0)
+known_line asks m k (Some input) (Some now) (Some next) lines line is some known took =
+    let front = taken_first now next line took.0 took.1 in
+    let next_is : next ≡ behind_line now = cc in
     record {
-      first = got.first ∙ ap (λ (l : List Text). lines ++ l) front ∙ sym (append_assoc lines (line ∷ []) (split next));
-      asks = got.asks ∙ ap (λ (l : List Text). lines ++ asked limit k l) front ∙ ap (λ (j : ℕ). lines ++ asked limit j (line ∷ split next)) is
-          ∙ ap (λ (l : List Text). lines ++ l) (asked-line limit m line (split next) le) ∙ sym (append_assoc lines (line ∷ []) (asked limit m (split next)));
-      small = got.small ∙ ap (λ (l : List Text). is_small limit k l) front ∙ ap (λ (j : ℕ). is_small limit j (line ∷ split next)) is ∙ is_small-line limit m line (split next) le;
+      at = next_is ∙ ap behind_line known.at ∙ ap (λ (n : ℕ). behind n input) (sym (length_more lines line));
+      first = known.first ∙ ap₂ (λ (j : ℕ) (l : List Text). lines ++ asked line_limit j (wanted asks j l)) is front
+          ∙ ap (λ (l : List Text). lines ++ l) (wanted_line asks m line (split next) some took.2) ∙ sym (append_assoc lines (line ∷ []) (asked line_limit m (wanted asks m (split next))));
+      small = known.small ∙ ap₂ (λ (j : ℕ) (l : List Text). is_small line_limit j (wanted asks j l)) is front ∙ small_line asks m line (split next) some took.2;
     }
 
--- what is said goes on behind a line more
-on_one : (all mid now : List Text → Text → Type 0) (lines : List Text) (line written text : Text) → GoesOn all mid lines written → AnswersLine mid now line text → GoesOn all now (lines ++ line ∷ []) (written ++ text)
-on_one all mid now lines line written text goes answers more whole =
-    let same : (lines ++ line ∷ []) ++ more ≡ lines ++ line ∷ more = append_assoc lines (line ∷ []) more in
-    let on = goes (line ∷ more) whole in (
-      λ h.
-          let p = on.0 (subst (λ (l : List Text). all l whole) same h) in
-          let q = (answers more p.0).0 p.2 in
-          (q.0, p.1 ∙ ap (λ (t : Text). written ++ t) q.1 ∙ sym (append_assoc written text q.0), q.2),
-      λ h.
-          let back = (answers more (text ++ h.0)).1 (h.0, refl, h.2) in
-          subst (λ (l : List Text). all l whole) (sym same) (on.1 (text ++ h.0, h.1 ∙ append_assoc written text h.0, back)),
-    )
+got_line : (asks : Asks) (m k : ℕ) (in0 in1 in2 : Option Text) (lines : List Text) (line : Text) → k ≡ suc m → Got asks k in0 in1 lines → TookLine in1 in2 line → Got asks m in0 in2 (lines ++ line ∷ [])
+got_line asks m k in0 in1 in2 lines line is got took =
+    let some = asks_some asks m k in0 in1 lines is got in
+    record { none = λ none. absurd (some none); known = known_line asks m k in0 in1 in2 lines line is some got.known took }
 
-pub one_more : (limit max m k : ℕ) (all mid now : List Text → Text → Type 0) (in0 in1 in2 out0 out1 out2 : Option Text) (line text : Text) → k ≡ suc m → SoFar limit max k all mid in0 in1 out0 out1 → TakesLine in1 in2 line → HasNoEnd line → length line ≤ limit
-    → Appends out1 out2 text → AnswersLine mid now line text → SoFar limit max m all now in0 in2 out0 out2
-one_more limit max m k all mid now in0 in1 in2 out0 out1 out2 line text is so_far takes h le appends answers = record {
-  lines = so_far.lines ++ line ∷ [];
-  written = so_far.written ++ text;
-  appended = Appends-append out0 out1 out2 so_far.written text so_far.appended appends;
-  goes_on = on_one all mid now so_far.lines line so_far.written text so_far.goes_on answers;
-  got = Got-line limit max m k in0 in1 in2 so_far.lines line is so_far.got takes h le;
+answers_more : (plan mid next : Plan) (lines : List Text) (line text answer : Text) → AnswersAll plan lines text mid → Answers mid line answer next → AnswersAll plan (lines ++ line ∷ []) (text ++ answer) next
+answers_more plan mid next [] line text answer all is =
+    (answer, [], next, subst (λ (p : Plan). Answers p line answer next) all.1 is, (refl, refl), ap (λ (t : Text). t ++ answer) all.0 ∙ sym (append-nil answer))
+answers_more plan mid next (first ∷ lines) line text answer all is =
+    (all.0, all.1 ++ answer, all.2, all.3, answers_more all.2 mid next lines line all.1 answer all.4 is, ap (λ (t : Text). t ++ answer) all.5 ∙ append_assoc all.0 all.1 answer)
+
+pub one_more : (plan mid next : Plan) (m k : ℕ) (in0 in1 in2 out0 out1 out2 : Option Text) → k ≡ suc m → SoFar plan k in0 in1 out0 out1 mid → LineRan mid next in1 in2 out1 out2 (Ok true) → SoFar plan m in0 in2 out0 out2 next
+one_more plan mid next m k in0 in1 in2 out0 out1 out2 is so_far ran = record {
+  lines = so_far.lines ++ ran.0 ∷ [];
+  text = so_far.text ++ ran.1;
+  answers = answers_more plan mid next so_far.lines ran.0 so_far.text ran.1 so_far.answers ran.3;
+  on_out = Appends-append out0 out1 out2 so_far.text ran.1 so_far.on_out ran.4;
+  got = got_line (asks_of plan) m k in0 in1 in2 so_far.lines ran.0 is so_far.got ran.2;
 }
 
--- ---- the ends
+-- ---- what was taken
 
--- the lines so far are answered by what was written
-is_answer : (all now : List Text → Text → Type 0) (lines : List Text) (written : Text) → GoesOn all now lines written → SaysNothing now → all lines written
-is_answer all now lines written goes none =
-    subst (λ (l : List Text). all l written) (append-nil lines) ((goes [] written).1 ([], sym (append-nil written), (none []).1 refl))
+took_told : (asks : Asks) (m : ℕ) (old new : Option Text) (lines : List Text) → Got asks m old new lines → Took asks old new (length lines)
+took_told NoLine m old new lines got = (got.none refl).1
+took_told FirstLine m None new lines got = tt
+took_told FirstLine m (Some input) None lines got = absurd got.known
+took_told FirstLine m (Some input) (Some now) lines got = ap Some got.known.at
+took_told EachLine m None new lines got = tt
+took_told EachLine m (Some input) None lines got = absurd got.known
+took_told EachLine m (Some input) (Some now) lines got = ap Some got.known.at
 
--- which begins each answer to more lines
-begins : (all now : List Text → Text → Type 0) (lines more : List Text) (written whole : Text) → GoesOn all now lines written → all (lines ++ more) whole → IsPrefix written whole
-begins all now lines more written whole goes h = let p = (goes more whole).0 h in (p.0, p.1)
-
-asks_first : (limit max m : ℕ) (all now : List Text → Text → Type 0) (in0 in1 : Option Text) (lines : List Text) (written : Text) → Got limit max m in0 in1 lines → GoesOn all now lines written → AsksFirst limit max all in0 lines written
-asks_first limit max m all now None in1 lines written got goes = tt
-asks_first limit max m all now (Some input) None lines written got goes = absurd got
-asks_first limit max m all now (Some input) (Some at) lines written got goes = record {
-  more = asked limit m (split at);
-  asks = got.asks;
-  so_far = λ whole h. begins all now lines (asked limit m (split at)) written whole goes (subst (λ (l : List Text). all l whole) got.asks h);
-}
-
-at_end : (limit max m : ℕ) (in0 in1 in2 : Option Text) (lines : List Text) → Got limit max m in0 in1 lines → IsAtEnd in1 → Keeps in1 in2 → Asks limit max in0 lines true × Finishes in0 in2
-at_end limit max m None in1 in2 lines got end keeps = (tt, tt)
-at_end limit max m (Some input) None in2 lines got end keeps = absurd got
-at_end limit max m (Some input) (Some now) None lines got end keeps = absurd keeps
-at_end limit max m (Some input) (Some now) (Some next) lines got end keeps =
-    let nothing : split now ≡ [] = ap split end in (
-      (
-        got.asks ∙ ap (λ (l : List Text). lines ++ asked limit m l) nothing ∙ append-nil lines,
-        got.small ∙ ap (λ (l : List Text). is_small limit m l) nothing,
-      ),
-      ap Some (keeps ∙ end),
-    )
-
--- more lines or bytes are there than are asked for
-abbrev pub TooMuch : ℕ → ℕ → Option Text → Type 0
-TooMuch limit m None = Unit {0}
-TooMuch limit m (Some now) = (asked limit m (split now) ≡ []) × (is_small limit m (split now) ≡ false)
-
-not_all : (limit max m : ℕ) (in0 in1 : Option Text) (lines : List Text) → Got limit max m in0 in1 lines → TooMuch limit m in1 → Asks limit max in0 lines false
-not_all limit max m None in1 lines got much = tt
-not_all limit max m (Some input) None lines got much = absurd got
-not_all limit max m (Some input) (Some now) lines got much = (got.asks ∙ ap (λ (l : List Text). lines ++ l) much.0 ∙ append-nil lines, got.small ∙ much.1)
-
--- bytes without LF are a line's
-opens : (now next got : Text) (n : ℕ) → now ≡ got ++ next → HasNoEnd got → length got ≡ suc n → (line : Text) × (lines : List Text) × (split now ≡ line ∷ lines) × (n < length line)
-opens now next [] n is h long = absurd (omega arith)
-opens now next (b ∷ got) n is h long = let q = split-open b got next h in (q.0, q.1, ap split is ∙ q.2, omega (arith, q.3))
-
-pub long_line : (limit m : ℕ) (in1 in2 : Option Text) → Loses in1 in2 (λ n. n ≡ limit + 1) → TooMuch limit m in1
-long_line limit m None in2 loses = tt
-long_line limit m (Some now) None loses = absurd loses.1
-long_line limit m (Some now) (Some next) loses =
-    let q = opens now next loses.0 limit loses.1 loses.2 (omega (arith, loses.3)) in (
-      ap (λ (l : List Text). asked limit m l) q.2 ∙ asked-long limit m q.0 q.1 q.3,
-      ap (λ (l : List Text). is_small limit m l) q.2 ∙ is_small-long limit m q.0 q.1 q.3,
-    )
-
--- past the last line that is asked for
-past_first : (limit : ℕ) (now : Text) (line : Text) (lines : List Text) → split now ≡ line ∷ lines → TooMuch limit 0 (Some now)
-past_first limit now line lines is = (ap (λ (l : List Text). asked limit 0 l) is, ap (λ (l : List Text). is_small limit 0 l) is)
-
-pub past_bytes : (limit : ℕ) (in1 in2 : Option Text) → Loses in1 in2 (λ n. n ≡ 0 + 1) → TooMuch limit 0 in1
-past_bytes limit None in2 loses = tt
-past_bytes limit (Some now) None loses = absurd loses.1
-past_bytes limit (Some now) (Some next) loses =
-    let q = opens now next loses.0 0 loses.1 loses.2 (omega (arith, loses.3)) in past_first limit now q.0 q.1 q.2
-
-pub past_line : (limit : ℕ) (in1 in2 : Option Text) (line : Text) → TakesLine in1 in2 line → HasNoEnd line → TooMuch limit 0 in1
-past_line limit None in2 line takes h = tt
-past_line limit (Some now) None line takes h = absurd (TakesLine-None now line takes)
-past_line limit (Some now) (Some next) line takes h = past_first limit now line (split next) (taken_first now next line takes h)
-
-pub none_left : (limit m : ℕ) (in1 : Option Text) → m ≡ 0 → TooMuch limit 0 in1 → TooMuch limit m in1
-none_left limit m in1 is much = subst (λ (k : ℕ). TooMuch limit k in1) (sym is) much
-
-loses_some : (in1 in2 : Option Text) (Size : ℕ → Type 0) → Loses in1 in2 Size → Loses in1 in2 (λ _. Unit {0})
+loses_some : (in1 in2 : Option Text) (Size : ℕ → Type 0) → Loses in1 in2 Size → Loses in1 in2 (λ n. Unit {0})
 loses_some in1 in2 Size loses = (loses.0, loses.1, loses.2, tt)
 
-got_before : (limit max m : ℕ) (in0 in1 in2 : Option Text) (lines : List Text) → Got limit max m in0 in1 lines → Loses in1 in2 (λ _. Unit {0}) → GotLines in0 in2 lines
-got_before limit max m None in1 in2 lines got loses = tt
-got_before limit max m (Some input) None in2 lines got loses = absurd got
-got_before limit max m (Some input) (Some now) in2 lines got loses = record { behind = now; first = got.first; open_part = loses }
+took_part : (asks : Asks) (m : ℕ) (in0 in1 in2 : Option Text) (lines : List Text) → (asks ≡ NoLine → ⊥) → Got asks m in0 in1 lines → Loses in1 in2 (λ n. Unit {0}) → TookPart asks in0 in2 (length lines)
+took_part NoLine m in0 in1 in2 lines some got loses = absurd (some refl)
+took_part FirstLine m None in1 in2 lines some got loses = tt
+took_part FirstLine m (Some input) None in2 lines some got loses = absurd got.known
+took_part FirstLine m (Some input) (Some now) in2 lines some got loses = subst (λ (l : Text). Loses (Some l) in2 (λ n. Unit {0})) got.known.at loses
+took_part EachLine m None in1 in2 lines some got loses = tt
+took_part EachLine m (Some input) None in2 lines some got loses = absurd got.known
+took_part EachLine m (Some input) (Some now) in2 lines some got loses = subst (λ (l : Text). Loses (Some l) in2 (λ n. Unit {0})) got.known.at loses
 
-prefix_self : (text : Text) → IsPrefix text text
-prefix_self text = ([], sym (append-nil text))
+are_first : (asks : Asks) (m : ℕ) (old new : Option Text) (lines : List Text) → Got asks m old new lines → AreFirst asks old lines
+are_first asks m None new lines got = tt
+are_first asks m (Some input) None lines got = absurd got.known
+are_first asks m (Some input) (Some now) lines got = (_, got.known.first)
 
-module _ (limit max m : ℕ) (all now : List Text → Text → Type 0) (in0 in1 out0 out1 : Option Text) (so_far : SoFar limit max m all now in0 in1 out0 out1) (none : SaysNothing now) where
-  answered : all so_far.lines so_far.written
-  answered = is_answer all now so_far.lines so_far.written so_far.goes_on none
+-- none is left of those that are asked for
+abbrev AreNone : Asks → ℕ → Option Text → Bool → Type 0
+AreNone asks m None whole = Unit {0}
+AreNone asks m (Some now) whole = (asked line_limit m (wanted asks m (split now)) ≡ []) × (is_small line_limit m (wanted asks m (split now)) ≡ whole)
 
-  first_asked : AsksFirst limit max all in0 so_far.lines so_far.written
-  first_asked = asks_first limit max m all now in0 in1 so_far.lines so_far.written so_far.got so_far.goes_on
+asks_told : (asks : Asks) (m : ℕ) (old new : Option Text) (lines : List Text) (whole : Bool) → Known asks m old new lines → AreNone asks m new whole → (asks ≡ NoLine → ⊥) → AsksFor asks old lines whole
+asks_told NoLine m old new lines whole known none some = absurd (some refl)
+asks_told FirstLine m None new lines whole known none some = tt
+asks_told FirstLine m (Some input) None lines whole known none some = absurd known
+asks_told FirstLine m (Some input) (Some now) lines whole known none some = (known.first ∙ ap (λ (l : List Text). lines ++ l) none.0 ∙ append-nil lines, known.small ∙ none.1)
+asks_told EachLine m None new lines whole known none some = tt
+asks_told EachLine m (Some input) None lines whole known none some = absurd known
+asks_told EachLine m (Some input) (Some now) lines whole known none some = (known.first ∙ ap (λ (l : List Text). lines ++ l) none.0 ∙ append-nil lines, known.small ∙ none.1)
 
-  part_so_far : IsPart limit max all in0 so_far.written
-  part_so_far = record { lines = so_far.lines; whole = so_far.written; answers = answered; front = prefix_self so_far.written; asks = first_asked }
+wanted_nil : (asks : Asks) (m : ℕ) → wanted asks m [] ≡ []
+wanted_nil NoLine m = refl
+wanted_nil FirstLine zero = refl
+wanted_nil FirstLine (suc m) = refl
+wanted_nil EachLine m = refl
 
-  pub gives_up : (in2 : Option Text) → EachRan limit max all in0 in2 out0 out1 (Err OutOfMemory)
-  gives_up in2 = record { text = so_far.written; appends = so_far.appended; is_part = part_so_far }
+none_at_end : (asks : Asks) (m : ℕ) (input : Option Text) → IsAtEnd input → AreNone asks m input true
+none_at_end asks m None end = tt
+none_at_end asks m (Some now) end =
+    let none : wanted asks m (split now) ≡ [] = ap (λ (l : Text). wanted asks m (split l)) end ∙ wanted_nil asks m in
+    (ap (asked line_limit m) none, ap (is_small line_limit m) none)
 
-  pub ends : (in2 : Option Text) → IsAtEnd in1 × Keeps in1 in2 → EachRan limit max all in0 in2 out0 out1 (Ok tt)
-  ends in2 h =
-      let q = at_end limit max m in0 in1 in2 so_far.lines so_far.got h.0 h.1 in
-      (record { lines = so_far.lines; text = so_far.written; answers = answered; appends = so_far.appended; asks = q.0; is_part = part_so_far }, q.1)
-
-  pub too_much : (in2 : Option Text) (stop : Stop) → TooMuch limit m in1 → Halts TooBig too_big_input stop → EachRan limit max all in0 in2 out0 out1 (Err stop)
-  too_much in2 (Halted cause line) much is = (
-    is.0,
-    is.1,
-    record { lines = so_far.lines; text = so_far.written; answers = answered; appends = so_far.appended; asks = not_all limit max m in0 in1 so_far.lines so_far.got much; is_part = part_so_far },
-  )
-  too_much in2 OutOfMemory much is = gives_up in2
-  too_much in2 (ShelfFailed line) much is = absurd is
-  too_much in2 InputFailed much is = absurd is
-  too_much in2 WriteFailed much is = absurd is
-
-  -- a read that fails
-  fails : (in2 : Option Text) (Size : ℕ → Type 0) → Loses in1 in2 Size → EachRan limit max all in0 in2 out0 out1 (Err InputFailed)
-  fails in2 Size loses = record {
-    lines = so_far.lines;
-    text = so_far.written;
-    answers = answered;
-    appends = so_far.appended;
-    got = got_before limit max m in0 in1 in2 so_far.lines so_far.got (loses_some in1 in2 Size loses);
-    asks = first_asked;
-  }
-
-  pub faults : (in2 : Option Text) (n : ℕ) (fault : LineFault) (stop : Stop) → (Loses in1 in2 (λ k. k ≡ n + 1) → TooMuch limit m in1) → StopIs fault stop → ReadsLine n in1 in2 (Err fault) → EachRan limit max all in0 in2 out0 out1 (Err stop)
-  faults in2 n line_faults.Failed stop much is reads = subst (λ s. EachRan limit max all in0 in2 out0 out1 (Err s)) (sym is) (fails in2 (λ k. k ≤ n) reads)
-  faults in2 n line_faults.TooBig stop much is reads = too_much in2 stop (much reads) is
-  faults in2 n line_faults.Memory stop much is reads = subst (λ s. EachRan limit max all in0 in2 out0 out1 (Err s)) (sym is) (gives_up in2)
-
--- ---- a line whose answer isn't all written
-
-prefix_behind : (written part text : Text) → IsPrefix part text → IsPrefix (written ++ part) (written ++ text)
-prefix_behind written part text p = (p.0, ap (λ (l : Text). written ++ l) p.1 ∙ sym (append_assoc written part p.0))
-
-prefix_on : (a b c : Text) → IsPrefix a b → IsPrefix b c → IsPrefix a c
-prefix_on a b c p q = (p.0 ++ q.0, q.1 ∙ ap (λ (l : Text). l ++ q.0) p.1 ∙ append_assoc a p.0 q.0)
+got_kept : (asks : Asks) (m : ℕ) (in0 in1 in2 : Option Text) (lines : List Text) → (asks ≡ NoLine → ⊥) → Got asks m in0 in1 lines → Keeps in1 in2 → Got asks m in0 in2 lines
+got_kept asks m None in1 in2 lines some got keeps = record { none = λ none. absurd (some none); known = tt }
+got_kept asks m (Some input) None in2 lines some got keeps = absurd got.known
+got_kept asks m (Some input) (Some now) None lines some got keeps = absurd keeps
+got_kept asks m (Some input) (Some now) (Some next) lines some got keeps = record {
+  none = λ none. absurd (some none);
+  known = subst (λ (l : Text). GotSome asks m input l lines) (sym keeps) got.known;
+}
 
 still_appended : (a b c : Option Text) (written : Text) → Appends a b written → Keeps b c → Appends a c written
 still_appended None b c written p keeps = tt
@@ -260,43 +203,260 @@ still_appended (Some a) None c written p keeps = absurd p
 still_appended (Some a) (Some b) None written p keeps = absurd keeps
 still_appended (Some a) (Some b) (Some c) written p keeps = keeps ∙ p
 
-first_part : (limit max : ℕ) (all : List Text → Text → Type 0) (in0 : Option Text) (lines : List Text) (part text : Text) → IsPrefix part text → AsksFirst limit max all in0 lines text → AsksFirst limit max all in0 lines part
-first_part limit max all None lines part text front asks = tt
-first_part limit max all (Some input) lines part text front asks = record {
-  more = asks.more;
-  asks = asks.asks;
-  so_far = λ whole h. prefix_on part text whole front (asks.so_far whole h);
-}
+-- ---- the ends
 
-pub cut_short : (limit max m k : ℕ) (all mid now : List Text → Text → Type 0) (in0 in1 in2 out0 out1 out2 : Option Text) (line given : Text) (stop : Stop) → given ≡ line → k ≡ suc m → SoFar limit max k all mid in0 in1 out0 out1 → SaysNothing mid → SaysNothing now → TakesLine in1 in2 line → HasNoEnd line → length line ≤ limit
-    → LineRan mid now given out1 out2 (Err stop) → EachRan limit max all in0 in2 out0 out2 (Err stop)
-cut_short limit max m k all mid now in0 in1 in2 out0 out1 out2 line given WriteFailed same is so_far none none' takes h le ran =
-    let got = Got-line limit max m k in0 in1 in2 so_far.lines line is so_far.got takes h le in
-    let goes = on_one all mid now so_far.lines line so_far.written ran.0 so_far.goes_on (subst (λ (l : Text). AnswersLine mid now l ran.0) same ran.2) in
-    let front = prefix_behind so_far.written ran.1.0 ran.0 ran.1.2 in
-    let lines = so_far.lines ++ line ∷ [] in
-    record {
-      text = so_far.written ++ ran.1.0;
-      appends = Appends-append out0 out1 out2 so_far.written ran.1.0 so_far.appended ran.1.1;
-      is_part = record {
-        lines = lines;
-        whole = so_far.written ++ ran.0;
-        answers = is_answer all now lines (so_far.written ++ ran.0) goes none';
-        front = front;
-        asks = first_part limit max all in0 lines (so_far.written ++ ran.1.0) (so_far.written ++ ran.0) front (asks_first limit max m all now in0 in2 lines (so_far.written ++ ran.0) got goes);
-      };
-    }
-cut_short limit max m k all mid now in0 in1 in2 out0 out1 out2 line given OutOfMemory same is so_far none none' takes h le ran = record {
-  text = so_far.written;
-  appends = still_appended out0 out1 out2 so_far.written so_far.appended ran;
-  is_part = record {
+module _ (plan next : Plan) (m : ℕ) (in0 in1 out0 out1 : Option Text) (so_far : SoFar plan m in0 in1 out0 out1 next) where
+  abbrev asks : Asks
+  asks = asks_of plan
+
+  stands : Stands plan in0 so_far.lines so_far.text next
+  stands = record { answers = so_far.answers; first = are_first asks m in0 in1 so_far.lines so_far.got }
+
+  -- no line is left
+  pub at_end : (in2 out2 : Option Text) → (asks ≡ NoLine → ⊥) → IsAtEnd in1 → Keeps in1 in2 → Keeps out1 out2 → AllAsked plan in0 in2 out0 out2 next
+  at_end in2 out2 some end keeps still = record {
     lines = so_far.lines;
-    whole = so_far.written;
-    answers = is_answer all mid so_far.lines so_far.written so_far.goes_on none;
-    front = prefix_self so_far.written;
-    asks = asks_first limit max k all mid in0 in1 so_far.lines so_far.written so_far.got so_far.goes_on;
-  };
-}
-cut_short limit max m k all mid now in0 in1 in2 out0 out1 out2 line given (Halted cause words) same is so_far none none' takes h le ran = absurd ran
-cut_short limit max m k all mid now in0 in1 in2 out0 out1 out2 line given (ShelfFailed words) same is so_far none none' takes h le ran = absurd ran
-cut_short limit max m k all mid now in0 in1 in2 out0 out1 out2 line given InputFailed same is so_far none none' takes h le ran = absurd ran
+    asks = asks_told asks m in0 in1 so_far.lines true so_far.got.known (none_at_end asks m in1 end) some;
+    text = so_far.text;
+    answers = so_far.answers;
+    on_out = still_appended out0 out1 out2 so_far.text so_far.on_out still;
+    took = took_told asks m in0 in2 so_far.lines (got_kept asks m in0 in1 in2 so_far.lines some so_far.got keeps);
+  }
+
+  on_out_nil : (out2 : Option Text) → Keeps out1 out2 → Appends out0 out2 (so_far.text ++ [])
+  on_out_nil out2 still = subst (Appends out0 out2) (sym (append-nil so_far.text)) (still_appended out0 out1 out2 so_far.text so_far.on_out still)
+
+  pub failed : (in2 out2 : Option Text) → (asks ≡ NoLine → ⊥) → Loses in1 in2 (λ n. Unit {0}) → Keeps out1 out2 → Ran plan in0 in2 out0 out2 (Err InputFailed)
+  failed in2 out2 some loses still = record {
+    lines = so_far.lines;
+    text = so_far.text;
+    next = next;
+    front = [];
+    stands = stands;
+    at = (refl, took_part asks m in0 in1 in2 so_far.lines some so_far.got loses);
+    on_out = on_out_nil out2 still;
+  }
+
+  pub gave_up : (in2 out2 : Option Text) → (asks ≡ NoLine → ⊥) → Loses in1 in2 (λ n. Unit {0}) → Keeps out1 out2 → Ran plan in0 in2 out0 out2 (Err OutOfMemory)
+  gave_up in2 out2 some loses still = record {
+    lines = so_far.lines;
+    text = so_far.text;
+    next = next;
+    front = [];
+    stands = stands;
+    at = inl (refl, inl (took_part asks m in0 in1 in2 so_far.lines some so_far.got loses));
+    on_out = on_out_nil out2 still;
+  }
+
+  left_false : (input : Option Text) (lines : List Text) → None ≡ left_behind input false lines
+  left_false None lines = refl
+  left_false (Some input) lines = refl
+
+  pub too_much : (in2 out2 : Option Text) (cause : Cause) → cause ≡ LongInput → (asks ≡ NoLine → ⊥) → AreNone asks m in1 false → Keeps out1 out2 → Ran plan in0 in2 out0 out2 (Err (Halted cause))
+  too_much in2 out2 cause is some none still = record {
+    outcome = record { cause = Some LongInput; out = so_far.text; left = None };
+    yields = record {
+      lines = so_far.lines;
+      whole = false;
+      asks = asks_told asks m in0 in1 so_far.lines false so_far.got.known none some;
+      text = so_far.text;
+      last = next;
+      answers = so_far.answers;
+      ends = (refl, refl);
+      left_is = left_false in0 so_far.lines;
+    };
+    cause_is = ap Some (sym is);
+    on_out = still_appended out0 out1 out2 so_far.text so_far.on_out still;
+    left_is = tt;
+  }
+
+  -- as many lines were answered as may be asked for
+  pub all_taken : m ≡ 0 → (asks ≡ EachLine → ⊥) → AllAsked plan in0 in1 out0 out1 next
+  all_taken zero_is other = record {
+    lines = so_far.lines;
+    asks = taken asks other so_far.lines so_far.got;
+    text = so_far.text;
+    answers = so_far.answers;
+    on_out = so_far.on_out;
+    took = took_told asks m in0 in1 so_far.lines so_far.got;
+  }
+    where
+      none_zero : (k : ℕ) (input : Option Text) → k ≡ 0 → AreNone FirstLine k input true
+      none_zero k None is = tt
+      none_zero zero (Some now) is = (refl, refl)
+      none_zero (suc k) (Some now) is = absurd (omega arith)
+
+      taken : (a : Asks) → (a ≡ EachLine → ⊥) → (lines : List Text) → Got a m in0 in1 lines → AsksFor a in0 lines true
+      taken NoLine other lines got = ((got.none refl).2, refl)
+      taken FirstLine other lines got = asks_told FirstLine m in0 in1 lines true got.known (none_zero m in1 zero_is) (λ e. absurd (cc))
+      taken EachLine other lines got = absurd (other refl)
+
+pub none_each : (asks : Asks) → asks ≡ NoLine → asks ≡ EachLine → ⊥
+none_each asks none each = let same : NoLine ≡ EachLine = sym none ∙ each in absurd (cc)
+
+pub first_each : (asks : Asks) → asks ≡ FirstLine → asks ≡ EachLine → ⊥
+first_each asks first each = let same : FirstLine ≡ EachLine = sym first ∙ each in absurd (cc)
+
+-- ---- a line whose answer is not all written, or not made
+
+module _ (plan mid : Plan) (m k : ℕ) (is : k ≡ suc m) (in0 in1 in2 out0 out1 out2 : Option Text) (so_far : SoFar plan k in0 in1 out0 out1 mid) where
+  some_asked : asks_of plan ≡ NoLine → ⊥
+  some_asked = asks_some (asks_of plan) m k in0 in1 so_far.lines is so_far.got
+
+  took_more : (line : Text) → TookLine in1 in2 line → Took (asks_of plan) in0 in2 (suc (length so_far.lines))
+  took_more line took = subst (Took (asks_of plan) in0 in2) (length_more so_far.lines line) (took_told (asks_of plan) m in0 in2 (so_far.lines ++ line ∷ []) (got_line (asks_of plan) m k in0 in1 in2 so_far.lines line is so_far.got took))
+
+  so_far_stands : Stands plan in0 so_far.lines so_far.text mid
+  so_far_stands = record { answers = so_far.answers; first = are_first (asks_of plan) k in0 in1 so_far.lines so_far.got }
+
+  -- bytes without LF are a line's
+  opens : (now next got : Text) (n : ℕ) → now ≡ got ++ next → HasNoEnd got → length got ≡ suc n → (line : Text) × (lines : List Text) × (split now ≡ line ∷ lines) × (n < length line)
+  opens now next [] n same h long = absurd (omega arith)
+  opens now next (b ∷ got) n same h long = let q = split-open b got next h in (q.0, q.1, ap split same ∙ q.2, omega (arith, q.3))
+
+  long_wanted : (asks : Asks) (line : Text) (lines : List Text) → (asks ≡ NoLine → ⊥) → line_limit < length line → (asked line_limit (suc m) (wanted asks (suc m) (line ∷ lines)) ≡ []) × (is_small line_limit (suc m) (wanted asks (suc m) (line ∷ lines)) ≡ false)
+  long_wanted NoLine line lines some lt = absurd (some refl)
+  long_wanted FirstLine line lines some lt = (asked-long line_limit (suc m) line (take m lines) lt, is_small-long line_limit (suc m) line (take m lines) lt)
+  long_wanted EachLine line lines some lt = (asked-long line_limit (suc m) line lines lt, is_small-long line_limit (suc m) line lines lt)
+
+  long_line : (a b : Option Text) → Loses a b (λ n. n ≡ line_limit + 1) → AreNone (asks_of plan) k a false
+  long_line None b loses = tt
+  long_line (Some now) None loses = absurd loses.1
+  long_line (Some now) (Some next) loses =
+      let q = opens now next loses.0 line_limit loses.1 loses.2 (omega (arith, loses.3)) in
+      let long = long_wanted (asks_of plan) q.0 q.1 some_asked q.3 in
+      (ap₂ (λ (j : ℕ) (l : List Text). asked line_limit j (wanted (asks_of plan) j l)) is q.2 ∙ long.0, ap₂ (λ (j : ℕ) (l : List Text). is_small line_limit j (wanted (asks_of plan) j l)) is q.2 ∙ long.1)
+
+  pub line_stops : (next : Plan) (stop : Stop) → LineRan mid next in1 in2 out1 out2 (Err stop) → Ran plan in0 in2 out0 out2 (Err stop)
+  line_stops next (Halted cause) ran = too_much plan mid k in0 in1 out0 out1 so_far in2 out2 cause ran.0 some_asked (long_line in1 in2 ran.1) ran.2
+  line_stops next (ShelfFailed name) ran = absurd ran
+  line_stops next InputFailed ran = failed plan mid k in0 in1 out0 out1 so_far in2 out2 some_asked ran.0 ran.1
+  line_stops next WriteFailed ran = record {
+    lines = so_far.lines;
+    text = so_far.text;
+    next = mid;
+    front = ran.5.0;
+    stands = so_far_stands;
+    at = inl (
+      record {
+        line = ran.0;
+        answer = ran.1;
+        after = ran.3;
+        answers = ran.4;
+        first = are_first (asks_of plan) m in0 in2 (so_far.lines ++ ran.0 ∷ []) (got_line (asks_of plan) m k in0 in1 in2 so_far.lines ran.0 is so_far.got ran.2);
+        is_front = ran.5.2;
+      },
+      took_more ran.0 ran.2,
+    );
+    on_out = Appends-append out0 out1 out2 so_far.text ran.5.0 so_far.on_out ran.5.1;
+  }
+  line_stops next OutOfMemory ran = wants ran.0 ran.1
+    where
+      wants : (Loses in1 in2 (λ n. Unit {0}) ⊎ ((line : Text) × TookLine in1 in2 line)) → Keeps out1 out2 → Ran plan in0 in2 out0 out2 (Err OutOfMemory)
+      wants (inl loses) still = gave_up plan mid k in0 in1 out0 out1 so_far in2 out2 some_asked loses still
+      wants (inr took) still = record {
+        lines = so_far.lines;
+        text = so_far.text;
+        next = mid;
+        front = [];
+        stands = so_far_stands;
+        at = inl (refl, inr (inr (took_more took.0 took.1)));
+        on_out = on_out_nil plan mid k in0 in1 out0 out1 so_far out2 still;
+      }
+
+  pub line_ends : (next : Plan) → LineRan mid next in1 in2 out1 out2 (Ok false) → AllAsked plan in0 in2 out0 out2 next
+  line_ends next ran = subst (AllAsked plan in0 in2 out0 out2) (sym ran.2) (at_end plan mid k in0 in1 out0 out1 so_far in2 out2 some_asked ran.0 ran.1 ran.3)
+
+-- ---- past the last line
+
+Keeps-same : (out : Option Text) → Keeps out out
+Keeps-same None = tt
+Keeps-same (Some out) = refl
+
+module _ (plan next : Plan) (m : ℕ) (last : m ≡ 0) (each : asks_of plan ≡ EachLine) (in0 in1 in2 out0 out1 : Option Text) (so_far : SoFar plan m in0 in1 out0 out1 next) where
+  each_some : asks_of plan ≡ NoLine → ⊥
+  each_some none = let same : EachLine ≡ NoLine = sym each ∙ none in absurd (cc)
+
+  past_line : (now line : Text) (lines : List Text) → split now ≡ line ∷ lines → AreNone (asks_of plan) m (Some now) false
+  past_line now line lines is = subst (λ (a : Asks). AreNone a m (Some now) false) (sym each) (subst (λ (k : ℕ). AreNone EachLine k (Some now) false) (sym last) (ap (asked line_limit 0) is, ap (is_small line_limit 0) is))
+
+  open_line : (now after got : Text) → now ≡ got ++ after → HasNoEnd got → length got ≡ 1 → AreNone (asks_of plan) m (Some now) false
+  open_line now after [] same h long = absurd (omega arith)
+  open_line now after (b ∷ got) same h long = let q = split-open b got after h in past_line now q.0 q.1 (ap split same ∙ q.2)
+
+  past : (a b : Option Text) → Loses a b (λ n. n ≡ 0 + 1) ⊎ ((line : Text) × TakesLine a b line × HasNoEnd line) → AreNone (asks_of plan) m a false
+  past None b more = tt
+  past (Some now) None (inl loses) = absurd loses.1
+  past (Some now) None (inr took) = absurd (TakesLine-None now took.0 took.1)
+  past (Some now) (Some after) (inl loses) = open_line now after loses.0 loses.1 loses.2 loses.3
+  past (Some now) (Some after) (inr took) = past_line now took.0 (split after) (taken_first now after took.0 took.1 took.2)
+
+  pub past_ran : (r : _) → PastRan in1 in2 r → LinesRan plan in0 in2 out0 out1 next r
+  past_ran (Ok u) ran = at_end plan next m in0 in1 out0 out1 so_far in2 out1 each_some ran.0 ran.1 (Keeps-same out1)
+  past_ran (Err (Halted cause)) ran = too_much plan next m in0 in1 out0 out1 so_far in2 out1 cause ran.0 each_some (past in1 in2 ran.1) (Keeps-same out1)
+  past_ran (Err InputFailed) ran = failed plan next m in0 in1 out0 out1 so_far in2 out1 each_some ran (Keeps-same out1)
+  past_ran (Err OutOfMemory) ran = gave_up plan next m in0 in1 out0 out1 so_far in2 out1 each_some ran (Keeps-same out1)
+  past_ran (Err (ShelfFailed name)) ran = absurd ran
+  past_ran (Err WriteFailed) ran = absurd ran
+
+-- ---- behind the lines
+
+left_so : (asks : Asks) (old new : Option Text) (lines : List Text) → AsksFor asks old lines true → Took asks old new (length lines) → LeftIs (left_behind old true lines) new
+left_so NoLine None new lines asks took = tt
+left_so NoLine (Some input) new lines asks took = took ∙ ap (λ (l : List Text). Some (behind (length l) input)) (sym asks.0)
+left_so FirstLine None new lines asks took = tt
+left_so FirstLine (Some input) new lines asks took = took
+left_so EachLine None new lines asks took = tt
+left_so EachLine (Some input) new lines asks took = took
+
+module _ (plan next : Plan) (in0 in1 out0 out1 out2 : Option Text) (all : AllAsked plan in0 in1 out0 out1 next) where
+  ended : (cause : Option Cause) (e : Ending) → EndsWith next e → e.cause ≡ cause → Appends out1 out2 e.out → Ended plan in0 in1 out0 out2 cause
+  ended cause e ends is on_out = record {
+    outcome = record { cause = e.cause; out = all.text ++ e.out; left = left_behind in0 true all.lines };
+    yields = record { lines = all.lines; whole = true; asks = all.asks; text = all.text; last = next; answers = all.answers; ends = (e, ends, refl, refl); left_is = refl };
+    cause_is = is;
+    on_out = Appends-append out0 out1 out2 all.text e.out all.on_out on_out;
+    left_is = left_so (asks_of plan) in0 in1 all.lines all.asks all.took;
+  }
+
+  first_all : (asks : Asks) (input : Option Text) (lines : List Text) → AsksFor asks input lines true → AreFirst asks input lines
+  first_all asks None lines is = tt
+  first_all NoLine (Some input) lines is = ([], sym (ap (λ (l : List Text). l ++ []) is.0))
+  first_all FirstLine (Some input) lines is = ([], is.0 ∙ sym (append-nil lines))
+  first_all EachLine (Some input) lines is = ([], is.0 ∙ sym (append-nil lines))
+
+  stands_all : Stands plan in0 all.lines all.text next
+  stands_all = record { answers = all.answers; first = first_all (asks_of plan) in0 all.lines all.asks }
+
+  pub end_ran : (r : _) → EndRan (EndsWith next) out1 out2 r → Ran plan in0 in1 out0 out2 r
+  end_ran (Ok u) ran = ended None ran.0 ran.1 ran.2 ran.3
+  end_ran (Err (Halted cause)) ran = ended (Some cause) ran.0 ran.1 ran.2 ran.3
+  end_ran (Err WriteFailed) ran = record {
+    lines = all.lines;
+    text = all.text;
+    next = next;
+    front = ran.2.0;
+    stands = stands_all;
+    at = inr (record { all = all.asks; ending = ran.0; ends = ran.1; is_front = ran.2.2 }, all.took);
+    on_out = Appends-append out0 out1 out2 all.text ran.2.0 all.on_out ran.2.1;
+  }
+  end_ran (Err OutOfMemory) (inl same) = record {
+    lines = all.lines;
+    text = all.text;
+    next = next;
+    front = [];
+    stands = stands_all;
+    at = inl (refl, inr (inl all.took));
+    on_out = subst (λ (t : Text). Appends out0 out2 t) (sym (append-nil all.text)) (subst (λ x. Appends out0 x all.text) (sym same) all.on_out);
+  }
+  end_ran (Err OutOfMemory) (inr ran) = record {
+    lines = all.lines;
+    text = all.text;
+    next = next;
+    front = ran.2.0;
+    stands = stands_all;
+    at = inr (record { all = all.asks; ending = ran.0; ends = ran.1; is_front = ran.2.2 }, all.took);
+    on_out = Appends-append out0 out1 out2 all.text ran.2.0 all.on_out ran.2.1;
+  }
+  end_ran (Err (ShelfFailed name)) ran = absurd ran
+  end_ran (Err InputFailed) ran = absurd ran

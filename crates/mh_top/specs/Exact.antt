@@ -14,7 +14,8 @@ use Rattle.mh_outside.specs.Shelf.{Files}
 use Rattle.mh_top.specs.Text.{Text}
 use Rattle.mh_msgfile.specs.Sentences.{IsSentence, sentence_in, vocabulary_of}
 use Rattle.mh_top.specs.Verdicts.{AnswersOne}
-use Rattle.mh_top.specs.Work.{IsWork, answering}
+use Rattle.mh_top.specs.Plan.{Judges}
+use Rattle.mh_top.specs.Work.{IsWork}
 
 -- The grammar is LR(1) (Knuth 1965): its canonical automaton has no conflict, that with the end of the stream included.
 pub record IsLR1 (g : Grammar) : Type 0 where
@@ -27,7 +28,7 @@ pub record IsLR1 (g : Grammar) : Type 0 where
 pub record AnswersSentence (words : List Text) (files : Option Files) (trees : Bool) (g : Grammar) (s : Sentence) (text : Text) : Type 0 where
   pub table : TableData
   pub warnings : Text
-  pub asked : IsWork words files (record { warnings = warnings; plan = answering trees g table })
+  pub asked : IsWork words files (record { warnings = warnings; plan = Judges (record { trees = trees; grammar = g; table = table }) })
   pub line : Text
   pub sentence : sentence_in (vocabulary_of g) line ≡ IsSentence s
   pub answer : AnswersOne (record { trees = trees; grammar = g; table = table }) line text

@@ -1,46 +1,34 @@
--- What follows the warnings: the refusal by `--strict`, or the mode.
-use Rattle.std.specs.Prelude.{◌≡◌, ℕ, Bool, [], Option, None, Some, Result, Ok, Err}
+-- What the code of the modes does.
+use Rattle.std.specs.Prelude.{◌≡◌, ◌⊎◌, Option, Result, Ok, Err, ⊤}
 use Rattle.std.specs.Io.KnownBytes.{Appends}
-use Rattle.mh_grammar.specs.declared.types.Grammar.{Grammar}
-use Rattle.mh_tables.specs.Table.{TableData}
-use Rattle.mh_outside.specs.Faults.{Rose}
 use Rattle.mh_outside.specs.Sink.{AppendsPrefix}
+use Rattle.mh_opts.specs.declared.order.Job.{Job}
 use Rattle.mh_top.specs.Text.{Text}
-use Rattle.mh_top.specs.Each.{EachRan, EachCounts}
-use Rattle.mh_top.specs.Verdicts.{Answers}
-use Rattle.mh_top.specs.Work.{Ending, Plan, Ends, AsksEach, refusing, answering, showing, line_limit, max_lines}
-use Rattle.mh_top.specs.declared.modes.Next.{Next}
-use Rattle.mh_top.specs.declared.modes.Next.TheVariants.{Refuse, Answer, Show}
+use Rattle.mh_top.specs.Plan.{EndsByJob, Plan, halts}
+use Rattle.mh_top.specs.Drive.{Ran}
+use Rattle.mh_top.specs.Steps.{EndRan}
+use Rattle.mh_top.specs.Shapes.{Prepared}
 use Rattle.mh_top.specs.declared.stop.Stop.{Stop}
 use Rattle.mh_top.specs.declared.stop.Stop.TheVariants.{Halted, WriteFailed, OutOfMemory}
 
--- the text was written whole, or a prefix of it
-abbrev pub Wrote : Text → Option Text → Option Text → ℕ → ℕ → Result (Unit {0}) Stop → Type 0
-Wrote text old new before now (Ok _) = Appends old new text × (now ≡ before)
-Wrote text old new before now (Err WriteFailed) = AppendsPrefix old new text × Rose before now
-Wrote text old new before now (Err _) = ⊥
+-- the warnings were written, or a front of them, or memory was wanted before they were begun
+abbrev pub Warned : Text → Option Text → Option Text → Result (Unit {0}) Stop → Type 0
+Warned text err0 err1 (Ok _) = Appends err0 err1 text
+Warned text err0 err1 (Err WriteFailed) = AppendsPrefix err0 err1 text
+Warned text err0 err1 (Err OutOfMemory) = err1 ≡ err0
+Warned text err0 err1 (Err _) = ⊥
 
--- so it was, or there was no memory for it
-abbrev pub Warned : Text → Option Text → Option Text → ℕ → ℕ → Result (Unit {0}) Stop → Type 0
-Warned text old new before now (Err OutOfMemory) = (new ≡ old) × (now ≡ before)
-Warned text old new before now r = Wrote text old new before now r
+-- the end of a mode that writes only there
+abbrev pub JobRan : Job → Prepared → Option Text → Option Text → Result (Unit {0}) Stop → Type 0
+JobRan job p out0 out1 result = EndRan (EndsByJob job p) out0 out1 result
 
--- what follows, as a plan
-abbrev pub plan_of : Next → Bool → Grammar → TableData → Plan
-plan_of Refuse trees g t = refusing
-plan_of Answer trees g t = answering trees g t
-plan_of (Show text) trees g t = showing text
+-- a mode was opened that is the one asked for, or its refusal is; but for want of memory
+abbrev pub Opens : {M : Type 0} → (M → Plan) → (Plan → Type 0) → Result M Stop → Type 0
+Opens plan Is (Ok mode) = Is (plan mode)
+Opens plan Is (Err (Halted cause)) = Is (halts cause)
+Opens plan Is (Err OutOfMemory) = ⊤
+Opens plan Is (Err _) = ⊥
 
--- the end of a plan that asks for no line
-abbrev pub EndRan : Ending → Option Text → Option Text → ℕ → ℕ → Result (Unit {0}) Stop → Type 0
-EndRan e old new before now (Ok _) = (e.cause ≡ None) × (e.err ≡ []) × Appends old new e.out × (now ≡ before)
-EndRan e old new before now (Err (Halted cause line)) = (e.cause ≡ Some cause) × (e.err ≡ line) × Appends old new e.out × (now ≡ before)
-EndRan e old new before now (Err WriteFailed) = AppendsPrefix old new e.out × Rose before now
-EndRan e old new before now (Err OutOfMemory) = AppendsPrefix old new e.out × (now ≡ before)
-EndRan e old new before now (Err _) = ⊥
-
--- how a plan ran, by the input and out
-abbrev pub PlanRan : Plan → Option Text → Option Text → ℕ → ℕ → Option Text → Option Text → ℕ → ℕ → Result (Unit {0}) Stop → Type 0
-PlanRan (Ends e) in0 in1 in_before in_now out0 out1 out_before out_now r = (in1 ≡ in0) × (in_now ≡ in_before) × EndRan e out0 out1 out_before out_now r
-PlanRan (AsksEach answering) in0 in1 in_before in_now out0 out1 out_before out_now r =
-    EachRan line_limit max_lines (Answers answering) in0 in1 out0 out1 r × EachCounts in_before in_now out_before out_now r
+-- the mode ran, or was not opened for want of memory
+abbrev pub Followed : (Plan → Type 0) → Option Text → Option Text → Option Text → Option Text → Result (Unit {0}) Stop → Type 0
+Followed Is in0 in1 out0 out1 result = ((plan : Plan) × Is plan × Ran plan in0 in1 out0 out1 result) ⊎ ((result ≡ Err OutOfMemory) × (in1 ≡ in0) × (out1 ≡ out0))

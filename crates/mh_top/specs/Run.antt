@@ -1,18 +1,20 @@
--- How a run of the program ends. `Asked` says of a work that it is the one asked for.
-use Rattle.std.specs.Prelude.{◌≡◌, ◌⊎◌, ℕ, [], ◌++◌, Option, None, Some, Result, Ok, Err, ⊤}
+-- How a run of the program ends: the one record that pins it.
+use Rattle.std.specs.Prelude.{◌≡◌, ℕ, List, [], ◌++◌, Option, Some}
 use Rattle.std.specs.Io.KnownBytes.{Appends}
 use Rattle.mh_outside.specs.Faults.{Rose}
 use Rattle.mh_outside.specs.Shelf.{Files}
-use Rattle.mh_outside.specs.Sink.{IsPrefix, AppendsPrefix}
-use Rattle.mh_top.specs.Text.{Text, cannot_read_input, out_of_memory}
-use Rattle.mh_top.specs.Causes.{status_of, code_of}
-use Rattle.mh_top.specs.Each.{IsPart, AnsweredGot}
-use Rattle.mh_top.specs.Verdicts.{Answers}
-use Rattle.mh_top.specs.Work.{Outcome, Plan, Ends, AsksEach, Work, Gives, line_limit, max_lines}
+use Rattle.mh_outside.specs.Sink.{AppendsPrefix}
+use Rattle.mh_opts.specs.declared.order.Order.{Order}
+use Rattle.mh_top.specs.Text.{Text, cannot_read, cannot_read_input, out_of_memory}
+use Rattle.mh_top.specs.Causes.{Go, status_of, line_of}
+use Rattle.mh_top.specs.Order.{order_of}
+use Rattle.mh_top.specs.FileStage.{IsModule}
+use Rattle.mh_top.specs.Turns.{IsTurn}
+use Rattle.mh_top.specs.Work.{Outcome, Work, IsPrepared, IsWork, Yields, err_of, warnings_of}
+use Rattle.mh_top.specs.Plan.{IsTurnOfJob}
+use Rattle.mh_top.specs.Drive.{Partly, GotAt, CutAt, WantsAt, LeftIs, Ended}
+use Rattle.mh_top.specs.Shapes.{Prepared}
 use Rattle.mh_top.specs.declared.stop.Cause.{Cause}
-use Rattle.mh_top.specs.declared.stop.Cause.TheVariants.{Missing}
-use Rattle.mh_top.specs.declared.stop.Stop.{Stop}
-use Rattle.mh_top.specs.declared.stop.Stop.TheVariants.{Halted, ShelfFailed, InputFailed, WriteFailed, OutOfMemory}
 
 -- the outside of a call at one moment: what it tells, and its counts of faults
 pub record World : Type 0 where
@@ -25,24 +27,48 @@ pub record World : Type 0 where
   pub out_faults : ℕ
   pub err_faults : ℕ
 
-module _ {I O E : Type 0} where
-  -- beside a shelf with these files and this count
-  abbrev pub world_beside : Option Files → ℕ → (I → Option Text) → (I → ℕ) → (O → Option Text) → (O → ℕ) → (E → Option Text) → (E → ℕ) → I → O → E → World
-  world_beside files shelf_faults left input_faults out out_faults err err_faults i o e = record {
-    files = files;
+module _ {F I O E : Type 0} where
+  abbrev pub world : (F → Option Files) → (F → ℕ) → (I → Option Text) → (I → ℕ) → (O → Option Text) → (O → ℕ) → (E → Option Text) → (E → ℕ) → F → I → O → E → World
+  world files shelf_faults left input_faults out out_faults err err_faults f i o e = record {
+    files = files f;
     left = left i;
     out = out o;
     err = err e;
-    shelf_faults = shelf_faults;
+    shelf_faults = shelf_faults f;
     input_faults = input_faults i;
     out_faults = out_faults o;
     err_faults = err_faults e;
   }
 
-module _ {F I O E : Type 0} where
-  abbrev pub world : (F → Option Files) → (F → ℕ) → (I → Option Text) → (I → ℕ) → (O → Option Text) → (O → ℕ) → (E → Option Text) → (E → ℕ) → F → I → O → E → World
-  world files shelf_faults left input_faults out out_faults err err_faults f i o e =
-      world_beside (files f) (shelf_faults f) left input_faults out out_faults err err_faults i o e
+-- ---- what was done before the last line on err
+
+-- the turn of the file of this name has come: of the order's grammar files, or, behind the warnings, of those that the mode reads
+pub data IsDue (words : List Text) (files : Option Files) (front name : Text) : Type 0 where
+  OfGrammar : (order : Order) → order_of words ≡ Go order → IsTurn files IsModule order.grammars name → front ≡ [] → IsDue words files front name
+  OfMode : (p : Prepared) → IsPrepared words files (Go p) → IsTurnOfJob p.order.job files p name → front ≡ warnings_of p → IsDue words files front name
+
+-- out and the input are as they were
+pub record IsStill (before now : World) : Type 0 where
+  pub out : now.out ≡ before.out
+  pub left : now.left ≡ before.left
+  pub input_faults : now.input_faults ≡ before.input_faults
+  pub out_faults : now.out_faults ≡ before.out_faults
+
+-- the work asked for stands behind its warnings; the input was taken, and out was written, as `At` says
+pub record Behind (words : List Text) (before : World) (At : Work → Type 0) (OnErr : Text → Type 0) : Type 0 where
+  pub work : Work
+  pub is_asked : IsWork words before.files work
+  pub at : At work
+  pub on_err : OnErr work.warnings
+
+-- `OnErr` says what stands on err behind what was written there whole: nothing yet; or the warnings; or those, and a part of what
+-- the mode writes
+pub data Done (words : List Text) (before now : World) (OnErr : Text → Type 0) : Type 0 where
+  Nothing : IsStill before now → OnErr [] → Done words before now OnErr
+  Warned : (p : Prepared) → IsPrepared words before.files (Go p) → IsStill before now → OnErr (warnings_of p) → Done words before now OnErr
+  Begun : Behind words before (λ w. Partly w.plan before.left before.out now.out (WantsAt w.plan before.left now.left)) OnErr → Done words before now OnErr
+
+-- ---- how the work went, before its last line
 
 -- no count rose
 pub record IsQuiet (before now : World) : Type 0 where
@@ -56,145 +82,50 @@ pub record CouldWrite (before now : World) : Type 0 where
   pub out : now.out_faults ≡ before.out_faults
   pub err : now.err_faults ≡ before.err_faults
 
-abbrev pub LeftIs : Option Text → Option Text → Type 0
-LeftIs None left = ⊤
-LeftIs (Some said) left = left ≡ Some said
-
--- where the files are not told, none is missing
-abbrev pub MayEnd : Option Files → Option Cause → Type 0
-MayEnd None (Some Missing) = ⊥
-MayEnd files cause = ⊤
-
--- a part of what a plan writes on out
-abbrev pub IsOutPart : Plan → Option Text → Text → Type 0
-IsOutPart (Ends e) input text = IsPrefix text e.out
-IsOutPart (AsksEach answering) input text = IsPart line_limit max_lines (Answers answering) input text
-
--- The work asked for ended as its outcome says, with this line to come on err.
-pub record EndsSo (Asked : Work → Type 0) (before now : World) (cause : Option Cause) (line : Text) : Type 0 where
-  pub quiet : IsQuiet before now
-  pub may : MayEnd before.files cause
-  pub work : Work
-  pub is_asked : Asked work
-  pub outcome : Outcome
-  pub gives : Gives work before.left outcome
-  pub cause_is : outcome.cause ≡ cause
-  pub on_out : Appends before.out now.out outcome.out
-  pub is_part : IsOutPart work.plan before.left outcome.out
-  pub on_err : Appends before.err now.err work.warnings
-  pub line_is : outcome.err ≡ work.warnings ++ line
-  pub left_is : LeftIs outcome.left now.left
-
--- nothing was written, but on err as `OnErr` says
-pub record WroteNothing (before now : World) (OnErr : Text → Type 0) : Type 0 where
-  pub on_out : Appends before.out now.out []
-  pub on_err : OnErr []
-
--- nothing was written yet, and nothing of the input taken
-pub record Untouched (before now : World) : Type 0 where
-  pub out : now.out ≡ before.out
-  pub err : now.err ≡ before.err
-  pub left : now.left ≡ before.left
-  pub input_faults : now.input_faults ≡ before.input_faults
-
--- nothing but this line was written, on err, and nothing of the input was taken
-pub record SaysOnly (before now : World) (line : Text) : Type 0 where
-  pub out : now.out ≡ before.out
-  pub err : Appends before.err now.err line
-  pub left : now.left ≡ before.left
-  pub input_faults : now.input_faults ≡ before.input_faults
-
--- a part of what the work asked for writes was written, and on err as `OnErr` says of a prefix of its warnings
-pub record WroteParts (Asked : Work → Type 0) (before now : World) (OnErr : Text → Type 0) : Type 0 where
-  pub work : Work
-  pub is_asked : Asked work
-  pub text : Text
-  pub on_out : Appends before.out now.out text
-  pub is_part : IsOutPart work.plan before.left text
-  pub front : Text
-  pub is_front : IsPrefix front work.warnings
-  pub on_err : OnErr front
-
-abbrev pub PartsWith : (Work → Type 0) → World → World → (Text → Type 0) → Type 0
-PartsWith Asked before now OnErr = WroteNothing before now OnErr ⊎ WroteParts Asked before now OnErr
-
--- nothing else was written
-abbrev pub Parts : (Work → Type 0) → World → World → Type 0
-Parts Asked before now = PartsWith Asked before now (λ front. Appends before.err now.err front)
-
--- a line was written on err
-abbrev pub Lined : (Work → Type 0) → World → World → Text → Type 0
-Lined Asked before now line = PartsWith Asked before now (λ front. Appends before.err now.err (front ++ line))
-
--- a part of a line was
-abbrev pub CutLined : (Work → Type 0) → World → World → Text → Type 0
-CutLined Asked before now line = PartsWith Asked before now (λ front. AppendsPrefix before.err now.err (front ++ line))
-
--- out holds the text of the lines that were got whole
-abbrev pub HoldsLines : Plan → World → World → Type 0
-HoldsLines (Ends e) before now = ⊥
-HoldsLines (AsksEach answering) before now = AnsweredGot line_limit max_lines (Answers answering) before.left now.left before.out now.out
-
--- it does so for the work asked for; the warnings stand on err, and a line behind them
-pub record Holds (Asked : Work → Type 0) (before now : World) (line : Text) : Type 0 where
-  pub work : Work
-  pub is_asked : Asked work
-  pub lines : HoldsLines work.plan before now
-  pub on_err : Appends before.err now.err (work.warnings ++ line)
-
--- How the work went before its last line. `Names` holds of the line of a file that cannot be read.
-abbrev pub Worked : (Work → Type 0) → (Text → Type 0) → World → World → Result (Unit {0}) Stop → Type 0
-Worked Asked Names before now (Ok _) = EndsSo Asked before now None []
-Worked Asked Names before now (Err (Halted cause line)) = EndsSo Asked before now (Some cause) line
-Worked Asked Names before now (Err (ShelfFailed line)) = Names line × Rose before.shelf_faults now.shelf_faults × CouldWrite before now × Untouched before now
-Worked Asked Names before now (Err InputFailed) = Rose before.input_faults now.input_faults × CouldWrite before now × Holds Asked before now []
-Worked Asked Names before now (Err WriteFailed) = (Rose before.out_faults now.out_faults ⊎ Rose before.err_faults now.err_faults) × Parts Asked before now
-Worked Asked Names before now (Err OutOfMemory) = CouldWrite before now × Parts Asked before now
-
 -- The work asked for was done: the status, the texts and the input left are those of its outcome.
-pub record Does (Asked : Work → Type 0) (before now : World) (status : ℕ) : Type 0 where
+pub record Does (words : List Text) (before now : World) (status : ℕ) : Type 0 where
   pub work : Work
-  pub is_asked : Asked work
+  pub is_asked : IsWork words before.files work
   pub outcome : Outcome
-  pub gives : Gives work before.left outcome
+  pub yields : Yields work.plan before.left outcome
   pub status_is : status ≡ status_of outcome.cause
   pub on_out : Appends before.out now.out outcome.out
-  pub is_part : IsOutPart work.plan before.left outcome.out
-  pub on_err : Appends before.err now.err outcome.err
+  pub on_err : Appends before.err now.err (err_of work outcome)
   pub left_is : LeftIs outcome.left now.left
-  pub may : MayEnd before.files outcome.cause
 
--- the line on err that was to be written last
-pub data IsLastLine (Asked : Work → Type 0) (Names : Text → Type 0) (input : Option Text) (line : Text) : Type 0 where
-  OfWork : (work : Work) → (outcome : Outcome) → Asked work → Gives work input outcome → outcome.err ≡ work.warnings ++ line → IsLastLine Asked Names input line
-  OfFile : Names line → IsLastLine Asked Names input line
-  OfInput : line ≡ cannot_read_input → IsLastLine Asked Names input line
-  OfMemory : line ≡ out_of_memory → IsLastLine Asked Names input line
+-- a read of the input failed: out holds exactly the text of the lines that were got whole
+abbrev pub GotLines : World → World → Work → Type 0
+GotLines before now w = Partly w.plan before.left before.out now.out (GotAt w.plan before.left now.left)
 
--- How a run ended, with its cause. A write fault cuts it short, and nothing more is written; or the last line could not be
--- written whole, and no write before it failed.
-pub data Ran (Asked : Work → Type 0) (Names : Text → Type 0) (before now : World) (status : ℕ) : Type 0 where
-  Finished : IsQuiet before now → Does Asked before now status → Ran Asked Names before now status
-  CannotReadFile : status ≡ 3 → Rose before.shelf_faults now.shelf_faults → CouldWrite before now → (line : Text) → Names line → SaysOnly before now line → Ran Asked Names before now status
-  CannotReadInput : status ≡ 3 → Rose before.input_faults now.input_faults → CouldWrite before now → Holds Asked before now cannot_read_input → Ran Asked Names before now status
-  CutShort : status ≡ 4 → (Rose before.out_faults now.out_faults ⊎ Rose before.err_faults now.err_faults) → Parts Asked before now → Ran Asked Names before now status
-  CannotSay : status ≡ 4 → (now.out_faults ≡ before.out_faults) → Rose before.err_faults now.err_faults → (line : Text) → IsLastLine Asked Names before.left line → CutLined Asked before now line → Ran Asked Names before now status
-  NoMemory : status ≡ 6 → CouldWrite before now → Lined Asked before now out_of_memory → Ran Asked Names before now status
+-- a write on out failed: nothing was written behind, and no further line taken
+abbrev pub CutOut : World → World → Work → Type 0
+CutOut before now w = Partly w.plan before.left before.out now.out (CutAt w.plan before.left now.left)
 
--- what is said on err before the program stops for a cause, and the status
-abbrev pub LastLine : Stop → ℕ → Text → Type 0
-LastLine (Halted cause line) result text = (result ≡ code_of cause) × (text ≡ line)
-LastLine (ShelfFailed line) result text = (result ≡ 3) × (text ≡ line)
-LastLine InputFailed result text = (result ≡ 3) × (text ≡ cannot_read_input)
-LastLine WriteFailed result text = ⊥
-LastLine OutOfMemory result text = (result ≡ 6) × (text ≡ out_of_memory)
+-- a write of the warnings failed
+pub record CutWarnings (words : List Text) (before now : World) : Type 0 where
+  pub prepared : Prepared
+  pub is_asked : IsPrepared words before.files (Go prepared)
+  pub still : IsStill before now
+  pub on_err : AppendsPrefix before.err now.err (warnings_of prepared)
 
--- the line was written and its status is the answer, or it couldn't be; after a write fault nothing is said
-pub data Reported (stop : Stop) (err0 err1 : Option Text) (faults0 faults1 : ℕ) (result : ℕ) : Type 0 where
-  Said : (text : Text) → LastLine stop result text → Appends err0 err1 text → faults1 ≡ faults0 → Reported stop err0 err1 faults0 faults1 result
-  Silent : stop ≡ WriteFailed → result ≡ 4 → err1 ≡ err0 → faults1 ≡ faults0 → Reported stop err0 err1 faults0 faults1 result
-  Failed : (text : Text) → (status : ℕ) → LastLine stop status text → result ≡ 4 → AppendsPrefix err0 err1 text → Rose faults0 faults1 → Reported stop err0 err1 faults0 faults1 result
+-- the work is done, or ended by itself before its time
+abbrev pub EndedSo : World → World → Option Cause → Work → Type 0
+EndedSo before now cause w = Ended w.plan before.left now.left before.out now.out cause
 
-abbrev pub Says : ℕ → Text → Option Text → Option Text → ℕ → ℕ → ℕ → Type 0
-Says status line err0 err1 faults0 faults1 result =
-    ((result ≡ status) × Appends err0 err1 line × (faults1 ≡ faults0)) ⊎ ((result ≡ 4) × AppendsPrefix err0 err1 line × Rose faults0 faults1)
+-- What was to be said last on err, behind what stands there: `OnErr front line`.
+pub data Says (words : List Text) (before now : World) (OnErr : Text → Text → Type 0) : Type 0 where
+  OfCause : (cause : Cause) → Behind words before (EndedSo before now (Some cause)) (λ front. OnErr front (line_of cause)) → Says words before now OnErr
+  OfFile : (front name : Text) → IsDue words before.files front name → IsStill before now → OnErr front (cannot_read name) → Says words before now OnErr
+  OfInput : Behind words before (GotLines before now) (λ front. OnErr front cannot_read_input) → Says words before now OnErr
+  OfMemory : Done words before now (λ front. OnErr front out_of_memory) → Says words before now OnErr
+
+-- How a run ended, with its cause. After a write that failed nothing is written, and no further line is taken.
+pub data Ran (words : List Text) (before now : World) (status : ℕ) : Type 0 where
+  Finished : IsQuiet before now → Does words before now status → Ran words before now status
+  -- the shelf failed at the file whose turn it was
+  CannotReadFile : status ≡ 3 → Rose before.shelf_faults now.shelf_faults → CouldWrite before now → (front name : Text) → IsDue words before.files front name → IsStill before now → Appends before.err now.err (front ++ cannot_read name) → Ran words before now status
+  CannotReadInput : status ≡ 3 → Rose before.input_faults now.input_faults → CouldWrite before now → Behind words before (GotLines before now) (λ front. Appends before.err now.err (front ++ cannot_read_input)) → Ran words before now status
+  CannotWarn : status ≡ 4 → Rose before.err_faults now.err_faults → CutWarnings words before now → Ran words before now status
+  CannotWrite : status ≡ 4 → Rose before.out_faults now.out_faults → now.input_faults ≡ before.input_faults → now.err_faults ≡ before.err_faults → Behind words before (CutOut before now) (Appends before.err now.err) → Ran words before now status
+  CannotSay : status ≡ 4 → now.out_faults ≡ before.out_faults → Rose before.err_faults now.err_faults → Says words before now (λ front line. AppendsPrefix before.err now.err (front ++ line)) → Ran words before now status
+  NoMemory : status ≡ 6 → CouldWrite before now → now.input_faults ≡ before.input_faults → Done words before now (λ front. Appends before.err now.err (front ++ out_of_memory)) → Ran words before now status

@@ -2,6 +2,10 @@
 use Rattle.std.specs.Prelude.{List}
 use Rattle.mh_grammar.specs.declared.types.Look.{Look}
 use Rattle.mh_top.specs.declared.tabled.TabledWith.{TabledWith}
+use Rattle.mh_top.specs.declared.prepared.PreparedWith.{PreparedWith}
 
 abbrev pub Tabled : Type 0
 Tabled = TabledWith (List Look)
+
+abbrev pub Prepared : Type 0
+Prepared = PreparedWith (List Look)

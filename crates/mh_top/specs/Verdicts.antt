@@ -1,5 +1,5 @@
 -- The texts that answer the lines of an input.
-use Rattle.std.specs.Prelude.{◌≡◌, Bool, true, false, List, [], ◌∷◌, ◌++◌, codes}
+use Rattle.std.specs.Prelude.{◌≡◌, Bool, true, false, ◌++◌, codes}
 use Rattle.mh_grammar.specs.declared.types.Grammar.{Grammar}
 use Rattle.mh_grammar.specs.declared.types.Sentence.{Sentence}
 use Rattle.mh_tables.specs.Table.{TableData}
@@ -56,8 +56,3 @@ pub record Answering : Type 0 where
 -- the text that answers a line
 abbrev pub AnswersOne : Answering → Text → Text → Type 0
 AnswersOne by line text = FoundBy (SentenceText by.trees by.grammar by.table) (sentence_in (vocabulary_of by.grammar) line) text
-
--- each line has its text, one after the other
-abbrev pub Answers : Answering → List Text → Text → Type 0
-Answers by [] text = text ≡ []
-Answers by (line ∷ lines) text = (first rest : Text) × AnswersOne by line first × (text ≡ first ++ rest) × Answers by lines rest

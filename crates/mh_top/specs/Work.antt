@@ -1,57 +1,45 @@
--- The whole work: what the words ask for over files. Stages that are given by relations make it a relation.
-use Rattle.std.specs.Prelude.{◌≡◌, ℕ, Bool, true, false, ◌&&◌, List, [], ◌∷◌, ◌++◌, if◌then◌else◌, Option, None, Some}
+-- The whole work: what the words ask for over files and an input.
+use Rattle.std.specs.Prelude.{◌≡◌, ℕ, Bool, true, false, ◌&&◌, List, [], ◌++◌, length, take, Option, None, Some, ⊤}
 use Rattle.std.specs.List.{list_any}
-use Rattle.mh_grammar.specs.declared.types.Grammar.{Grammar}
-use Rattle.mh_tables.specs.Table.{TableData}
 use Rattle.mh_resolve.specs.declared.kinds.ConflictKind.{ConflictKind}
 use Rattle.mh_resolve.specs.declared.kinds.ConflictKind.TheVariants.{Solved, Unsolved, Stream}
-use Rattle.mh_resolve.specs.declared.kinds.Mode.TheVariants.{Canonical}
 use Rattle.mh_resolve.specs.declared.conflicts.Conflict.{Conflict}
-use Rattle.mh_report.specs.Automata.{IsAutomatonText}
 use Rattle.mh_report.specs.Warnings.{warning_lines}
-use Rattle.mh_opts.specs.declared.order.Job.{Job}
-use Rattle.mh_opts.specs.declared.order.Job.TheVariants.{Interpret, ShowAutomaton}
-use Rattle.mh_opts.specs.declared.order.Order.{Order}
-use Rattle.mh_rules.specs.declared.modules.Module.{Module}
 use Rattle.mh_outside.specs.Shelf.{Files}
-use Rattle.mh_top.specs.Text.{Text, too_big_input}
-use Rattle.mh_top.specs.Causes.{Staged, Go, Halt}
-use Rattle.mh_top.specs.Order.{order_of}
-use Rattle.mh_top.specs.Each.{Asks}
-use Rattle.mh_top.specs.Verdicts.{Answering, Answers}
-use Rattle.mh_top.specs.FileStage.{IsFileStage}
+use Rattle.mh_top.specs.Text.{Text}
+use Rattle.mh_top.specs.Causes.{Staged, Go, Halt, Then, Gives, said}
+use Rattle.mh_top.specs.Order.{IsOrder}
+use Rattle.mh_top.specs.Lines.{split, asked, is_small, behind}
+use Rattle.mh_top.specs.FileStage.{AreFiles, IsModule}
 use Rattle.mh_top.specs.GrammarStage.{IsGrammarStage}
-use Rattle.mh_top.specs.TableStage.{IsTableStage}
+use Rattle.mh_top.specs.TableStage.{IsTableStage, source_of}
+use Rattle.mh_top.specs.Plan.{Ending, Plan, asks_of, AnswersAll, EndsWith, IsPlanOfJob, halts}
+use Rattle.mh_top.specs.declared.drive.Asks.{Asks}
+use Rattle.mh_top.specs.declared.drive.Asks.TheVariants.{NoLine, FirstLine, EachLine}
+use Rattle.mh_top.specs.declared.prepared.Front.{Front}
+use Rattle.mh_top.specs.Shapes.{Prepared}
 use Rattle.mh_top.specs.declared.stop.Cause.{Cause}
-use Rattle.mh_top.specs.declared.stop.Cause.TheVariants.{Refused, TooBig}
-use Rattle.mh_top.specs.Shapes.{Tabled}
+use Rattle.mh_top.specs.declared.stop.Cause.TheVariants.{Refused, LongInput}
 
--- ---- plans
+-- ---- up to the warnings
 
--- how a run ends that asks for no further line: done, or with a cause; what it writes on out, and on err behind the warnings
-pub record Ending : Type 0 where
-  pub cause : Option Cause
-  pub out : Text
-  pub err : Text
+-- the order that the words spell, and the grammar of its files
+abbrev pub IsFront : List Text → Option Files → Staged Front → Type 0
+IsFront words files s = Then (IsOrder words) (λ order. Then (AreFiles files IsModule order.grammars) (λ modules. Then (IsGrammarStage order.stdlib modules) (λ grammar. Gives (record { order = order; grammar = grammar })))) s
 
-pub data Plan : Type 0 where
-  Ends : Ending → Plan
-  -- each line is answered
-  AsksEach : Answering → Plan
+-- and its table
+abbrev pub IsTabledFront : Front → Staged Prepared → Type 0
+IsTabledFront front s = Then (IsTableStage (source_of front.order) front.grammar) (λ tabled. Gives (record { order = front.order; grammar = front.grammar; tabled = tabled })) s
 
+abbrev pub IsPrepared : List Text → Option Files → Staged Prepared → Type 0
+IsPrepared words files s = Then (IsFront words files) IsTabledFront s
+
+-- ---- the work
+
+-- what stands first on err, and then the mode
 pub record Work : Type 0 where
   pub warnings : Text
   pub plan : Plan
-
--- ---- the stages
-
-abbrev pub halted : Cause → Text → Work
-halted cause line = record { warnings = []; plan = Ends (record { cause = Some cause; out = []; err = line }) }
-
--- a stage goes on, or the work halts
-abbrev pub Then : {A : Type 0} → Staged A → (A → Work → Type 0) → Work → Type 0
-Then (Go x) Next w = Next x w
-Then (Halt cause line) Next w = w ≡ halted cause line
 
 -- a conflict that levels do not solve is warned of
 abbrev pub is_warned : ConflictKind → Bool
@@ -62,64 +50,26 @@ is_warned Stream = true
 abbrev pub has_warning : List Conflict → Bool
 has_warning conflicts = list_any (λ c. is_warned c.kind) conflicts
 
--- the grammar is refused for its conflicts: no line stands behind the warnings
-abbrev pub refusing : Plan
-refusing = Ends (record { cause = Some Refused; out = []; err = [] })
+-- under `--strict` a grammar is refused for what is warned of, and no line stands behind the warnings
+abbrev pub IsPlanUnless : Bool → Option Files → Prepared → Plan → Type 0
+IsPlanUnless true files p plan = plan ≡ halts (Refused [])
+IsPlanUnless false files p plan = IsPlanOfJob p.order.job files p plan
 
--- the verdicts of the input's lines, with trees or without
-abbrev pub answering : Bool → Grammar → TableData → Plan
-answering trees g t = AsksEach (record { trees = trees; grammar = g; table = t })
+abbrev pub IsPlanOf : Option Files → Prepared → Plan → Type 0
+IsPlanOf files p plan = IsPlanUnless (p.order.strict && has_warning p.tabled.conflicts) files p plan
 
--- this text alone
-abbrev pub showing : Text → Plan
-showing text = Ends (record { cause = None; out = text; err = [] })
+abbrev pub warnings_of : Prepared → Text
+warnings_of p = warning_lines p.grammar p.tabled.conflicts
 
--- the plan of a mode
-abbrev pub IsPlanOfJob : Job → Bool → Grammar → Tabled → Plan → Type 0
-IsPlanOfJob Interpret trees g tabled plan = plan ≡ answering trees g tabled.halting
-IsPlanOfJob ShowAutomaton trees g tabled plan = (text : Text) × IsAutomatonText g tabled.automaton Canonical tabled.halting text × (plan ≡ showing text)
-
--- or that of a refusal
-abbrev pub IsPlanUnless : Bool → Order → Grammar → Tabled → Plan → Type 0
-IsPlanUnless true order g tabled plan = plan ≡ refusing
-IsPlanUnless false order g tabled plan = IsPlanOfJob order.job order.show_cst g tabled plan
-
--- under `--strict` a grammar is refused for what is warned of
-abbrev pub IsPlanOf : Order → Grammar → Tabled → Plan → Type 0
-IsPlanOf order g tabled plan = IsPlanUnless (order.strict && has_warning tabled.conflicts) order g tabled plan
-
--- the warnings, and then the mode
-abbrev pub IsWorkOfTable : Order → Grammar → Tabled → Work → Type 0
-IsWorkOfTable order g tabled w = (w.warnings ≡ warning_lines g tabled.conflicts) × IsPlanOf order g tabled w.plan
-
-abbrev pub IsWorkOfGrammar : Order → Grammar → Work → Type 0
-IsWorkOfGrammar order g w = (s : Staged Tabled) × IsTableStage g s × Then s (IsWorkOfTable order g) w
-
--- the work on the modules of all files
-abbrev pub IsWorkOfModules : Order → List Module → Work → Type 0
-IsWorkOfModules order modules w = (s : Staged Grammar) × IsGrammarStage order.stdlib modules s × Then s (IsWorkOfGrammar order) w
-
--- the work on these files, each read and spelled before the next, behind those that spell these modules
-abbrev pub IsWorkOfFiles : Option Files → Order → List Module → List Text → Work → Type 0
-IsWorkOfFiles files order modules [] w = IsWorkOfModules order modules w
-IsWorkOfFiles files order modules (name ∷ names) w =
-    (s : Staged Module) × IsFileStage files name s × Then s (λ m. IsWorkOfFiles files order (modules ++ m ∷ []) names) w
-
-abbrev pub IsWorkOfOrder : Option Files → Order → Work → Type 0
-IsWorkOfOrder files order w = IsWorkOfFiles files order [] order.grammars w
+abbrev pub IsWorkOf : Option Files → Staged Prepared → Work → Type 0
+IsWorkOf files (Go p) w = (w.warnings ≡ warnings_of p) × IsPlanOf files p w.plan
+IsWorkOf files (Halt cause) w = w ≡ record { warnings = []; plan = halts cause }
 
 -- the work that the words ask for, over these files, or over some where they are not told
 abbrev pub IsWork : List Text → Option Files → Work → Type 0
-IsWork words files w = Then (order_of words) (IsWorkOfOrder files) w
+IsWork words files w = (s : Staged Prepared) × IsPrepared words files s × IsWorkOf files s w
 
 -- ---- what comes out
-
-pub record Outcome : Type 0 where
-  pub cause : Option Cause
-  pub out : Text
-  pub err : Text
-  -- the input left, where it is said
-  pub left : Option Text
 
 abbrev pub line_limit : ℕ
 line_limit = 1048576
@@ -127,26 +77,55 @@ line_limit = 1048576
 abbrev pub max_lines : ℕ
 max_lines = 1000000
 
--- the input is left empty where all of it was asked for
-abbrev pub left_behind : Option Text → Bool → Option Text
-left_behind None whole = None
-left_behind (Some input) whole = if whole then Some [] else None
+-- how many lines a mode may ask for
+abbrev pub most : Asks → ℕ
+most NoLine = 0
+most FirstLine = 1
+most EachLine = max_lines
 
--- The lines asked for are answered. Where the input is not told, they are some lines.
-pub record GivesEach (warnings : Text) (answering : Answering) (input : Option Text) (o : Outcome) : Type 0 where
+-- those of the lines to come that are asked for, where it may ask for n more
+abbrev pub wanted : Asks → ℕ → List Text → List Text
+wanted NoLine n lines = []
+wanted FirstLine n lines = take n lines
+wanted EachLine n lines = lines
+
+abbrev pub asked_of : Asks → Text → List Text
+asked_of asks input = asked line_limit (most asks) (wanted asks (most asks) (split input))
+
+-- these are the lines asked for, and whether none of them is too long and none too many; some lines, where the input is not told
+abbrev pub AsksFor : Asks → Option Text → List Text → Bool → Type 0
+AsksFor NoLine input lines whole = (lines ≡ []) × (whole ≡ true)
+AsksFor asks None lines whole = ⊤
+AsksFor asks (Some input) lines whole = (asked_of asks input ≡ lines) × (is_small line_limit (most asks) (wanted asks (most asks) (split input)) ≡ whole)
+
+-- the cause, where the work ended before its time; the text on out, and the input left, where it is said
+pub record Outcome : Type 0 where
+  pub cause : Option Cause
+  pub out : Text
+  pub left : Option Text
+
+-- behind the lines, where they are all that was asked for; else they are answered, and that is all
+abbrev pub EndsBehind : Bool → Plan → Text → Option Cause → Text → Type 0
+EndsBehind true plan text cause out = (e : Ending) × EndsWith plan e × (cause ≡ e.cause) × (out ≡ text ++ e.out)
+EndsBehind false plan text cause out = (cause ≡ Some LongInput) × (out ≡ text)
+
+-- the input is left behind the lines, where they are all that was asked for
+abbrev pub left_behind : Option Text → Bool → List Text → Option Text
+left_behind None whole lines = None
+left_behind (Some input) true lines = Some (behind (length lines) input)
+left_behind (Some input) false lines = None
+
+-- an outcome of a mode on this input: the lines asked for are answered, and then it ends
+pub record Yields (plan : Plan) (input : Option Text) (o : Outcome) : Type 0 where
   pub lines : List Text
-  -- no line was too long, and no line too many
   pub whole : Bool
-  pub asks : Asks line_limit max_lines input lines whole
-  pub out_is : Answers answering lines o.out
-  pub cause_is : o.cause ≡ (if whole then None else Some TooBig)
-  pub err_is : o.err ≡ warnings ++ (if whole then [] else too_big_input)
-  pub left_is : o.left ≡ left_behind input whole
+  pub asks : AsksFor (asks_of plan) input lines whole
+  pub text : Text
+  pub last : Plan
+  pub answers : AnswersAll plan lines text last
+  pub ends : EndsBehind whole last text o.cause o.out
+  pub left_is : o.left ≡ left_behind input whole lines
 
-abbrev pub PlanGives : Text → Plan → Option Text → Outcome → Type 0
-PlanGives warnings (Ends e) input o = o ≡ record { cause = e.cause; out = e.out; err = warnings ++ e.err; left = input }
-PlanGives warnings (AsksEach answering) input o = GivesEach warnings answering input o
-
--- an outcome of the work on this input
-abbrev pub Gives : Work → Option Text → Outcome → Type 0
-Gives w input o = PlanGives w.warnings w.plan input o
+-- what a work writes on err
+abbrev pub err_of : Work → Outcome → Text
+err_of w o = w.warnings ++ said o.cause

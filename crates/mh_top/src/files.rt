@@ -1,18 +1,127 @@
-//! The modules of the grammar files.
-ghost use Rattle.std.specs.Prelude.{◌≡◌, ◌<◌, ◌^◌, ◌++◌, length, IfOk, codes, decimal, string_bytes};
-ghost use Rattle.mh_rules.specs.Ready.{AreModulesReady};
-ghost use Rattle.mh_top.specs.FileStage.{IsModuleStage, syntax_error};
-ghost use Rattle.mh_top.specs.Load.{FileHas, FilesHave, LoadCounts};
-ghost use Rattle.mh_top.specs.Stages.{StageHas, Halts};
-ghost use Rattle.mh_top.specs.declared.stop.Cause.TheVariants.{Refused};
+//! Files are read from a shelf, and spelled, one after the other.
+ghost use Rattle.std.specs.Prelude.{◌≡◌, ◌<◌, ◌≤◌, ◌^◌, ◌++◌, List, ℕ, length, IfOk, codes, decimal, string_bytes};
+ghost use Rattle.std.specs.List.{All};
+ghost use Rattle.mh_top.specs.Text.{Text, syntax_error};
+ghost use Rattle.mh_top.specs.Causes.{Staged};
+ghost use Rattle.mh_top.specs.FileStage.{AreFiles, IsFile, IsLoaded, IsModule, file_limit};
+ghost use Rattle.mh_top.specs.Turns.{IsTurn};
+ghost use Rattle.mh_top.specs.Stages.{FilesGive, Halts, FailsAt, ShelfCounts, StageHas, listed};
+ghost use Rattle.mh_top.specs.declared.stop.Cause.TheVariants.{Refused, Missing, LongFile};
 
-use crate::load::load;
-use crate::stop::{Cause, Stop, halted};
+use crate::stop::{Cause, Stop, refused};
+use mh_grammar::{Name, from_bytes};
 use mh_lex::SyntaxFault;
-use mh_opts::Order;
-use mh_outside::Shelf;
+use mh_outside::{Shelf, ShelfFault};
 use mh_reader::{Module, read_module};
 use std::alloc::{AllocError, Global};
+
+/// A file has at most 16 MiB.
+const FILE_LIMIT: usize = 16 * 1024 * 1024;
+
+/// What the bytes of a file are read as.
+pub(crate) trait Spelling<T> {
+    /// What bytes under a name come to.
+    ghost Spells: { Self → Text → Text → Staged T → Type 0 };
+
+    /// What these bytes of the named file spell.
+    fn spell(&self, alloc: Global, name: &[u8], bytes: &[u8]) -> Result<T, Stop>
+        requires { length bytes.now < 2 ^ 31 }
+        ensures { StageHas (Spells self.now name.now bytes.now) result };
+}
+
+fn missing(alloc: Global, name: &[u8]) -> Stop
+    ensures { Halts (Missing name.now) result }
+{
+    match from_bytes(alloc, name) {
+        Ok(name) => Stop::Halted {
+            cause: Cause::Missing { name },
+        },
+        Err(_) => Stop::OutOfMemory,
+    }
+}
+
+fn long_file(alloc: Global, name: &[u8]) -> Stop
+    ensures { Halts (LongFile name.now) result }
+{
+    match from_bytes(alloc, name) {
+        Ok(name) => Stop::Halted {
+            cause: Cause::LongFile { name },
+        },
+        Err(_) => Stop::OutOfMemory,
+    }
+}
+
+fn shelf_failed(alloc: Global, name: &[u8]) -> Stop
+    ensures { FailsAt name.now result }
+{
+    match from_bytes(alloc, name) {
+        Ok(name) => Stop::ShelfFailed { name },
+        Err(_) => Stop::OutOfMemory,
+    }
+}
+
+/// The bytes of the named file.
+fn load<F: Shelf>(alloc: Global, shelf: &mut F, name: &[u8]) -> Result<Vec<u8>, Stop>
+    requires asked { F.MayAsk shelf.old name.now }
+    ensures bytes { FilesGive (IsLoaded (F.files shelf.old) name.now) (λ other. other ≡ name.now) (listed result) }
+    ensures short { IfOk result (λ bytes. length bytes.items ≤ file_limit) }
+    ensures kept { F.files shelf.new ≡ F.files shelf.old }
+    ensures may_still { (other : List ℕ) → F.MayAsk shelf.old other → F.MayAsk shelf.new other }
+    ensures counts { ShelfCounts (F.faults shelf.old) (F.faults shelf.new) result }
+{
+    match shelf.read_file(alloc, name, FILE_LIMIT) {
+        Ok(bytes) => Ok(bytes),
+        Err(ShelfFault::Absent) => Err(missing(alloc, name)),
+        Err(ShelfFault::TooBig) => Err(long_file(alloc, name)),
+        Err(ShelfFault::Memory) => Err(Stop::OutOfMemory),
+        Err(ShelfFault::Failed) => Err(shelf_failed(alloc, name)),
+    }
+}
+
+/// What the named file spells.
+fn read_file<F: Shelf, T: Drop, S: Spelling<T>>(
+    alloc: Global,
+    shelf: &mut F,
+    spelling: &S,
+    name: &[u8],
+) -> Result<T, Stop>
+    requires asked { F.MayAsk shelf.old name.now }
+    ensures item { FilesGive (IsFile (F.files shelf.old) (S.Spells spelling.now) name.now) (λ other. other ≡ name.now) result }
+    ensures kept { F.files shelf.new ≡ F.files shelf.old }
+    ensures may_still { (other : List ℕ) → F.MayAsk shelf.old other → F.MayAsk shelf.new other }
+    ensures counts { ShelfCounts (F.faults shelf.old) (F.faults shelf.new) result }
+{
+    match load(alloc, shelf, name) {
+        Ok(bytes) => spelling.spell(alloc, name, &bytes),
+        Err(stop) => Err(stop),
+    }
+}
+
+/// What the named files spell, each read and spelled before the next.
+pub(crate) fn read_files<F: Shelf, T: Drop, S: Spelling<T>>(
+    alloc: Global,
+    shelf: &mut F,
+    spelling: &S,
+    names: &[Name],
+) -> Result<Vec<T>, Stop>
+    requires asked { All (F.MayAsk shelf.old) names.now }
+    ensures items { FilesGive (AreFiles (F.files shelf.old) (S.Spells spelling.now) names.now)
+        (IsTurn (F.files shelf.old) (S.Spells spelling.now) names.now) (listed result) }
+    ensures kept { F.files shelf.new ≡ F.files shelf.old }
+    ensures counts { ShelfCounts (F.faults shelf.old) (F.faults shelf.new) result }
+{
+    let mut items = Vec::new(alloc);
+    for name in names {
+        match read_file(alloc, shelf, spelling, name.as_slice()) {
+            Ok(item) => items.push(item)?,
+            Err(stop) => return Err(stop),
+        }
+    }
+    Ok(items)
+}
+
+/// Grammar files.
+pub(crate) struct GrammarFiles;
 
 /// What stands behind a file's name.
 fn place_of(alloc: Global, line: u32) -> Result<String, AllocError>
@@ -23,10 +132,10 @@ fn place_of(alloc: Global, line: u32) -> Result<String, AllocError>
 }
 
 fn no_module(alloc: Global, name: &[u8], line: u32) -> Stop
-    ensures { Halts Refused (syntax_error name.now line) result }
+    ensures { Halts (Refused (syntax_error name.now line)) result }
 {
     match place_of(alloc, line) {
-        Ok(place) => halted(alloc, Cause::Refused, b"menhir: ", name, place.as_bytes()),
+        Ok(place) => refused(alloc, b"menhir: ", name, place.as_bytes()),
         Err(_) => Stop::OutOfMemory,
     }
 }
@@ -34,7 +143,7 @@ fn no_module(alloc: Global, name: &[u8], line: u32) -> Stop
 /// The module that the bytes of the named file spell.
 fn module_in(alloc: Global, name: &[u8], bytes: &[u8]) -> Result<Module, Stop>
     requires { length bytes.now < 2 ^ 31 }
-    ensures { StageHas (IsModuleStage name.now bytes.now) result }
+    ensures { StageHas (IsModule name.now bytes.now) result }
 {
     match read_module(alloc, bytes) {
         Ok(made) => Ok(made),
@@ -43,35 +152,12 @@ fn module_in(alloc: Global, name: &[u8], bytes: &[u8]) -> Result<Module, Stop>
     }
 }
 
-/// The module of the named file.
-fn read_file<F: Shelf>(alloc: Global, shelf: &mut F, name: &[u8]) -> Result<Module, Stop>
-    ensures module { FileHas (F.files shelf.old) name.now result }
-    ensures kept { F.files shelf.new ≡ F.files shelf.old }
-    ensures counts { LoadCounts (F.faults shelf.old) (F.faults shelf.new) result }
-{
-    match load(alloc, shelf, name) {
-        Ok(bytes) => module_in(alloc, name, &bytes),
-        Err(stop) => Err(stop),
-    }
-}
+impl Spelling<Module> for GrammarFiles {
+    ghost use Rattle.mh_top.specs.FileStage.{IsModule};
 
-/// The modules of the order's files, each read and spelled before the next.
-pub(crate) fn read_files<F: Shelf>(
-    alloc: Global,
-    shelf: &mut F,
-    order: &Order,
-) -> Result<Vec<Module>, Stop>
-    ensures modules { FilesHave (F.files shelf.old) order.now result }
-    ensures spelled { IfOk result (λ modules. AreModulesReady modules.items) }
-    ensures kept { F.files shelf.new ≡ F.files shelf.old }
-    ensures counts { LoadCounts (F.faults shelf.old) (F.faults shelf.new) result }
-{
-    let mut modules = Vec::new(alloc);
-    for name in order.grammars.as_slice() {
-        match read_file(alloc, shelf, name.as_slice()) {
-            Ok(module) => modules.push(module)?,
-            Err(stop) => return Err(stop),
-        }
+    ghost Spells = { λ s. IsModule };
+
+    fn spell(&self, alloc: Global, name: &[u8], bytes: &[u8]) -> Result<Module, Stop> {
+        module_in(alloc, name, bytes)
     }
-    Ok(modules)
 }

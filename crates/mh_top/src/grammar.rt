@@ -3,21 +3,21 @@ ghost use Rattle.std.specs.Prelude.{◌≤◌, length, IfOk};
 ghost use Rattle.mh_grammar.specs.Costs.{HaveCosts};
 ghost use Rattle.mh_grammar.specs.Plain.{plain_of, IsInRange};
 ghost use Rattle.mh_rules.specs.Ready.{AreModulesReady};
-ghost use Rattle.mh_top.specs.GrammarStage.{IsGrammarStage, RefusesBy, refusal};
-ghost use Rattle.mh_top.specs.Stages.{StageHas, Halts};
+ghost use Rattle.mh_top.specs.GrammarStage.{IsGrammarStage, refusal};
+ghost use Rattle.mh_top.specs.Stages.{RefusesBy, StageHas, Halts};
 ghost use Rattle.mh_top.specs.declared.stop.Cause.TheVariants.{Refused};
 
-use crate::stop::{Cause, Stop, halted};
+use crate::stop::{Stop, refused};
 use mh_front::{GrammarFault, fault_line, grammar_of};
 use mh_grammar::Grammar;
 use mh_reader::Module;
 use std::alloc::Global;
 
-fn refused(alloc: Global, fault: &GrammarFault) -> Stop
-    ensures { Halts Refused (refusal fault.now) result }
+fn refused_by(alloc: Global, fault: &GrammarFault) -> Stop
+    ensures { Halts (Refused (refusal fault.now)) result }
 {
     match fault_line(alloc, fault) {
-        Ok(line) => halted(alloc, Cause::Refused, b"menhir: ", &line, b"\n"),
+        Ok(line) => refused(alloc, b"menhir: ", &line, b"\n"),
         Err(_) => Stop::OutOfMemory,
     }
 }
@@ -27,7 +27,7 @@ fn stop_of(alloc: Global, fault: &GrammarFault) -> Stop
 {
     match fault {
         GrammarFault::Memory => Stop::OutOfMemory,
-        _ => refused(alloc, fault),
+        _ => refused_by(alloc, fault),
     }
 }
 

@@ -1,13 +1,33 @@
-//! That the words ask for one work: an empty call that tells it to contracts.
-ghost use Rattle.std.specs.Prelude.{◌≡◌, List, Some};
+//! What the definition of the work says: empty calls that tell it to contracts.
+ghost use Rattle.std.specs.Prelude.{◌≡◌, ◌∷◌, ◌++◌, List, Option, Some};
 ghost use Rattle.mh_outside.specs.Shelf.{Files};
+ghost use Rattle.mh_top.specs.AtLine.{IsAnsweredAt, HasVerdictAt};
+ghost use Rattle.mh_top.specs.Causes.{Staged};
+ghost use Rattle.mh_top.specs.Plan.{Plan, AnswersAll, Judges};
 ghost use Rattle.mh_top.specs.Text.{Text};
-ghost use Rattle.mh_top.specs.Work.{Work, IsWork, Outcome, Gives};
+ghost use Rattle.mh_top.specs.Verdicts.{Answering};
+ghost use Rattle.mh_top.specs.Work.{Work, IsPrepared, IsWork, Outcome, Yields};
+ghost use Rattle.mh_top.specs.Shapes.{Prepared};
 
-/// Over given files the words ask for one work, and a work has one outcome on a given input.
+/// Over given files the words ask for one work, and a mode has one outcome on a given input.
 pub fn work_is_one()
     ensures work { (words : List Text) (files : Files) (v w : Work) →
         IsWork words (Some files) v → IsWork words (Some files) w → v ≡ w }
-    ensures outcome { (w : Work) (input : Text) (o p : Outcome) →
-        Gives w (Some input) o → Gives w (Some input) p → o ≡ p }
+    ensures outcome { (plan : Plan) (input : Text) (o p : Outcome) →
+        Yields plan (Some input) o → Yields plan (Some input) p → o ≡ p }
+{}
+
+/// Words ask for some work wherever what comes before the warnings goes on or halts.
+pub fn some_work_is_asked()
+    ensures { (words : List Text) (files : Option Files) (before : Staged Prepared) → IsPrepared words files before →
+        (w : Work) × IsWork words files w }
+{}
+
+/// The text that answers lines is, at each of them, a front, the answer of the line, and the rest; where lines are judged, the
+/// answer is the one of that line by itself.
+pub fn lines_are_answered()
+    ensures each { (plan last : Plan) (before after : List Text) (line text : Text) →
+        AnswersAll plan (before ++ line ∷ after) text last → IsAnsweredAt plan before line after text last }
+    ensures verdict { (by : Answering) (last : Plan) (before after : List Text) (line text : Text) →
+        AnswersAll (Judges by) (before ++ line ∷ after) text last → HasVerdictAt by before line after text }
 {}

@@ -1,19 +1,19 @@
 //! The top call: all that the program does, over any shelf, input and output.
 #![tactic(auto)]
 
-mod each;
+mod drive;
 mod files;
 mod grammar;
-mod interpret;
+mod judging;
 mod laws;
-mod load;
 mod modes;
 mod order;
+mod prepared;
 pub mod status;
 mod stop;
 mod tabled;
 mod top;
 
-pub use laws::work_is_one;
+pub use laws::{lines_are_answered, some_work_is_asked, work_is_one};
 pub use stop::Cause;
 pub use top::menhir;

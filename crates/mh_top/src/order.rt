@@ -1,17 +1,23 @@
 //! The words of the command line.
-ghost use Rattle.std.specs.Prelude.{◌≡◌, map, string_bytes};
-ghost use Rattle.mh_top.specs.Order.{HaltsBy, order_of};
-ghost use Rattle.mh_top.specs.Stages.{Halts, StageIs};
-ghost use Rattle.mh_top.specs.declared.stop.Cause.TheVariants.{Misused};
+ghost use Rattle.std.specs.Prelude.{◌≡◌, ◌++◌, map, string_bytes};
+ghost use Rattle.mh_top.specs.Order.{IsOrder};
+ghost use Rattle.mh_top.specs.Stages.{HaltsBy, Halts, StageHas};
+ghost use Rattle.mh_top.specs.declared.stop.Cause.TheVariants.{Misused as Misused'};
 
-use crate::stop::{Cause, Stop, halted};
+use crate::stop::{Cause, Stop, joined};
 use mh_opts::{Order, UsageFault, read_words};
 use std::alloc::Global;
 
-fn misused(alloc: Global, line: &[u8]) -> Stop
-    ensures { Halts Misused line.now result }
+/// The misuse with this line, in three parts.
+fn misused(alloc: Global, before: &[u8], middle: &[u8], after: &[u8]) -> Stop
+    ensures { Halts (Misused' (before.now ++ middle.now ++ after.now)) result }
 {
-    halted(alloc, Cause::Misused, line, b"", b"")
+    match joined(alloc, before, middle, after) {
+        Ok(line) => Stop::Halted {
+            cause: Cause::Misused { line },
+        },
+        Err(_) => Stop::OutOfMemory,
+    }
 }
 
 /// Why the words are no order.
@@ -19,24 +25,23 @@ fn usage(alloc: Global, fault: &UsageFault) -> Stop
     ensures { HaltsBy fault.now result }
 {
     match fault {
-        UsageFault::Parse => misused(alloc, b"menhir: usage: bad words\n"),
-        UsageFault::NoMode => misused(alloc, b"menhir: usage: no mode\n"),
-        UsageFault::TwoModes => misused(alloc, b"menhir: usage: two modes\n"),
-        UsageFault::Misplaced { option } => halted(
+        UsageFault::Parse => misused(alloc, b"menhir: usage: bad words\n", b"", b""),
+        UsageFault::NoMode => misused(alloc, b"menhir: usage: no mode\n", b"", b""),
+        UsageFault::TwoModes => misused(alloc, b"menhir: usage: two modes\n", b"", b""),
+        UsageFault::Misplaced { option } => misused(
             alloc,
-            Cause::Misused,
             b"menhir: usage: misplaced ",
             option.as_slice(),
             b"\n",
         ),
-        UsageFault::NoGrammar => misused(alloc, b"menhir: usage: no grammar\n"),
+        UsageFault::NoGrammar => misused(alloc, b"menhir: usage: no grammar\n", b"", b""),
         UsageFault::Memory => Stop::OutOfMemory,
     }
 }
 
 /// The order that the words spell.
 pub(crate) fn order_in(alloc: Global, words: &[String]) -> Result<Order, Stop>
-    ensures { StageIs (order_of (map string_bytes words.now)) result }
+    ensures { StageHas (IsOrder (map string_bytes words.now)) result }
 {
     match read_words(alloc, words) {
         Ok(order) => Ok(order),

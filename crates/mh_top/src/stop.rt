@@ -2,35 +2,39 @@
 ghost use Rattle.std.specs.Prelude.{◌≡◌, ◌++◌, IfOk};
 ghost use Rattle.mh_top.specs.Causes.{code_of};
 ghost use Rattle.mh_top.specs.Stages.{Halts};
-ghost use Rattle.mh_top.specs.declared.stop.Stop.TheVariants.{OutOfMemory};
+ghost use Rattle.mh_top.specs.declared.stop.Cause.TheVariants.{Refused as Refused'};
+ghost use Rattle.mh_top.specs.declared.stop.Stop.TheVariants.{OutOfMemory, ShelfFailed};
 
 use crate::status;
-use mh_grammar::{Memory, Sequence};
+use mh_grammar::{Memory, Name, Sequence};
 use std::alloc::{AllocError, AllocFailed, Global};
 
-/// Why the work ends by itself before its time. A fault of writing and want of memory are none of these.
-#[derive(Clone, Copy, Debug, PartialEq, Eq)]
+/// Why the work ends by itself before its time. A fault of a device and want of memory are none of these.
+#[derive(Drop)]
 pub enum Cause {
-    /// The grammar is refused.
-    Refused,
-    /// The words ask for nothing that the program does.
-    Misused,
+    /// The grammar is refused, with this line on err.
+    Refused { line: Sequence<u8> },
+    /// The words ask for nothing that the program does; the line says why.
+    Misused { line: Sequence<u8> },
     /// A file that the words name is missing.
-    Missing,
-    /// A file or the input passes its limit.
-    TooBig,
+    Missing { name: Name },
+    /// A file that the words name passes its limit.
+    LongFile { name: Name },
+    /// The input passes a limit.
+    LongInput,
 }
 
 impl Cause {
     /// The exit status of the program.
-    pub fn code(self) -> u8
-        ensures { result ≡ code_of self }
+    pub fn code(&self) -> u8
+        ensures { result ≡ code_of self.now }
     {
         match self {
-            Cause::Refused => status::REFUSED,
-            Cause::Misused => status::MISUSED,
-            Cause::Missing => status::READ_FAULT,
-            Cause::TooBig => status::TOO_BIG,
+            Cause::Refused { .. } => status::REFUSED,
+            Cause::Misused { .. } => status::MISUSED,
+            Cause::Missing { .. } => status::READ_FAULT,
+            Cause::LongFile { .. } => status::TOO_BIG,
+            Cause::LongInput => status::TOO_BIG,
         }
     }
 }
@@ -38,10 +42,10 @@ impl Cause {
 /// Why the work stopped.
 #[derive(Drop)]
 pub(crate) enum Stop {
-    /// By its definition, with a line on err.
-    Halted { cause: Cause, line: Sequence<u8> },
-    /// The shelf failed at a file; the line names it.
-    ShelfFailed { line: Sequence<u8> },
+    /// By its definition.
+    Halted { cause: Cause },
+    /// The shelf failed at the file of this name.
+    ShelfFailed { name: Name },
     /// A read of the input failed.
     InputFailed,
     /// A write failed, and nothing more is written.
@@ -89,18 +93,14 @@ pub(crate) fn joined(
     Ok(Sequence::from_vec(bytes))
 }
 
-/// The end with this cause and this line, in three parts.
-pub(crate) fn halted(
-    alloc: Global,
-    cause: Cause,
-    before: &[u8],
-    middle: &[u8],
-    after: &[u8],
-) -> Stop
-    ensures { Halts cause (before.now ++ middle.now ++ after.now) result }
+/// The refusal with this line, in three parts.
+pub(crate) fn refused(alloc: Global, before: &[u8], middle: &[u8], after: &[u8]) -> Stop
+    ensures { Halts (Refused' (before.now ++ middle.now ++ after.now)) result }
 {
     match joined(alloc, before, middle, after) {
-        Ok(line) => Stop::Halted { cause, line },
+        Ok(line) => Stop::Halted {
+            cause: Cause::Refused { line },
+        },
         Err(_) => Stop::OutOfMemory,
     }
 }

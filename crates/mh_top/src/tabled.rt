@@ -1,16 +1,15 @@
-//! The canonical automaton of a grammar with its table, where every run on it ends, and the list of its conflicts.
+//! The automaton of a grammar with its table, where every run on it ends, and the list of its conflicts.
 ghost use Rattle.std.specs.Prelude.{◌≡◌, ◌<◌, ◌≤◌, ◌*◌, length, IfOk, string_bytes, MatchOption, ⊤};
 ghost use Rattle.mh_grammar.specs.Costs.{HaveCosts};
 ghost use Rattle.mh_grammar.specs.Plain.{plain_of, IsInRange};
-ghost use Rattle.mh_canon.specs.Canonical.{IsCanonical};
 ghost use Rattle.mh_items.specs.Automaton.{IsAutomaton};
-ghost use Rattle.mh_top.specs.TableStage.{IsTableStage, HasTooMany, loop_place, look_text, loops_line};
+ghost use Rattle.mh_top.specs.TableStage.{IsAutomatonStage, IsResolvedStage, IsTableStage, mode_of};
+ghost use Rattle.mh_top.specs.Text.{loop_place, look_text, loops_line, too_many_states as too_many_states_line};
 ghost use Rattle.mh_top.specs.Stages.{Halts, StageHas};
 ghost use Rattle.mh_msgfile.specs.Sentences.{token_names};
-ghost use Rattle.mh_top.specs.Text.{too_many_states as too_many_states_line};
 ghost use Rattle.mh_top.specs.declared.stop.Cause.TheVariants.{Refused};
 
-use crate::stop::{Cause, Stop, halted};
+use crate::stop::{Stop, refused};
 use mh_canon::canonical;
 use mh_grammar::{Grammar, Sequence, Token};
 use mh_items::{Automaton, AutomatonWith, StatesFault};
@@ -19,7 +18,25 @@ use mh_sets::TokenSet;
 use mh_tables::{HaltFault, Halting, check_halts};
 use std::alloc::{AllocError, Global};
 
-/// The canonical automaton of a grammar, its table, and the list of its conflicts.
+/// Where the automaton comes from.
+#[derive(Clone, Copy, Debug, PartialEq, Eq)]
+pub(crate) enum Source {
+    /// It is the canonical one of the grammar.
+    Canonical,
+}
+
+impl Source {
+    /// The mode of its table.
+    pub(crate) fn mode(self) -> Mode
+        ensures { result ≡ mode_of self }
+    {
+        match self {
+            Source::Canonical => Mode::Canonical,
+        }
+    }
+}
+
+/// The automaton of a grammar, its table, and the list of its conflicts.
 #[derive(Drop)]
 pub(crate) struct TabledWith<L> {
     pub(crate) automaton: AutomatonWith<L>,
@@ -30,25 +47,31 @@ pub(crate) struct TabledWith<L> {
 /// One whose sets of tokens have a width.
 pub(crate) type Tabled<const W: usize> = TabledWith<TokenSet<W>>;
 
-/// The table alone. The automaton and the conflicts are let go.
-pub(crate) fn into_halting<const W: usize>(tabled: Tabled<W>) -> Halting
-    requires { W ≤ 8 }
-    ensures { result ≡ tabled.entry.halting }
+fn too_many_states(alloc: Global) -> Stop
+    ensures { Halts (Refused too_many_states_line) result }
 {
-    let TabledWith { halting, .. } = tabled;
-    halting
+    refused(alloc, b"menhir: too many states\n", b"", b"")
 }
 
-fn too_many_states(alloc: Global) -> Stop
-    ensures { Halts Refused too_many_states_line result }
+/// The automaton of a grammar.
+fn automaton_of<const W: usize>(
+    alloc: Global,
+    source: Source,
+    grammar: &Grammar,
+) -> Result<Automaton<W>, Stop>
+    requires few { W ≤ 8 }
+    requires width { length grammar.now.tokens ≤ 64 * W }
+    requires range { IsInRange (plain_of grammar.now) }
+    ensures stage { StageHas (IsAutomatonStage source grammar.now) result }
+    ensures automaton { IfOk result (λ automaton. IsAutomaton (plain_of grammar.now) automaton) }
 {
-    halted(
-        alloc,
-        Cause::Refused,
-        b"menhir: too many states\n",
-        b"",
-        b"",
-    )
+    match source {
+        Source::Canonical => match canonical(alloc, grammar) {
+            Ok(automaton) => Ok(automaton),
+            Err(StatesFault::TooManyStates) => Err(too_many_states(alloc)),
+            Err(StatesFault::Memory) => Err(Stop::OutOfMemory),
+        },
+    }
 }
 
 /// The name of the next token, where there is one.
@@ -80,38 +103,29 @@ fn loops(
     token: Option<Token>,
 ) -> Stop
     requires { MatchOption token ⊤ (λ token. token < length grammar.now.tokens) }
-    ensures { Halts Refused (loops_line (token_names grammar.now) below state token) result }
+    ensures { Halts (Refused (loops_line (token_names grammar.now) below state token)) result }
 {
     match place_of(alloc, below, state) {
-        Ok(place) => halted(
-            alloc,
-            Cause::Refused,
-            place.as_bytes(),
-            look_name(grammar, token),
-            b"\n",
-        ),
+        Ok(place) => refused(alloc, place.as_bytes(), look_name(grammar, token), b"\n"),
         Err(_) => Stop::OutOfMemory,
     }
 }
 
-/// The canonical automaton with its table, where every run on it ends.
+/// The automaton with its table, where every run on it ends.
 fn with_table<const W: usize>(
     alloc: Global,
+    mode: Mode,
     grammar: &Grammar,
     automaton: Automaton<W>,
 ) -> Result<Tabled<W>, Stop>
-    requires width_few { W ≤ 8 }
+    requires few { W ≤ 8 }
     requires width { length grammar.now.tokens ≤ 64 * W }
     requires range { IsInRange (plain_of grammar.now) }
     requires costs { HaveCosts grammar.now.tokens }
-    requires few { HasTooMany grammar.now → ⊥ }
-    requires canonical { IsCanonical (plain_of grammar.now) automaton }
     requires automaton { IsAutomaton (plain_of grammar.now) automaton }
-    ensures stage { StageHas (IsTableStage grammar.now) result }
-    ensures automaton { IfOk result (λ tabled.
-        IsAutomaton (plain_of grammar.now) tabled.automaton) }
+    ensures { StageHas (IsResolvedStage mode grammar.now automaton.entry) result }
 {
-    let (table, conflicts) = resolve(alloc, grammar, &automaton, Mode::Canonical)?;
+    let (table, conflicts) = resolve(alloc, grammar, &automaton, mode)?;
     match check_halts(alloc, table) {
         Ok(halting) => Ok(TabledWith {
             automaton,
@@ -129,20 +143,23 @@ fn with_table<const W: usize>(
     }
 }
 
-/// The canonical automaton of a grammar with its table and its conflicts. It halts with the first of these: the
-/// automaton has too many states; a run on the table never ends.
-pub(crate) fn table_of<const W: usize>(alloc: Global, grammar: &Grammar) -> Result<Tabled<W>, Stop>
-    requires width_few { W ≤ 8 }
+/// The automaton of a grammar with its table and its conflicts. It halts with the first of these: the automaton has too
+/// many states; a run on the table never ends.
+pub(crate) fn table_of<const W: usize>(
+    alloc: Global,
+    source: Source,
+    grammar: &Grammar,
+) -> Result<Tabled<W>, Stop>
+    requires few { W ≤ 8 }
     requires width { length grammar.now.tokens ≤ 64 * W }
     requires range { IsInRange (plain_of grammar.now) }
     requires costs { HaveCosts grammar.now.tokens }
-    ensures stage { StageHas (IsTableStage grammar.now) result }
+    ensures stage { StageHas (IsTableStage source grammar.now) result }
     ensures automaton { IfOk result (λ tabled.
         IsAutomaton (plain_of grammar.now) tabled.automaton) }
 {
-    match canonical(alloc, grammar) {
-        Ok(automaton) => with_table(alloc, grammar, automaton),
-        Err(StatesFault::TooManyStates) => Err(too_many_states(alloc)),
-        Err(StatesFault::Memory) => Err(Stop::OutOfMemory),
+    match automaton_of(alloc, source, grammar) {
+        Ok(automaton) => with_table(alloc, source.mode(), grammar, automaton),
+        Err(stop) => Err(stop),
     }
 }

@@ -1,123 +1,53 @@
 //! All that the program does.
-ghost use Rattle.std.specs.Prelude.{◌≡◌, ◌≤◌, ◌*◌, ℕ, Option, length, map, string_bytes};
+ghost use Rattle.std.specs.Prelude.{◌≡◌, ◌≤◌, ◌*◌, ◌++◌, List, length, map, string_bytes};
 ghost use Rattle.mh_grammar.specs.Costs.{HaveCosts};
 ghost use Rattle.mh_grammar.specs.Plain.{plain_of, IsInRange};
-ghost use Rattle.mh_rules.specs.Ready.{AreModulesReady};
-ghost use Rattle.mh_outside.specs.Shelf.{Files};
-ghost use Rattle.mh_top.specs.FileStage.{IsFileLine};
-ghost use Rattle.mh_top.specs.Work.{IsWorkOfGrammar, IsWorkOfModules, IsWorkOfOrder, IsWork};
-ghost use Rattle.mh_top.specs.Claims.{FileOf, Keeps};
+ghost use Rattle.mh_top.specs.Text.{Text};
+ghost use Rattle.mh_outside.specs.Faults.{Counts};
+ghost use Rattle.mh_outside.specs.Sink.{WritesWhole};
+ghost use Rattle.mh_top.specs.Causes.{Go, code_of, line_of};
+ghost use Rattle.mh_top.specs.Claims.{Keeps};
 ghost use Rattle.mh_top.specs.Exact.{AcceptsExactly, RejectsRightly, OvershootsRightly, AcceptsRightly, TooDeepExactly};
-ghost use Rattle.mh_top.specs.Run.{world, world_beside, Worked, Ran, Reported, Says};
+ghost use Rattle.mh_top.specs.Turns.{AsksFor};
+ghost use Rattle.mh_top.specs.Run.{world, Ran};
+ghost use Rattle.mh_top.specs.Saying.{Worked, Reported, SaysLine};
+ghost use Rattle.mh_top.specs.Work.{IsFront};
 
-use crate::files::read_files;
-use crate::grammar::grammar_in;
-use crate::modes::work_on_table;
-use crate::order::order_in;
+use crate::modes::{follow, warn};
+use crate::prepared::{Front, front_of, prepare};
 use crate::status;
-use crate::stop::Stop;
-use crate::tabled::table_of;
-use mh_grammar::Grammar;
-use mh_opts::Order;
-use mh_outside::{Shelf, Sink, Source, write_whole};
-use mh_reader::Module;
+use crate::stop::{Cause, Stop};
+use mh_outside::{Shelf, Sink, Source, WriteFault, write_whole};
 use mh_sets::with_width;
 use std::alloc::Global;
 
-/// The work on a grammar, with sets of tokens of a width.
-fn work_at<I: Source, O: Sink, E: Sink, const W: usize>(
+/// The work behind the grammar: its table, the warnings, and the mode.
+fn work_on<F: Shelf, I: Source, O: Sink, E: Sink, const W: usize>(
     alloc: Global,
-    order: &Order,
-    grammar: Grammar,
-    input: &mut I,
-    out: &mut O,
-    err: &mut E,
-) -> Result<(), Stop>
-    requires width_few { W ≤ 8 }
-    requires width { length grammar.tokens ≤ 64 * W }
-    requires range { IsInRange (plain_of grammar) }
-    requires costs { HaveCosts grammar.tokens }
-    ensures { (files : Option Files) (shelf_faults : ℕ) →
-        Worked (IsWorkOfGrammar order.now grammar) (λ line. ⊥)
-        (world_beside files shelf_faults I.left I.faults O.written O.faults E.written E.faults
-        input.old out.old err.old)
-        (world_beside files shelf_faults I.left I.faults O.written O.faults E.written E.faults
-        input.new out.new err.new)
-        result }
-{
-    match table_of::<W>(alloc, &grammar) {
-        Ok(tabled) => work_on_table(alloc, order, grammar, tabled, input, out, err),
-        Err(stop) => Err(stop),
-    }
-}
-
-/// The work on a grammar, at the least width that holds its tokens.
-fn work_on_grammar<I: Source, O: Sink, E: Sink>(
-    alloc: Global,
-    order: &Order,
-    grammar: Grammar,
-    input: &mut I,
-    out: &mut O,
-    err: &mut E,
-) -> Result<(), Stop>
-    requires range { IsInRange (plain_of grammar) }
-    requires costs { HaveCosts grammar.tokens }
-    requires tokens { length grammar.tokens ≤ 512 }
-    ensures { (files : Option Files) (shelf_faults : ℕ) →
-        Worked (IsWorkOfGrammar order.now grammar) (λ line. ⊥)
-        (world_beside files shelf_faults I.left I.faults O.written O.faults E.written E.faults
-        input.old out.old err.old)
-        (world_beside files shelf_faults I.left I.faults O.written O.faults E.written E.faults
-        input.new out.new err.new)
-        result }
-{
-    with_width!(grammar.tokens.len(); work_at; I, O, E; alloc, order, grammar, input, out, err)
-}
-
-/// The work on the modules of all files, which are let go once they have given the grammar.
-fn work_on_modules<I: Source, O: Sink, E: Sink>(
-    alloc: Global,
-    order: &Order,
-    modules: Vec<Module>,
-    input: &mut I,
-    out: &mut O,
-    err: &mut E,
-) -> Result<(), Stop>
-    requires { AreModulesReady modules.items }
-    ensures { (files : Option Files) (shelf_faults : ℕ) →
-        Worked (IsWorkOfModules order.now modules.items) (λ line. ⊥)
-        (world_beside files shelf_faults I.left I.faults O.written O.faults E.written E.faults
-        input.old out.old err.old)
-        (world_beside files shelf_faults I.left I.faults O.written O.faults E.written E.faults
-        input.new out.new err.new)
-        result }
-{
-    match grammar_in(alloc, modules, order.stdlib) {
-        Ok(grammar) => work_on_grammar(alloc, order, grammar, input, out, err),
-        Err(stop) => Err(stop),
-    }
-}
-
-/// The work on an order.
-fn work_on_order<F: Shelf, I: Source, O: Sink, E: Sink>(
-    alloc: Global,
-    order: &Order,
+    front: Front,
     shelf: &mut F,
     input: &mut I,
     out: &mut O,
     err: &mut E,
 ) -> Result<(), Stop>
+    requires few { W ≤ 8 }
+    requires width { length front.grammar.tokens ≤ 64 * W }
+    requires range { IsInRange (plain_of front.grammar) }
+    requires costs { HaveCosts front.grammar.tokens }
     ensures kept { F.files shelf.new ≡ F.files shelf.old }
-    ensures ran { Worked (IsWorkOfOrder (F.files shelf.old) order.now)
-        (IsFileLine (F.files shelf.old) order.now.grammars)
+    ensures ran { (words : List Text) → IsFront words (F.files shelf.old) (Go front) → Worked words
         (world F.files F.faults I.left I.faults O.written O.faults E.written E.faults
         shelf.old input.old out.old err.old)
         (world F.files F.faults I.left I.faults O.written O.faults E.written E.faults
         shelf.new input.new out.new err.new)
         result }
 {
-    match read_files(alloc, shelf, order) {
-        Ok(modules) => work_on_modules(alloc, order, modules, input, out, err),
+    let prepared = match prepare::<W>(alloc, front) {
+        Ok(prepared) => prepared,
+        Err(stop) => return Err(stop),
+    };
+    match warn(alloc, &prepared, err) {
+        Ok(()) => follow(alloc, prepared, shelf, input, out),
         Err(stop) => Err(stop),
     }
 }
@@ -131,29 +61,78 @@ fn work<F: Shelf, I: Source, O: Sink, E: Sink>(
     out: &mut O,
     err: &mut E,
 ) -> Result<(), Stop>
+    requires asked { AsksFor (map string_bytes words.now) (F.MayAsk shelf.old) }
     ensures kept { F.files shelf.new ≡ F.files shelf.old }
-    ensures ran { Worked (IsWork (map string_bytes words.now) (F.files shelf.old))
-        (FileOf (map string_bytes words.now) (F.files shelf.old))
+    ensures ran { Worked (map string_bytes words.now)
         (world F.files F.faults I.left I.faults O.written O.faults E.written E.faults
         shelf.old input.old out.old err.old)
         (world F.files F.faults I.left I.faults O.written O.faults E.written E.faults
         shelf.new input.new out.new err.new)
         result }
 {
-    match order_in(alloc, words) {
-        Ok(order) => work_on_order(alloc, &order, shelf, input, out, err),
+    match front_of(alloc, words, shelf) {
+        Ok(front) =>
+            with_width!(front.grammar.tokens.len(); work_on; F, I, O, E; alloc, front, shelf, input, out, err),
         Err(stop) => Err(stop),
     }
 }
 
-/// Writes the last line, and gives the status.
-fn say<E: Sink>(err: &mut E, line: &[u8], status: u8) -> u8
-    ensures { Says status line.now (E.written err.old) (E.written err.new)
+/// Writes two parts, one after the other. It takes no memory.
+fn write_both<E: Sink>(err: &mut E, first: &[u8], second: &[u8]) -> Result<(), WriteFault>
+    ensures bytes { WritesWhole (E.written err.old) (E.written err.new) (first.now ++ second.now) result }
+    ensures counts { Counts (E.faults err.old) (E.faults err.new) result }
+{
+    match write_whole(err, first) {
+        Ok(()) => write_whole(err, second),
+        Err(fault) => Err(fault),
+    }
+}
+
+/// Writes three parts, one after the other. It takes no memory.
+fn write_line<E: Sink>(
+    err: &mut E,
+    before: &[u8],
+    middle: &[u8],
+    after: &[u8],
+) -> Result<(), WriteFault>
+    ensures bytes { WritesWhole (E.written err.old) (E.written err.new) (before.now ++ middle.now ++ after.now) result }
+    ensures counts { Counts (E.faults err.old) (E.faults err.new) result }
+{
+    match write_both(err, before, middle) {
+        Ok(()) => write_whole(err, after),
+        Err(fault) => Err(fault),
+    }
+}
+
+/// Writes the last line, in three parts, and gives the status.
+fn say<E: Sink>(err: &mut E, before: &[u8], middle: &[u8], after: &[u8], status: u8) -> u8
+    ensures { SaysLine status (before.now ++ middle.now ++ after.now) (E.written err.old) (E.written err.new)
         (E.faults err.old) (E.faults err.new) result }
 {
-    match write_whole(err, line) {
+    match write_line(err, before, middle, after) {
         Ok(()) => status,
         Err(_) => status::WRITE_FAULT,
+    }
+}
+
+/// Says that a cause ended the work.
+fn say_cause<E: Sink>(err: &mut E, cause: &Cause) -> u8
+    ensures { SaysLine (code_of cause.now) (line_of cause.now) (E.written err.old) (E.written err.new)
+        (E.faults err.old) (E.faults err.new) result }
+{
+    let status = cause.code();
+    match cause {
+        Cause::Refused { line } => say(err, line.as_slice(), b"", b"", status),
+        Cause::Misused { line } => say(err, line.as_slice(), b"", b"", status),
+        Cause::Missing { name } => say(
+            err,
+            b"menhir: cannot read ",
+            name.as_slice(),
+            b"\n",
+            status,
+        ),
+        Cause::LongFile { name } => say(err, b"menhir: too big: ", name.as_slice(), b"\n", status),
+        Cause::LongInput => say(err, b"menhir: too big: the input\n", b"", b"", status),
     }
 }
 
@@ -163,11 +142,29 @@ fn report<E: Sink>(err: &mut E, stop: Stop) -> u8
         (E.faults err.old) (E.faults err.new) result }
 {
     match stop {
-        Stop::Halted { cause, line } => say(err, line.as_slice(), cause.code()),
-        Stop::ShelfFailed { line } => say(err, line.as_slice(), status::READ_FAULT),
-        Stop::InputFailed => say(err, b"menhir: cannot read the input\n", status::READ_FAULT),
+        Stop::Halted { cause } => say_cause(err, &cause),
+        Stop::ShelfFailed { name } => say(
+            err,
+            b"menhir: cannot read ",
+            name.as_slice(),
+            b"\n",
+            status::READ_FAULT,
+        ),
+        Stop::InputFailed => say(
+            err,
+            b"menhir: cannot read the input\n",
+            b"",
+            b"",
+            status::READ_FAULT,
+        ),
         Stop::WriteFailed => status::WRITE_FAULT,
-        Stop::OutOfMemory => say(err, b"menhir: out of memory\n", status::OUT_OF_MEMORY),
+        Stop::OutOfMemory => say(
+            err,
+            b"menhir: out of memory\n",
+            b"",
+            b"",
+            status::OUT_OF_MEMORY,
+        ),
     }
 }
 
@@ -180,14 +177,13 @@ fn run<F: Shelf, I: Source, O: Sink, E: Sink>(
     out: &mut O,
     err: &mut E,
 ) -> u8
+    requires asked { AsksFor (map string_bytes words.now) (F.MayAsk shelf.old) }
     ensures kept { F.files shelf.new ≡ F.files shelf.old }
-    ensures ran { Ran (IsWork (map string_bytes words.now) (F.files shelf.old))
-        (FileOf (map string_bytes words.now) (F.files shelf.old))
+    ensures ran { Ran (map string_bytes words.now)
         (world F.files F.faults I.left I.faults O.written O.faults E.written E.faults
         shelf.old input.old out.old err.old)
         (world F.files F.faults I.left I.faults O.written O.faults E.written E.faults
-        shelf.new input.new out.new err.new)
-        result }
+        shelf.new input.new out.new err.new) result }
 {
     match work(alloc, words, shelf, input, out, err) {
         Ok(()) => status::DONE,
@@ -197,7 +193,8 @@ fn run<F: Shelf, I: Source, O: Sink, E: Sink>(
 
 /// Does what the words ask for, over any shelf, input and outputs, and gives the exit status, one of `status`: 0 done,
 /// 1 refused, 2 misused, 3 a read fault, 4 a write fault, 5 too big, 6 want of memory. The words are those of the command
-/// line without the program's name. The lines of the input are answered one after the other, each before the next is read.
+/// line without the program's name. The shelf is asked for the files that the words name, and for nothing else. The lines of
+/// the input are answered one after the other, each before the next is read.
 pub fn menhir<F: Shelf, I: Source, O: Sink, E: Sink>(
     alloc: Global,
     words: &[String],
@@ -206,6 +203,13 @@ pub fn menhir<F: Shelf, I: Source, O: Sink, E: Sink>(
     out: &mut O,
     err: &mut E,
 ) -> u8
+    requires asked { AsksFor (map string_bytes words.now) (F.MayAsk shelf.old) }
+    // How each run ends, in one piece: the clause that pins the call. The others follow from it.
+    ensures ran { Ran (map string_bytes words.now)
+        (world F.files F.faults I.left I.faults O.written O.faults E.written E.faults
+        shelf.old input.old out.old err.old)
+        (world F.files F.faults I.left I.faults O.written O.faults E.written E.faults
+        shelf.new input.new out.new err.new) result }
     ensures kept { Keeps (map string_bytes words.now)
         (world F.files F.faults I.left I.faults O.written O.faults E.written E.faults
         shelf.old input.old out.old err.old)
@@ -219,13 +223,6 @@ pub fn menhir<F: Shelf, I: Source, O: Sink, E: Sink>(
     ensures too_deep { TooDeepExactly (map string_bytes words.now) (F.files shelf.old) }
     // No file is changed.
     ensures files { F.files shelf.new ≡ F.files shelf.old }
-    // How each run ended, in one piece.
-    ensures ran { Ran (IsWork (map string_bytes words.now) (F.files shelf.old))
-        (FileOf (map string_bytes words.now) (F.files shelf.old))
-        (world F.files F.faults I.left I.faults O.written O.faults E.written E.faults
-        shelf.old input.old out.old err.old)
-        (world F.files F.faults I.left I.faults O.written O.faults E.written E.faults
-        shelf.new input.new out.new err.new) result }
 {
     run(alloc, words, shelf, input, out, err)
 }

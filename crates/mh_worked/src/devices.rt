@@ -1,5 +1,10 @@
 //! Files, inputs and outputs that fail.
-use crate::runs::{Fails, ONE_SENTENCE, check_cases_with, run};
+ghost use Rattle.std.specs.Prelude.{None};
+ghost use Rattle.mh_outside.specs.Fakes.{source_calls};
+
+use crate::runs::{Fails, ONE_SENTENCE, check_cases_with, run, shelf_of, words_of};
+use mh_outside::{Failed, MemSink, MemSource, Source};
+use mh_top::menhir;
 use std::test::Fail;
 
 /// The file that each case has.
@@ -188,6 +193,48 @@ fn each_read_fails_in_turn(rt: HostRuntime) -> Result<(), Fail> {
             b"".as_slice()
         };
         assert_eq!(rt; got.err.as_slice(), said, "at {read}");
+    }
+    Ok(())
+}
+
+/// An input that counts its reads, and tells nothing.
+#[derive(Drop)]
+struct Counted {
+    input: MemSource,
+    reads: u64,
+}
+
+impl Source for Counted {
+    ghost left = { λ s. None };
+
+    ghost faults = { λ s. (source_calls s.input).faults };
+
+    fn read(&mut self, buf: &mut [u8]) -> Result<usize, Failed> {
+        self.reads = self.reads.saturating_add(1);
+        self.input.read(buf)
+    }
+}
+
+// The answer to a line is written before the next is asked for, byte by byte: where the second cannot be written, the third line
+// was not asked for.
+#[test]
+fn no_line_is_taken_after_a_fault(rt: HostRuntime) -> Result<(), Fail> {
+    let alloc = rt.alloc();
+    for (fail, reads) in [(1, 6), (2, 12), (3, 18), (4, 19)] {
+        let mut files = Vec::new(alloc);
+        files.push((b"g.mly".to_vec(alloc)?, ONE_SENTENCE.to_vec(alloc)?))?;
+        let mut shelf = shelf_of(&rt, files, Vec::new(alloc));
+        let lines = b"A EOF\nA EOF\nA EOF\n".to_vec(alloc)?;
+        let mut input = Counted {
+            input: MemSource::new(lines, Vec::new(alloc)),
+            reads: 0,
+        };
+        let mut out = MemSink::new(alloc, [fail].to_vec(alloc)?);
+        let mut err = MemSink::new(alloc, Vec::new(alloc));
+        let words = words_of(alloc, "--interpret g.mly")?;
+        let status = menhir(alloc, &words, &mut shelf, &mut input, &mut out, &mut err);
+        assert_eq!(rt; status, if fail < 4 { 4 } else { 0 }, "at {fail}");
+        assert_eq!(rt; input.reads, reads, "at {fail}");
     }
     Ok(())
 }

@@ -73,6 +73,21 @@ fn are_distinct(files: &[(Vec<u8>, Vec<u8>)]) -> bool
     }
 }
 
+/// A shelf of these files, whose calls with these numbers fail.
+pub fn shelf_of(rt: &impl Abort, files: Vec<(Vec<u8>, Vec<u8>)>, fails: Vec<u64>) -> MemShelf {
+    assert!(rt; are_distinct(&files));
+    MemShelf::new(files, fails)
+}
+
+/// The words of a text.
+pub fn words_of(alloc: Global, text: &str) -> Result<Vec<String>, Fail> {
+    let mut words = Vec::new(alloc);
+    for word in text.split_ascii_whitespace() {
+        words.push(String::from_str(alloc, word)?)?;
+    }
+    Ok(words)
+}
+
 /// Runs the tool on the words of a text.
 pub fn run(
     rt: &impl Abort,
@@ -82,12 +97,8 @@ pub fn run(
     input: Vec<u8>,
     fails: Fails,
 ) -> Result<Outcome, Fail> {
-    let mut given = Vec::new(alloc);
-    for word in words.split_ascii_whitespace() {
-        given.push(String::from_str(alloc, word)?)?;
-    }
-    assert!(rt; are_distinct(&files));
-    let mut shelf = MemShelf::new(files, fails.shelf);
+    let given = words_of(alloc, words)?;
+    let mut shelf = shelf_of(rt, files, fails.shelf);
     let mut input = MemSource::new(input, fails.input);
     let mut out = MemSink::new(alloc, fails.out);
     let mut err = MemSink::new(alloc, fails.err);

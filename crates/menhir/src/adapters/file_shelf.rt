@@ -1,5 +1,5 @@
 //! The shelf of the real files.
-ghost use Rattle.std.specs.Prelude.{◌≡◌, ◌<◌, length, None, IfOk, vec_len};
+ghost use Rattle.std.specs.Prelude.{◌≡◌, ◌<◌, length, None, IfOk, vec_len, ⊤};
 ghost use Rattle.mh_outside.specs.Faults.{ShelfCounts};
 ghost use Rattle.mh_outside.specs.Shelf.{Reads};
 ghost use Rattle.menhir.specs.Written.{ReadsUpTo};
@@ -85,6 +85,9 @@ impl<R: Files> Shelf for FileShelf<'_, R> {
     ghost files = { λ _. None };
 
     ghost faults = { λ s. s.faults };
+
+    // every file may be asked for
+    ghost MayAsk = { λ s name. ⊤ };
 
     fn read_file(
         &mut self,

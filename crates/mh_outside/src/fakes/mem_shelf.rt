@@ -1,5 +1,5 @@
 //! A shelf in memory.
-ghost use Rattle.std.specs.Prelude.{◌≡◌, Some};
+ghost use Rattle.std.specs.Prelude.{◌≡◌, List, ℕ, Some, ⊤};
 ghost use Rattle.std.specs.Option.{option_copied};
 ghost use Rattle.mh_outside.specs.Faults.{ShelfCounts};
 ghost use Rattle.mh_outside.specs.Schedule.{no_calls, fails_next, after_call};
@@ -53,9 +53,13 @@ impl Shelf for MemShelf {
 
     ghost faults = { λ s. s.schedule.faults };
 
+    ghost MayAsk = { λ s name. ⊤ };
+
     fn read_file(&mut self, alloc: Global, name: &[u8], limit: usize) -> Result<Vec<u8>, ShelfFault>
+        requires asked { ⊤ }
         ensures answer { Reads (Some (shelf_files self.old)) name.now limit result }
         ensures kept { Some (shelf_files self.new) ≡ Some (shelf_files self.old) }
+        ensures may_still { (other : List ℕ) → ⊤ → ⊤ }
         ensures counts { ShelfCounts (shelf_calls self.old).faults (shelf_calls self.new).faults result }
         ensures fails { FailsExactly (fails_next (shelf_calls self.old)) result }
         ensures calls { shelf_calls self.new ≡ after_call (fails_next (shelf_calls self.old)) (shelf_calls self.old) }

@@ -1,7 +1,7 @@
 use Rattle.std.proofs.Common.{List, ℕ, map}
 use Rattle.std.specs.String.{string_bytes}
 use Rattle.std.specs.declared.alloc.Global.{Global}
-use Rattle.mh_top.proofs.Keeping.{keeps}
+use Rattle.mh_top.proofs.Claims.{keeps}
 use Rattle.mh_top.proofs.Exactly.{accepts_exactly, rejects_rightly, overshoots_rightly, all_rightly, deep_exactly}
 use Rattle.mh_top.proofs.top.menhir.Goals as goal
 
@@ -10,6 +10,7 @@ returns g c =
     let words : List (List ℕ) = map (string_bytes {Z = Global}) c.args.words.now in
     let ran = c.run.ensures.ran in
     record {
+      ran = ran;
       kept = keeps words _ _ _ ran;
       exact = accepts_exactly words _;
       rejects = rejects_rightly words _;
@@ -17,5 +18,4 @@ returns g c =
       accepts = all_rightly words _;
       too_deep = deep_exactly words _;
       files = c.run.ensures.kept;
-      ran = ran;
     }

@@ -1,12 +1,13 @@
-use Rattle.std.proofs.Common.{refl}
+use Rattle.std.proofs.Common.{ap, refl}
+use Rattle.mh_top.specs.Text.{cannot_read}
 use Rattle.mh_top.proofs.Reports.{reported, silent}
 use Rattle.mh_top.proofs.top.report.Goals as goal
 
 pub returns-in-Halted : goal.returns-in-Halted
-returns-in-Halted g c = reported _ _ c.code.result c.in-Halted.line _ _ _ _ _ _ c.in-Halted.is (c.code.ensures, refl) c.as_slice.ensures c.say.ensures
+returns-in-Halted g c = reported _ _ _ _ _ _ _ _ _ _ c.in-Halted.is (refl, refl) refl c.say_cause.ensures
 
 pub returns-in-ShelfFailed : goal.returns-in-ShelfFailed
-returns-in-ShelfFailed g c = reported _ _ 3 c.in-ShelfFailed.line _ _ _ _ _ _ c.in-ShelfFailed.is (refl, refl) c.as_slice-in-ShelfFailed.ensures c.say-in-ShelfFailed.ensures
+returns-in-ShelfFailed g c = reported _ _ 3 _ _ _ _ _ _ _ c.in-ShelfFailed.is (refl, refl) (ap cannot_read c.as_slice.ensures) c.say.ensures
 
 pub returns-in-InputFailed : goal.returns-in-InputFailed
 returns-in-InputFailed g c = reported _ _ 3 _ _ _ _ _ _ _ c.in-InputFailed.is (refl, refl) refl c.say-in-InputFailed.ensures

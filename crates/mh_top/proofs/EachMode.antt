@@ -1,0 +1,90 @@
+-- Each mode by itself: what is proved by a case for each job and each plan, and by nothing else.
+use Rattle.std.proofs.Common.{◌≡◌, Option, None, Some, sym, ◌∙◌, ap, subst, refl}
+use Rattle.std.specs.Bool.{⊤}
+use Rattle.mh_grammar.specs.declared.types.Grammar.{Grammar}
+use Rattle.mh_opts.specs.declared.order.Job.{Job}
+use Rattle.mh_opts.specs.declared.order.Job.TheVariants.{Interpret, ShowAutomaton}
+use Rattle.mh_outside.specs.Shelf.{Files}
+use Rattle.mh_report.proofs.OneText.{text_once}
+use Rattle.mh_tables.specs.Table.{TableData}
+use Rattle.mh_top.specs.Text.{Text}
+use Rattle.mh_top.specs.TableStage.{mode_of, source_of}
+use Rattle.mh_top.specs.Verdicts.{Answering}
+use Rattle.mh_top.specs.Plan.{Ending, Plan, Ends, AtEnd, Judges, Answers, EndsByJob, EndsWith, IsPlanOfJob}
+use Rattle.mh_top.specs.Shapes.{Prepared}
+use Rattle.mh_top.specs.declared.stop.Cause.{Cause}
+use Rattle.mh_top.specs.declared.stop.Cause.TheVariants.{Refused}
+use Rattle.mh_top.proofs.Answering.{one_once}
+use Rattle.mh_top.proofs.Binding.{IsOne}
+
+-- ---- a job has a plan, and one alone over given files
+
+pub some_plan : (job : Job) (files : Option Files) (p : Prepared) → (plan : Plan) × IsPlanOfJob job files p plan
+some_plan Interpret files p = (_, refl)
+some_plan ShowAutomaton files p = (_, refl)
+
+pub job_once : (job : Job) (files : Files) (p : Prepared) → IsOne (IsPlanOfJob job (Some files) p)
+job_once Interpret files p x y is so = is ∙ sym so
+job_once ShowAutomaton files p x y is so = is ∙ sym so
+
+module _ (Has : Grammar → TableData → Type 0) where
+  judged : (x by : Answering) → Judges by ≡ Judges x → Has x.grammar x.table → Has by.grammar by.table
+  judged x by e has = let same : x ≡ by = cc in subst (λ (y : Answering). Has y.grammar y.table) same has
+
+  -- what judges, judges by the table
+  pub job_judges : (job : Job) (files : Option Files) (p : Prepared) (by : Answering) → Has p.grammar p.tabled.halting → IsPlanOfJob job files p (Judges by) → Has by.grammar by.table
+  job_judges Interpret files p by has is = judged (record { trees = p.order.show_cst; grammar = p.grammar; table = p.tabled.halting }) by is has
+  job_judges ShowAutomaton files p by has is = absurd (cc)
+
+-- ---- a line has one answer, and a mode one end
+
+module _ (line : Text) where
+  pub answer_once : (plan : Plan) (a c : Text) (x y : Plan) → Answers plan line a x → Answers plan line c y → (a ≡ c) × (x ≡ y)
+  answer_once (Ends e) a c x y p q = (p.0 ∙ sym q.0, p.1 ∙ sym q.1)
+  answer_once (AtEnd e) a c x y p q = (p.0 ∙ sym q.0, p.1 ∙ sym q.1)
+  answer_once (Judges by) a c x y p q = (one_once by line a c p.0 q.0, p.1 ∙ sym q.1)
+
+job_ends_once : (job : Job) (p : Prepared) → IsOne (EndsByJob job p)
+job_ends_once Interpret p x y is so = is ∙ sym so
+job_ends_once ShowAutomaton p x y is so =
+    let cause : x.cause ≡ y.cause = is.0 ∙ sym so.0 in
+    let out : x.out ≡ y.out = text_once p.grammar p.tabled.automaton (mode_of (source_of p.order)) p.tabled.halting x.out y.out is.1 so.1 in
+    λ i. record { cause = cause i; out = out i }
+
+pub ends_once : (plan : Plan) → IsOne (EndsWith plan)
+ends_once (Ends e) x y is so = is ∙ sym so
+ends_once (AtEnd p) x y is so = job_ends_once p.order.job p x y is so
+ends_once (Judges by) x y is so = is ∙ sym so
+
+-- ---- a mode ends for no other cause than it may
+
+module _ (Right : Cause → Type 0) where
+  abbrev pub IsRight : Option Cause → Type 0
+  IsRight None = ⊤
+  IsRight (Some cause) = Right cause
+
+  -- so it ends, as it stands
+  abbrev pub EndsRight : Plan → Type 0
+  EndsRight (Ends e) = IsRight e.cause
+  EndsRight (AtEnd p) = ⊤
+  EndsRight (Judges by) = ⊤
+
+  pub job_right : (job : Job) (files : Option Files) (p : Prepared) (plan : Plan) → IsPlanOfJob job files p plan → EndsRight plan
+  job_right Interpret files p plan is = subst EndsRight (sym is) tt
+  job_right ShowAutomaton files p plan is = subst EndsRight (sym is) tt
+
+  pub answer_right : (plan : Plan) (line text : Text) (next : Plan) → Answers plan line text next → EndsRight plan → EndsRight next
+  answer_right (Ends e) line text next is right = subst EndsRight (sym is.1) right
+  answer_right (AtEnd p) line text next is right = subst EndsRight (sym is.1) tt
+  answer_right (Judges by) line text next is right = subst EndsRight (sym is.1) tt
+
+  -- any mode may refuse
+  module _ (may_refuse : (line : Text) → Right (Refused line)) where
+    job_ends_right : (job : Job) (p : Prepared) (e : Ending) → EndsByJob job p e → IsRight e.cause
+    job_ends_right Interpret p e is = subst IsRight (sym (ap (λ (x : Ending). x.cause) is)) tt
+    job_ends_right ShowAutomaton p e is = subst IsRight (sym is.0) tt
+
+    pub ends_right : (plan : Plan) (e : Ending) → EndsRight plan → EndsWith plan e → IsRight e.cause
+    ends_right (Ends end) e right is = subst IsRight (sym (ap (λ (x : Ending). x.cause) is)) right
+    ends_right (AtEnd p) e right is = job_ends_right p.order.job p e is
+    ends_right (Judges by) e right is = subst IsRight (sym (ap (λ (x : Ending). x.cause) is)) tt

@@ -1,0 +1,70 @@
+-- Modes: what each asks for, how it answers lines, and what it writes at its end. A mode is plain data.
+use Rattle.std.specs.Prelude.{◌≡◌, List, [], ◌∷◌, ◌++◌, Option, None, Some}
+use Rattle.mh_opts.specs.declared.order.Job.{Job}
+use Rattle.mh_opts.specs.declared.order.Job.TheVariants.{Interpret, ShowAutomaton}
+use Rattle.mh_outside.specs.Shelf.{Files}
+use Rattle.mh_report.specs.Automata.{IsAutomatonText}
+use Rattle.mh_top.specs.Text.{Text}
+use Rattle.mh_top.specs.TableStage.{mode_of, source_of}
+use Rattle.mh_top.specs.Verdicts.{Answering, AnswersOne}
+use Rattle.mh_top.specs.declared.drive.Asks.{Asks}
+use Rattle.mh_top.specs.declared.drive.Asks.TheVariants.{NoLine, EachLine}
+use Rattle.mh_top.specs.Shapes.{Prepared}
+use Rattle.mh_top.specs.declared.stop.Cause.{Cause}
+
+-- the cause, where the work is refused, and the text on out
+pub record Ending : Type 0 where
+  pub cause : Option Cause
+  pub out : Text
+
+-- a mode as it stands, between lines
+pub data Plan : Type 0 where
+  -- it ends so
+  Ends : Ending → Plan
+  -- it writes only at its end, by its job
+  AtEnd : Prepared → Plan
+  -- it answers each line with its verdict
+  Judges : Answering → Plan
+
+-- which lines it asks for
+abbrev pub asks_of : Plan → Asks
+asks_of (Ends e) = NoLine
+asks_of (AtEnd p) = NoLine
+asks_of (Judges by) = EachLine
+
+-- the text that answers a line, and how the mode stands then; one that asks for none has nothing to say
+abbrev pub Answers : Plan → Text → Text → Plan → Type 0
+Answers (Ends e) line text next = (text ≡ []) × (next ≡ Ends e)
+Answers (AtEnd p) line text next = (text ≡ []) × (next ≡ AtEnd p)
+Answers (Judges by) line text next = AnswersOne by line text × (next ≡ Judges by)
+
+-- how it ends where it writes only at its end
+abbrev pub EndsByJob : Job → Prepared → Ending → Type 0
+EndsByJob Interpret p e = e ≡ record { cause = None; out = [] }
+EndsByJob ShowAutomaton p e = (e.cause ≡ None) × IsAutomatonText p.grammar p.tabled.automaton (mode_of (source_of p.order)) p.tabled.halting e.out
+
+-- how it ends
+abbrev pub EndsWith : Plan → Ending → Type 0
+EndsWith (Ends end) e = e ≡ end
+EndsWith (AtEnd p) e = EndsByJob p.order.job p e
+EndsWith (Judges by) e = e ≡ record { cause = None; out = [] }
+
+-- these lines are answered one after the other by this text
+abbrev pub AnswersAll : Plan → List Text → Text → Plan → Type 0
+AnswersAll plan [] text next = (text ≡ []) × (next ≡ plan)
+AnswersAll plan (line ∷ lines) text next = (first rest : Text) × (mid : Plan) × Answers plan line first mid × AnswersAll mid lines rest next × (text ≡ first ++ rest)
+
+-- ---- from the words to a mode
+
+abbrev pub halts : Cause → Plan
+halts cause = Ends (record { cause = Some cause; out = [] })
+
+-- the mode of a job; from here on a mode may read files of its own
+abbrev pub IsPlanOfJob : Job → Option Files → Prepared → Plan → Type 0
+IsPlanOfJob Interpret files p plan = plan ≡ Judges (record { trees = p.order.show_cst; grammar = p.grammar; table = p.tabled.halting })
+IsPlanOfJob ShowAutomaton files p plan = plan ≡ AtEnd p
+
+-- the turn of a file comes that the mode of a job reads behind the warnings; these read none
+abbrev pub IsTurnOfJob : Job → Option Files → Prepared → Text → Type 0
+IsTurnOfJob Interpret files p name = ⊥
+IsTurnOfJob ShowAutomaton files p name = ⊥

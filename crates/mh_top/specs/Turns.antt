@@ -1,0 +1,28 @@
+-- Which files are asked for, and when the turn of one comes.
+use Rattle.std.specs.Prelude.{◌≡◌, ◌++◌, ◌∷◌, List, Option}
+use Rattle.std.specs.List.{All}
+use Rattle.mh_outside.specs.Shelf.{Files}
+use Rattle.mh_top.specs.Text.{Text}
+use Rattle.mh_top.specs.Causes.{Staged, Go}
+use Rattle.mh_top.specs.FileStage.{IsFile}
+use Rattle.mh_opts.specs.declared.order.Order.{Order}
+use Rattle.mh_top.specs.Order.{order_of}
+
+-- the files that an order asks for
+abbrev pub files_of : Order → List Text
+files_of order = order.grammars
+
+-- the name is one of a file that the words ask for
+abbrev pub AsksFor : List Text → (Text → Type 0) → Type 0
+AsksFor given May = (order : Order) → order_of given ≡ Go order → All May (files_of order)
+
+-- the file spells something
+abbrev pub IsSpelled : {A : Type 0} → Option Files → (Text → Text → Staged A → Type 0) → Text → Type 0
+IsSpelled {A = A} files Spelled name = (x : A) × IsFile files Spelled name (Go x)
+
+-- the turn of a file comes where each before it was read and spells something
+pub record IsTurn {A : Type 0} (files : Option Files) (Spelled : Text → Text → Staged A → Type 0) (names : List Text) (name : Text) : Type 0 where
+  pub before : List Text
+  pub after : List Text
+  pub names_are : names ≡ before ++ name ∷ after
+  pub spelled : All (IsSpelled files Spelled) before
