@@ -1,31 +1,36 @@
--- The command whose words are read, as clap sees it: options without a value, and the grammar files. Source: clap's
+-- The command whose words are read, as clap sees it: the options of the code's rows, and the grammar files. Source: clap's
 -- documentation of its arguments; this project's profile.
-use Rattle.std.specs.Prelude.{Some, codes, true}
+use Rattle.std.specs.Prelude.{Some, List, [], ◌∷◌, codes, map, true}
 use Rattle.clap.specs.Words.{App, Rule, Text, new_app, new_rule, with_rule}
 use Rattle.clap.specs.Simple.{on_top}
-use Rattle.clap.specs.declared.builder.action.ArgAction.TheVariants.{Append, SetTrue}
+use Rattle.clap.specs.declared.builder.action.ArgAction.TheVariants.{Append}
+use Rattle.mh_opts.specs.declared.options.Opt.{Opt}
+use Rattle.mh_opts.specs.declared.options.TheConstants.{GRAMMARS, OPTIONS}
 
--- an option without a value
-abbrev pub flag_rule : Text → Rule
-flag_rule name = record (new_rule name) { long = Some name; action = Some SetTrue }
+-- a row with its name as text
+abbrev pub plain : {N : Type 0} → Opt N → (N → Text) → Opt Text
+plain option text = record { name = text option.name; action = option.action; mode = option.mode }
+
+abbrev pub plain_rows : {N : Type 0} → List (Opt N) → (N → Text) → List (Opt Text)
+plain_rows rows text = map (λ option. plain option text) rows
+
+unfoldable pub options : List (Opt Text)
+options = plain_rows OPTIONS (λ name. name.now)
+
+abbrev pub option_rule : Opt Text → Rule
+option_rule option = record (new_rule option.name) { long = Some option.name; action = Some option.action }
 
 -- the words that are no options
 abbrev pub grammars_rule : Rule
-grammars_rule = record (new_rule (codes "grammars")) { action = Some Append }
+grammars_rule = record (new_rule GRAMMARS.now) { action = Some Append }
 
 -- the program's name is no word
 abbrev pub bare_app : App
 bare_app = on_top (λ s. record s { no_binary_name = true }) (new_app (codes "menhir"))
 
-abbrev pub with_flag : Text → App → App
-with_flag name app = with_rule app (flag_rule name)
+abbrev pub with_options : List (Opt Text) → App → App
+with_options [] app = app
+with_options (option ∷ more) app = with_options more (with_rule app (option_rule option))
 
--- a row for each option, the first one last
 abbrev pub menhir_app : App
-menhir_app =
-    with_flag (codes "no-stdlib")
-    (with_flag (codes "strict")
-    (with_flag (codes "interpret-show-cst")
-    (with_flag (codes "show-automaton")
-    (with_flag (codes "interpret")
-    (with_rule bare_app grammars_rule)))))
+menhir_app = with_options options (with_rule bare_app grammars_rule)

@@ -1,72 +1,93 @@
--- What the words of the command line ask for. Source: this project's profile; which words a command takes, and what they
--- match, is clap's own definition.
-use Rattle.std.specs.Prelude.{◌≡◌, Bool, true, false, not, ◌&&◌, List, [], ◌∷◌, Option, Some, None, Result, Ok, Err, codes, unwrap_or, if◌then◌else◌}
-use Rattle.std.specs.Str.{bytes_eq}
-use Rattle.std.specs.Option.{option_map_or}
-use Rattle.clap.specs.Words.{Row, Text, all_of, first_of, fault_of, matches_of}
+-- What the words of the command line ask for, by the code's rows of options. Source: this project's profile; which words a
+-- command takes, and what they match, is clap's own definition.
+use Rattle.std.specs.Prelude.{◌≡◌, ◌++◌, Bool, not, ◌&&◌, List, [], ◌∷◌, Option, Some, None, Result, Ok, Err, codes, map, unwrap_or, if◌then◌else◌}
+use Rattle.clap.specs.Words.{Row, Text, all_of, fault_of, matches_of}
 use Rattle.clap.specs.Walk.{is_empty}
+use Rattle.clap.specs.Takes.{is_given}
+use Rattle.mh_opts.specs.declared.options.Mode.{Mode}
+use Rattle.mh_opts.specs.declared.options.Mode.TheVariants as mode
+use Rattle.mh_opts.specs.declared.options.Need.{Need}
+use Rattle.mh_opts.specs.declared.options.Opt.{Opt}
+use Rattle.mh_opts.specs.declared.options.TheConstants.{GRAMMARS, INTERPRET_SHOW_CST, NEEDS, NO_STDLIB, STRICT}
 use Rattle.mh_opts.specs.declared.order.Job.{Job}
-use Rattle.mh_opts.specs.declared.order.Job.TheVariants.{Interpret, ShowAutomaton}
+use Rattle.mh_opts.specs.declared.order.Job.TheVariants as job
 use Rattle.mh_opts.specs.declared.order.Order.{Order}
 use Rattle.mh_opts.specs.declared.order.UsageFault.{UsageFault}
 use Rattle.mh_opts.specs.declared.order.UsageFault.TheVariants.{Parse, NoMode, TwoModes, Misplaced, NoGrammar, Memory}
-use Rattle.mh_opts.specs.App.{menhir_app}
+use Rattle.mh_opts.specs.App.{menhir_app, options}
 
--- the option stands among the words
-abbrev pub has_flag : List Row → Text → Bool
-has_flag rows name = option_map_or (λ value. bytes_eq value (codes "true")) (first_of name rows) false
+-- the mode of an option that stands among the words
+abbrev pub mode_at : List Row → Opt Text → Option Mode
+mode_at rows option = if is_given option.name rows then option.mode else None
+
+-- the things that are there
+abbrev pub given : {X : Type 0} → List (Option X) → List X
+given [] = []
+given (None ∷ xs) = given xs
+given (Some x ∷ xs) = x ∷ given xs
+
+-- there has to be one mode
+abbrev pub only : List Mode → Result Mode UsageFault
+only [] = Err NoMode
+only (mode ∷ []) = Ok mode
+only (mode ∷ other ∷ modes) = Err TwoModes
+
+-- the one mode of these options that stands among the words
+abbrev pub mode_in : List Row → List (Opt Text) → Result Mode UsageFault
+mode_in rows options = only (given (map (mode_at rows) options))
+
+-- a row for each mode: the job that it asks for
+abbrev pub job_for : Mode → Job
+job_for mode.Interpret = job.Interpret
+job_for mode.ShowAutomaton = job.ShowAutomaton
+
+-- an option as it is written
+abbrev pub written : Text → Text
+written option = codes "--" ++ option
+
+-- a need with its names as texts
+abbrev pub plain_need : {N : Type 0} → Need N → (N → Text) → Need Text
+plain_need need text = record { option = text need.option; needs = text need.needs }
+
+abbrev pub plain_needs : {N : Type 0} → List (Need N) → (N → Text) → List (Need Text)
+plain_needs rows text = map (λ need. plain_need need text) rows
+
+unfoldable pub needs : List (Need Text)
+needs = plain_needs NEEDS (λ name. name.now)
+
+-- an option stands without the one that it needs
+abbrev pub lacks : List Row → Need Text → Bool
+lacks rows need = is_given need.option rows && not (is_given need.needs rows)
+
+-- the first option that stands without the one that it needs
+abbrev pub misplaced_in : List Row → List (Need Text) → Option Text
+misplaced_in rows [] = None
+misplaced_in rows (need ∷ more) = if lacks rows need then Some need.option else misplaced_in rows more
 
 -- the words that are grammar files, in order
 abbrev pub grammars_of : List Row → List Text
-grammars_of rows = unwrap_or (all_of (codes "grammars") rows) []
+grammars_of rows = unwrap_or (all_of GRAMMARS.now rows) []
 
-abbrev pub if_flag : List Row → Text → Job → Option Job
-if_flag rows name job = if has_flag rows name then Some job else None
+abbrev pub order_for : List Row → Mode → Order
+order_for rows mode = record {
+  job = job_for mode;
+  grammars = grammars_of rows;
+  strict = is_given STRICT.now rows;
+  stdlib = not (is_given NO_STDLIB.now rows);
+  show_cst = is_given INTERPRET_SHOW_CST.now rows;
+}
 
--- a row for each mode, in the order of the list of options
-abbrev pub modes_of : List Row → List (Option Job)
-modes_of rows = if_flag rows (codes "interpret") Interpret ∷ if_flag rows (codes "show-automaton") ShowAutomaton ∷ []
+abbrev pub order_with : List Row → Mode → Option Text → Result Order UsageFault
+order_with rows mode (Some option) = Err (Misplaced (written option))
+order_with rows mode None = if is_empty (grammars_of rows) then Err NoGrammar else Ok (order_for rows mode)
 
--- the jobs of the modes that are there
-abbrev pub given : List (Option Job) → List Job
-given [] = []
-given (None ∷ ms) = given ms
-given (Some job ∷ ms) = job ∷ given ms
-
--- there has to be one mode
-abbrev pub job_of : List Job → Result Job UsageFault
-job_of [] = Err NoMode
-job_of (job ∷ []) = Ok job
-job_of (job ∷ other ∷ jobs) = Err TwoModes
-
-abbrev pub is_interpret : Job → Bool
-is_interpret Interpret = true
-is_interpret ShowAutomaton = false
-
--- an option that stands where it has no meaning
-abbrev pub misplaced_at : List Row → Job → Option Text
-misplaced_at rows job =
-    if has_flag rows (codes "interpret-show-cst") && not (is_interpret job) then Some (codes "--interpret-show-cst") else None
-
-abbrev pub order_with : List Row → Job → Option Text → Result Order UsageFault
-order_with rows job (Some option) = Err (Misplaced option)
-order_with rows job None =
-    if is_empty (grammars_of rows) then Err NoGrammar
-    else Ok (record {
-      job = job;
-      grammars = grammars_of rows;
-      strict = has_flag rows (codes "strict");
-      stdlib = not (has_flag rows (codes "no-stdlib"));
-      show_cst = has_flag rows (codes "interpret-show-cst");
-    })
-
-abbrev pub order_for : List Row → Result Job UsageFault → Result Order UsageFault
-order_for rows (Err fault) = Err fault
-order_for rows (Ok job) = order_with rows job (misplaced_at rows job)
+abbrev pub order_by : List Row → Result Mode UsageFault → Result Order UsageFault
+order_by rows (Err fault) = Err fault
+order_by rows (Ok mode) = order_with rows mode (misplaced_in rows needs)
 
 -- what the matches ask for, or the first fault: no mode, two modes, a misplaced option, no grammar
 abbrev pub order_in : List Row → Result Order UsageFault
-order_in rows = order_for rows (job_of (given (modes_of rows)))
+order_in rows = order_by rows (mode_in rows options)
 
 -- the order that the words spell, or the first usage fault; words that the command does not take are Parse
 abbrev pub order_of : List Text → Result Order UsageFault

@@ -1,52 +1,51 @@
-//! The command whose words are read.
+//! The command whose words are read, as clap sees it.
 ghost use Rattle.std.specs.Prelude.{◌≡◌, IfOk};
-ghost use Rattle.clap.specs.Words.{app_of, rule_of, with_rule};
-ghost use Rattle.mh_opts.specs.App.{menhir_app, flag_rule, with_flag};
+ghost use Rattle.clap.specs.Words.{app_of, with_rule};
+ghost use Rattle.mh_opts.specs.App.{bare_app, grammars_rule, menhir_app, option_rule, plain, plain_rows, with_options};
 
+use crate::options::{GRAMMARS, Opt, options};
 use clap::{Arg, ArgAction, Command};
 use std::alloc::{AllocError, Global};
 
-/// The words that are no options.
-pub(crate) const GRAMMARS: &str = "grammars";
-
-/// The options, by their names behind the two hyphens.
-pub(crate) const INTERPRET: &str = "interpret";
-
-pub(crate) const SHOW_AUTOMATON: &str = "show-automaton";
-
-pub(crate) const INTERPRET_SHOW_CST: &str = "interpret-show-cst";
-
-pub(crate) const STRICT: &str = "strict";
-
-pub(crate) const NO_STDLIB: &str = "no-stdlib";
-
-/// The option as it is written, for telling that it is misplaced.
-pub(crate) const WRITTEN_SHOW_CST: &str = "--interpret-show-cst";
-
-/// An option without a value, by the name behind its two hyphens.
+/// The command with an option more.
 fn with_option<'a>(
     alloc: Global,
     command: Command<'a>,
-    name: &'a str,
+    option: &Opt<&'a str>,
 ) -> Result<Command<'a>, AllocError>
-    ensures { IfOk result (λ c. app_of c ≡ with_flag name.entry.now (app_of command.entry)) }
+    ensures { IfOk result (λ c. app_of c ≡ with_rule (app_of command.entry) (option_rule (plain option.now (λ name. name.now)))) }
 {
-    let option = Arg::new(alloc, name).long(name).action(ArgAction::SetTrue);
-    command.arg(option)
+    let name = option.name;
+    command.arg(Arg::new(alloc, name).long(name).action(option.action))
 }
 
-/// The command, with a row for each option.
+/// The command with these options more.
+fn with_all<'a>(
+    alloc: Global,
+    command: Command<'a>,
+    options: &[Opt<&'a str>],
+) -> Result<Command<'a>, AllocError>
+    ensures { IfOk result (λ c. app_of c ≡ with_options (plain_rows options.now (λ name. name.now)) (app_of command.entry)) }
+{
+    let mut command = command;
+    for option in options {
+        command = with_option(alloc, command, option)?;
+    }
+    Ok(command)
+}
+
+/// The command without options.
+fn bare_command<'a>(alloc: Global) -> Result<Command<'a>, AllocError>
+    ensures { IfOk result (λ c. app_of c ≡ with_rule bare_app grammars_rule) }
+{
+    Command::new(alloc, "menhir")
+        .no_binary_name(true)
+        .arg(Arg::new(alloc, GRAMMARS).action(ArgAction::Append))
+}
+
+/// The command.
 pub fn menhir_command<'a>(alloc: Global) -> Result<Command<'a>, AllocError>
     ensures { IfOk result (λ c. app_of c ≡ menhir_app) }
 {
-    let grammars = Arg::new(alloc, GRAMMARS).action(ArgAction::Append);
-    let command = Command::new(alloc, "menhir")
-        .no_binary_name(true)
-        .arg(grammars)?;
-    let command = with_option(alloc, command, INTERPRET)?;
-    let command = with_option(alloc, command, SHOW_AUTOMATON)?;
-    let command = with_option(alloc, command, INTERPRET_SHOW_CST)?;
-    let command = with_option(alloc, command, STRICT)?;
-    let command = with_option(alloc, command, NO_STDLIB)?;
-    Ok(command)
+    with_all(alloc, bare_command(alloc)?, options())
 }

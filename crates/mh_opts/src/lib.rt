@@ -2,6 +2,7 @@
 #![tactic(auto)]
 
 mod command;
+mod options;
 mod order;
 mod words;
 

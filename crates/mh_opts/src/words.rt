@@ -1,64 +1,90 @@
 //! The order that words spell.
-ghost use Rattle.std.specs.Prelude.{◌≡◌, IfOk, Option, option_map, Err, map, string_bytes, not};
+ghost use Rattle.std.specs.Prelude.{◌≡◌, IfOk, not, option_map, map, string_bytes};
+ghost use Rattle.clap.specs.Takes as clap;
+ghost use Rattle.clap.specs.Walk.{is_empty};
 ghost use Rattle.clap.specs.Words.{found_of, rows_of};
 ghost use Rattle.mh_opts.specs.Orders as orders;
-ghost use Rattle.mh_opts.specs.Orders.{Answers, given, grammars_of, job_of, modes_of, order_in, order_of, order_for, misplaced_at};
+ghost use Rattle.mh_opts.specs.Orders.{Answers, grammars_of, job_for, lacks, misplaced_in, mode_at, mode_in, needs, order_in, order_of, plain_need, written};
+ghost use Rattle.mh_opts.specs.App.{options, plain};
 
-use crate::command::{
-    GRAMMARS, INTERPRET, INTERPRET_SHOW_CST, NO_STDLIB, SHOW_AUTOMATON, STRICT, WRITTEN_SHOW_CST,
-    menhir_command,
+use crate::command::menhir_command;
+use crate::options::{
+    GRAMMARS, INTERPRET_SHOW_CST, Mode, NO_STDLIB, Need, Opt, STRICT, needs, options,
 };
 use crate::order::{Job, Order, UsageFault};
 use clap::ArgMatches;
 use clap::error::ErrorKind;
+use clap::parser::ValueSource;
 use mh_grammar::{Memory, Name, Sequence, from_bytes};
 use std::alloc::Global;
 
-/// Whether an option stands among the words. Compares the text of its value: clap says what `get_flag` answers only where
-/// that text is `true` or `false`, which nothing here has to know.
-fn has_flag(matches: &ArgMatches<'_>, name: &str) -> bool
-    ensures { result ≡ orders.has_flag (rows_of (found_of matches.now)) name.now }
+/// Whether the words hold an option, or a grammar file. The value that clap gives a flag by default is not of the words.
+fn is_given(matches: &ArgMatches<'_>, name: &str) -> bool
+    ensures { result ≡ clap.is_given name.now (rows_of (found_of matches.now)) }
 {
-    match matches.get_str(name) {
-        Some(value) => value == "true",
-        None => false,
+    match matches.value_source(name) {
+        Some(ValueSource::CommandLine) => true,
+        Some(ValueSource::DefaultValue) => false,
+        None => matches.contains_id(name),
     }
 }
 
-fn if_flag(matches: &ArgMatches<'_>, name: &str, job: Job) -> Option<Job>
-    ensures { result ≡ orders.if_flag (rows_of (found_of matches.now)) name.now job }
+/// The mode of an option, where the words hold it.
+fn mode_of(matches: &ArgMatches<'_>, option: &Opt<&str>) -> Option<Mode>
+    ensures { result ≡ mode_at (rows_of (found_of matches.now)) (plain option.now (λ name. name.now)) }
 {
-    if has_flag(matches, name) {
-        Some(job)
+    if is_given(matches, option.name) {
+        option.mode
     } else {
         None
     }
 }
 
-/// The modes, with a row for each.
-fn modes(matches: &ArgMatches<'_>) -> [Option<Job>; 2]
-    ensures { result ≡ modes_of (rows_of (found_of matches.now)) }
+/// The only mode.
+fn only_mode(matches: &ArgMatches<'_>) -> Result<Mode, UsageFault>
+    ensures { Answers (mode_in (rows_of (found_of matches.now)) options) result }
 {
-    [
-        if_flag(matches, INTERPRET, Job::Interpret),
-        if_flag(matches, SHOW_AUTOMATON, Job::ShowAutomaton),
-    ]
-}
-
-/// The job, where there is one mode.
-fn only(modes: &[Option<Job>]) -> Result<Job, UsageFault>
-    ensures { Answers (job_of (given modes.now)) result }
-{
+    let options = options();
     let mut found = None;
-    for mode in modes {
-        if let Some(job) = mode {
+    for option in options {
+        if let Some(mode) = mode_of(matches, option) {
             if found.is_some() {
                 return Err(UsageFault::TwoModes);
             }
-            found = Some(*job);
+            found = Some(mode);
         }
     }
     found.ok_or(UsageFault::NoMode)
+}
+
+/// The job of a mode.
+fn job_of(mode: Mode) -> Job
+    ensures { result ≡ job_for mode }
+{
+    match mode {
+        Mode::Interpret => Job::Interpret,
+        Mode::ShowAutomaton => Job::ShowAutomaton,
+    }
+}
+
+/// Whether an option stands without what it needs.
+fn is_lacking(matches: &ArgMatches<'_>, need: &Need<&str>) -> bool
+    ensures { result ≡ lacks (rows_of (found_of matches.now)) (plain_need need.now (λ name. name.now)) }
+{
+    is_given(matches, need.option) && !is_given(matches, need.needs)
+}
+
+/// The first option that stands without what it needs.
+fn misplaced<'a>(matches: &ArgMatches<'_>) -> Option<&'a str>
+    ensures { option_map (λ option. option.now) result ≡ misplaced_in (rows_of (found_of matches.now)) needs }
+{
+    let needs = needs();
+    for need in needs {
+        if is_lacking(matches, need) {
+            return Some(need.option);
+        }
+    }
+    None
 }
 
 fn names_of(alloc: Global, words: &[&str]) -> Result<Sequence<Name>, Memory>
@@ -71,6 +97,16 @@ fn names_of(alloc: Global, words: &[&str]) -> Result<Sequence<Name>, Memory>
     Ok(names)
 }
 
+/// Whether a grammar file is among the words.
+fn has_grammar(matches: &ArgMatches<'_>) -> bool
+    ensures { result ≡ not (is_empty (grammars_of (rows_of (found_of matches.now)))) }
+{
+    match matches.get_strs(GRAMMARS) {
+        Some(words) => !words.is_empty(),
+        None => false,
+    }
+}
+
 /// The grammar files in the order of their words.
 fn grammars(alloc: Global, matches: &ArgMatches<'_>) -> Result<Sequence<Name>, Memory>
     ensures { IfOk result (λ names. names ≡ grammars_of (rows_of (found_of matches.now))) }
@@ -81,45 +117,48 @@ fn grammars(alloc: Global, matches: &ArgMatches<'_>) -> Result<Sequence<Name>, M
     }
 }
 
-/// An option that has no meaning with the job.
-fn misplaced(matches: &ArgMatches<'_>, job: Job) -> Option<&'static str>
-    ensures { option_map (λ option. option.now) result ≡ misplaced_at (rows_of (found_of matches.now)) job }
+/// An option as it is written.
+fn written_name(alloc: Global, option: &str) -> Result<Name, Memory>
+    ensures { IfOk result (λ name. name ≡ written option.now) }
 {
-    if has_flag(matches, INTERPRET_SHOW_CST) && job != Job::Interpret {
-        Some(WRITTEN_SHOW_CST)
-    } else {
-        None
-    }
+    let text = format!(in alloc; "--{option}")?;
+    from_bytes(alloc, text.as_bytes())
 }
 
-/// The order for a job.
-fn order_with(alloc: Global, matches: &ArgMatches<'_>, job: Job) -> Result<Order, UsageFault>
-    ensures { let rows = rows_of (found_of matches.now) in Answers (orders.order_with rows job (misplaced_at rows job)) result }
+/// The order for a mode, with what else the words say.
+fn order_for(alloc: Global, matches: &ArgMatches<'_>, mode: Mode) -> Result<Order, Memory>
+    ensures { IfOk result (λ order. order ≡ orders.order_for (rows_of (found_of matches.now)) mode) }
 {
-    if let Some(option) = misplaced(matches, job) {
+    Ok(Order {
+        job: job_of(mode),
+        grammars: grammars(alloc, matches)?,
+        strict: is_given(matches, STRICT),
+        stdlib: !is_given(matches, NO_STDLIB),
+        show_cst: is_given(matches, INTERPRET_SHOW_CST),
+    })
+}
+
+/// The order for a mode, where each option has a meaning and there is a grammar.
+fn order_with(alloc: Global, matches: &ArgMatches<'_>, mode: Mode) -> Result<Order, UsageFault>
+    ensures { let rows = rows_of (found_of matches.now) in Answers (orders.order_with rows mode (misplaced_in rows needs)) result }
+{
+    if let Some(option) = misplaced(matches) {
         return Err(UsageFault::Misplaced {
-            option: from_bytes(alloc, option.as_bytes())?,
+            option: written_name(alloc, option)?,
         });
     }
-    let grammars = grammars(alloc, matches)?;
-    if grammars.is_empty() {
+    if !has_grammar(matches) {
         return Err(UsageFault::NoGrammar);
     }
-    Ok(Order {
-        job,
-        grammars,
-        strict: has_flag(matches, STRICT),
-        stdlib: !has_flag(matches, NO_STDLIB),
-        show_cst: has_flag(matches, INTERPRET_SHOW_CST),
-    })
+    Ok(order_for(alloc, matches, mode)?)
 }
 
 /// The order that matches ask for.
 fn matched_order(alloc: Global, matches: &ArgMatches<'_>) -> Result<Order, UsageFault>
     ensures { Answers (order_in (rows_of (found_of matches.now))) result }
 {
-    match only(modes(matches).as_slice()) {
-        Ok(job) => order_with(alloc, matches, job),
+    match only_mode(matches) {
+        Ok(mode) => order_with(alloc, matches, mode),
         Err(fault) => Err(fault),
     }
 }

@@ -1,13 +1,12 @@
-use Rattle.std.proofs.Common.{rules, ap, ap₂, codes, true, ◌≡◌, ◌∙◌}
-use Rattle.clap.specs.Words.{app_of, rule_of, with_rule}
-use Rattle.clap.specs.Simple.{on_top, app_of_fields}
-use Rattle.mh_opts.specs.App.{grammars_rule, bare_app, with_flag}
+use Rattle.std.proofs.Common.{◌≡◌, ◌∙◌, ap₂}
+use Rattle.std.proofs.lemmas.Result.{IfOk-weaker}
+use Rattle.clap.specs.Words.{app_of}
+use Rattle.mh_opts.specs.App.{menhir_app, plain_rows, with_options}
 use Rattle.mh_opts.proofs.command.menhir_command.Goals as goal
 
 pub returns : goal.returns
 returns c =
-    let grammars_is : rule_of c.action-grammars.result ≡ grammars_rule = search rules in
-    let bare_is : app_of c.no_binary_name.result ≡ bare_app = ap app_of_fields c.no_binary_name.ensures ∙ ap (on_top (λ s. record s { no_binary_name = true })) c.new-2.ensures.app in
-    let first = c.in_ok-command.ensures.shape (search rules) ∙ ap₂ with_rule bare_is grammars_is in
-    c.in_ok-command-6.ensures ∙ ap (with_flag (codes "no-stdlib")) (c.in_ok-command-5.ensures ∙ ap (with_flag (codes "strict")) (c.in_ok-command-4.ensures ∙
-    ap (with_flag (codes "interpret-show-cst")) (c.in_ok-command-3.ensures ∙ ap (with_flag (codes "show-automaton")) (c.in_ok-command-2.ensures ∙ ap (with_flag (codes "interpret")) first))))
+    let bare = app_of c.in_ok-bare_command.field-0 in
+    let given = plain_rows c.options.result.now (λ name. name.now) in
+    let app : with_options given bare ≡ menhir_app = ap₂ with_options c.options.ensures c.in_ok-bare_command.ensures in
+    IfOk-weaker c.with_all.result (λ made. app_of made ≡ with_options given bare) (λ made. app_of made ≡ menhir_app) (λ _ same. same ∙ app) c.with_all.ensures
