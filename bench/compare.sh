@@ -1,10 +1,12 @@
 #!/usr/bin/env bash
-# Compares the built program with Menhir itself (Debian's package `menhir`): states, verdicts and trees on real grammars,
-# which must be the same, and times, which are printed as ratios. It ends with 1 if anything is not the same.
-# Usage: bench/compare.sh PATH-OF-OUR-PROGRAM   (after a run of the gate: crates/menhir/out/menhir)
+# Compares the built program with Menhir itself (Debian's package `menhir`): states, verdicts, trees and lists of errors on real
+# grammars, which must be the same, and times, which are printed as ratios. It ends with 1 if anything is not the same.
+# Usage: bench/compare.sh PATH-OF-OUR-PROGRAM [FOLDER]   (after a run of the gate: crates/menhir/out/menhir)
+# Of each grammar file in FOLDER the list of errors is compared, too.
 set -eu
 ours=$(readlink -f "${1:?the path of the built program}")
 bench=$(dirname "$(readlink -f "$0")")
+further=${2:+$(readlink -f "$2")}
 folder=$(mktemp -d)
 trap 'rm -rf "$folder"' EXIT
 cd "$folder"
@@ -53,6 +55,27 @@ compare_grammar() {
         same ours.txt theirs.txt || differs "$name, $words"
         echo "    $words: Menhir takes $(ratio "$canonical_time" "$our_time") times as long with its canonical automaton, $(ratio "$their_time" "$our_time") with its merged one"
     done
+    compare_errors "$name" "${files[@]}"
+}
+
+# How many sentences a list of errors has of each length.
+lengths() { sed -n '/^[^#<].*:/s/^[^:]*://p' | awk '{ print NF }' | sort -n | uniq -c; }
+
+# The lists of errors of a grammar. Over one automaton the lengths are the same where states are merged; a canonical state that could
+# reduce by default refuses at once here and not in Menhir, so there the lists differ, and times alone are told.
+compare_errors() { # BASE FILE..
+    local base=$1 built=() our_time their_time mode entries their_entries
+    shift
+    mode=$("$ours" --show-automaton "$@" 2>err.txt | sed -n '1s/:.*//p')
+    [ "$mode" = canonical ] && built=(--canonical)
+    our_time=$(seconds "$ours" --list-errors "$@")
+    lengths <out.txt >ours.txt
+    entries=$(grep -c '^## Ends in an error' out.txt || true)
+    their_time=$(seconds timeout 300 menhir --base "$base" "${built[@]}" --list-errors "$@")
+    lengths <out.txt >theirs.txt
+    their_entries=$(grep -c '^## Ends in an error' out.txt || true)
+    echo "    --list-errors, $mode: $entries entries in $our_time s; Menhir has $their_entries and takes $(ratio "$their_time" "$our_time") times as long"
+    [ "$mode" = canonical ] || cmp -s ours.txt theirs.txt || differs "$base, lengths of sentences"
 }
 
 # Our time for a command, and Menhir's as a ratio.
@@ -70,6 +93,10 @@ compare_time() { # NAME INPUT WORD..
 
 if menhir_there; then
     for name in json c lua sql; do compare_grammar "$name"; done
+    for file in ${further:+"$further"/*.mly}; do
+        echo "$(basename "$file" .mly):"
+        compare_errors "$(basename "$file" .mly)" "$file"
+    done
 else
     echo "Menhir is not here: only our times follow"
 fi

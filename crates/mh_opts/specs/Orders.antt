@@ -40,6 +40,7 @@ mode_in rows options = only (given (map (mode_at rows) options))
 abbrev pub job_for : Mode → Job
 job_for mode.Interpret = job.Interpret
 job_for mode.ShowAutomaton = job.ShowAutomaton
+job_for mode.ListErrors = job.ListErrors
 
 -- an option as it is written
 abbrev pub written : Text → Text

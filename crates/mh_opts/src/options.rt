@@ -23,6 +23,7 @@ pub(crate) const NO_STDLIB: &str = "no-stdlib";
 pub enum Mode {
     Interpret,
     ShowAutomaton,
+    ListErrors,
 }
 
 /// An option. Its name is a `&str`, by a parameter: a constant of other rows is none that a definition can name.
@@ -41,7 +42,7 @@ pub struct Need<T> {
     pub needs: T,
 }
 
-const OPTIONS: [Opt<&str>; 5] = [
+const OPTIONS: [Opt<&str>; 6] = [
     Opt {
         name: INTERPRET,
         action: ArgAction::SetTrue,
@@ -51,6 +52,11 @@ const OPTIONS: [Opt<&str>; 5] = [
         name: "show-automaton",
         action: ArgAction::SetTrue,
         mode: Some(Mode::ShowAutomaton),
+    },
+    Opt {
+        name: "list-errors",
+        action: ArgAction::SetTrue,
+        mode: Some(Mode::ListErrors),
     },
     Opt {
         name: INTERPRET_SHOW_CST,

@@ -13,6 +13,8 @@ pub enum Job {
     Interpret,
     /// `--show-automaton`: the automaton as text.
     ShowAutomaton,
+    /// `--list-errors`: an entry for each state in which some sentence fails.
+    ListErrors,
 }
 
 /// A job, and what else the words say.

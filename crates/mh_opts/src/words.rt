@@ -64,6 +64,7 @@ fn job_of(mode: Mode) -> Job
     match mode {
         Mode::Interpret => Job::Interpret,
         Mode::ShowAutomaton => Job::ShowAutomaton,
+        Mode::ListErrors => Job::ListErrors,
     }
 }
 

@@ -20,8 +20,8 @@ pub fn write_number(alloc: Global, text: &mut Vec<u8>, number: u32) -> Result<()
     Ok(())
 }
 
-// Symbols, each after a space.
-fn write_names(text: &mut Vec<u8>, grammar: &Grammar, symbols: &[Symbol]) -> Result<(), Memory>
+/// Symbols, each after a space. Fails for want of memory alone; then a front of them may be written.
+pub fn write_names(text: &mut Vec<u8>, grammar: &Grammar, symbols: &[Symbol]) -> Result<(), Memory>
     ensures { OnOk result (text.new.items ≡ text.old.items ++ names_after grammar.now symbols.now) }
 {
     for symbol in symbols {
@@ -128,8 +128,8 @@ fn write_looks<const W: usize>(
     Ok(())
 }
 
-/// An item with its looks.
-pub(crate) fn write_item<const W: usize>(
+/// An item with its looks. Fails for want of memory alone; then a front of it may be written.
+pub fn write_item<const W: usize>(
     text: &mut Vec<u8>,
     grammar: &Grammar,
     item: &KernelItem<W>,

@@ -6,5 +6,5 @@ mod items;
 mod warnings;
 
 pub use automata::automaton_text;
-pub use items::{write_number, write_production};
+pub use items::{write_item, write_names, write_number, write_production};
 pub use warnings::warning_text;

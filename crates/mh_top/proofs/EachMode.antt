@@ -3,29 +3,33 @@ use Rattle.std.proofs.Common.{◌≡◌, Option, None, Some, sym, ◌∙◌, ap,
 use Rattle.std.specs.Bool.{⊤}
 use Rattle.mh_grammar.specs.declared.types.Grammar.{Grammar}
 use Rattle.mh_opts.specs.declared.order.Job.{Job}
-use Rattle.mh_opts.specs.declared.order.Job.TheVariants.{Interpret, ShowAutomaton}
+use Rattle.mh_opts.specs.declared.order.Job.TheVariants.{Interpret, ShowAutomaton, ListErrors}
 use Rattle.mh_outside.specs.Shelf.{Files}
 use Rattle.mh_report.proofs.OneText.{text_once}
 use Rattle.mh_tables.specs.Table.{TableData}
-use Rattle.mh_top.specs.Text.{Text}
+use Rattle.mh_top.specs.Text.{Text, too_long}
 use Rattle.mh_top.specs.TableStage.{mode_of, source_of}
 use Rattle.mh_top.specs.Verdicts.{Answering}
-use Rattle.mh_top.specs.Plan.{Ending, Plan, Ends, AtEnd, Judges, Answers, EndsByJob, EndsWith, IsPlanOfJob}
+use Rattle.mh_top.specs.Listing.{Lists, TooLong}
+use Rattle.mh_top.specs.Plan.{Ending, Plan, Ends, AtEnd, Judges, Answers, EndsByJob, EndsWith, IsFixed, IsFixedJob, IsPlanOfJob}
 use Rattle.mh_top.specs.Shapes.{Prepared}
 use Rattle.mh_top.specs.declared.stop.Cause.{Cause}
 use Rattle.mh_top.specs.declared.stop.Cause.TheVariants.{Refused}
 use Rattle.mh_top.proofs.Answering.{one_once}
 use Rattle.mh_top.proofs.Binding.{IsOne}
+use Rattle.mh_top.proofs.Refusals.{list_cause_once}
 
 -- ---- a job has a plan, and one alone over given files
 
 pub some_plan : (job : Job) (files : Option Files) (p : Prepared) → (plan : Plan) × IsPlanOfJob job files p plan
 some_plan Interpret files p = (_, refl)
 some_plan ShowAutomaton files p = (_, refl)
+some_plan ListErrors files p = (_, refl)
 
 pub job_once : (job : Job) (files : Files) (p : Prepared) → IsOne (IsPlanOfJob job (Some files) p)
 job_once Interpret files p x y is so = is ∙ sym so
 job_once ShowAutomaton files p x y is so = is ∙ sym so
+job_once ListErrors files p x y is so = is ∙ sym so
 
 module _ (Has : Grammar → TableData → Type 0) where
   judged : (x by : Answering) → Judges by ≡ Judges x → Has x.grammar x.table → Has by.grammar by.table
@@ -35,8 +39,9 @@ module _ (Has : Grammar → TableData → Type 0) where
   pub job_judges : (job : Job) (files : Option Files) (p : Prepared) (by : Answering) → Has p.grammar p.tabled.halting → IsPlanOfJob job files p (Judges by) → Has by.grammar by.table
   job_judges Interpret files p by has is = judged (record { trees = p.order.show_cst; grammar = p.grammar; table = p.tabled.halting }) by is has
   job_judges ShowAutomaton files p by has is = absurd (cc)
+  job_judges ListErrors files p by has is = absurd (cc)
 
--- ---- a line has one answer, and a mode one end
+-- ---- a line has one answer, and a mode one end, but for the choice of sentences in a list of errors
 
 module _ (line : Text) where
   pub answer_once : (plan : Plan) (a c : Text) (x y : Plan) → Answers plan line a x → Answers plan line c y → (a ≡ c) × (x ≡ y)
@@ -44,17 +49,30 @@ module _ (line : Text) where
   answer_once (AtEnd e) a c x y p q = (p.0 ∙ sym q.0, p.1 ∙ sym q.1)
   answer_once (Judges by) a c x y p q = (one_once by line a c p.0 q.0, p.1 ∙ sym q.1)
 
-job_ends_once : (job : Job) (p : Prepared) → IsOne (EndsByJob job p)
-job_ends_once Interpret p x y is so = is ∙ sym so
-job_ends_once ShowAutomaton p x y is so =
-    let cause : x.cause ≡ y.cause = is.0 ∙ sym so.0 in
-    let out : x.out ≡ y.out = text_once p.grammar p.tabled.automaton (mode_of (source_of p.order)) p.tabled.halting x.out y.out is.1 so.1 in
-    λ i. record { cause = cause i; out = out i }
+  pub answer_fixed : (plan : Plan) (text : Text) (next : Plan) → Answers plan line text next → IsFixed plan → IsFixed next
+  answer_fixed (Ends e) text next is fixed = subst IsFixed (sym is.1) fixed
+  answer_fixed (AtEnd p) text next is fixed = subst IsFixed (sym is.1) fixed
+  answer_fixed (Judges by) text next is fixed = subst IsFixed (sym is.1) fixed
 
-pub ends_once : (plan : Plan) → IsOne (EndsWith plan)
-ends_once (Ends e) x y is so = is ∙ sym so
-ends_once (AtEnd p) x y is so = job_ends_once p.order.job p x y is so
-ends_once (Judges by) x y is so = is ∙ sym so
+job_cause_once : (job : Job) (p : Prepared) (x y : Ending) → EndsByJob job p x → EndsByJob job p y → x.cause ≡ y.cause
+job_cause_once Interpret p x y is so = ap (λ (e : Ending). e.cause) (is ∙ sym so)
+job_cause_once ShowAutomaton p x y is so = is.0 ∙ sym so.0
+job_cause_once ListErrors p x y is so = list_cause_once p.grammar p.tabled.automaton p.tabled.halting x.cause y.cause x.out y.out is so
+
+job_out_once : (job : Job) (p : Prepared) (x y : Ending) → IsFixedJob job → EndsByJob job p x → EndsByJob job p y → x.out ≡ y.out
+job_out_once Interpret p x y fixed is so = ap (λ (e : Ending). e.out) (is ∙ sym so)
+job_out_once ShowAutomaton p x y fixed is so = text_once p.grammar p.tabled.automaton (mode_of (source_of p.order)) p.tabled.halting x.out y.out is.1 so.1
+job_out_once ListErrors p x y fixed is so = absurd fixed
+
+pub cause_once : (plan : Plan) (x y : Ending) → EndsWith plan x → EndsWith plan y → x.cause ≡ y.cause
+cause_once (Ends e) x y is so = ap (λ (end : Ending). end.cause) (is ∙ sym so)
+cause_once (AtEnd p) x y is so = job_cause_once p.order.job p x y is so
+cause_once (Judges by) x y is so = ap (λ (end : Ending). end.cause) (is ∙ sym so)
+
+pub out_once : (plan : Plan) (x y : Ending) → IsFixed plan → EndsWith plan x → EndsWith plan y → x.out ≡ y.out
+out_once (Ends e) x y fixed is so = ap (λ (end : Ending). end.out) (is ∙ sym so)
+out_once (AtEnd p) x y fixed is so = job_out_once p.order.job p x y fixed is so
+out_once (Judges by) x y fixed is so = ap (λ (end : Ending). end.out) (is ∙ sym so)
 
 -- ---- a mode ends for no other cause than it may
 
@@ -72,6 +90,7 @@ module _ (Right : Cause → Type 0) where
   pub job_right : (job : Job) (files : Option Files) (p : Prepared) (plan : Plan) → IsPlanOfJob job files p plan → EndsRight plan
   job_right Interpret files p plan is = subst EndsRight (sym is) tt
   job_right ShowAutomaton files p plan is = subst EndsRight (sym is) tt
+  job_right ListErrors files p plan is = subst EndsRight (sym is) tt
 
   pub answer_right : (plan : Plan) (line text : Text) (next : Plan) → Answers plan line text next → EndsRight plan → EndsRight next
   answer_right (Ends e) line text next is right = subst EndsRight (sym is.1) right
@@ -83,6 +102,8 @@ module _ (Right : Cause → Type 0) where
     job_ends_right : (job : Job) (p : Prepared) (e : Ending) → EndsByJob job p e → IsRight e.cause
     job_ends_right Interpret p e is = subst IsRight (sym (ap (λ (x : Ending). x.cause) is)) tt
     job_ends_right ShowAutomaton p e is = subst IsRight (sym is.0) tt
+    job_ends_right ListErrors p e (Lists none cause list) = subst IsRight (sym cause) tt
+    job_ends_right ListErrors p e (TooLong s long cause out) = subst IsRight (sym cause) (may_refuse (too_long s))
 
     pub ends_right : (plan : Plan) (e : Ending) → EndsRight plan → EndsWith plan e → IsRight e.cause
     ends_right (Ends end) e right is = subst IsRight (sym (ap (λ (x : Ending). x.cause) is)) right

@@ -6,6 +6,7 @@ pub mod SoFar
 pub mod Going
 pub mod Reports
 pub mod Answering
+pub mod Refusals
 pub mod EachMode
 pub mod Once
 pub mod Endings
@@ -15,3 +16,5 @@ pub mod Answered
 pub mod Tabling
 pub mod EachLine
 pub mod Refusing
+pub mod Listed
+pub mod ErrorLists

@@ -20,7 +20,7 @@ use Rattle.mh_top.specs.Order.{IsOrder}
 use Rattle.mh_top.specs.FileStage.{AreFiles, IsFile, IsLoaded, IsModule, loaded}
 use Rattle.mh_top.specs.GrammarStage.{IsGrammarStage, refusal}
 use Rattle.mh_top.specs.TableStage.{AreTabled, IsAutomatonStage, IsResolvedStage, IsTableStage, LoopsFirst, mode_of, source_of}
-use Rattle.mh_top.specs.Plan.{Ending, Plan, AnswersAll, asks_of}
+use Rattle.mh_top.specs.Plan.{Plan, AnswersAll, IsFixed, asks_of}
 use Rattle.mh_top.specs.Work.{Work, AsksFor, EndsBehind, IsFront, IsPlanUnless, IsPrepared, IsTabledFront, IsWork, IsWorkOf, Outcome, Yields, has_warning, left_behind}
 use Rattle.mh_top.specs.declared.drive.Asks.{Asks}
 use Rattle.mh_top.specs.declared.drive.Asks.TheVariants.{NoLine, FirstLine, EachLine}
@@ -31,7 +31,7 @@ use Rattle.mh_top.specs.declared.stop.Cause.TheVariants.{Refused}
 use Rattle.mh_top.specs.declared.tabled.Source.{Source}
 use Rattle.mh_top.specs.declared.tabled.Source.TheVariants.{Canonical}
 use Rattle.mh_top.proofs.Binding.{IsOne, then_once}
-use Rattle.mh_top.proofs.EachMode.{answer_once, ends_once, job_once}
+use Rattle.mh_top.proofs.EachMode.{answer_once, cause_once, out_once, answer_fixed, job_once}
 
 gives_once : {A : Type 0} (x : A) → IsOne (Gives x)
 gives_once x s r p q = p ∙ sym q
@@ -158,13 +158,16 @@ asks_once NoLine input lines lines' whole whole' p q = (p.0 ∙ sym q.0, p.1 ∙
 asks_once FirstLine input lines lines' whole whole' p q = (sym p.0 ∙ q.0, sym p.1 ∙ q.1)
 asks_once EachLine input lines lines' whole whole' p q = (sym p.0 ∙ q.0, sym p.1 ∙ q.1)
 
-behind_once : (whole : Bool) (plan : Plan) (text : Text) (c d : Option Cause) (t u : Text) → EndsBehind whole plan text c t → EndsBehind whole plan text d u → (c ≡ d) × (t ≡ u)
-behind_once true plan text c d t u p q =
-    let same : p.0 ≡ q.0 = ends_once plan p.0 q.0 p.1 q.1 in
-    (p.2 ∙ ap (λ (e : Ending). e.cause) same ∙ sym q.2, p.3 ∙ ap (λ (e : Ending). text ++ e.out) same ∙ sym q.3)
-behind_once false plan text c d t u p q = (p.0 ∙ sym q.0, p.1 ∙ sym q.1)
+answers_fixed : (plan : Plan) (lines : List Text) (text : Text) (next : Plan) → AnswersAll plan lines text next → IsFixed plan → IsFixed next
+answers_fixed plan [] text next all fixed = subst IsFixed (sym all.1) fixed
+answers_fixed plan (line ∷ lines) text next all fixed = answers_fixed all.2 lines all.1 next all.4 (answer_fixed line plan all.0 all.2 all.3 fixed)
 
-pub outcome_once : (plan : Plan) (input : Text) (o r : Outcome) → Yields plan (Some input) o → Yields plan (Some input) r → o ≡ r
+behind_once : (whole : Bool) (plan : Plan) (text : Text) (c d : Option Cause) (t u : Text) → EndsBehind whole plan text c t → EndsBehind whole plan text d u → (c ≡ d) × (IsFixed plan → t ≡ u)
+behind_once true plan text c d t u p q =
+    (p.2 ∙ cause_once plan p.0 q.0 p.1 q.1 ∙ sym q.2, λ fixed. p.3 ∙ ap (λ (out : Text). text ++ out) (out_once plan p.0 q.0 fixed p.1 q.1) ∙ sym q.3)
+behind_once false plan text c d t u p q = (p.0 ∙ sym q.0, λ fixed. p.1 ∙ sym q.1)
+
+pub outcome_once : (plan : Plan) (input : Text) (o r : Outcome) → Yields plan (Some input) o → Yields plan (Some input) r → (o.cause ≡ r.cause) × (o.left ≡ r.left) × (IsFixed plan → o.out ≡ r.out)
 outcome_once plan input o r p q =
     let asks = asks_once (asks_of plan) input q.lines p.lines q.whole p.whole q.asks p.asks in
     let all = answers_once plan p.lines p.text q.text p.last q.last p.answers (subst (λ (l : List Text). AnswersAll plan l q.text q.last) asks.0 q.answers) in
@@ -172,4 +175,4 @@ outcome_once plan input o r p q =
     subst (λ (w : Bool). EndsBehind w p.last p.text r.cause r.out) asks.1 (subst (λ (t : Text). EndsBehind q.whole p.last t r.cause r.out) (sym all.0) (subst (λ (l : Plan). EndsBehind q.whole l q.text r.cause r.out) (sym all.1) q.ends)) in
     let same = behind_once p.whole p.last p.text o.cause r.cause o.out r.out p.ends ends in
     let left : o.left ≡ r.left = p.left_is ∙ ap₂ (λ (w : Bool) (l : List Text). left_behind (Some input) w l) (sym asks.1) (sym asks.0) ∙ sym q.left_is in
-    λ i. record { cause = same.0 i; out = same.1 i; left = left i }
+    (same.0, left, λ fixed. same.1 (answers_fixed plan p.lines p.text p.last p.answers fixed))

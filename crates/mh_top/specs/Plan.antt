@@ -1,11 +1,12 @@
 -- Modes: what each asks for, how it answers lines, and what it writes at its end. A mode is plain data.
-use Rattle.std.specs.Prelude.{◌≡◌, List, [], ◌∷◌, ◌++◌, Option, None, Some}
+use Rattle.std.specs.Prelude.{◌≡◌, List, [], ◌∷◌, ◌++◌, Option, None, Some, ⊤}
 use Rattle.mh_opts.specs.declared.order.Job.{Job}
-use Rattle.mh_opts.specs.declared.order.Job.TheVariants.{Interpret, ShowAutomaton}
+use Rattle.mh_opts.specs.declared.order.Job.TheVariants.{Interpret, ShowAutomaton, ListErrors}
 use Rattle.mh_outside.specs.Shelf.{Files}
 use Rattle.mh_report.specs.Automata.{IsAutomatonText}
 use Rattle.mh_top.specs.Text.{Text}
 use Rattle.mh_top.specs.TableStage.{mode_of, source_of}
+use Rattle.mh_top.specs.Listing.{ListsErrors}
 use Rattle.mh_top.specs.Verdicts.{Answering, AnswersOne}
 use Rattle.mh_top.specs.declared.drive.Asks.{Asks}
 use Rattle.mh_top.specs.declared.drive.Asks.TheVariants.{NoLine, EachLine}
@@ -42,6 +43,7 @@ Answers (Judges by) line text next = AnswersOne by line text × (next ≡ Judges
 abbrev pub EndsByJob : Job → Prepared → Ending → Type 0
 EndsByJob Interpret p e = e ≡ record { cause = None; out = [] }
 EndsByJob ShowAutomaton p e = (e.cause ≡ None) × IsAutomatonText p.grammar p.tabled.automaton (mode_of (source_of p.order)) p.tabled.halting e.out
+EndsByJob ListErrors p e = ListsErrors p.grammar p.tabled.automaton p.tabled.halting e.cause e.out
 
 -- how it ends
 abbrev pub EndsWith : Plan → Ending → Type 0
@@ -63,8 +65,21 @@ halts cause = Ends (record { cause = Some cause; out = [] })
 abbrev pub IsPlanOfJob : Job → Option Files → Prepared → Plan → Type 0
 IsPlanOfJob Interpret files p plan = plan ≡ Judges (record { trees = p.order.show_cst; grammar = p.grammar; table = p.tabled.halting })
 IsPlanOfJob ShowAutomaton files p plan = plan ≡ AtEnd p
+IsPlanOfJob ListErrors files p plan = plan ≡ AtEnd p
 
 -- the turn of a file comes that the mode of a job reads behind the warnings; these read none
 abbrev pub IsTurnOfJob : Job → Option Files → Prepared → Text → Type 0
 IsTurnOfJob Interpret files p name = ⊥
 IsTurnOfJob ShowAutomaton files p name = ⊥
+IsTurnOfJob ListErrors files p name = ⊥
+
+-- Whether what a mode writes is one text: a list of errors leaves the choice among sentences of least cost open.
+abbrev pub IsFixedJob : Job → Type 0
+IsFixedJob Interpret = ⊤
+IsFixedJob ShowAutomaton = ⊤
+IsFixedJob ListErrors = ⊥
+
+abbrev pub IsFixed : Plan → Type 0
+IsFixed (Ends e) = ⊤
+IsFixed (AtEnd p) = IsFixedJob p.order.job
+IsFixed (Judges by) = ⊤

@@ -39,6 +39,10 @@ too_many_states = codes "menhir: too many states\n"
 abbrev pub out_of_memory : Text
 out_of_memory = codes "menhir: out of memory\n"
 
+-- a state in which only sentences that are too dear fail
+abbrev pub too_long : ℕ → Text
+too_long s = codes "menhir: too long: state " ++ (decimal s ++ codes "\n")
+
 -- the line for a usage fault; no words spell want of memory
 abbrev pub usage_line : UsageFault → Text
 usage_line Parse = bad_words

@@ -3,18 +3,20 @@ ghost use Rattle.std.specs.Prelude.{◌≡◌, ◌∷◌, ◌++◌, List, Option
 ghost use Rattle.mh_outside.specs.Shelf.{Files};
 ghost use Rattle.mh_top.specs.AtLine.{IsAnsweredAt, HasVerdictAt};
 ghost use Rattle.mh_top.specs.Causes.{Staged};
-ghost use Rattle.mh_top.specs.Plan.{Plan, AnswersAll, Judges};
+ghost use Rattle.mh_top.specs.Plan.{Plan, AnswersAll, IsFixed, Judges};
 ghost use Rattle.mh_top.specs.Text.{Text};
 ghost use Rattle.mh_top.specs.Verdicts.{Answering};
 ghost use Rattle.mh_top.specs.Work.{Work, IsPrepared, IsWork, Outcome, Yields};
 ghost use Rattle.mh_top.specs.Shapes.{Prepared};
 
-/// Over given files the words ask for one work, and a mode has one outcome on a given input.
+/// Over given files the words ask for one work, and a mode has one outcome on a given input; but in a list of errors sentences of
+/// one cost may stand for each other.
 pub fn work_is_one()
     ensures work { (words : List Text) (files : Files) (v w : Work) →
         IsWork words (Some files) v → IsWork words (Some files) w → v ≡ w }
     ensures outcome { (plan : Plan) (input : Text) (o p : Outcome) →
-        Yields plan (Some input) o → Yields plan (Some input) p → o ≡ p }
+        Yields plan (Some input) o → Yields plan (Some input) p →
+        (o.cause ≡ p.cause) × (o.left ≡ p.left) × (IsFixed plan → o.out ≡ p.out) }
 {}
 
 /// Words ask for some work wherever what comes before the warnings goes on or halts.

@@ -6,6 +6,7 @@ mod files;
 mod grammar;
 mod judging;
 mod laws;
+mod listing;
 mod modes;
 mod order;
 mod prepared;

@@ -10,6 +10,7 @@ ghost use Rattle.mh_top.specs.Work.{IsPlanOf, has_warning as has_warning_in, is_
 
 use crate::drive::{Asks, Mode, drive, write_text};
 use crate::judging::judge_by;
+use crate::listing::list_errors;
 use crate::prepared::{Prepared, source_of as source_in};
 use crate::stop::{Stop, refused};
 use mh_grammar::{Memory, Sequence};
@@ -118,6 +119,7 @@ impl<const W: usize> Mode for AtEnd<W> {
         match self.prepared.order.job {
             Job::Interpret => Ok(()),
             Job::ShowAutomaton => show_automaton(alloc, &self.prepared, out),
+            Job::ListErrors => list_errors(alloc, &self.prepared, out),
         }
     }
 }
@@ -148,5 +150,6 @@ pub(crate) fn follow<F: Shelf, I: Source, O: Sink, const W: usize>(
             Err(stop) => Err(stop),
         },
         Job::ShowAutomaton => drive(alloc, AtEnd { prepared }, input, out),
+        Job::ListErrors => drive(alloc, AtEnd { prepared }, input, out),
     }
 }

@@ -7,6 +7,7 @@ ghost use Rattle.mh_outside.specs.Faults.{Counts};
 ghost use Rattle.mh_outside.specs.Sink.{WritesWhole};
 ghost use Rattle.mh_top.specs.Causes.{Go, code_of, line_of};
 ghost use Rattle.mh_top.specs.Claims.{Keeps};
+ghost use Rattle.mh_top.specs.ErrorLists.{ListsErrorsExactly};
 ghost use Rattle.mh_top.specs.Exact.{AcceptsExactly, RejectsRightly, OvershootsRightly, AcceptsRightly, TooDeepExactly};
 ghost use Rattle.mh_top.specs.Turns.{AsksFor};
 ghost use Rattle.mh_top.specs.Run.{world, Ran};
@@ -211,6 +212,12 @@ pub fn menhir<F: Shelf, I: Source, O: Sink, E: Sink>(
         (world F.files F.faults I.left I.faults O.written O.faults E.written E.faults
         shelf.new input.new out.new err.new) result }
     ensures kept { Keeps (map string_bytes words.now)
+        (world F.files F.faults I.left I.faults O.written O.faults E.written E.faults
+        shelf.old input.old out.old err.old)
+        (world F.files F.faults I.left I.faults O.written O.faults E.written E.faults
+        shelf.new input.new out.new err.new) result }
+    // What a list of errors says of the sentences that are refused.
+    ensures errors { ListsErrorsExactly (map string_bytes words.now)
         (world F.files F.faults I.left I.faults O.written O.faults E.written E.faults
         shelf.old input.old out.old err.old)
         (world F.files F.faults I.left I.faults O.written O.faults E.written E.faults

@@ -6,6 +6,8 @@ mod automata;
 #[cfg(test)]
 mod devices;
 #[cfg(test)]
+mod errors;
+#[cfg(test)]
 mod interpreting;
 #[cfg(test)]
 mod limits;

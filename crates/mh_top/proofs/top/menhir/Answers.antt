@@ -2,6 +2,7 @@ use Rattle.std.proofs.Common.{List, ℕ, map}
 use Rattle.std.specs.String.{string_bytes}
 use Rattle.std.specs.declared.alloc.Global.{Global}
 use Rattle.mh_top.proofs.Claims.{keeps}
+use Rattle.mh_top.proofs.ErrorLists.{lists_exactly}
 use Rattle.mh_top.proofs.Exactly.{accepts_exactly, rejects_rightly, overshoots_rightly, all_rightly, deep_exactly}
 use Rattle.mh_top.proofs.top.menhir.Goals as goal
 
@@ -12,6 +13,7 @@ returns g c =
     record {
       ran = ran;
       kept = keeps words _ _ _ ran;
+      errors = lists_exactly words _ _ _ ran;
       exact = accepts_exactly words _;
       rejects = rejects_rightly words _;
       overshoots = overshoots_rightly words _;

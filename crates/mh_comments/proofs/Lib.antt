@@ -1,0 +1,4 @@
+pub mod Suffix
+pub mod OneText
+pub mod Farthest
+pub mod Writing

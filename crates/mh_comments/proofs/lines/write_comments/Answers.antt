@@ -1,0 +1,10 @@
+use Rattle.mh_comments.proofs.Writing.{pieces}
+use Rattle.mh_comments.proofs.lines.write_comments.Goals as goal
+
+pub returns : goal.returns
+returns g c = (
+  c.farthest-item.result.now,
+  c.farthest-item.ensures,
+  pieces c.args.text.now.items _ _ _ _ c.write_state.new.text.items c.write_kernel_comments.new.text.items c.write_suffix.new.text.items c.write_all_reduced.new.text.items
+      c.in_ok-write_state.ensures c.in_ok-write_kernel_comments.ensures c.in_ok-write_suffix.ensures c.in_ok-write_all_reduced.ensures,
+)

@@ -1,0 +1,8 @@
+//! What is told of a sentence that fails: the comment lines of messages files, and whole entries.
+#![tactic(auto)]
+
+mod laws;
+mod lines;
+
+pub use laws::{entry_is_one, known_suffix_is_one};
+pub use lines::{comment_lines, entry_text};

@@ -1,0 +1,235 @@
+//! Lists of errors. The states are those of canonical automata, and their sentences are of least length.
+use crate::runs::{check_cases, run_on};
+use std::alloc::Global;
+use std::fmt::Write;
+use std::process::Abort;
+use std::test::Fail;
+
+// A list whose sentences have no others of their length beside them; the first entry alone, where the second write fails; nothing
+// but the refusal, and nothing but the warnings.
+const TEXTS: &str = "0 --list-errors g.mly
+~
+g.mly
+%token A EOF
+%start s
+%%
+s: A EOF {}
+~
+A
+~
+s: EOF
+##
+## Ends in an error in state: 0.
+##
+## s' -> . s [ # ]
+##
+## The known suffix of the stack is as follows:
+##
+##
+
+<YOUR SYNTAX ERROR MESSAGE HERE>
+
+s: A A
+##
+## Ends in an error in state: 1.
+##
+## s -> A . EOF [ # ]
+##
+## The known suffix of the stack is as follows:
+## A
+##
+
+<YOUR SYNTAX ERROR MESSAGE HERE>
+
+~
+^
+4 --list-errors g.mly
+out 2
+~
+g.mly
+%token A EOF
+%start s
+%%
+s: A EOF {}
+~
+~
+s: EOF
+##
+## Ends in an error in state: 0.
+##
+## s' -> . s [ # ]
+##
+## The known suffix of the stack is as follows:
+##
+##
+
+<YOUR SYNTAX ERROR MESSAGE HERE>
+
+~
+^
+4 --list-errors g.mly
+out 1
+~
+g.mly
+%token A EOF
+%start s
+%%
+s: A EOF {}
+~
+~
+~
+^
+0 --list-errors g.mly
+~
+g.mly
+%start s
+%%
+s: {}
+~
+~
+~
+^
+1 --list-errors --strict g.mly
+~
+g.mly
+%token IF ELSE X EOF
+%start main
+%%
+main: s EOF {}
+s: IF s {} | IF s ELSE s {} | X {}
+~
+~
+~
+menhir: warning: conflict in state 9 on ELSE
+^
+2 --list-errors --interpret g.mly
+~
+~
+~
+menhir: usage: two modes
+^
+2 --list-errors --interpret-show-cst g.mly
+~
+~
+~
+menhir: usage: misplaced --interpret-show-cst
+^
+2 --list-errors
+~
+~
+~
+menhir: usage: no grammar
+";
+
+// One nonterminal stands for 1,048,576 tokens.
+const LONG: &[u8] =
+    b"%token A B %start main %% main: x20 B {} x20: x19 x19 {} x19: x18 x18 {} x18: x17 x17 {} x17: x16 x16 {} x16: x15 x15 {} x15: x14 x14 {} x14: x13 x13 {} x13: x12 x12 {} x12: x11 x11 {} x11: x10 x10 {} x10: x9 x9 {} x9: x8 x8 {} x8: x7 x7 {} x7: x6 x6 {} x6: x5 x5 {} x5: x4 x4 {} x4: x3 x3 {} x3: x2 x2 {} x2: x1 x1 {} x1: x0 x0 {} x0: A {}";
+
+// Neither EQ may follow the other: where one is refused behind a sum, an INT was reduced before.
+const COMPARISONS: &[u8] =
+    b"%token INT EQ EOF %nonassoc EQ %start main %% main: e EOF {} e: INT {} | e EQ e {}";
+
+const REFUSED_EQ: &str = "main: INT EQ INT EQ
+##
+## Ends in an error in state: 6.
+##
+## e -> e . EQ e [ EQ EOF ]
+## e -> e EQ e . [ EQ EOF ]
+##
+## The known suffix of the stack is as follows:
+## e EQ e
+##
+## Reduced before the error: e -> INT
+
+<YOUR SYNTAX ERROR MESSAGE HERE>
+
+";
+
+// Each grammar, and behind `=` each state that is listed with the length of its sentence.
+const ROWS: &str = "%token A B EOF %start s %% s: A EOF {} = 0 1, 1 2,
+%token A B C D %start p q %% p: x A {} q: x B {} x: C D {} = 0 1, 1 1, 2 2, 5 2, 8 3, 10 3,
+%token A B C D %start p q %% p: x A {} q: B x A {} x: C D {} = 0 1, 1 1, 2 2, 5 2, 7 3,
+%token INT EQ EOF %nonassoc EQ %start main %% main: e EOF {} e: INT {} | e EQ e {} = 0 1, 1 2, 4 3, 6 4,
+%token X SEMI EOF %start main %% main: s EOF {} s: X {} | X SEMI {} = 0 1, 1 2, 4 3,
+%token X SEMI EOF %start main %on_error_reduce s %% main: s EOF {} s: X {} | X SEMI {} = 0 1, 3 2,
+%token INT PLUS TIMES EOF %start main %% main: e EOF {} e: e PLUS t {} | t {} t: t TIMES INT {} | INT {} = 0 1, 1 2, 5 3, 7 3, 9 4,
+%token A %start s %% s: {} =";
+
+/// How many words a text has.
+fn count_words(text: &str) -> usize {
+    let mut count = 0usize;
+    for _word in text.split_ascii_whitespace() {
+        count = count.saturating_add(1);
+    }
+    count
+}
+
+/// The state that a comment line tells.
+fn state_of(line: &str) -> Option<&str> {
+    line.strip_prefix("## Ends in an error in state: ")?
+        .strip_suffix(".")
+}
+
+/// What a list of errors says: each state, with the count of tokens of its sentence.
+fn rows_of(alloc: Global, list: &str) -> Result<String, Fail> {
+    let mut rows = String::new(alloc);
+    let mut tokens = 0usize;
+    for line in list.lines() {
+        match state_of(line) {
+            Some(state) => write!(rows, "{state} {tokens}, ")?,
+            None => {
+                if let Some((_, words)) = line.split_once(':') {
+                    tokens = count_words(words);
+                }
+            }
+        }
+    }
+    Ok(rows)
+}
+
+/// The text that the list of errors of a grammar is.
+fn list_of(rt: &impl Abort, alloc: Global, grammar: &[u8]) -> Result<Vec<u8>, Fail> {
+    let got = run_on(rt, alloc, "--list-errors g.mly", grammar, Vec::new(alloc))?;
+    assert_eq!(rt; got.status, 0);
+    assert_eq!(rt; got.err.as_slice(), b"".as_slice());
+    Ok(got.out)
+}
+
+#[test]
+fn texts(rt: HostRuntime) -> Result<(), Fail> {
+    check_cases(&rt, rt.alloc(), TEXTS)
+}
+
+#[test]
+fn states_and_lengths(rt: HostRuntime) -> Result<(), Fail> {
+    let alloc = rt.alloc();
+    for case in ROWS.lines() {
+        let (grammar, wanted) = case.split_once('=').ok_or("a case without rows")?;
+        let list = list_of(&rt, alloc, grammar.as_bytes())?;
+        let rows = rows_of(alloc, str::from_utf8(&list)?)?;
+        assert_eq!(rt;
+            rows.as_str().trim_ascii(),
+            wanted.trim_ascii(),
+            "{grammar}"
+        );
+    }
+    Ok(())
+}
+
+#[test]
+fn a_sentence_is_too_long(rt: HostRuntime) -> Result<(), Fail> {
+    let alloc = rt.alloc();
+    let got = run_on(&rt, alloc, "--list-errors g.mly", LONG, Vec::new(alloc))?;
+    assert_eq!(rt; got.status, 1);
+    assert_eq!(rt; got.out.as_slice(), b"".as_slice());
+    assert_eq!(rt; str::from_utf8(&got.err)?, "menhir: too long: state 82\n");
+    Ok(())
+}
+
+#[test]
+fn reductions_before_the_error(rt: HostRuntime) -> Result<(), Fail> {
+    let list = list_of(&rt, rt.alloc(), COMPARISONS)?;
+    let list = str::from_utf8(&list)?;
+    assert!(rt; list.contains(REFUSED_EQ), "{list}");
+    Ok(())
+}

@@ -1,0 +1,7 @@
+//! Worked examples of catalogues.
+#![tactic(auto)]
+
+#[cfg(test)]
+mod catalogues;
+#[cfg(test)]
+mod made;
