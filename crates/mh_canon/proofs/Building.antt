@@ -20,7 +20,8 @@ use Rattle.mh_items.specs.Shapes.{KernelItem}
 use Rattle.mh_items.specs.Kernels.{Holds, IsKernel}
 use Rattle.mh_items.specs.Automaton.{start_kernel}
 use Rattle.mh_canon.specs.Canonical.{targets_of}
-use Rattle.mh_canon.specs.Moves.{IsBehindDot, IsState, AreStates, AreStarts, IsSource, AreEdges}
+use Rattle.mh_canon.specs.Moves.{IsState, AreStates, AreStarts, IsSource, AreEdges}
+use Rattle.mh_items.specs.Collection.{IsBehindDot}
 use Rattle.mh_canon.proofs.Edging.{IsRow, IsRow-kept, IsRow-new}
 use Rattle.mh_grammar.proofs.Lists.{contains_here}
 use Rattle.mh_canon.proofs.Sets.{start_holds}

@@ -15,7 +15,8 @@ use Rattle.mh_grammar.proofs.Placing.{AllPlaced-names}
 use Rattle.mh_items.specs.Shapes.{Kernel}
 use Rattle.mh_items.specs.Kernels.{Holds}
 use Rattle.mh_canon.specs.Canonical.{HasItem, targets_of}
-use Rattle.mh_canon.specs.Moves.{IsBehindDot, IsMove, AreEdges}
+use Rattle.mh_canon.specs.Moves.{AreEdges}
+use Rattle.mh_items.specs.Collection.{IsBehindDot, IsMove}
 use Rattle.mh_grammar.proofs.Lists.{contains_cases, contains_none}
 use Rattle.mh_canon.proofs.Sets.{same_trans, same_sym, has_same, moved_same, get_from_drop}
 

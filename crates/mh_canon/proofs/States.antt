@@ -14,7 +14,8 @@ use Rattle.mh_grammar.proofs.Placing.{AllPlaced-push, AllPlaced-each, AllPlaced-
 use Rattle.mh_items.specs.Shapes.{Kernel}
 use Rattle.mh_items.specs.Kernels.{Holds, IsKernel}
 use Rattle.mh_canon.specs.Canonical.{Walk, walk_of, IsWalk, IsOver, targets_of}
-use Rattle.mh_canon.specs.Moves.{IsBehindDot, IsState, AreStates, IsSource, IsMove, AreEdges}
+use Rattle.mh_canon.specs.Moves.{IsState, AreStates, IsSource, AreEdges}
+use Rattle.mh_items.specs.Collection.{IsBehindDot, IsMove}
 use Rattle.mh_items.proofs.OneList.{kernel_same}
 use Rattle.mh_canon.proofs.Sets.{same_sym, same_trans, moved_same, close_same, place_holds, drop_from_get}
 

@@ -3,22 +3,14 @@
 use Rattle.std.specs.Prelude.{◌≡◌, ◌<◌, ℕ, List, Some, length, map, slice_get}
 use Rattle.std.specs.List.{All, concat}
 use Rattle.mh_grammar.specs.declared.types.Symbol.{Symbol}
-use Rattle.mh_grammar.specs.declared.types.Look.{Look}
-use Rattle.mh_grammar.specs.declared.edges.Edge.{Edge}
 use Rattle.mh_grammar.specs.Plain.{PlainGrammar}
 use Rattle.mh_grammar.specs.Edges.{IsRising, IsEdgeBefore}
 use Rattle.mh_grammar.specs.ItemSets.{ItemSet, AreSame, StartItems, Reach}
 use Rattle.mh_grammar.specs.Numbering.{InOrder}
 use Rattle.mh_items.specs.Shapes.{Automaton}
 use Rattle.mh_items.specs.Kernels.{IsKernel}
+pub use Rattle.mh_items.specs.Collection.{HasItem, targets_of}
 use Rattle.mh_items.specs.Automaton.{kernel_at, kernel_of, edges_at, leads_to, move_of, Moves}
-
--- some item is in the set
-pub record HasItem (I : ItemSet) : Type 0 where
-  pub production : ℕ
-  pub dot : ℕ
-  pub look : Look
-  pub holds : I production dot look
 
 -- the symbols of a path lead from a start to this set
 pub record IsReach (g : PlainGrammar) (I : ItemSet) : Type 0 where
@@ -26,9 +18,6 @@ pub record IsReach (g : PlainGrammar) (I : ItemSet) : Type 0 where
   pub path : List Symbol
   pub known : start < length g.starts
   pub same : AreSame I (Reach g start path)
-
-abbrev pub targets_of : List Edge → List ℕ
-targets_of row = map (λ e. e.target) row
 
 -- the targets of all edges, state after state
 abbrev pub all_targets : Automaton → List ℕ

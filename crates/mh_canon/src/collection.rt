@@ -1,18 +1,19 @@
 //! The canonical collection.
-ghost use Rattle.std.specs.Prelude.{◌≡◌, ◌<◌, ◌≤◌, ◌*◌, ℕ, length, Err, IfOk};
-ghost use Rattle.std.specs.List.{All};
+ghost use Rattle.std.specs.Prelude.{◌≡◌, ◌<◌, ◌≤◌, ◌*◌, ℕ, [], length, Err, IfOk, OnOk};
 ghost use Rattle.mh_grammar.specs.Plain.{plain_of, IsInRange};
 ghost use Rattle.mh_grammar.specs.Placed.{Placed};
-ghost use Rattle.mh_grammar.specs.Numbering.{AreDistinct};
-ghost use Rattle.mh_items.specs.Kernels.{IsKernel};
 ghost use Rattle.mh_items.specs.Automaton.{IsAutomaton};
 ghost use Rattle.mh_canon.specs.Canonical.{IsCanonical, IsOver};
-ghost use Rattle.mh_canon.specs.Moves.{IsState, IsSource, AreStarts, AreStates, AreEdges, IsBehindDot};
+ghost use Rattle.mh_items.specs.Shapes.{Kernel as KernelOf};
+ghost use Rattle.mh_items.specs.Collection.{AreStarts};
+ghost use Rattle.mh_moves.specs.Moves.{AreMoves};
+ghost use Rattle.mh_moves.specs.Mover.{IsMover};
+ghost use Rattle.mh_canon.specs.Moves.{IsSource, AreStates, PlacesAll, HasEdges};
 
-use crate::symbols::moving_symbols;
 use indexmap::IndexSet;
-use mh_grammar::{Edge, Grammar, Sequence, Symbol};
-use mh_items::{Automaton, Closer, Kernel, StatesFault, moved, start_kernel};
+use mh_grammar::{Edge, Grammar, Sequence};
+use mh_items::{Automaton, Kernel, StatesFault, start_kernel};
+use mh_moves::{Move, Mover};
 use std::alloc::{AllocError, AllocFailed, Global};
 
 /// The most states that an automaton may have.
@@ -34,22 +35,65 @@ pub fn canonical<const W: usize>(
     ensures over { result ≡ Err StatesFault.TooManyStates → IsOver (plain_of grammar.now) MAX_STATES }
     ensures automaton { IfOk result (IsAutomaton (plain_of grammar.now)) }
 {
-    let mut closer = Closer::new(alloc, grammar)?;
     let mut kernels = start_kernels(alloc, grammar)?;
     let mut edges = Vec::new(alloc);
+    match collect(alloc, grammar, &mut kernels, &mut edges) {
+        Ok(()) => Ok(Automaton {
+            kernels: in_order(alloc, kernels)?,
+            edges: Sequence::from_vec(edges),
+        }),
+        Err(fault) => Err(fault),
+    }
+}
+
+/// Adds the states that are reached, and the edges of each state in turn.
+fn collect<const W: usize>(
+    alloc: Global,
+    grammar: &Grammar,
+    kernels: &mut IndexSet<Kernel<W>>,
+    edges: &mut Vec<Sequence<Edge>>,
+) -> Result<(), StatesFault>
+    requires small { W ≤ 8 }
+    requires width { length grammar.now.tokens ≤ 64 * W }
+    requires range { IsInRange (plain_of grammar.now) }
+    requires starts { AreStarts (length grammar.now.starts) kernels.old.keys }
+    requires none { edges.old.items ≡ [] }
+    ensures ok { OnOk result (IsCanonical (plain_of grammar.now) (record { kernels = kernels.new.keys; edges = edges.new.items })) }
+    ensures few { OnOk result (length kernels.new.keys ≤ MAX_STATES) }
+    ensures over { result ≡ Err StatesFault.TooManyStates → IsOver (plain_of grammar.now) MAX_STATES }
+{
+    let mut mover = Mover::new(alloc, grammar)?;
     'states: while edges.len() < kernels.len() {
-        let kernel = &kernels.as_slice()[edges.len()];
-        let closed = closer.close(alloc, grammar, kernel)?;
-        let symbols = moving_symbols(alloc, grammar, &closed)?;
-        match next_edges(alloc, grammar, &closed, symbols.as_slice(), &mut kernels) {
+        match edges_of(alloc, grammar, &mut mover, kernels, edges.len()) {
             Ok(row) => edges.push(row)?,
             Err(fault) => return Err(fault),
         }
     }
-    Ok(Automaton {
-        kernels: in_order(alloc, kernels)?,
-        edges: Sequence::from_vec(edges),
-    })
+    Ok(())
+}
+
+/// The edges of a state, with their targets placed among the kernels.
+fn edges_of<const W: usize>(
+    alloc: Global,
+    grammar: &Grammar,
+    mover: &mut Mover<W>,
+    kernels: &mut IndexSet<Kernel<W>>,
+    state: usize,
+) -> Result<Sequence<Edge>, StatesFault>
+    requires small { W ≤ 8 }
+    requires width { length grammar.now.tokens ≤ 64 * W }
+    requires range { IsInRange (plain_of grammar.now) }
+    requires mover { IsMover (plain_of grammar.now) mover.old }
+    requires state { state < length kernels.old.keys }
+    requires states { AreStates (plain_of grammar.now) kernels.old.keys }
+    requires few { length kernels.old.keys ≤ MAX_STATES }
+    ensures ok { IfOk result (λ row. HasEdges (plain_of grammar.now) state kernels.old.keys kernels.new.keys row) }
+    ensures mover { IfOk result (λ _. IsMover (plain_of grammar.now) mover.new) }
+    ensures few { IfOk result (λ _. length kernels.new.keys ≤ MAX_STATES) }
+    ensures over { result ≡ Err StatesFault.TooManyStates → IsOver (plain_of grammar.now) MAX_STATES }
+{
+    let moves = mover.moves(alloc, grammar, &kernels.as_slice()[state])?;
+    place_all(alloc, grammar, moves, kernels)
 }
 
 fn in_order<const W: usize>(
@@ -81,36 +125,32 @@ fn start_kernels<const W: usize>(
     Ok(kernels)
 }
 
-/// The edges of a state by its closure, with their targets placed among the kernels.
-fn next_edges<const W: usize>(
+/// The edges on the symbols of moves, whose kernels are placed in their order.
+fn place_all<const W: usize>(
     alloc: Global,
     grammar: &Grammar,
-    closed: &Kernel<W>,
-    symbols: &[Symbol],
+    moves: Vec<Move<W>>,
     kernels: &mut IndexSet<Kernel<W>>,
 ) -> Result<Sequence<Edge>, StatesFault>
     requires small { W ≤ 8 }
-    requires range { IsInRange (plain_of grammar.now) }
-    requires source { IsSource (plain_of grammar.now) closed.now }
-    requires behind { All (IsBehindDot (plain_of grammar.now) closed.now) symbols.now }
     requires states { AreStates (plain_of grammar.now) kernels.old.keys }
     requires few { length kernels.old.keys ≤ MAX_STATES }
-    ensures ok { IfOk result (λ row. AreEdges (plain_of grammar.now) closed.now symbols.now kernels.old.keys kernels.new.keys row) }
+    ensures ok { IfOk result (λ row. PlacesAll (plain_of grammar.now) moves.entry.items kernels.old.keys kernels.new.keys row) }
     ensures few { IfOk result (λ _. length kernels.new.keys ≤ MAX_STATES) }
-    ensures over { result ≡ Err StatesFault.TooManyStates → IsOver (plain_of grammar.now) MAX_STATES }
+    ensures over { result ≡ Err StatesFault.TooManyStates → (closed : KernelOf) → IsSource (plain_of grammar.now) closed → AreMoves (plain_of grammar.now) closed moves.entry.items → IsOver (plain_of grammar.now) MAX_STATES }
 {
-    let mut row = Sequence::new(alloc);
-    for symbol in symbols {
-        let kernel = moved(alloc, grammar, closed, *symbol)?;
-        match place(kernels, kernel) {
+    let _grammar = grammar;
+    let mut row = Vec::with_capacity(alloc, moves.len())?;
+    for found in moves {
+        match place(kernels, found.kernel) {
             Ok(target) => row.push(Edge {
-                symbol: *symbol,
+                symbol: found.symbol,
                 target,
             })?,
             Err(fault) => return Err(fault),
         }
     }
-    Ok(row)
+    Ok(Sequence::from_vec(row))
 }
 
 /// The number of a kernel, of which there may be no more than `MAX_STATES`.

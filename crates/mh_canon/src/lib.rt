@@ -2,7 +2,6 @@
 #![tactic(auto)]
 
 mod collection;
-mod symbols;
 mod uniqueness;
 
 pub use collection::{MAX_STATES, canonical};

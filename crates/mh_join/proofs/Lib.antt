@@ -9,4 +9,5 @@ pub mod Resolving
 pub mod Adding
 pub mod Library
 pub mod Able
+pub mod Costing
 pub mod Readying

@@ -10,7 +10,7 @@ use Rattle.mh_rules.specs.declared.modules.Rule.{Rule}
 use Rattle.mh_rules.specs.declared.modules.Module.{Module}
 use Rattle.mh_join.specs.declared.names.Names.{Names}
 use Rattle.mh_join.specs.Prelude.{prelude_rules}
-use Rattle.mh_join.specs.Names.{Text, same, files, token_names, token_number, aliased, levels_in, level_of, is_elsewhere, start_names, definitions_from, definitions_in, library_definitions, outline_of, owner_in, is_rule, same_rule, firsts, rules, rule_number}
+use Rattle.mh_join.specs.Names.{Text, same, files, token_names, token_number, aliased, levels_in, level_of, cost_of, is_elsewhere, start_names, definitions_from, definitions_in, library_definitions, outline_of, owner_in, is_rule, same_rule, firsts, rules, rule_number}
 use Rattle.mh_join.specs.Faults.{kind_of}
 use Rattle.mh_join.specs.Definers.{elsewhere_by}
 use Rattle.mh_join.specs.Numbering.{outline_by, outlines_in, outlines_of, number_in, IsNumbered}
@@ -60,15 +60,16 @@ find_position p xs = ap (option_and_then (λ i. slice_get xs i)) (position_from-
 -- ALL
 
 pub has_meanings : (p : Bool) (ms : List Module) (n : Names) → n.tokens.keys ≡ token_names ms → n.starts.keys ≡ start_names ms → ((a : Text) → get same n.aliases a ≡ aliased ms a)
-    → ((x : Text) → get same n.levels x ≡ lookup (same x) (flat_map (levels_in (λ a. get same n.aliases a)) (files ms))) → ((x : Text) → get same n.kinds x ≡ kind_of ms x)
+    → ((x : Text) → get same n.levels x ≡ lookup (same x) (flat_map (levels_in (λ a. get same n.aliases a)) (files ms))) → ((x : Text) → get same n.costs x ≡ cost_of ms x) → ((x : Text) → get same n.kinds x ≡ kind_of ms x)
     → ((k : ℕ) (x : Text) → elsewhere_by (get same n.definers x) k ≡ is_elsewhere ms k x)
     → IsNumbered n.numbering → n.numbering.rules.items ≡ outlines_of n.starts.keys ms (prelude_rules p) → HasMeanings p ms n
-has_meanings p ms n tokens starts aliases levels kinds elsewhere numbered rules_by = record {
+has_meanings p ms n tokens starts aliases levels costs kinds elsewhere numbered rules_by = record {
   meanings_are = λ i. record {
     tokens = tokens i;
     starts = starts i;
     aliased = λ a. aliases a i;
     level = λ x. level_is x i;
+    cost = λ x. costs x i;
     kind = λ x. kinds x i;
     joined = λ x. joined_is x i;
     numbers = record { token = λ x. token_is x i; rule = λ owner x. rule_is owner x i };

@@ -32,14 +32,13 @@ use Rattle.mh_join.specs.declared.fault.JoinFault.{JoinFault}
 use Rattle.mh_join.specs.declared.fault.JoinFault.TheVariants as faults
 use Rattle.mh_join.specs.Prelude.{prelude_rules}
 use Rattle.mh_join.specs.Names.{Text, same, files, firsts, token_names, start_names, is_elsewhere, is_public, owner_in, Definition, definitions, definitions_from, definitions_in, library_definitions, outline_of, same_owner, is_rule, same_rule, rules, rule_number, formal_number, visible_head, user_head, rule_head, token_head}
-use Rattle.mh_grammar.specs.Costs.{IsCost, HaveCosts}
-use Rattle.mh_grammar.proofs.Costs.{each_costs}
 use Rattle.mh_join.specs.Faults.{Meanings, meanings, meant_by, unless, agrees, same_flag, same_shape, repeats, own_name, own_names, own_in_file, formals_in_file, shapes_in_file, other_shape, name_duplicates, rule_duplicates, duplicates, levels_in_file, has_some, errors_in_file, unlevelled_in_file, many_tokens, other_faults, undefined_in_file, join_faults, first}
 use Rattle.mh_join.specs.Joining.{all_of, applied_to, apply_step, resolved, all_resolved, prec_by, alternative_with, alternative_by, alternatives_by, is_number, alternatives_for, rule_without, without_alternatives, token_info, on_error_in, IsJoined, Joins}
 use Rattle.mh_rules.specs.Ready.{IsModuleReady, AreModulesReady, IsHeadBelow, IsAppliedBelow, IsRuleReady, IsReady}
 use Rattle.mh_join.proofs.Lists.{same_is, same_self, position-push}
 use Rattle.mh_join.proofs.Numbers.{is_some-position, none_from}
 use Rattle.mh_join.proofs.Meaning.{find_position}
+use Rattle.mh_join.proofs.Costing.{tokens_costed}
 use Rattle.mh_join.proofs.Resolving.{front_nil, back_nil, is_known}
 use Rattle.mh_join.proofs.Library.{and_left, and_right, owner_is}
 use Rattle.mh_join.proofs.Able.{few_tokens}
@@ -639,18 +638,11 @@ module _ (p : Bool) (ms : List Module) (j : Joined) (none : join_faults p ms ≡
       let one = in_map (all_resolved (meant_by (meanings p ms) f.0.0 (formal_number []))) f.0.1.on_error (Some ks) f.2 in
       below f.0.0 [] one.0 ks one.2
 
--- each token costs 1
-one_costs : IsCost 1
-one_costs = (omega arith, omega arith)
-
-infos_costed : (w : Meanings) (xs : List Text) → HaveCosts (map (token_info w) xs)
-infos_costed w xs = each_costs (token_info w) (λ x. one_costs) xs
-
 -- files whose rules have alternatives are in range once they are joined
 pub ready : (p : Bool) (ms : List Module) (j : Joined) → AreModulesReady ms → Joins p ms (Ok j) → IsReady j
 ready p ms j filled (none, joined) = record {
   few_tokens = subst (λ n. n ≤ MAX_TOKENS) (sym (tokens_length p ms j none joined)) (tokens_few p ms none);
-  costs = subst HaveCosts (sym joined.tokens_are) (infos_costed (meanings p ms) (token_names ms));
+  costs = tokens_costed p ms j filled joined;
   starts_below = All-from_recursion (λ s. s < length j.rules) j.starts (all_at (λ s. s < length j.rules) j.starts (start_below p ms j none joined));
   starts_distinct = starts_distinct p ms j none joined;
   on_error_below = all_in (λ actuals. All (IsAppliedBelow 0 (length j.tokens) (length j.rules)) actuals) j.on_error (actuals_below p ms j none joined);

@@ -20,7 +20,7 @@ use Rattle.mh_join.specs.declared.kinds.Kind.{Kind}
 use Rattle.mh_join.specs.declared.kinds.Kind.TheVariants as kinds
 use Rattle.mh_join.specs.declared.fault.JoinFault.{JoinFault}
 use Rattle.mh_join.specs.declared.fault.JoinFault.TheVariants as faults
-use Rattle.mh_join.specs.Names.{Text, same, Numbers, files, name_by, level_in, is_public, is_rule, formal_number, head_by, token_names, aliased, level_of, start_names, rules, numbers_of}
+use Rattle.mh_join.specs.Names.{Text, same, Numbers, files, name_by, level_in, is_public, is_rule, formal_number, head_by, token_names, aliased, level_of, cost_of, start_names, rules, numbers_of}
 
 -- WHAT NAMES MEAN
 
@@ -39,6 +39,7 @@ pub record Meanings : Type 0 where
   pub starts : List Text
   pub aliased : Text → Option Text
   pub level : Text → Option Level
+  pub cost : Text → Option ℕ
   pub kind : Text → Option Kind
   pub joined : Text → Option Outline
   pub numbers : Numbers
@@ -50,6 +51,7 @@ meanings p ms = record {
   starts = start_names ms;
   aliased = aliased ms;
   level = level_of ms;
+  cost = cost_of ms;
   kind = kind_of ms;
   joined = (λ x. find (is_rule None x) (rules p ms));
   numbers = numbers_of p ms;

@@ -1,5 +1,5 @@
 -- What several files give together. Source: the Menhir manual on grammars split into files; this project's profile.
-use Rattle.std.specs.Prelude.{◌≡◌, ◌==◌, ◌⊎◌, ℕ, if◌then◌else◌, List, [], ◌∷◌, ◌++◌, map, Option, Some, None, option_map, option_and_then, Bool, false, decimal, slice_get, Result, Ok, Err}
+use Rattle.std.specs.Prelude.{◌≡◌, ◌==◌, ◌⊎◌, ℕ, if◌then◌else◌, List, [], ◌∷◌, ◌++◌, map, Option, Some, None, option_map, option_and_then, unwrap_or, Bool, false, decimal, slice_get, Result, Ok, Err}
 use Rattle.std.specs.List.{enumerate_from, flat_map}
 use Rattle.mh_grammar.specs.declared.types.Level.{Level}
 use Rattle.mh_grammar.specs.declared.types.TokenInfo.{TokenInfo}
@@ -95,8 +95,9 @@ pub record AreRules (w : Meanings) (elsewhere : ℕ → Text → Bool) (outlines
 
 -- ALL
 
+-- with the cost that it is given first, else 1
 abbrev pub token_info : Meanings → Text → TokenInfo
-token_info w x = record { name = x; level = w.level x; cost = 1 }
+token_info w x = record { name = x; level = w.level x; cost = unwrap_or (w.cost x) 1 }
 
 -- the on-error declarations of a file, where no name is a formal
 abbrev pub on_error_in : Meanings → ℕ × Module → List (Option (List Applied))

@@ -33,6 +33,7 @@ meanings_in n = record {
   starts = n.starts.keys;
   aliased = (λ x. get same n.aliases x);
   level = (λ x. get same n.levels x);
+  cost = (λ x. get same n.costs x);
   kind = (λ x. get same n.kinds x);
   joined = (λ x. option_and_then (λ i. slice_get n.numbering.rules.items i) (get same n.numbering.public x));
   numbers = numbers_in n;

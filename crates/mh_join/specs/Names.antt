@@ -66,6 +66,24 @@ abbrev pub name_by : (Text → Option Text) → Ref → Option Text
 name_by aliased (Plain x) = Some x
 name_by aliased (Alias a) = aliased a
 
+-- COSTS
+
+-- a cost beside the name of its token, where there is one
+abbrev pub cost_by : Text → Option ℕ → List (Text × ℕ)
+cost_by x None = []
+cost_by x (Some c) = (x, c) ∷ []
+
+abbrev pub given_cost : TokenDecl → List (Text × ℕ)
+given_cost t = cost_by t.name t.cost
+
+-- the costs that are given, in order, each beside the name of its token
+abbrev pub costs : List Module → List (Text × ℕ)
+costs ms = flat_map (λ m. flat_map given_cost m.tokens) ms
+
+-- the cost that a token is given first
+abbrev pub cost_of : List Module → Text → Option ℕ
+cost_of ms x = lookup (same x) (costs ms)
+
 -- LEVELS
 
 -- the level of the i-th declaration of file k

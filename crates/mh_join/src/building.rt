@@ -1,5 +1,5 @@
 //! The parts of joined files.
-ghost use Rattle.std.specs.Prelude.{◌≡◌, ◌++◌, ◌∷◌, ◌≤◌, ◌<◌, ◌+◌, ◌^◌, [], None, false, length, map, option_and_then, IfOk, OnOk};
+ghost use Rattle.std.specs.Prelude.{◌≡◌, ◌++◌, ◌∷◌, ◌≤◌, ◌<◌, ◌+◌, ◌^◌, [], None, false, length, map, option_and_then, unwrap_or, IfOk, OnOk};
 ghost use Rattle.std.specs.List.{flat_map, enumerate_from};
 ghost use Rattle.mh_join.specs.Names as names_spec;
 ghost use Rattle.mh_join.specs.Names.{files, formal_number, definitions_from, definitions_in};
@@ -87,6 +87,16 @@ fn joined_prec(names: &Names, prec: &Option<Ref>) -> Prec
     }
 }
 
+/// The cost that a token is given first, else 1.
+fn cost_of(names: &Names, name: &Name) -> u32
+    ensures { result ≡ unwrap_or ((meanings_in names.now).cost name.now) 1 }
+{
+    match names.costs.get(name) {
+        Some(cost) => *cost,
+        None => 1,
+    }
+}
+
 pub(crate) fn joined_tokens(alloc: Global, names: &Names) -> Result<Sequence<TokenInfo>, Memory>
     ensures { IfOk result (λ tokens. tokens ≡ map (token_info (meanings_in names.now)) (meanings_in names.now).tokens) }
 {
@@ -95,7 +105,7 @@ pub(crate) fn joined_tokens(alloc: Global, names: &Names) -> Result<Sequence<Tok
         tokens.push(TokenInfo {
             name: name.clone()?,
             level: names.levels.get(name).copied(),
-            cost: 1,
+            cost: cost_of(names, name),
         })?;
     }
     Ok(tokens)

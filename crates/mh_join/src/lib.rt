@@ -3,6 +3,7 @@
 
 mod aliases;
 mod building;
+mod costs;
 mod definers;
 mod duplicates;
 mod errors;

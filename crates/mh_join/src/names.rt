@@ -7,6 +7,7 @@ ghost use Rattle.mh_join.specs.Prelude.{prelude_rules};
 ghost use Rattle.mh_join.specs.Maps.{numbers_in, meanings_in, elsewhere_in, formals_in, HasMeanings};
 
 use crate::aliases::{Aliases, aliases_of};
+use crate::costs::{Costs, costs_of};
 use crate::definers::{Definers, DefinersOf, definers_of};
 use crate::formals::Formals;
 use crate::kinds::{Kinds, kinds_of};
@@ -25,6 +26,7 @@ pub(crate) struct Names {
     pub(crate) starts: IndexSet<Name>,
     pub(crate) aliases: Aliases,
     pub(crate) levels: Levels,
+    pub(crate) costs: Costs,
     pub(crate) kinds: Kinds,
     pub(crate) definers: DefinersOf,
     pub(crate) numbering: Numbering,
@@ -39,6 +41,7 @@ impl Names {
             starts: IndexSet::new(alloc),
             aliases: IndexMap::new(alloc),
             levels: IndexMap::new(alloc),
+            costs: IndexMap::new(alloc),
             kinds: IndexMap::new(alloc),
             definers: IndexMap::new(alloc),
             numbering,
@@ -65,6 +68,8 @@ impl Names {
         self.aliases = aliases;
         let levels = levels_of(alloc, &self.aliases, files)?;
         self.levels = levels;
+        let costs = costs_of(alloc, files)?;
+        self.costs = costs;
         let kinds = kinds_of(alloc, files)?;
         self.kinds = kinds;
         let definers = definers_of(alloc, files)?;

@@ -6,22 +6,23 @@ use Rattle.std.proofs.lemmas.Bool.{not-true}
 use Rattle.std.proofs.lemmas.Bool.Decides.{nat_tests, Decides-eqb}
 use Rattle.std.proofs.lemmas.Slice.Eq.{bytes_eq-Decides}
 use Rattle.mh_lex.specs.declared.kinds.Ends.TheVariants as ends
-use Rattle.mh_lex.specs.declared.kinds.Step.TheVariants.{Closes}
+use Rattle.mh_lex.specs.declared.kinds.Step.TheVariants.{Closes, Passes}
 use Rattle.mh_lex.specs.declared.kinds.Kind.{Kind}
 use Rattle.mh_lex.specs.declared.kinds.Kind.TheVariants as kinds
 use Rattle.mh_lex.specs.declared.kinds.Lexeme.{Lexeme}
 use Rattle.mh_lex.specs.declared.kinds.Front.{Front}
 use Rattle.mh_lex.specs.declared.kinds.Front.TheVariants.{Ended, Short, Long}
-use Rattle.mh_lex.specs.Bytes.{is_word_start, is_word_byte, is_blank, is_mark}
-use Rattle.mh_lex.specs.Spellings.{more, word_rest, string_rest}
-use Rattle.mh_lex.specs.Steps.{step}
+use Rattle.mh_lex.specs.Bytes.{is_word_start, is_word_byte, is_blank, is_mark, is_decimal}
+use Rattle.mh_lex.specs.Spellings.{more, word_rest, string_rest, literal, quoted_opening}
+use Rattle.mh_lex.specs.Steps.{step, item}
 use Rattle.mh_lex.specs.Begins.{front, percent, keyword_of, is_keyword}
-use Rattle.mh_lex.specs.Bodies.Body.{closes}
+use Rattle.mh_lex.specs.Bodies.{Body}
+use Rattle.mh_lex.specs.Bodies.Body.{closes, passes}
 use Rattle.mh_lex.specs.Lexing.{Taken, LexesFrom, Lexes, piece, left_after}
 use Rattle.mh_lex.specs.Lexing.Taken.{short, long}
 use Rattle.mh_lex.specs.Lexing.LexesFrom.{ended, taken}
 use Rattle.mh_lex.specs.Texts.{Text, IsText, is_content, laid, places, one_of, count_of_percents}
-use Rattle.mh_lex.specs.Texts.Text.{word, mark, percents, keyword, quoted, empty_action}
+use Rattle.mh_lex.specs.Texts.Text.{word, mark, percents, keyword, quoted, empty_action, cost}
 
 -- one of two
 either : {P : Type 0} (a b : Bool) → (a || b) ≡ true → (a ≡ true → P) → (b ≡ true → P) → P
@@ -118,6 +119,44 @@ action_step : (rest : List ℕ) → step ends.Brace (125 ∷ rest) ≡ Closes 1
 unfolding step
 action_step rest = refl
 
+-- a cost attribute
+attribute_front : (rest : List ℕ) → front (91 ∷ 64 ∷ rest) ≡ Long (Some kinds.Attribute) ends.Bracket 2
+unfolding front
+attribute_front rest = refl
+
+bracket_step : (rest : List ℕ) → step ends.Bracket (93 ∷ rest) ≡ Closes 1
+unfolding step
+bracket_step rest = refl
+
+word_step : (rest : List ℕ) → step ends.Bracket (99 ∷ 111 ∷ 115 ∷ 116 ∷ 32 ∷ rest) ≡ Passes 4
+unfolding step item literal quoted_opening
+word_step rest = refl
+
+space_step : (rest : List ℕ) → step ends.Bracket (32 ∷ rest) ≡ Passes 1
+unfolding step item literal quoted_opening
+space_step rest = refl
+
+abbrev IsDigitStep : ℕ → Type 0
+IsDigitStep d = (rest : List ℕ) → step ends.Bracket (d ∷ rest) ≡ Passes 1
+
+digit_cases : (P : ℕ → Type 0) → P 48 → P 49 → P 50 → P 51 → P 52 → P 53 → P 54 → P 55 → P 56 → P 57 → (d : ℕ) → is_decimal d ≡ true → P d
+digit_cases P p0 p1 p2 p3 p4 p5 p6 p7 p8 p9 d h =
+    by (d == 48) refl (λ e0. by (d == 49) refl (λ e1. by (d == 50) refl (λ e2. by (d == 51) refl (λ e3. by (d == 52) refl (λ e4. by (d == 53) refl
+    (λ e5. by (d == 54) refl (λ e6. by (d == 55) refl (λ e7. by (d == 56) refl (λ e8. by (d == 57) refl (λ e9. absurd (grind (arith, nat_tests))) p9) p8) p7) p6) p5) p4) p3) p2) p1) p0
+  where
+    by : {m : ℕ} (b : Bool) → (d == m) ≡ b → ((d == m) ≡ false → P d) → P m → P d
+    by {m = m} true e f p = subst P (sym ((Decides-eqb d m).0 e)) p
+    by {m = m} false e f p = f e
+
+digit_step : (d : ℕ) → is_decimal d ≡ true → IsDigitStep d
+unfolding step item literal quoted_opening
+digit_step d h =
+    digit_cases IsDigitStep (λ rest. refl) (λ rest. refl) (λ rest. refl) (λ rest. refl) (λ rest. refl) (λ rest. refl) (λ rest. refl) (λ rest. refl) (λ rest. refl) (λ rest. refl) d h
+
+digits_body : (ds rest : List ℕ) → AllByRecursion (λ d. is_decimal d ≡ true) ds → Body ends.Bracket ((ds ++ 93 ∷ []) ++ rest) rest
+digits_body [] rest h = closes (bracket_step rest) refl
+digits_body (d ∷ ds) rest h = passes (digit_step d h.0 ((ds ++ 93 ∷ []) ++ rest)) (digits_body ds rest h.1)
+
 -- before a space, a text is one lexeme
 before_space : (k : Kind) (t rest : List ℕ) → front (t ++ 32 ∷ rest) ≡ Short (Some k) (length t) → Taken (t ++ 32 ∷ rest) (Some k) (32 ∷ rest)
 before_space k t rest e = short e (sym (drop_all t (32 ∷ rest)))
@@ -131,6 +170,9 @@ text_taken k t (keyword {w = w} h) rest = before_space kinds.Keyword (37 ∷ w) 
 text_taken k t (quoted s h) rest =
     before_space kinds.Quoted (34 ∷ s ++ 34 ∷ []) rest (quoted_front s rest h ∙ ap (λ n. Short (Some kinds.Quoted) n) (omega (arith, length-append s (34 ∷ []))))
 text_taken k t empty_action rest = long (action_front (125 ∷ 32 ∷ rest)) (closes (action_step (32 ∷ rest)) refl)
+text_taken k t (cost ds h) rest =
+    let digits = (ds ++ 93 ∷ []) ++ 32 ∷ rest in
+    long (attribute_front (99 ∷ 111 ∷ 115 ∷ 116 ∷ 32 ∷ digits)) (passes (word_step digits) (passes (space_step digits) (digits_body ds (32 ∷ rest) h)))
 
 -- texts one after the other
 blank_front : (rest : List ℕ) → front (32 ∷ rest) ≡ Short None 1

@@ -1,10 +1,10 @@
 -- Texts that are one lexeme each, and files made of them.
-use Rattle.std.specs.Prelude.{◌≡◌, ℕ, ◌+◌, ◌-◌, ◌==◌, ◌&&◌, Bool, true, false, not, List, [], ◌∷◌, ◌++◌, length, take, drop}
+use Rattle.std.specs.Prelude.{◌≡◌, ℕ, ◌+◌, ◌-◌, ◌==◌, ◌&&◌, Bool, true, false, not, List, [], ◌∷◌, ◌++◌, length, take, drop, codes}
 use Rattle.std.specs.List.{AllByRecursion}
 use Rattle.mh_lex.specs.declared.kinds.Kind.{Kind}
 use Rattle.mh_lex.specs.declared.kinds.Kind.TheVariants as kinds
 use Rattle.mh_lex.specs.declared.kinds.Lexeme.{Lexeme}
-use Rattle.mh_lex.specs.Bytes.{is_word_start, is_word_byte, is_mark}
+use Rattle.mh_lex.specs.Bytes.{is_word_start, is_word_byte, is_mark, is_decimal}
 use Rattle.mh_lex.specs.Begins.{is_keyword}
 
 -- between the quotes of a string: no free quote, and no backslash at the end that would take the closing one
@@ -20,6 +20,7 @@ pub data Text : Kind → List ℕ → Type 0 where
   keyword : {w : List ℕ} → is_keyword w ≡ true → Text kinds.Keyword (37 ∷ w)
   quoted : (s : List ℕ) → is_content false s ≡ true → Text kinds.Quoted (34 ∷ s ++ 34 ∷ [])
   empty_action : Text kinds.Action (123 ∷ 125 ∷ [])
+  cost : (ds : List ℕ) → AllByRecursion (λ d. is_decimal d ≡ true) ds → Text kinds.Attribute (codes "[@cost " ++ (ds ++ 93 ∷ []))
 
 abbrev pub IsText : Kind × List ℕ → Type 0
 IsText t = Text t.0 t.1

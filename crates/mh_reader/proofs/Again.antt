@@ -2,6 +2,7 @@
 use Rattle.std.proofs.Math.Nat.{le-max_left, le-max_right}
 use Rattle.std.proofs.lemmas.Bool.{le-leb}
 use Rattle.std.proofs.Common.{◌≡◌, ◌≤◌, ◌+◌, ℕ, suc, max, List, [], ◌∷◌, ◌++◌, length, map, Option, Some, None, Bool, true, false, refl, sym, ap, ◌∙◌, arith}
+use Rattle.std.specs.Option.{option_or}
 use Rattle.mh_grammar.specs.declared.types.Assoc.{Assoc}
 use Rattle.mh_rules.specs.declared.modules.Ref.{Ref}
 use Rattle.mh_rules.specs.declared.modules.Ref.TheVariants.{Plain, Alias}
@@ -26,16 +27,16 @@ use Rattle.mh_reader.specs.Spelling as spelling
 use Rattle.mh_rules.specs.Modules.{applied, alternative}
 use Rattle.mh_reader.specs.Spelling.{ref_by, ref_of, suffix_of, with_prec, own_or, starts_with_bar, is_bar, Suffixed, Base, Args, IsActual, Limited, ListOf, IsAlias, IsToken, IsWord, IsRef, MayType, Declaration, Semicolons, IsProducer, Producers, IsPrec, Productions, Groups, Modifiers, Formals, MayFormals, MayBar, IsRule, Rules, File}
 use Rattle.mh_reader.specs.Machine as machine
-use Rattle.mh_reader.specs.Machine.{at, next_at, finish_at, run, go_on, fits, close, with_token, named, drafted, produced, with_producer, with_argument, grouped, grouped_with, ruled}
+use Rattle.mh_reader.specs.Machine.{at, next_at, finish_at, run, go_on, costed, fits, close, token_of, with_token, named, drafted, produced, with_producer, with_argument, grouped, grouped_with, ruled}
 use Rattle.mh_reader.proofs.Heads.{IsHead, Head-along, Head-here, is_quiet, is_calm, is_firm, is_end, is_unquoted, is_untyped, is_unlevelled, is_begin, end_calm, end_unquoted, end_untyped, ref_untyped, Suffixed-quiet, Limited-calm, Producers-firm, Semicolons-calm, Semicolons-unlevelled, Prec-firm, List-head, Rules-begin, File-end}
 
 -- a step
-pub step : (m : Module) (p : Place) (x : Read) (xs : List Read) (t : Reader) → next_at m p x.sign x.text ≡ Some t → run (at m p) (x ∷ xs) ≡ run t xs
-step m p x xs t e = ap (λ o. go_on o (λ u. run u xs)) e
+pub step : (m : Module) (p : Place) (x : Read) (xs : List Read) (t : Reader) → next_at m p x.sign x.text ≡ Some t → run (at m p) (x ∷ xs) ≡ run (costed x.cost t) xs
+step m p x xs t e = ap (λ o. go_on o (λ u. run (costed x.cost u) xs)) e
 
 -- two places that step alike
 pub alike : (m n : Module) (p q : Place) (x : Read) (xs : List Read) → next_at m p x.sign x.text ≡ next_at n q x.sign x.text → run (at m p) (x ∷ xs) ≡ run (at n q) (x ∷ xs)
-alike m n p q x xs e = ap (λ o. go_on o (λ u. run u xs)) e
+alike m n p q x xs e = ap (λ o. go_on o (λ u. run (costed x.cost u) xs)) e
 
 -- ACTUALS
 
@@ -160,31 +161,43 @@ module _ (A : Type 0) (X : List Read → List Read → A → Type 0) (q : Sign �
 abbrev with_tokens : Module → List TokenDecl → Module
 with_tokens m ks = record m { tokens = ks }
 
-named_word : (m : Module) (x : Read) → x.sign ≡ signs.Word → is_capital x.text ≡ true → next_at m (places.Items lists.Tokens) x.sign x.text ≡ Some (at m (places.TokenNamed x.text))
+named_word : (m : Module) (x : Read) → x.sign ≡ signs.Word → is_capital x.text ≡ true → next_at m (places.Items lists.Tokens) x.sign x.text ≡ Some (at m (places.TokenNamed x.text None))
 unfolding next_at
 named_word m x e f = ap (λ g. machine.at_items m lists.Tokens g x.text) e ∙ ap (λ b. machine.named_token m b x.text) f
 
-named_later : (m : Module) (x : Read) → x.sign ≡ signs.Word → is_capital x.text ≡ true → next_at m (places.Comma lists.Tokens) x.sign x.text ≡ Some (at m (places.TokenNamed x.text))
+named_later : (m : Module) (x : Read) → x.sign ≡ signs.Word → is_capital x.text ≡ true → next_at m (places.Comma lists.Tokens) x.sign x.text ≡ Some (at m (places.TokenNamed x.text None))
 unfolding next_at
 named_later m x e f = ap (λ g. machine.at_comma m lists.Tokens g x.text) e ∙ ap (λ b. machine.named_token m b x.text) f
 
-alias_step : (m : Module) (name : List ℕ) (g : Sign) (text : List ℕ) → is_unquoted g ≡ true → machine.at_token m name g text ≡ machine.at_items (with_token m name None) lists.Tokens g text
-alias_step m name signs.Quoted text e = cc
-alias_step m name _ text e = refl
+alias_step : (m : Module) (name : List ℕ) (c : Option ℕ) (g : Sign) (text : List ℕ) → is_unquoted g ≡ true → machine.at_token m name c g text ≡ machine.at_items (with_token m (token_of name None c)) lists.Tokens g text
+alias_step m name c signs.Quoted text e = cc
+alias_step m name c _ text e = refl
 
-alias_given : (m : Module) (name : List ℕ) (x : Read) → x.sign ≡ signs.Quoted → next_at m (places.TokenNamed name) x.sign x.text ≡ Some (at (with_token m name (Some x.text)) (places.Items lists.Tokens))
+alias_given : (m : Module) (name : List ℕ) (c : Option ℕ) (x : Read) → x.sign ≡ signs.Quoted → next_at m (places.TokenNamed name c) x.sign x.text ≡ Some (at m (places.TokenAliased (token_of name (Some x.text) c)))
 unfolding next_at
-alias_given m name x e = rw e refl
+alias_given m name c x e = rw e refl
 
-alias_absent : (m : Module) (name : List ℕ) (xs : List Read) → IsHead is_unquoted xs → run (at m (places.TokenNamed name)) xs ≡ run (at (with_token m name None) (places.Items lists.Tokens)) xs
+alias_absent : (m : Module) (name : List ℕ) (c : Option ℕ) (xs : List Read) → IsHead is_unquoted xs → run (at m (places.TokenNamed name c)) xs ≡ run (at (with_token m (token_of name None c)) (places.Items lists.Tokens)) xs
 unfolding next_at finish_at
-alias_absent m name [] h = refl
-alias_absent m name (x ∷ xs) h = alike m (with_token m name None) (places.TokenNamed name) (places.Items lists.Tokens) x xs (alias_step m name x.sign x.text h)
+alias_absent m name c [] h = refl
+alias_absent m name c (x ∷ xs) h = alike m (with_token m (token_of name None c)) (places.TokenNamed name c) (places.Items lists.Tokens) x xs (alias_step m name c x.sign x.text h)
 
-again-alias : {xs rest : List Read} {o : Option (List ℕ)} → IsAlias xs rest o → IsHead is_unquoted rest → (m : Module) (name : List ℕ) →
-    run (at m (places.TokenNamed name)) xs ≡ run (at (with_token m name o) (places.Items lists.Tokens)) rest
-again-alias (spelling.IsAlias.absent {xs = xs}) h m name = alias_absent m name xs h
-again-alias (spelling.IsAlias.given {y = y} {xs = xs} e) h m name = step m (places.TokenNamed name) y xs _ (alias_given m name y e)
+-- behind an alias the list goes on
+aliased_end : (m : Module) (t : TokenDecl) (xs : List Read) → run (at m (places.TokenAliased t)) xs ≡ run (at (with_token m t) (places.Items lists.Tokens)) xs
+unfolding next_at finish_at
+aliased_end m t [] = refl
+aliased_end m t (x ∷ xs) = alike m (with_token m t) (places.TokenAliased t) (places.Items lists.Tokens) x xs refl
+
+pub option_or-none : {X : Type 0} (o : Option X) → option_or o None ≡ o
+option_or-none None = refl
+option_or-none (Some x) = refl
+
+again-alias : {xs rest : List Read} {o : Option (List ℕ)} {d : Option ℕ} → IsAlias xs rest o d → IsHead is_unquoted rest → (m : Module) (name : List ℕ) (c : Option ℕ) →
+    run (at m (places.TokenNamed name c)) xs ≡ run (at (with_token m (token_of name o (option_or c d))) (places.Items lists.Tokens)) rest
+again-alias (spelling.IsAlias.absent {xs = xs}) h m name c =
+    alias_absent m name c xs h ∙ ap (λ d. run (at (with_token m (token_of name None d)) (places.Items lists.Tokens)) xs) (sym (option_or-none c))
+again-alias (spelling.IsAlias.given {y = y} {xs = xs} e) h m name c =
+    step m (places.TokenNamed name c) y xs _ (alias_given m name c y e) ∙ aliased_end m (token_of name (Some y.text) (option_or c y.cost)) xs
 
 token_unquoted : (xs rest : List Read) (a : TokenDecl) → IsToken xs rest a → IsHead is_unquoted xs
 token_unquoted _ _ _ (spelling.IsToken.token {x = x} e f o) = Head-here is_unquoted x signs.Word e refl
@@ -195,12 +208,12 @@ token_untyped _ _ _ (spelling.IsToken.token {x = x} e f o) = Head-here is_untype
 again-token : (m : Module) (xs rest : List Read) (a : TokenDecl) → IsToken xs rest a → IsHead is_unquoted rest → (done : List TokenDecl) →
     run (at (with_tokens m done) (places.Items lists.Tokens)) xs ≡ run (at (with_tokens m (done ++ a ∷ [])) (places.Items lists.Tokens)) rest
 again-token m _ rest _ (spelling.IsToken.token {x = x} {xs = xs} e f o) h done =
-    step (with_tokens m done) (places.Items lists.Tokens) x xs _ (named_word (with_tokens m done) x e f) ∙ again-alias o h (with_tokens m done) x.text
+    step (with_tokens m done) (places.Items lists.Tokens) x xs _ (named_word (with_tokens m done) x e f) ∙ again-alias o h (with_tokens m done) x.text x.cost
 
 later-token : (m : Module) (xs rest : List Read) (a : TokenDecl) → IsToken xs rest a → IsHead is_unquoted rest → (done : List TokenDecl) →
     run (at (with_tokens m done) (places.Comma lists.Tokens)) xs ≡ run (at (with_tokens m (done ++ a ∷ [])) (places.Items lists.Tokens)) rest
 later-token m _ rest _ (spelling.IsToken.token {x = x} {xs = xs} e f o) h done =
-    step (with_tokens m done) (places.Comma lists.Tokens) x xs _ (named_later (with_tokens m done) x e f) ∙ again-alias o h (with_tokens m done) x.text
+    step (with_tokens m done) (places.Comma lists.Tokens) x xs _ (named_later (with_tokens m done) x e f) ∙ again-alias o h (with_tokens m done) x.text x.cost
 
 -- starts
 abbrev with_starts : Module → List (List ℕ) → Module
@@ -401,16 +414,16 @@ unfolding next_at finish_at
 at_unnamed m d name [] h = refl
 at_unnamed m d name (x ∷ xs) h = alike m m (places.Named d name) (places.Head (purposes.Producer d) [] (Plain name)) x xs (named_step m d name x.sign x.text h)
 
-first_word : (m : Module) (d : Draft) (g : Sign) (text : List ℕ) (r : Ref) (xs : List Read) → IsHead is_unnamed xs → ref_by g text ≡ Some r →
-    go_on (machine.in_production m d g text) (λ t. run t xs) ≡ run (at m (places.Head (purposes.Producer d) [] r)) xs
-first_word m d signs.Word text r xs h e = let same : Plain text ≡ r = cc in at_unnamed m d text xs h ∙ ap (λ k. run (at m (places.Head (purposes.Producer d) [] k)) xs) same
-first_word m d signs.Quoted text r xs h e = let same : Alias text ≡ r = cc in ap (λ k. run (at m (places.Head (purposes.Producer d) [] k)) xs) same
-first_word m d _ text r xs h e = cc
+first_word : (m : Module) (d : Draft) (g : Sign) (text : List ℕ) (c : Option ℕ) (r : Ref) (xs : List Read) → IsHead is_unnamed xs → ref_by g text ≡ Some r →
+    go_on (machine.in_production m d g text) (λ t. run (costed c t) xs) ≡ run (at m (places.Head (purposes.Producer d) [] r)) xs
+first_word m d signs.Word text c r xs h e = let same : Plain text ≡ r = cc in at_unnamed m d text xs h ∙ ap (λ k. run (at m (places.Head (purposes.Producer d) [] k)) xs) same
+first_word m d signs.Quoted text c r xs h e = let same : Alias text ≡ r = cc in ap (λ k. run (at m (places.Head (purposes.Producer d) [] k)) xs) same
+first_word m d _ text c r xs h e = cc
 
 at_first : (m : Module) (d : Draft) (x : Read) (xs : List Read) (r : Ref) → ref_of x ≡ Some r → IsHead is_unnamed xs →
     run (at m (places.Production d)) (x ∷ xs) ≡ run (at m (places.Argument (purposes.Producer d) [])) (x ∷ xs)
 unfolding next_at
-at_first m d x xs r e h = first_word m d x.sign x.text r xs h e ∙ sym (step m (places.Argument (purposes.Producer d) []) x xs _ (at_argument m (purposes.Producer d) [] x r e))
+at_first m d x xs r e h = first_word m d x.sign x.text x.cost r xs h e ∙ sym (step m (places.Argument (purposes.Producer d) []) x xs _ (at_argument m (purposes.Producer d) [] x r e))
 
 at_actual : {xs rest : List Read} {a : Actual} {d : ℕ} → IsActual xs rest a d → IsHead is_calm rest → (m : Module) (t : Draft) →
     run (at m (places.Production t)) xs ≡ run (at m (places.Argument (purposes.Producer t) [])) xs

@@ -1,6 +1,8 @@
 -- What is spelled can be printed: its names are words, its aliases are contents of strings, its actuals are not too deep,
 -- and each rule has an alternative.
 use Rattle.std.proofs.Common.{◌≡◌, ◌≢◌, ◌-◌, ◌==◌, ℕ, suc, max, List, [], ◌∷◌, ◌++◌, length, take, drop, map, Option, Some, None, Bool, true, false, cond, refl, sym, ap, subst, ◌∙◌, append_assoc, arith, length-append}
+use Rattle.std.specs.Prelude.{IfSome}
+use Rattle.std.specs.Option.{option_or}
 use Rattle.std.specs.List.{AllByRecursion}
 use Rattle.mh_grammar.specs.declared.types.Assoc.TheVariants.{Left, Right, Nonassoc}
 use Rattle.mh_lex.specs.declared.kinds.Kind.{Kind}
@@ -20,10 +22,14 @@ use Rattle.mh_rules.specs.declared.modules.LevelDecl.{LevelDecl}
 use Rattle.mh_rules.specs.declared.modules.Module.{Module}
 use Rattle.mh_reader.specs.declared.signs.Sign.{Sign}
 use Rattle.mh_reader.specs.declared.signs.Sign.TheVariants as signs
-use Rattle.mh_reader.specs.Signs.{Read, kept, sign_by, text_by, mark_sign, keyword_sign, reads_of, read_of, is_capital}
+use Rattle.mh_reader.specs.Costs.{cost_of}
+use Rattle.mh_reader.specs.Signs.{Read, cost_along, cost_behind, kept, sign_by, text_by, mark_sign, keyword_sign, reads_of, read_of, is_capital}
 use Rattle.mh_reader.specs.Spelling as spelling
 use Rattle.mh_rules.specs.Modules.{applied, alternative, no_module}
+use Rattle.mh_rules.specs.Ready.{IsTokenReady}
 use Rattle.mh_reader.specs.Spelling.{ref_by, ref_of, suffix_of, with_prec, own_or, Suffixed, Base, Args, IsActual, Limited, ListOf, IsAlias, IsToken, IsWord, IsRef, MayType, Declaration, Semicolons, IsProducer, Producers, IsPrec, Productions, Groups, Modifiers, Formals, MayFormals, MayBar, IsRule, Rules, File}
+use Rattle.mh_grammar.specs.Costs.{IsCost}
+use Rattle.mh_reader.proofs.Priced.{cost_ready}
 use Rattle.mh_reader.specs.Printed.{Piece, mark, ref_piece, bracketed, bracket_end, actual_pieces}
 
 -- LEXEMES
@@ -34,8 +40,9 @@ fits signs.Word t = Text kinds.Word t
 fits signs.Quoted t = is_content false t ≡ true
 fits _ t = Unit {0}
 
+-- with a cost in range behind it, where there is one
 abbrev pub Fits : Read → Type 0
-Fits x = fits x.sign x.text
+Fits x = fits x.sign x.text × IfSome x.cost IsCost
 
 abbrev pub AllFit : List Read → Type 0
 AllFit = AllByRecursion Fits
@@ -83,17 +90,31 @@ text_fits k t texts.Text.percents e = absurd (cc)
 text_fits k t (texts.Text.keyword h) e = absurd (cc)
 text_fits k t (texts.Text.quoted s h) e = subst (λ l. is_content false l ≡ true) (sym (content_again s)) h
 text_fits k t texts.Text.empty_action e = absurd (cc)
+text_fits k t (texts.Text.cost ds h) e = absurd (cc)
 
-spelled_fits : (k : Kind) (t : List ℕ) → HasText k t → AllFit (kept (sign_by k t) (text_by k t))
-spelled_fits kinds.Word t h = (h, tt)
-spelled_fits kinds.Mark t h = ((mark_free (byte_at t 0)).any t, tt)
-spelled_fits kinds.Percents t h = (tt, tt)
-spelled_fits kinds.Keyword t h = ((keyword_free (drop 1 t)).any t, tt)
-spelled_fits kinds.Quoted t h = (text_fits kinds.Quoted t h refl, tt)
-spelled_fits kinds.Header t h = (tt, tt)
-spelled_fits kinds.Action t h = (tt, tt)
-spelled_fits kinds.TypeText t h = (tt, tt)
-spelled_fits kinds.Attribute t h = tt
+spelled_fits : (k : Kind) (t : List ℕ) (c : Option ℕ) → HasText k t → IfSome c IsCost → AllFit (kept (sign_by k t) (text_by k t) c)
+spelled_fits kinds.Word t c h i = ((h, i), tt)
+spelled_fits kinds.Mark t c h i = (((mark_free (byte_at t 0)).any t, i), tt)
+spelled_fits kinds.Percents t c h i = ((tt, i), tt)
+spelled_fits kinds.Keyword t c h i = (((keyword_free (drop 1 t)).any t, i), tt)
+spelled_fits kinds.Quoted t c h i = ((text_fits kinds.Quoted t h refl, i), tt)
+spelled_fits kinds.Header t c h i = ((tt, i), tt)
+spelled_fits kinds.Action t c h i = ((tt, i), tt)
+spelled_fits kinds.TypeText t c h i = ((tt, i), tt)
+spelled_fits kinds.Attribute t c h i = tt
+
+-- the first of two costs in range is in range
+first_ready : (a b : Option ℕ) → IfSome a IsCost → IfSome b IsCost → IfSome (option_or a b) IsCost
+first_ready None b h k = k
+first_ready (Some n) b h k = h
+
+along_ready : (o : Option Sign) (t : List ℕ) (c : Option ℕ) → IfSome c IsCost → IfSome (cost_along o t c) IsCost
+along_ready None t c h = first_ready (cost_of t) c (cost_ready t) h
+along_ready (Some g) t c h = tt
+
+behind_ready : (bytes : List ℕ) (ls : List Lexeme) → IfSome (cost_behind bytes ls) IsCost
+behind_ready bytes [] = tt
+behind_ready bytes (l ∷ ls) = along_ready (sign_by l.kind (bytes_of bytes l)) (bytes_of bytes l) (cost_behind bytes ls) (behind_ready bytes ls)
 
 pub all_joined : {X : Type 0} (P : X → Type 0) (xs ys : List X) → AllByRecursion P xs → AllByRecursion P ys → AllByRecursion P (xs ++ ys)
 all_joined P [] ys h k = k
@@ -101,7 +122,8 @@ all_joined P (x ∷ xs) ys h k = (h.0, all_joined P xs ys h.1 k)
 
 pub lexemes_fit : (bytes : List ℕ) (ls : List Lexeme) → AllByRecursion (IsSpelled bytes) ls → AllFit (reads_of bytes ls)
 lexemes_fit bytes [] h = tt
-lexemes_fit bytes (l ∷ ls) h = all_joined Fits (read_of bytes l) (reads_of bytes ls) (spelled_fits l.kind (bytes_of bytes l) h.0) (lexemes_fit bytes ls h.1)
+lexemes_fit bytes (l ∷ ls) h =
+    all_joined Fits (read_of bytes l (cost_behind bytes ls)) (reads_of bytes ls) (spelled_fits l.kind (bytes_of bytes l) (cost_behind bytes ls) h.0 (behind_ready bytes ls)) (lexemes_fit bytes ls h.1)
 
 -- NAMES
 
@@ -118,7 +140,7 @@ FitsPrec None = Unit {0}
 FitsPrec (Some r) = FitsRef r
 
 sign_fits : (x : Read) (g : Sign) → x.sign ≡ g → Fits x → fits g x.text
-sign_fits x g e h = subst (λ k. fits k x.text) e h
+sign_fits x g e h = subst (λ k. fits k x.text) e h.0
 
 ref_fits_by : (g : Sign) (t : List ℕ) (r : Ref) → ref_by g t ≡ Some r → fits g t → FitsRef r
 ref_fits_by signs.Word t r e h = let same : Plain t ≡ r = cc in subst FitsRef same h
@@ -126,29 +148,52 @@ ref_fits_by signs.Quoted t r e h = let same : Alias t ≡ r = cc in subst FitsRe
 ref_fits_by _ t r e h = absurd (cc)
 
 ref_fits : (x : Read) (r : Ref) → ref_of x ≡ Some r → Fits x → FitsRef r
-ref_fits x r e h = ref_fits_by x.sign x.text r e h
+ref_fits x r e h = ref_fits_by x.sign x.text r e h.0
 
 -- PIECES
 
--- alone before a space it is one lexeme of its kind, and not %%
+-- neither %% nor an attribute
+abbrev pub is_plain : Kind → Bool
+is_plain kinds.Percents = false
+is_plain kinds.Attribute = false
+is_plain kinds.Word = true
+is_plain kinds.Mark = true
+is_plain kinds.Keyword = true
+is_plain kinds.Quoted = true
+is_plain kinds.Header = true
+is_plain kinds.Action = true
+is_plain kinds.TypeText = true
+
+abbrev pub is_attribute : Kind → Bool
+is_attribute kinds.Attribute = true
+is_attribute kinds.Percents = false
+is_attribute kinds.Word = false
+is_attribute kinds.Mark = false
+is_attribute kinds.Keyword = false
+is_attribute kinds.Quoted = false
+is_attribute kinds.Header = false
+is_attribute kinds.Action = false
+is_attribute kinds.TypeText = false
+
+-- alone before a space it is one lexeme of its kind, which is plain
 abbrev pub FitsPiece : Piece → Type 0
-FitsPiece t = Text t.0 t.1 × (one_of t.0 ≡ 0)
+FitsPiece t = Text t.0 t.1 × (is_plain t.0 ≡ true)
 
 abbrev pub Printable : List Piece → Type 0
 Printable = AllByRecursion FitsPiece
 
--- lexemes as the grammar sees them, before others
+-- lexemes without costs as the grammar sees them, before others
 abbrev pub reads : List Piece → List Read → List Read
 reads [] rest = rest
-reads (t ∷ ts) rest = kept (sign_by t.0 t.1) (text_by t.0 t.1) ++ reads ts rest
+reads (t ∷ ts) rest = kept (sign_by t.0 t.1) (text_by t.0 t.1) None ++ reads ts rest
 
 pub reads-append : (ts us : List Piece) (rest : List Read) → reads (ts ++ us) rest ≡ reads ts (reads us rest)
 reads-append [] us rest = refl
-reads-append (t ∷ ts) us rest = ap (λ k. kept (sign_by t.0 t.1) (text_by t.0 t.1) ++ k) (reads-append ts us rest)
+reads-append (t ∷ ts) us rest = ap (λ k. kept (sign_by t.0 t.1) (text_by t.0 t.1) None ++ k) (reads-append ts us rest)
 
 abbrev pub ref_read : Ref → Read
-ref_read (Plain t) = record { sign = signs.Word; text = t }
-ref_read (Alias s) = record { sign = signs.Quoted; text = text_by kinds.Quoted (34 ∷ s ++ 34 ∷ []) }
+ref_read (Plain t) = record { sign = signs.Word; text = t; cost = None }
+ref_read (Alias s) = record { sign = signs.Quoted; text = text_by kinds.Quoted (34 ∷ s ++ 34 ∷ []); cost = None }
 
 pub ref_reads : (r : Ref) (ts : List Piece) (rest : List Read) → reads (ref_piece r ∷ ts) rest ≡ ref_read r ∷ reads ts rest
 ref_reads (Plain t) ts rest = refl
@@ -262,7 +307,7 @@ pub record FitsToken (t : TokenDecl) : Type 0 where
   pub name : Text kinds.Word t.name
   pub capital : is_capital t.name ≡ true
   pub alias : FitsContent t.alias
-  pub cost : t.cost ≡ None
+  pub cost : IsTokenReady t
 
 pub record FitsAlternative (a : Alternative) : Type 0 where
   pub producers : AllByRecursion FitsActual a.producers
@@ -287,13 +332,13 @@ pub record FitsModule (m : Module) : Type 0 where
 all_more : {X : Type 0} (P : X → Type 0) (xs : List X) (x : X) → AllByRecursion P xs → P x → AllByRecursion P (xs ++ x ∷ [])
 all_more P xs x h k = all_joined P xs (x ∷ []) h (k, tt)
 
-Alias-fits : {xs rest : List Read} {o : Option (List ℕ)} → IsAlias xs rest o → AllFit xs → FitsContent o × AllFit rest
-Alias-fits spelling.IsAlias.absent h = (tt, h)
-Alias-fits (spelling.IsAlias.given {y = y} e) h = (sign_fits y signs.Quoted e h.0, h.1)
+Alias-fits : {xs rest : List Read} {o : Option (List ℕ)} {c : Option ℕ} → IsAlias xs rest o c → AllFit xs → FitsContent o × IfSome c IsCost × AllFit rest
+Alias-fits spelling.IsAlias.absent h = (tt, tt, h)
+Alias-fits (spelling.IsAlias.given {y = y} e) h = (sign_fits y signs.Quoted e h.0, h.0.1, h.1)
 
 Token-fits : (xs rest : List Read) (t : TokenDecl) → IsToken xs rest t → AllFit xs → FitsToken t × AllFit rest
-Token-fits xs rest t (spelling.IsToken.token {x = x} e c a) h =
-    let p = Alias-fits a h.1 in (record { name = sign_fits x signs.Word e h.0; capital = c; alias = p.0; cost = refl }, p.1)
+Token-fits xs rest t (spelling.IsToken.token {x = x} {c = d} e c a) h =
+    let p = Alias-fits a h.1 in (record { name = sign_fits x signs.Word e h.0; capital = c; alias = p.0; cost = first_ready x.cost d h.0.1 p.1 }, p.2)
 
 Word-fits : (xs rest : List Read) (n : List ℕ) → IsWord xs rest n → AllFit xs → Text kinds.Word n × AllFit rest
 Word-fits xs rest n (spelling.IsWord.word {x = x} e) h = (sign_fits x signs.Word e h.0, h.1)

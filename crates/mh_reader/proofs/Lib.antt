@@ -1,3 +1,4 @@
+pub mod Priced
 pub mod Heads
 pub mod Again
 pub mod Sound

@@ -1,27 +1,17 @@
 -- A file that spells no module has one line that says where.
-use Rattle.std.proofs.Common.{◌≡◌, ℕ, List, [], ◌∷◌, ◌++◌, Some, None, sym, ap, subst, ◌∙◌, append_assoc}
+use Rattle.std.proofs.Common.{◌≡◌, ℕ, List, [], ◌∷◌, ◌++◌, Some, None, sym, ap, subst, ◌∙◌}
 use Rattle.mh_lex.specs.declared.kinds.Lexeme.{Lexeme}
 use Rattle.mh_lex.specs.Lexing.{line_at}
 use Rattle.mh_lex.proofs.Takes.{LexesFrom-once}
 use Rattle.mh_rules.specs.declared.modules.Module.{Module}
-use Rattle.mh_reader.specs.Signs.{Read, reads_of}
-use Rattle.mh_rules.specs.Modules.{no_module}
-use Rattle.mh_reader.specs.Spelling.{File, Spells, Begins}
+use Rattle.mh_reader.specs.Signs.{reads_of}
+use Rattle.mh_reader.specs.Spelling.{Spells, Begins}
 use Rattle.mh_reader.specs.Faults.{IsHalt, IsSyntaxLine}
 use Rattle.mh_reader.specs.Faults.IsHalt.{unexpected, unfinished}
 use Rattle.mh_reader.specs.Faults.IsSyntaxLine.{lexical, syntactic}
-use Rattle.mh_reader.proofs.Exact.{reads_of-append, spelled_once}
-
--- what begins a file begins it with its first ones
-begins_first : (xs ys : List Read) → Begins (xs ++ ys) → Begins xs
-begins_first xs ys (zs, m, f) = (ys ++ zs, m, subst (λ k. File no_module k m) (append_assoc xs ys zs) f)
+use Rattle.mh_reader.proofs.Exact.{begins_lexemes, spelled_once}
 
 module _ (bytes : List ℕ) where
-  begins_lexemes : (before after : List Lexeme) (l : Lexeme) → Begins (reads_of bytes (before ++ l ∷ after)) → Begins (reads_of bytes (before ++ l ∷ []))
-  begins_lexemes before after l b =
-      begins_first (reads_of bytes (before ++ l ∷ [])) (reads_of bytes after)
-      (subst Begins (ap (λ k. reads_of bytes k) (sym (append_assoc before (l ∷ []) after)) ∙ reads_of-append bytes (before ++ l ∷ []) after) b)
-
   -- Two places at which one list breaks: the same one, or one stands before the other.
   data Meets (l k : Lexeme) (before behind : List Lexeme) : Type 0 where
     same : l ≡ k → Meets l k before behind
@@ -44,7 +34,7 @@ module _ (bytes : List ℕ) where
 
   -- with the one nothing begins, with the other something does
   not_earlier : (before behind mid : List Lexeme) (l : Lexeme) → behind ≡ before ++ l ∷ mid → (Begins (reads_of bytes (before ++ l ∷ [])) → ⊥) → Begins (reads_of bytes behind) → ⊥
-  not_earlier before behind mid l e never b = never (begins_lexemes before mid l (subst (λ k. Begins (reads_of bytes k)) e b))
+  not_earlier before behind mid l e never b = never (begins_lexemes bytes before mid l (subst (λ k. Begins (reads_of bytes k)) e b))
 
   places_once : (before behind : List Lexeme) (l k : Lexeme) → Begins (reads_of bytes before) → Begins (reads_of bytes behind) →
       (Begins (reads_of bytes (before ++ l ∷ [])) → ⊥) → (Begins (reads_of bytes (behind ++ k ∷ [])) → ⊥) → Meets l k before behind → l ≡ k

@@ -1,9 +1,12 @@
 -- What is printed spells what was printed.
-use Rattle.std.proofs.Common.{◌≡◌, ◌≢◌, ◌+◌, ◌-◌, ◌<◌, ℕ, List, [], ◌∷◌, ◌++◌, length, take, drop, map, Option, Some, None, Bool, true, false, Result, Ok, Err, codes, refl, sym, ap, subst, ◌∙◌, append_assoc, length-append, arith}
+use Rattle.std.proofs.Common.{◌≡◌, ◌≢◌, ◌+◌, ◌-◌, ◌<◌, ℕ, List, [], ◌∷◌, ◌++◌, length, take, drop, map, Option, Some, None, Bool, true, false, Result, Ok, Err, codes, decimal, refl, sym, ap, subst, ◌∙◌, append_assoc, length-append, arith}
+use Rattle.std.specs.Prelude.{IfSome}
+use Rattle.std.specs.Option.{option_or}
 use Rattle.std.specs.List.{AllByRecursion, flat_map}
 use Rattle.std.proofs.lemmas.List.{append-nil}
 use Rattle.mh_grammar.specs.declared.types.Assoc.{Assoc}
 use Rattle.mh_grammar.specs.declared.types.Assoc.TheVariants.{Left, Right, Nonassoc}
+use Rattle.mh_lex.specs.declared.kinds.Kind.{Kind}
 use Rattle.mh_lex.specs.declared.kinds.Kind.TheVariants as kinds
 use Rattle.mh_lex.specs.declared.kinds.SyntaxFault.{SyntaxFault}
 use Rattle.mh_lex.specs.declared.kinds.SyntaxFault.TheVariants.{Syntax, Memory}
@@ -20,14 +23,18 @@ use Rattle.mh_rules.specs.declared.modules.Rule.{Rule}
 use Rattle.mh_rules.specs.declared.modules.TokenDecl.{TokenDecl}
 use Rattle.mh_rules.specs.declared.modules.LevelDecl.{LevelDecl}
 use Rattle.mh_rules.specs.declared.modules.Module.{Module}
-use Rattle.mh_reader.specs.Signs.{Read, kept, sign_by, text_by, reads_of, keyword_sign}
+use Rattle.mh_reader.specs.declared.signs.Sign.TheVariants as signs
+use Rattle.mh_reader.specs.Costs.{cost_of}
+use Rattle.mh_reader.specs.Signs.{Read, cost_along, cost_behind, kept, sign_by, text_by, reads_of, keyword_sign}
 use Rattle.mh_reader.specs.Spelling as spelling
 use Rattle.mh_rules.specs.Modules.{no_module}
 use Rattle.mh_reader.specs.Spelling.{Limited, ListOf, IsAlias, IsToken, IsRef, Declaration, Producers, IsPrec, Productions, Groups, Modifiers, Formals, MayFormals, IsRule, Rules, File, Spells}
 use Rattle.mh_reader.specs.Faults.{Reads}
-use Rattle.mh_reader.specs.Printed.{Piece, word, mark, keyword, percents, action, ref_piece, bracket_end, actual_pieces, prec_pieces, alternative_pieces, modifier_pieces, formals_pieces, rule_pieces, alias_pieces, token_pieces, start_pieces, assoc_word, level_pieces, on_error_pieces, module_pieces}
-use Rattle.mh_reader.proofs.Again.{map_none}
-use Rattle.mh_reader.proofs.Fitting.{take_all, content_again, all_joined, lexemes_fit, FitsRef, FitsContent, FitsPrec, FitsPiece, Printable, reads, reads-append, ref_reads, ref_again, ref_printable, mark_printable, FitsActual, FitsToken, FitsAlternative, FitsRule, FitsLevel, FitsModule, spelled_fitting}
+use Rattle.mh_reader.specs.Printed.{Piece, word, mark, keyword, percents, action, ref_piece, bracket_end, actual_pieces, prec_pieces, alternative_pieces, modifier_pieces, formals_pieces, rule_pieces, alias_pieces, cost_text, cost_pieces, token_pieces, start_pieces, assoc_word, level_pieces, on_error_pieces, module_pieces}
+use Rattle.mh_grammar.specs.Costs.{IsCost}
+use Rattle.mh_reader.proofs.Priced.{cost_printed, cost_digits}
+use Rattle.mh_reader.proofs.Again.{map_none, option_or-none}
+use Rattle.mh_reader.proofs.Fitting.{take_all, content_again, all_joined, lexemes_fit, FitsRef, FitsContent, FitsPrec, is_plain, is_attribute, FitsPiece, Printable, reads, reads-append, ref_reads, ref_again, ref_printable, mark_printable, FitsActual, FitsToken, FitsAlternative, FitsRule, FitsLevel, FitsModule, spelled_fitting}
 
 -- LISTS IN DECLARATIONS
 
@@ -45,10 +52,6 @@ actuals_again (a ∷ ks) done rest h =
     (subst (λ xs. ListOf Actual Limited done xs rest ((done ++ a ∷ []) ++ ks)) (sym (reads-append (actual_pieces a) (flat_map actual_pieces ks) rest))
     (spelling.ListOf.next (h.0.again (reads (flat_map actual_pieces ks) rest)) (actuals_again ks (done ++ a ∷ []) rest h.1)))
 
-alias_again : (o : Option (List ℕ)) (rest : List Read) → IsAlias (reads (alias_pieces o) rest) rest o
-alias_again None rest = spelling.IsAlias.absent
-alias_again (Some s) rest = subst (λ l. IsAlias (reads (alias_pieces (Some s)) rest) rest (Some l)) (content_again s) (spelling.IsAlias.given refl)
-
 -- DECLARATIONS
 
 -- one declaration for each item, which adds it to those before
@@ -60,13 +63,6 @@ declared_again pieces P made one (a ∷ ks) done rest out h f =
     subst (λ xs. File (made done) xs out) (sym (reads-append (pieces a) (flat_map pieces ks) rest))
     (spelling.File.declared (one done a (reads (flat_map pieces ks) rest) h.0)
     (declared_again pieces P made one ks (done ++ a ∷ []) rest out h.1 (subst (λ l. File (made l) rest out) (sym (append_assoc done (a ∷ []) ks)) f)))
-
-token_again : (m : Module) (done : List TokenDecl) (t : TokenDecl) (rest : List Read) → FitsToken t →
-    Declaration (record m { tokens = done }) (reads (token_pieces t) rest) rest (record m { tokens = done ++ t ∷ [] })
-unfolding keyword_sign
-token_again m done t rest h =
-    subst (λ c. Declaration (record m { tokens = done }) (reads (token_pieces t) rest) rest (record m { tokens = done ++ record t { cost = c } ∷ [] })) (sym h.cost)
-    (spelling.Declaration.tokens refl spelling.MayType.absent (spelling.ListOf.next (spelling.IsToken.token refl h.capital (alias_again t.alias rest)) spelling.ListOf.none))
 
 start_again : (m : Module) (done : List (List ℕ)) (n : List ℕ) (rest : List Read) → Text kinds.Word n →
     Declaration (record m { starts = done }) (reads (start_pieces n) rest) rest (record m { starts = done ++ n ∷ [] })
@@ -171,29 +167,6 @@ rules_again m (r ∷ ks) done h =
     (subst (λ l. Rules (record m { rules = done }) (reads (rule_pieces r) (reads (flat_map rule_pieces ks) [])) (record m { rules = l })) (append_assoc done (r ∷ []) ks)
     (spelling.Rules.more (rule_of_fitting r (reads (flat_map rule_pieces ks) []) h.0) (rules_again m ks (done ++ r ∷ []) h.1)))
 
--- A WHOLE MODULE
-
-module_again : (m : Module) → FitsModule m → File no_module (reads (module_pieces m) []) m
-module_again m h =
-    let rules = percents ∷ flat_map rule_pieces m.rules in
-    let on_error = flat_map on_error_pieces m.on_error in
-    let levels = flat_map level_pieces m.levels in
-    let starts = flat_map start_pieces m.starts in
-    let tokens = flat_map token_pieces m.tokens in
-    let with_tokens : Module = record no_module { tokens = m.tokens } in
-    let with_starts : Module = record with_tokens { starts = m.starts } in
-    let with_levels : Module = record with_starts { levels = m.levels } in
-    let with_on_error : Module = record with_levels { on_error = m.on_error } in
-    let one = spelling.File.ruled refl (rules_again with_on_error m.rules [] h.rules) in
-    let two = declared_again on_error_pieces (AllByRecursion FitsActual) (λ ks. record with_levels { on_error = ks }) (on_error_again with_levels) m.on_error [] (reads rules []) m h.on_error one in
-    let three = declared_again level_pieces FitsLevel (λ ks. record with_starts { levels = ks }) (level_again with_starts) m.levels [] (reads on_error (reads rules [])) m h.levels two in
-    let four = declared_again start_pieces (Text kinds.Word) (λ ks. record with_tokens { starts = ks }) (start_again with_tokens) m.starts [] (reads levels (reads on_error (reads rules []))) m h.starts three in
-    let five = declared_again token_pieces FitsToken (λ ks. record no_module { tokens = ks }) (token_again no_module) m.tokens [] (reads starts (reads levels (reads on_error (reads rules [])))) m h.tokens four in
-    let split : reads (module_pieces m) [] ≡ reads tokens (reads starts (reads levels (reads on_error (reads rules [])))) =
-    reads-append tokens (starts ++ (levels ++ (on_error ++ rules))) [] ∙ ap (λ xs. reads tokens xs) (reads-append starts (levels ++ (on_error ++ rules)) [] ∙
-    ap (λ xs. reads starts xs) (reads-append levels (on_error ++ rules) [] ∙ ap (λ xs. reads levels xs) (reads-append on_error rules []))) in
-    subst (λ xs. File no_module xs m) (sym split) five
-
 -- TEXTS
 
 pieces_printable : {X : Type 0} (pieces : X → List Piece) (P : X → Type 0) → ((x : X) → P x → Printable (pieces x)) → (xs : List X) → AllByRecursion P xs → Printable (flat_map pieces xs)
@@ -209,10 +182,6 @@ keyword_printable w h = (texts.Text.keyword h, refl)
 alias_printable : (o : Option (List ℕ)) → FitsContent o → Printable (alias_pieces o)
 alias_printable None h = tt
 alias_printable (Some s) h = ((texts.Text.quoted s h, refl), tt)
-
-token_printable : (t : TokenDecl) → FitsToken t → Printable (token_pieces t)
-unfolding is_keyword
-token_printable t h = (keyword_printable (codes "token") refl, ((h.name, refl), alias_printable t.alias h.alias))
 
 start_printable : (n : List ℕ) → Text kinds.Word n → Printable (start_pieces n)
 unfolding is_keyword
@@ -270,6 +239,18 @@ rule_printable r h =
           (mark_printable 58 refl, pieces_printable alternative_pieces FitsAlternative alternative_printable r.alternatives h.alternatives),
     )
 
+-- a plain lexeme is no %%
+plain_one : (k : Kind) → is_plain k ≡ true → one_of k ≡ 0
+plain_one kinds.Percents e = absurd (cc)
+plain_one kinds.Attribute e = absurd (cc)
+plain_one kinds.Word e = refl
+plain_one kinds.Mark e = refl
+plain_one kinds.Keyword e = refl
+plain_one kinds.Quoted e = refl
+plain_one kinds.Header e = refl
+plain_one kinds.Action e = refl
+plain_one kinds.TypeText e = refl
+
 -- among so many texts there are at most so many %%
 record Mixed (n : ℕ) (ts : List Piece) : Type 0 where
   texts : AllByRecursion IsText ts
@@ -279,7 +260,27 @@ printable_mixed : (ts us : List Piece) (n : ℕ) → Printable ts → Mixed n us
 printable_mixed [] us n h k = k
 printable_mixed (t ∷ ts) us n h k =
     let later = printable_mixed ts us n h.1 k in
-    record { texts = (h.0.0, later.texts); count = ap (λ m. m + count_of_percents (ts ++ us)) h.0.1 ∙ (omega (arith, later.count)) }
+    record { texts = (h.0.0, later.texts); count = ap (λ m. m + count_of_percents (ts ++ us)) (plain_one t.0 h.0.1) ∙ (omega (arith, later.count)) }
+
+-- the lexemes of a token, with its cost
+alias_texts : (o : Option (List ℕ)) → FitsContent o → (us : List Piece) (n : ℕ) → Mixed n us → Mixed n (alias_pieces o ++ us)
+alias_texts o h us n k = printable_mixed (alias_pieces o) us n (alias_printable o h) k
+
+cost_texts : (c : Option ℕ) → IfSome c IsCost → (us : List Piece) (n : ℕ) → Mixed n us → Mixed n (cost_pieces c ++ us)
+cost_texts None h us n k = k
+cost_texts (Some c) h us n k = record { texts = (texts.Text.cost (decimal c) (cost_digits c h.1), k.texts); count = omega (arith, k.count) }
+
+token_texts : (t : TokenDecl) → FitsToken t → (us : List Piece) (n : ℕ) → Mixed n us → Mixed n (token_pieces t ++ us)
+unfolding is_keyword
+token_texts t h us n k =
+    let inner = subst (Mixed n) (sym (append_assoc (alias_pieces t.alias) (cost_pieces t.cost) us))
+    (alias_texts t.alias h.alias (cost_pieces t.cost ++ us) n (cost_texts t.cost h.cost us n k)) in
+    record { texts = (texts.Text.keyword refl, (h.name, inner.texts)); count = omega (arith, inner.count) }
+
+tokens_texts : (ts : List TokenDecl) → AllByRecursion FitsToken ts → (us : List Piece) (n : ℕ) → Mixed n us → Mixed n (flat_map token_pieces ts ++ us)
+tokens_texts [] h us n k = k
+tokens_texts (t ∷ ts) h us n k =
+    subst (Mixed n) (sym (append_assoc (token_pieces t) (flat_map token_pieces ts) us)) (token_texts t h.0 (flat_map token_pieces ts ++ us) n (tokens_texts ts h.1 us n k))
 
 nothing_mixed : Mixed 0 []
 nothing_mixed = record { texts = tt; count = refl }
@@ -293,14 +294,154 @@ module_mixed m h =
     let behind : Mixed 0 (flat_map rule_pieces m.rules) = subst (λ l. Mixed 0 l) (append-nil (flat_map rule_pieces m.rules))
     (printable_mixed (flat_map rule_pieces m.rules) [] 0 (pieces_printable rule_pieces FitsRule rule_printable m.rules h.rules) nothing_mixed) in
     let ruled : Mixed 1 rules = record { texts = (texts.Text.percents, behind.texts); count = omega (arith, behind.count) } in
-    printable_mixed (flat_map token_pieces m.tokens) (starts ++ (levels ++ (on_error ++ rules))) 1 (pieces_printable token_pieces FitsToken token_printable m.tokens h.tokens)
+    tokens_texts m.tokens h.tokens (starts ++ (levels ++ (on_error ++ rules))) 1
     (printable_mixed starts (levels ++ (on_error ++ rules)) 1 (pieces_printable start_pieces (Text kinds.Word) start_printable m.starts h.starts)
     (printable_mixed levels (on_error ++ rules) 1 (pieces_printable level_pieces FitsLevel level_printable m.levels h.levels)
     (printable_mixed on_error rules 1 (pieces_printable on_error_pieces (AllByRecursion FitsActual) on_error_printable m.on_error h.on_error) ruled)))
 
+-- COSTS
+
+-- the cost of the first cost attribute among the attributes at the front
+abbrev cost_before : List Piece → Option ℕ
+cost_before [] = None
+cost_before (t ∷ ts) = cost_along (sign_by t.0 t.1) t.1 (cost_before ts)
+
+-- lexemes as the grammar sees them, with their costs
+abbrev costed_reads : List Piece → List Read
+costed_reads [] = []
+costed_reads (t ∷ ts) = kept (sign_by t.0 t.1) (text_by t.0 t.1) (cost_before ts) ++ costed_reads ts
+
+abbrev IsNoAttribute : Piece → Type 0
+IsNoAttribute t = is_attribute t.0 ≡ false
+
+plain_other : (ts : List Piece) → Printable ts → AllByRecursion IsNoAttribute ts
+plain_other [] h = tt
+plain_other (t ∷ ts) h = (plain_no t.0 h.0.1, plain_other ts h.1)
+  where
+    plain_no : (k : Kind) → is_plain k ≡ true → is_attribute k ≡ false
+    plain_no kinds.Percents e = refl
+    plain_no kinds.Attribute e = cc
+    plain_no kinds.Word e = refl
+    plain_no kinds.Mark e = refl
+    plain_no kinds.Keyword e = refl
+    plain_no kinds.Quoted e = refl
+    plain_no kinds.Header e = refl
+    plain_no kinds.Action e = refl
+    plain_no kinds.TypeText e = refl
+
+other_along : (k : Kind) (t : List ℕ) (c : Option ℕ) → is_attribute k ≡ false → cost_along (sign_by k t) t c ≡ None
+other_along kinds.Attribute t c e = absurd (cc)
+other_along kinds.Percents t c e = refl
+other_along kinds.Word t c e = refl
+other_along kinds.Mark t c e = refl
+other_along kinds.Keyword t c e = refl
+other_along kinds.Quoted t c e = refl
+other_along kinds.Header t c e = refl
+other_along kinds.Action t c e = refl
+other_along kinds.TypeText t c e = refl
+
+no_cost : (ts : List Piece) → AllByRecursion IsNoAttribute ts → cost_before ts ≡ None
+no_cost [] h = refl
+no_cost (t ∷ ts) h = other_along t.0 t.1 (cost_before ts) h.0
+
+-- without attributes there are no costs
+without_costs : (ts : List Piece) → AllByRecursion IsNoAttribute ts → costed_reads ts ≡ reads ts []
+without_costs [] h = refl
+without_costs (t ∷ ts) h =
+    ap (λ c. kept (sign_by t.0 t.1) (text_by t.0 t.1) c ++ costed_reads ts) (no_cost ts h.1) ∙ ap (λ l. kept (sign_by t.0 t.1) (text_by t.0 t.1) None ++ l) (without_costs ts h.1)
+
+-- TOKENS
+
+token_again : (m : Module) (done : List TokenDecl) (t : TokenDecl) (us : List Piece) → FitsToken t → cost_before us ≡ None →
+    Declaration (record m { tokens = done }) (costed_reads (token_pieces t ++ us)) (costed_reads us) (record m { tokens = done ++ t ∷ [] })
+unfolding keyword_sign
+token_again m done t us h e = by t.alias t.cost h.cost
+  where
+    made : Option (List ℕ) → Option ℕ → TokenDecl
+    made o c = record { name = t.name; alias = o; cost = c }
+
+    declared : (o : Option (List ℕ)) (c : Option ℕ) (xs : List Read) → IsToken xs (costed_reads us) (made o c) →
+        Declaration (record m { tokens = done }) (record { sign = signs.Token; text = 37 ∷ codes "token"; cost = None } ∷ xs) (costed_reads us) (record m { tokens = done ++ made o c ∷ [] })
+    declared o c xs x = spelling.Declaration.tokens refl spelling.MayType.absent (spelling.ListOf.next x spelling.ListOf.none)
+
+    word_read : Option ℕ → Read
+    word_read c = record { sign = signs.Word; text = t.name; cost = c }
+
+    bare : (c d : Option ℕ) → c ≡ d → IsToken (word_read c ∷ costed_reads us) (costed_reads us) (made None d)
+    bare c d same = subst (λ k. IsToken (word_read c ∷ costed_reads us) (costed_reads us) (made None k)) (option_or-none c ∙ same) (spelling.IsToken.token refl h.capital spelling.IsAlias.absent)
+
+    aliased : (s : List ℕ) (c d : Option ℕ) → c ≡ d →
+        IsToken (word_read None ∷ record { sign = signs.Quoted; text = text_by kinds.Quoted (34 ∷ s ++ 34 ∷ []); cost = c } ∷ costed_reads us) (costed_reads us) (made (Some s) d)
+    aliased s c d same =
+        subst (λ k. IsToken (word_read None ∷ record { sign = signs.Quoted; text = text_by kinds.Quoted (34 ∷ s ++ 34 ∷ []); cost = c } ∷ costed_reads us) (costed_reads us) (made (Some s) k)) same
+        (subst (λ l. IsToken (word_read None ∷ record { sign = signs.Quoted; text = text_by kinds.Quoted (34 ∷ s ++ 34 ∷ []); cost = c } ∷ costed_reads us) (costed_reads us) (made (Some l) c)) (content_again s)
+        (spelling.IsToken.token refl h.capital (spelling.IsAlias.given refl)))
+
+    own : (n : ℕ) → IsCost n → option_or (cost_of (cost_text n)) (cost_before us) ≡ Some n
+    own n k = ap (λ c. option_or c (cost_before us)) (cost_printed n k)
+
+    by : (o : Option (List ℕ)) (c : Option ℕ) → IfSome c IsCost →
+        Declaration (record m { tokens = done }) (costed_reads ((keyword (codes "token") ∷ word t.name ∷ (alias_pieces o ++ cost_pieces c)) ++ us)) (costed_reads us) (record m { tokens = done ++ made o c ∷ [] })
+    by None None k = declared None None _ (bare (cost_before us) None e)
+    by None (Some n) k = declared None (Some n) _ (bare (option_or (cost_of (cost_text n)) (cost_before us)) (Some n) (own n k))
+    by (Some s) None k = declared (Some s) None _ (aliased s (cost_before us) None e)
+    by (Some s) (Some n) k = declared (Some s) (Some n) _ (aliased s (option_or (cost_of (cost_text n)) (cost_before us)) (Some n) (own n k))
+
+tokens_before : (ks : List TokenDecl) (us : List Piece) → cost_before us ≡ None → cost_before (flat_map token_pieces ks ++ us) ≡ None
+tokens_before [] us e = e
+tokens_before (t ∷ ks) us e = refl
+
+tokens_again : (m : Module) (ks done : List TokenDecl) (us : List Piece) (out : Module) → AllByRecursion FitsToken ks → cost_before us ≡ None →
+    File (record m { tokens = done ++ ks }) (costed_reads us) out → File (record m { tokens = done }) (costed_reads (flat_map token_pieces ks ++ us)) out
+tokens_again m [] done us out h e f = subst (λ l. File (record m { tokens = l }) (costed_reads us) out) (append-nil done) f
+tokens_again m (t ∷ ks) done us out h e f =
+    let later = flat_map token_pieces ks ++ us in
+    subst (λ l. File (record m { tokens = done }) (costed_reads l) out) (sym (append_assoc (token_pieces t) (flat_map token_pieces ks) us))
+    (spelling.File.declared (token_again m done t later h.0 (tokens_before ks us e))
+    (tokens_again m ks (done ++ t ∷ []) us out h.1 e (subst (λ l. File (record m { tokens = l }) (costed_reads us) out) (sym (append_assoc done (t ∷ []) ks)) f)))
+
+-- A WHOLE MODULE
+
+others_plain : (m : Module) → FitsModule m →
+    AllByRecursion IsNoAttribute (flat_map start_pieces m.starts ++ (flat_map level_pieces m.levels ++ (flat_map on_error_pieces m.on_error ++ percents ∷ flat_map rule_pieces m.rules)))
+others_plain m h =
+    let rules = percents ∷ flat_map rule_pieces m.rules in
+    let on_error = flat_map on_error_pieces m.on_error in
+    let levels = flat_map level_pieces m.levels in
+    let starts = flat_map start_pieces m.starts in
+    all_joined IsNoAttribute starts (levels ++ (on_error ++ rules)) (plain_other starts (pieces_printable start_pieces (Text kinds.Word) start_printable m.starts h.starts))
+    (all_joined IsNoAttribute levels (on_error ++ rules) (plain_other levels (pieces_printable level_pieces FitsLevel level_printable m.levels h.levels))
+    (all_joined IsNoAttribute on_error rules (plain_other on_error (pieces_printable on_error_pieces (AllByRecursion FitsActual) on_error_printable m.on_error h.on_error))
+    (refl, plain_other (flat_map rule_pieces m.rules) (pieces_printable rule_pieces FitsRule rule_printable m.rules h.rules))))
+
+module_again : (m : Module) → FitsModule m → File no_module (costed_reads (module_pieces m)) m
+module_again m h =
+    let rules = percents ∷ flat_map rule_pieces m.rules in
+    let on_error = flat_map on_error_pieces m.on_error in
+    let levels = flat_map level_pieces m.levels in
+    let starts = flat_map start_pieces m.starts in
+    let others = starts ++ (levels ++ (on_error ++ rules)) in
+    let with_tokens : Module = record no_module { tokens = m.tokens } in
+    let with_starts : Module = record with_tokens { starts = m.starts } in
+    let with_levels : Module = record with_starts { levels = m.levels } in
+    let with_on_error : Module = record with_levels { on_error = m.on_error } in
+    let one = spelling.File.ruled refl (rules_again with_on_error m.rules [] h.rules) in
+    let two = declared_again on_error_pieces (AllByRecursion FitsActual) (λ ks. record with_levels { on_error = ks }) (on_error_again with_levels) m.on_error [] (reads rules []) m h.on_error one in
+    let three = declared_again level_pieces FitsLevel (λ ks. record with_starts { levels = ks }) (level_again with_starts) m.levels [] (reads on_error (reads rules [])) m h.levels two in
+    let four = declared_again start_pieces (Text kinds.Word) (λ ks. record with_tokens { starts = ks }) (start_again with_tokens) m.starts [] (reads levels (reads on_error (reads rules []))) m h.starts three in
+    let plain = others_plain m h in
+    let split : costed_reads others ≡ reads starts (reads levels (reads on_error (reads rules []))) =
+    without_costs others plain ∙ reads-append starts (levels ++ (on_error ++ rules)) [] ∙
+    ap (λ xs. reads starts xs) (reads-append levels (on_error ++ rules) [] ∙ ap (λ xs. reads levels xs) (reads-append on_error rules [])) in
+    tokens_again no_module m.tokens [] others m h.tokens (no_cost others plain) (subst (λ xs. File with_tokens xs m) (sym split) four)
+
 -- what is laid out is read as it stands
-laid_reads : (bytes pre : List ℕ) (at : ℕ) (ts : List Piece) → bytes ≡ pre ++ laid ts → at ≡ length pre → reads_of bytes (places at ts) ≡ reads ts []
-laid_reads bytes pre at [] e n = refl
+record Laid (bytes : List ℕ) (at : ℕ) (ts : List Piece) : Type 0 where
+  costs : cost_behind bytes (places at ts) ≡ cost_before ts
+  reads : reads_of bytes (places at ts) ≡ costed_reads ts
+
+laid_reads : (bytes pre : List ℕ) (at : ℕ) (ts : List Piece) → bytes ≡ pre ++ laid ts → at ≡ length pre → Laid bytes at ts
+laid_reads bytes pre at [] e n = record { costs = refl; reads = refl }
 laid_reads bytes pre at (t ∷ ts) e n =
     let l : Lexeme = record { kind = t.0; start = at; end = at + length t.1 } in
     let size : (at + length t.1) - at ≡ length t.1 = omega arith in
@@ -308,8 +449,13 @@ laid_reads bytes pre at (t ∷ ts) e n =
     let own : bytes_of bytes l ≡ t.1 = ap (λ k. take k (drop at bytes)) size ∙ ap (λ k. take (length t.1) k) tail ∙ take_all t.1 (32 ∷ laid ts) in
     let next : bytes ≡ (pre ++ (t.1 ++ 32 ∷ [])) ++ laid ts = e ∙ ap (λ k. pre ++ k) (sym (append_assoc t.1 (32 ∷ []) (laid ts))) ∙ sym (append_assoc pre (t.1 ++ 32 ∷ []) (laid ts)) in
     let place : at + length t.1 + 1 ≡ length (pre ++ (t.1 ++ 32 ∷ [])) = omega (arith, n, length-append pre (t.1 ++ 32 ∷ []), length-append t.1 (32 ∷ [])) in
-    ap (λ k. kept (sign_by t.0 k) (text_by t.0 k) ++ reads_of bytes (places (at + length t.1 + 1) ts)) own ∙
-    ap (λ k. kept (sign_by t.0 t.1) (text_by t.0 t.1) ++ k) (laid_reads bytes (pre ++ (t.1 ++ 32 ∷ [])) (at + length t.1 + 1) ts next place)
+    let later = laid_reads bytes (pre ++ (t.1 ++ 32 ∷ [])) (at + length t.1 + 1) ts next place in
+    let behind = places (at + length t.1 + 1) ts in
+    record {
+      costs = ap (λ k. cost_along (sign_by t.0 k) k (cost_behind bytes behind)) own ∙ ap (λ c. cost_along (sign_by t.0 t.1) t.1 c) later.costs;
+      reads = ap (λ k. kept (sign_by t.0 k) (text_by t.0 k) (cost_behind bytes behind) ++ reads_of bytes behind) own ∙
+          ap (λ c. kept (sign_by t.0 t.1) (text_by t.0 t.1) c ++ reads_of bytes behind) later.costs ∙ ap (λ k. kept (sign_by t.0 t.1) (text_by t.0 t.1) (cost_before ts) ++ k) later.reads;
+    }
 
 pub printed_spells : (bytes : List ℕ) (m : Module) → Spells bytes m → Spells (laid (module_pieces m)) m
 printed_spells bytes m h =
@@ -318,7 +464,7 @@ printed_spells bytes m h =
     let few : count_of_percents (module_pieces m) < 2 = omega (arith, mixed.count) in (
       places 0 (module_pieces m),
       laid_lexes (module_pieces m) mixed.texts few,
-      subst (λ xs. File no_module xs m) (sym (laid_reads (laid (module_pieces m)) [] 0 (module_pieces m) refl refl)) (module_again m fitting),
+      subst (λ xs. File no_module xs m) (sym (laid_reads (laid (module_pieces m)) [] 0 (module_pieces m) refl refl).reads) (module_again m fitting),
     )
 
 -- what is read from bytes that spell a module is this module

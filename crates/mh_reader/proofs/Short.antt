@@ -12,7 +12,7 @@ use Rattle.mh_rules.specs.declared.modules.Rule.{Rule}
 use Rattle.mh_rules.specs.declared.modules.TokenDecl.{TokenDecl}
 use Rattle.mh_rules.specs.declared.modules.Module.{Module}
 use Rattle.mh_reader.specs.declared.signs.Sign.{Sign}
-use Rattle.mh_reader.specs.Signs.{Read, reads_of, read_of, kept, sign_by, text_by}
+use Rattle.mh_reader.specs.Signs.{cost_behind, Read, reads_of, read_of, kept, sign_by, text_by}
 use Rattle.mh_rules.specs.Modules.{alternative, no_module}
 use Rattle.mh_reader.specs.Spelling.{Suffixed, Base, Args, IsActual, Limited, ListOf, IsAlias, IsToken, IsWord, IsRef, MayType, Declaration, Semicolons, IsProducer, Producers, IsPrec, Productions, Groups, with_prec, Modifiers, Formals, MayFormals, MayBar, IsRule, Rules, File, Spells}
 
@@ -125,12 +125,12 @@ list_less A X less done xs rest all ListOf.none = omega arith
 list_less A X less done xs rest all (ListOf.next {mid = mid} {a = a} h t) = omega (arith, less xs mid a h, list_less A X less (done ++ a ∷ []) mid rest all t)
 list_less A X less done xs rest all (ListOf.comma {xs = ys} {mid = mid} {a = a} e h t) = omega (arith, less ys mid a h, list_less A X less (done ++ a ∷ []) mid rest all t)
 
-alias_less : (xs rest : List Read) (o : Option (List ℕ)) → IsAlias xs rest o → length rest ≤ length xs
-alias_less xs rest o IsAlias.absent = omega arith
-alias_less xs rest o (IsAlias.given e) = omega arith
+alias_less : (xs rest : List Read) (o : Option (List ℕ)) (c : Option ℕ) → IsAlias xs rest o c → length rest ≤ length xs
+alias_less xs rest o c IsAlias.absent = omega arith
+alias_less xs rest o c (IsAlias.given e) = omega arith
 
 token_less : (xs rest : List Read) (t : TokenDecl) → IsToken xs rest t → length rest ≤ length xs
-token_less xs rest t (IsToken.token {xs = ys} {o = o} e f a) = omega (arith, alias_less ys rest o a)
+token_less xs rest t (IsToken.token {xs = ys} {o = o} {c = c} e f a) = omega (arith, alias_less ys rest o c a)
 
 word_less : (xs rest : List Read) (w : List ℕ) → IsWord xs rest w → length rest ≤ length xs
 word_less xs rest w (IsWord.word e) = omega arith
@@ -173,13 +173,13 @@ file_short n m xs out (File.declared {n = next} {mid = mid} d f) le short =
     file_short n next mid out f (omega (arith, declaration_less m xs mid next d)) (subst (AreShort n) (sym (declaration_rules m xs mid next d)) short)
 file_short n m xs out (File.ruled {xs = ys} e h) le short = rules_short n m ys out h (omega arith) short
 
-kept_few : (o : Option Sign) (text : List ℕ) → length (kept o text) ≤ 1
-kept_few None text = omega arith
-kept_few (Some g) text = omega arith
+kept_few : (o : Option Sign) (text : List ℕ) (c : Option ℕ) → length (kept o text c) ≤ 1
+kept_few None text c = omega arith
+kept_few (Some g) text c = omega arith
 
 reads_few : (bytes : List ℕ) (ls : List Lexeme) → length (reads_of bytes ls) ≤ length ls
 reads_few bytes [] = omega arith
-reads_few bytes (l ∷ ls) = omega (arith, kept_few (sign_by l.kind (bytes_of bytes l)) (text_by l.kind (bytes_of bytes l)), reads_few bytes ls, length-append (read_of bytes l) (reads_of bytes ls))
+reads_few bytes (l ∷ ls) = omega (arith, kept_few (sign_by l.kind (bytes_of bytes l)) (text_by l.kind (bytes_of bytes l)) (cost_behind bytes ls), reads_few bytes ls, length-append (read_of bytes l (cost_behind bytes ls)) (reads_of bytes ls))
 
 pub spelled_short : (n : ℕ) (bytes : List ℕ) (m : Module) → length bytes ≤ n → Spells bytes m → AreShort n m.rules
 spelled_short n bytes m le (ls, lx, f) = file_short n no_module (reads_of bytes ls) m f (omega (arith, reads_few bytes ls, lexes_few bytes ls None lx)) (All-nil (λ (r : Rule). Short n r.alternatives))

@@ -3,6 +3,7 @@ use Rattle.std.specs.Prelude.{◌⊎◌}
 use Rattle.std.proofs.Math.Nat.{max-le}
 use Rattle.std.proofs.lemmas.Bool.{leb-true}
 use Rattle.std.proofs.Common.{inl, inr, ◌≡◌, ◌≤◌, ◌+◌, ◌-◌, ℕ, suc, max, List, [], ◌∷◌, ◌++◌, length, map, Option, Some, None, Bool, true, false, refl, sym, subst, arith}
+use Rattle.std.specs.Option.{option_or}
 use Rattle.mh_rules.specs.declared.modules.Ref.{Ref}
 use Rattle.mh_rules.specs.declared.modules.Ref.TheVariants.{Plain, Alias}
 use Rattle.mh_rules.specs.declared.modules.Actual.{Actual}
@@ -27,8 +28,8 @@ use Rattle.mh_rules.specs.Modules.{applied, alternative}
 use Rattle.mh_reader.specs.Spelling.{ref_by, ref_of, suffix_of, with_prec, starts_with_bar, is_bar, Suffixed, Base, Args, IsActual, Limited, ListOf, IsAlias, IsToken, IsWord, IsRef, MayType, Declaration, Semicolons, IsProducer, Producers, IsPrec, Productions, Groups, Modifiers, Formals, MayFormals, MayBar, IsRule, Rules, File}
 use Rattle.mh_reader.specs.Limits.{Deep, IsShallow}
 use Rattle.mh_reader.specs.Machine as machine
-use Rattle.mh_reader.specs.Machine.{at, next_at, finish_at, run, go_on, fits, close, with_token, with_formal, named, drafted, produced, with_producer, with_argument, grouped, grouped_with, ruled}
-use Rattle.mh_reader.proofs.Again.{map_none}
+use Rattle.mh_reader.specs.Machine.{at, next_at, finish_at, run, go_on, costed, costed_place, fits, close, token_of, with_token, with_formal, named, drafted, produced, with_producer, with_argument, grouped, grouped_with, ruled}
+use Rattle.mh_reader.proofs.Again.{map_none, option_or-none}
 
 abbrev with_alternatives : Rule → List Alternative → Rule
 with_alternatives r ks = record r { alternatives = ks }
@@ -60,8 +61,8 @@ Typed ls P = (y : Read) × (xs : List Read) × (ls ≡ y ∷ xs) × (y.sign ≡ 
 abbrev pub Opened : Module → Listing → List Read → Module → Type 0
 Opened m l ls out = (mid : List Read) × MayType ls mid × InList m l mid out
 
-abbrev pub AtAlias : Module → List ℕ → List Read → Module → Type 0
-AtAlias m name ls out = (mid : List Read) × (o : Option (List ℕ)) × IsAlias ls mid o × InList (with_token m name o) lists.Tokens mid out
+abbrev pub AtAlias : Module → List ℕ → Option ℕ → List Read → Module → Type 0
+AtAlias m name c ls out = (mid : List Read) × (o : Option (List ℕ)) × (d : Option ℕ) × IsAlias ls mid o d × InList (with_token m (token_of name o (option_or c d))) lists.Tokens mid out
 
 -- behind the groups of a rule
 abbrev pub BehindRule : Module → Rule → List Read → Module → Type 0
@@ -165,7 +166,8 @@ Asks (places.Opening l) m ls out = Opened m l ls out
 Asks places.TypeOf m ls out = Typed ls (λ xs. InList m (lists.Actuals false []) xs out)
 Asks (places.Items l) m ls out = InList m l ls out
 Asks (places.Comma l) m ls out = AtItem m l ls out
-Asks (places.TokenNamed name) m ls out = AtAlias m name ls out
+Asks (places.TokenNamed name c) m ls out = AtAlias m name c ls out
+Asks (places.TokenAliased t) m ls out = InList (with_token m t) lists.Tokens ls out
 Asks places.ParameterType m ls out = Typed ls (λ xs. File m xs out)
 Asks places.Rules m ls out = Rules m ls out
 Asks (places.Modified p i) m ls out = InModifiers m p i ls out
@@ -297,7 +299,7 @@ last_percents m x ls out e (f, g) = subst (λ k. Rules m (x ∷ ls) k) (sym g) (
 module _ (x : Read) (xs : List Read) (out : Module) where
   -- what a reader wants of what follows
   abbrev Rest : Reader → Type 0
-  Rest t = Wants t xs out
+  Rest t = Wants (costed x.cost t) xs out
 
   back_declare : (m : Module) (g : Sign) → x.sign ≡ g → Stepped (machine.declare m g) Rest → File m (x ∷ xs) out
   back_declare m signs.Header e h = spelling.File.declared (spelling.Declaration.header e) h
@@ -313,7 +315,7 @@ module _ (x : Read) (xs : List Read) (out : Module) where
   back_declare m _ e h = absurd h
 
   back_token_name : (m : Module) (b : Bool) → x.sign ≡ signs.Word → is_capital x.text ≡ b → Stepped (machine.named_token m b x.text) Rest → AtItem m lists.Tokens (x ∷ xs) out
-  back_token_name m true e f (mid, o, a, h) = (mid, record { name = x.text; alias = o; cost = None }, spelling.IsToken.token e f a, h)
+  back_token_name m true e f (mid, o, c, a, h) = (mid, token_of x.text o (option_or x.cost c), spelling.IsToken.token e f a, h)
   back_token_name m false e f h = absurd h
 
   back_word : (m : Module) (l : Listing) → x.sign ≡ signs.Word → Stepped (machine.list_word m l x.text) Rest → AtItem m l (x ∷ xs) out
@@ -351,9 +353,15 @@ module _ (x : Read) (xs : List Read) (out : Module) where
   back_parameter m signs.TypeText e h = (x, xs, refl, e, h)
   back_parameter m _ e h = absurd h
 
-  back_token : (m : Module) (name : List ℕ) (g : Sign) → x.sign ≡ g → Stepped (machine.at_token m name g x.text) Rest → AtAlias m name (x ∷ xs) out
-  back_token m name signs.Quoted e h = (xs, Some x.text, spelling.IsAlias.given e, h)
-  back_token m name g e h = (x ∷ xs, None, spelling.IsAlias.absent, back_items (with_token m name None) lists.Tokens g e h)
+  back_token : (m : Module) (name : List ℕ) (c : Option ℕ) (g : Sign) → x.sign ≡ g → Stepped (machine.at_token m name c g x.text) Rest → AtAlias m name c (x ∷ xs) out
+  back_token m name c signs.Quoted e h = (xs, Some x.text, x.cost, spelling.IsAlias.given e, h)
+  back_token m name c g e h = (
+    x ∷ xs,
+    None,
+    None,
+    spelling.IsAlias.absent,
+    subst (λ d. InList (with_token m (token_of name None d)) lists.Tokens (x ∷ xs) out) (sym (option_or-none c)) (back_items (with_token m (token_of name None c)) lists.Tokens g e h),
+  )
 
   back_rules : (m : Module) (g : Sign) → x.sign ≡ g → Stepped (machine.in_rules m g x.text) Rest → Rules m (x ∷ xs) out
   back_rules m signs.Word e h = whole_rule m x (x ∷ xs) xs false false out spelling.Modifiers.none e h
@@ -504,7 +512,8 @@ module _ (x : Read) (xs : List Read) (out : Module) where
   back_at places.TypeOf m l h = back_type m x.sign refl h
   back_at (places.Items k) m l h = back_items m k x.sign refl h
   back_at (places.Comma k) m l h = back_comma m k x.sign refl h
-  back_at (places.TokenNamed name) m l h = back_token m name x.sign refl h
+  back_at (places.TokenNamed name c) m l h = back_token m name c x.sign refl h
+  back_at (places.TokenAliased t) m l h = back_items (with_token m t) lists.Tokens x.sign refl h
   back_at places.ParameterType m l h = back_parameter m x.sign refl h
   back_at places.Rules m l h = back_rules m x.sign refl h
   back_at (places.Modified p i) m l h = back_modified m p i x.sign refl h
@@ -577,9 +586,9 @@ parameter_safe : (m : Module) (g : Sign) → Safe (machine.at_parameter m g)
 parameter_safe m signs.TypeText = tt
 parameter_safe m _ = tt
 
-token_safe : (m : Module) (name : List ℕ) (g : Sign) (text : List ℕ) → Safe (machine.at_token m name g text)
-token_safe m name signs.Quoted text = tt
-token_safe m name g text = items_safe (with_token m name None) lists.Tokens g text
+token_safe : (m : Module) (name : List ℕ) (c : Option ℕ) (g : Sign) (text : List ℕ) → Safe (machine.at_token m name c g text)
+token_safe m name c signs.Quoted text = tt
+token_safe m name c g text = items_safe (with_token m (token_of name None c)) lists.Tokens g text
 
 rules_safe : (m : Module) (g : Sign) (text : List ℕ) → Safe (machine.in_rules m g text)
 rules_safe m signs.Word text = tt
@@ -693,7 +702,8 @@ next_safe (places.Opening k) m g text l = opening_safe m k g text
 next_safe places.TypeOf m g text l = type_safe m g
 next_safe (places.Items k) m g text l = items_safe m k g text
 next_safe (places.Comma k) m g text l = comma_safe m k g text
-next_safe (places.TokenNamed name) m g text l = token_safe m name g text
+next_safe (places.TokenNamed name c) m g text l = token_safe m name c g text
+next_safe (places.TokenAliased t) m g text l = items_safe (with_token m t) lists.Tokens g text
 next_safe places.ParameterType m g text l = parameter_safe m g
 next_safe places.Rules m g text l = rules_safe m g text
 next_safe (places.Modified p i) m g text l = modified_safe m p i g text
@@ -732,9 +742,21 @@ finished places.RuleEnd m out e = ([], spelling.Semicolons.none, subst (λ k. Ru
 finished places.Ended m out e = (refl, sym (same_module m out e))
 finished _ m out e = cc
 
-reads : (o : Option Reader) (xs : List Read) (out : Module) → go_on o (λ t. run t xs) ≡ Some out → Stepped o (λ t. run t xs ≡ Some out)
-reads None xs out e = cc
-reads (Some t) xs out e = e
+reads : (o : Option Reader) (c : Option ℕ) (xs : List Read) (out : Module) → go_on o (λ t. run (costed c t) xs) ≡ Some out → Stepped o (λ t. run (costed c t) xs ≡ Some out)
+reads None c xs out e = cc
+reads (Some t) c xs out e = e
+
+-- a cost counts behind a token alone
+pub costed_other : (c : Option ℕ) (p : Place) → ((name : List ℕ) (d : Option ℕ) → p ≡ places.TokenNamed name d → ⊥) → ((t : TokenDecl) → p ≡ places.TokenAliased t → ⊥) → costed_place c p ≡ p
+costed_other c (places.TokenNamed name d) a b = absurd (a name d refl)
+costed_other c (places.TokenAliased t) a b = absurd (b t refl)
+costed_other c _ a b = refl
+
+-- a cost leaves no deeper actual
+pub costed_shallow : (c : Option ℕ) (p : Place) → IsShallow p → IsShallow (costed_place c p)
+costed_shallow c (places.TokenNamed name d) h = tt
+costed_shallow c (places.TokenAliased t) h = tt
+costed_shallow c _ h = h
 
 stepped : (P Q : Reader → Type 0) (o : Option Reader) → Safe o → ((t : Reader) → IsShallow t.place → P t → Q t) → Stepped o P → Stepped o Q
 stepped P Q None l f h = absurd h
@@ -744,5 +766,5 @@ stepped P Q (Some t) l f h = f t l h
 pub sound : (ls : List Read) (s : Reader) (out : Module) → IsShallow s.place → run s ls ≡ Some out → Wants s ls out
 sound [] s out l e = finished s.place s.made out e
 sound (x ∷ xs) s out l e = back_at x xs out s.place s.made l
-    (stepped (λ t. run t xs ≡ Some out) (λ t. Wants t xs out) (next_at s.made s.place x.sign x.text) (next_safe s.place s.made x.sign x.text l)
-    (λ t k h. sound xs t out k h) (reads (next_at s.made s.place x.sign x.text) xs out e))
+    (stepped (λ t. run (costed x.cost t) xs ≡ Some out) (λ t. Wants (costed x.cost t) xs out) (next_at s.made s.place x.sign x.text) (next_safe s.place s.made x.sign x.text l)
+    (λ t k h. sound xs (costed x.cost t) out (costed_shallow x.cost t.place k) h) (reads (next_at s.made s.place x.sign x.text) x.cost xs out e))

@@ -1,9 +1,11 @@
 -- Reading one lexeme at a time.
 use Rattle.std.specs.Prelude.{◌≡◌, ◌+◌, ℕ, suc, max, nat_le, List, [], ◌∷◌, ◌++◌, length, map, Option, Some, None, Bool, true, false, Result, Ok, Err}
+use Rattle.std.specs.Option.{option_or}
 use Rattle.mh_rules.specs.declared.modules.Ref.{Ref}
 use Rattle.mh_rules.specs.declared.modules.Ref.TheVariants.{Plain, Alias}
 use Rattle.mh_rules.specs.declared.modules.Actual.{Actual}
 use Rattle.mh_rules.specs.declared.modules.Rule.{Rule}
+use Rattle.mh_rules.specs.declared.modules.TokenDecl.{TokenDecl}
 use Rattle.mh_rules.specs.declared.modules.Module.{Module}
 use Rattle.mh_reader.specs.declared.signs.Sign.{Sign}
 use Rattle.mh_reader.specs.declared.signs.Sign.TheVariants as signs
@@ -52,7 +54,7 @@ declare m signs.Percents = goes m places.Rules
 declare m _ = None
 
 abbrev pub named_token : Module → Bool → List ℕ → Option Reader
-named_token m true text = goes m (places.TokenNamed text)
+named_token m true text = goes m (places.TokenNamed text None)
 named_token m false text = None
 
 -- a word in a list
@@ -92,12 +94,18 @@ abbrev pub at_parameter : Module → Sign → Option Reader
 at_parameter m signs.TypeText = goes m places.Declarations
 at_parameter m _ = None
 
-abbrev pub with_token : Module → List ℕ → Option (List ℕ) → Module
-with_token m name o = record m { tokens = m.tokens ++ record { name = name; alias = o; cost = None } ∷ [] }
+abbrev pub token_of : List ℕ → Option (List ℕ) → Option ℕ → TokenDecl
+token_of name o c = record { name = name; alias = o; cost = c }
 
-abbrev pub at_token : Module → List ℕ → Sign → List ℕ → Option Reader
-at_token m name signs.Quoted text = goes (with_token m name (Some text)) (places.Items lists.Tokens)
-at_token m name g text = at_items (with_token m name None) lists.Tokens g text
+abbrev pub with_token : Module → TokenDecl → Module
+with_token m t = record m { tokens = m.tokens ++ t ∷ [] }
+
+abbrev pub at_token : Module → List ℕ → Option ℕ → Sign → List ℕ → Option Reader
+at_token m name c signs.Quoted text = goes m (places.TokenAliased (token_of name (Some text) c))
+at_token m name c g text = at_items (with_token m (token_of name None c)) lists.Tokens g text
+
+abbrev pub at_aliased : Module → TokenDecl → Sign → List ℕ → Option Reader
+at_aliased m t g text = at_items (with_token m t) lists.Tokens g text
 
 -- RULES
 
@@ -279,7 +287,8 @@ next_at m (places.Opening l) g text = at_opening m l g text
 next_at m places.TypeOf g text = at_type m g
 next_at m (places.Items l) g text = at_items m l g text
 next_at m (places.Comma l) g text = at_comma m l g text
-next_at m (places.TokenNamed name) g text = at_token m name g text
+next_at m (places.TokenNamed name c) g text = at_token m name c g text
+next_at m (places.TokenAliased t) g text = at_aliased m t g text
 next_at m places.ParameterType g text = at_parameter m g
 next_at m places.Rules g text = in_rules m g text
 next_at m (places.Modified p i) g text = at_modified m p i g text
@@ -303,13 +312,19 @@ next_at m (places.GroupClosed r) g text = behind_group m r g text
 next_at m places.RuleEnd g text = at_rule_end m g text
 next_at m places.Ended g text = None
 
-abbrev pub next : Reader → Read → Option Reader
-next s x = next_at s.made s.place x.sign x.text
+-- a cost behind the word or the alias of a token counts where there is none before it
+abbrev pub costed_place : Option ℕ → Place → Place
+costed_place c (places.TokenNamed name d) = places.TokenNamed name (option_or d c)
+costed_place c (places.TokenAliased t) = places.TokenAliased (record t { cost = option_or t.cost c })
+costed_place c p = p
 
--- one lexeme more, where an attribute is nothing
-abbrev pub taken : Reader → Option Sign → List ℕ → Option Reader
-taken s None text = Some s
-taken s (Some g) text = next_at s.made s.place g text
+abbrev pub costed : Option ℕ → Reader → Reader
+costed c s = at s.made (costed_place c s.place)
+
+-- one lexeme more, where of an attribute the cost alone counts
+abbrev pub taken : Reader → Option Sign → List ℕ → Option ℕ → Option Reader
+taken s None text c = Some (costed c s)
+taken s (Some g) text c = next_at s.made s.place g text
 
 -- the module, where the file may end here
 unfoldable pub finish_at : Module → Place → Option Module
@@ -330,7 +345,7 @@ go_on (Some s) ahead = ahead s
 -- the module that a reader gets from lexemes, if they are a whole file
 abbrev pub run : Reader → List Read → Option Module
 run s [] = finish s
-run s (x ∷ xs) = go_on (next s x) (λ t. run t xs)
+run s (x ∷ xs) = go_on (next_at s.made s.place x.sign x.text) (λ t. run (costed x.cost t) xs)
 
 -- nothing was read
 abbrev pub start : Reader

@@ -1,5 +1,5 @@
 -- How a module is printed: its lexemes in order, with a space behind each. Source: this project's profile.
-use Rattle.std.specs.Prelude.{◌≡◌, ℕ, List, [], ◌∷◌, ◌++◌, map, Option, Some, None, Bool, true, false, codes}
+use Rattle.std.specs.Prelude.{◌≡◌, ℕ, List, [], ◌∷◌, ◌++◌, map, Option, Some, None, Bool, true, false, codes, decimal}
 use Rattle.std.specs.List.{flat_map}
 use Rattle.mh_grammar.specs.declared.types.Assoc.{Assoc}
 use Rattle.mh_grammar.specs.declared.types.Assoc.TheVariants.{Left, Right, Nonassoc}
@@ -84,8 +84,16 @@ abbrev pub alias_pieces : Option (List ℕ) → List Piece
 alias_pieces None = []
 alias_pieces (Some s) = quoted s ∷ []
 
+-- [@cost n]
+abbrev pub cost_text : ℕ → List ℕ
+cost_text n = codes "[@cost " ++ (decimal n ++ 93 ∷ [])
+
+abbrev pub cost_pieces : Option ℕ → List Piece
+cost_pieces None = []
+cost_pieces (Some n) = (kinds.Attribute, cost_text n) ∷ []
+
 abbrev pub token_pieces : TokenDecl → List Piece
-token_pieces t = keyword (codes "token") ∷ word t.name ∷ alias_pieces t.alias
+token_pieces t = keyword (codes "token") ∷ word t.name ∷ (alias_pieces t.alias ++ cost_pieces t.cost)
 
 abbrev pub start_pieces : List ℕ → List Piece
 start_pieces n = keyword (codes "start") ∷ word n ∷ []

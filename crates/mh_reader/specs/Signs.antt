@@ -1,5 +1,6 @@
 -- What the lexemes of a file are to its grammar. Source: this project's profile of the Menhir manual's syntax of grammars.
 use Rattle.std.specs.Prelude.{ℕ, ◌-◌, ◌==◌, ◌&&◌, Bool, false, cond, List, [], ◌∷◌, ◌++◌, length, Option, Some, None, drop, take, nat_eq, nat_le, codes}
+use Rattle.std.specs.Option.{option_or}
 use Rattle.std.specs.Cmp.Lexicographic.{pointwise}
 use Rattle.mh_grammar.specs.declared.types.Assoc.TheVariants.{Left, Right, Nonassoc}
 use Rattle.mh_lex.specs.declared.kinds.Kind.{Kind}
@@ -9,11 +10,13 @@ use Rattle.mh_lex.specs.Bytes.{byte_at}
 use Rattle.mh_lex.specs.Texts.{bytes_of}
 use Rattle.mh_reader.specs.declared.signs.Sign.{Sign}
 use Rattle.mh_reader.specs.declared.signs.Sign.TheVariants as signs
+use Rattle.mh_reader.specs.Costs.{cost_of}
 
--- a lexeme as the grammar sees it
+-- a lexeme as the grammar sees it, with the cost that stands behind it
 pub record Read : Type 0 where
   pub sign : Sign
   pub text : List ℕ
+  pub cost : Option ℕ
 
 -- : | = , ; ( ) ? * +
 abbrev pub mark_sign : ℕ → Sign
@@ -45,7 +48,7 @@ keyword_sign w =
     (cond (pointwise nat_eq w (codes "inline")) signs.Inline
     (cond (pointwise nat_eq w (codes "prec")) signs.Prec signs.Unknown)))))))))))
 
--- what a lexeme with these bytes is; an attribute is nothing
+-- what a lexeme with these bytes is; an attribute is nothing to the grammar
 abbrev pub sign_by : Kind → List ℕ → Option Sign
 sign_by kinds.Word t = Some signs.Word
 sign_by kinds.Mark t = Some (mark_sign (byte_at t 0))
@@ -62,17 +65,27 @@ abbrev pub text_by : Kind → List ℕ → List ℕ
 text_by kinds.Quoted t = take (length t - 2) (drop 1 t)
 text_by _ t = t
 
-abbrev pub kept : Option Sign → List ℕ → List Read
-kept None t = []
-kept (Some g) t = record { sign = g; text = t } ∷ []
+-- an attribute's own cost, else that of what follows; behind any other lexeme it ends
+abbrev pub cost_along : Option Sign → List ℕ → Option ℕ → Option ℕ
+cost_along None t later = option_or (cost_of t) later
+cost_along (Some g) t later = None
 
-abbrev pub read_of : List ℕ → Lexeme → List Read
-read_of bytes l = kept (sign_by l.kind (bytes_of bytes l)) (text_by l.kind (bytes_of bytes l))
+-- the cost of the first cost attribute among the attributes at the front of these lexemes
+abbrev pub cost_behind : List ℕ → List Lexeme → Option ℕ
+cost_behind bytes [] = None
+cost_behind bytes (l ∷ ls) = cost_along (sign_by l.kind (bytes_of bytes l)) (bytes_of bytes l) (cost_behind bytes ls)
 
--- the lexemes of a file without its attributes
+abbrev pub kept : Option Sign → List ℕ → Option ℕ → List Read
+kept None t c = []
+kept (Some g) t c = record { sign = g; text = t; cost = c } ∷ []
+
+abbrev pub read_of : List ℕ → Lexeme → Option ℕ → List Read
+read_of bytes l c = kept (sign_by l.kind (bytes_of bytes l)) (text_by l.kind (bytes_of bytes l)) c
+
+-- the lexemes of a file without its attributes, each with the cost behind it
 abbrev pub reads_of : List ℕ → List Lexeme → List Read
 reads_of bytes [] = []
-reads_of bytes (l ∷ ls) = read_of bytes l ++ reads_of bytes ls
+reads_of bytes (l ∷ ls) = read_of bytes l (cost_behind bytes ls) ++ reads_of bytes ls
 
 -- A to Z
 abbrev pub is_capital : List ℕ → Bool

@@ -2,6 +2,7 @@
 -- after, what follows them, and what they leave, or what they make of what stood before. Source: the Menhir manual's
 -- syntax of grammars, and this project's profile.
 use Rattle.std.specs.Prelude.{◌≡◌, ◌≤◌, ℕ, suc, max, List, [], ◌∷◌, ◌++◌, map, Option, Some, None, Bool, true, false}
+use Rattle.std.specs.Option.{option_or}
 use Rattle.mh_grammar.specs.declared.types.Assoc.{Assoc}
 use Rattle.mh_lex.specs.declared.kinds.Lexeme.{Lexeme}
 use Rattle.mh_lex.specs.Lexing.{Lexes}
@@ -68,15 +69,15 @@ pub data ListOf (A : Type 0) (X : List Read → List Read → A → Type 0) : Li
   comma : {done all : List A} {y : Read} {xs mid rest : List Read} {a : A} →
       y.sign ≡ signs.Comma → X xs mid a → ListOf A X (done ++ a ∷ []) mid rest all → ListOf A X done (y ∷ xs) rest all
 
--- [string]
-pub data IsAlias : List Read → List Read → Option (List ℕ) → Type 0 where
-  absent : {xs : List Read} → IsAlias xs xs None
-  given : {y : Read} {xs : List Read} → y.sign ≡ signs.Quoted → IsAlias (y ∷ xs) xs (Some y.text)
+-- [string], and the cost behind it
+pub data IsAlias : List Read → List Read → Option (List ℕ) → Option ℕ → Type 0 where
+  absent : {xs : List Read} → IsAlias xs xs None None
+  given : {y : Read} {xs : List Read} → y.sign ≡ signs.Quoted → IsAlias (y ∷ xs) xs (Some y.text) y.cost
 
--- capital-word [string]
+-- capital-word [string], and the first cost behind the word or the string
 pub data IsToken : List Read → List Read → TokenDecl → Type 0 where
-  token : {x : Read} {xs rest : List Read} {o : Option (List ℕ)} →
-      x.sign ≡ signs.Word → is_capital x.text ≡ true → IsAlias xs rest o → IsToken (x ∷ xs) rest (record { name = x.text; alias = o; cost = None })
+  token : {x : Read} {xs rest : List Read} {o : Option (List ℕ)} {c : Option ℕ} →
+      x.sign ≡ signs.Word → is_capital x.text ≡ true → IsAlias xs rest o c → IsToken (x ∷ xs) rest (record { name = x.text; alias = o; cost = option_or x.cost c })
 
 pub data IsWord : List Read → List Read → List ℕ → Type 0 where
   word : {x : Read} {xs : List Read} → x.sign ≡ signs.Word → IsWord (x ∷ xs) xs x.text

@@ -5,7 +5,7 @@ ghost use Rattle.mh_reader.specs.Limits.{IsShallow};
 
 use crate::actuals::{after, at_argument, at_head, at_named};
 use crate::declarations::{
-    at_comma, at_items, at_opening, at_parameter, at_token, at_type, declare,
+    at_aliased, at_comma, at_items, at_opening, at_parameter, at_token, at_type, declare,
 };
 use crate::places::{Place, Reader, Refusal};
 use crate::rules::{
@@ -34,7 +34,8 @@ pub(crate) fn advance(
         Place::TypeOf => at_type(alloc, made, sign),
         Place::Items(listing) => at_items(alloc, made, listing, sign, text),
         Place::Comma(listing) => at_comma(alloc, made, listing, sign, text),
-        Place::TokenNamed(name) => at_token(alloc, made, name, sign, text),
+        Place::TokenNamed(name, cost) => at_token(alloc, made, name, cost, sign, text),
+        Place::TokenAliased(token) => at_aliased(alloc, made, token, sign, text),
         Place::ParameterType => at_parameter(made, sign),
         Place::Rules => in_rules(alloc, made, sign, text),
         Place::Modified(public, inlined) => {

@@ -77,16 +77,12 @@ fn add_name(names: Sequence<Ref>, name: Ref) -> Result<Sequence<Ref>, Memory>
     Ok(names)
 }
 
-/// A token, which may have an alias.
-fn add_token(made: Module, name: Name, alias: Option<Name>) -> Result<Module, Memory>
-    ensures { IfOk result (λ m. m ≡ machine.with_token made name alias) }
+/// A token more.
+fn add_token(made: Module, token: TokenDecl) -> Result<Module, Memory>
+    ensures { IfOk result (λ m. m ≡ machine.with_token made token) }
 {
     let mut made = made;
-    made.tokens.push(TokenDecl {
-        name,
-        alias,
-        cost: None,
-    })?;
+    made.tokens.push(token)?;
     Ok(made)
 }
 
@@ -100,7 +96,7 @@ fn list_word(alloc: Global, made: Module, listing: Listing, text: &[u8]) -> Resu
     match listing {
         Listing::Tokens => {
             if is_capital_word(text) {
-                go_to(made, Place::TokenNamed(name))
+                go_to(made, Place::TokenNamed(name, None))
             } else {
                 unexpected((made, name))
             }
@@ -235,22 +231,40 @@ pub(crate) fn at_token(
     alloc: Global,
     made: Module,
     name: Name,
+    cost: Option<u32>,
     sign: Sign,
     text: &[u8],
 ) -> Result<Reader, Refusal>
-    ensures { Refers (machine.at_token made name sign text.now) result }
+    ensures { Refers (machine.at_token made name cost sign text.now) result }
 {
     match sign {
         Sign::Quoted => match from_bytes(alloc, text) {
             Ok(alias) => {
-                let made = add_token(made, name, Some(alias))?;
-                go_to(made, Place::Items(Listing::Tokens))
+                let alias = Some(alias);
+                go_to(made, Place::TokenAliased(TokenDecl { name, alias, cost }))
             }
             Err(_) => no_memory((made, name)),
         },
         _ => {
-            let made = add_token(made, name, None)?;
-            at_items(alloc, made, Listing::Tokens, sign, text)
+            let token = TokenDecl {
+                name,
+                alias: None,
+                cost,
+            };
+            at_items(alloc, add_token(made, token)?, Listing::Tokens, sign, text)
         }
     }
+}
+
+/// Behind a token's alias.
+pub(crate) fn at_aliased(
+    alloc: Global,
+    made: Module,
+    token: TokenDecl,
+    sign: Sign,
+    text: &[u8],
+) -> Result<Reader, Refusal>
+    ensures { Refers (machine.at_aliased made token sign text.now) result }
+{
+    at_items(alloc, add_token(made, token)?, Listing::Tokens, sign, text)
 }

@@ -3,6 +3,7 @@
 
 mod actuals;
 mod advance;
+mod costs;
 mod declarations;
 mod laws;
 mod places;
@@ -12,7 +13,7 @@ mod rules;
 mod signs;
 mod stack;
 
-pub use laws::{line_once, spelled_once};
+pub use laws::{cost_is_spelled, line_once, spelled_once};
 pub use mh_rules::{Actual, Alternative, LevelDecl, Module, Ref, Rule, TokenDecl};
 pub use printing::print_module;
 pub use reading::read_module;

@@ -6,7 +6,7 @@ ghost use Rattle.mh_reader.specs.declared.places.Refusal.TheVariants as refusals
 
 use crate::stack::Stack;
 use mh_grammar::{Assoc, Memory, Name, Sequence};
-use mh_rules::{Actual, Alternative, Module, Ref, Rule};
+use mh_rules::{Actual, Alternative, Module, Ref, Rule, TokenDecl};
 use std::alloc::AllocError;
 
 /// Why a lexeme is not taken.
@@ -75,7 +75,10 @@ pub(crate) enum Place {
     /// The word of a list with its type, or an item.
     Items(Listing),
     Comma(Listing),
-    TokenNamed(Name),
+    /// A token's word, and the first cost behind it.
+    TokenNamed(Name, Option<u32>),
+    /// A token's word and alias, and the first cost behind either.
+    TokenAliased(TokenDecl),
     /// `%parameter`, behind which a type has to stand.
     ParameterType,
     /// The first `%%`.

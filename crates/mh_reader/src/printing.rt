@@ -1,7 +1,7 @@
 //! The text of a module.
 ghost use Rattle.std.specs.Prelude.{◌≡◌, ◌++◌, ◌∷◌, [], ◌≢◌, ℕ, List, Result, IfOk, OnOk, map, codes};
 ghost use Rattle.std.specs.List.{flat_map};
-ghost use Rattle.mh_reader.specs.Printed.{Writes, word, quoted, keyword, ref_piece, actual_pieces, prec_pieces, alternative_pieces, modifier_pieces, formals_pieces, rule_pieces, alias_pieces, token_pieces, start_pieces, assoc_word, level_pieces, on_error_pieces, module_pieces};
+ghost use Rattle.mh_reader.specs.Printed.{Writes, word, quoted, keyword, ref_piece, actual_pieces, prec_pieces, alternative_pieces, modifier_pieces, formals_pieces, rule_pieces, alias_pieces, cost_pieces, token_pieces, start_pieces, assoc_word, level_pieces, on_error_pieces, module_pieces};
 ghost use Rattle.mh_lex.specs.declared.kinds.SyntaxFault.{SyntaxFault};
 ghost use Rattle.mh_lex.specs.declared.kinds.SyntaxFault.TheVariants as faults;
 ghost use Rattle.mh_rules.specs.declared.modules.Module.{Module};
@@ -153,24 +153,44 @@ fn write_rules(text: &mut Vec<u8>, rules: &[Rule]) -> Result<(), Memory>
     Ok(())
 }
 
-/// Writes a token's declaration, with its alias if it has one.
-fn write_token(text: &mut Vec<u8>, token: &TokenDecl) -> Result<(), Memory>
-    ensures { OnOk result (Writes text.old.items text.new.items (token_pieces token.now)) }
+fn write_alias(text: &mut Vec<u8>, alias: &Option<Name>) -> Result<(), Memory>
+    ensures { OnOk result (Writes text.old.items text.new.items (alias_pieces alias.now)) }
 {
-    write_lexeme(text, b"%token")?;
-    write_lexeme(text, token.name.as_slice())?;
-    match &token.alias {
+    match alias {
         Some(alias) => write_quoted(text, alias.as_slice()),
         None => Ok(()),
     }
 }
 
+fn write_cost(alloc: Global, text: &mut Vec<u8>, cost: Option<u32>) -> Result<(), Memory>
+    ensures { OnOk result (Writes text.old.items text.new.items (cost_pieces cost)) }
+{
+    let Some(cost) = cost else {
+        return Ok(());
+    };
+    let number = format!(in alloc; "{cost}")?;
+    text.extend_from_slice(b"[@cost ")?;
+    text.extend_from_slice(number.as_bytes())?;
+    write_lexeme(text, b"]")
+}
+
+/// Writes a token's declaration, with its alias and its cost where it has them.
 #[tactic(auto, using(crate::proofs::Laid::laid_joined))]
-fn write_tokens(text: &mut Vec<u8>, tokens: &[TokenDecl]) -> Result<(), Memory>
+fn write_token(alloc: Global, text: &mut Vec<u8>, token: &TokenDecl) -> Result<(), Memory>
+    ensures { OnOk result (Writes text.old.items text.new.items (token_pieces token.now)) }
+{
+    write_lexeme(text, b"%token")?;
+    write_lexeme(text, token.name.as_slice())?;
+    write_alias(text, &token.alias)?;
+    write_cost(alloc, text, token.cost)
+}
+
+#[tactic(auto, using(crate::proofs::Laid::laid_joined))]
+fn write_tokens(alloc: Global, text: &mut Vec<u8>, tokens: &[TokenDecl]) -> Result<(), Memory>
     ensures { OnOk result (Writes text.old.items text.new.items (flat_map token_pieces tokens.now)) }
 {
     for token in tokens {
-        write_token(text, token)?;
+        write_token(alloc, text, token)?;
     }
     Ok(())
 }
@@ -230,10 +250,10 @@ fn write_on_error(text: &mut Vec<u8>, lists: &[Sequence<Actual>]) -> Result<(), 
 
 /// Writes a declaration for each token, start, level and list of `%on_error_reduce`, and the rules.
 #[tactic(auto, using(crate::proofs::Laid::laid_joined))]
-fn write_module(text: &mut Vec<u8>, module: &Module) -> Result<(), Memory>
+fn write_module(alloc: Global, text: &mut Vec<u8>, module: &Module) -> Result<(), Memory>
     ensures { OnOk result (Writes text.old.items text.new.items (module_pieces «module».now)) }
 {
-    write_tokens(text, module.tokens.as_slice())?;
+    write_tokens(alloc, text, module.tokens.as_slice())?;
     write_starts(text, module.starts.as_slice())?;
     write_levels(text, module.levels.as_slice())?;
     write_on_error(text, module.on_error.as_slice())?;
@@ -251,6 +271,6 @@ pub fn print_module(alloc: Global, module: &Module) -> Result<Vec<u8>, Memory>
 {
     spelled_once();
     let mut text = Vec::new(alloc);
-    write_module(&mut text, module)?;
+    write_module(alloc, &mut text, module)?;
     Ok(text)
 }

@@ -9,16 +9,19 @@ ghost use Rattle.mh_reader.specs.Signs.{reads_of, sign_by, text_by};
 ghost use Rattle.mh_reader.specs.Limits.{IsShallow};
 ghost use Rattle.mh_rules.specs.Modules.{no_module};
 ghost use Rattle.mh_reader.specs.Spelling.{File, Spells};
-ghost use Rattle.mh_reader.specs.Machine.{Refers, finish_at, start, taken};
+ghost use Rattle.mh_reader.specs.Machine.{Refers, costed, finish_at, start, taken};
+ghost use Rattle.mh_reader.specs.Costs as spec;
+ghost use Rattle.std.specs.Option.{option_or};
 ghost use Rattle.mh_reader.specs.Faults.{Refuses, Stops};
 
 use crate::advance::advance;
+use crate::costs::cost_of;
 use crate::places::{Place, Reader, Refusal, no_memory, unexpected};
 use crate::rules::{add_rule, group_of};
 use crate::signs::{Sign, content_of, sign_of};
 use mh_grammar::Sequence;
 use mh_lex::{Lexeme, SyntaxFault, lex, lexed_once, line_of};
-use mh_rules::Module;
+use mh_rules::{Module, TokenDecl};
 use std::alloc::Global;
 
 /// A reader that has read nothing.
@@ -57,7 +60,8 @@ fn ended(reader: Reader) -> Result<Module, Refusal>
         Place::Opening(listing) | Place::Items(listing) | Place::Comma(listing) => {
             unexpected((made, listing))
         }
-        Place::TokenNamed(name) => unexpected((made, name)),
+        Place::TokenNamed(name, _) => unexpected((made, name)),
+        Place::TokenAliased(token) => unexpected((made, token)),
         Place::RuleNamed(rule)
         | Place::FormalsOpen(rule)
         | Place::FormalRead(rule)
@@ -84,7 +88,42 @@ fn text_of<'a>(bytes: &'a [u8], lexeme: &Lexeme) -> &'a [u8]
     &bytes[lexeme.start..lexeme.end]
 }
 
-/// One lexeme more, where an attribute is nothing.
+/// The first of two costs that is there.
+fn first_cost(cost: Option<u32>, other: Option<u32>) -> Option<u32>
+    ensures { result ≡ option_or cost other }
+{
+    cost.or(other)
+}
+
+fn with_first_cost(token: TokenDecl, cost: Option<u32>) -> TokenDecl
+    ensures { result ≡ record token { cost = option_or token.cost cost } }
+{
+    TokenDecl {
+        name: token.name,
+        alias: token.alias,
+        cost: first_cost(token.cost, cost),
+    }
+}
+
+/// The reader behind an attribute, whose cost counts behind a token where there is none before it.
+fn with_cost(reader: Reader, cost: Option<u32>) -> Reader
+    ensures { result ≡ costed cost reader }
+{
+    let made = reader.made;
+    match reader.place {
+        Place::TokenNamed(name, known) => Reader {
+            made,
+            place: Place::TokenNamed(name, first_cost(known, cost)),
+        },
+        Place::TokenAliased(token) => Reader {
+            made,
+            place: Place::TokenAliased(with_first_cost(token, cost)),
+        },
+        place => Reader { made, place },
+    }
+}
+
+/// One lexeme more, where of an attribute the cost alone counts.
 fn take_lexeme(
     alloc: Global,
     reader: Reader,
@@ -94,12 +133,13 @@ fn take_lexeme(
     requires within { IsWithin (length bytes.now) lexeme.now }
     requires shallow { IsShallow reader.place }
     ensures { Refers (taken reader (sign_by lexeme.now.kind (bytes_of bytes.now lexeme.now))
-        (text_by lexeme.now.kind (bytes_of bytes.now lexeme.now))) result }
+        (text_by lexeme.now.kind (bytes_of bytes.now lexeme.now))
+        (spec.cost_of (bytes_of bytes.now lexeme.now))) result }
 {
     let text = text_of(bytes, lexeme);
     match sign_of(lexeme.kind, text) {
         Some(sign) => advance(alloc, reader, sign, content_of(lexeme.kind, text)),
-        None => Ok(reader),
+        None => Ok(with_cost(reader, cost_of(text))),
     }
 }
 

@@ -1,9 +1,7 @@
 -- A run that is refused is refused in the same way without the tokens behind the refused one.
 use Rattle.std.proofs.Common.{◌≡◌, ℕ, zero, suc, ◌+◌, ◌<◌, ◌≤◌, List, [], ◌∷◌, ◌++◌, length, take, drop, Some, None, Option, refl, ap, sym, subst, arith, ◌∙◌}
-use Rattle.mh_tables.specs.declared.parts.Fallback.{Fallback}
-use Rattle.mh_tables.specs.declared.parts.Fallback.TheVariants as fallbacks
-use Rattle.mh_tables.specs.Table.{TableData, fallback_of}
-use Rattle.mh_tables.specs.Run.{Config, Move, Accepts, Asks, Refuses, Shifts, Reduces, move_of, move_by_default, top_of, reduce, step, step_by, goes_to, Step, Goes, Ends, Stuck, after, next_of, VerdictOf, Ending, Rejected, Accepted, Overshot}
+use Rattle.mh_tables.specs.Table.{TableData}
+use Rattle.mh_tables.specs.Run.{Config, Move, Accepts, Asks, Refuses, Shifts, Reduces, move_of, top_of, reduce, step, step_by, goes_to, Step, Goes, Ends, Stuck, after, next_of, VerdictOf, Ending, Rejected, Accepted, Overshot}
 use Rattle.mh_tables.proofs.Asking.{no_refusal_at_end, goes_not}
 use Rattle.mh_tables.proofs.Reductions.{no_shift_at_end, move_at_next}
 use Rattle.mh_tables.proofs.Ending.{step_moves, after_ended}

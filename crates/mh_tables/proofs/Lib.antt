@@ -1,5 +1,6 @@
 pub mod Accepted
 pub mod Asking
+pub mod Quieting
 pub mod Cut
 pub mod Depth
 pub mod Ending

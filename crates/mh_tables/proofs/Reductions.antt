@@ -58,7 +58,7 @@ pub move_at_next : (t : TableData) (s z : ℕ) (left : List ℕ) → move_of t s
 unfolding move_of
 move_at_next t s z left = refl
 
-top-drop : (stack : List ℕ) (floor : ℕ) → floor < length stack → top_of (drop floor stack) ≡ top_of stack
+pub top-drop : (stack : List ℕ) (floor : ℕ) → floor < length stack → top_of (drop floor stack) ≡ top_of stack
 top-drop stack floor lt =
     rw (length-drop floor stack, get_or-drop floor stack (length stack - floor - 1) 0)
     (let e : floor + (length stack - floor - 1) ≡ length stack - 1 = omega arith in rw e refl)

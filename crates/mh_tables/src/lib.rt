@@ -1,6 +1,7 @@
 //! Tables of a parser with the facts that they keep, and the test that every run on one ends.
 #![tactic(auto)]
 
+mod calm;
 mod halting;
 mod laws;
 mod moves;

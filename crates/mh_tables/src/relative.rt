@@ -6,8 +6,10 @@ ghost use Rattle.mh_grammar.specs.Plain.{production_count, rhs_of};
 ghost use Rattle.mh_tables.specs.Table.{TableData, state_at, cell_of};
 ghost use Rattle.mh_tables.specs.Run.{top_of as top};
 ghost use Rattle.mh_tables.specs.Halting.{IsLook, look_list, IsBeginning, beginning};
-ghost use Rattle.mh_tables.specs.code.Relative.{ReducedOr, ReducesNext, StackReduced, TriedOr, LoopsOr, Waits, LookFound, TokenFound, StateFound, AreTargets, TestFound, IsLong, AllLong, AreShort};
+ghost use Rattle.mh_tables.specs.code.Relative.{ReducedOr, ReducesNext, StackReduced, TriedOr, LoopsOr, Waits, LookFound, TokenFound, StateFound, AreTargets, TestFound};
+ghost use Rattle.mh_tables.specs.code.Calm.{AreCalm};
 
+use crate::calm::calm_states;
 use crate::moves::{Choice, choose};
 use crate::parts::Action;
 use crate::table::Table;
@@ -50,7 +52,7 @@ fn top_of(stack: &[u32]) -> u32
 }
 
 // The production that is reduced next.
-fn next_reduction(table: &Table, stack: &[u32], look: Option<Token>) -> Option<u32>
+pub(crate) fn next_reduction(table: &Table, stack: &[u32], look: Option<Token>) -> Option<u32>
     requires begun { 0 < length stack.now }
     requires known { All (λ s. s < length table.now.states) stack.now }
     requires look { IsLook table.now look }
@@ -83,7 +85,11 @@ fn stack_reduced(table: &Table, stack: &[u32], production: u32) -> Option<(usize
 }
 
 // Makes the reduction that comes next, or answers that none does.
-fn reduce_once(table: &Table, stack: &mut Vec<u32>, look: Option<Token>) -> Result<bool, AllocError>
+pub(crate) fn reduce_once(
+    table: &Table,
+    stack: &mut Vec<u32>,
+    look: Option<Token>,
+) -> Result<bool, AllocError>
     requires begun { 0 < length stack.old.items }
     requires known { All (λ s. s < length table.now.states) stack.old.items }
     requires look { IsLook table.now look }
@@ -105,7 +111,7 @@ fn reduce_once(table: &Table, stack: &mut Vec<u32>, look: Option<Token>) -> Resu
 }
 
 // Puts the states with which a relative run begins in place of what was there.
-fn begin(
+pub(crate) fn begin(
     table: &Table,
     stack: &mut Vec<u32>,
     below: Option<u32>,
@@ -222,82 +228,39 @@ fn first_look(
     }
 }
 
-// Whether the cell of a state and a token reduces a production of at most one symbol.
-fn is_short(table: &Table, state: u32, token: Token) -> bool
-    requires state { state < length table.now.states }
-    requires token { token < table.now.grammar.tokens }
-    ensures { result ≡ false → IsLong table.now state token }
-{
-    table.facts();
-    match table.action(state, token) {
-        Action::Reduce(production) => table.length_of(production) < 2,
-        _ => false,
-    }
-}
-
-// Whether some cell of a state does.
-fn reduces_short(table: &Table, state: u32) -> bool
-    requires { state < length table.now.states }
-    ensures { result ≡ false → AllLong table.now state }
-{
-    'tokens: for token in 0..table.tokens() {
-        if is_short(table, state, token) {
-            return true;
-        }
-    }
-    false
-}
-
-// For each state, whether it has such a cell.
-fn short_states(alloc: Global, table: &Table) -> Result<Vec<bool>, AllocError>
-    ensures length { IfOk result (λ marks. length marks.items ≡ length table.now.states) }
-    ensures marks { IfOk result (λ marks. AreShort table.now marks.items) }
-{
-    let states = table.states();
-    let mut marks = Vec::with_capacity(alloc, states as usize)?;
-    'states: for state in 0..states {
-        marks.push(reduces_short(table, state))?;
-    }
-    Ok(marks)
-}
-
-// The first look with which the relative run loops. A state without default whose cells reduce no production of at most one
-// symbol is not tried: its first reduction takes off all states with which the run begins.
+// The first look with which the relative run loops. From a calm state none does.
 fn tried_look(
     table: &Table,
     stack: &mut Vec<u32>,
-    short: &[bool],
+    calm: &[bool],
     below: Option<u32>,
     state: u32,
 ) -> Result<Option<Option<Token>>, AllocError>
-    requires marks { length short.now ≡ length table.now.states }
-    requires short { AreShort table.now short.now }
+    requires marks { length calm.now ≡ length table.now.states }
+    requires calm { AreCalm table.now MAX_REDUCTIONS calm.now }
     requires below { ForSome below (λ r. r < length table.now.states) }
     requires state { state < length table.now.states }
     ensures { IfOk result (λ found. LookFound table.now below state found) }
 {
-    if short[state as usize] {
-        return first_look(table, stack, below, state);
+    if calm[state as usize] {
+        return Ok(None);
     }
-    match table.fallback(state) {
-        Some(_) => first_look(table, stack, below, state),
-        None => Ok(None),
-    }
+    first_look(table, stack, below, state)
 }
 
 // The first start state alone that begins a relative run of more than `MAX_REDUCTIONS` reductions.
 fn first_start(
     table: &Table,
     stack: &mut Vec<u32>,
-    short: &[bool],
+    calm: &[bool],
 ) -> Result<Option<(u32, Option<Token>)>, AllocError>
-    requires marks { length short.now ≡ length table.now.states }
-    requires short { AreShort table.now short.now }
+    requires marks { length calm.now ≡ length table.now.states }
+    requires calm { AreCalm table.now MAX_REDUCTIONS calm.now }
     ensures { IfOk result (λ found. StateFound table.now None found) }
 {
     table.facts();
     'states: for state in 0..u32::from(table.starts()) {
-        if let Some(look) = tried_look(table, stack, short, None, state)? {
+        if let Some(look) = tried_look(table, stack, calm, None, state)? {
             return Ok(Some((state, look)));
         }
     }
@@ -324,18 +287,18 @@ fn first_above(
     alloc: Global,
     table: &Table,
     stack: &mut Vec<u32>,
-    short: &[bool],
+    calm: &[bool],
     below: u32,
 ) -> Result<Option<(u32, Option<Token>)>, AllocError>
-    requires marks { length short.now ≡ length table.now.states }
-    requires short { AreShort table.now short.now }
+    requires marks { length calm.now ≡ length table.now.states }
+    requires calm { AreCalm table.now MAX_REDUCTIONS calm.now }
     requires below { below < length table.now.states }
     ensures { IfOk result (λ found. StateFound table.now (Some below) found) }
 {
     table.facts();
     let targets = targets_of(alloc, table, below)?;
     'targets: for target in targets.as_slice() {
-        if let Some(look) = tried_look(table, stack, short, Some(below), *target)? {
+        if let Some(look) = tried_look(table, stack, calm, Some(below), *target)? {
             return Ok(Some((*target, look)));
         }
     }
@@ -347,9 +310,9 @@ pub(crate) fn first_loop(alloc: Global, table: &Table) -> Result<Option<Relative
     ensures { IfOk result (λ found. TestFound table.now found) }
 {
     table.facts();
-    let short = short_states(alloc, table)?;
     let mut stack = Vec::new(alloc);
-    if let Some((state, token)) = first_start(table, &mut stack, &short)? {
+    let calm = calm_states(alloc, table, &mut stack)?;
+    if let Some((state, token)) = first_start(table, &mut stack, &calm)? {
         return Ok(Some(RelativeRun {
             below: None,
             state,
@@ -357,7 +320,7 @@ pub(crate) fn first_loop(alloc: Global, table: &Table) -> Result<Option<Relative
         }));
     }
     'lower: for below in 0..table.states() {
-        if let Some((state, token)) = first_above(alloc, table, &mut stack, &short, below)? {
+        if let Some((state, token)) = first_above(alloc, table, &mut stack, &calm, below)? {
             return Ok(Some(RelativeRun {
                 below: Some(below),
                 state,

@@ -1,10 +1,9 @@
 -- What the test of relative runs finds at each level.
-use Rattle.std.specs.Prelude.{◌≡◌, ℕ, get_or, List, [], ◌∷◌, ◌++◌, length, take, ◌≤◌, Option, Some, None, ◌<◌, Bool, true, false}
+use Rattle.std.specs.Prelude.{◌≡◌, ℕ, List, [], ◌∷◌, ◌++◌, length, take, ◌≤◌, Option, Some, None, ◌<◌, Bool, true, false}
 use Rattle.std.specs.List.{All, Contains}
 use Rattle.std.specs.List.Sorted.{IsNonDecreasing}
-use Rattle.mh_grammar.specs.Plain.{production_count, rhs_of}
-use Rattle.mh_tables.specs.declared.parts.Action.TheVariants as actions
-use Rattle.mh_tables.specs.Table.{TableData, fallback_of, cell_of}
+use Rattle.mh_grammar.specs.Plain.{production_count}
+use Rattle.mh_tables.specs.Table.{TableData, fallback_of}
 use Rattle.mh_tables.specs.declared.relative.RelativeRun.{RelativeRun}
 use Rattle.mh_tables.specs.declared.relative.TheConstants.{MAX_REDUCTIONS}
 use Rattle.mh_tables.specs.Run.{Reduces, move_of, top_of, reduce, reduction, reductions}
@@ -94,14 +93,3 @@ pub record AreTargets (t : TableData) (r : ℕ) (targets : List ℕ) : Type 0 wh
 abbrev pub TestFound : TableData → Option RelativeRun → Type 0
 TestFound t None = NoneLoops t
 TestFound t (Some run) = LoopsAt t run.below run.state run.token
-
--- the cell of a state and a token reduces no production of at most one symbol
-abbrev pub IsLong : TableData → ℕ → ℕ → Type 0
-IsLong t s z = (p : ℕ) → cell_of t s z ≡ actions.Reduce p → 2 ≤ length (rhs_of t.grammar p)
-
-abbrev pub AllLong : TableData → ℕ → Type 0
-AllLong t s = (z : ℕ) → z < t.grammar.tokens → IsLong t s z
-
--- a state without mark has no cell that does
-abbrev pub AreShort : TableData → List Bool → Type 0
-AreShort t marks = (s : ℕ) → s < length marks → get_or marks s false ≡ false → AllLong t s

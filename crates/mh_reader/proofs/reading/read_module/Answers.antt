@@ -9,4 +9,4 @@ pub returns-in-Err-Syntax-clause-fault : goal.returns-in-Err-Syntax-clause-fault
 returns-in-Err-Syntax-clause-fault c = exact.lexical_along c.lexed_once.ensures c.args.bytes.now c.in-Err-Syntax.line _ (cc c.in-Err-Syntax.line-is) (rw c.in-Err-Syntax.field-0-is at c.in-Err-Syntax.ensures.fault)
 
 pub returns-in-Ok-clause-ready : goal.returns-in-Ok-clause-ready
-returns-in-Ok-clause-ready c = read_ready _ c.read_lexemes.result c.read_lexemes.ensures.spelled
+returns-in-Ok-clause-ready c = read_ready c.args.bytes.now c.in-Ok.lexemes.items c.read_lexemes.result c.in-Ok.ensures.lexemes (rw c.as_slice.ensures.value at c.read_lexemes.ensures.spelled)

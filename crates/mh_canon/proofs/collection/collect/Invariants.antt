@@ -1,0 +1,16 @@
+use Rattle.std.proofs.Common.{◌≤◌, ◌-◌, length, vec_len}
+use Rattle.mh_grammar.specs.Plain.{plain_of}
+use Rattle.mh_moves.specs.Mover.{IsMover}
+use Rattle.mh_canon.specs.declared.collection.TheConstants.{MAX_STATES}
+use Rattle.mh_canon.proofs.Building.{Building}
+use Rattle.mh_canon.proofs.collection.collect.Given as goal
+
+abbrev pub invariant-states : goal.invariant-states
+invariant-states g l = record {
+  building : Building (plain_of l.grammar) l.kernels.keys l.edges.items;
+  few : length l.kernels.keys ≤ MAX_STATES;
+  mover : IsMover (plain_of l.grammar) l.mover;
+}
+
+abbrev pub decreases-states : goal.decreases-states
+decreases-states g l = MAX_STATES - vec_len l.edges

@@ -1,0 +1,11 @@
+use Rattle.std.proofs.Common.{◌≤◌, length}
+use Rattle.mh_grammar.specs.Plain.{plain_of}
+use Rattle.mh_canon.specs.declared.collection.TheConstants.{MAX_STATES}
+use Rattle.mh_canon.proofs.Placing.{PlacedSoFar}
+use Rattle.mh_canon.proofs.collection.place_all.Given as goal
+
+abbrev pub invariant-loop-found : goal.invariant-loop-found
+invariant-loop-found g l = record {
+  placed : PlacedSoFar (plain_of l.grammar) l.fn.moves.items l.yielded l.initial.kernels.keys l.kernels.keys l.row.items;
+  few : length l.kernels.keys ≤ MAX_STATES;
+}

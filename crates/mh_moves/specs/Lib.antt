@@ -1,0 +1,3 @@
+pub mod Mover
+pub mod Moves
+pub mod Rows

@@ -1,0 +1,10 @@
+//! All moves of a closure at once, in the order of their symbols.
+#![tactic(auto)]
+
+mod all_moves;
+mod mover;
+mod rows;
+
+pub use all_moves::{Move, MoveWith, moves};
+pub use mover::Mover;
+pub use rows::Rows;
