@@ -153,6 +153,8 @@ const ROWS: &str = "%token A B EOF %start s %% s: A EOF {} = 0 1, 1 2,
 %token X SEMI EOF %start main %% main: s EOF {} s: X {} | X SEMI {} = 0 1, 1 2, 4 3,
 %token X SEMI EOF %start main %on_error_reduce s %% main: s EOF {} s: X {} | X SEMI {} = 0 1, 3 2,
 %token INT PLUS TIMES EOF %start main %% main: e EOF {} e: e PLUS t {} | t {} t: t TIMES INT {} | INT {} = 0 1, 1 2, 5 3, 7 3, 9 4,
+%token A B C D %start s %% s: A z {} | B B z {} z: C D {} = 0 1, 1 2, 2 2, 4 3, 6 3,
+%token A [@cost 10] B C D %start s %% s: A z {} | B B z {} z: C D {} = 0 1, 1 2, 2 2, 4 4, 6 3,
 %token A %start s %% s: {} =";
 
 /// How many words a text has.
