@@ -5,6 +5,7 @@ ghost use Rattle.mh_opts.specs.App.{plain_rows};
 ghost use Rattle.mh_opts.specs.Orders as orders;
 ghost use Rattle.mh_opts.specs.Orders.{plain_needs};
 
+use crate::order::Job;
 use clap::ArgAction;
 
 /// The words that are no options, by the name under which clap keeps them.
@@ -18,14 +19,6 @@ pub(crate) const STRICT: &str = "strict";
 
 pub(crate) const NO_STDLIB: &str = "no-stdlib";
 
-/// What is to be done, without the values that stand behind its words.
-#[derive(Clone, Copy)]
-pub enum Mode {
-    Interpret,
-    ShowAutomaton,
-    ListErrors,
-}
-
 /// An option. Its name is a `&str`, by a parameter: a constant of other rows is none that a definition can name.
 pub struct Opt<T> {
     /// The name behind the two hyphens.
@@ -33,7 +26,7 @@ pub struct Opt<T> {
     /// `SetTrue` where no value stands behind it, `Set` where one does.
     pub action: ArgAction,
     /// What it says is to be done.
-    pub mode: Option<Mode>,
+    pub job: Option<Job>,
 }
 
 /// An option that has no meaning without another.
@@ -46,32 +39,32 @@ const OPTIONS: [Opt<&str>; 6] = [
     Opt {
         name: INTERPRET,
         action: ArgAction::SetTrue,
-        mode: Some(Mode::Interpret),
+        job: Some(Job::Interpret),
     },
     Opt {
         name: "show-automaton",
         action: ArgAction::SetTrue,
-        mode: Some(Mode::ShowAutomaton),
+        job: Some(Job::ShowAutomaton),
     },
     Opt {
         name: "list-errors",
         action: ArgAction::SetTrue,
-        mode: Some(Mode::ListErrors),
+        job: Some(Job::ListErrors),
     },
     Opt {
         name: INTERPRET_SHOW_CST,
         action: ArgAction::SetTrue,
-        mode: None,
+        job: None,
     },
     Opt {
         name: STRICT,
         action: ArgAction::SetTrue,
-        mode: None,
+        job: None,
     },
     Opt {
         name: NO_STDLIB,
         action: ArgAction::SetTrue,
-        mode: None,
+        job: None,
     },
 ];
 

@@ -4,13 +4,11 @@ ghost use Rattle.clap.specs.Takes as clap;
 ghost use Rattle.clap.specs.Walk.{is_empty};
 ghost use Rattle.clap.specs.Words.{found_of, rows_of};
 ghost use Rattle.mh_opts.specs.Orders as orders;
-ghost use Rattle.mh_opts.specs.Orders.{Answers, grammars_of, job_for, lacks, misplaced_in, mode_at, mode_in, needs, order_in, order_of, plain_need, written};
+ghost use Rattle.mh_opts.specs.Orders.{Answers, grammars_of, job_at, job_in, lacks, misplaced_in, needs, order_in, order_of, plain_need, written};
 ghost use Rattle.mh_opts.specs.App.{options, plain};
 
 use crate::command::menhir_command;
-use crate::options::{
-    GRAMMARS, INTERPRET_SHOW_CST, Mode, NO_STDLIB, Need, Opt, STRICT, needs, options,
-};
+use crate::options::{GRAMMARS, INTERPRET_SHOW_CST, NO_STDLIB, Need, Opt, STRICT, needs, options};
 use crate::order::{Job, Order, UsageFault};
 use clap::ArgMatches;
 use clap::error::ErrorKind;
@@ -29,43 +27,32 @@ fn is_given(matches: &ArgMatches<'_>, name: &str) -> bool
     }
 }
 
-/// The mode of an option, where the words hold it.
-fn mode_of(matches: &ArgMatches<'_>, option: &Opt<&str>) -> Option<Mode>
-    ensures { result ≡ mode_at (rows_of (found_of matches.now)) (plain option.now (λ name. name.now)) }
+/// The job of an option, where the words hold it.
+fn job_of(matches: &ArgMatches<'_>, option: &Opt<&str>) -> Option<Job>
+    ensures { result ≡ job_at (rows_of (found_of matches.now)) (plain option.now (λ name. name.now)) }
 {
     if is_given(matches, option.name) {
-        option.mode
+        option.job
     } else {
         None
     }
 }
 
-/// The only mode.
-fn only_mode(matches: &ArgMatches<'_>) -> Result<Mode, UsageFault>
-    ensures { Answers (mode_in (rows_of (found_of matches.now)) options) result }
+/// The only job.
+fn only_job(matches: &ArgMatches<'_>) -> Result<Job, UsageFault>
+    ensures { Answers (job_in (rows_of (found_of matches.now)) options) result }
 {
     let options = options();
     let mut found = None;
     for option in options {
-        if let Some(mode) = mode_of(matches, option) {
+        if let Some(job) = job_of(matches, option) {
             if found.is_some() {
                 return Err(UsageFault::TwoModes);
             }
-            found = Some(mode);
+            found = Some(job);
         }
     }
     found.ok_or(UsageFault::NoMode)
-}
-
-/// The job of a mode.
-fn job_of(mode: Mode) -> Job
-    ensures { result ≡ job_for mode }
-{
-    match mode {
-        Mode::Interpret => Job::Interpret,
-        Mode::ShowAutomaton => Job::ShowAutomaton,
-        Mode::ListErrors => Job::ListErrors,
-    }
 }
 
 /// Whether an option stands without what it needs.
@@ -126,12 +113,12 @@ fn written_name(alloc: Global, option: &str) -> Result<Name, Memory>
     from_bytes(alloc, text.as_bytes())
 }
 
-/// The order for a mode, with what else the words say.
-fn order_for(alloc: Global, matches: &ArgMatches<'_>, mode: Mode) -> Result<Order, Memory>
-    ensures { IfOk result (λ order. order ≡ orders.order_for (rows_of (found_of matches.now)) mode) }
+/// The order for a job, with what else the words say.
+fn order_for(alloc: Global, matches: &ArgMatches<'_>, job: Job) -> Result<Order, Memory>
+    ensures { IfOk result (λ order. order ≡ orders.order_for (rows_of (found_of matches.now)) job) }
 {
     Ok(Order {
-        job: job_of(mode),
+        job,
         grammars: grammars(alloc, matches)?,
         strict: is_given(matches, STRICT),
         stdlib: !is_given(matches, NO_STDLIB),
@@ -139,9 +126,9 @@ fn order_for(alloc: Global, matches: &ArgMatches<'_>, mode: Mode) -> Result<Orde
     })
 }
 
-/// The order for a mode, where each option has a meaning and there is a grammar.
-fn order_with(alloc: Global, matches: &ArgMatches<'_>, mode: Mode) -> Result<Order, UsageFault>
-    ensures { let rows = rows_of (found_of matches.now) in Answers (orders.order_with rows mode (misplaced_in rows needs)) result }
+/// The order for a job, where each option has a meaning and there is a grammar.
+fn order_with(alloc: Global, matches: &ArgMatches<'_>, job: Job) -> Result<Order, UsageFault>
+    ensures { let rows = rows_of (found_of matches.now) in Answers (orders.order_with rows job (misplaced_in rows needs)) result }
 {
     if let Some(option) = misplaced(matches) {
         return Err(UsageFault::Misplaced {
@@ -151,15 +138,15 @@ fn order_with(alloc: Global, matches: &ArgMatches<'_>, mode: Mode) -> Result<Ord
     if !has_grammar(matches) {
         return Err(UsageFault::NoGrammar);
     }
-    Ok(order_for(alloc, matches, mode)?)
+    Ok(order_for(alloc, matches, job)?)
 }
 
 /// The order that matches ask for.
 fn matched_order(alloc: Global, matches: &ArgMatches<'_>) -> Result<Order, UsageFault>
     ensures { Answers (order_in (rows_of (found_of matches.now))) result }
 {
-    match only_mode(matches) {
-        Ok(mode) => order_with(alloc, matches, mode),
+    match only_job(matches) {
+        Ok(job) => order_with(alloc, matches, job),
         Err(fault) => Err(fault),
     }
 }
