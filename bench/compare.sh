@@ -1,8 +1,8 @@
 #!/usr/bin/env bash
 # Compares the built program with Menhir itself (Debian's package `menhir`): states, verdicts, trees and lists of errors on real
 # grammars, which must be the same, and times, which are printed as ratios. It ends with 1 if anything is not the same.
+# Of each grammar file in FOLDER it compares how the canonical automaton is built (states, time, memory) and the list of errors, too.
 # Usage: bench/compare.sh PATH-OF-OUR-PROGRAM [FOLDER]   (after a run of the gate: crates/menhir/out/menhir)
-# Of each grammar file in FOLDER the list of errors is compared, too.
 set -eu
 ours=$(readlink -f "${1:?the path of the built program}")
 bench=$(dirname "$(readlink -f "$0")")
@@ -17,6 +17,14 @@ ulimit -s unlimited
 seconds() { # processor seconds of a command; what it writes lies in out.txt and err.txt
     local TIMEFORMAT=%U
     { time "$@" >out.txt 2>err.txt || true; } 2>&1
+}
+resources() { # processor seconds and MB of a command without input
+    python3 - "$@" <<'END'
+import resource, subprocess, sys
+subprocess.run(sys.argv[1:], stdin=subprocess.DEVNULL, stdout=subprocess.DEVNULL, stderr=subprocess.DEVNULL)
+used = resource.getrusage(resource.RUSAGE_CHILDREN)
+print(f"{used.ru_utime:.2f} {used.ru_maxrss / 1024:.0f}")
+END
 }
 ratio() { python3 -c "import sys; print(f'{float(sys.argv[1]) / max(float(sys.argv[2]), 0.001):.1f}')" "$1" "$2"; }
 menhir_there() { command -v menhir >/dev/null; }
@@ -78,6 +86,23 @@ compare_errors() { # BASE FILE..
     [ "$mode" = canonical ] || cmp -s ours.txt theirs.txt || differs "$base, lengths of sentences"
 }
 
+# How a grammar's canonical automaton is built, without input: states, processor seconds and MB.
+compare_build() { # FILE
+    local base file=grammar.mly measured states their_states=
+    base=$(basename "$1" .mly)
+    sed 's/\<EOF\>/STOP/g' "$1" >"$file"
+    states=$("$ours" --show-automaton "$file" | head -1 | tr -dc 0-9)
+    measured=$(resources "$ours" --interpret "$file")
+    echo "$base: $states canonical states; ${measured% *} s and ${measured#* } MB"
+    if menhir_there; then
+        their_states=$(menhir --base g --canonical --interpret -la 2 "$file" 2>&1 </dev/null | sed -n 's/^Built an LR(1) automaton with \([0-9]*\) states.*/\1/p')
+        [ "$states" = "$their_states" ] || differs "$base, states"
+        local theirs
+        theirs=$(resources menhir --base g --canonical --interpret "$file")
+        echo "    Menhir takes $(ratio "${theirs% *}" "${measured% *}") times as long and $(ratio "${theirs#* }" "${measured#* }") times the memory"
+    fi
+}
+
 # Our time for a command, and Menhir's as a ratio.
 compare_time() { # NAME INPUT WORD..
     local name=$1 input=$2 our_time their_time=
@@ -99,6 +124,9 @@ if menhir_there; then
     done
 else
     echo "Menhir is not here: only our times follow"
+fi
+if [ -n "$further" ]; then
+    for file in "$further"/*.mly; do compare_build "$file"; done
 fi
 python3 "$bench/inputs.py"
 compare_time "1,002,000 tokens of sums" sums.in --interpret sums.mly

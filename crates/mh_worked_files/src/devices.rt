@@ -1,0 +1,159 @@
+//! Devices in memory: what is read of them and written to them, where each call fails in turn.
+ghost use Rattle.std.specs.Prelude.{Some};
+ghost use Rattle.mh_outside.specs.Fakes.{sink_written, sink_calls};
+
+use mh_outside::{
+    Failed, LineFault, MemShelf, MemSink, MemSource, Shelf, ShelfFault, Sink, Source, WriteFault,
+    read_line, write_whole,
+};
+use std::alloc::Global;
+use std::test::Fail;
+
+fn source(alloc: Global, bytes: &[u8], fails: &[u64]) -> Result<MemSource, Fail> {
+    Ok(MemSource::new(bytes.to_vec(alloc)?, fails.to_vec(alloc)?))
+}
+
+/// The lines of the input, each behind a `>`, and a `!` where a read failed or `+` where a line was too big.
+fn lines(alloc: Global, input: &mut MemSource, limit: usize) -> Result<Vec<u8>, Fail> {
+    let mut text = Vec::new(alloc);
+    for _ in 0..9 {
+        match read_line(alloc, input, limit) {
+            Ok(None) => break,
+            Ok(Some(line)) => {
+                text.push(b'>')?;
+                text.extend_from_slice(&line)?;
+            }
+            Err(LineFault::TooBig) => text.push(b'+')?,
+            Err(LineFault::Failed) => text.push(b'!')?,
+            Err(LineFault::Memory) => return Err(Fail::from(LineFault::Memory)),
+        }
+    }
+    Ok(text)
+}
+
+#[test]
+fn lines_are_read(rt: HostRuntime) -> Result<(), Fail> {
+    let alloc = rt.alloc();
+    for (input, limit, want) in [
+        (b"".as_slice(), 9, b"".as_slice()),
+        (b"\n", 9, b">"),
+        (b"ab", 9, b">ab"),
+        (b"ab\n", 9, b">ab"),
+        (b"ab\n\ncd", 9, b">ab>>cd"),
+        (b"ab\ncd\n", 2, b">ab>cd"),
+        (b"abc\nd", 2, b"+>>d"),
+        (b"a", 0, b"+"),
+    ] {
+        let mut input = source(alloc, input, &[])?;
+        assert_eq!(rt; lines(alloc, &mut input, limit)?.as_slice(), want);
+    }
+    Ok(())
+}
+
+/// Each read fails in turn: the bytes that were got of the line are lost, and the next call goes on behind them.
+#[test]
+fn each_read_fails_in_turn(rt: HostRuntime) -> Result<(), Fail> {
+    let alloc = rt.alloc();
+    for (fail, want) in [
+        (1, b"!>ab>c".as_slice()),
+        (2, b"!>b>c"),
+        (3, b"!>>c"),
+        (4, b">ab!>c"),
+        (5, b">ab!"),
+        (6, b">ab>c!"),
+        (7, b">ab>c"),
+    ] {
+        let mut input = source(alloc, b"ab\nc", &[fail])?;
+        assert_eq!(rt; lines(alloc, &mut input, 9)?.as_slice(), want, "{fail}");
+    }
+    Ok(())
+}
+
+#[test]
+fn pieces_are_written(rt: HostRuntime) -> Result<(), Fail> {
+    let alloc = rt.alloc();
+    let mut sink = MemSink::new(alloc, [2].to_vec(alloc)?);
+    assert_eq!(rt; write_whole(&mut sink, b"ab"), Ok(()));
+    assert_eq!(rt; write_whole(&mut sink, b"cd"), Err(WriteFault::Failed));
+    assert_eq!(rt; write_whole(&mut sink, b""), Ok(()));
+    assert_eq!(rt; write_whole(&mut sink, b"ef"), Ok(()));
+    assert_eq!(rt; sink.written(), b"abef".as_slice());
+    Ok(())
+}
+
+/// A sink that takes one byte a call.
+#[derive(Drop)]
+struct Trickle {
+    sink: MemSink,
+}
+
+impl Sink for Trickle {
+    ghost written = { λ s. Some (sink_written s.sink) };
+
+    ghost faults = { λ s. (sink_calls s.sink).faults };
+
+    fn write(&mut self, piece: &[u8]) -> Result<usize, Failed> {
+        self.sink.write(&piece[..1])
+    }
+}
+
+/// Each of four short writes fails in turn, and the bytes before it were written.
+#[test]
+fn each_write_fails_in_turn(rt: HostRuntime) -> Result<(), Fail> {
+    let alloc = rt.alloc();
+    for (fail, want) in [
+        (1, b"".as_slice()),
+        (2, b"a"),
+        (3, b"ab"),
+        (4, b"abc"),
+        (5, b"abcd"),
+    ] {
+        let mut trickle = Trickle {
+            sink: MemSink::new(alloc, [fail].to_vec(alloc)?),
+        };
+        let result = write_whole(&mut trickle, b"abcd");
+        assert_eq!(rt; result.is_ok(), fail == 5);
+        assert_eq!(rt; trickle.sink.written(), want);
+    }
+    Ok(())
+}
+
+#[test]
+fn files_are_read(rt: HostRuntime) -> Result<(), Fail> {
+    let alloc = rt.alloc();
+    let mut files = Vec::new(alloc);
+    files.push((b"g".to_vec(alloc)?, b"HELLO".to_vec(alloc)?))?;
+    files.push((b"h".to_vec(alloc)?, b"".to_vec(alloc)?))?;
+    let mut shelf = MemShelf::new(files, [3].to_vec(alloc)?);
+    assert_eq!(rt;
+        shelf.read_file(alloc, b"g", 5)?.as_slice(),
+        b"HELLO".as_slice()
+    );
+    assert_eq!(rt;
+        shelf.read_file(alloc, b"g", 4).err(),
+        Some(ShelfFault::TooBig)
+    );
+    assert_eq!(rt;
+        shelf.read_file(alloc, b"g", 5).err(),
+        Some(ShelfFault::Failed)
+    );
+    assert_eq!(rt;
+        shelf.read_file(alloc, b"i", 5).err(),
+        Some(ShelfFault::Absent)
+    );
+    assert_eq!(rt; shelf.read_file(alloc, b"h", 0)?.as_slice(), b"".as_slice());
+    Ok(())
+}
+
+/// A read takes as much as there is room for, and 0 comes at the end alone.
+#[test]
+fn reads_take_what_fits(rt: HostRuntime) -> Result<(), Fail> {
+    let alloc = rt.alloc();
+    let mut input = source(alloc, b"abc", &[2])?;
+    let mut buf = [0u8; 2];
+    for want in [Ok(2), Err(Failed), Ok(1), Ok(0)] {
+        assert_eq!(rt; input.read(&mut buf), want);
+    }
+    assert_eq!(rt; buf, *b"cb");
+    Ok(())
+}

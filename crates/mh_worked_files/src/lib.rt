@@ -1,0 +1,19 @@
+//! Worked examples of what files, lines and words are to the tool: devices, lexemes, modules, sentence lines, messages
+//! files and the words of the command line. Each case was worked out by hand; they stand beside the crates that they
+//! try, which are then proved once.
+#![tactic(auto)]
+
+#[cfg(test)]
+mod cases;
+#[cfg(test)]
+mod devices;
+#[cfg(test)]
+mod lexemes;
+#[cfg(test)]
+mod lines;
+#[cfg(test)]
+mod messages;
+#[cfg(test)]
+mod modules;
+#[cfg(test)]
+mod words;

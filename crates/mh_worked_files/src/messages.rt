@@ -1,0 +1,90 @@
+//! Messages files and what they are, worked out by hand.
+ghost use Rattle.std.specs.Prelude.{◌<◌, ◌^◌, length};
+ghost use Rattle.mh_grammar.specs.Plain.{plain_of, IsInRange};
+
+use crate::cases::{digit, parts};
+use crate::lines::{joined, sample};
+use mh_grammar::{Grammar, Memory, is_in_range};
+use mh_msgfile::{MsgFault, echo, print_messages, read_messages};
+use std::alloc::Global;
+use std::test::Fail;
+
+/// A fault, with the digit of its line.
+fn fault_at(alloc: Global, line: u32, words: &str) -> Result<Vec<u8>, Memory> {
+    joined(alloc, words, &[digit(u64::from(line))])
+}
+
+/// The text of the file that these bytes spell, or the fault with its line.
+fn printed(alloc: Global, grammar: &Grammar, bytes: &[u8]) -> Result<Vec<u8>, Memory>
+    requires range { IsInRange (plain_of grammar.now) }
+    requires size { length bytes.now < 2 ^ 31 }
+{
+    match read_messages(alloc, bytes, grammar) {
+        Ok(file) => print_messages(alloc, grammar, &file),
+        Err(MsgFault::Shape { line }) => fault_at(alloc, line, "shape "),
+        Err(MsgFault::UnknownStart { line, .. }) => fault_at(alloc, line, "no start "),
+        Err(MsgFault::MissingStart { line }) => fault_at(alloc, line, "missing start "),
+        Err(MsgFault::UnknownToken { line, .. }) => fault_at(alloc, line, "no token "),
+        Err(MsgFault::Memory) => Err(Memory),
+    }
+}
+
+/// The sentences alone.
+fn echoed(alloc: Global, grammar: &Grammar, bytes: &[u8]) -> Result<Vec<u8>, Memory>
+    requires range { IsInRange (plain_of grammar.now) }
+    requires size { length bytes.now < 2 ^ 31 }
+{
+    match read_messages(alloc, bytes, grammar) {
+        Ok(file) => echo(alloc, grammar, &file),
+        Err(_) => Err(Memory),
+    }
+}
+
+/// Files, with `~` before what they print as and `^` between cases.
+const FILES: &str = "~^\
+     \n \n\t\r\n~^\
+     # by hand\ns: EOF\n## Ends in an error in state: 0.\nExpected A.\n# inside\nNothing else begins a sentence.\n\nA A\n\nExpected EOF.~shape 4^\
+     # by hand\ns: EOF\n## old\n\nExpected A.\n# inside\nNothing else.\n\nA A\n\nExpected EOF.~s: EOF\n\nExpected A.\nNothing else.\n\ns: A A\n\nExpected EOF.\n\n^\
+     EOF\nA A\n\nM\n~s: EOF\ns: A A\n\nM\n\n^\
+     EOF\r\n\r\nM\r\n N \r\n\r\n~s: EOF\n\nM\n N \n\n^\
+     s:A\n \t\r\nM~s: A\n\nM\n\n^\
+     EOF\n~shape 1^\
+     \nEOF\nA\n~shape 2^\
+     EOF\n\nM\n\nEOF\n#\nA~shape 5^\
+     EOF\n\nM\n\n1\n~shape 5^\
+     A Y\n~no token 1^\
+     EOF\nr: A\n\nM\n~no start 2^\
+     A Y\n\nM\n\nA 1\n~no token 1";
+
+/// The sentences of a file, one a line.
+const SENTENCES: &str = "EOF\n  A A\r\n\nM\n\ns : EOF A\n\nN\n~s: EOF\ns: A A\ns: EOF A\n";
+
+#[test]
+fn files(rt: HostRuntime) -> Result<(), Fail> {
+    let alloc = rt.alloc();
+    let grammar = sample(alloc, &[1])?;
+    assert!(rt; is_in_range(&grammar));
+    for case in FILES.split('^') {
+        let (text, expected) = parts(case)?;
+        assert!(rt; text.len() < 1_000);
+        let found = printed(alloc, &grammar, text.as_bytes())?;
+        assert_eq!(rt; found.as_slice(), expected.as_bytes(), "at {text:?}");
+    }
+    assert_eq!(rt; FILES.split('^').count(), 14);
+    let (text, expected) = parts(SENTENCES)?;
+    assert!(rt; text.len() < 1_000);
+    let found = echoed(alloc, &grammar, text.as_bytes())?;
+    assert_eq!(rt; found.as_slice(), expected.as_bytes());
+    Ok(())
+}
+
+/// Two starts: a sentence has to name one.
+#[test]
+fn starts(rt: HostRuntime) -> Result<(), Fail> {
+    let alloc = rt.alloc();
+    let grammar = sample(alloc, &[1, 0])?;
+    assert!(rt; is_in_range(&grammar));
+    let found = printed(alloc, &grammar, b"EOF A\n")?;
+    assert_eq!(rt; found.as_slice(), b"missing start 1".as_slice());
+    Ok(())
+}

@@ -1,0 +1,285 @@
+//! Grammar files and what they spell, worked out by hand.
+ghost use Rattle.std.specs.Prelude.{◌<◌, ◌^◌, length};
+
+use crate::cases::parts;
+use mh_grammar::Memory;
+use mh_lex::SyntaxFault;
+use mh_reader::{Module, print_module, read_module, spelled_once};
+use std::alloc::{AllocError, Global};
+use std::test::Fail;
+
+/// `+` where the bytes spell a module, else the line.
+fn verdict(alloc: Global, bytes: &[u8]) -> Result<String, AllocError>
+    requires { length bytes.now < 2 ^ 31 }
+{
+    match read_module(alloc, bytes) {
+        Ok(_) => format!(in alloc; "+"),
+        Err(SyntaxFault::Syntax { line }) => format!(in alloc; "{line}"),
+        Err(SyntaxFault::Memory) => Err(AllocError),
+    }
+}
+
+/// Files and their verdicts, with `~` between the two and `^` between cases.
+fn cases() -> &'static str {
+    "~1^\
+     \n\n~3^\
+     %%~+^\
+     %%%%~+^\
+     %%\n%%\ns: ( {~+^\
+     %token A EOF\n%start s\n%%\ns: A EOF {}\n~+^\
+     %token A EOF\n%start s\ns: A EOF {}\n~3^\
+     %token A\n~2^\
+     %token A~1^\
+     %token <t> A B, C \"c\" , D\n%%~+^\
+     %token\n%%~+^\
+     %token A,\n, B %%~2^\
+     %token A,\n%%~2^\
+     %token\n<t>\n<t> A %%~3^\
+     %token A\nb %%~2^\
+     %token A \"a\"\n\"b\" %%~2^\
+     %token \"a\" %%~1^\
+     %token , A %%~+^\
+     %start <t> s %%~+^\
+     %start s <t>\n%%~1^\
+     %start s, t u %%~+^\
+     %start s \"t\" %%~1^\
+     %type <t> s, a(b, \"c\")? %%~+^\
+     %type s %%~1^\
+     %type <t> %%~+^\
+     %left A, \"b\" C %right %nonassoc d %%~+^\
+     %left <t> A %%~1^\
+     %left A B,\n,C %%~2^\
+     %on_error_reduce a b(c)+ , d %%~+^\
+     %on_error_reduce a(b,) %%~1^\
+     %on_error_reduce a =\nb %%~1^\
+     %parameter <M> %parameter\n%%~2^\
+     %parameter <M>\n<M> %%~2^\
+     %attribute a b* [@x 1] %%~+^\
+     [@a] %token [@b] A [@c] \"a\" [@d] %% [@e] s [@f] : [@g] A [@h] {} [@i]~+^\
+     %{ x %} ; ; %token A ; %{ y %} %%~+^\
+     %% ; s: {}~1^\
+     %%\n%% s~+^\
+     %% s: {} ; ; t: {} u: {} %%~+^\
+     %% s: {} ;\n| {}~2^\
+     %% s: A ; ; B ; {}~+^\
+     %% s: ; A {}~1^\
+     %% s: A %prec B ; {}~1^\
+     %% s: A %prec \"b\" | B {} %prec C | {}~+^\
+     %% s: A %prec B\nC {}~2^\
+     %% s: A {} %prec B\n%prec C~2^\
+     %% s: A {} %prec\n{}~2^\
+     %% s: | A {} | B | {}~+^\
+     %% s: | | A {}~+^\
+     %% s: | {}~+^\
+     %% s:~1^\
+     %% s: A\n\n~3^\
+     %% s: A |\n~2^\
+     %% s: A {} |\n~2^\
+     %% s: A {} \"b\"~1^\
+     %% s: (* ( *) A {(* } *)}~+^\
+     %% %public %inline %public s: {}~+^\
+     %% %public\n: {}~2^\
+     %% s\n%public: {}~2^\
+     %% s(): {} t(a): {} u(a, b): {}~+^\
+     %% s(a,): {}~1^\
+     %% s(,): {}~1^\
+     %% s(\"a\"): {}~1^\
+     %% s(a)\n(b): {}~2^\
+     %% s: x = A y = b(c) z = \"d\"? {}~+^\
+     %% s: x =\n= A {}~2^\
+     %% s: x = y\n= A {}~2^\
+     %% s: \"x\"\n= A {}~2^\
+     %% s: a()\n {}~1^\
+     %% s: a(b, c?(d)) {}~1^\
+     %% s: a(b(c)*, \"d\"+)?+ {}~+^\
+     %% s: a?\n(b) {}~2^\
+     %% s: ? {}~1^\
+     %% s: a, b {}~1^\
+     %% s: <t> {}~1^\
+     %token A\n%%\ns: A {}\n)\n\"~5^\
+     %% s: A {} )\n%{~2^\
+     %token A \"\" B \"\\\"\" %%~+^\
+     %left %right %nonassoc %%~+^\
+     %on_error_reduce %on_error_reduce \"a\" %%~+^\
+     %start s %start s %%~+^\
+     %% s: \"a\"(\"b\") {}~+^\
+     %% s: error {} error: {}~+^\
+     %% s(x): x(x) {} %%~+^\
+     %% s: {} %prec \"a\" | {} %prec b~+^\
+     %% s: | A | %prec B {} %prec C~+^\
+     %% %inline s: a* b+ c? {}~+^\
+     %% s: A_'1 {}~+^\
+     %%s:{}t:|{}|{}%%%%~+"
+}
+
+#[test]
+fn verdicts(rt: HostRuntime) -> Result<(), Fail> {
+    for case in cases().split('^') {
+        let (bytes, expected) = parts(case)?;
+        assert!(rt; bytes.len() < 1000);
+        let found = verdict(rt.alloc(), bytes.as_bytes())?;
+        assert_eq!(rt; found.as_str(), expected, "at {bytes:?}");
+    }
+    assert_eq!(rt; cases().split('^').count(), 89);
+    spelled_once();
+    Ok(())
+}
+
+/// An actual behind so many brackets or with so many suffixes.
+fn deep_file(
+    alloc: Global,
+    front: &str,
+    repeated: &str,
+    times: usize,
+    back: &str,
+) -> Result<Vec<u8>, AllocError> {
+    let mut bytes = Vec::new(alloc);
+    bytes.extend_from_slice(front.as_bytes())?;
+    for _ in 0..times {
+        bytes.extend_from_slice(repeated.as_bytes())?;
+    }
+    bytes.extend_from_slice(back.as_bytes())?;
+    Ok(bytes)
+}
+
+#[test]
+fn depths(rt: HostRuntime) -> Result<(), Fail> {
+    let alloc = rt.alloc();
+    for (front, repeated, times, back, expected) in [
+        ("%%\n\n\ns: A", "?", 999, "\n{}\n", "+"),
+        ("%%\n\n\ns: A", "?", 1000, "\n{}\n", "4"),
+        ("%%\ns: ", "a(", 999, "a\n", "3"),
+        ("%%\ns: ", "a(", 999, "a\n(\n\n", "3"),
+        ("%%\ns: ", "a(", 999, "a\n?\n\n", "3"),
+        ("%%\ns: ", "a(", 998, "a?\n?\n\n", "3"),
+        ("%%\ns: ", "\na(", 1000, "a", "1002"),
+        ("%%\n%%\n", "a(", 1001, "a", "+"),
+        ("%type <t> a", "*", 1000, "%%", "1"),
+    ] {
+        let bytes = deep_file(alloc, front, repeated, times, back)?;
+        assert!(rt; bytes.len() < 10_000);
+        let found = verdict(alloc, bytes.as_slice())?;
+        assert_eq!(rt; found.as_str(), expected, "{times} times {repeated:?}");
+    }
+    Ok(())
+}
+
+const FILE: &str =
+    "%{ open M %}\n%token <int> INT \"1\\\"\" [@x], EOF\n%token C\n%start <t> s %start u, v\n\
+    %type <t> x(y) %left INT \"+\" %nonassoc %right C, D\n%on_error_reduce a, b(c, d?) %on_error_reduce e*\n\
+    %attribute a [@b] %parameter <M : S>\n%%\n\
+    %public s: | x = INT; y = e(INT, \"1\")? ; EOF {} | B | C %prec INT {} %prec \"+\" | D {} ;;\n\
+    %inline %public %inline e(x, y): a(b(c)*) z=\"q\"+ { (* { *) }\n%inline u(): {}\n%% rest \"";
+
+const PRINTED: &str = "%token INT \"1\\\"\" %token EOF %token C %start s %start u %start v \
+    %left INT \"+\" %nonassoc %right C D %on_error_reduce a b ( c , option ( d ) ) %on_error_reduce list ( e ) %% \
+    %public s : | INT option ( e ( INT , \"1\" ) ) EOF {} | B %prec \"+\" {} | C %prec INT {} | D {} \
+    %public %inline e ( x , y ) : | a ( list ( b ( c ) ) ) nonempty_list ( \"q\" ) {} %inline u : | {} ";
+
+#[test]
+fn a_module(rt: HostRuntime) -> Result<(), Fail> {
+    let alloc = rt.alloc();
+    let bytes = FILE.as_bytes();
+    assert!(rt; bytes.len() < 1000);
+    let module = read_module(alloc, bytes)
+        .ok()
+        .ok_or("the file spells a module")?;
+    let text = print_module(alloc, &module)?;
+    assert_eq!(rt; text.as_slice(), PRINTED.as_bytes());
+    Ok(())
+}
+
+/// Whether a file that spells a module is printed as one that spells it, which is then printed alike.
+fn is_kept(alloc: Global, bytes: &[u8]) -> Result<bool, Memory>
+    requires { length bytes.now < 2 ^ 31 }
+{
+    let Ok(module) = read_module(alloc, bytes) else {
+        return Ok(false);
+    };
+    let text = print_module(alloc, &module)?;
+    if text.len() > 10_000 {
+        return Ok(false);
+    }
+    let Ok(again) = read_module(alloc, text.as_slice()) else {
+        return Ok(false);
+    };
+    Ok(print_module(alloc, &again)? == text)
+}
+
+#[test]
+fn printed_files(rt: HostRuntime) -> Result<(), Fail> {
+    for case in cases().split('^') {
+        let (bytes, expected) = parts(case)?;
+        assert!(rt; bytes.len() < 1000);
+        assert_eq!(rt;
+            is_kept(rt.alloc(), bytes.as_bytes())?,
+            expected == "+",
+            "at {bytes:?}"
+        );
+    }
+    assert_eq!(rt;
+        cases()
+            .split('^')
+            .filter(|case| case.ends_with("~+"))
+            .count(),
+        40
+    );
+    Ok(())
+}
+
+/// Declarations, with `~` before the cost of each token that they declare, `-` where there is none; `^` between cases.
+const COSTS: &str = "%token A [@cost 5] B %%~5 -^\
+     %token A [@cost 0] B [@cost 1001] C [@cost 1000] D [@cost 1] %%~- - 1000 1^\
+     %token A [@cost 05] B [@cost5] C[@cost 5] %%~- - 5^\
+     %token A \"a\" [@cost 5] B [@cost 6] \"b\" C %%~5 6 -^\
+     %token A [@cost 5] \"a\" [@cost 6] %%~5^\
+     %token A [@cost 5] [@cost 6] B %%~5 -^\
+     %token A [@cost x] [@cost 6] B %%~6 -^\
+     %token A [@name 3] [@cost 6] B %%~6 -^\
+     %token A, [@cost 5] B %%~- -^\
+     %token [@cost 5] A %%~-^\
+     %token A %[@cost 5] %%~-^\
+     %token A [@cost (* c *) 5] %%~-^\
+     %token A (* c *) [@cost\t\n\r\x0c 7\t] %%~7^\
+     %token A [@cost 5 6] B [@cost -5] C [@cost 12345678901234567890] %%~- - -^\
+     %token <t> A [@cost 9] %token A [@cost 3] %%~9 3^\
+     %start [@cost 3] s %token A [@cost 999] %%~999";
+
+/// The module of a short file that spells one.
+fn module_of(alloc: Global, bytes: &[u8]) -> Result<Module, Fail> {
+    if bytes.len() >= 10_000 {
+        return Err(Fail::from("a long file"));
+    }
+    Ok(read_module(alloc, bytes).ok().ok_or("no module")?)
+}
+
+fn costs_of(alloc: Global, module: &Module) -> Result<String, Fail> {
+    let mut text = String::new(alloc);
+    for token in module.tokens.as_slice() {
+        match token.cost {
+            Some(cost) => text.push_str(format!(in alloc; "{cost} ")?.as_str())?,
+            None => text.push_str("- ")?,
+        }
+    }
+    Ok(text)
+}
+
+/// The costs of a file's tokens, and those of what its module is printed as.
+fn costs_twice(alloc: Global, bytes: &[u8]) -> Result<(String, String), Fail> {
+    let module = module_of(alloc, bytes)?;
+    let printed = print_module(alloc, &module)?;
+    let again = module_of(alloc, printed.as_slice())?;
+    Ok((costs_of(alloc, &module)?, costs_of(alloc, &again)?))
+}
+
+#[test]
+fn costs(rt: HostRuntime) -> Result<(), Fail> {
+    for case in COSTS.split('^') {
+        let (bytes, expected) = parts(case)?;
+        let (found, again) = costs_twice(rt.alloc(), bytes.as_bytes())?;
+        assert_eq!(rt; found.trim(), expected, "at {bytes:?}");
+        assert_eq!(rt; again.trim(), expected, "again at {bytes:?}");
+    }
+    assert_eq!(rt; COSTS.split('^').count(), 16);
+    Ok(())
+}

@@ -1,0 +1,84 @@
+//! Words, and the orders that they spell by hand.
+use crate::cases::parts;
+use mh_opts::{Job, Order, UsageFault, read_words};
+use std::alloc::{AllocError, Global};
+use std::test::Fail;
+
+/// The job, what is on, and each file behind a colon.
+fn shown(alloc: Global, order: &Order) -> Result<Vec<u8>, AllocError> {
+    let mut text = Vec::new(alloc);
+    text.extend_from_slice(match order.job {
+        Job::Interpret => b"interpret",
+        Job::ShowAutomaton => b"show",
+        Job::ListErrors => b"list",
+    })?;
+    text.extend_from_slice(if order.strict { b" strict" } else { b"" })?;
+    text.extend_from_slice(if order.stdlib { b"" } else { b" bare" })?;
+    text.extend_from_slice(if order.show_cst { b" trees" } else { b"" })?;
+    for file in order.grammars.as_slice() {
+        text.extend_from_slice(b" :")?;
+        text.extend_from_slice(file.as_slice())?;
+    }
+    Ok(text)
+}
+
+/// What the words come to.
+fn answer(alloc: Global, words: &[String]) -> Result<Vec<u8>, AllocError> {
+    match read_words(alloc, words) {
+        Ok(order) => shown(alloc, &order),
+        Err(UsageFault::Parse) => b"bad words".to_vec(alloc),
+        Err(UsageFault::NoMode) => b"no mode".to_vec(alloc),
+        Err(UsageFault::TwoModes) => b"two modes".to_vec(alloc),
+        Err(UsageFault::Misplaced { option }) => option.as_slice().to_vec(alloc),
+        Err(UsageFault::NoGrammar) => b"no grammar".to_vec(alloc),
+        Err(UsageFault::Memory) => Err(AllocError),
+    }
+}
+
+/// Words with spaces between them, and what they come to behind a `~`; `^` between cases.
+const CASES: &str = "--interpret g.mly~interpret :g.mly^\
+    g.mly --interpret~interpret :g.mly^\
+    a.mly --interpret b.mly~interpret :a.mly :b.mly^\
+    --interpret --no-stdlib g.mly~interpret bare :g.mly^\
+    --interpret --strict --interpret-show-cst g.mly~interpret strict trees :g.mly^\
+    --show-automaton --strict g.mly~show strict :g.mly^\
+    --interpret -~interpret :-^\
+    --interpret -- --strict -x~interpret :--strict :-x^\
+    --interpret  g.mly~interpret : :g.mly^\
+    help --interpret~interpret :help^\
+    --interpret~no grammar^\
+    --show-automaton --~no grammar^\
+    g.mly~no mode^\
+    --no-stdlib g.mly~no mode^\
+    --interpret-show-cst g.mly~no mode^\
+    -- --interpret g.mly~no mode^\
+    --interpret --show-automaton g.mly~two modes^\
+    --interpret --show-automaton --interpret-show-cst~two modes^\
+    --show-automaton --interpret-show-cst g.mly~--interpret-show-cst^\
+    --show-automaton --interpret-show-cst~--interpret-show-cst^\
+    --what g.mly~bad words^\
+    --inter g.mly~bad words^\
+    --interpret --interpret g.mly~bad words^\
+    --interpret= g.mly~bad words^\
+    --interpret=yes g.mly~bad words^\
+    --interpret -x g.mly~bad words^\
+    --interpret -- -x --~interpret :-x :--^\
+    --help~bad words^\
+    -h~bad words^\
+    --version~bad words";
+
+#[test]
+fn cases(rt: HostRuntime) -> Result<(), Fail> {
+    let alloc = rt.alloc();
+    for case in CASES.split('^') {
+        let (line, expected) = parts(case)?;
+        let mut words = Vec::new(alloc);
+        for word in line.split(' ') {
+            words.push(String::from_str(alloc, word)?)?;
+        }
+        let found = answer(alloc, words.as_slice())?;
+        assert_eq!(rt; found.as_slice(), expected.as_bytes(), "at {line:?}");
+    }
+    assert_eq!(rt; answer(alloc, &[])?.as_slice(), b"no mode".as_slice());
+    Ok(())
+}

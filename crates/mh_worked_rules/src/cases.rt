@@ -1,0 +1,74 @@
+//! Cases as one text: `~` between the files and what they give, `#` between files and `^` between cases.
+ghost use Rattle.std.specs.Prelude.{IfOk};
+ghost use Rattle.mh_rules.specs.Ready.{AreModulesReady};
+
+use mh_grammar::{Level, Name};
+use mh_join::Prec;
+use mh_reader::{Module, read_module};
+use std::alloc::{AllocError, Global};
+use std::test::Fail;
+
+/// The files of a case, and what they give.
+pub fn parts(case: &str) -> Result<(&str, &str), Fail> {
+    Ok(case.split_once('~').ok_or("a case without a `~`")?)
+}
+
+/// The modules of short files, which all spell one.
+pub fn modules_of(alloc: Global, files: &str) -> Result<Vec<Module>, Fail>
+    ensures { IfOk result (λ modules. AreModulesReady modules.items) }
+{
+    let mut modules = Vec::new(alloc);
+    for file in files.split('#') {
+        if file.len() >= 10_000 {
+            return Err(Fail::from("a long file"));
+        }
+        let Ok(module) = read_module(alloc, file.as_bytes()) else {
+            return Err(Fail::from("a file that spells nothing"));
+        };
+        modules.push(module)?;
+    }
+    Ok(modules)
+}
+
+/// A number below 10 as its digit, and a greater one as `?`.
+pub fn push_digit(out: &mut Vec<u8>, number: u64) -> Result<(), AllocError> {
+    out.push(if number < 10 {
+        b'0' + number as u8
+    } else {
+        b'?'
+    })?;
+    Ok(())
+}
+
+/// A number below 100.
+pub fn push_number(out: &mut Vec<u8>, number: u64) -> Result<(), AllocError> {
+    if number >= 10 {
+        push_digit(out, number / 10)?;
+    }
+    push_digit(out, number % 10)
+}
+
+/// The kind of a fault, and the name that it tells.
+pub fn push_named(out: &mut Vec<u8>, kind: u8, name: &Name) -> Result<(), AllocError> {
+    out.push(kind)?;
+    out.push(b' ')?;
+    out.extend_from_slice(name.as_slice())?;
+    Ok(())
+}
+
+/// `%`, the file of a level and its rank.
+pub fn push_level(out: &mut Vec<u8>, level: Level) -> Result<(), AllocError> {
+    out.push(b'%')?;
+    push_digit(out, level.file)?;
+    push_digit(out, level.rank)
+}
+
+/// What a `%prec` gives: a level, or `-` for none.
+pub fn push_prec(out: &mut Vec<u8>, prec: Prec) -> Result<(), AllocError> {
+    match prec {
+        Prec::Absent => {}
+        Prec::Given(None) => out.push(b'-')?,
+        Prec::Given(Some(level)) => push_level(out, level)?,
+    }
+    Ok(())
+}

@@ -1,0 +1,201 @@
+//! Files and the instances of their rules, worked out by hand.
+ghost use Rattle.std.specs.Prelude.{IfOk};
+ghost use Rattle.mh_expand.specs.Expansion.{IsFirstFault};
+
+use crate::cases::{modules_of, parts, push_digit, push_named, push_prec};
+use mh_expand::{
+    ExpandFault, Expanded, Instance, InstanceProduction, Part, expand, is_one_expansion,
+    is_one_fault,
+};
+use mh_join::{Joined, join};
+use std::alloc::{AllocError, Global};
+use std::test::Fail;
+
+/// The rules of a file that is spelled and has no fault.
+fn joined_of(alloc: Global, text: &str) -> Result<Joined, Fail> {
+    let modules = modules_of(alloc, text)?;
+    Ok(join(alloc, modules.as_slice(), false)?)
+}
+
+fn push_part(out: &mut Vec<u8>, part: Part) -> Result<(), AllocError> {
+    match part {
+        Part::Token(number) => {
+            out.push(b't')?;
+            push_digit(out, u64::from(number))
+        }
+        Part::Instance(number) => {
+            out.push(b'i')?;
+            push_digit(out, u64::from(number))
+        }
+    }
+}
+
+fn push_production(out: &mut Vec<u8>, production: &InstanceProduction) -> Result<(), AllocError> {
+    out.push(b'|')?;
+    push_digit(out, production.file)?;
+    out.push(b'.')?;
+    push_digit(out, production.place)?;
+    for part in production.rhs.as_slice() {
+        out.push(b' ')?;
+        push_part(out, *part)?;
+    }
+    push_prec(out, production.prec)
+}
+
+fn push_instance(out: &mut Vec<u8>, instance: &Instance) -> Result<(), AllocError> {
+    out.extend_from_slice(instance.name.as_slice())?;
+    if instance.inlined {
+        out.push(b'!')?;
+    }
+    if let Some(rank) = instance.on_error {
+        out.push(b'<')?;
+        push_digit(out, rank)?;
+    }
+    for production in instance.productions.as_slice() {
+        push_production(out, production)?;
+    }
+    out.push(b';')?;
+    Ok(())
+}
+
+/// The starts and the instances in short.
+fn push_expanded(out: &mut Vec<u8>, expanded: &Expanded) -> Result<(), AllocError> {
+    for start in expanded.starts.as_slice() {
+        out.push(b'>')?;
+        push_digit(out, u64::from(*start))?;
+    }
+    out.push(b':')?;
+    for instance in expanded.instances.as_slice() {
+        push_instance(out, instance)?;
+    }
+    Ok(())
+}
+
+/// The instances of the rules, or their fault.
+fn answer(alloc: Global, joined: &Joined) -> Result<Vec<u8>, AllocError> {
+    let mut out = Vec::new(alloc);
+    match expand(alloc, joined) {
+        Ok(expanded) => push_expanded(&mut out, &expanded)?,
+        Err(ExpandFault::Arity { instance }) => push_named(&mut out, b'A', &instance)?,
+        Err(ExpandFault::Expansion { name }) => push_named(&mut out, b'E', &name)?,
+        Err(ExpandFault::Memory) => return Err(AllocError),
+    }
+    Ok(out)
+}
+
+/// Files and their instances.
+///
+/// A fault is `A INSTANCE` (arity) or `E NAME` (expansion). Else there is `>` and the instance of each start, `:`, and each
+/// instance with `;` behind it: its printed name, `!` where it is inline, `<` and its rank where an on-error declaration
+/// names it, and each alternative as `|FILE.PLACE`, its producers (a token `t0`, an instance `i0`), and what its `%prec`
+/// gives. A level is `%`, its file and its rank; `-` is a `%prec` without a level.
+///
+/// In the last three instances come without end. The name of `p` with k options around A has 8k + 4 bytes. Where the name
+/// of an argument has n bytes, that of the next one has 2n + 4, so the ninth is the first with more than 1,000. The names of
+/// `t` have at most 46 bytes: k letters `a` or `b` around A make 3k + 4, and 2^(k + 1) instances have at most k, the start
+/// among them, so the 20,001st has k = 14.
+fn cases() -> &'static str {
+    "%token A B EOF %start s %% s: option(A) option(B) option(A) EOF {} option(x): {} | x {}~\
+     >0:s|1.0 i1 i2 i1 t2;option(A)|1.1|1.2 t0;option(B)|1.1|1.2 t1;^\
+     %token A B %start s %% s: p q {} p: r {} q: A {} r: B {}~\
+     >0:s|1.0 i1 i2;p|1.1 i3;q|1.2 t0;r|1.3 t1;^\
+     %token A B %start s %% s: twice(pair(A)) {} twice(f): f(B) {} pair(x, y): x y {}~\
+     >0:s|1.0 i1;twice(pair(A))|1.1 i2;pair(A,B)|1.2 t0 t1;^\
+     %token A B %start s %on_error_reduce B %on_error_reduce option(B) option(A) \
+     %on_error_reduce option(A) %% s: option(A) {} option(x): {} | x {}~\
+     >0:s|1.0 i1;option(A)<1|1.1|1.2 t0;^\
+     %token A %left A %start s t %% t: x s {} %inline x: A {} | {} %prec A s: A {} u: t {}~\
+     >0>1:s|1.3 t0;t|1.0 i2 i0;x!|1.1 t0|1.2%10;^\
+     %start s %% s: option {} option(x): {}~A option^\
+     %token A B EOF %start s %% s: A(B, EOF) {}~A A(B,EOF)^\
+     %start s %% s(x): {}~A s^\
+     %token A %start s %% s: p(A) q {} p(x): x(x) {} q(x): {}~A q^\
+     %token A %start s %on_error_reduce option %% s: option(A) {} option(x): {}~>0:s|1.0 i1;option(A)|1.1;^\
+     %token A %start s %% s: p(A) {} p(x): x {} | p(option(x)) {} option(x): {} | x {}~E p^\
+     %token A %start s %% s: a(A) {} a(x): b(p(x, x)) {} b(x): c(p(x, x)) {} c(x): d(p(x, x)) {} \
+     d(x): e(p(x, x)) {} e(x): f(p(x, x)) {} f(x): g(p(x, x)) {} g(x): h(p(x, x)) {} \
+     h(x): i(p(x, x)) {} i(x): {} p(x, y): {}~E i^\
+     %token A %start s %% s: t(A) {} t(x): t(a(x)) t(b(x)) {} a(x): {} b(x): {}~E t"
+}
+
+/// The instances of the rules of a file, or their fault.
+fn found(alloc: Global, text: &str) -> Result<Vec<u8>, Fail> {
+    let joined = joined_of(alloc, text)?;
+    Ok(answer(alloc, &joined)?)
+}
+
+#[test]
+fn files(rt: HostRuntime) -> Result<(), Fail> {
+    for case in cases().split('^') {
+        let (text, expected) = parts(case)?;
+        let found = found(rt.alloc(), text)?;
+        assert_eq!(rt; str::from_utf8(found.as_slice())?, expected, "at {text:?}");
+    }
+    Ok(())
+}
+
+/// A name of so many letters.
+fn letters(alloc: Global, count: usize) -> Result<String, AllocError> {
+    let mut name = String::new(alloc);
+    for _ in 0..count {
+        name.push('s')?;
+    }
+    Ok(name)
+}
+
+#[test]
+fn long_starts(rt: HostRuntime) -> Result<(), Fail> {
+    let most = letters(rt.alloc(), 1000)?;
+    let text = format!(in rt.alloc(); "%start {most} %% {most}: {{}}")?;
+    let instances = format!(in rt.alloc(); ">0:{most}|1.0;")?;
+    assert_eq!(rt; found(rt.alloc(), &text)?.as_slice(), instances.as_bytes());
+    let more = letters(rt.alloc(), 1001)?;
+    let text = format!(in rt.alloc(); "%start {more} %% {more}: {{}}")?;
+    let fault = format!(in rt.alloc(); "E {more}")?;
+    assert_eq!(rt; found(rt.alloc(), &text)?.as_slice(), fault.as_bytes());
+    Ok(())
+}
+
+/// The term with eight pairs in one another has 1,276 bytes, and `i` has one argument too few.
+#[test]
+fn arity_before_expansion(rt: HostRuntime) -> Result<(), Fail> {
+    let mut term = format!(in rt.alloc(); "A")?;
+    for _ in 0..8u8 {
+        term = format!(in rt.alloc(); "p({term},{term})")?;
+    }
+    assert_eq!(rt; term.len(), 1276);
+    let text = "%token A %start s %% s: a(A) {} a(x): b(p(x, x)) {} b(x): c(p(x, x)) {} \
+                c(x): d(p(x, x)) {} d(x): e(p(x, x)) {} e(x): f(p(x, x)) {} f(x): g(p(x, x)) {} \
+                g(x): h(p(x, x)) {} h(x): i(p(x, x)) {} i(x, y): {} p(x, y): {}";
+    let fault = format!(in rt.alloc(); "A i({term})")?;
+    assert_eq!(rt; found(rt.alloc(), text)?.as_slice(), fault.as_bytes());
+    Ok(())
+}
+
+#[test]
+fn one_expansion(rt: HostRuntime) -> Result<(), Fail> {
+    let joined = joined_of(rt.alloc(), "%token A %start s %% s: A {}")?;
+    let left = expand(rt.alloc(), &joined)?;
+    let right = expand(rt.alloc(), &joined)?;
+    is_one_expansion(&joined, &left, &right);
+    Ok(())
+}
+
+/// The fault of rules that is an arity.
+fn arity_of(alloc: Global, joined: &Joined) -> Result<ExpandFault, Fail>
+    ensures { IfOk result (IsFirstFault joined.now) }
+{
+    let Err(ExpandFault::Arity { instance }) = expand(alloc, joined) else {
+        return Err("no fault".into());
+    };
+    Ok(ExpandFault::Arity { instance })
+}
+
+#[test]
+fn one_fault(rt: HostRuntime) -> Result<(), Fail> {
+    let joined = joined_of(rt.alloc(), "%start s %% s(x): {}")?;
+    let left = arity_of(rt.alloc(), &joined)?;
+    let right = arity_of(rt.alloc(), &joined)?;
+    is_one_fault(&joined, &left, &right);
+    Ok(())
+}

@@ -1,0 +1,137 @@
+//! Files and their grammars or faults, worked out by hand.
+use crate::cases::{modules_of, parts, push_digit};
+use mh_front::{GrammarFault, fault_line, grammar_of};
+use mh_grammar::{Grammar, Symbol};
+use std::alloc::{AllocError, Global};
+use std::test::Fail;
+
+fn push_symbol(out: &mut Vec<u8>, symbol: Symbol) -> Result<(), AllocError> {
+    match symbol {
+        Symbol::T(token) => {
+            out.push(b't')?;
+            push_digit(out, u64::from(token))?;
+        }
+        Symbol::N(nonterminal) => {
+            out.push(b'n')?;
+            push_digit(out, u64::from(nonterminal))?;
+        }
+    }
+    Ok(())
+}
+
+/// The tokens, the nonterminals, the starts and the productions in short.
+fn summary(alloc: Global, grammar: &Grammar) -> Result<Vec<u8>, AllocError> {
+    let mut out = Vec::new(alloc);
+    for token in grammar.tokens.as_slice() {
+        out.extend_from_slice(token.name.as_slice())?;
+        out.push(b' ')?;
+    }
+    for nonterminal in grammar.nonterminals.as_slice() {
+        out.extend_from_slice(nonterminal.name.as_slice())?;
+        out.push(b' ')?;
+    }
+    for start in grammar.starts.as_slice() {
+        out.push(b'>')?;
+        push_digit(&mut out, u64::from(*start))?;
+    }
+    for production in grammar.productions.as_slice() {
+        out.extend_from_slice(b" n")?;
+        push_digit(&mut out, u64::from(production.lhs))?;
+        out.push(b':')?;
+        for symbol in production.rhs.as_slice() {
+            push_symbol(&mut out, *symbol)?;
+        }
+    }
+    Ok(out)
+}
+
+/// The grammar of files in short, or what is told of its fault.
+fn answer(alloc: Global, files: &str, prelude: bool) -> Result<Vec<u8>, Fail> {
+    let modules = modules_of(alloc, files)?;
+    match grammar_of(alloc, modules.as_slice(), prelude) {
+        Ok(grammar) => Ok(summary(alloc, &grammar)?),
+        Err(fault) => Ok(fault_line(alloc, &fault)?),
+    }
+}
+
+/// Files and what is told of them.
+fn cases() -> &'static str {
+    "%start s %% s: A {}~undefined: A^\
+     %token A %start s %% s: A {} t: A {} t: A {}~duplicate: t^\
+     %token A %% s: A {}~no start symbol^\
+     %start s %% s: error {}~the error token is refused^\
+     %token A %start s %% s: A %prec HIGH {}~unknown level: HIGH^\
+     %start s %% s: option {}~arity: option^\
+     %token A EOF %start main %% main: p(A) EOF {} p(X): X {} | p(option(X)) {}~expansion: p^\
+     %start s %% s: x {} %inline x: x {}~inline cycle: x^\
+     %token A %start s %% %inline s: A {}~inline start: s^\
+     %token A B C D E F G H %start s %% s: x x x x x {} %inline x: A {} | B {} | C {} | D {} | E {} | F {} | G {} | H {}~\
+     too many productions^\
+     %token A %start s %% s: s A {}~empty language: s^\
+     %token COMMA X Y EOF %start main %% main: separated_list(COMMA, X) Y* EOF {} list(E): E E {}~\
+     COMMA X Y EOF main list(Y) loption(separated_nonempty_list(COMMA,X)) separated_nonempty_list(COMMA,X) >0 \
+     n0:n2n1t3 n1:t2t2 n2: n2:n3 n3:t1 n3:t1t0n3^\
+     %token A EOF %start s %% s: A EOF {}~A EOF s >0 n0:t0t1^\
+     %token X Y EOF %start main %% main: unit nonempty_list(item) EOF {} %public item: X {} unit: {}#\
+     %% %public item: Y {} unit: Y {}~\
+     X Y EOF main unit@1 nonempty_list(item) item >0 n0:n1n2t2 n3:t0 n1: n3:t1 n2:n3 n2:n3n2"
+}
+
+#[test]
+fn worked_files(rt: HostRuntime) -> Result<(), Fail> {
+    for case in cases().split('^') {
+        let (text, expected) = parts(case)?;
+        let found = answer(rt.alloc(), text, true)?;
+        assert_eq!(rt; found.as_slice(), expected.as_bytes(), "at {text:?}");
+    }
+    Ok(())
+}
+
+#[test]
+fn one_token_too_many(rt: HostRuntime) -> Result<(), Fail> {
+    let alloc = rt.alloc();
+    let mut text = String::new(alloc);
+    text.push_str("%token")?;
+    for number in 0..513u16 {
+        let name = format!(in alloc; " T{number}")?;
+        text.push_str(&name)?;
+    }
+    text.push_str(" %start s %% s: T0 {}")?;
+    assert_eq!(rt;
+        answer(alloc, &text, true)?.as_slice(),
+        b"too many tokens: 513".as_slice()
+    );
+    Ok(())
+}
+
+/// Inline rules that double: the last has 2^14 symbols.
+#[test]
+fn one_production_too_long(rt: HostRuntime) -> Result<(), Fail> {
+    let alloc = rt.alloc();
+    let mut text = String::new(alloc);
+    text.push_str("%token A %start s %% s: x14 {} %inline x0: A {}")?;
+    for number in 1..15u16 {
+        let below = number - 1;
+        let rule = format!(in alloc; " %inline x{number}: x{below} x{below} {{}}")?;
+        text.push_str(&rule)?;
+    }
+    assert_eq!(rt;
+        answer(alloc, &text, true)?.as_slice(),
+        b"too many productions".as_slice()
+    );
+    Ok(())
+}
+
+#[test]
+fn no_prelude(rt: HostRuntime) -> Result<(), Fail> {
+    let line = answer(rt.alloc(), "%token A %start s %% s: option(A) {}", false)?;
+    assert_eq!(rt; line.as_slice(), b"undefined: option".as_slice());
+    Ok(())
+}
+
+#[test]
+fn want_of_memory_is_told(rt: HostRuntime) -> Result<(), Fail> {
+    let line = fault_line(rt.alloc(), &GrammarFault::Memory)?;
+    assert_eq!(rt; line.as_slice(), b"out of memory".as_slice());
+    Ok(())
+}

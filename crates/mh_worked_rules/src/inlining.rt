@@ -1,0 +1,150 @@
+//! Files and the grammars that they give, worked out by hand.
+ghost use Rattle.std.specs.Prelude.{IfOk};
+ghost use Rattle.mh_rules.specs.Ready.{IsExpandedReady};
+
+use crate::cases::{modules_of, parts, push_digit, push_level, push_named};
+use mh_expand::{Expanded, expand};
+use mh_grammar::{Grammar, Production, Symbol};
+use mh_inline::{InlineFault, inline_rules, is_grammar_or_fault, is_one_fault, is_one_grammar};
+use mh_join::join;
+use std::alloc::{AllocError, Global};
+use std::test::Fail;
+
+/// The instances of files that have no fault so far.
+fn expanded_of(alloc: Global, files: &str) -> Result<Expanded, Fail>
+    ensures { IfOk result IsExpandedReady }
+{
+    let modules = modules_of(alloc, files)?;
+    let joined = join(alloc, modules.as_slice(), true)?;
+    Ok(expand(alloc, &joined)?)
+}
+
+fn push_symbol(out: &mut Vec<u8>, symbol: Symbol) -> Result<(), AllocError> {
+    match symbol {
+        Symbol::T(number) => {
+            out.push(b't')?;
+            push_digit(out, u64::from(number))
+        }
+        Symbol::N(number) => {
+            out.push(b'n')?;
+            push_digit(out, u64::from(number))
+        }
+    }
+}
+
+fn push_production(out: &mut Vec<u8>, production: &Production) -> Result<(), AllocError> {
+    push_digit(out, u64::from(production.lhs))?;
+    for symbol in production.rhs.as_slice() {
+        out.push(b' ')?;
+        push_symbol(out, *symbol)?;
+    }
+    if let Some(level) = production.level {
+        push_level(out, level)?;
+    }
+    out.push(b';')?;
+    Ok(())
+}
+
+/// The starts, the nonterminals and the productions in short.
+fn push_grammar(out: &mut Vec<u8>, grammar: &Grammar) -> Result<(), AllocError> {
+    for start in grammar.starts.as_slice() {
+        out.push(b'>')?;
+        push_digit(out, u64::from(*start))?;
+    }
+    for nonterminal in grammar.nonterminals.as_slice() {
+        out.push(b' ')?;
+        out.extend_from_slice(nonterminal.name.as_slice())?;
+        if let Some(rank) = nonterminal.on_error {
+            out.push(b'<')?;
+            push_digit(out, rank)?;
+        }
+    }
+    out.push(b':')?;
+    for production in grammar.productions.as_slice() {
+        push_production(out, production)?;
+    }
+    Ok(())
+}
+
+/// The grammar of the instances, or their fault.
+fn answer(alloc: Global, expanded: &Expanded) -> Result<Vec<u8>, AllocError>
+    requires { IsExpandedReady expanded.now }
+{
+    let mut out = Vec::new(alloc);
+    match inline_rules(alloc, expanded) {
+        Ok(grammar) => push_grammar(&mut out, &grammar)?,
+        Err(InlineFault::InlineCycle { instance }) => push_named(&mut out, b'C', &instance)?,
+        Err(InlineFault::InlineStart { name }) => push_named(&mut out, b'S', &name)?,
+        Err(InlineFault::TooManyProductions) => out.extend_from_slice(b"too many")?,
+        Err(InlineFault::EmptyLanguage { name }) => push_named(&mut out, b'E', &name)?,
+        Err(InlineFault::Memory) => return Err(AllocError),
+    }
+    Ok(out)
+}
+
+/// Files and their grammars.
+///
+/// The two cases of too many productions have 8^5 of them, and one of 2^14 symbols.
+fn cases() -> &'static str {
+    "%token A B %start s %% s: x x {} %inline x: A {} | B {}~\
+     >0 s:0 t0 t0;0 t0 t1;0 t1 t0;0 t1 t1;^\
+     %token A B %left l %left m %start s %% s: x y {} %inline x: A {} %prec l | A A {} \
+     %inline y: B {} %prec m | B B {}~>0 s:0 t0 t1%11;0 t0 t1 t1%10;0 t0 t0 t1%11;0 t0 t0 t1 t1;^\
+     %token A B %left l %left m %start s %% s: x {} %prec m | x {} %inline x: A {} %prec l | B {}~\
+     >0 s:0 t0%11;0 t1%11;0 t0%10;0 t1;^\
+     %token A %left l %left m %start s %% s: x {} %inline x: y {} %prec l %inline y: A {} %prec m~\
+     >0 s:0 t0%10;^\
+     %token A B %left A %start s %% s: x A {} | x A {} %inline x: B {} %prec B | B {}~\
+     >0 s:0 t1 t0;0 t1 t0%10;0 t1 t0;0 t1 t0%10;^\
+     %token A B %left A %left B %start s %% s: A s {} | B A t {} t: {}~\
+     >0 s t:0 t0 n0%10;0 t1 t0 n1%10;1;^\
+     %token A B %start s %on_error_reduce t %% s: x t {} %inline x: A {} t: B {}~\
+     >0 s t<0:0 t0 n1;1 t1;^\
+     %token A %start s u %% %public t: A {} u: t {} s: option(u) {}~\
+     >0>1 s u option(u) t:3 t0;1 n3;0 n2;2;2 n1;^\
+     %token A %% %public t: A {}#%start s %% s: t {}~>0 s t:1 t0;0 n1;^\
+     %start s %% s: x {} %inline x: x {}~C x^\
+     %token A %start s %% s: w {} %inline w: x {} %inline x: y A {} | {} %inline y: A x {}~C x^\
+     %start s %% %inline s: x {} %inline x: x {}~C x^\
+     %token A %start s t %% s: A {} %inline t: A {}~S t^\
+     %start s %% s: s s {} %inline x: A {}#%token A B %start u %% %inline u: A {}~S u^\
+     %token A B C D E F G H %start s %% s: x x x x x {} %inline x: \
+     A {} | B {} | C {} | D {} | E {} | F {} | G {} | H {}~too many^\
+     %token A %start s %% s: o {} %inline o: n n {} %inline n: m m {} %inline m: l l {} \
+     %inline l: k k {} %inline k: j j {} %inline j: i i {} %inline i: h h {} %inline h: g g {} \
+     %inline g: f f {} %inline f: e e {} %inline e: d d {} %inline d: c c {} %inline c: b b {} \
+     %inline b: a a {} %inline a: A {}~too many^\
+     %token A %start s t %% s: A {} t: t A {}~E t"
+}
+
+#[test]
+fn files(rt: HostRuntime) -> Result<(), Fail> {
+    for case in cases().split('^') {
+        let (texts, expected) = parts(case)?;
+        let expanded = expanded_of(rt.alloc(), texts)?;
+        let found = answer(rt.alloc(), &expanded)?;
+        assert_eq!(rt; found.as_slice(), expected.as_bytes(), "at {texts:?}");
+    }
+    Ok(())
+}
+
+#[test]
+fn one_grammar(rt: HostRuntime) -> Result<(), Fail> {
+    let texts = "%token A %start s %% s: A {}";
+    let expanded = expanded_of(rt.alloc(), texts)?;
+    let grammar = inline_rules(rt.alloc(), &expanded)?;
+    is_one_grammar(&expanded, &grammar, &grammar);
+    is_grammar_or_fault(&expanded, &grammar, &InlineFault::Memory);
+    Ok(())
+}
+
+#[test]
+fn one_fault(rt: HostRuntime) -> Result<(), Fail> {
+    let texts = "%start s %% s: s {}";
+    let expanded = expanded_of(rt.alloc(), texts)?;
+    let Err(fault) = inline_rules(rt.alloc(), &expanded) else {
+        return Err("no fault".into());
+    };
+    is_one_fault(&expanded, &fault, &fault);
+    Ok(())
+}

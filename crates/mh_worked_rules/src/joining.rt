@@ -1,0 +1,401 @@
+//! Files and what they give together, worked out by hand.
+use crate::cases::{modules_of, parts, push_digit, push_level, push_named, push_number, push_prec};
+use mh_join::{
+    Applied, Head, JoinFault, Joined, JoinedAlternative, JoinedRule, is_joined_or_fault,
+    is_one_fault, is_one_joined, join, prelude_rules,
+};
+use mh_reader::{Actual, Module, Ref, Rule};
+use std::alloc::{AllocError, Global};
+use std::process::Abort;
+use std::test::Fail;
+
+fn push_applied(out: &mut Vec<u8>, applied: &Applied) -> Result<(), AllocError> {
+    match applied.head {
+        Head::Formal(number) => {
+            out.push(b'f')?;
+            push_digit(out, number)?;
+        }
+        Head::Token(number) => {
+            out.push(b't')?;
+            push_digit(out, u64::from(number))?;
+        }
+        Head::Rule(number) => {
+            out.push(b'r')?;
+            push_number(out, number)?;
+        }
+    }
+    if !applied.args.is_empty() {
+        out.push(b'(')?;
+        for arg in applied.args.as_slice() {
+            push_applied(out, arg)?;
+        }
+        out.push(b')')?;
+    }
+    Ok(())
+}
+
+fn push_alternative(out: &mut Vec<u8>, alternative: &JoinedAlternative) -> Result<(), AllocError> {
+    push_digit(out, alternative.file)?;
+    out.push(b'.')?;
+    push_number(out, alternative.place)?;
+    for producer in alternative.producers.as_slice() {
+        out.push(b' ')?;
+        push_applied(out, producer)?;
+    }
+    push_prec(out, alternative.prec)
+}
+
+fn push_rule(out: &mut Vec<u8>, rule: &JoinedRule) -> Result<(), AllocError> {
+    out.extend_from_slice(rule.name.as_slice())?;
+    if rule.inlined {
+        out.push(b'!')?;
+    }
+    push_digit(out, rule.formals)?;
+    for alternative in rule.alternatives.as_slice() {
+        out.push(b'|')?;
+        push_alternative(out, alternative)?;
+    }
+    out.push(b';')?;
+    Ok(())
+}
+
+/// Whether a rule is the prelude's and has its own name.
+fn is_plain_prelude(rule: &JoinedRule) -> bool {
+    let mut is_of_files = rule.alternatives.is_empty();
+    for alternative in rule.alternatives.as_slice() {
+        is_of_files = is_of_files || alternative.file > 0;
+    }
+    for byte in rule.name.as_slice() {
+        is_of_files = is_of_files || *byte == b'@';
+    }
+    !is_of_files
+}
+
+/// The tokens, starts, on-error declarations and rules in short. Of the prelude's rules only those that a file's hide.
+fn push_joined(out: &mut Vec<u8>, joined: &Joined) -> Result<(), AllocError> {
+    for token in joined.tokens.as_slice() {
+        out.extend_from_slice(token.name.as_slice())?;
+        if let Some(level) = token.level {
+            push_level(out, level)?;
+        }
+        out.push(b' ')?;
+    }
+    for start in joined.starts.as_slice() {
+        out.push(b'>')?;
+        push_digit(out, *start)?;
+    }
+    for actuals in joined.on_error.as_slice() {
+        out.push(b'<')?;
+        for actual in actuals.as_slice() {
+            push_applied(out, actual)?;
+        }
+    }
+    out.push(b':')?;
+    for rule in joined.rules.as_slice() {
+        if !is_plain_prelude(rule) {
+            push_rule(out, rule)?;
+        }
+    }
+    Ok(())
+}
+
+/// What the files give, or their fault.
+fn answer(alloc: Global, modules: &[Module], prelude: bool) -> Result<Vec<u8>, AllocError> {
+    let mut out = Vec::new(alloc);
+    match join(alloc, modules, prelude) {
+        Ok(joined) => push_joined(&mut out, &joined)?,
+        Err(JoinFault::Undefined { name }) => push_named(&mut out, b'U', &name)?,
+        Err(JoinFault::Duplicate { name }) => push_named(&mut out, b'D', &name)?,
+        Err(JoinFault::NoStart) => out.extend_from_slice(b"no start")?,
+        Err(JoinFault::ErrorToken) => out.extend_from_slice(b"error")?,
+        Err(JoinFault::UnknownLevel { name }) => push_named(&mut out, b'L', &name)?,
+        Err(JoinFault::TooManyTokens { count }) => {
+            out.extend_from_slice(b"too many ")?;
+            push_number(&mut out, count / 100)?;
+            push_number(&mut out, count % 100)?;
+        }
+        Err(JoinFault::Memory) => return Err(AllocError),
+    }
+    Ok(out)
+}
+
+/// Files without the prelude, and what they give.
+///
+/// A fault is `U NAME` (undefined), `D NAME` (duplicate), `L NAME` (unknown level), `no start`, `error` or `too many COUNT`.
+/// Else there is each token with a space behind it, `>` and the rule of each start, `<` and the actuals of each on-error
+/// declaration, `:`, and each rule with `;` behind it. A rule is its printed name, `!` where it is inline, how many formals
+/// it has, and each alternative as `|FILE.PLACE`, its producers, and what its `%prec` gives. An actual is a formal `f0`, a
+/// token `t0` or a rule `r0`, with its actuals in brackets. A level is `%`, its file and its rank; `-` is a `%prec` without
+/// a level.
+fn cases() -> &'static str {
+    "%token A EOF %start s %% s: A EOF {}~A EOF >0:s0|1.0 t0 t1;^\
+     %% s: {}~no start^\
+     %token A %%#%% s: {}~no start^\
+     %% s: x {}~U x^\
+     %% s: {} s: {}~D s^\
+     %start s %%~U s^\
+     %start s %% s: b {}~U b^\
+     %start s %% s: zz? {}~U option^\
+     %start s %% s: a(b) {}~U a^\
+     %start s %% s: \"x\" {}~U x^\
+     %start s %% s: error {}~error^\
+     %start s %% s: error b {}~U b^\
+     %start s %on_error_reduce error %% s: {}~U error^\
+     %start s %% s: {} %prec x~L x^\
+     %start s %% s: {} %prec \"x\"~U x^\
+     %start s %% s: b {}#%% b: a {}~U b^\
+     %start s %% s: t {}#%% t: {}~U t^\
+     %left \"x\" %on_error_reduce y %start q %% s: z {}~U q^\
+     %left \"x\" %on_error_reduce y %start s %% s: z {}~U x^\
+     %on_error_reduce y %start s %% s: z {}~U y^\
+     %token A A B %start s %% s: {} B: {} A: {}~D B^\
+     %token A %start s %% s: {}#%% A: {}~D A^\
+     %token A \"a\" B \"a\" %start s %% s: {}~D a^\
+     %token A \"a\" %start s %% s: {}#%token B \"a\" %%~D a^\
+     %token A \"a\" B \"a\" %start s %% s: {} B: {}~D B^\
+     %token A \"a\" A \"b\" %start s %% s: \"a\" \"b\" {}#%token A \"a\" %%~A >0:s0|1.0 t0 t0;^\
+     %token A \"a\" %start s %% s: t {}#%% %public t: \"a\" {}~A >0:s0|1.0 r1;t0|2.0 t0;^\
+     %start s %% s: {} b: {} b: {}~D b^\
+     %start s %% s: {} t: {}#%% t: {} t: {}~D t^\
+     %start s %% s: {} b(x, y, x): {}~D x^\
+     %start s %% s: {} b: {} b: {}#%% p(x, x): {}~D b^\
+     %start s %% s: {}#%% %public p(y, y): {}~D y^\
+     %start s %% s: {} %public b(x): {} b: {}~D b^\
+     %start s %% s: {} %public b: {} %inline b: {}~D b^\
+     %start s %% s: {}#%% %inline s: {}~D s^\
+     %start s %% s: {} %public t(x): {}#%% %public t: {} p(x, x): {}~D x^\
+     %start s %% s: {} %public t(x): {}#%% %public t: {}~D t^\
+     %token A \"a\" %left A A %right \"a\" %start s %% s: {}~D A^\
+     %token A %left A %start s %% s: {}#%right A %%~D A^\
+     %left x %right x %start s %% s: {}~D x^\
+     %token A %left A A %start s %% s: {}~A%10 >0:s0|1.0;^\
+     %token A B %left A %start s %% s: {}#%left B %%~A%10 B%20 >0:s0|1.0;^\
+     %token A \"a\" %left b \"a\" %right c %start s %% s: \"a\" {} %prec c | A {} %prec A | {} %prec b~\
+     A%10 >0:s0|1.0 t0%11|1.1 t0%10|1.2%10;^\
+     %token A %start s %% s: {} %prec A~A >0:s0|1.0-;^\
+     %token A %start s %% s: A {} %prec A#%% t: {} %prec y~L y^\
+     %start s %% s: {} %prec y#%left y %%~>0:s0|1.0%20;^\
+     %start s %% s: {} %prec y | error {}~error^\
+     %start s %% s: {} p(error): error {}~error^\
+     %start s %% s: {} p(error): {}~>0:s0|1.0;p1|1.1;^\
+     %start s %% s: p(error) {} p(x): x {}~error^\
+     %start s %% s: error {} error: {}~error^\
+     %start s %on_error_reduce error %% s: {} error: {}~>0<r1:s0|1.0;error0|1.1;^\
+     %token A %start s %% s: p(A) {} p(A): A {}~A >0:s0|1.0 r1(t0);p1|1.1 f0;^\
+     %start s %% s: {}#%% s: {} t: s {}~>0:s0|1.0|2.0;t0|2.1 r0;^\
+     %start s t s %% t: s {} s: p(t, p(s)) {} p(x): x(x) {} | {}~\
+     >1>0:t0|1.0 r1;s0|1.1 r2(r0r2(r1));p1|1.2 f0(f0)|1.3;^\
+     %start s %on_error_reduce s t %on_error_reduce t %% s: {} t: {}~>0<r0r1<r1:s0|1.0;t0|1.1;^\
+     %start s %token A %% s: b {} b: A {}#%token B A %% b: B {} s: b A {}~\
+     A B >0:s0|1.0 r1|2.1 r2 t0;b@10|1.1 t0;b@20|2.0 t1;^\
+     %start s %% s: b {} %public b: {}#%% b: s {}#%% %public b: {} b: {}~\
+     >0:s0|1.0 r1;b0|1.1|3.0|3.1;b@20|2.0 r0;^\
+     %start s %% s: x {}#%start q %%~U x^\
+     %token A \"a\" B \"a\" %start s %% s: {}#%% A: {}~D A^\
+     %token A \"a\" B \"a\" %start s %% s: {} b: {} b: {}~D a^\
+     %start s %% s: {} p(x, x): {}#%% b: {} b: {}~D b^\
+     %left x %right x %start s %% s: {} %public b: {} b(y): {}~D b^\
+     %start s %%#%% s: {} s: {}~>0:s0|2.0|2.1;^\
+     %start s %left \"a\" %% s: \"a\" {}#%token A \"a\" %%~A%10 >0:s0|1.0 t0;"
+}
+
+/// The same with the prelude. Its rules stand behind those of the files: `option` first, `list` and `nonempty_list` as the
+/// tenth and eleventh.
+fn cases_with_prelude() -> &'static str {
+    "%token A %start s %% s: A? A* A+ {}~A >0:s0|1.0 r1(t0) r10(t0) r11(t0);^\
+     %start option %%~U option^\
+     %start s %% s: optional {}~U optional^\
+     %start s %% s: error? {}~error^\
+     %token A %start s %% s: A? {} option(X): X {}~A >0:s0|1.0 r1(t0);option1|1.1 f0;option@01|0.0|0.1 f0;^\
+     %token A %start s %% s: A? {}#%% option(X): X X {}~\
+     A >0:s0|1.0 r2(t0);option1|2.0 f0 f0;option@01|0.0|0.1 f0;^\
+     %token A %start s %% s: A? {}#%% %public option(X): X {}~\
+     A >0:s0|1.0 r1(t0);option1|2.0 f0;option@01|0.0|0.1 f0;^\
+     %token A %start s %% s: A* {} %public list(X): X {}~\
+     A >0:s0|1.0 r1(t0);list1|1.1 f0;list@01|0.13|0.14 f0 r11(f0);^\
+     %start s %% s: {} %public pair: {}~>0:s0|1.0;pair0|1.1;pair@0!2|0.8 f0 f1;^\
+     %token X Y EOF %start main %% main: unit nonempty_list(item) EOF {} %public item: X {} unit: {}\
+     #%% %public item: Y {} unit: Y {}~\
+     X Y EOF >0:main0|1.0 r2 r14(r1) t2;item0|1.1 t0|2.0 t1;unit@10|1.2;unit@20|2.1 t1;^\
+     %% s: {}~no start^\
+     %start s %% s: {} list(X): {} list(X): {}~D list^\
+     %start s %% s: {} %public list(X): X {}#%% %public list: {}~D list^\
+     %start s %% s: {} %prec option~L option^\
+     %token X %start s %% s: {} option(Y): Y {}~X >0:s0|1.0;option1|1.1 f0;option@01|0.0|0.1 f0;"
+}
+
+/// What the files of a case give.
+fn found(alloc: Global, texts: &str, prelude: bool) -> Result<Vec<u8>, Fail> {
+    let modules = modules_of(alloc, texts)?;
+    Ok(answer(alloc, modules.as_slice(), prelude)?)
+}
+
+/// Compares what the files of each case give with what it says.
+fn check_cases(rt: &impl Abort, alloc: Global, cases: &str, prelude: bool) -> Result<(), Fail> {
+    for case in cases.split('^') {
+        let (texts, expected) = parts(case)?;
+        let found = found(alloc, texts, prelude)?;
+        assert_eq!(rt; str::from_utf8(found.as_slice())?, expected, "at {texts:?}");
+    }
+    Ok(())
+}
+
+#[test]
+fn files(rt: HostRuntime) -> Result<(), Fail> {
+    check_cases(&rt, rt.alloc(), cases(), false)?;
+    check_cases(&rt, rt.alloc(), cases_with_prelude(), true)
+}
+
+#[test]
+fn one_answer(rt: HostRuntime) -> Result<(), Fail> {
+    let modules = modules_of(rt.alloc(), "%start s %% s: {}")?;
+    let Ok(left) = join(rt.alloc(), modules.as_slice(), false) else {
+        return Err("a fault".into());
+    };
+    let Ok(right) = join(rt.alloc(), modules.as_slice(), false) else {
+        return Err("a fault".into());
+    };
+    is_one_joined(false, modules.as_slice(), &left, &right);
+    is_joined_or_fault(false, modules.as_slice(), &left, &JoinFault::Memory);
+    Ok(())
+}
+
+#[test]
+fn one_fault(rt: HostRuntime) -> Result<(), Fail> {
+    let modules = modules_of(rt.alloc(), "%% s: {}")?;
+    let Err(left) = join(rt.alloc(), modules.as_slice(), false) else {
+        return Err("no fault".into());
+    };
+    let Err(right) = join(rt.alloc(), modules.as_slice(), false) else {
+        return Err("no fault".into());
+    };
+    is_one_fault(false, modules.as_slice(), &left, &right);
+    assert_eq!(rt; left, JoinFault::NoStart);
+    assert_eq!(rt; right, JoinFault::NoStart);
+    Ok(())
+}
+
+/// What a file with 512 tokens and this text gives, with the files behind it.
+fn with_tokens(alloc: Global, more: &str) -> Result<Vec<u8>, Fail> {
+    let mut texts = String::new(alloc);
+    texts.push_str("%token")?;
+    for first in 'A'..='P' {
+        for second in 'a'..='p' {
+            let names = format!(in alloc; " {first}{second} {first}{second}_")?;
+            texts.push_str(&names)?;
+        }
+    }
+    texts.push_str(more)?;
+    found(alloc, &texts, false)
+}
+
+#[test]
+fn counts_of_tokens(rt: HostRuntime) -> Result<(), Fail> {
+    let most = with_tokens(rt.alloc(), " %start s %% s: {}")?;
+    assert_eq!(rt; most.len(), 256 * 7 + 10);
+    assert!(rt; most.ends_with(b"Pp_ >0:s0|1.0;"));
+    let more = with_tokens(rt.alloc(), " Z %start s %% s: {}")?;
+    assert_eq!(rt; more.as_slice(), b"too many 513".as_slice());
+    let repeated = with_tokens(rt.alloc(), " Z Aa Z Y %start s %% s: {}")?;
+    assert_eq!(rt; repeated.as_slice(), b"too many 514".as_slice());
+    let known = with_tokens(rt.alloc(), " %start s %% s: {}#%token Pp_ Aa %%")?;
+    assert!(rt; known.ends_with(b"Pp_ >0:s0|1.0;"));
+    let in_two_files = with_tokens(rt.alloc(), " %start s %% s: {}#%token Pp_ Z Aa %%")?;
+    assert_eq!(rt; in_two_files.as_slice(), b"too many 513".as_slice());
+    let without_level = with_tokens(rt.alloc(), " Z %start s %% s: {} %prec y")?;
+    assert_eq!(rt; without_level.as_slice(), b"L y".as_slice());
+    Ok(())
+}
+
+/// The standard library as a file.
+fn prelude_text() -> &'static str {
+    "%%\n\
+     %public option(X): {} | X {}\n\
+     %public %inline ioption(X): {} | X {}\n\
+     %public boption(X): {} | X {}\n\
+     %public loption(X): {} | X {}\n\
+     %public %inline pair(X, Y): X Y {}\n\
+     %public %inline separated_pair(X, sep, Y): X sep Y {}\n\
+     %public %inline preceded(opening, X): opening X {}\n\
+     %public %inline terminated(X, closing): X closing {}\n\
+     %public %inline delimited(opening, X, closing): opening X closing {}\n\
+     %public list(X): {} | X list(X) {}\n\
+     %public nonempty_list(X): X {} | X nonempty_list(X) {}\n\
+     %public %inline separated_list(separator, X):\n\
+     \x20 loption(separated_nonempty_list(separator, X)) {}\n\
+     %public separated_nonempty_list(separator, X):\n\
+     \x20 X {} | X separator separated_nonempty_list(separator, X) {}\n\
+     %public %inline rev(XS): XS {}\n\
+     %public %inline flatten(XSS): XSS {}\n\
+     %public %inline append(XS, YS): XS YS {}\n\
+     %public %inline endrule(X): X {}\n\
+     %public midrule(X): X {}\n"
+}
+
+fn push_reference(out: &mut Vec<u8>, reference: &Ref) -> Result<(), AllocError> {
+    match reference {
+        Ref::Plain(name) => out.extend_from_slice(name.as_slice()),
+        Ref::Alias(alias) => {
+            out.push(b'"')?;
+            out.extend_from_slice(alias.as_slice())
+        }
+    }
+}
+
+fn push_actual(out: &mut Vec<u8>, actual: &Actual) -> Result<(), AllocError> {
+    push_reference(out, &actual.head)?;
+    out.push(b'(')?;
+    for arg in actual.args.as_slice() {
+        push_actual(out, arg)?;
+    }
+    out.push(b')')?;
+    Ok(())
+}
+
+/// Everything that a rule holds, each part with an end of its own.
+fn push_source(out: &mut Vec<u8>, rule: &Rule) -> Result<(), AllocError> {
+    out.push(if rule.public { b'p' } else { b'o' })?;
+    out.push(if rule.inlined { b'i' } else { b'o' })?;
+    out.extend_from_slice(rule.name.as_slice())?;
+    for formal in rule.formals.as_slice() {
+        out.push(b',')?;
+        out.extend_from_slice(formal.as_slice())?;
+    }
+    for alternative in rule.alternatives.as_slice() {
+        out.push(b'|')?;
+        for producer in alternative.producers.as_slice() {
+            push_actual(out, producer)?;
+        }
+        if let Some(reference) = &alternative.prec {
+            out.push(b'%')?;
+            push_reference(out, reference)?;
+        }
+    }
+    out.push(b';')?;
+    Ok(())
+}
+
+fn sources(alloc: Global, rules: &[Rule]) -> Result<Vec<u8>, AllocError> {
+    let mut out = Vec::new(alloc);
+    for rule in rules {
+        push_source(&mut out, rule)?;
+    }
+    Ok(out)
+}
+
+#[test]
+fn prelude_is_what_its_text_spells(rt: HostRuntime) -> Result<(), Fail> {
+    let modules = modules_of(rt.alloc(), prelude_text())?;
+    let [found] = modules.as_slice() else {
+        return Err("not one file".into());
+    };
+    let rules = prelude_rules(rt.alloc(), true)?;
+    assert_eq!(rt; rules.len(), 18);
+    assert_eq!(rt;
+        sources(rt.alloc(), found.rules.as_slice())?,
+        sources(rt.alloc(), rules.as_slice())?
+    );
+    assert!(rt; found.tokens.is_empty() && found.starts.is_empty());
+    assert!(rt; found.levels.is_empty() && found.on_error.is_empty());
+    Ok(())
+}

@@ -1,0 +1,14 @@
+//! Worked examples of what grammar files give: joined rules, instances, the grammar of instances, and the front end as a
+//! whole. Each case was worked out by hand; they stand beside the crates that they try, which are then proved once.
+#![tactic(auto)]
+
+#[cfg(test)]
+mod cases;
+#[cfg(test)]
+mod expanding;
+#[cfg(test)]
+mod fronts;
+#[cfg(test)]
+mod inlining;
+#[cfg(test)]
+mod joining;

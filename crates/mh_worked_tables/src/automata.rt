@@ -1,0 +1,111 @@
+//! Collections that were worked out by hand, by Knuth's construction.
+use crate::made::{automaton_of, grammar_of};
+use mh_canon::{canonical, is_one_automaton};
+use mh_grammar::{Edge, Symbol, is_in_range};
+use mh_items::Automaton;
+use std::alloc::{AllocError, Global};
+use std::process::Abort;
+use std::test::Fail;
+
+fn push_number(out: &mut Vec<u8>, number: u32) -> Result<(), AllocError> {
+    if number >= 10 {
+        out.push(b'0' + (number / 10 % 10) as u8)?;
+    }
+    out.push(b'0' + (number % 10) as u8)?;
+    Ok(())
+}
+
+/// An edge: its symbol by number, a token's as `t0` and a nonterminal's as `n0`, and the state that it leads to.
+fn push_edge(out: &mut Vec<u8>, edge: Edge) -> Result<(), AllocError> {
+    let (kind, number) = match edge.symbol {
+        Symbol::T(token) => (b't', token),
+        Symbol::N(nonterminal) => (b'n', nonterminal),
+    };
+    out.push(kind)?;
+    push_number(out, u32::from(number))?;
+    out.push(b'-')?;
+    push_number(out, edge.target)
+}
+
+/// The edges of an automaton: `/` stands between those of two states.
+fn push_edges(out: &mut Vec<u8>, automaton: &Automaton<1>) -> Result<(), AllocError> {
+    for (state, edges) in automaton.edges.as_slice().iter().enumerate() {
+        if state > 0 {
+            out.push(b'/')?;
+        }
+        for edge in edges.as_slice() {
+            out.push(b' ')?;
+            push_edge(out, *edge)?;
+        }
+    }
+    Ok(())
+}
+
+/// The edges of a grammar's automaton.
+fn edges_of(alloc: Global, text: &str) -> Result<Vec<u8>, Fail> {
+    let grammar = grammar_of(alloc, text)?;
+    let automaton = automaton_of(alloc, &grammar)?;
+    let mut out = Vec::new(alloc);
+    push_edges(&mut out, &automaton)?;
+    Ok(out)
+}
+
+fn check(rt: &impl Abort, alloc: Global, text: &str, wanted: &str) -> Result<(), Fail> {
+    let found = edges_of(alloc, text)?;
+    assert_eq!(rt; str::from_utf8(found.as_slice())?, wanted, "{text}");
+    Ok(())
+}
+
+#[test]
+fn of_the_empty_word(rt: HostRuntime) -> Result<(), Fail> {
+    check(&rt, rt.alloc(), "; s; s:", " n0-1/")
+}
+
+/// A token's edge comes before that of the start, and both before the next state's.
+#[test]
+fn of_one_sentence(rt: HostRuntime) -> Result<(), Fail> {
+    check(&rt, rt.alloc(), "A EOF; s; s: A EOF", " t0-1 n0-2/ t1-3//")
+}
+
+/// The states behind C and D stand once before another c and once at the end.
+#[test]
+fn apart_by_looks(rt: HostRuntime) -> Result<(), Fail> {
+    check(
+        &rt,
+        rt.alloc(),
+        "C D; s c; s: c c; c: C c; c: D",
+        " t0-1 t1-2 n0-3 n1-4/ t0-1 t1-2 n1-5/// t0-6 t1-7 n1-8// t0-6 t1-7 n1-9///",
+    )
+}
+
+/// One core stands twice behind C.
+#[test]
+fn apart_with_one_core(rt: HostRuntime) -> Result<(), Fail> {
+    check(
+        &rt,
+        rt.alloc(),
+        "A B C D E; s x y; s: A x D; s: B y D; s: A y E; s: B x E; x: C; y: C",
+        " t0-1 t1-2 n0-3/ t2-4 n1-5 n2-6/ t2-7 n1-8 n2-9/// t3-10/ t4-11// t4-12/ t3-13////",
+    )
+}
+
+/// One state is reached from two.
+#[test]
+fn of_sums_and_products(rt: HostRuntime) -> Result<(), Fail> {
+    check(
+        &rt,
+        rt.alloc(),
+        "INT PLUS TIMES EOF; main e t; main: e EOF; e: e PLUS t; e: t; t: t TIMES INT; t: INT",
+        " t0-1 n0-2 n1-3 n2-4/// t1-5 t3-6/ t2-7/ t0-1 n2-8// t0-9/ t2-7/",
+    )
+}
+
+#[test]
+fn one_automaton(rt: HostRuntime) -> Result<(), Fail> {
+    let grammar = grammar_of(rt.alloc(), "A; s; s: A")?;
+    assert!(rt; is_in_range(&grammar));
+    assert!(rt; grammar.tokens.len() <= 64);
+    let automaton = canonical::<1>(rt.alloc(), &grammar).map_err(|_| "no automaton")?;
+    is_one_automaton(&grammar, &automaton, &automaton);
+    Ok(())
+}

@@ -1,0 +1,22 @@
+//! Worked examples of grammars as numbers and of what is made of them: sets, closures, automata, tables, runs, trees and
+//! texts. Each was worked out by hand; they stand beside the crates that they try, which are then proved once.
+#![tactic(auto)]
+
+#[cfg(test)]
+mod automata;
+#[cfg(test)]
+mod closures;
+#[cfg(test)]
+mod made;
+#[cfg(test)]
+mod resolving;
+#[cfg(test)]
+mod runs;
+#[cfg(test)]
+mod sets;
+#[cfg(test)]
+mod tables;
+#[cfg(test)]
+mod token_sets;
+#[cfg(test)]
+mod trees;
