@@ -4,3 +4,4 @@ pub mod Files
 pub mod Missing
 pub mod Listing
 pub mod Once
+pub mod Either

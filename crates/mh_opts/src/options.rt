@@ -35,11 +35,16 @@ pub struct Need<T> {
     pub needs: T,
 }
 
-const OPTIONS: [Opt<&str>; 6] = [
+const OPTIONS: [Opt<&str>; 7] = [
     Opt {
         name: INTERPRET,
         action: ArgAction::SetTrue,
         job: Some(Job::Interpret),
+    },
+    Opt {
+        name: "interpret-error",
+        action: ArgAction::SetTrue,
+        job: Some(Job::InterpretError),
     },
     Opt {
         name: "show-automaton",

@@ -11,6 +11,8 @@ use thiserror::Error;
 pub enum Job {
     /// `--interpret`: a verdict for each line of the input.
     Interpret,
+    /// `--interpret-error`: the entry of the sentence on the first line of the input.
+    InterpretError,
     /// `--show-automaton`: the automaton as text.
     ShowAutomaton,
     /// `--list-errors`: an entry for each state in which some sentence fails.

@@ -10,7 +10,6 @@ use Rattle.mh_outside.specs.declared.lines.LineFault.{LineFault}
 use Rattle.mh_outside.specs.declared.lines.LineFault.TheVariants as faults
 use Rattle.mh_top.specs.Text.{Text}
 use Rattle.mh_opts.specs.declared.order.Job.{Job}
-use Rattle.mh_opts.specs.declared.order.Job.TheVariants.{Interpret}
 use Rattle.mh_top.specs.Plan.{Ending, Plan, AtEnd, Judges, Answers, EndsByJob, EndsWith}
 use Rattle.mh_top.specs.Shapes.{Prepared}
 use Rattle.mh_top.specs.Verdicts.{Answering}
@@ -98,5 +97,5 @@ judged_end by plan out is = (record { cause = None; out = [] }, subst (λ (l : P
 pub at_end : (p : Prepared) (job : Job) (plan : Plan) (out0 out1 : Option Text) (r : Result (Unit {0}) Stop) → plan ≡ AtEnd p → p.order.job ≡ job → EndRan (EndsByJob job p) out0 out1 r → EndRan (EndsWith plan) out0 out1 r
 at_end p job plan out0 out1 r is job_is ran = subst (λ (l : Plan). EndRan (EndsWith l) out0 out1 r) (sym is) (subst (λ (j : Job). EndRan (EndsByJob j p) out0 out1 r) (sym job_is) ran)
 
-pub at_end_none : (p : Prepared) (plan : Plan) (out : Option Text) → plan ≡ AtEnd p → p.order.job ≡ Interpret → EndRan (EndsWith plan) out out (Ok tt)
-at_end_none p plan out is job_is = at_end p Interpret plan out out (Ok tt) is job_is (record { cause = None; out = [] }, refl, refl, Appends-nil out)
+pub at_end_none : (p : Prepared) (job : Job) (plan : Plan) (out : Option Text) → EndsByJob job p (record { cause = None; out = [] }) → plan ≡ AtEnd p → p.order.job ≡ job → EndRan (EndsWith plan) out out (Ok tt)
+at_end_none p job plan out none is job_is = at_end p job plan out out (Ok tt) is job_is (record { cause = None; out = [] }, none, refl, Appends-nil out)

@@ -1,9 +1,9 @@
 -- Each mode by itself: what is proved by a case for each job and each plan, and by nothing else.
-use Rattle.std.proofs.Common.{◌≡◌, Option, None, Some, sym, ◌∙◌, ap, subst, refl}
+use Rattle.std.proofs.Common.{◌≡◌, Option, None, Some, [], sym, ◌∙◌, ap, subst, refl}
 use Rattle.std.specs.Bool.{⊤}
 use Rattle.mh_grammar.specs.declared.types.Grammar.{Grammar}
 use Rattle.mh_opts.specs.declared.order.Job.{Job}
-use Rattle.mh_opts.specs.declared.order.Job.TheVariants.{Interpret, ShowAutomaton, ListErrors}
+use Rattle.mh_opts.specs.declared.order.Job.TheVariants.{Interpret, InterpretError, ShowAutomaton, ListErrors}
 use Rattle.mh_outside.specs.Shelf.{Files}
 use Rattle.mh_report.proofs.OneText.{text_once}
 use Rattle.mh_tables.specs.Table.{TableData}
@@ -11,11 +11,14 @@ use Rattle.mh_top.specs.Text.{Text, too_long}
 use Rattle.mh_top.specs.TableStage.{mode_of, source_of}
 use Rattle.mh_top.specs.Verdicts.{Answering}
 use Rattle.mh_top.specs.Listing.{Lists, TooLong}
-use Rattle.mh_top.specs.Plan.{Ending, Plan, Ends, AtEnd, Judges, Answers, EndsByJob, EndsWith, IsFixed, IsFixedJob, IsPlanOfJob}
+use Rattle.mh_top.specs.Plan.{Ending, Plan, Ends, AtEnd, Judges, Explains, ending_of, Answers, EndsByJob, EndsWith, IsFixed, IsFixedJob, IsPlanOfJob}
 use Rattle.mh_top.specs.Shapes.{Prepared}
 use Rattle.mh_top.specs.declared.stop.Cause.{Cause}
 use Rattle.mh_top.specs.declared.stop.Cause.TheVariants.{Refused}
+use Rattle.mh_top.specs.declared.explaining.Told.{Told}
+use Rattle.mh_top.specs.declared.explaining.Told.TheVariants.{Entry, Not}
 use Rattle.mh_top.proofs.Answering.{one_once}
+use Rattle.mh_top.proofs.Telling.{told_once}
 use Rattle.mh_top.proofs.Binding.{IsOne}
 use Rattle.mh_top.proofs.Refusals.{list_cause_once}
 
@@ -23,11 +26,13 @@ use Rattle.mh_top.proofs.Refusals.{list_cause_once}
 
 pub some_plan : (job : Job) (files : Option Files) (p : Prepared) → (plan : Plan) × IsPlanOfJob job files p plan
 some_plan Interpret files p = (_, refl)
+some_plan InterpretError files p = (_, refl)
 some_plan ShowAutomaton files p = (_, refl)
 some_plan ListErrors files p = (_, refl)
 
 pub job_once : (job : Job) (files : Files) (p : Prepared) → IsOne (IsPlanOfJob job (Some files) p)
 job_once Interpret files p x y is so = is ∙ sym so
+job_once InterpretError files p x y is so = is ∙ sym so
 job_once ShowAutomaton files p x y is so = is ∙ sym so
 job_once ListErrors files p x y is so = is ∙ sym so
 
@@ -38,6 +43,7 @@ module _ (Has : Grammar → TableData → Type 0) where
   -- what judges, judges by the table
   pub job_judges : (job : Job) (files : Option Files) (p : Prepared) (by : Answering) → Has p.grammar p.tabled.halting → IsPlanOfJob job files p (Judges by) → Has by.grammar by.table
   job_judges Interpret files p by has is = judged (record { trees = p.order.show_cst; grammar = p.grammar; table = p.tabled.halting }) by is has
+  job_judges InterpretError files p by has is = absurd (cc)
   job_judges ShowAutomaton files p by has is = absurd (cc)
   job_judges ListErrors files p by has is = absurd (cc)
 
@@ -48,31 +54,40 @@ module _ (line : Text) where
   answer_once (Ends e) a c x y p q = (p.0 ∙ sym q.0, p.1 ∙ sym q.1)
   answer_once (AtEnd e) a c x y p q = (p.0 ∙ sym q.0, p.1 ∙ sym q.1)
   answer_once (Judges by) a c x y p q = (one_once by line a c p.0 q.0, p.1 ∙ sym q.1)
+  answer_once (Explains from) a c x y p q = (p.0 ∙ sym q.0, p.3 ∙ ap (λ (told : Told). Ends (ending_of told)) (told_once from line p.1 q.1 p.2 q.2) ∙ sym q.3)
 
   pub answer_fixed : (plan : Plan) (text : Text) (next : Plan) → Answers plan line text next → IsFixed plan → IsFixed next
   answer_fixed (Ends e) text next is fixed = subst IsFixed (sym is.1) fixed
   answer_fixed (AtEnd p) text next is fixed = subst IsFixed (sym is.1) fixed
   answer_fixed (Judges by) text next is fixed = subst IsFixed (sym is.1) fixed
+  answer_fixed (Explains p) text next is fixed = subst IsFixed (sym is.3) tt
 
 job_cause_once : (job : Job) (p : Prepared) (x y : Ending) → EndsByJob job p x → EndsByJob job p y → x.cause ≡ y.cause
 job_cause_once Interpret p x y is so = ap (λ (e : Ending). e.cause) (is ∙ sym so)
+job_cause_once InterpretError p x y is so = ap (λ (e : Ending). e.cause) (is ∙ sym so)
 job_cause_once ShowAutomaton p x y is so = is.0 ∙ sym so.0
 job_cause_once ListErrors p x y is so = list_cause_once p.grammar p.tabled.automaton p.tabled.halting x.cause y.cause x.out y.out is so
 
 job_out_once : (job : Job) (p : Prepared) (x y : Ending) → IsFixedJob job → EndsByJob job p x → EndsByJob job p y → x.out ≡ y.out
 job_out_once Interpret p x y fixed is so = ap (λ (e : Ending). e.out) (is ∙ sym so)
+job_out_once InterpretError p x y fixed is so = ap (λ (e : Ending). e.out) (is ∙ sym so)
 job_out_once ShowAutomaton p x y fixed is so = text_once p.grammar p.tabled.automaton (mode_of (source_of p.order)) p.tabled.halting x.out y.out is.1 so.1
 job_out_once ListErrors p x y fixed is so = absurd fixed
+
+explained_once : (p : Prepared) (x y : Ending) → EndsWith (Explains p) x → EndsWith (Explains p) y → x ≡ y
+explained_once p x y is so = is.2 ∙ ap ending_of (told_once p [] is.0 so.0 is.1 so.1) ∙ sym so.2
 
 pub cause_once : (plan : Plan) (x y : Ending) → EndsWith plan x → EndsWith plan y → x.cause ≡ y.cause
 cause_once (Ends e) x y is so = ap (λ (end : Ending). end.cause) (is ∙ sym so)
 cause_once (AtEnd p) x y is so = job_cause_once p.order.job p x y is so
 cause_once (Judges by) x y is so = ap (λ (end : Ending). end.cause) (is ∙ sym so)
+cause_once (Explains p) x y is so = ap (λ (end : Ending). end.cause) (explained_once p x y is so)
 
 pub out_once : (plan : Plan) (x y : Ending) → IsFixed plan → EndsWith plan x → EndsWith plan y → x.out ≡ y.out
 out_once (Ends e) x y fixed is so = ap (λ (end : Ending). end.out) (is ∙ sym so)
 out_once (AtEnd p) x y fixed is so = job_out_once p.order.job p x y fixed is so
 out_once (Judges by) x y fixed is so = ap (λ (end : Ending). end.out) (is ∙ sym so)
+out_once (Explains p) x y fixed is so = ap (λ (end : Ending). end.out) (explained_once p x y is so)
 
 -- ---- a mode ends for no other cause than it may
 
@@ -86,21 +101,29 @@ module _ (Right : Cause → Type 0) where
   EndsRight (Ends e) = IsRight e.cause
   EndsRight (AtEnd p) = ⊤
   EndsRight (Judges by) = ⊤
+  EndsRight (Explains p) = ⊤
 
   pub job_right : (job : Job) (files : Option Files) (p : Prepared) (plan : Plan) → IsPlanOfJob job files p plan → EndsRight plan
   job_right Interpret files p plan is = subst EndsRight (sym is) tt
+  job_right InterpretError files p plan is = subst EndsRight (sym is) tt
   job_right ShowAutomaton files p plan is = subst EndsRight (sym is) tt
   job_right ListErrors files p plan is = subst EndsRight (sym is) tt
 
-  pub answer_right : (plan : Plan) (line text : Text) (next : Plan) → Answers plan line text next → EndsRight plan → EndsRight next
-  answer_right (Ends e) line text next is right = subst EndsRight (sym is.1) right
-  answer_right (AtEnd p) line text next is right = subst EndsRight (sym is.1) tt
-  answer_right (Judges by) line text next is right = subst EndsRight (sym is.1) tt
-
   -- any mode may refuse
   module _ (may_refuse : (line : Text) → Right (Refused line)) where
+    told_right : (told : Told) → IsRight (ending_of told).cause
+    told_right (Entry text) = tt
+    told_right (Not line) = may_refuse line
+
+    pub answer_right : (plan : Plan) (line text : Text) (next : Plan) → Answers plan line text next → EndsRight plan → EndsRight next
+    answer_right (Ends e) line text next is right = subst EndsRight (sym is.1) right
+    answer_right (AtEnd p) line text next is right = subst EndsRight (sym is.1) tt
+    answer_right (Judges by) line text next is right = subst EndsRight (sym is.1) tt
+    answer_right (Explains p) line text next is right = subst EndsRight (sym is.3) (told_right is.1)
+
     job_ends_right : (job : Job) (p : Prepared) (e : Ending) → EndsByJob job p e → IsRight e.cause
     job_ends_right Interpret p e is = subst IsRight (sym (ap (λ (x : Ending). x.cause) is)) tt
+    job_ends_right InterpretError p e is = subst IsRight (sym (ap (λ (x : Ending). x.cause) is)) tt
     job_ends_right ShowAutomaton p e is = subst IsRight (sym is.0) tt
     job_ends_right ListErrors p e (Lists none cause list) = subst IsRight (sym cause) tt
     job_ends_right ListErrors p e (TooLong s long cause out) = subst IsRight (sym cause) (may_refuse (too_long s))
@@ -109,3 +132,4 @@ module _ (Right : Cause → Type 0) where
     ends_right (Ends end) e right is = subst IsRight (sym (ap (λ (x : Ending). x.cause) is)) right
     ends_right (AtEnd p) e right is = job_ends_right p.order.job p e is
     ends_right (Judges by) e right is = subst IsRight (sym (ap (λ (x : Ending). x.cause) is)) tt
+    ends_right (Explains p) e right is = subst IsRight (sym (ap (λ (x : Ending). x.cause) is.2)) (told_right is.0)

@@ -132,7 +132,7 @@ module _ (words : List Text) (files : Option Files) where
 
   answers_right : (plan : Plan) (lines : List Text) (text : Text) (next : Plan) → AnswersAll plan lines text next → EndsRight Accounts plan → EndsRight Accounts next
   answers_right plan [] text next all right = subst (EndsRight Accounts) (sym all.1) right
-  answers_right plan (line ∷ lines) text next all right = answers_right all.2 lines all.1 next all.4 (answer_right Accounts plan line all.0 all.2 all.3 right)
+  answers_right plan (line ∷ lines) text next all right = answers_right all.2 lines all.1 next all.4 (answer_right Accounts (λ words. tt) plan line all.0 all.2 all.3 right)
 
   -- what accounts for the cause of an outcome: some of the above, or that the input passes a limit
   abbrev pub AccountsOn : Work → Option Text → Option Cause → Type 0

@@ -4,6 +4,7 @@ pub mod Stages
 pub mod Order
 pub mod Lines
 pub mod Verdicts
+pub mod Explained
 pub mod FileStage
 pub mod GrammarStage
 pub mod TableStage

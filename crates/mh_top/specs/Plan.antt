@@ -1,22 +1,31 @@
 -- Modes: what each asks for, how it answers lines, and what it writes at its end. A mode is plain data.
 use Rattle.std.specs.Prelude.{◌≡◌, List, [], ◌∷◌, ◌++◌, Option, None, Some, ⊤}
 use Rattle.mh_opts.specs.declared.order.Job.{Job}
-use Rattle.mh_opts.specs.declared.order.Job.TheVariants.{Interpret, ShowAutomaton, ListErrors}
+use Rattle.mh_opts.specs.declared.order.Job.TheVariants.{Interpret, InterpretError, ShowAutomaton, ListErrors}
 use Rattle.mh_outside.specs.Shelf.{Files}
 use Rattle.mh_report.specs.Automata.{IsAutomatonText}
 use Rattle.mh_top.specs.Text.{Text}
+use Rattle.mh_top.specs.Explained.{IsTold}
 use Rattle.mh_top.specs.TableStage.{mode_of, source_of}
 use Rattle.mh_top.specs.Listing.{ListsErrors}
 use Rattle.mh_top.specs.Verdicts.{Answering, AnswersOne}
 use Rattle.mh_top.specs.declared.drive.Asks.{Asks}
-use Rattle.mh_top.specs.declared.drive.Asks.TheVariants.{NoLine, EachLine}
+use Rattle.mh_top.specs.declared.drive.Asks.TheVariants.{NoLine, FirstLine, EachLine}
 use Rattle.mh_top.specs.Shapes.{Prepared}
+use Rattle.mh_top.specs.declared.explaining.Told.{Told}
+use Rattle.mh_top.specs.declared.explaining.Told.TheVariants.{Entry, Not}
 use Rattle.mh_top.specs.declared.stop.Cause.{Cause}
+use Rattle.mh_top.specs.declared.stop.Cause.TheVariants.{Refused}
 
 -- the cause, where the work is refused, and the text on out
 pub record Ending : Type 0 where
   pub cause : Option Cause
   pub out : Text
+
+-- how it ends that a line is told this
+abbrev pub ending_of : Told → Ending
+ending_of (Entry text) = record { cause = None; out = text }
+ending_of (Not line) = record { cause = Some (Refused line); out = [] }
 
 -- a mode as it stands, between lines
 pub data Plan : Type 0 where
@@ -26,22 +35,27 @@ pub data Plan : Type 0 where
   AtEnd : Prepared → Plan
   -- it answers each line with its verdict
   Judges : Answering → Plan
+  -- it tells at its end what the first line is told, or the empty line, where there is none
+  Explains : Prepared → Plan
 
 -- which lines it asks for
 abbrev pub asks_of : Plan → Asks
 asks_of (Ends e) = NoLine
 asks_of (AtEnd p) = NoLine
 asks_of (Judges by) = EachLine
+asks_of (Explains p) = FirstLine
 
 -- the text that answers a line, and how the mode stands then; one that asks for none has nothing to say
 abbrev pub Answers : Plan → Text → Text → Plan → Type 0
 Answers (Ends e) line text next = (text ≡ []) × (next ≡ Ends e)
 Answers (AtEnd p) line text next = (text ≡ []) × (next ≡ AtEnd p)
 Answers (Judges by) line text next = AnswersOne by line text × (next ≡ Judges by)
+Answers (Explains p) line text next = (text ≡ []) × (told : Told) × IsTold p line told × (next ≡ Ends (ending_of told))
 
 -- how it ends where it writes only at its end
 abbrev pub EndsByJob : Job → Prepared → Ending → Type 0
 EndsByJob Interpret p e = e ≡ record { cause = None; out = [] }
+EndsByJob InterpretError p e = e ≡ record { cause = None; out = [] }
 EndsByJob ShowAutomaton p e = (e.cause ≡ None) × IsAutomatonText p.grammar p.tabled.automaton (mode_of (source_of p.order)) p.tabled.halting e.out
 EndsByJob ListErrors p e = ListsErrors p.grammar p.tabled.automaton p.tabled.halting e.cause e.out
 
@@ -50,6 +64,7 @@ abbrev pub EndsWith : Plan → Ending → Type 0
 EndsWith (Ends end) e = e ≡ end
 EndsWith (AtEnd p) e = EndsByJob p.order.job p e
 EndsWith (Judges by) e = e ≡ record { cause = None; out = [] }
+EndsWith (Explains p) e = (told : Told) × IsTold p [] told × (e ≡ ending_of told)
 
 -- these lines are answered one after the other by this text
 abbrev pub AnswersAll : Plan → List Text → Text → Plan → Type 0
@@ -64,18 +79,21 @@ halts cause = Ends (record { cause = Some cause; out = [] })
 -- the mode of a job; from here on a mode may read files of its own
 abbrev pub IsPlanOfJob : Job → Option Files → Prepared → Plan → Type 0
 IsPlanOfJob Interpret files p plan = plan ≡ Judges (record { trees = p.order.show_cst; grammar = p.grammar; table = p.tabled.halting })
+IsPlanOfJob InterpretError files p plan = plan ≡ Explains p
 IsPlanOfJob ShowAutomaton files p plan = plan ≡ AtEnd p
 IsPlanOfJob ListErrors files p plan = plan ≡ AtEnd p
 
 -- the turn of a file comes that the mode of a job reads behind the warnings; these read none
 abbrev pub IsTurnOfJob : Job → Option Files → Prepared → Text → Type 0
 IsTurnOfJob Interpret files p name = ⊥
+IsTurnOfJob InterpretError files p name = ⊥
 IsTurnOfJob ShowAutomaton files p name = ⊥
 IsTurnOfJob ListErrors files p name = ⊥
 
 -- Whether what a mode writes is one text: a list of errors leaves the choice among sentences of least cost open.
 abbrev pub IsFixedJob : Job → Type 0
 IsFixedJob Interpret = ⊤
+IsFixedJob InterpretError = ⊤
 IsFixedJob ShowAutomaton = ⊤
 IsFixedJob ListErrors = ⊥
 
@@ -83,3 +101,4 @@ abbrev pub IsFixed : Plan → Type 0
 IsFixed (Ends e) = ⊤
 IsFixed (AtEnd p) = IsFixedJob p.order.job
 IsFixed (Judges by) = ⊤
+IsFixed (Explains p) = ⊤

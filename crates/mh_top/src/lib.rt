@@ -2,6 +2,7 @@
 #![tactic(auto)]
 
 mod drive;
+mod explaining;
 mod files;
 mod grammar;
 mod judging;

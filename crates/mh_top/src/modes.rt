@@ -9,6 +9,7 @@ ghost use Rattle.mh_top.specs.TableStage.{mode_of, source_of};
 ghost use Rattle.mh_top.specs.Work.{IsPlanOf, has_warning as has_warning_in, is_warned as is_warned_of, warnings_of};
 
 use crate::drive::{Asks, Mode, drive, write_text};
+use crate::explaining::Explaining;
 use crate::judging::judge_by;
 use crate::listing::list_errors;
 use crate::prepared::{Prepared, source_of as source_in};
@@ -118,6 +119,7 @@ impl<const W: usize> Mode for AtEnd<W> {
     fn end<O: Sink>(self, alloc: Global, out: &mut O) -> Result<(), Stop> {
         match self.prepared.order.job {
             Job::Interpret => Ok(()),
+            Job::InterpretError => Ok(()),
             Job::ShowAutomaton => show_automaton(alloc, &self.prepared, out),
             Job::ListErrors => list_errors(alloc, &self.prepared, out),
         }
@@ -149,6 +151,13 @@ pub(crate) fn follow<F: Shelf, I: Source, O: Sink, const W: usize>(
             Ok(mode) => drive(alloc, mode, input, out),
             Err(stop) => Err(stop),
         },
+        Job::InterpretError => {
+            let mode = Explaining {
+                prepared: &prepared,
+                told: None,
+            };
+            drive(alloc, mode, input, out)
+        }
         Job::ShowAutomaton => drive(alloc, AtEnd { prepared }, input, out),
         Job::ListErrors => drive(alloc, AtEnd { prepared }, input, out),
     }

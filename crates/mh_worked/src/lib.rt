@@ -8,6 +8,8 @@ mod devices;
 #[cfg(test)]
 mod errors;
 #[cfg(test)]
+mod explained;
+#[cfg(test)]
 mod interpreting;
 #[cfg(test)]
 mod limits;

@@ -1,4 +1,5 @@
 use Rattle.mh_check.proofs.Once.{fault_once, sound_right, compiled_once}
+use Rattle.mh_check.proofs.Either.{compiled_or_fault}
 use Rattle.mh_check.proofs.laws.checked_once.Goals as goal
 
 pub returns-clause-fault : goal.returns-clause-fault
@@ -6,6 +7,9 @@ returns-clause-fault c = fault_once c.args.table.now
 
 pub returns-clause-apart : goal.returns-clause-apart
 returns-clause-apart c = sound_right c.args.table.now
+
+pub returns-clause-either : goal.returns-clause-either
+returns-clause-either c = compiled_or_fault c.args.table.now c.table-facts.ensures.facts
 
 pub returns-clause-messages : goal.returns-clause-messages
 returns-clause-messages c = compiled_once c.args.table.now

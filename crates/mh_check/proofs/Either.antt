@@ -1,0 +1,97 @@
+-- On a table that halts a file is compiled, or has a first fault.
+use Rattle.std.proofs.Common.{◌≡◌, ℕ, ◌+◌, ◌<◌, ◌⊎◌, List, [], ◌∷◌, ◌++◌, length, Option, None, Some, replicate, set, map, ◌-◌, refl, sym, ◌∙◌, ap, subst, arith, inl, inr, append_assoc, append-nil}
+use Rattle.std.specs.List.{slice_get, All, AllByRecursion}
+use Rattle.std.proofs.lemmas.Bool.{cases_eq}
+use Rattle.std.proofs.Math.Numerals.{lt_of_le_of_ne}
+use Rattle.std.proofs.lemmas.List.{map-append, length-set, length-replicate}
+use Rattle.std.proofs.lemmas.Option.{slice_get-get_or}
+use Rattle.std.proofs.lemmas.List.Elements.{recursion_from_All}
+use Rattle.mh_tables.specs.Table.{TableData}
+use Rattle.mh_tables.specs.Halting.{HaltingFacts}
+use Rattle.mh_tables.specs.Run.{Ending, VerdictOf, Accepted, Overshot, Rejected}
+use Rattle.mh_tables.proofs.Ending.{has_verdict}
+use Rattle.mh_tables.proofs.Cut.{verdict_cut}
+use Rattle.mh_msgfile.specs.declared.messages.MsgSentence.{MsgSentence}
+use Rattle.mh_msgfile.specs.declared.messages.Entry.{Entry}
+use Rattle.mh_msgfile.specs.declared.messages.MsgFile.{MsgFile}
+use Rattle.mh_msgfile.specs.Messages.{IsOf, AreOf}
+use Rattle.mh_check.specs.declared.places.Place.{Place}
+use Rattle.mh_check.specs.Checks.{FailsIn, FaultFound, NotRefusedAt, RefusedEarlyAt, SharedBy, Accepts, Overshoots, Breaks, NotRefused, RefusedEarly, FirstFault, sentences_of}
+use Rattle.mh_check.specs.Compiling.{Item, item, items_of, items_from, sentences_in, place_of, message_of_place, Placed, IsCompiled}
+use Rattle.mh_check.proofs.Known.{state_refused}
+use Rattle.mh_check.proofs.Placing.{placed_more, placed_replicate, shares, breaks, first_more}
+use Rattle.mh_check.proofs.Files.{is_compiled, sentences_are}
+
+module _ (t : TableData) (h : HaltingFacts t) where
+  abbrev Fits : Item → Type 0
+  Fits x = IsOf (length t.grammar.starts) t.grammar.tokens x.sentence
+
+  -- the places of some items, or the first fault among their sentences
+  abbrev Settled : List Item → Type 0
+  Settled all = ((places : List (Option Place)) × (length places ≡ length t.states) × Placed t all places) ⊎ ((f : FaultFound) × FirstFault t (sentences_in all) f)
+
+  one_first : (done : List Item) (x : Item) (rest : List Item) → (done ++ x ∷ []) ++ rest ≡ done ++ x ∷ rest
+  one_first done x rest = append_assoc done (x ∷ []) rest
+
+  -- a fault at an item is one of all
+  fault_all : (done : List Item) (x : Item) (rest : List Item) (f : FaultFound) → FirstFault t (sentences_in (done ++ x ∷ [])) f → Settled (done ++ x ∷ rest)
+  fault_all done x rest f first =
+      inr (f, subst (λ (l : List MsgSentence). FirstFault t l f) (sym (map-append (λ (y : Item). y.sentence) (done ++ x ∷ []) rest) ∙ ap sentences_in (one_first done x rest))
+      (first_more t (sentences_in (done ++ x ∷ [])) (sentences_in rest) f first))
+
+  -- one item more, where the others settle behind it
+  module _ (done : List Item) (x : Item) (rest : List Item) (places : List (Option Place)) (fits : Fits x) (size : length places ≡ length t.states) (placed : Placed t done places) (on : (new : List (Option Place)) → length new ≡ length t.states → Placed t (done ++ x ∷ []) new → Settled ((done ++ x ∷ []) ++ rest)) where
+    at_place : (s : ℕ) (o : Option (Option Place)) → FailsIn t x.sentence s → s < length places → slice_get places s ≡ o → Settled (done ++ x ∷ rest)
+    at_place s None fails within is = let there = slice_get-get_or places s None within in absurd (cc)
+    at_place s (Some None) fails within is =
+        subst Settled (one_first done x rest)
+        (on (set places s (Some (place_of x))) (length-set places s (Some (place_of x)) ∙ size) (placed_more t done x s places placed fails within is))
+    at_place s (Some (Some p)) fails within is = fault_all done x rest (SharedBy p.line x.sentence.line s) (shares t done x s places placed fails within p is)
+
+    refused : (at s : ℕ) → VerdictOf t x.sentence.start x.sentence.tokens (Rejected at s) → Settled (done ++ x ∷ rest)
+    refused at s verdict =
+        elim (cases_eq (at + 1) (length x.sentence.tokens)) [
+          | inl last ↦ (
+              let known : s < length t.states = state_refused t h.facts x.sentence.start x.sentence.tokens at s fits.start verdict in
+              let place : at ≡ length x.sentence.tokens - 1 = omega arith in
+              at_place s (slice_get places s) (record {
+                sentence = record { known = fits.start; tokens = recursion_from_All (λ z. z < t.grammar.tokens) x.sentence.tokens fits.known };
+                some_token = omega arith;
+                verdict = subst (λ (k : ℕ). VerdictOf t x.sentence.start x.sentence.tokens (Rejected k s)) place verdict;
+              }) (omega arith) refl)
+          | inr other ↦ (
+              let within : at < length x.sentence.tokens = (verdict_cut t x.sentence.start x.sentence.tokens at s verdict).0 in
+              fault_all done x rest (RefusedEarlyAt x.sentence.line at) (breaks t done x places (RefusedEarlyAt x.sentence.line at) placed (RefusedEarly at s (lt_of_le_of_ne (omega arith) other) verdict)))
+        ]
+
+    by_verdict : (how : Ending) → VerdictOf t x.sentence.start x.sentence.tokens how → Settled (done ++ x ∷ rest)
+    by_verdict (Accepted read) verdict = fault_all done x rest (NotRefusedAt x.sentence.line (Accepted read)) (breaks t done x places (NotRefusedAt x.sentence.line (Accepted read)) placed (NotRefused (Accepted read) (Accepts read) verdict))
+    by_verdict (Overshot state) verdict = fault_all done x rest (NotRefusedAt x.sentence.line (Overshot state)) (breaks t done x places (NotRefusedAt x.sentence.line (Overshot state)) placed (NotRefused (Overshot state) (Overshoots state) verdict))
+    by_verdict (Rejected at s) verdict = refused at s verdict
+
+  settle : (rest done : List Item) (places : List (Option Place)) → AllByRecursion Fits rest → length places ≡ length t.states → Placed t done places → Settled (done ++ rest)
+  settle [] done places fits size placed = inl (places, size, subst (λ (l : List Item). Placed t l places) (sym (append-nil done)) placed)
+  settle (x ∷ rest) done places fits size placed =
+      let has = has_verdict t h x.sentence.start x.sentence.tokens fits.0.start (recursion_from_All (λ z. z < t.grammar.tokens) x.sentence.tokens fits.0.known) in
+      by_verdict done x rest places fits.0 size placed (λ new length_is more. settle rest (done ++ x ∷ []) new fits.1 length_is more) has.0 has.1
+
+  fits_entry : (entry : ℕ) (xs : List MsgSentence) → AllByRecursion (IsOf (length t.grammar.starts) t.grammar.tokens) xs → AllByRecursion Fits (items_of entry xs)
+  fits_entry entry [] of = tt
+  fits_entry entry (x ∷ xs) of = (of.0, fits_entry entry xs of.1)
+
+  fits_both : (xs ys : List Item) → AllByRecursion Fits xs → AllByRecursion Fits ys → AllByRecursion Fits (xs ++ ys)
+  fits_both [] ys a b = b
+  fits_both (x ∷ xs) ys a b = (a.0, fits_both xs ys a.1 b)
+
+  fits_from : (entry : ℕ) (es : List Entry) → AllByRecursion (λ e. AllByRecursion (IsOf (length t.grammar.starts) t.grammar.tokens) e.sentences) es → AllByRecursion Fits (items_from entry es)
+  fits_from entry [] of = tt
+  fits_from entry (e ∷ es) of = fits_both (items_of entry e.sentences) (items_from (entry + 1) es) (fits_entry entry e.sentences of.0) (fits_from (entry + 1) es of.1)
+
+  pub compiled_or_fault : (file : MsgFile) → AreOf (length t.grammar.starts) t.grammar.tokens file → ((compiled : List (Option (List ℕ))) × IsCompiled t file compiled) ⊎ ((f : FaultFound) × FirstFault t (sentences_of file) f)
+  compiled_or_fault file of =
+      let none : List (Option Place) = replicate (length t.states) None in
+      by (settle (items_from 0 file.entries) [] none (fits_from 0 file.entries of) (length-replicate {A = Option Place} (length t.states) None) (placed_replicate t (length t.states) none refl))
+    where
+      by : Settled (items_from 0 file.entries) → ((compiled : List (Option (List ℕ))) × IsCompiled t file compiled) ⊎ ((f : FaultFound) × FirstFault t (sentences_of file) f)
+      by (inl (places, size, placed)) = inl (_, is_compiled t file places (map (λ (e : Entry). e.message) file.entries) refl placed size)
+      by (inr (f, first)) = inr (f, subst (λ (xs : List MsgSentence). FirstFault t xs f) (sentences_are file) first)
