@@ -11,6 +11,7 @@ fn shown(alloc: Global, order: &Order) -> Result<Vec<u8>, AllocError> {
         Job::Interpret => b"interpret",
         Job::ShowAutomaton => b"show",
         Job::ListErrors => b"list",
+        Job::InterpretError => b"explain",
     })?;
     text.extend_from_slice(if order.strict { b" strict" } else { b"" })?;
     text.extend_from_slice(if order.stdlib { b"" } else { b" bare" })?;
