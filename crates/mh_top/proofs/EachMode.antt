@@ -4,14 +4,16 @@ use Rattle.std.specs.Bool.{⊤}
 use Rattle.mh_grammar.specs.declared.types.Grammar.{Grammar}
 use Rattle.mh_opts.specs.declared.order.Job.{Job}
 use Rattle.mh_opts.specs.declared.order.Job.TheVariants.{Interpret, InterpretError, ShowAutomaton, ListErrors}
-use Rattle.mh_outside.specs.Shelf.{Files}
+use Rattle.mh_outside.specs.Shelf.{Files, Found}
 use Rattle.mh_report.proofs.OneText.{text_once}
 use Rattle.mh_tables.specs.Table.{TableData}
 use Rattle.mh_top.specs.Text.{Text, too_long}
 use Rattle.mh_top.specs.TableStage.{mode_of, source_of}
 use Rattle.mh_top.specs.Verdicts.{Answering}
 use Rattle.mh_top.specs.Listing.{Lists, TooLong}
-use Rattle.mh_top.specs.Plan.{Ending, Plan, Ends, AtEnd, Judges, Explains, ending_of, Answers, EndsByJob, EndsWith, IsFixed, IsFixedJob, IsPlanOfJob}
+use Rattle.mh_top.specs.Plan.{Ending, Plan, Ends, AtEnd, Judges, Explains, ending_of, Answers, EndsByJob, EndsWith, IsFixed, IsFixedJob, IsPlanOfJob, IsTurnOfJob, halts}
+use Rattle.mh_top.specs.Causes.{Halt}
+use Rattle.mh_top.specs.FileStage.{IsFound, loaded}
 use Rattle.mh_top.specs.Shapes.{Prepared}
 use Rattle.mh_top.specs.declared.stop.Cause.{Cause}
 use Rattle.mh_top.specs.declared.stop.Cause.TheVariants.{Refused}
@@ -35,6 +37,13 @@ job_once Interpret files p x y is so = is ∙ sym so
 job_once InterpretError files p x y is so = is ∙ sym so
 job_once ShowAutomaton files p x y is so = is ∙ sym so
 job_once ListErrors files p x y is so = is ∙ sym so
+
+-- a file whose turn has come, and which gives no bytes, ends the work
+pub turn_halts : (job : Job) (files : Files) (p : Prepared) (name : Text) (what : Found) (cause : Cause) (plan : Plan) → IsTurnOfJob job (Some files) p name → IsFound (Some files) name what → loaded name what ≡ Halt cause → IsPlanOfJob job (Some files) p plan → plan ≡ halts cause
+turn_halts Interpret files p name what cause plan turn found halt is = absurd turn
+turn_halts ShowAutomaton files p name what cause plan turn found halt is = absurd turn
+turn_halts ListErrors files p name what cause plan turn found halt is = absurd turn
+turn_halts InterpretError files p name what cause plan turn found halt is = absurd turn
 
 module _ (Has : Grammar → TableData → Type 0) where
   judged : (x by : Answering) → Judges by ≡ Judges x → Has x.grammar x.table → Has by.grammar by.table
@@ -103,11 +112,16 @@ module _ (Right : Cause → Type 0) where
   EndsRight (Judges by) = ⊤
   EndsRight (Explains p) = ⊤
 
-  pub job_right : (job : Job) (files : Option Files) (p : Prepared) (plan : Plan) → IsPlanOfJob job files p plan → EndsRight plan
-  job_right Interpret files p plan is = subst EndsRight (sym is) tt
-  job_right InterpretError files p plan is = subst EndsRight (sym is) tt
-  job_right ShowAutomaton files p plan is = subst EndsRight (sym is) tt
-  job_right ListErrors files p plan is = subst EndsRight (sym is) tt
+  -- a file that a mode reads, and what it halts for there
+  abbrev pub FilesRight : Job → Option Files → Prepared → Type 0
+  FilesRight job files p = (name : Text) (what : Found) (cause : Cause) → IsTurnOfJob job files p name → IsFound files name what → loaded name what ≡ Halt cause → Right cause
+
+  pub job_right : (job : Job) (files : Option Files) (p : Prepared) (plan : Plan) → FilesRight job files p → IsPlanOfJob job files p plan → EndsRight plan
+  job_right Interpret files p plan of_file is = subst EndsRight (sym is) tt
+  job_right ShowAutomaton files p plan of_file is = subst EndsRight (sym is) tt
+  job_right ListErrors files p plan of_file is = subst EndsRight (sym is) tt
+  job_right InterpretError files p plan of_file is = subst EndsRight (sym is) tt
+
 
   -- any mode may refuse
   module _ (may_refuse : (line : Text) → Right (Refused line)) where

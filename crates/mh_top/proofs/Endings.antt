@@ -17,7 +17,8 @@ use Rattle.mh_top.specs.Turns.{IsSpelled, IsTurn}
 use Rattle.mh_top.specs.GrammarStage.{IsGrammarStage}
 use Rattle.mh_top.specs.TableStage.{IsAutomatonStage, IsResolvedStage, IsTableStage, mode_of, source_of}
 use Rattle.mh_top.specs.Plan.{Ending, Plan, AnswersAll, EndsWith, asks_of, halts}
-use Rattle.mh_top.specs.Work.{Work, AsksFor, EndsBehind, IsFront, IsPlanUnless, IsPrepared, IsTabledFront, IsWork, IsWorkOf, Outcome, Yields, err_of, has_warning}
+use Rattle.mh_top.specs.Work.{Work, AsksFor, EndsBehind, IsFront, IsPlanUnless, IsPrepared, IsTabledFront, IsWork, IsWorkOf, Outcome, Yields, err_of, has_warning, warnings_of}
+use Rattle.mh_top.specs.Run.{IsDue, OfGrammar, OfMode, IsTurnBehind, IsTurnUnless}
 use Rattle.mh_top.specs.Claims.{AsksLines, HoldsFile, IsPast}
 use Rattle.mh_top.specs.declared.drive.Asks.{Asks}
 use Rattle.mh_top.specs.declared.drive.Asks.TheVariants.{NoLine, FirstLine, EachLine}
@@ -29,7 +30,7 @@ use Rattle.mh_top.specs.declared.tabled.Source.{Source}
 use Rattle.mh_top.specs.declared.tabled.Source.TheVariants.{Canonical}
 use Rattle.mh_top.proofs.Turns.{turn_first, turn_later}
 use Rattle.mh_top.proofs.Once.{prepared_once}
-use Rattle.mh_top.proofs.EachMode.{EndsRight, IsRight, answer_right, ends_right, job_right}
+use Rattle.mh_top.proofs.EachMode.{EndsRight, IsRight, answer_right, ends_right, job_right, turn_halts}
 
 -- a cause that no words, no file and no input have to account for
 abbrev IsRefusal : Cause → Type 0
@@ -65,8 +66,8 @@ module _ (words : List Text) (files : Option Files) where
 
   module _ (order : Order) (on : order_of words ≡ Go order) where
     of_found : (name : Text) → IsTurn files IsModule order.grammars name → (what : Found) → IsFound files name what → (cause : Cause) → Halt cause ≡ loaded name what → Accounts cause
-    of_found name turn NoFile is cause from = let same : Missing name ≡ cause = cc in subst Accounts same (order, on, (name, turn, is))
-    of_found name turn Long is cause from = let same : LongFile name ≡ cause = cc in subst Accounts same (order, on, (name, turn, is))
+    of_found name turn NoFile is cause from = let same : Missing name ≡ cause = cc in subst Accounts same ([], name, OfGrammar order on turn refl, is)
+    of_found name turn Long is cause from = let same : LongFile name ≡ cause = cc in subst Accounts same ([], name, OfGrammar order on turn refl, is)
     of_found name turn (Bytes bytes) is cause from = absurd (cc)
 
     of_read : (name : Text) → IsTurn files IsModule order.grammars name → (read : Staged Text) → IsLoaded files name read → (cause : Cause) → On read (IsModule name) (Halt cause) → Accounts cause
@@ -122,12 +123,17 @@ module _ (words : List Text) (files : Option Files) where
 
   -- ---- behind the warnings
 
-  plan_right : (refused : Bool) (p : Prepared) (plan : Plan) → IsPlanUnless refused files p plan → EndsRight Accounts plan
-  plan_right true p plan is = subst (EndsRight Accounts) (sym is) tt
-  plan_right false p plan is = job_right Accounts p.order.job files p plan is
+  of_mode : (p : Prepared) (name : Text) (what : Found) (cause : Cause) → IsPrepared words files (Go p) → IsTurnBehind files p name → IsFound files name what → loaded name what ≡ Halt cause → Accounts cause
+  of_mode p name NoFile cause prepared turn found halt = let same : Missing name ≡ cause = cc in subst Accounts same (warnings_of p, name, OfMode p prepared turn refl, found)
+  of_mode p name Long cause prepared turn found halt = let same : LongFile name ≡ cause = cc in subst Accounts same (warnings_of p, name, OfMode p prepared turn refl, found)
+  of_mode p name (Bytes bytes) cause prepared turn found halt = absurd (cc)
+
+  plan_right : (refused : Bool) (p : Prepared) (plan : Plan) → IsPrepared words files (Go p) → refused ≡ (p.order.strict && has_warning p.tabled.conflicts) → IsPlanUnless refused files p plan → EndsRight Accounts plan
+  plan_right true p plan prepared test is = subst (EndsRight Accounts) (sym is) tt
+  plan_right false p plan prepared test is = job_right Accounts p.order.job files p plan (λ name what cause turn found halt. of_mode p name what cause prepared (subst (λ (b : Bool). IsTurnUnless b files p name) test turn) found halt) is
 
   work_right : (s : Staged Prepared) (w : Work) → IsPrepared words files s → IsWorkOf files s w → EndsRight Accounts w.plan
-  work_right (Go p) w prepared is = plan_right (p.order.strict && has_warning p.tabled.conflicts) p w.plan is.1
+  work_right (Go p) w prepared is = plan_right (p.order.strict && has_warning p.tabled.conflicts) p w.plan prepared refl is.1
   work_right (Halt cause) w prepared is = subst (λ (x : Work). EndsRight Accounts x.plan) (sym is) (of_prepared cause prepared)
 
   answers_right : (plan : Plan) (lines : List Text) (text : Text) (next : Plan) → AnswersAll plan lines text next → EndsRight Accounts plan → EndsRight Accounts next
@@ -213,19 +219,28 @@ module _ (words : List Text) (files : Files) where
       let are : AreFiles (Some files) IsModule order.grammars (Halt cause) = subst (λ (l : List Text). AreFiles (Some files) IsModule l (Halt cause)) (sym turn.names_are) (files_halt name turn.after cause is turn.before turn.spelled) in
       (Halt cause, (Go order, on, (Halt cause, are, refl)), refl)
 
-  held_halts : (what : Found) (cause : Text → Cause) → ((name : Text) → loaded name what ≡ Halt (cause name)) → HoldsFile words what (Some files) → (name : Text) × IsPrepared words (Some files) (Halt (cause name))
-  held_halts what cause halts_so has =
-      let name = has.2.0 in
-      (name, prepared_halts has.0 has.1 name has.2.1 (cause name) (Halt (cause name), (what, has.2.2, sym (halts_so name)), refl))
-
   halted_work : (cause : Cause) (w : Work) (input : Option Text) (o : Outcome) → IsPrepared words (Some files) (Halt cause) → IsWork words (Some files) w → Yields w.plan input o → o.cause ≡ Some cause
   halted_work cause w input o prepared asked yields =
       let same : asked.0 ≡ Halt cause = prepared_once words files asked.0 (Halt cause) asked.1 prepared in
       let work_is : w ≡ record { warnings = []; plan = halts cause } = subst (λ (s : Staged Prepared). IsWorkOf (Some files) s w) same asked.2 in
       yields_halts cause input o (subst (λ (x : Work). Yields x.plan input o) work_is yields)
 
+  halted_mode : (refused : Bool) (p : Prepared) (plan : Plan) (name : Text) (what : Found) (cause : Cause) → IsTurnUnless refused (Some files) p name → IsFound (Some files) name what → loaded name what ≡ Halt cause → IsPlanUnless refused (Some files) p plan → plan ≡ halts cause
+  halted_mode true p plan name what cause turn found halt is = absurd turn
+  halted_mode false p plan name what cause turn found halt is = turn_halts p.order.job files p name what cause plan turn found halt is
+
+  -- a file whose turn has come, and which gives no bytes, is the cause
+  due_gives : (w : Work) (input : Option Text) (o : Outcome) (front name : Text) (what : Found) (cause : Cause) → Yields w.plan input o → IsWork words (Some files) w → IsDue words (Some files) front name → IsFound (Some files) name what → loaded name what ≡ Halt cause → o.cause ≡ Some cause
+  due_gives w input o front name what cause yields asked (OfGrammar order on turn front_is) found halt =
+      halted_work cause w input o (prepared_halts order on name turn cause (Halt cause, (what, found, sym halt), refl)) asked yields
+  due_gives w input o front name what cause yields asked (OfMode p prepared turn front_is) found halt =
+      let same : asked.0 ≡ Go p = prepared_once words files asked.0 (Go p) asked.1 prepared in
+      let of : IsWorkOf (Some files) (Go p) w = subst (λ (s : Staged Prepared). IsWorkOf (Some files) s w) same asked.2 in
+      let plan_is : w.plan ≡ halts cause = halted_mode (p.order.strict && has_warning p.tabled.conflicts) p w.plan name what cause turn found halt of.1 in
+      yields_halts cause input o (subst (λ (x : Plan). Yields x input o) plan_is yields)
+
   pub missing_gives : (w : Work) (input : Option Text) (o : Outcome) → Yields w.plan input o → IsWork words (Some files) w → HoldsFile words NoFile (Some files) → (name : Text) × (o.cause ≡ Some (Missing name))
-  missing_gives w input o yields asked has = let p = held_halts NoFile Missing (λ name. refl) has in (p.0, halted_work (Missing p.0) w input o p.1 asked yields)
+  missing_gives w input o yields asked has = (has.1, due_gives w input o has.0 has.1 NoFile (Missing has.1) yields asked has.2 has.3 refl)
 
   pub long_gives : (w : Work) (input : Option Text) (o : Outcome) → Yields w.plan input o → IsWork words (Some files) w → HoldsFile words Long (Some files) → (name : Text) × (o.cause ≡ Some (LongFile name))
-  long_gives w input o yields asked has = let p = held_halts Long LongFile (λ name. refl) has in (p.0, halted_work (LongFile p.0) w input o p.1 asked yields)
+  long_gives w input o yields asked has = (has.1, due_gives w input o has.0 has.1 Long (LongFile has.1) yields asked has.2 has.3 refl)

@@ -14,13 +14,13 @@ use Rattle.mh_top.specs.FileStage.{AreFiles, IsModule}
 use Rattle.mh_top.specs.Turns.{IsTurn}
 use Rattle.mh_top.specs.GrammarStage.{IsGrammarStage}
 use Rattle.mh_top.specs.TableStage.{IsTableStage, source_of}
-use Rattle.mh_top.specs.Plan.{Plan, IsPlanOfJob, halts}
+use Rattle.mh_top.specs.Plan.{Plan, IsPlanOfJob, IsTurnOfJob, halts}
 use Rattle.mh_top.specs.Stages.{FilesGive, ShelfCounts, StageHas, Halts as HaltsWith}
 use Rattle.mh_top.specs.Work.{IsFront, IsPlanOf, IsPlanUnless, IsPrepared, IsTabledFront, Work, has_warning, left_behind, warnings_of}
 use Rattle.mh_top.specs.Drive.{Ended, LeftIs, Ran}
-use Rattle.mh_top.specs.Steps.{Counts, OutCounts}
-use Rattle.mh_top.specs.Modes.{Followed, Warned}
-use Rattle.mh_top.specs.Run.{World, Behind, Nothing, Warned as Said, Begun, IsDue, OfGrammar, IsStill}
+use Rattle.mh_top.specs.Steps.{Counts, FileCounts, OutCounts}
+use Rattle.mh_top.specs.Modes.{Driven, Followed, IsOpened, IsUnopened, Opens, Warned}
+use Rattle.mh_top.specs.Run.{World, Behind, Nothing, Warned as Said, Begun, IsDue, OfGrammar, OfMode, IsStill, IsTurnBehind, IsTurnUnless}
 use Rattle.mh_top.specs.Saying.{Worked}
 use Rattle.mh_top.specs.declared.prepared.Front.{Front}
 use Rattle.mh_top.specs.Shapes.{Prepared}
@@ -157,31 +157,32 @@ module _ (words : List Text) (b : World) (p : Prepared) (is : IsPrepared words b
 
 -- ---- the mode
 
-module _ (words : List Text) (b a : World) (p : Prepared) (is : IsPrepared words b.files (Go p)) (on_err : Appends b.err a.err (warnings_of p)) (shelf_calm : a.shelf_faults ≡ b.shelf_faults) (err_calm : a.err_faults ≡ b.err_faults) where
+module _ (words : List Text) (b a : World) (p : Prepared) (is : IsPrepared words b.files (Go p)) (on_err : Appends b.err a.err (warnings_of p)) (err_calm : a.err_faults ≡ b.err_faults) where
   module _ (plan : Plan) (is_plan : IsPlanOf b.files p plan) where
     behind : (At : Work → Type 0) → At (record { warnings = warnings_of p; plan = plan }) → Behind words b At (Appends b.err a.err)
     behind At at = record { work = record { warnings = warnings_of p; plan = plan }; is_asked = (Go p, is, (refl, is_plan)); at = at; on_err = on_err }
 
-    plan_ran : (r : Result (Unit {0}) Stop) → Ran plan b.left a.left b.out a.out r → Counts b.input_faults a.input_faults b.out_faults a.out_faults r → Worked words b a r
-    plan_ran (Ok u) ran counts = (record { shelf = shelf_calm; input = counts.0; out = counts.1; err = err_calm }, behind _ ran)
-    plan_ran (Err (Halted cause)) ran counts = (record { shelf = shelf_calm; input = counts.0; out = counts.1; err = err_calm }, behind _ ran)
-    plan_ran (Err (ShelfFailed name)) ran counts = absurd ran
-    plan_ran (Err InputFailed) ran counts = (counts.1, record { out = counts.2; err = err_calm }, behind _ ran)
-    plan_ran (Err WriteFailed) ran counts = inr (counts.2, counts.0, err_calm, behind _ ran)
-    plan_ran (Err OutOfMemory) ran counts = (record { out = counts.1; err = err_calm }, counts.0, Begun (behind _ ran))
+    plan_ran : (r : Result (Unit {0}) Stop) → Ran plan b.left a.left b.out a.out r → Counts b.input_faults a.input_faults b.out_faults a.out_faults r → FileCounts b.shelf_faults a.shelf_faults r → Worked words b a r
+    plan_ran (Ok u) ran counts read = (record { shelf = read; input = counts.0; out = counts.1; err = err_calm }, behind _ ran)
+    plan_ran (Err (Halted cause)) ran counts read = (record { shelf = read; input = counts.0; out = counts.1; err = err_calm }, behind _ ran)
+    plan_ran (Err (ShelfFailed name)) ran counts read = absurd ran
+    plan_ran (Err InputFailed) ran counts read = (counts.1, record { out = counts.2; err = err_calm }, behind _ ran)
+    plan_ran (Err WriteFailed) ran counts read = inr (counts.2, counts.0, err_calm, behind _ ran)
+    plan_ran (Err OutOfMemory) ran counts read = (record { out = counts.1; err = err_calm }, counts.0, Begun (behind _ ran))
 
-  not_opened : (r : Result (Unit {0}) Stop) → r ≡ Err OutOfMemory → a.left ≡ b.left → a.out ≡ b.out → Counts b.input_faults a.input_faults b.out_faults a.out_faults r → Worked words b a r
-  not_opened (Err OutOfMemory) want left out counts =
+  not_opened : (r : Result (Unit {0}) Stop) → IsUnopened (IsTurnBehind b.files p) r → a.left ≡ b.left → a.out ≡ b.out → Counts b.input_faults a.input_faults b.out_faults a.out_faults r → FileCounts b.shelf_faults a.shelf_faults r → Worked words b a r
+  not_opened (Err OutOfMemory) want left out counts read =
       (record { out = counts.1; err = err_calm }, counts.0, Said p is (record { out = out; left = left; input_faults = counts.0; out_faults = counts.1 }) on_err)
-  not_opened (Ok u) want left out counts = absurd (cc)
-  not_opened (Err (Halted cause)) want left out counts = absurd (cc)
-  not_opened (Err (ShelfFailed name)) want left out counts = absurd (cc)
-  not_opened (Err InputFailed) want left out counts = absurd (cc)
-  not_opened (Err WriteFailed) want left out counts = absurd (cc)
+  not_opened (Err (ShelfFailed name)) turn left out counts read =
+      (read.1, record { out = counts.1; err = err_calm }, (warnings_of p, OfMode p is turn refl, record { out = out; left = left; input_faults = counts.0; out_faults = counts.1 }, on_err))
+  not_opened (Ok u) want left out counts read = absurd want
+  not_opened (Err (Halted cause)) want left out counts read = absurd want
+  not_opened (Err InputFailed) want left out counts read = absurd want
+  not_opened (Err WriteFailed) want left out counts read = absurd want
 
-  pub followed : (r : Result (Unit {0}) Stop) → Followed (IsPlanOf b.files p) b.left a.left b.out a.out r → Counts b.input_faults a.input_faults b.out_faults a.out_faults r → Worked words b a r
-  followed r (inl h) counts = plan_ran h.0 h.1 r h.2 counts
-  followed r (inr h) counts = not_opened r h.0 h.1 h.2 counts
+  pub followed : (r : Result (Unit {0}) Stop) → Followed (IsPlanOf b.files p) (IsTurnBehind b.files p) b.left a.left b.out a.out r → Counts b.input_faults a.input_faults b.out_faults a.out_faults r → FileCounts b.shelf_faults a.shelf_faults r → Worked words b a r
+  followed r (inl h) counts read = plan_ran h.0 h.1 r h.2 counts read
+  followed r (inr h) counts read = not_opened r h.0 h.1 h.2 counts read
 
 -- ---- a shelf that was read from, and holds the same
 
@@ -203,19 +204,92 @@ ended_halts cause left out = record {
     left_still None = tt
     left_still (Some input) = refl
 
-pub refused_followed : (files : Option Files) (p : Prepared) (test : Bool) (stop : Stop) (left out : Option Text) → test ≡ true → test ≡ (p.order.strict && has_warning p.tabled.conflicts) → HaltsWith (Refused []) stop → Followed (IsPlanOf files p) left left out out (Err stop)
+pub refused_followed : (files : Option Files) (p : Prepared) (test : Bool) (stop : Stop) (left out : Option Text) → test ≡ true → test ≡ (p.order.strict && has_warning p.tabled.conflicts) → HaltsWith (Refused []) stop → Followed (IsPlanOf files p) (IsTurnBehind files p) left left out out (Err stop)
 refused_followed files p test (Halted cause) left out holds is halt =
     let plan : IsPlanOf files p (halts (Refused [])) = subst (λ (b : Bool). IsPlanUnless b files p (halts (Refused []))) (sym holds ∙ is) refl in
     inl (halts (Refused []), plan, subst (λ (c : Cause). Ended (halts (Refused [])) left left out out (Some c)) (sym halt) (ended_halts (Refused []) left out))
-refused_followed files p test OutOfMemory left out holds is halt = inr (refl, refl, refl)
+refused_followed files p test OutOfMemory left out holds is halt = inr (tt, refl, refl)
 refused_followed files p test (ShelfFailed name) left out holds is halt = absurd halt
 refused_followed files p test InputFailed left out holds is halt = absurd halt
 refused_followed files p test WriteFailed left out holds is halt = absurd halt
+
+-- no file was read for it
+pub refused_read : (cause : Cause) (n : ℕ) (stop : Stop) → HaltsWith cause stop → FileCounts {T = Unit {0}} n n (Err stop)
+refused_read cause n (Halted given) halt = refl
+refused_read cause n OutOfMemory halt = omega arith
+refused_read cause n (ShelfFailed name) halt = absurd halt
+refused_read cause n InputFailed halt = absurd halt
+refused_read cause n WriteFailed halt = absurd halt
+
+-- ---- the mode that follows else
+
+-- a mode that reads no file
+pub ran_read : (plan : Plan) (in0 in1 out0 out1 : Option Text) (n : ℕ) (r : Result (Unit {0}) Stop) → Ran plan in0 in1 out0 out1 r → FileCounts n n r
+ran_read plan in0 in1 out0 out1 n (Ok u) ran = refl
+ran_read plan in0 in1 out0 out1 n (Err (Halted cause)) ran = refl
+ran_read plan in0 in1 out0 out1 n (Err (ShelfFailed name)) ran = absurd ran
+ran_read plan in0 in1 out0 out1 n (Err InputFailed) ran = refl
+ran_read plan in0 in1 out0 out1 n (Err WriteFailed) ran = refl
+ran_read plan in0 in1 out0 out1 n (Err OutOfMemory) ran = omega arith
+
+module _ {M : Type 0} (StandsFor : M → Plan → Type 0) where
+  -- one that was opened without files
+  pub opened_calm : (Is : Plan → Type 0) (opened : Result M Stop) (n : ℕ) → Opens StandsFor Is (λ name. ⊥) opened → ShelfCounts n n opened
+  opened_calm Is (Ok mode) n opens = refl
+  opened_calm Is (Err (Halted cause)) n opens = refl
+  opened_calm Is (Err OutOfMemory) n opens = omega arith
+  opened_calm Is (Err (ShelfFailed name)) n opens = absurd opens
+  opened_calm Is (Err InputFailed) n opens = absurd opens
+  opened_calm Is (Err WriteFailed) n opens = absurd opens
+
+  stopped_read : (stop : Stop) (n m : ℕ) → ShelfCounts {A = M} n m (Err stop) → FileCounts {T = Unit {0}} n m (Err stop)
+  stopped_read (Halted cause) n m counts = counts
+  stopped_read (ShelfFailed name) n m counts = counts
+  stopped_read OutOfMemory n m counts = counts
+  stopped_read InputFailed n m counts = absurd counts
+  stopped_read WriteFailed n m counts = absurd counts
+
+  -- the files that were read to open it are all
+  pub opened_read : (Is : Plan → Type 0) (Names : Text → Type 0) (opened : Result M Stop) (in0 in1 out0 out1 : Option Text) (n m : ℕ) (r : Result (Unit {0}) Stop) → Opens StandsFor Is Names opened → ShelfCounts n m opened → Driven StandsFor opened in0 in1 out0 out1 r → FileCounts n m r
+  opened_read Is Names (Ok mode) in0 in1 out0 out1 n m r opens counts driven = subst (λ (k : ℕ). FileCounts n k r) (sym counts) (ran_read opens.0 in0 in1 out0 out1 n r (driven opens.0 opens.2))
+  opened_read Is Names (Err stop) in0 in1 out0 out1 n m r opens counts driven = subst (FileCounts n m) (sym driven.0) (stopped_read stop n m counts)
+
+  -- what was opened stands for some plan
+  pub opened_some : (Is : Plan → Type 0) (Names : Text → Type 0) (opened : Result M Stop) → Opens StandsFor Is Names opened → IsOpened StandsFor opened
+  opened_some Is Names (Ok mode) opens = (opens.0, opens.2)
+  opened_some Is Names (Err (Halted cause)) opens = tt
+  opened_some Is Names (Err (ShelfFailed name)) opens = tt
+  opened_some Is Names (Err OutOfMemory) opens = tt
+  opened_some Is Names (Err InputFailed) opens = absurd opens
+  opened_some Is Names (Err WriteFailed) opens = absurd opens
+
+  -- what stopped so had not used the input and out
+  pub unopened_counts : (stop : Stop) (n m : ℕ) → IsOpened StandsFor (Err stop) → Counts {T = Unit {0}} n n m m (Err stop)
+  unopened_counts (Halted cause) n m opened = (refl, refl)
+  unopened_counts (ShelfFailed name) n m opened = (refl, refl)
+  unopened_counts OutOfMemory n m opened = (refl, refl)
+  unopened_counts InputFailed n m opened = absurd opened
+  unopened_counts WriteFailed n m opened = absurd opened
 
 module _ (files : Option Files) (p : Prepared) (test : Bool) (no_test : test ≡ false) (test_is : test ≡ (p.order.strict && has_warning p.tabled.conflicts)) where
   plan_goes : (plan : Plan) (job : Job) → p.order.job ≡ job → IsPlanOfJob job files p plan → IsPlanOf files p plan
   plan_goes plan job is planned = subst (λ (b : Bool). IsPlanUnless b files p plan) (sym no_test ∙ test_is) (subst (λ (j : Job). IsPlanOfJob j files p plan) (sym is) planned)
 
-  -- a mode that was opened ran
-  pub job_followed : (plan : Plan) (job : Job) (in0 in1 out0 out1 : Option Text) (r : Result (Unit {0}) Stop) → p.order.job ≡ job → IsPlanOfJob job files p plan → Ran plan in0 in1 out0 out1 r → Followed (IsPlanOf files p) in0 in1 out0 out1 r
+  turn_goes : (name : Text) (job : Job) → p.order.job ≡ job → IsTurnOfJob job files p name → IsTurnBehind files p name
+  turn_goes name job is turn = subst (λ (b : Bool). IsTurnUnless b files p name) (sym no_test ∙ test_is) (subst (λ (j : Job). IsTurnOfJob j files p name) (sym is) turn)
+
+  -- a mode that needs no opening ran
+  pub job_followed : (plan : Plan) (job : Job) (in0 in1 out0 out1 : Option Text) (r : Result (Unit {0}) Stop) → p.order.job ≡ job → IsPlanOfJob job files p plan → Ran plan in0 in1 out0 out1 r → Followed (IsPlanOf files p) (IsTurnBehind files p) in0 in1 out0 out1 r
   job_followed plan job in0 in1 out0 out1 r is planned ran = inl (plan, plan_goes plan job is planned, ran)
+
+  -- a mode was opened, and ran where it could be
+  module _ {M : Type 0} (StandsFor : M → Plan → Type 0) (job : Job) (is : p.order.job ≡ job) (in0 in1 out0 out1 : Option Text) (r : Result (Unit {0}) Stop) where
+    pub opened_followed : (opened : Result M Stop) → Opens StandsFor (IsPlanOfJob job files p) (IsTurnOfJob job files p) opened → Driven StandsFor opened in0 in1 out0 out1 r → Followed (IsPlanOf files p) (IsTurnBehind files p) in0 in1 out0 out1 r
+    opened_followed (Ok mode) opens driven = inl (opens.0, plan_goes opens.0 job is opens.1, driven opens.0 opens.2)
+    opened_followed (Err (Halted cause)) opens driven =
+        let ended : Ran (halts cause) in0 in0 out0 out0 (Err (Halted cause)) = ended_halts cause in0 out0 in
+        inl (halts cause, plan_goes (halts cause) job is opens, subst (λ s. Ran (halts cause) in0 in1 out0 out1 s) (sym driven.0) (subst (λ x. Ran (halts cause) in0 in1 out0 x (Err (Halted cause))) (sym driven.2) (subst (λ x. Ran (halts cause) in0 x out0 out0 (Err (Halted cause))) (sym driven.1) ended)))
+    opened_followed (Err OutOfMemory) opens driven = inr (subst (IsUnopened (IsTurnBehind files p)) (sym driven.0) tt, driven.1, driven.2)
+    opened_followed (Err (ShelfFailed name)) opens driven = inr (subst (IsUnopened (IsTurnBehind files p)) (sym driven.0) (turn_goes name job is opens), driven.1, driven.2)
+    opened_followed (Err InputFailed) opens driven = absurd opens
+    opened_followed (Err WriteFailed) opens driven = absurd opens

@@ -8,8 +8,7 @@ use Rattle.mh_top.specs.Text.{Text, cannot_read, cannot_read_input, out_of_memor
 use Rattle.mh_top.specs.Lines.{split, is_small}
 use Rattle.mh_top.specs.Causes.{Go, Halt}
 use Rattle.mh_top.specs.Order.{order_of}
-use Rattle.mh_top.specs.FileStage.{IsFound, IsModule}
-use Rattle.mh_top.specs.Turns.{IsTurn}
+use Rattle.mh_top.specs.FileStage.{IsFound}
 use Rattle.mh_top.specs.Plan.{Plan, asks_of}
 use Rattle.mh_top.specs.Work.{Work, IsWork, line_limit, most, wanted}
 use Rattle.mh_top.specs.Drive.{IsOfEnd, IsOfLine, Stands}
@@ -19,9 +18,9 @@ use Rattle.mh_top.specs.declared.drive.Asks.{Asks}
 use Rattle.mh_top.specs.declared.drive.Asks.TheVariants.{NoLine}
 use Rattle.mh_top.specs.declared.stop.Cause.TheVariants.{Misused}
 
--- what stands under the name of the order's file whose turn it is, in the files that are told or in some
+-- what stands under the name of the file whose turn it is, in the files that are told or in some
 abbrev pub HoldsFile : List Text → Found → Option Files → Type 0
-HoldsFile words what files = (order : Order) × (order_of words ≡ Go order) × ((name : Text) × IsTurn files IsModule order.grammars name × IsFound files name what)
+HoldsFile words what files = (front name : Text) × IsDue words files front name × IsFound files name what
 
 -- the files are told, and the one whose turn it is is not among them
 abbrev pub IsAbsent : List Text → Option Files → Type 0

@@ -2,6 +2,7 @@
 use Rattle.std.specs.Prelude.{◌≡◌, List, [], ◌∷◌, ◌++◌, Option, None, Some, ⊤}
 use Rattle.mh_opts.specs.declared.order.Job.{Job}
 use Rattle.mh_opts.specs.declared.order.Job.TheVariants.{Interpret, InterpretError, ShowAutomaton, ListErrors}
+use Rattle.mh_opts.specs.declared.order.Order.{Order}
 use Rattle.mh_outside.specs.Shelf.{Files}
 use Rattle.mh_report.specs.Automata.{IsAutomatonText}
 use Rattle.mh_top.specs.Text.{Text}
@@ -83,7 +84,11 @@ IsPlanOfJob InterpretError files p plan = plan ≡ Explains p
 IsPlanOfJob ShowAutomaton files p plan = plan ≡ AtEnd p
 IsPlanOfJob ListErrors files p plan = plan ≡ AtEnd p
 
--- the turn of a file comes that the mode of a job reads behind the warnings; these read none
+-- the files that the mode of an order reads behind the warnings: none so far
+abbrev pub files_of_mode : Order → List Text
+files_of_mode order = []
+
+-- the turn of one of them has come
 abbrev pub IsTurnOfJob : Job → Option Files → Prepared → Text → Type 0
 IsTurnOfJob Interpret files p name = ⊥
 IsTurnOfJob InterpretError files p name = ⊥

@@ -1,5 +1,5 @@
 -- How a run of the program ends: the one record that pins it.
-use Rattle.std.specs.Prelude.{◌≡◌, ℕ, List, [], ◌++◌, Option, Some}
+use Rattle.std.specs.Prelude.{◌≡◌, ℕ, Bool, true, false, ◌&&◌, List, [], ◌++◌, Option, Some}
 use Rattle.std.specs.Io.KnownBytes.{Appends}
 use Rattle.mh_outside.specs.Faults.{Rose}
 use Rattle.mh_outside.specs.Shelf.{Files}
@@ -10,7 +10,7 @@ use Rattle.mh_top.specs.Causes.{Go, status_of, line_of}
 use Rattle.mh_top.specs.Order.{order_of}
 use Rattle.mh_top.specs.FileStage.{IsModule}
 use Rattle.mh_top.specs.Turns.{IsTurn}
-use Rattle.mh_top.specs.Work.{Outcome, Work, IsPrepared, IsWork, Yields, err_of, warnings_of}
+use Rattle.mh_top.specs.Work.{Outcome, Work, IsPrepared, IsWork, Yields, err_of, has_warning, warnings_of}
 use Rattle.mh_top.specs.Plan.{IsTurnOfJob}
 use Rattle.mh_top.specs.Drive.{Partly, GotAt, CutAt, WantsAt, LeftIs, Ended}
 use Rattle.mh_top.specs.Shapes.{Prepared}
@@ -42,10 +42,18 @@ module _ {F I O E : Type 0} where
 
 -- ---- what was done before the last line on err
 
+-- behind the warnings the turn has come of a file that the mode reads; under `--strict` there may be none
+abbrev pub IsTurnUnless : Bool → Option Files → Prepared → Text → Type 0
+IsTurnUnless true files p name = ⊥
+IsTurnUnless false files p name = IsTurnOfJob p.order.job files p name
+
+abbrev pub IsTurnBehind : Option Files → Prepared → Text → Type 0
+IsTurnBehind files p name = IsTurnUnless (p.order.strict && has_warning p.tabled.conflicts) files p name
+
 -- the turn of the file of this name has come: of the order's grammar files, or, behind the warnings, of those that the mode reads
 pub data IsDue (words : List Text) (files : Option Files) (front name : Text) : Type 0 where
   OfGrammar : (order : Order) → order_of words ≡ Go order → IsTurn files IsModule order.grammars name → front ≡ [] → IsDue words files front name
-  OfMode : (p : Prepared) → IsPrepared words files (Go p) → IsTurnOfJob p.order.job files p name → front ≡ warnings_of p → IsDue words files front name
+  OfMode : (p : Prepared) → IsPrepared words files (Go p) → IsTurnBehind files p name → front ≡ warnings_of p → IsDue words files front name
 
 -- out and the input are as they were
 pub record IsStill (before now : World) : Type 0 where

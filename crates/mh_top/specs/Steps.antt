@@ -101,3 +101,9 @@ PastRan old new (Err _) = ⊥
 abbrev pub InputCounts : {T : Type 0} → ℕ → ℕ → Result T Stop → Type 0
 InputCounts before now (Err InputFailed) = (before ≤ now) × Rose before now
 InputCounts before now _ = now ≡ before
+
+-- the shelf's count by how a mode ended that may read files
+abbrev pub FileCounts : {T : Type 0} → ℕ → ℕ → Result T Stop → Type 0
+FileCounts before now (Err (ShelfFailed name)) = (before ≤ now) × Rose before now
+FileCounts before now (Err OutOfMemory) = before ≤ now
+FileCounts before now _ = now ≡ before

@@ -7,14 +7,11 @@ use Rattle.mh_top.specs.Causes.{Staged, Go}
 use Rattle.mh_top.specs.FileStage.{IsFile}
 use Rattle.mh_opts.specs.declared.order.Order.{Order}
 use Rattle.mh_top.specs.Order.{order_of}
+use Rattle.mh_top.specs.Plan.{files_of_mode}
 
--- the files that an order asks for
-abbrev pub files_of : Order → List Text
-files_of order = order.grammars
-
--- the name is one of a file that the words ask for
+-- the files that the words ask for: the order's grammar files, and those that its mode reads
 abbrev pub AsksFor : List Text → (Text → Type 0) → Type 0
-AsksFor given May = (order : Order) → order_of given ≡ Go order → All May (files_of order)
+AsksFor given May = (order : Order) → order_of given ≡ Go order → All May order.grammars × All May (files_of_mode order)
 
 -- the file spells something
 abbrev pub IsSpelled : {A : Type 0} → Option Files → (Text → Text → Staged A → Type 0) → Text → Type 0

@@ -3,6 +3,7 @@
 ghost use Rattle.std.specs.Prelude.{◌≡◌, ◌<◌, ◌^◌, length, IfOk};
 ghost use Rattle.mh_top.specs.Drive.{Ran};
 ghost use Rattle.mh_top.specs.Steps.{AnswerRan, Counts, EndRan, InputCounts, LineRan, LinesRan, NextRan, OutCounts, PastRan, StopIs, WriteRan};
+ghost use Rattle.mh_top.specs.Modes.{Driven, IsOpened};
 ghost use Rattle.mh_top.specs.Plan.{Plan, Answers, EndsWith, asks_of};
 ghost use Rattle.mh_top.specs.Work.{most as most_of};
 
@@ -174,6 +175,25 @@ fn ask<I: Source, O: Sink, M: Mode>(
         Asks::EachLine => past_last(alloc, input),
         Asks::FirstLine => Ok(()),
         Asks::NoLine => Ok(()),
+    }
+}
+
+/// Runs a mode that was opened over the input and out.
+pub(crate) fn drive_opened<I: Source, O: Sink, M: Mode + Drop>(
+    alloc: Global,
+    opened: Result<M, Stop>,
+    input: &mut I,
+    out: &mut O,
+) -> Result<(), Stop>
+    requires some { IsOpened M.Is opened }
+    ensures ran { Driven M.Is opened (I.left input.old) (I.left input.new)
+        (O.written out.old) (O.written out.new) result }
+    ensures counts { Counts (I.faults input.old) (I.faults input.new)
+        (O.faults out.old) (O.faults out.new) result }
+{
+    match opened {
+        Ok(mode) => drive(alloc, mode, input, out),
+        Err(stop) => Err(stop),
     }
 }
 

@@ -107,6 +107,7 @@ pub(crate) fn read_files<F: Shelf, T: Drop, S: Spelling<T>>(
     requires asked { All (F.MayAsk shelf.old) names.now }
     ensures items { FilesGive (AreFiles (F.files shelf.old) (S.Spells spelling.now) names.now)
         (IsTurn (F.files shelf.old) (S.Spells spelling.now) names.now) (listed result) }
+    ensures may_still { IfOk result (λ items. (other : List ℕ) → F.MayAsk shelf.old other → F.MayAsk shelf.new other) }
     ensures kept { F.files shelf.new ≡ F.files shelf.old }
     ensures counts { ShelfCounts (F.faults shelf.old) (F.faults shelf.new) result }
 {

@@ -11,9 +11,8 @@ ghost use Rattle.mh_top.specs.Prepared.{IsFit};
 ghost use Rattle.mh_top.specs.Verdicts.{AnswersOne, IsOutcomeText, IsVerdictText, SentenceText, outcome_text as outcome_line, verdict_text as verdict_line};
 
 use crate::drive::{Asks, Mode};
-use crate::prepared::{Prepared, PreparedWith};
+use crate::prepared::Prepared;
 use crate::stop::{Stop, joined};
-use crate::tabled::TabledWith;
 use mh_engine::{TreeOutcome, run_with_trees};
 use mh_grammar::{Grammar, Memory, Sentence};
 use mh_msgfile::{Lexicon, SentenceFault};
@@ -25,14 +24,14 @@ use std::alloc::Global;
 
 /// What answers each line with its verdict.
 #[derive(Drop)]
-pub(crate) struct Judging {
+pub(crate) struct Judging<'a> {
     /// Whether what is accepted has its tree.
     trees: bool,
-    grammar: Grammar,
+    grammar: &'a Grammar,
     lexicon: Lexicon,
-    halting: Halting,
-    ghost numbers: { vocabulary_in lexicon ≡ vocabulary_of grammar },
-    ghost same: { halting.grammar ≡ plain_of grammar },
+    halting: &'a Halting,
+    ghost numbers: { vocabulary_in lexicon ≡ vocabulary_of grammar.now },
+    ghost same: { halting.now.grammar ≡ plain_of grammar.now },
 }
 
 /// The word for a verdict.
@@ -111,14 +110,14 @@ fn sentence_text(
 }
 
 /// The text that answers a line.
-fn line_text(alloc: Global, by: &Judging, line: &[u8]) -> Result<Vec<u8>, Memory>
+fn line_text(alloc: Global, by: &Judging<'_>, line: &[u8]) -> Result<Vec<u8>, Memory>
     requires short { length line.now < 2 ^ 32 }
     ensures { IfOk result (λ text. AnswersOne
-        (record { trees = by.now.trees; grammar = by.now.grammar; table = by.now.halting })
+        (record { trees = by.now.trees; grammar = by.now.grammar.now; table = by.now.halting.now })
         line.now text.items) }
 {
     match by.lexicon.read(alloc, line) {
-        Ok(sentence) => sentence_text(alloc, by.trees, &by.grammar, &by.halting, &sentence),
+        Ok(sentence) => sentence_text(alloc, by.trees, by.grammar, by.halting, &sentence),
         Err(SentenceFault::Unreadable) => Ok(b"ERROR unreadable\n".to_vec(alloc)?),
         Err(SentenceFault::UnknownStart { name }) => {
             let text = joined(alloc, b"ERROR unknown start ", name.as_slice(), b"\n")?;
@@ -133,11 +132,11 @@ fn line_text(alloc: Global, by: &Judging, line: &[u8]) -> Result<Vec<u8>, Memory
     }
 }
 
-impl Mode for Judging {
+impl<'a> Mode for Judging<'a> {
     ghost use Rattle.std.specs.Prelude.{◌≡◌};
     ghost use Rattle.mh_top.specs.Plan.{Judges};
 
-    ghost Is = { λ s plan. plan ≡ Judges (record { trees = s.trees; grammar = s.grammar; table = s.halting }) };
+    ghost Is = { λ s plan. plan ≡ Judges (record { trees = s.trees; grammar = s.grammar.now; table = s.halting.now }) };
 
     fn asks(&self) -> Asks {
         Asks::EachLine
@@ -152,27 +151,23 @@ impl Mode for Judging {
     }
 }
 
-/// What judges by the table. The automaton and the conflicts are let go.
-pub(crate) fn judge_by<const W: usize>(
+/// What judges by the table.
+pub(crate) fn judge_by<'a, const W: usize>(
     alloc: Global,
-    prepared: Prepared<W>,
-) -> Result<Judging, Stop>
+    prepared: &'a Prepared<W>,
+) -> Result<Judging<'a>, Stop>
     requires few { W ≤ 8 }
-    requires fit { IsFit prepared }
-    ensures { Opens (λ by. Judges (record { trees = by.trees; grammar = by.grammar; table = by.halting }))
-        (λ plan. plan ≡ Judges (record { trees = prepared.entry.order.show_cst; grammar = prepared.entry.grammar; table = prepared.entry.tabled.halting }))
-        result }
+    requires fit { IsFit prepared.now }
+    ensures { Opens (λ by plan. plan ≡ Judges (record { trees = by.trees; grammar = by.grammar.now; table = by.halting.now }))
+        (λ plan. plan ≡ Judges (record { trees = prepared.now.order.show_cst; grammar = prepared.now.grammar; table = prepared.now.tabled.halting }))
+        (λ name. ⊥) result }
 {
-    let PreparedWith {
-        order,
-        grammar,
-        tabled,
-    } = prepared;
-    let TabledWith { halting, .. } = tabled;
+    let grammar = &prepared.grammar;
+    let halting = &prepared.tabled.halting;
     halting.table().facts();
-    match Lexicon::new(alloc, &grammar) {
+    match Lexicon::new(alloc, grammar) {
         Ok(lexicon) => Ok(Judging {
-            trees: order.show_cst,
+            trees: prepared.order.show_cst,
             grammar,
             lexicon,
             halting,

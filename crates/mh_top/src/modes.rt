@@ -1,14 +1,17 @@
 //! What is done behind the table: the warnings on its conflicts, and then the refusal by `--strict`, or the mode.
 ghost use Rattle.std.specs.Prelude.{◌≡◌, ◌≤◌, ◌&&◌, IfOk};
+ghost use Rattle.std.specs.List.{All};
 ghost use Rattle.mh_report.specs.Automata.{IsAutomatonText};
 ghost use Rattle.mh_opts.specs.declared.order.Job.TheVariants.{ShowAutomaton};
-ghost use Rattle.mh_top.specs.Steps.{Counts, OutCounts};
+ghost use Rattle.mh_top.specs.Steps.{Counts, FileCounts, OutCounts};
 ghost use Rattle.mh_top.specs.Modes.{Followed, JobRan, Warned};
+ghost use Rattle.mh_top.specs.Plan.{files_of_mode};
 ghost use Rattle.mh_top.specs.Prepared.{IsFit};
+ghost use Rattle.mh_top.specs.Run.{IsTurnBehind};
 ghost use Rattle.mh_top.specs.TableStage.{mode_of, source_of};
 ghost use Rattle.mh_top.specs.Work.{IsPlanOf, has_warning as has_warning_in, is_warned as is_warned_of, warnings_of};
 
-use crate::drive::{Asks, Mode, drive, write_text};
+use crate::drive::{Asks, Mode, drive, drive_opened, write_text};
 use crate::explaining::Explaining;
 use crate::judging::judge_by;
 use crate::listing::list_errors;
@@ -97,16 +100,16 @@ fn show_automaton<O: Sink, const W: usize>(
 
 /// A mode that asks for no line: it writes only at its end, by its job.
 #[derive(Drop)]
-struct AtEnd<const W: usize> {
-    prepared: Prepared<W>,
+struct AtEnd<'a, const W: usize> {
+    prepared: &'a Prepared<W>,
 }
 
-impl<const W: usize> Mode for AtEnd<W> {
+impl<'a, const W: usize> Mode for AtEnd<'a, W> {
     ghost use Rattle.std.specs.Prelude.{◌≡◌, ◌≤◌};
     ghost use Rattle.mh_top.specs.Plan.{AtEnd as AtEnd'};
     ghost use Rattle.mh_top.specs.Prepared.{IsFit};
 
-    ghost Is = { λ s plan. (W ≤ 8) × IsFit s.prepared × (plan ≡ AtEnd' s.prepared) };
+    ghost Is = { λ s plan. (W ≤ 8) × IsFit s.prepared.now × (plan ≡ AtEnd' s.prepared.now) };
 
     fn asks(&self) -> Asks {
         Asks::NoLine
@@ -120,8 +123,8 @@ impl<const W: usize> Mode for AtEnd<W> {
         match self.prepared.order.job {
             Job::Interpret => Ok(()),
             Job::InterpretError => Ok(()),
-            Job::ShowAutomaton => show_automaton(alloc, &self.prepared, out),
-            Job::ListErrors => list_errors(alloc, &self.prepared, out),
+            Job::ShowAutomaton => show_automaton(alloc, self.prepared, out),
+            Job::ListErrors => list_errors(alloc, self.prepared, out),
         }
     }
 }
@@ -129,31 +132,29 @@ impl<const W: usize> Mode for AtEnd<W> {
 /// Does what follows the warnings. A mode that reads files of its own takes them from the shelf.
 pub(crate) fn follow<F: Shelf, I: Source, O: Sink, const W: usize>(
     alloc: Global,
-    prepared: Prepared<W>,
+    prepared: &Prepared<W>,
     shelf: &mut F,
     input: &mut I,
     out: &mut O,
 ) -> Result<(), Stop>
     requires few { W ≤ 8 }
-    requires fit { IsFit prepared }
-    ensures ran { Followed (IsPlanOf (F.files shelf.old) prepared.entry) (I.left input.old) (I.left input.new)
-        (O.written out.old) (O.written out.new) result }
+    requires fit { IsFit prepared.now }
+    requires asked { All (F.MayAsk shelf.old) (files_of_mode prepared.now.order) }
+    ensures ran { Followed (IsPlanOf (F.files shelf.old) prepared.now) (IsTurnBehind (F.files shelf.old) prepared.now)
+        (I.left input.old) (I.left input.new) (O.written out.old) (O.written out.new) result }
     ensures counts { Counts (I.faults input.old) (I.faults input.new)
         (O.faults out.old) (O.faults out.new) result }
+    ensures read { FileCounts (F.faults shelf.old) (F.faults shelf.new) result }
     ensures kept { F.files shelf.new ≡ F.files shelf.old }
-    ensures calm { F.faults shelf.new ≡ F.faults shelf.old }
 {
-    if is_refused(&prepared) {
+    if is_refused(prepared) {
         return Err(refused(alloc, b"", b"", b""));
     }
     match prepared.order.job {
-        Job::Interpret => match judge_by(alloc, prepared) {
-            Ok(mode) => drive(alloc, mode, input, out),
-            Err(stop) => Err(stop),
-        },
+        Job::Interpret => drive_opened(alloc, judge_by(alloc, prepared), input, out),
         Job::InterpretError => {
             let mode = Explaining {
-                prepared: &prepared,
+                prepared,
                 told: None,
             };
             drive(alloc, mode, input, out)

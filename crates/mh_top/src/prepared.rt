@@ -1,8 +1,10 @@
 //! All that comes before the warnings, one step after the other. Nothing is written, and nothing of the input is taken.
 ghost use Rattle.std.specs.Prelude.{◌≡◌, ◌≤◌, ◌*◌, [], length, map, string_bytes, IfOk};
+ghost use Rattle.std.specs.List.{All};
 ghost use Rattle.mh_grammar.specs.Costs.{HaveCosts};
 ghost use Rattle.mh_grammar.specs.Plain.{plain_of, IsInRange};
 ghost use Rattle.mh_top.specs.Turns.{AsksFor};
+ghost use Rattle.mh_top.specs.Plan.{files_of_mode};
 ghost use Rattle.mh_top.specs.Prepared.{IsFit};
 ghost use Rattle.mh_top.specs.Run.{IsDue};
 ghost use Rattle.mh_top.specs.Stages.{FilesGive, ShelfCounts, StageHas};
@@ -50,6 +52,7 @@ pub(crate) fn front_of<F: Shelf>(
     ensures range { IfOk result (λ front. IsInRange (plain_of front.grammar)) }
     ensures costs { IfOk result (λ front. HaveCosts front.grammar.tokens) }
     ensures tokens { IfOk result (λ front. length front.grammar.tokens ≤ 512) }
+    ensures asked { IfOk result (λ front. All (F.MayAsk shelf.new) (files_of_mode front.order)) }
     ensures kept { F.files shelf.new ≡ F.files shelf.old }
     ensures counts { ShelfCounts (F.faults shelf.old) (F.faults shelf.new) result }
 {
@@ -82,6 +85,7 @@ pub(crate) fn prepare<const W: usize>(alloc: Global, front: Front) -> Result<Pre
     requires range { IsInRange (plain_of front.grammar) }
     requires costs { HaveCosts front.grammar.tokens }
     ensures prepared { StageHas (IsTabledFront front) result }
+    ensures order { IfOk result (λ prepared. prepared.order ≡ front.order) }
     ensures fit { IfOk result (λ prepared. IsFit prepared) }
 {
     let Front { order, grammar } = front;

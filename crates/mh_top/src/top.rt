@@ -1,5 +1,6 @@
 //! All that the program does.
 ghost use Rattle.std.specs.Prelude.{◌≡◌, ◌≤◌, ◌*◌, ◌++◌, List, length, map, string_bytes};
+ghost use Rattle.std.specs.List.{All};
 ghost use Rattle.mh_grammar.specs.Costs.{HaveCosts};
 ghost use Rattle.mh_grammar.specs.Plain.{plain_of, IsInRange};
 ghost use Rattle.mh_top.specs.Text.{Text};
@@ -9,6 +10,7 @@ ghost use Rattle.mh_top.specs.Causes.{Go, code_of, line_of};
 ghost use Rattle.mh_top.specs.Claims.{Keeps};
 ghost use Rattle.mh_top.specs.ErrorLists.{ListsErrorsExactly};
 ghost use Rattle.mh_top.specs.Exact.{AcceptsExactly, RejectsRightly, OvershootsRightly, AcceptsRightly, TooDeepExactly};
+ghost use Rattle.mh_top.specs.Plan.{files_of_mode};
 ghost use Rattle.mh_top.specs.Turns.{AsksFor};
 ghost use Rattle.mh_top.specs.Run.{world, Ran};
 ghost use Rattle.mh_top.specs.Saying.{Worked, Reported, SaysLine};
@@ -35,6 +37,7 @@ fn work_on<F: Shelf, I: Source, O: Sink, E: Sink, const W: usize>(
     requires width { length front.grammar.tokens ≤ 64 * W }
     requires range { IsInRange (plain_of front.grammar) }
     requires costs { HaveCosts front.grammar.tokens }
+    requires asked { All (F.MayAsk shelf.old) (files_of_mode front.order) }
     ensures kept { F.files shelf.new ≡ F.files shelf.old }
     ensures ran { (words : List Text) → IsFront words (F.files shelf.old) (Go front) → Worked words
         (world F.files F.faults I.left I.faults O.written O.faults E.written E.faults
@@ -48,7 +51,7 @@ fn work_on<F: Shelf, I: Source, O: Sink, E: Sink, const W: usize>(
         Err(stop) => return Err(stop),
     };
     match warn(alloc, &prepared, err) {
-        Ok(()) => follow(alloc, prepared, shelf, input, out),
+        Ok(()) => follow(alloc, &prepared, shelf, input, out),
         Err(stop) => Err(stop),
     }
 }

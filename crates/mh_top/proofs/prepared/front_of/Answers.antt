@@ -26,3 +26,6 @@ pub returns-in-Err-grammar_in-clause-front : goal.returns-in-Err-grammar_in-clau
 returns-in-Err-grammar_in-clause-front g c =
     grammar_stops (map (string_bytes {Z = Global}) c.args.words.now) (g.F.Shelf.files c.args.shelf.now) c.in-Ok.order c.in-Ok-read_files.modules.items c.in-Err-grammar_in.stop c.in-Ok.ensures (rw c.as_slice.ensures at c.in-Ok-read_files.ensures.items)
     c.in-Err-grammar_in.ensures.grammar
+
+pub returns-in-Ok-grammar_in-clause-asked : goal.returns-in-Ok-grammar_in-clause-asked
+returns-in-Ok-grammar_in-clause-asked g c = λ k d lt. c.in-Ok-read_files.ensures.may_still _ ((c.requires.asked c.in-Ok.order c.in-Ok.ensures).1 k d lt)

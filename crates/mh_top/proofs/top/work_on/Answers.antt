@@ -6,7 +6,7 @@ returns-in-Err-clause-ran g c = λ words is. prepare_stops words _ c.args.front 
 
 pub returns-in-Ok-warn-clause-ran : goal.returns-in-Ok-warn-clause-ran
 returns-in-Ok-warn-clause-ran g c = λ words is.
-    followed words _ _ _ (prepared_so words _ c.args.front _ is c.in-Ok.ensures.prepared) c.in-Ok-warn.ensures.text c.follow.ensures.calm c.in-Ok-warn.ensures.counts c.follow.result c.follow.ensures.ran c.follow.ensures.counts
+    followed words _ _ _ (prepared_so words _ c.args.front _ is c.in-Ok.ensures.prepared) c.in-Ok-warn.ensures.text c.in-Ok-warn.ensures.counts c.follow.result c.follow.ensures.ran c.follow.ensures.counts c.follow.ensures.read
 
 pub returns-in-Err-warn-clause-ran : goal.returns-in-Err-warn-clause-ran
 returns-in-Err-warn-clause-ran g c = λ words is.

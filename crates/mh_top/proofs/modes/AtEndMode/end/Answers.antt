@@ -4,10 +4,10 @@ use Rattle.mh_top.proofs.Answered.{at_end, at_end_none}
 use Rattle.mh_top.proofs.modes.AtEndMode.end.Goals as goal
 
 pub returns-in-Interpret-clause-text : goal.returns-in-Interpret-clause-text
-returns-in-Interpret-clause-text g c = λ plan is. at_end_none c.args.self.prepared Interpret plan _ refl is.2 c.in-Interpret.is
+returns-in-Interpret-clause-text g c = λ plan is. at_end_none c.args.self.prepared.now Interpret plan _ refl is.2 c.in-Interpret.is
 
 pub returns-in-InterpretError-clause-text : goal.returns-in-InterpretError-clause-text
-returns-in-InterpretError-clause-text g c = λ plan is. at_end_none c.args.self.prepared InterpretError plan _ refl is.2 c.in-InterpretError.is
+returns-in-InterpretError-clause-text g c = λ plan is. at_end_none c.args.self.prepared.now InterpretError plan _ refl is.2 c.in-InterpretError.is
 
 pub returns-clause-text : goal.returns-clause-text
-returns-clause-text g c = λ plan is. at_end c.args.self.prepared ListErrors plan _ _ c.list_errors.result is.2 c.in-ListErrors.is c.list_errors.ensures.text
+returns-clause-text g c = λ plan is. at_end c.args.self.prepared.now ListErrors plan _ _ c.list_errors.result is.2 c.in-ListErrors.is c.list_errors.ensures.text
