@@ -8,6 +8,6 @@ pub returns-in-Ok-warn-clause-ran : goal.returns-in-Ok-warn-clause-ran
 returns-in-Ok-warn-clause-ran g c = λ words is.
     followed words _ _ _ (prepared_so words _ c.args.front _ is c.in-Ok.ensures.prepared) c.in-Ok-warn.ensures.text c.in-Ok-warn.ensures.counts c.follow.result c.follow.ensures.ran c.follow.ensures.counts c.follow.ensures.read
 
-pub returns-in-Err-warn-clause-ran : goal.returns-in-Err-warn-clause-ran
-returns-in-Err-warn-clause-ran g c = λ words is.
+pub returns-clause-ran : goal.returns-clause-ran
+returns-clause-ran g c = λ words is.
     warning_stops words _ _ (prepared_so words _ c.args.front _ is c.in-Ok.ensures.prepared) _ _ c.in-Err-warn.stop c.in-Err-warn.ensures.text c.in-Err-warn.ensures.counts

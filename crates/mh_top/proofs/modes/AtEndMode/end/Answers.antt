@@ -9,5 +9,5 @@ returns-in-Interpret-clause-text g c = λ plan is. at_end_none c.args.self.prepa
 pub returns-in-InterpretError-clause-text : goal.returns-in-InterpretError-clause-text
 returns-in-InterpretError-clause-text g c = λ plan is. at_end_none c.args.self.prepared.now InterpretError plan _ refl is.2 c.in-InterpretError.is
 
-pub returns-clause-text : goal.returns-clause-text
-returns-clause-text g c = λ plan is. at_end c.args.self.prepared.now ListErrors plan _ _ c.list_errors.result is.2 c.in-ListErrors.is c.list_errors.ensures.text
+pub returns-in-ListErrors-clause-text : goal.returns-in-ListErrors-clause-text
+returns-in-ListErrors-clause-text g c = λ plan is. at_end c.args.self.prepared.now ListErrors plan _ _ c.list_errors.result is.2 c.in-ListErrors.is c.list_errors.ensures.text
