@@ -36,8 +36,11 @@ module _ (t : TableData) (h : HaltingFacts t) where
   -- a fault at an item is one of all
   fault_all : (done : List Item) (x : Item) (rest : List Item) (f : FaultFound) → FirstFault t (sentences_in (done ++ x ∷ [])) f → Settled (done ++ x ∷ rest)
   fault_all done x rest f first =
-      inr (f, subst (λ (l : List MsgSentence). FirstFault t l f) (sym (map-append (λ (y : Item). y.sentence) (done ++ x ∷ []) rest) ∙ ap sentences_in (one_first done x rest))
-      (first_more t (sentences_in (done ++ x ∷ [])) (sentences_in rest) f first))
+      inr (
+        f,
+        subst (λ (l : List MsgSentence). FirstFault t l f) (sym (map-append (λ (y : Item). y.sentence) (done ++ x ∷ []) rest) ∙ ap sentences_in (one_first done x rest))
+            (first_more t (sentences_in (done ++ x ∷ [])) (sentences_in rest) f first),
+      )
 
   -- one item more, where the others settle behind it
   module _ (done : List Item) (x : Item) (rest : List Item) (places : List (Option Place)) (fits : Fits x) (size : length places ≡ length t.states) (placed : Placed t done places) (on : (new : List (Option Place)) → length new ≡ length t.states → Placed t (done ++ x ∷ []) new → Settled ((done ++ x ∷ []) ++ rest)) where
