@@ -122,7 +122,6 @@ module _ (Right : Cause → Type 0) where
   job_right ListErrors files p plan of_file is = subst EndsRight (sym is) tt
   job_right InterpretError files p plan of_file is = subst EndsRight (sym is) tt
 
-
   -- any mode may refuse
   module _ (may_refuse : (line : Text) → Right (Refused line)) where
     told_right : (told : Told) → IsRight (ending_of told).cause
