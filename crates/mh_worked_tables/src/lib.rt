@@ -20,3 +20,5 @@ mod tables;
 mod token_sets;
 #[cfg(test)]
 mod trees;
+#[cfg(test)]
+mod widths;

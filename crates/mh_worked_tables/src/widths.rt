@@ -1,0 +1,95 @@
+//! One automaton at every width of its sets.
+ghost use Rattle.std.specs.Prelude.{◌≤◌, ◌*◌, length, IfOk};
+ghost use Rattle.mh_grammar.specs.Plain.{plain_of, IsInRange};
+ghost use Rattle.mh_canon.specs.Canonical.{IsCanonical};
+
+use crate::made::grammar_of;
+use mh_canon::{canonical, is_one_automaton};
+use mh_grammar::{Grammar, Look, is_in_range};
+use mh_items::{Automaton, Kernel};
+use std::alloc::Global;
+use std::test::Fail;
+
+/// Whether two kernels have the same items with the same looks.
+fn are_alike<const V: usize, const W: usize>(
+    alloc: Global,
+    left: &Kernel<V>,
+    right: &Kernel<W>,
+) -> Result<bool, Fail> {
+    if left.items.len() != right.items.len() {
+        return Ok(false);
+    }
+    for (x, y) in left.items.as_slice().iter().zip(right.items.as_slice()) {
+        let looks: Vec<Look> = x.looks.looks().collect(alloc)?;
+        let others: Vec<Look> = y.looks.looks().collect(alloc)?;
+        if x.production != y.production || x.dot != y.dot || looks != others {
+            return Ok(false);
+        }
+    }
+    Ok(true)
+}
+
+fn are_same<const V: usize, const W: usize>(
+    alloc: Global,
+    left: &Automaton<V>,
+    right: &Automaton<W>,
+) -> Result<bool, Fail> {
+    if left.edges != right.edges || left.kernels.len() != right.kernels.len() {
+        return Ok(false);
+    }
+    for (x, y) in left.kernels.as_slice().iter().zip(right.kernels.as_slice()) {
+        if !are_alike(alloc, x, y)? {
+            return Ok(false);
+        }
+    }
+    Ok(true)
+}
+
+/// The canonical automaton with sets of this width.
+fn canonical_at<const W: usize>(alloc: Global, grammar: &Grammar) -> Result<Automaton<W>, Fail>
+    requires few { W ≤ 8 }
+    requires width { length grammar.now.tokens ≤ 64 * W }
+    requires range { IsInRange (plain_of grammar.now) }
+    ensures { IfOk result (IsCanonical (plain_of grammar.now)) }
+{
+    match canonical(alloc, grammar) {
+        Ok(automaton) => Ok(automaton),
+        Err(_) => Err(Fail::from("no automaton")),
+    }
+}
+
+/// How many states there are at the widths of one, four and eight words, which must be the same automaton.
+fn states_of(alloc: Global, text: &str) -> Result<usize, Fail> {
+    let grammar = grammar_of(alloc, text)?;
+    if !is_in_range(&grammar) || grammar.tokens.len() > 64 {
+        return Err(Fail::from("out of range"));
+    }
+    let one = canonical_at::<1>(alloc, &grammar)?;
+    let four = canonical_at::<4>(alloc, &grammar)?;
+    let eight = canonical_at::<8>(alloc, &grammar)?;
+    is_one_automaton(&grammar, &one, &four);
+    is_one_automaton(&grammar, &four, &eight);
+    if !are_same(alloc, &one, &four)? || !are_same(alloc, &four, &eight)? {
+        return Err(Fail::from("the automata differ"));
+    }
+    Ok(one.kernels.len())
+}
+
+#[test]
+fn of_three_grammars(rt: HostRuntime) -> Result<(), Fail> {
+    let rows = [
+        ("C D; s c; s: c c; c: C c; c: D", 10),
+        (
+            "A B C D E; s x y; s: A x D; s: B y D; s: A y E; s: B x E; x: C; y: C",
+            14,
+        ),
+        (
+            "INT PLUS TIMES EOF; main e t; main: e EOF; e: e PLUS t; e: t; t: t TIMES INT; t: INT",
+            10,
+        ),
+    ];
+    for (text, states) in rows {
+        assert_eq!(rt; states_of(rt.alloc(), text)?, states, "{text}");
+    }
+    Ok(())
+}
