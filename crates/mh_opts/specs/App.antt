@@ -9,7 +9,7 @@ use Rattle.mh_opts.specs.declared.options.TheConstants.{GRAMMARS, OPTIONS}
 
 -- a row with its name as text
 abbrev pub plain : {N : Type 0} → Opt N → (N → Text) → Opt Text
-plain option text = record { name = text option.name; action = option.action; job = option.job }
+plain option text = record { name = text option.name; action = option.action; mode = option.mode }
 
 abbrev pub plain_rows : {N : Type 0} → List (Opt N) → (N → Text) → List (Opt Text)
 plain_rows rows text = map (λ option. plain option text) rows

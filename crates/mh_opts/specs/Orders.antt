@@ -1,21 +1,24 @@
 -- What the words of the command line ask for, by the code's rows of options. Source: this project's profile; which words a
 -- command takes, and what they match, is clap's own definition.
 use Rattle.std.specs.Prelude.{◌≡◌, ◌++◌, Bool, not, ◌&&◌, List, [], ◌∷◌, Option, Some, None, Result, Ok, Err, codes, map, unwrap_or, if◌then◌else◌}
-use Rattle.clap.specs.Words.{Row, Text, all_of, fault_of, matches_of}
+use Rattle.clap.specs.Words.{Row, Text, all_of, first_of, fault_of, matches_of}
 use Rattle.clap.specs.Walk.{is_empty}
 use Rattle.clap.specs.Takes.{is_given}
+use Rattle.mh_opts.specs.declared.options.Mode.{Mode}
+use Rattle.mh_opts.specs.declared.options.Mode.TheVariants as mode
 use Rattle.mh_opts.specs.declared.options.Need.{Need}
 use Rattle.mh_opts.specs.declared.options.Opt.{Opt}
-use Rattle.mh_opts.specs.declared.options.TheConstants.{GRAMMARS, INTERPRET_SHOW_CST, NEEDS, NO_STDLIB, STRICT}
+use Rattle.mh_opts.specs.declared.options.TheConstants.{COMPILE_ERRORS, GRAMMARS, INTERPRET_SHOW_CST, NEEDS, NO_STDLIB, STRICT}
 use Rattle.mh_opts.specs.declared.order.Job.{Job}
+use Rattle.mh_opts.specs.declared.order.Job.TheVariants as job
 use Rattle.mh_opts.specs.declared.order.Order.{Order}
 use Rattle.mh_opts.specs.declared.order.UsageFault.{UsageFault}
 use Rattle.mh_opts.specs.declared.order.UsageFault.TheVariants.{Parse, NoMode, TwoModes, Misplaced, NoGrammar, Memory}
 use Rattle.mh_opts.specs.App.{menhir_app, options}
 
--- the job of an option that stands among the words
-abbrev pub job_at : List Row → Opt Text → Option Job
-job_at rows option = if is_given option.name rows then option.job else None
+-- the mode of an option that stands among the words
+abbrev pub mode_at : List Row → Opt Text → Option Mode
+mode_at rows option = if is_given option.name rows then option.mode else None
 
 -- the things that are there
 abbrev pub given : {X : Type 0} → List (Option X) → List X
@@ -23,15 +26,27 @@ given [] = []
 given (None ∷ xs) = given xs
 given (Some x ∷ xs) = x ∷ given xs
 
--- there has to be one job
-abbrev pub only : List Job → Result Job UsageFault
+-- there has to be one mode
+abbrev pub only : List Mode → Result Mode UsageFault
 only [] = Err NoMode
-only (job ∷ []) = Ok job
-only (job ∷ other ∷ jobs) = Err TwoModes
+only (mode ∷ []) = Ok mode
+only (mode ∷ other ∷ modes) = Err TwoModes
 
--- the one job of these options that stand among the words
-abbrev pub job_in : List Row → List (Opt Text) → Result Job UsageFault
-job_in rows options = only (given (map (job_at rows) options))
+-- the one mode of these options that stands among the words
+abbrev pub mode_in : List Row → List (Opt Text) → Result Mode UsageFault
+mode_in rows options = only (given (map (mode_at rows) options))
+
+-- the file that stands behind an option
+abbrev pub file_of : List Row → Text → Text
+file_of rows option = unwrap_or (first_of option rows) []
+
+-- a row for each mode: the job that it asks for
+abbrev pub job_for : List Row → Mode → Job
+job_for rows mode.Interpret = job.Interpret
+job_for rows mode.ShowAutomaton = job.ShowAutomaton
+job_for rows mode.ListErrors = job.ListErrors
+job_for rows mode.InterpretError = job.InterpretError
+job_for rows mode.CompileErrors = job.CompileErrors (file_of rows COMPILE_ERRORS.now)
 
 -- an option as it is written
 abbrev pub written : Text → Text
@@ -60,26 +75,26 @@ misplaced_in rows (need ∷ more) = if lacks rows need then Some need.option els
 abbrev pub grammars_of : List Row → List Text
 grammars_of rows = unwrap_or (all_of GRAMMARS.now rows) []
 
-abbrev pub order_for : List Row → Job → Order
-order_for rows job = record {
-  job = job;
+abbrev pub order_for : List Row → Mode → Order
+order_for rows mode = record {
+  job = job_for rows mode;
   grammars = grammars_of rows;
   strict = is_given STRICT.now rows;
   stdlib = not (is_given NO_STDLIB.now rows);
   show_cst = is_given INTERPRET_SHOW_CST.now rows;
 }
 
-abbrev pub order_with : List Row → Job → Option Text → Result Order UsageFault
-order_with rows job (Some option) = Err (Misplaced (written option))
-order_with rows job None = if is_empty (grammars_of rows) then Err NoGrammar else Ok (order_for rows job)
+abbrev pub order_with : List Row → Mode → Option Text → Result Order UsageFault
+order_with rows mode (Some option) = Err (Misplaced (written option))
+order_with rows mode None = if is_empty (grammars_of rows) then Err NoGrammar else Ok (order_for rows mode)
 
-abbrev pub order_by : List Row → Result Job UsageFault → Result Order UsageFault
+abbrev pub order_by : List Row → Result Mode UsageFault → Result Order UsageFault
 order_by rows (Err fault) = Err fault
-order_by rows (Ok job) = order_with rows job (misplaced_in rows needs)
+order_by rows (Ok mode) = order_with rows mode (misplaced_in rows needs)
 
 -- what the matches ask for, or the first fault: no mode, two modes, a misplaced option, no grammar
 abbrev pub order_in : List Row → Result Order UsageFault
-order_in rows = order_by rows (job_in rows options)
+order_in rows = order_by rows (mode_in rows options)
 
 -- the order that the words spell, or the first usage fault; words that the command does not take are Parse
 abbrev pub order_of : List Text → Result Order UsageFault

@@ -5,7 +5,6 @@ ghost use Rattle.mh_opts.specs.App.{plain_rows};
 ghost use Rattle.mh_opts.specs.Orders as orders;
 ghost use Rattle.mh_opts.specs.Orders.{plain_needs};
 
-use crate::order::Job;
 use clap::ArgAction;
 
 /// The words that are no options, by the name under which clap keeps them.
@@ -19,6 +18,18 @@ pub(crate) const STRICT: &str = "strict";
 
 pub(crate) const NO_STDLIB: &str = "no-stdlib";
 
+pub(crate) const COMPILE_ERRORS: &str = "compile-errors";
+
+/// What is to be done, without the values that stand behind its words: a constant holds nothing that owns memory.
+#[derive(Clone, Copy)]
+pub enum Mode {
+    Interpret,
+    InterpretError,
+    ShowAutomaton,
+    ListErrors,
+    CompileErrors,
+}
+
 /// An option. Its name is a `&str`, by a parameter: a constant of other rows is none that a definition can name.
 pub struct Opt<T> {
     /// The name behind the two hyphens.
@@ -26,7 +37,7 @@ pub struct Opt<T> {
     /// `SetTrue` where no value stands behind it, `Set` where one does.
     pub action: ArgAction,
     /// What it says is to be done.
-    pub job: Option<Job>,
+    pub mode: Option<Mode>,
 }
 
 /// An option that has no meaning without another.
@@ -35,41 +46,46 @@ pub struct Need<T> {
     pub needs: T,
 }
 
-const OPTIONS: [Opt<&str>; 7] = [
+const OPTIONS: [Opt<&str>; 8] = [
     Opt {
         name: INTERPRET,
         action: ArgAction::SetTrue,
-        job: Some(Job::Interpret),
+        mode: Some(Mode::Interpret),
     },
     Opt {
         name: "interpret-error",
         action: ArgAction::SetTrue,
-        job: Some(Job::InterpretError),
+        mode: Some(Mode::InterpretError),
     },
     Opt {
         name: "show-automaton",
         action: ArgAction::SetTrue,
-        job: Some(Job::ShowAutomaton),
+        mode: Some(Mode::ShowAutomaton),
     },
     Opt {
         name: "list-errors",
         action: ArgAction::SetTrue,
-        job: Some(Job::ListErrors),
+        mode: Some(Mode::ListErrors),
+    },
+    Opt {
+        name: COMPILE_ERRORS,
+        action: ArgAction::Set,
+        mode: Some(Mode::CompileErrors),
     },
     Opt {
         name: INTERPRET_SHOW_CST,
         action: ArgAction::SetTrue,
-        job: None,
+        mode: None,
     },
     Opt {
         name: STRICT,
         action: ArgAction::SetTrue,
-        job: None,
+        mode: None,
     },
     Opt {
         name: NO_STDLIB,
         action: ArgAction::SetTrue,
-        job: None,
+        mode: None,
     },
 ];
 

@@ -7,7 +7,7 @@ use std::alloc::AllocError;
 use thiserror::Error;
 
 /// What is to be done.
-#[derive(Clone, Copy, Debug, Drop, PartialEq, Eq)]
+#[derive(Debug, Drop, PartialEq, Eq)]
 pub enum Job {
     /// `--interpret`: a verdict for each line of the input.
     Interpret,
@@ -17,6 +17,8 @@ pub enum Job {
     ShowAutomaton,
     /// `--list-errors`: an entry for each state in which some sentence fails.
     ListErrors,
+    /// `--compile-errors FILE`: the messages of a file, by state.
+    CompileErrors { file: Name },
 }
 
 /// A job, and what else the words say.

@@ -1,14 +1,17 @@
 //! The order that words spell.
-ghost use Rattle.std.specs.Prelude.{◌≡◌, IfOk, not, option_map, map, string_bytes};
+ghost use Rattle.std.specs.Prelude.{◌≡◌, IfOk, Ok, not, option_map, map, string_bytes};
 ghost use Rattle.clap.specs.Takes as clap;
 ghost use Rattle.clap.specs.Walk.{is_empty};
 ghost use Rattle.clap.specs.Words.{found_of, rows_of};
 ghost use Rattle.mh_opts.specs.Orders as orders;
-ghost use Rattle.mh_opts.specs.Orders.{Answers, grammars_of, job_at, job_in, lacks, misplaced_in, needs, order_in, order_of, plain_need, written};
+ghost use Rattle.mh_opts.specs.Orders.{Answers, grammars_of, job_for, lacks, misplaced_in, mode_at, mode_in, needs, order_in, order_of, plain_need, written};
 ghost use Rattle.mh_opts.specs.App.{options, plain};
 
 use crate::command::menhir_command;
-use crate::options::{GRAMMARS, INTERPRET_SHOW_CST, NO_STDLIB, Need, Opt, STRICT, needs, options};
+use crate::options::{
+    COMPILE_ERRORS, GRAMMARS, INTERPRET_SHOW_CST, Mode, NO_STDLIB, Need, Opt, STRICT, needs,
+    options,
+};
 use crate::order::{Job, Order, UsageFault};
 use clap::ArgMatches;
 use clap::error::ErrorKind;
@@ -27,32 +30,57 @@ fn is_given(matches: &ArgMatches<'_>, name: &str) -> bool
     }
 }
 
-/// The job of an option, where the words hold it.
-fn job_of(matches: &ArgMatches<'_>, option: &Opt<&str>) -> Option<Job>
-    ensures { result ≡ job_at (rows_of (found_of matches.now)) (plain option.now (λ name. name.now)) }
+/// The mode of an option, where the words hold it.
+fn mode_of(matches: &ArgMatches<'_>, option: &Opt<&str>) -> Option<Mode>
+    ensures { result ≡ mode_at (rows_of (found_of matches.now)) (plain option.now (λ name. name.now)) }
 {
     if is_given(matches, option.name) {
-        option.job
+        option.mode
     } else {
         None
     }
 }
 
-/// The only job.
-fn only_job(matches: &ArgMatches<'_>) -> Result<Job, UsageFault>
-    ensures { Answers (job_in (rows_of (found_of matches.now)) options) result }
+/// The only mode.
+fn only_mode(matches: &ArgMatches<'_>) -> Result<Mode, UsageFault>
+    ensures { Answers (mode_in (rows_of (found_of matches.now)) options) result }
 {
     let options = options();
     let mut found = None;
     for option in options {
-        if let Some(job) = job_of(matches, option) {
+        if let Some(mode) = mode_of(matches, option) {
             if found.is_some() {
                 return Err(UsageFault::TwoModes);
             }
-            found = Some(job);
+            found = Some(mode);
         }
     }
     found.ok_or(UsageFault::NoMode)
+}
+
+/// The file that stands behind an option.
+fn file_of(alloc: Global, matches: &ArgMatches<'_>, name: &str) -> Result<Name, Memory>
+    ensures { IfOk result (λ file. file ≡ orders.file_of (rows_of (found_of matches.now)) name.now) }
+{
+    match matches.get_str(name) {
+        Some(value) => from_bytes(alloc, value.as_bytes()),
+        None => from_bytes(alloc, b""),
+    }
+}
+
+/// The job of a mode, with what stands behind its words.
+fn job_of(alloc: Global, matches: &ArgMatches<'_>, mode: Mode) -> Result<Job, Memory>
+    ensures { IfOk result (λ job. job ≡ job_for (rows_of (found_of matches.now)) mode) }
+{
+    match mode {
+        Mode::Interpret => Ok(Job::Interpret),
+        Mode::InterpretError => Ok(Job::InterpretError),
+        Mode::ShowAutomaton => Ok(Job::ShowAutomaton),
+        Mode::ListErrors => Ok(Job::ListErrors),
+        Mode::CompileErrors => Ok(Job::CompileErrors {
+            file: file_of(alloc, matches, COMPILE_ERRORS)?,
+        }),
+    }
 }
 
 /// Whether an option stands without what it needs.
@@ -113,22 +141,35 @@ fn written_name(alloc: Global, option: &str) -> Result<Name, Memory>
     from_bytes(alloc, text.as_bytes())
 }
 
-/// The order for a job, with what else the words say.
-fn order_for(alloc: Global, matches: &ArgMatches<'_>, job: Job) -> Result<Order, Memory>
-    ensures { IfOk result (λ order. order ≡ orders.order_for (rows_of (found_of matches.now)) job) }
+/// Both, or want of memory. What it lets go is let go in one call: where the types are known, each way out would be long to prove.
+fn both<A: Drop, B: Drop>(
+    first: Result<A, Memory>,
+    second: Result<B, Memory>,
+) -> Result<(A, B), Memory>
+    ensures { IfOk result (λ pair. (first ≡ Ok pair.0) × (second ≡ Ok pair.1)) }
 {
+    let first = first?;
+    let second = second?;
+    Ok((first, second))
+}
+
+/// The order for a mode, with what else the words say.
+fn order_for(alloc: Global, matches: &ArgMatches<'_>, mode: Mode) -> Result<Order, Memory>
+    ensures { IfOk result (λ order. order ≡ orders.order_for (rows_of (found_of matches.now)) mode) }
+{
+    let (job, grammars) = both(job_of(alloc, matches, mode), grammars(alloc, matches))?;
     Ok(Order {
         job,
-        grammars: grammars(alloc, matches)?,
+        grammars,
         strict: is_given(matches, STRICT),
         stdlib: !is_given(matches, NO_STDLIB),
         show_cst: is_given(matches, INTERPRET_SHOW_CST),
     })
 }
 
-/// The order for a job, where each option has a meaning and there is a grammar.
-fn order_with(alloc: Global, matches: &ArgMatches<'_>, job: Job) -> Result<Order, UsageFault>
-    ensures { let rows = rows_of (found_of matches.now) in Answers (orders.order_with rows job (misplaced_in rows needs)) result }
+/// The order for a mode, where each option has a meaning and there is a grammar.
+fn order_with(alloc: Global, matches: &ArgMatches<'_>, mode: Mode) -> Result<Order, UsageFault>
+    ensures { let rows = rows_of (found_of matches.now) in Answers (orders.order_with rows mode (misplaced_in rows needs)) result }
 {
     if let Some(option) = misplaced(matches) {
         return Err(UsageFault::Misplaced {
@@ -138,15 +179,15 @@ fn order_with(alloc: Global, matches: &ArgMatches<'_>, job: Job) -> Result<Order
     if !has_grammar(matches) {
         return Err(UsageFault::NoGrammar);
     }
-    Ok(order_for(alloc, matches, job)?)
+    Ok(order_for(alloc, matches, mode)?)
 }
 
 /// The order that matches ask for.
 fn matched_order(alloc: Global, matches: &ArgMatches<'_>) -> Result<Order, UsageFault>
     ensures { Answers (order_in (rows_of (found_of matches.now))) result }
 {
-    match only_job(matches) {
-        Ok(job) => order_with(alloc, matches, job),
+    match only_mode(matches) {
+        Ok(mode) => order_with(alloc, matches, mode),
         Err(fault) => Err(fault),
     }
 }
