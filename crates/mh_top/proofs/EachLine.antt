@@ -8,7 +8,8 @@ use Rattle.mh_top.specs.Plan.{Plan, Judges, Answers, AnswersAll}
 use Rattle.mh_top.specs.AtLine.{IsAnsweredAt, HasVerdictAt}
 use Rattle.mh_top.specs.Work.{Work, IsPlanUnless, IsPrepared, IsWork, IsWorkOf, has_warning}
 use Rattle.mh_top.specs.Shapes.{Prepared}
-use Rattle.mh_top.proofs.EachMode.{some_plan}
+use Rattle.mh_top.proofs.EachMode.{Runs, some_plan}
+use Rattle.mh_top.proofs.Exactly.{prepared_runs}
 
 pub answered_at : (plan last : Plan) (before : List Text) (line : Text) (after : List Text) (text : Text) → AnswersAll plan (before ++ line ∷ after) text last → IsAnsweredAt plan before line after text last
 answered_at plan last [] line after text all = record { front = []; answer = all.0; rest = all.1; mid = plan; next = all.2; all_before = (refl, refl); answers = all.3; all_after = all.4; text_is = all.5 }
@@ -43,13 +44,13 @@ verdict_at by last before line after text all =
       text_is = at.text_is;
     }
 
-plan_unless : (refused : Bool) (files : Option Files) (p : Prepared) → (plan : Plan) × IsPlanUnless refused files p plan
-plan_unless true files p = (_, refl)
-plan_unless false files p = some_plan p.order.job files p
+plan_unless : (refused : Bool) (files : Option Files) (p : Prepared) → Runs p → (plan : Plan) × IsPlanUnless refused files p plan
+plan_unless true files p runs = (_, refl)
+plan_unless false files p runs = some_plan p.order.job files p runs
 
-work_of : (files : Option Files) (s : Staged Prepared) → (w : Work) × IsWorkOf files s w
-work_of files (Go p) = let plan = plan_unless (p.order.strict && has_warning p.tabled.conflicts) files p in (record { warnings = _; plan = plan.0 }, (refl, plan.1))
-work_of files (Halt cause) = (_, refl)
+work_of : (words : List Text) (files : Option Files) (s : Staged Prepared) → IsPrepared words files s → (w : Work) × IsWorkOf files s w
+work_of words files (Go p) is = let plan = plan_unless (p.order.strict && has_warning p.tabled.conflicts) files p (prepared_runs words files p is) in (record { warnings = _; plan = plan.0 }, (refl, plan.1))
+work_of words files (Halt cause) is = (_, refl)
 
 pub some_work : (words : List Text) (files : Option Files) (s : Staged Prepared) → IsPrepared words files s → (w : Work) × IsWork words files w
-some_work words files s is = let w = work_of files s in (w.0, (s, is, w.1))
+some_work words files s is = let w = work_of words files s is in (w.0, (s, is, w.1))

@@ -130,7 +130,7 @@ module _ (words : List Text) (files : Option Files) where
 
   plan_right : (refused : Bool) (p : Prepared) (plan : Plan) → IsPrepared words files (Go p) → refused ≡ (p.order.strict && has_warning p.tabled.conflicts) → IsPlanUnless refused files p plan → EndsRight Accounts plan
   plan_right true p plan prepared test is = subst (EndsRight Accounts) (sym is) tt
-  plan_right false p plan prepared test is = job_right Accounts p.order.job files p plan (λ name what cause turn found halt. of_mode p name what cause prepared (subst (λ (b : Bool). IsTurnUnless b files p name) test turn) found halt) is
+  plan_right false p plan prepared test is = job_right Accounts (λ line. tt) p.order.job files p plan (λ name what cause turn found halt. of_mode p name what cause prepared (subst (λ (b : Bool). IsTurnUnless b files p name) test turn) found halt) is
 
   work_right : (s : Staged Prepared) (w : Work) → IsPrepared words files s → IsWorkOf files s w → EndsRight Accounts w.plan
   work_right (Go p) w prepared is = plan_right (p.order.strict && has_warning p.tabled.conflicts) p w.plan prepared refl is.1

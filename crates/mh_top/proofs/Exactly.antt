@@ -55,7 +55,8 @@ use Rattle.mh_top.specs.Shapes.{Prepared, Tabled}
 use Rattle.mh_top.specs.declared.stop.Cause.{Cause}
 use Rattle.mh_top.specs.declared.tabled.Source.{Source}
 use Rattle.mh_top.specs.declared.tabled.Source.TheVariants.{Canonical}
-use Rattle.mh_top.proofs.EachMode.{job_judges}
+use Rattle.mh_tables.specs.Halting.{Halts}
+use Rattle.mh_top.proofs.EachMode.{Runs, job_judges}
 
 -- ---- the grammar and the table that verdicts go by
 
@@ -70,9 +71,10 @@ pub record IsTabled (g : Grammar) (t : TableData) : Type 0 where
   costs : HaveCosts g.tokens
   few : HasTooMany g → ⊥
   table : HasTable g t
+  halts : Halts t
 
 tabled_so : (source : Source) (g : Grammar) → IsInRange (plain_of g) × HaveCosts g.tokens → (s : Staged Automaton) → IsAutomatonStage source g s → (x : Tabled) → On s (IsResolvedStage (mode_of source) g) (Go x) → IsTabled g x.halting
-tabled_so Canonical g range (Go a) stage x is = record { range = range.0; costs = range.1; few = stage.0; table = record { automaton = a; canonical = stage.1; table = is.table } }
+tabled_so Canonical g range (Go a) stage x is = record { range = range.0; costs = range.1; few = stage.0; table = record { automaton = a; canonical = stage.1; table = is.table }; halts = is.halts }
 tabled_so Canonical g range (Halt cause) stage x is = absurd (cc)
 
 -- some bytes spell a module that is read
@@ -206,6 +208,11 @@ module _ (g : Grammar) (t : TableData) (is : IsTabled g t) where
 
     overshot : AllProductive (plain_of g) → (w : List ℕ) (s : ℕ) → VerdictOf t start w (Overshot s) → BeginsSentence (plain_of g) start w
     overshot productive w s v = overshoots g is.table.automaton modes.Canonical t facts automaton is.table.table productive start w s known v
+
+-- every run on the table ends
+pub prepared_runs : (words : List Text) (files : Option Files) (p : Prepared) → IsPrepared words files (Go p) → Runs p
+prepared_runs words files p is =
+    let tabled = prepared_tabled words files p is in record { halts = record { facts = facts p.grammar p.tabled.halting tabled; halts = tabled.halts }; grammar = tabled.table.table.grammar }
 
 -- ---- the texts
 

@@ -7,6 +7,7 @@ pub mod Going
 pub mod Reports
 pub mod Answering
 pub mod Refusals
+pub mod Messaging
 pub mod Telling
 pub mod EachMode
 pub mod Once

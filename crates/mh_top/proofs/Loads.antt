@@ -49,7 +49,7 @@ fits_within limit file bytes true e is =
     omega (arith, le, ap length same)
 fits_within limit file bytes false e is = absurd (cc)
 
-found_fits : (limit : ℕ) (file : Option Text) (bytes : Text) → within limit file ≡ Bytes bytes → length bytes ≤ limit
+pub found_fits : (limit : ℕ) (file : Option Text) (bytes : Text) → within limit file ≡ Bytes bytes → length bytes ≤ limit
 found_fits limit None bytes is = absurd (cc)
 found_fits limit (Some file) bytes is = fits_within limit file bytes (nat_le (length file) limit) refl is
 

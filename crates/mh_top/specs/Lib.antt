@@ -10,6 +10,7 @@ pub mod GrammarStage
 pub mod TableStage
 pub mod Prepared
 pub mod Listing
+pub mod MessagesStage
 pub mod Plan
 pub mod Turns
 pub mod AtLine

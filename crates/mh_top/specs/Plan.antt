@@ -1,11 +1,15 @@
 -- Modes: what each asks for, how it answers lines, and what it writes at its end. A mode is plain data.
 use Rattle.std.specs.Prelude.{◌≡◌, List, [], ◌∷◌, ◌++◌, Option, None, Some, ⊤}
 use Rattle.mh_opts.specs.declared.order.Job.{Job}
-use Rattle.mh_opts.specs.declared.order.Job.TheVariants.{Interpret, InterpretError, ShowAutomaton, ListErrors}
+use Rattle.mh_opts.specs.declared.order.Job.TheVariants.{Interpret, InterpretError, ShowAutomaton, ListErrors, CompileErrors}
 use Rattle.mh_opts.specs.declared.order.Order.{Order}
 use Rattle.mh_outside.specs.Shelf.{Files}
 use Rattle.mh_report.specs.Automata.{IsAutomatonText}
+use Rattle.mh_check.specs.Texts.{compiled_text}
 use Rattle.mh_top.specs.Text.{Text}
+use Rattle.mh_top.specs.Causes.{Staged, Go, Halt}
+use Rattle.mh_top.specs.FileStage.{IsFile}
+use Rattle.mh_top.specs.MessagesStage.{Messages, AreMessages}
 use Rattle.mh_top.specs.Explained.{IsTold}
 use Rattle.mh_top.specs.TableStage.{mode_of, source_of}
 use Rattle.mh_top.specs.Listing.{ListsErrors}
@@ -57,6 +61,7 @@ Answers (Explains p) line text next = (text ≡ []) × (told : Told) × IsTold p
 abbrev pub EndsByJob : Job → Prepared → Ending → Type 0
 EndsByJob Interpret p e = e ≡ record { cause = None; out = [] }
 EndsByJob InterpretError p e = e ≡ record { cause = None; out = [] }
+EndsByJob (CompileErrors file) p e = e ≡ record { cause = None; out = [] }
 EndsByJob ShowAutomaton p e = (e.cause ≡ None) × IsAutomatonText p.grammar p.tabled.automaton (mode_of (source_of p.order)) p.tabled.halting e.out
 EndsByJob ListErrors p e = ListsErrors p.grammar p.tabled.automaton p.tabled.halting e.cause e.out
 
@@ -77,28 +82,47 @@ AnswersAll plan (line ∷ lines) text next = (first rest : Text) × (mid : Plan)
 abbrev pub halts : Cause → Plan
 halts cause = Ends (record { cause = Some cause; out = [] })
 
+-- the mode by what a stage gives
+abbrev pub plan_by : {A : Type 0} → (A → Plan) → Staged A → Plan
+plan_by plan (Go x) = plan x
+plan_by plan (Halt cause) = halts cause
+
+-- it writes the messages of the states
+abbrev pub lists : Messages → Plan
+lists messages = Ends (record { cause = None; out = compiled_text messages })
+
 -- the mode of a job; from here on a mode may read files of its own
 abbrev pub IsPlanOfJob : Job → Option Files → Prepared → Plan → Type 0
 IsPlanOfJob Interpret files p plan = plan ≡ Judges (record { trees = p.order.show_cst; grammar = p.grammar; table = p.tabled.halting })
 IsPlanOfJob InterpretError files p plan = plan ≡ Explains p
 IsPlanOfJob ShowAutomaton files p plan = plan ≡ AtEnd p
+IsPlanOfJob (CompileErrors file) files p plan = (s : Staged Messages) × IsFile files (AreMessages p.grammar p.tabled.halting) file s × (plan ≡ plan_by lists s)
 IsPlanOfJob ListErrors files p plan = plan ≡ AtEnd p
 
--- the files that the mode of an order reads behind the warnings: none so far
+abbrev pub files_of_job : Job → List Text
+files_of_job Interpret = []
+files_of_job InterpretError = []
+files_of_job ShowAutomaton = []
+files_of_job ListErrors = []
+files_of_job (CompileErrors file) = file ∷ []
+
+-- the files that the mode of an order reads behind the warnings
 abbrev pub files_of_mode : Order → List Text
-files_of_mode order = []
+files_of_mode order = files_of_job order.job
 
 -- the turn of one of them has come
 abbrev pub IsTurnOfJob : Job → Option Files → Prepared → Text → Type 0
 IsTurnOfJob Interpret files p name = ⊥
 IsTurnOfJob InterpretError files p name = ⊥
 IsTurnOfJob ShowAutomaton files p name = ⊥
+IsTurnOfJob (CompileErrors file) files p name = name ≡ file
 IsTurnOfJob ListErrors files p name = ⊥
 
 -- Whether what a mode writes is one text: a list of errors leaves the choice among sentences of least cost open.
 abbrev pub IsFixedJob : Job → Type 0
 IsFixedJob Interpret = ⊤
 IsFixedJob InterpretError = ⊤
+IsFixedJob (CompileErrors file) = ⊤
 IsFixedJob ShowAutomaton = ⊤
 IsFixedJob ListErrors = ⊥
 

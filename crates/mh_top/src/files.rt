@@ -79,7 +79,7 @@ fn load<F: Shelf>(alloc: Global, shelf: &mut F, name: &[u8]) -> Result<Vec<u8>, 
 }
 
 /// What the named file spells.
-fn read_file<F: Shelf, T: Drop, S: Spelling<T>>(
+pub(crate) fn read_file<F: Shelf, T: Drop, S: Spelling<T>>(
     alloc: Global,
     shelf: &mut F,
     spelling: &S,

@@ -1,6 +1,7 @@
 //! The top call: all that the program does, over any shelf, input and output.
 #![tactic(auto)]
 
+mod compiling;
 mod drive;
 mod explaining;
 mod files;
@@ -8,6 +9,7 @@ mod grammar;
 mod judging;
 mod laws;
 mod listing;
+mod messages;
 mod modes;
 mod order;
 mod prepared;

@@ -11,6 +11,7 @@ ghost use Rattle.mh_top.specs.Run.{IsTurnBehind};
 ghost use Rattle.mh_top.specs.TableStage.{mode_of, source_of};
 ghost use Rattle.mh_top.specs.Work.{IsPlanOf, has_warning as has_warning_in, is_warned as is_warned_of, warnings_of};
 
+use crate::compiling::list_by;
 use crate::drive::{Asks, Mode, drive, drive_opened, write_text};
 use crate::explaining::Explaining;
 use crate::judging::judge_by;
@@ -120,9 +121,10 @@ impl<'a, const W: usize> Mode for AtEnd<'a, W> {
     }
 
     fn end<O: Sink>(self, alloc: Global, out: &mut O) -> Result<(), Stop> {
-        match self.prepared.order.job {
+        match &self.prepared.order.job {
             Job::Interpret => Ok(()),
             Job::InterpretError => Ok(()),
+            Job::CompileErrors { .. } => Ok(()),
             Job::ShowAutomaton => show_automaton(alloc, self.prepared, out),
             Job::ListErrors => list_errors(alloc, self.prepared, out),
         }
@@ -150,7 +152,7 @@ pub(crate) fn follow<F: Shelf, I: Source, O: Sink, const W: usize>(
     if is_refused(prepared) {
         return Err(refused(alloc, b"", b"", b""));
     }
-    match prepared.order.job {
+    match &prepared.order.job {
         Job::Interpret => drive_opened(alloc, judge_by(alloc, prepared), input, out),
         Job::InterpretError => {
             let mode = Explaining {
@@ -158,6 +160,10 @@ pub(crate) fn follow<F: Shelf, I: Source, O: Sink, const W: usize>(
                 told: None,
             };
             drive(alloc, mode, input, out)
+        }
+        Job::CompileErrors { file } => {
+            let opened = list_by(alloc, prepared, shelf, file.as_slice());
+            drive_opened(alloc, opened, input, out)
         }
         Job::ShowAutomaton => drive(alloc, AtEnd { prepared }, input, out),
         Job::ListErrors => drive(alloc, AtEnd { prepared }, input, out),

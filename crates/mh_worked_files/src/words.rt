@@ -7,11 +7,12 @@ use std::test::Fail;
 /// The job, what is on, and each file behind a colon.
 fn shown(alloc: Global, order: &Order) -> Result<Vec<u8>, AllocError> {
     let mut text = Vec::new(alloc);
-    text.extend_from_slice(match order.job {
+    text.extend_from_slice(match &order.job {
         Job::Interpret => b"interpret",
         Job::ShowAutomaton => b"show",
         Job::ListErrors => b"list",
         Job::InterpretError => b"explain",
+        Job::CompileErrors { .. } => b"compile",
     })?;
     text.extend_from_slice(if order.strict { b" strict" } else { b"" })?;
     text.extend_from_slice(if order.stdlib { b"" } else { b" bare" })?;

@@ -1,5 +1,5 @@
-use Rattle.std.proofs.Common.{refl}
-use Rattle.mh_opts.specs.declared.order.Job.TheVariants.{Interpret, InterpretError}
+use Rattle.std.proofs.Common.{refl, sym, ap, ◌∙◌}
+use Rattle.mh_opts.specs.declared.order.Job.TheVariants.{Interpret, InterpretError, CompileErrors}
 use Rattle.mh_top.proofs.Going.{job_followed, opened_calm, opened_followed, opened_read, ran_read, refused_followed, refused_read}
 use Rattle.mh_top.proofs.modes.follow.Goals as goal
 
@@ -23,3 +23,8 @@ returns-in-InterpretError-clause-ran g c =
 
 pub returns-in-InterpretError-clause-read : goal.returns-in-InterpretError-clause-read
 returns-in-InterpretError-clause-read g c = ran_read _ _ _ _ _ _ c.drive.result (c.drive.ensures.ran _ (c.requires.few, c.requires.fit, refl))
+
+pub returns-in-CompileErrors-clause-ran : goal.returns-in-CompileErrors-clause-ran
+returns-in-CompileErrors-clause-ran g c =
+    opened_followed (g.F.Shelf.files c.args.shelf.now) c.args.prepared.now _ c.if-is_refused.false c.is_refused.ensures _ (CompileErrors c.as_slice.result.now) (c.in-CompileErrors.is ∙ ap CompileErrors (sym c.as_slice.ensures)) _ _ _ _
+    c.drive_opened-in-CompileErrors.result c.list_by-opened.result c.list_by-opened.ensures.opens c.drive_opened-in-CompileErrors.ensures.ran

@@ -1,5 +1,5 @@
 use Rattle.std.proofs.Common.{refl}
-use Rattle.mh_opts.specs.declared.order.Job.TheVariants.{Interpret, InterpretError, ListErrors}
+use Rattle.mh_opts.specs.declared.order.Job.TheVariants.{Interpret, InterpretError, ListErrors, CompileErrors}
 use Rattle.mh_top.proofs.Answered.{at_end, at_end_none}
 use Rattle.mh_top.proofs.modes.AtEndMode.end.Goals as goal
 
@@ -11,3 +11,6 @@ returns-in-InterpretError-clause-text g c = λ plan is. at_end_none c.args.self.
 
 pub returns-in-ListErrors-clause-text : goal.returns-in-ListErrors-clause-text
 returns-in-ListErrors-clause-text g c = λ plan is. at_end c.args.self.prepared.now ListErrors plan _ _ c.list_errors.result is.2 c.in-ListErrors.is c.list_errors.ensures.text
+
+pub returns-in-CompileErrors-clause-text : goal.returns-in-CompileErrors-clause-text
+returns-in-CompileErrors-clause-text g c = λ plan is. at_end_none c.args.self.prepared.now (CompileErrors _) plan _ refl is.2 c.in-CompileErrors.is

@@ -1,0 +1,102 @@
+-- Messages files: what their bytes come to is one thing, and something.
+use Rattle.std.proofs.Common.{◌≡◌, ◌⊎◌, inl, inr, ℕ, ◌<◌, ◌≤◌, ◌^◌, List, length, Option, None, Some, refl, sym, ◌∙◌, ap, subst, arith}
+use Rattle.mh_grammar.specs.declared.types.Grammar.{Grammar}
+use Rattle.mh_grammar.specs.Plain.{PlainGrammar, plain_of}
+use Rattle.mh_tables.specs.Table.{TableData}
+use Rattle.mh_tables.specs.Halting.{HaltingFacts}
+use Rattle.mh_msgfile.specs.declared.messages.MsgFile.{MsgFile}
+use Rattle.mh_msgfile.specs.Messages.{FaultFound as FileFault, MsgSpells, HasFault, AreOf}
+use Rattle.mh_msgfile.proofs.Spelled as spelled
+use Rattle.mh_msgfile.proofs.Fitting.{file_fits}
+use Rattle.mh_check.specs.Checks.{FaultFound, FirstFault, sentences_of}
+use Rattle.mh_check.specs.Compiling.{IsCompiled}
+use Rattle.mh_check.specs.Texts.{file_line, check_line}
+use Rattle.mh_check.proofs.Once as checked
+use Rattle.mh_check.proofs.Either.{compiled_or_fault}
+use Rattle.mh_outside.specs.Shelf.{Files, Found, NoFile, Long, Bytes, file_at, found}
+use Rattle.mh_top.specs.Text.{Text}
+use Rattle.mh_top.specs.Causes.{Staged, Go, Halt, Then, On}
+use Rattle.mh_top.specs.FileStage.{IsFile, IsFound, IsLoaded, file_limit, loaded}
+use Rattle.mh_top.specs.MessagesStage.{AreMessages, AreMessagesOf, Messages}
+use Rattle.mh_top.specs.declared.stop.Cause.{Cause}
+use Rattle.mh_top.specs.declared.stop.Cause.TheVariants.{Refused}
+use Rattle.mh_top.proofs.Binding.{IsOne, then_once}
+use Rattle.mh_top.proofs.Loads.{found_fits}
+
+-- where it halts, it may
+abbrev pub StagedRight : (Cause → Type 0) → Staged Messages → Type 0
+StagedRight Right (Go messages) = Unit {0}
+StagedRight Right (Halt cause) = Right cause
+
+-- ---- one thing
+
+of_file_once : (t : TableData) (name : Text) (file : MsgFile) → IsOne (AreMessagesOf t name file)
+of_file_once t name file (Go a) (Go b) p q = ap Go (checked.compiled_once t file a b p q)
+of_file_once t name file (Go a) (Halt cause) p q = absurd (checked.sound_right t (sentences_of file) q.fault p.sound q.first)
+of_file_once t name file (Halt cause) (Go b) p q = absurd (checked.sound_right t (sentences_of file) p.fault q.sound p.first)
+of_file_once t name file (Halt cause) (Halt cause') p q =
+    ap Halt (p.cause_is ∙ ap (λ (f : FaultFound). Refused (check_line name f)) (checked.fault_once t (sentences_of file) p.fault q.fault p.first q.first) ∙ sym q.cause_is)
+
+module _ (g : Grammar) (t : TableData) where
+  messages_once : (name bytes : Text) → IsOne (AreMessages g t name bytes)
+  messages_once name bytes s r (inl p) (inl q) =
+      let same : q.file ≡ p.file = spelled.spelled_once g bytes q.file p.file q.spells p.spells in of_file_once t name p.file s r p.comes_to (subst (λ (f : MsgFile). AreMessagesOf t name f r) same q.comes_to)
+  messages_once name bytes s r (inl p) (inr q) = absurd (spelled.spelled_right g bytes p.file q.fault p.spells q.has)
+  messages_once name bytes s r (inr p) (inl q) = absurd (spelled.spelled_right g bytes q.file p.fault q.spells p.has)
+  messages_once name bytes s r (inr p) (inr q) = p.halts ∙ ap (λ (f : FileFault). Halt (Refused (file_line name f))) (spelled.fault_once g bytes p.fault q.fault p.has q.has) ∙ sym q.halts
+
+  loaded_once : (files : Files) (name : Text) → IsOne (IsLoaded (Some files) name)
+  loaded_once files name s r p q = p.2 ∙ ap (loaded name) (sym p.1 ∙ q.1) ∙ sym q.2
+
+  pub file_messages_once : (files : Files) (name : Text) → IsOne (IsFile (Some files) (AreMessages g t) name)
+  file_messages_once files name = then_once (IsLoaded (Some files) name) (AreMessages g t name) (loaded_once files name) (messages_once name)
+
+  -- ---- a file that gives no bytes
+
+  pub unread_halts : (files : Files) (name : Text) (what : Found) (cause : Cause) (s : Staged Messages) → IsFound (Some files) name what → loaded name what ≡ Halt cause → IsFile (Some files) (AreMessages g t) name s → s ≡ Halt cause
+  unread_halts files name what cause s is halt of_file =
+      let same : of_file.0 ≡ Halt cause = of_file.1.2 ∙ ap (loaded name) (sym of_file.1.1 ∙ is) ∙ halt in
+      subst (λ (f : Staged Text). On f (AreMessages g t name) s) same of_file.2
+
+  -- ---- it halts for no other cause than it may
+
+  module _ (Right : Cause → Type 0) (may_refuse : (line : Text) → Right (Refused line)) where
+    of_file_right : (name : Text) (file : MsgFile) (s : Staged Messages) → AreMessagesOf t name file s → StagedRight Right s
+    of_file_right name file (Go messages) is = tt
+    of_file_right name file (Halt cause) is = subst Right (sym is.cause_is) (may_refuse (check_line name is.fault))
+
+    bytes_right : (name bytes : Text) (s : Staged Messages) → AreMessages g t name bytes s → StagedRight Right s
+    bytes_right name bytes s (inl is) = of_file_right name is.file s is.comes_to
+    bytes_right name bytes s (inr is) = subst (StagedRight Right) (sym is.halts) (may_refuse (file_line name is.fault))
+
+    read_right : (name : Text) (what : Found) (first : Staged Text) (s : Staged Messages) → first ≡ loaded name what → ((cause : Cause) → loaded name what ≡ Halt cause → Right cause) → On first (AreMessages g t name) s → StagedRight Right s
+    read_right name what (Go bytes) s is unread on = bytes_right name bytes s on
+    read_right name what (Halt cause) s is unread on = subst (StagedRight Right) (sym on) (unread cause (sym is))
+
+    pub messages_right : (files : Option Files) (name : Text) (s : Staged Messages) → ((what : Found) (cause : Cause) → IsFound files name what → loaded name what ≡ Halt cause → Right cause) → IsFile files (AreMessages g t) name s → StagedRight Right s
+    messages_right files name s unread is = read_right name is.1.0 is.0 s is.1.2 (λ cause halt. unread is.1.0 cause is.1.1 halt) is.2
+
+-- ---- something
+
+module _ (g : Grammar) (t : TableData) (halts : HaltingFacts t) (same : t.grammar ≡ plain_of g) where
+  fits : (bytes : Text) (file : MsgFile) → length bytes ≤ file_limit → MsgSpells g bytes file → AreOf (length t.grammar.starts) t.grammar.tokens file
+  fits bytes file short spells = subst (λ (p : PlainGrammar). AreOf (length p.starts) p.tokens file) (sym same) (file_fits g bytes file (omega arith) spells)
+
+  some_of_bytes : (name bytes : Text) → length bytes ≤ file_limit → (s : Staged Messages) × AreMessages g t name bytes s
+  some_of_bytes name bytes short =
+      elim (spelled.spelled_or_not g bytes) [
+        | inl is ↦ elim (compiled_or_fault t halts is.0 (fits bytes is.0 short is.1)) [
+          | inl m ↦ (Go m.0, inl (record { file = is.0; spells = is.1; comes_to = m.1 }))
+          | inr f ↦ (Halt (Refused (check_line name f.0)), inl (record { file = is.0; spells = is.1; comes_to = record { fault = f.0; first = f.1; cause_is = refl } }))
+        ]
+        | inr f ↦ (Halt (Refused (file_line name f.0)), inr (record { fault = f.0; has = f.1; halts = refl }))
+      ]
+
+  some_found : (files : Files) (name : Text) (what : Found) → found files name file_limit ≡ what → (s : Staged Messages) × IsFile (Some files) (AreMessages g t) name s
+  some_found files name NoFile is = (Halt _, (loaded name NoFile, (NoFile, is, refl), refl))
+  some_found files name Long is = (Halt _, (loaded name Long, (Long, is, refl), refl))
+  some_found files name (Bytes bytes) is = let s = some_of_bytes name bytes (found_fits file_limit (file_at files name) bytes is) in (s.0, (Go bytes, (Bytes bytes, is, refl), s.1))
+
+  pub some_messages : (files : Option Files) (name : Text) → (s : Staged Messages) × IsFile files (AreMessages g t) name s
+  some_messages None name = (Halt _, (loaded name Long, (Long, tt, refl), refl))
+  some_messages (Some files) name = some_found files name (found files name file_limit) refl

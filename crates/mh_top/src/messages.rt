@@ -1,0 +1,96 @@
+//! Messages files: read, spelled, and checked against the table.
+ghost use Rattle.std.specs.Prelude.{◌≡◌, ◌<◌, ◌^◌, length};
+ghost use Rattle.mh_grammar.specs.Plain.{plain_of};
+ghost use Rattle.mh_msgfile.specs.Messages.{AreOf, Tells as TellsFile};
+ghost use Rattle.mh_check.specs.Compiling.{Tells};
+ghost use Rattle.mh_check.specs.Texts.{file_line, check_line};
+ghost use Rattle.mh_top.specs.MessagesStage.{AreMessages, AreMessagesOf};
+ghost use Rattle.mh_top.specs.Stages.{Halts, StageHas};
+ghost use Rattle.mh_top.specs.declared.stop.Cause.TheVariants.{Refused as Refused'};
+
+use crate::files::Spelling;
+use crate::stop::{Cause, Stop};
+use mh_check::{CheckFault, Compiled, check_fault_line, compile, file_fault_line};
+use mh_grammar::{Grammar, Memory, Sequence};
+use mh_msgfile::{MsgFault, MsgFile, read_messages};
+use mh_tables::Halting;
+use std::alloc::Global;
+
+/// Messages files of a grammar, against its table.
+#[derive(Drop)]
+pub(crate) struct MessagesFiles<'a> {
+    pub(crate) grammar: &'a Grammar,
+    pub(crate) table: &'a Halting,
+    ghost same: { table.now.grammar ≡ plain_of grammar.now },
+}
+
+fn no_file(alloc: Global, name: &[u8], fault: &MsgFault) -> Stop
+    ensures { TellsFile fault.now (λ found. Halts (Refused' (file_line name.now found)) result) }
+{
+    match file_fault_line(alloc, name, fault) {
+        Ok(line) => Stop::Halted {
+            cause: Cause::Refused {
+                line: Sequence::from_vec(line),
+            },
+        },
+        Err(Memory) => Stop::OutOfMemory,
+    }
+}
+
+fn no_fit(alloc: Global, name: &[u8], fault: &CheckFault) -> Stop
+    ensures { Tells fault.now (λ found. Halts (Refused' (check_line name.now found)) result) }
+{
+    match check_fault_line(alloc, name, fault) {
+        Ok(line) => Stop::Halted {
+            cause: Cause::Refused {
+                line: Sequence::from_vec(line),
+            },
+        },
+        Err(Memory) => Stop::OutOfMemory,
+    }
+}
+
+/// The messages of a file that was spelled.
+fn messages_of(
+    alloc: Global,
+    table: &Halting,
+    name: &[u8],
+    file: &MsgFile,
+) -> Result<Compiled, Stop>
+    requires { AreOf (length table.now.grammar.starts) table.now.grammar.tokens file.now }
+    ensures { StageHas (AreMessagesOf table.now name.now file.now) result }
+{
+    match compile(alloc, table, file) {
+        Ok(compiled) => Ok(compiled),
+        Err(CheckFault::Memory) => Err(Stop::OutOfMemory),
+        Err(fault) => Err(no_fit(alloc, name, &fault)),
+    }
+}
+
+/// The messages of the states, by the bytes of the named file.
+fn messages_in(
+    alloc: Global,
+    files: &MessagesFiles<'_>,
+    name: &[u8],
+    bytes: &[u8],
+) -> Result<Compiled, Stop>
+    requires { length bytes.now < 2 ^ 31 }
+    ensures { StageHas (AreMessages files.now.grammar.now files.now.table.now name.now bytes.now) result }
+{
+    files.table.table().facts();
+    match read_messages(alloc, bytes, files.grammar) {
+        Ok(file) => messages_of(alloc, files.table, name, &file),
+        Err(MsgFault::Memory) => Err(Stop::OutOfMemory),
+        Err(fault) => Err(no_file(alloc, name, &fault)),
+    }
+}
+
+impl Spelling<Compiled> for MessagesFiles<'_> {
+    ghost use Rattle.mh_top.specs.MessagesStage.{AreMessages};
+
+    ghost Spells = { λ s. AreMessages s.grammar.now s.table.now };
+
+    fn spell(&self, alloc: Global, name: &[u8], bytes: &[u8]) -> Result<Compiled, Stop> {
+        messages_in(alloc, self, name, bytes)
+    }
+}

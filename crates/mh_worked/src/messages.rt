@@ -1,0 +1,299 @@
+//! Messages files, compiled.
+use crate::runs::{Fails, check_cases, check_cases_with, run, run_on};
+use std::alloc::Global;
+use std::process::Abort;
+use std::test::Fail;
+
+const SHARED: &str = "g.mly
+%token A EOF
+%start s
+%%
+s: A EOF {}
+";
+
+// What files come to: the messages of the states, rising; the first fault, in order of lines, and the shape last.
+const COMPILED: &str = "0 --compile-errors m g.mly
+~
+m
+# by hand
+s: EOF
+## Ends in an error in state: 0.
+
+Expected A.
+# inside
+Nothing else begins a sentence.
+
+A A
+
+Expected EOF.
+~
+~
+state 0 44
+Expected A.
+Nothing else begins a sentence.
+state 1 14
+Expected EOF.
+~
+^
+0 --compile-errors m g.mly
+~
+m
+EOF
+A A
+
+M
+~
+~
+state 0 2
+M
+state 1 2
+M
+~
+^
+0 --compile-errors m g.mly
+~
+m
+~
+~
+~
+^
+1 --compile-errors m g.mly
+~
+m
+EOF
+
+M
+
+s : EOF
+
+N
+~
+~
+~
+menhir: m:5: state 0 is shared with line 1
+^
+1 --compile-errors m g.mly
+~
+m
+EOF A
+
+M
+~
+~
+~
+menhir: m:1: refused early at index 0
+^
+1 --compile-errors m g.mly
+~
+m
+A EOF
+
+M
+~
+~
+~
+menhir: m:1: not refused: ACCEPT
+^
+1 --compile-errors m g.mly
+~
+m
+A
+
+M
+~
+~
+~
+menhir: m:1: not refused: OVERSHOOT
+^
+1 --compile-errors m g.mly
+~
+m
+EOF
+~
+~
+~
+menhir: m:1: shape
+^
+1 --compile-errors m g.mly
+~
+m
+EOF
+
+M
+
+A Z
+~
+~
+~
+menhir: m:5: unknown token Z
+^
+1 --compile-errors m g.mly
+~
+m
+A Z
+
+M
+~
+~
+~
+menhir: m:1: unknown token Z
+^
+1 --compile-errors m g.mly
+~
+m
+r: A A
+
+M
+~
+~
+~
+menhir: m:1: unknown start r
+^
+3 --compile-errors m g.mly
+~
+~
+~
+menhir: cannot read m
+^
+3 --compile-errors m g.mly
+shelf 2
+~
+m
+EOF
+
+M
+~
+~
+~
+menhir: cannot read m
+^
+2 --compile-errors
+~
+~
+~
+menhir: usage: bad words
+^
+2 --compile-errors m
+~
+~
+~
+menhir: usage: no grammar
+";
+
+// Two starts, of which a sentence has to name one; a token that stands in no rule.
+const GRAMMARS: &str = "1 --compile-errors m g.mly
+~
+g.mly
+%token A B C D
+%start p q
+%%
+p: x A {}
+q: x B {}
+x: C D {}
+~
+m
+C A
+
+M
+~
+~
+~
+menhir: m:1: missing start
+^
+0 --compile-errors m g.mly
+~
+g.mly
+%token A B EOF
+%start s
+%%
+s: A EOF {}
+~
+m
+s: B
+
+No sentence begins with B.
+~
+~
+state 0 27
+No sentence begins with B.
+~
+";
+
+/// A list of errors with a message put in for each place.
+fn with_messages(alloc: Global, list: &str) -> Result<Vec<u8>, Fail> {
+    let mut text = Vec::new(alloc);
+    for line in list.lines() {
+        let said = match line {
+            "<YOUR SYNTAX ERROR MESSAGE HERE>" => "Something else was expected here.",
+            other => other,
+        };
+        text.extend_from_slice(said.as_bytes())?;
+        text.push(b'\n')?;
+    }
+    Ok(text)
+}
+
+/// The states of a list of errors, or of compiled messages, a line each.
+fn states_of(alloc: Global, text: &str, front: &str) -> Result<String, Fail> {
+    let mut states = String::new(alloc);
+    for line in text.lines() {
+        if let Some(rest) = line.strip_prefix(front) {
+            for letter in rest.chars().take_while(char::is_ascii_digit) {
+                states.push(letter)?;
+            }
+            states.push('\n')?;
+        }
+    }
+    Ok(states)
+}
+
+/// What the list of errors of a grammar, with messages put in, comes to: exactly its states.
+fn check_round(rt: &impl Abort, alloc: Global, grammar: &[u8]) -> Result<(), Fail> {
+    let list = run_on(rt, alloc, "--list-errors g.mly", grammar, Vec::new(alloc))?;
+    let list = str::from_utf8(&list.out)?;
+    let mut files = Vec::new(alloc);
+    files.push((b"g.mly".to_vec(alloc)?, grammar.to_vec(alloc)?))?;
+    files.push((b"m".to_vec(alloc)?, with_messages(alloc, list)?))?;
+    let fails = Fails::none(alloc);
+    let got = run(
+        rt,
+        alloc,
+        "--compile-errors m g.mly",
+        files,
+        Vec::new(alloc),
+        fails,
+    )?;
+    assert_eq!(rt; str::from_utf8(&got.err)?, "");
+    assert_eq!(rt; got.status, 0);
+    let listed = states_of(alloc, list, "## Ends in an error in state: ")?;
+    let compiled = states_of(alloc, str::from_utf8(&got.out)?, "state ")?;
+    assert_eq!(rt; compiled.as_str(), listed.as_str());
+    Ok(())
+}
+
+/// Grammars of the worked examples, one a line.
+const ROUNDS: &str = "%token A EOF %start s %% s: A EOF {}
+%token A B EOF %start s %% s: A EOF {}
+%token A B C D %start p q %% p: x A {} q: x B {} x: C D {}
+%token INT EQ EOF %nonassoc EQ %start main %% main: e EOF {} e: INT {} | e EQ e {}
+%token X SEMI EOF %start main %on_error_reduce s %% main: s EOF {} s: X {} | X SEMI {}
+%token INT PLUS TIMES EOF %start main %% main: e EOF {} e: e PLUS t {} | t {} t: t TIMES INT {} | INT {}
+%token A %start s %% s: {}";
+
+#[test]
+fn compiled(rt: HostRuntime) -> Result<(), Fail> {
+    check_cases_with(&rt, rt.alloc(), SHARED, COMPILED)
+}
+
+#[test]
+fn grammars(rt: HostRuntime) -> Result<(), Fail> {
+    check_cases(&rt, rt.alloc(), GRAMMARS)
+}
+
+#[test]
+fn lists_compile_to_their_states(rt: HostRuntime) -> Result<(), Fail> {
+    for grammar in ROUNDS.lines() {
+        check_round(&rt, rt.alloc(), grammar.as_bytes())?;
+    }
+    Ok(())
+}
