@@ -43,6 +43,7 @@ file_of rows option = unwrap_or (first_of option rows) []
 -- a row for each mode: the job that it asks for
 abbrev pub job_for : List Row → Mode → Job
 job_for rows mode.Interpret = job.Interpret
+job_for rows mode.Session = job.Session
 job_for rows mode.ShowAutomaton = job.ShowAutomaton
 job_for rows mode.ListErrors = job.ListErrors
 job_for rows mode.InterpretError = job.InterpretError

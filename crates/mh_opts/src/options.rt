@@ -25,6 +25,7 @@ pub(crate) const COMPILE_ERRORS: &str = "compile-errors";
 pub enum Mode {
     Interpret,
     InterpretError,
+    Session,
     ShowAutomaton,
     ListErrors,
     CompileErrors,
@@ -46,7 +47,7 @@ pub struct Need<T> {
     pub needs: T,
 }
 
-const OPTIONS: [Opt<&str>; 8] = [
+const OPTIONS: [Opt<&str>; 9] = [
     Opt {
         name: INTERPRET,
         action: ArgAction::SetTrue,
@@ -56,6 +57,11 @@ const OPTIONS: [Opt<&str>; 8] = [
         name: "interpret-error",
         action: ArgAction::SetTrue,
         mode: Some(Mode::InterpretError),
+    },
+    Opt {
+        name: "session",
+        action: ArgAction::SetTrue,
+        mode: Some(Mode::Session),
     },
     Opt {
         name: "show-automaton",

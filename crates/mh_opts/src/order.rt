@@ -13,6 +13,8 @@ pub enum Job {
     Interpret,
     /// `--interpret-error`: the entry of the sentence on the first line of the input.
     InterpretError,
+    /// `--session`: the reply to a command on named branches for each line of the input.
+    Session,
     /// `--show-automaton`: the automaton as text.
     ShowAutomaton,
     /// `--list-errors`: an entry for each state in which some sentence fails.

@@ -75,6 +75,7 @@ fn job_of(alloc: Global, matches: &ArgMatches<'_>, mode: Mode) -> Result<Job, Me
     match mode {
         Mode::Interpret => Ok(Job::Interpret),
         Mode::InterpretError => Ok(Job::InterpretError),
+        Mode::Session => Ok(Job::Session),
         Mode::ShowAutomaton => Ok(Job::ShowAutomaton),
         Mode::ListErrors => Ok(Job::ListErrors),
         Mode::CompileErrors => Ok(Job::CompileErrors {

@@ -89,9 +89,9 @@ Appends-nil : (out : Option Text) → Appends out out []
 Appends-nil None = tt
 Appends-nil (Some out) = sym (append-nil out)
 
--- nothing stands at the end of what judges
-pub judged_end : (by : Answering) (plan : Plan) (out : Option Text) → plan ≡ Judges by → EndRan (EndsWith plan) out out (Ok tt)
-judged_end by plan out is = (record { cause = None; out = [] }, subst (λ (l : Plan). EndsWith l (record { cause = None; out = [] })) (sym is) refl, refl, Appends-nil out)
+-- nothing stands at the end of some modes
+pub nothing_ends : (mode plan : Plan) (out : Option Text) → EndsWith mode (record { cause = None; out = [] }) → plan ≡ mode → EndRan (EndsWith plan) out out (Ok tt)
+nothing_ends mode plan out ends is = (record { cause = None; out = [] }, subst (λ (l : Plan). EndsWith l (record { cause = None; out = [] })) (sym is) ends, refl, Appends-nil out)
 
 -- the end by its job is that of the plan
 pub at_end : (p : Prepared) (job : Job) (plan : Plan) (out0 out1 : Option Text) (r : Result (Unit {0}) Stop) → plan ≡ AtEnd p → p.order.job ≡ job → EndRan (EndsByJob job p) out0 out1 r → EndRan (EndsWith plan) out0 out1 r

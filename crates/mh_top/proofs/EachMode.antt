@@ -3,9 +3,11 @@ use Rattle.std.proofs.Common.{◌≡◌, Option, None, Some, [], sym, ◌∙◌,
 use Rattle.std.specs.Bool.{⊤}
 use Rattle.mh_grammar.specs.declared.types.Grammar.{Grammar}
 use Rattle.mh_opts.specs.declared.order.Job.{Job}
-use Rattle.mh_opts.specs.declared.order.Job.TheVariants.{Interpret, InterpretError, ShowAutomaton, ListErrors, CompileErrors}
+use Rattle.mh_opts.specs.declared.order.Job.TheVariants.{Interpret, InterpretError, Session, ShowAutomaton, ListErrors, CompileErrors}
 use Rattle.mh_outside.specs.Shelf.{Files, Found}
 use Rattle.mh_report.proofs.OneText.{text_once}
+use Rattle.mh_replies.proofs.Once.{answer_once as line_once}
+use Rattle.mh_session.specs.Answers.{Branches}
 use Rattle.mh_tables.specs.Table.{TableData}
 use Rattle.mh_tables.specs.Halting.{HaltingFacts}
 use Rattle.mh_grammar.specs.Plain.{plain_of}
@@ -13,7 +15,7 @@ use Rattle.mh_top.specs.Text.{Text, too_long}
 use Rattle.mh_top.specs.TableStage.{mode_of, source_of}
 use Rattle.mh_top.specs.Verdicts.{Answering}
 use Rattle.mh_top.specs.Listing.{Lists, TooLong}
-use Rattle.mh_top.specs.Plan.{Ending, Plan, Ends, AtEnd, Judges, Explains, ending_of, Answers, EndsByJob, EndsWith, IsFixed, IsFixedJob, IsPlanOfJob, IsTurnOfJob, halts, lists, plan_by}
+use Rattle.mh_top.specs.Plan.{Ending, Plan, Ends, AtEnd, Judges, Explains, Serves, ending_of, Answers, EndsByJob, EndsWith, IsFixed, IsFixedJob, IsPlanOfJob, IsTurnOfJob, halts, lists, plan_by}
 use Rattle.mh_top.specs.Causes.{Staged, Go, Halt}
 use Rattle.mh_top.specs.MessagesStage.{Messages}
 use Rattle.mh_top.specs.FileStage.{IsFound, loaded}
@@ -38,6 +40,7 @@ pub record Runs (p : Prepared) : Type 0 where
 pub some_plan : (job : Job) (files : Option Files) (p : Prepared) → Runs p → (plan : Plan) × IsPlanOfJob job files p plan
 some_plan Interpret files p runs = (_, refl)
 some_plan InterpretError files p runs = (_, refl)
+some_plan Session files p runs = (_, refl)
 some_plan ShowAutomaton files p runs = (_, refl)
 some_plan (CompileErrors file) files p runs = let s = some_messages p.grammar p.tabled.halting runs.halts runs.grammar files file in (plan_by lists s.0, (s.0, s.1, refl))
 some_plan ListErrors files p runs = (_, refl)
@@ -45,6 +48,7 @@ some_plan ListErrors files p runs = (_, refl)
 pub job_once : (job : Job) (files : Files) (p : Prepared) → IsOne (IsPlanOfJob job (Some files) p)
 job_once Interpret files p x y is so = is ∙ sym so
 job_once InterpretError files p x y is so = is ∙ sym so
+job_once Session files p x y is so = is ∙ sym so
 job_once ShowAutomaton files p x y is so = is ∙ sym so
 job_once (CompileErrors file) files p x y is so = is.2 ∙ ap (plan_by lists) (file_messages_once p.grammar p.tabled.halting files file is.0 so.0 is.1 so.1) ∙ sym so.2
 job_once ListErrors files p x y is so = is ∙ sym so
@@ -52,6 +56,7 @@ job_once ListErrors files p x y is so = is ∙ sym so
 -- a file whose turn has come, and which gives no bytes, ends the work
 pub turn_halts : (job : Job) (files : Files) (p : Prepared) (name : Text) (what : Found) (cause : Cause) (plan : Plan) → IsTurnOfJob job (Some files) p name → IsFound (Some files) name what → loaded name what ≡ Halt cause → IsPlanOfJob job (Some files) p plan → plan ≡ halts cause
 turn_halts Interpret files p name what cause plan turn found halt is = absurd turn
+turn_halts Session files p name what cause plan turn found halt is = absurd turn
 turn_halts ShowAutomaton files p name what cause plan turn found halt is = absurd turn
 turn_halts (CompileErrors file) files p name what cause plan turn found halt is =
     is.2 ∙ ap (plan_by lists) (unread_halts p.grammar p.tabled.halting files file what cause is.0 (subst (λ (n : Text). IsFound (Some files) n what) turn found) (subst (λ (n : Text). loaded n what ≡ Halt cause) turn halt) is.1)
@@ -70,6 +75,7 @@ module _ (Has : Grammar → TableData → Type 0) where
   pub job_judges : (job : Job) (files : Option Files) (p : Prepared) (by : Answering) → Has p.grammar p.tabled.halting → IsPlanOfJob job files p (Judges by) → Has by.grammar by.table
   job_judges Interpret files p by has is = judged (record { trees = p.order.show_cst; grammar = p.grammar; table = p.tabled.halting }) by is has
   job_judges InterpretError files p by has is = absurd (cc)
+  job_judges Session files p by has is = absurd (cc)
   job_judges ShowAutomaton files p by has is = absurd (cc)
   job_judges (CompileErrors file) files p by has is = absurd (lists_not is.0 by is.2)
   job_judges ListErrors files p by has is = absurd (cc)
@@ -82,17 +88,21 @@ module _ (line : Text) where
   answer_once (AtEnd e) a c x y p q = (p.0 ∙ sym q.0, p.1 ∙ sym q.1)
   answer_once (Judges by) a c x y p q = (one_once by line a c p.0 q.0, p.1 ∙ sym q.1)
   answer_once (Explains from) a c x y p q = (p.0 ∙ sym q.0, p.3 ∙ ap (λ (told : Told). Ends (ending_of told)) (told_once from line p.1 q.1 p.2 q.2) ∙ sym q.3)
+  answer_once (Serves g t branches) a c x y p q =
+      let same = line_once g t branches line a c p.0 q.0 p.1 q.1 in (same.0, p.2 ∙ ap (λ (after : Branches). Serves g t after) same.1 ∙ sym q.2)
 
   pub answer_fixed : (plan : Plan) (text : Text) (next : Plan) → Answers plan line text next → IsFixed plan → IsFixed next
   answer_fixed (Ends e) text next is fixed = subst IsFixed (sym is.1) fixed
   answer_fixed (AtEnd p) text next is fixed = subst IsFixed (sym is.1) fixed
   answer_fixed (Judges by) text next is fixed = subst IsFixed (sym is.1) fixed
   answer_fixed (Explains p) text next is fixed = subst IsFixed (sym is.3) tt
+  answer_fixed (Serves g t branches) text next is fixed = subst IsFixed (sym is.2) fixed
 
 job_cause_once : (job : Job) (p : Prepared) (x y : Ending) → EndsByJob job p x → EndsByJob job p y → x.cause ≡ y.cause
 job_cause_once Interpret p x y is so = ap (λ (e : Ending). e.cause) (is ∙ sym so)
 job_cause_once InterpretError p x y is so = ap (λ (e : Ending). e.cause) (is ∙ sym so)
 job_cause_once (CompileErrors file) p x y is so = ap (λ (e : Ending). e.cause) (is ∙ sym so)
+job_cause_once Session p x y is so = ap (λ (e : Ending). e.cause) (is ∙ sym so)
 job_cause_once ShowAutomaton p x y is so = is.0 ∙ sym so.0
 job_cause_once ListErrors p x y is so = list_cause_once p.grammar p.tabled.automaton p.tabled.halting x.cause y.cause x.out y.out is so
 
@@ -100,6 +110,7 @@ job_out_once : (job : Job) (p : Prepared) (x y : Ending) → IsFixedJob job → 
 job_out_once Interpret p x y fixed is so = ap (λ (e : Ending). e.out) (is ∙ sym so)
 job_out_once InterpretError p x y fixed is so = ap (λ (e : Ending). e.out) (is ∙ sym so)
 job_out_once (CompileErrors file) p x y fixed is so = ap (λ (e : Ending). e.out) (is ∙ sym so)
+job_out_once Session p x y fixed is so = ap (λ (e : Ending). e.out) (is ∙ sym so)
 job_out_once ShowAutomaton p x y fixed is so = text_once p.grammar p.tabled.automaton (mode_of (source_of p.order)) p.tabled.halting x.out y.out is.1 so.1
 job_out_once ListErrors p x y fixed is so = absurd fixed
 
@@ -111,12 +122,14 @@ cause_once (Ends e) x y is so = ap (λ (end : Ending). end.cause) (is ∙ sym so
 cause_once (AtEnd p) x y is so = job_cause_once p.order.job p x y is so
 cause_once (Judges by) x y is so = ap (λ (end : Ending). end.cause) (is ∙ sym so)
 cause_once (Explains p) x y is so = ap (λ (end : Ending). end.cause) (explained_once p x y is so)
+cause_once (Serves g t branches) x y is so = ap (λ (end : Ending). end.cause) (is ∙ sym so)
 
 pub out_once : (plan : Plan) (x y : Ending) → IsFixed plan → EndsWith plan x → EndsWith plan y → x.out ≡ y.out
 out_once (Ends e) x y fixed is so = ap (λ (end : Ending). end.out) (is ∙ sym so)
 out_once (AtEnd p) x y fixed is so = job_out_once p.order.job p x y fixed is so
 out_once (Judges by) x y fixed is so = ap (λ (end : Ending). end.out) (is ∙ sym so)
 out_once (Explains p) x y fixed is so = ap (λ (end : Ending). end.out) (explained_once p x y is so)
+out_once (Serves g t branches) x y fixed is so = ap (λ (end : Ending). end.out) (is ∙ sym so)
 
 -- ---- a mode ends for no other cause than it may
 
@@ -131,6 +144,7 @@ module _ (Right : Cause → Type 0) where
   EndsRight (AtEnd p) = ⊤
   EndsRight (Judges by) = ⊤
   EndsRight (Explains p) = ⊤
+  EndsRight (Serves g t branches) = ⊤
 
   -- a file that a mode reads, and what it halts for there
   abbrev pub FilesRight : Job → Option Files → Prepared → Type 0
@@ -145,6 +159,7 @@ module _ (Right : Cause → Type 0) where
     pub job_right : (job : Job) (files : Option Files) (p : Prepared) (plan : Plan) → FilesRight job files p → IsPlanOfJob job files p plan → EndsRight plan
     job_right Interpret files p plan of_file is = subst EndsRight (sym is) tt
     job_right InterpretError files p plan of_file is = subst EndsRight (sym is) tt
+    job_right Session files p plan of_file is = subst EndsRight (sym is) tt
     job_right ShowAutomaton files p plan of_file is = subst EndsRight (sym is) tt
     job_right ListErrors files p plan of_file is = subst EndsRight (sym is) tt
     job_right (CompileErrors file) files p plan of_file is =
@@ -159,11 +174,13 @@ module _ (Right : Cause → Type 0) where
     answer_right (AtEnd p) line text next is right = subst EndsRight (sym is.1) tt
     answer_right (Judges by) line text next is right = subst EndsRight (sym is.1) tt
     answer_right (Explains p) line text next is right = subst EndsRight (sym is.3) (told_right is.1)
+    answer_right (Serves g t branches) line text next is right = subst EndsRight (sym is.2) tt
 
     job_ends_right : (job : Job) (p : Prepared) (e : Ending) → EndsByJob job p e → IsRight e.cause
     job_ends_right Interpret p e is = subst IsRight (sym (ap (λ (x : Ending). x.cause) is)) tt
     job_ends_right InterpretError p e is = subst IsRight (sym (ap (λ (x : Ending). x.cause) is)) tt
     job_ends_right (CompileErrors file) p e is = subst IsRight (sym (ap (λ (x : Ending). x.cause) is)) tt
+    job_ends_right Session p e is = subst IsRight (sym (ap (λ (x : Ending). x.cause) is)) tt
     job_ends_right ShowAutomaton p e is = subst IsRight (sym is.0) tt
     job_ends_right ListErrors p e (Lists none cause list) = subst IsRight (sym cause) tt
     job_ends_right ListErrors p e (TooLong s long cause out) = subst IsRight (sym cause) (may_refuse (too_long s))
@@ -173,3 +190,4 @@ module _ (Right : Cause → Type 0) where
     ends_right (AtEnd p) e right is = job_ends_right p.order.job p e is
     ends_right (Judges by) e right is = subst IsRight (sym (ap (λ (x : Ending). x.cause) is)) tt
     ends_right (Explains p) e right is = subst IsRight (sym (ap (λ (x : Ending). x.cause) is.2)) (told_right is.0)
+    ends_right (Serves g t branches) e right is = subst IsRight (sym (ap (λ (x : Ending). x.cause) is)) tt

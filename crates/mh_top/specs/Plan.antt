@@ -1,10 +1,14 @@
 -- Modes: what each asks for, how it answers lines, and what it writes at its end. A mode is plain data.
 use Rattle.std.specs.Prelude.{◌≡◌, List, [], ◌∷◌, ◌++◌, Option, None, Some, ⊤}
 use Rattle.mh_opts.specs.declared.order.Job.{Job}
-use Rattle.mh_opts.specs.declared.order.Job.TheVariants.{Interpret, InterpretError, ShowAutomaton, ListErrors, CompileErrors}
+use Rattle.mh_opts.specs.declared.order.Job.TheVariants.{Interpret, InterpretError, Session, ShowAutomaton, ListErrors, CompileErrors}
 use Rattle.mh_opts.specs.declared.order.Order.{Order}
 use Rattle.mh_outside.specs.Shelf.{Files}
 use Rattle.mh_report.specs.Automata.{IsAutomatonText}
+use Rattle.mh_grammar.specs.declared.types.Grammar.{Grammar}
+use Rattle.mh_tables.specs.Table.{TableData}
+use Rattle.mh_session.specs.Answers.{Branches}
+use Rattle.mh_replies.specs.Replies.{AnswersLine}
 use Rattle.mh_check.specs.Texts.{compiled_text}
 use Rattle.mh_top.specs.Text.{Text}
 use Rattle.mh_top.specs.Causes.{Staged, Go, Halt}
@@ -42,6 +46,8 @@ pub data Plan : Type 0 where
   Judges : Answering → Plan
   -- it tells at its end what the first line is told, or the empty line, where there is none
   Explains : Prepared → Plan
+  -- it answers each line as a command on the branches that it has, by their histories
+  Serves : Grammar → TableData → Branches → Plan
 
 -- which lines it asks for
 abbrev pub asks_of : Plan → Asks
@@ -49,6 +55,7 @@ asks_of (Ends e) = NoLine
 asks_of (AtEnd p) = NoLine
 asks_of (Judges by) = EachLine
 asks_of (Explains p) = FirstLine
+asks_of (Serves g t branches) = EachLine
 
 -- the text that answers a line, and how the mode stands then; one that asks for none has nothing to say
 abbrev pub Answers : Plan → Text → Text → Plan → Type 0
@@ -56,12 +63,14 @@ Answers (Ends e) line text next = (text ≡ []) × (next ≡ Ends e)
 Answers (AtEnd p) line text next = (text ≡ []) × (next ≡ AtEnd p)
 Answers (Judges by) line text next = AnswersOne by line text × (next ≡ Judges by)
 Answers (Explains p) line text next = (text ≡ []) × (told : Told) × IsTold p line told × (next ≡ Ends (ending_of told))
+Answers (Serves g t branches) line text next = (after : Branches) × AnswersLine g t branches line text after × (next ≡ Serves g t after)
 
 -- how it ends where it writes only at its end
 abbrev pub EndsByJob : Job → Prepared → Ending → Type 0
 EndsByJob Interpret p e = e ≡ record { cause = None; out = [] }
 EndsByJob InterpretError p e = e ≡ record { cause = None; out = [] }
 EndsByJob (CompileErrors file) p e = e ≡ record { cause = None; out = [] }
+EndsByJob Session p e = e ≡ record { cause = None; out = [] }
 EndsByJob ShowAutomaton p e = (e.cause ≡ None) × IsAutomatonText p.grammar p.tabled.automaton (mode_of (source_of p.order)) p.tabled.halting e.out
 EndsByJob ListErrors p e = ListsErrors p.grammar p.tabled.automaton p.tabled.halting e.cause e.out
 
@@ -71,6 +80,7 @@ EndsWith (Ends end) e = e ≡ end
 EndsWith (AtEnd p) e = EndsByJob p.order.job p e
 EndsWith (Judges by) e = e ≡ record { cause = None; out = [] }
 EndsWith (Explains p) e = (told : Told) × IsTold p [] told × (e ≡ ending_of told)
+EndsWith (Serves g t branches) e = e ≡ record { cause = None; out = [] }
 
 -- these lines are answered one after the other by this text
 abbrev pub AnswersAll : Plan → List Text → Text → Plan → Type 0
@@ -95,6 +105,7 @@ lists messages = Ends (record { cause = None; out = compiled_text messages })
 abbrev pub IsPlanOfJob : Job → Option Files → Prepared → Plan → Type 0
 IsPlanOfJob Interpret files p plan = plan ≡ Judges (record { trees = p.order.show_cst; grammar = p.grammar; table = p.tabled.halting })
 IsPlanOfJob InterpretError files p plan = plan ≡ Explains p
+IsPlanOfJob Session files p plan = plan ≡ Serves p.grammar p.tabled.halting []
 IsPlanOfJob ShowAutomaton files p plan = plan ≡ AtEnd p
 IsPlanOfJob (CompileErrors file) files p plan = (s : Staged Messages) × IsFile files (AreMessages p.grammar p.tabled.halting) file s × (plan ≡ plan_by lists s)
 IsPlanOfJob ListErrors files p plan = plan ≡ AtEnd p
@@ -102,6 +113,7 @@ IsPlanOfJob ListErrors files p plan = plan ≡ AtEnd p
 abbrev pub files_of_job : Job → List Text
 files_of_job Interpret = []
 files_of_job InterpretError = []
+files_of_job Session = []
 files_of_job ShowAutomaton = []
 files_of_job ListErrors = []
 files_of_job (CompileErrors file) = file ∷ []
@@ -114,6 +126,7 @@ files_of_mode order = files_of_job order.job
 abbrev pub IsTurnOfJob : Job → Option Files → Prepared → Text → Type 0
 IsTurnOfJob Interpret files p name = ⊥
 IsTurnOfJob InterpretError files p name = ⊥
+IsTurnOfJob Session files p name = ⊥
 IsTurnOfJob ShowAutomaton files p name = ⊥
 IsTurnOfJob (CompileErrors file) files p name = name ≡ file
 IsTurnOfJob ListErrors files p name = ⊥
@@ -123,6 +136,7 @@ abbrev pub IsFixedJob : Job → Type 0
 IsFixedJob Interpret = ⊤
 IsFixedJob InterpretError = ⊤
 IsFixedJob (CompileErrors file) = ⊤
+IsFixedJob Session = ⊤
 IsFixedJob ShowAutomaton = ⊤
 IsFixedJob ListErrors = ⊥
 
@@ -131,3 +145,4 @@ IsFixed (Ends e) = ⊤
 IsFixed (AtEnd p) = IsFixedJob p.order.job
 IsFixed (Judges by) = ⊤
 IsFixed (Explains p) = ⊤
+IsFixed (Serves g t branches) = ⊤

@@ -13,6 +13,7 @@ mod messages;
 mod modes;
 mod order;
 mod prepared;
+mod serving;
 pub mod status;
 mod stop;
 mod tabled;

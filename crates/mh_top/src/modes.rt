@@ -17,6 +17,7 @@ use crate::explaining::Explaining;
 use crate::judging::judge_by;
 use crate::listing::list_errors;
 use crate::prepared::{Prepared, source_of as source_in};
+use crate::serving::serve_on;
 use crate::stop::{Stop, refused};
 use mh_grammar::{Memory, Sequence};
 use mh_opts::Job;
@@ -124,6 +125,7 @@ impl<'a, const W: usize> Mode for AtEnd<'a, W> {
         match &self.prepared.order.job {
             Job::Interpret => Ok(()),
             Job::InterpretError => Ok(()),
+            Job::Session => Ok(()),
             Job::CompileErrors { .. } => Ok(()),
             Job::ShowAutomaton => show_automaton(alloc, self.prepared, out),
             Job::ListErrors => list_errors(alloc, self.prepared, out),
@@ -165,6 +167,7 @@ pub(crate) fn follow<F: Shelf, I: Source, O: Sink, const W: usize>(
             let opened = list_by(alloc, prepared, shelf, file.as_slice());
             drive_opened(alloc, opened, input, out)
         }
+        Job::Session => drive_opened(alloc, serve_on(alloc, prepared), input, out),
         Job::ShowAutomaton => drive(alloc, AtEnd { prepared }, input, out),
         Job::ListErrors => drive(alloc, AtEnd { prepared }, input, out),
     }

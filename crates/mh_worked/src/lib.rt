@@ -20,6 +20,8 @@ mod refused;
 #[cfg(test)]
 mod runs;
 #[cfg(test)]
+mod sessions;
+#[cfg(test)]
 mod several_files;
 #[cfg(test)]
 mod trees;

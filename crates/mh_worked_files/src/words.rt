@@ -9,6 +9,7 @@ fn shown(alloc: Global, order: &Order) -> Result<Vec<u8>, AllocError> {
     let mut text = Vec::new(alloc);
     text.extend_from_slice(match &order.job {
         Job::Interpret => b"interpret",
+        Job::Session => b"session",
         Job::ShowAutomaton => b"show",
         Job::ListErrors => b"list",
         Job::InterpretError => b"explain",

@@ -1,5 +1,5 @@
 use Rattle.std.proofs.Common.{refl, sym, ap, ◌∙◌}
-use Rattle.mh_opts.specs.declared.order.Job.TheVariants.{Interpret, InterpretError, CompileErrors}
+use Rattle.mh_opts.specs.declared.order.Job.TheVariants.{Interpret, InterpretError, Session, CompileErrors}
 use Rattle.mh_top.proofs.Going.{job_followed, opened_calm, opened_followed, opened_read, ran_read, refused_followed, refused_read}
 use Rattle.mh_top.proofs.modes.follow.Goals as goal
 
@@ -28,3 +28,11 @@ pub returns-in-CompileErrors-clause-ran : goal.returns-in-CompileErrors-clause-r
 returns-in-CompileErrors-clause-ran g c =
     opened_followed (g.F.Shelf.files c.args.shelf.now) c.args.prepared.now _ c.if-is_refused.false c.is_refused.ensures _ (CompileErrors c.as_slice.result.now) (c.in-CompileErrors.is ∙ ap CompileErrors (sym c.as_slice.ensures)) _ _ _ _
     c.drive_opened-in-CompileErrors.result c.list_by-opened.result c.list_by-opened.ensures.opens c.drive_opened-in-CompileErrors.ensures.ran
+
+pub returns-in-Session-clause-ran : goal.returns-in-Session-clause-ran
+returns-in-Session-clause-ran g c =
+    opened_followed (g.F.Shelf.files c.args.shelf.now) c.args.prepared.now _ c.if-is_refused.false c.is_refused.ensures _ Session c.in-Session.is _ _ _ _ c.drive_opened-in-Session.result c.serve_on.result c.serve_on.ensures c.drive_opened-in-Session.ensures.ran
+
+pub returns-in-Session-clause-read : goal.returns-in-Session-clause-read
+returns-in-Session-clause-read g c =
+    opened_read _ _ _ c.serve_on.result _ _ _ _ _ _ c.drive_opened-in-Session.result c.serve_on.ensures (opened_calm _ _ c.serve_on.result _ c.serve_on.ensures) c.drive_opened-in-Session.ensures.ran

@@ -1,0 +1,168 @@
+//! Sessions.
+use crate::runs::{check_cases, push_times, run_on};
+use std::alloc::Global;
+use std::test::Fail;
+
+const REPLIES: &str = "0 --session g.mly
+~
+g.mly
+%token A EOF
+%start s
+%%
+s: A EOF {}
+~
+begin a
+offer a A
+fork a b
+resume a
+offer a EOF
+resume a
+resume a
+resume b
+offer b A
+resume b
+offer b A
+forget b
+resume b
+begin a
+tree a
+offer a Z
+~
+a input-needed 0
+a shifting 0 A
+b shifting 0 A
+a input-needed 1
+a shifting 1 EOF
+a about-to-reduce 3 s -> A EOF
+a accepted
+b input-needed 1
+b handling-error 1
+b rejected
+error: wrong phase: rejected
+b forgotten
+error: unknown name
+error: name taken
+a [s: A EOF]
+error: unknown token Z
+~
+^
+0 --session g.mly
+~
+g.mly
+%token A B
+%start p q
+%%
+p: A {}
+q: B {}
+~
+begin a
+
+begin a r
+begin a q
+ begin\tb  p\r
+offer a A
+fork a c
+resume a
+tree a
+resume a
+show c
+offer c B
+tree c
+offer b A
+resume b
+tree b
+fork b d
+resume b
+resume b
+tree b
+fork b b
+fork e b
+forget b
+tree b
+fork d b
+resume d
+show b
+resume
+show b b
+offer z Z
+~
+error: missing start
+error: unreadable
+error: unknown start r
+a input-needed 1
+b input-needed 0
+a handling-error 1
+c handling-error 1
+a rejected
+error: wrong phase: rejected
+error: wrong phase: rejected
+c handling-error 1
+error: wrong phase: handling-error
+error: wrong phase: handling-error
+b shifting 0 A
+b about-to-reduce 2 p -> A
+error: wrong phase: about-to-reduce
+d about-to-reduce 2 p -> A
+b accepted
+error: wrong phase: accepted
+b [p: A]
+error: name taken
+error: unknown name
+b forgotten
+error: unknown name
+b about-to-reduce 2 p -> A
+d accepted
+b about-to-reduce 2 p -> A
+error: unreadable
+error: unreadable
+error: unknown token Z
+~
+";
+
+#[test]
+fn each_reply_is_that_of_its_branch(rt: HostRuntime) -> Result<(), Fail> {
+    check_cases(&rt, rt.alloc(), REPLIES)
+}
+
+/// A list with its items in front.
+const CHAIN: &[u8] = b"%token A B\n%start s\n%%\ns: A s {} | B {}\n";
+
+/// Commands that shift so many tokens `A`.
+fn shifts(alloc: Global, count: usize) -> Result<Vec<u8>, Fail> {
+    let mut commands = b"begin a\n".to_vec(alloc)?;
+    push_times(&mut commands, b"offer a A\nresume a\n", count)?;
+    Ok(commands)
+}
+
+#[test]
+fn a_step_may_be_too_deep(rt: HostRuntime) -> Result<(), Fail> {
+    let alloc = rt.alloc();
+    let mut commands = shifts(alloc, 4000)?;
+    commands.extend_from_slice(b"offer a A\nresume a\nshow a\n")?;
+    let got = run_on(&rt, alloc, "--session g.mly", CHAIN, commands)?;
+    assert_eq!(rt; got.status, 0);
+    assert!(rt;
+        got.out.ends_with(b"\na input-needed 1\na shifting 1 A\nerror: too deep\na shifting 1 A\n")
+    );
+    Ok(())
+}
+
+// Copied stacks would be 2,000,000,000 cells.
+#[test]
+fn half_a_million_forks_of_a_deep_stack(rt: HostRuntime) -> Result<(), Fail> {
+    let alloc = rt.alloc();
+    let mut commands = shifts(alloc, 4000)?;
+    for number in 1..=500_000u32 {
+        let line = format!(in alloc; "fork a n{number}\n")?;
+        commands.extend_from_slice(line.as_bytes())?;
+    }
+    commands.extend_from_slice(b"forget a\nshow n1\nshow n500000\n")?;
+    let got = run_on(&rt, alloc, "--session g.mly", CHAIN, commands)?;
+    assert_eq!(rt; got.status, 0);
+    assert!(rt;
+        got.out.ends_with(
+            b"\nn500000 input-needed 1\na forgotten\nn1 input-needed 1\nn500000 input-needed 1\n"
+        )
+    );
+    Ok(())
+}
