@@ -1,0 +1,58 @@
+-- The comments of sentences, one after another.
+use Rattle.std.proofs.Common.{ℕ, List, [], ◌∷◌, ◌++◌, inl, inr, subst, sym, ◌≡◌, append_assoc, ap, ◌∙◌, refl}
+use Rattle.std.specs.List.{Contains}
+use Rattle.mh_grammar.proofs.Lists.{contains_cases, contains_none}
+use Rattle.mh_grammar.specs.declared.types.Grammar.{Grammar}
+use Rattle.mh_items.specs.Shapes.{Automaton}
+use Rattle.mh_tables.specs.Table.{TableData}
+use Rattle.mh_msgfile.specs.declared.messages.MsgSentence.{MsgSentence}
+use Rattle.mh_check.specs.Checks.{Breaks, FailsIn, FaultFound}
+use Rattle.mh_check.specs.Compiling.{Tells}
+use Rattle.mh_check.specs.declared.compiling.CheckFault.{CheckFault}
+use Rattle.mh_check.specs.declared.compiling.CheckFault.TheVariants as faults
+use Rattle.mh_update.specs.declared.comments.Comment.{Comment}
+use Rattle.mh_update.specs.Updates.{AreComments, FirstUnfit, IsComment}
+
+told_more : (fault : CheckFault) (P Q : FaultFound → Type 0) → ((f : FaultFound) → P f → Q f) → Tells fault P → Tells fault Q
+told_more (faults.NotRefused line verdict) P Q more told = more _ told
+told_more (faults.RefusedEarly line at) P Q more told = more _ told
+told_more (faults.SharedState first second state) P Q more told = more _ told
+told_more faults.Memory P Q more told = tt
+
+module _ (g : Grammar) (a : Automaton) (t : TableData) where
+  pub comments_push : (xs : List MsgSentence) (cs : List Comment) (x : MsgSentence) (c : Comment) → AreComments g a t xs cs → IsComment g a t x c → AreComments g a t (xs ++ x ∷ []) (cs ++ c ∷ [])
+  comments_push [] [] x c are is = (is, tt)
+  comments_push [] (d ∷ cs) x c are is = absurd are
+  comments_push (y ∷ xs) [] x c are is = absurd are
+  comments_push (y ∷ xs) (d ∷ cs) x c are is = (are.0, comments_push xs cs x c are.1 is)
+
+  fails_of : (x : MsgSentence) (c : Comment) → IsComment g a t x c → (s : ℕ) × FailsIn t x s
+  fails_of x c is = (is.1.state, is.1.fails)
+
+  fail_each : (xs : List MsgSentence) (cs : List Comment) → AreComments g a t xs cs → (y : MsgSentence) → Contains xs y → (s : ℕ) × FailsIn t y s
+  fail_each [] cs are y c = absurd (contains_none y c)
+  fail_each (x ∷ xs) [] are y c = absurd are
+  fail_each (x ∷ xs) (d ∷ cs) are y c = elim (contains_cases x xs y c) [
+    | inl e ↦ subst (λ (z : MsgSentence). (s : ℕ) × FailsIn t z s) e (fails_of x d are.0)
+    | inr i ↦ fail_each xs cs are.1 y i
+  ]
+
+  pub unfit_here : (done : List MsgSentence) (cs : List Comment) (x : MsgSentence) (fault : CheckFault) → AreComments g a t done cs → Tells fault (Breaks t [] x) → Tells fault (FirstUnfit t (done ++ x ∷ []))
+  unfit_here done cs x fault are told = told_more fault (Breaks t [] x) (FirstUnfit t (done ++ x ∷ [])) (λ f breaks. record {
+    before = done;
+    sentence = x;
+    later = [];
+    order = refl;
+    fail = fail_each done cs are;
+    breaks = breaks;
+  }) told
+
+pub unfit_more : (t : TableData) (xs ys : List MsgSentence) (fault : CheckFault) → Tells fault (FirstUnfit t xs) → Tells fault (FirstUnfit t (xs ++ ys))
+unfit_more t xs ys fault told = told_more fault (FirstUnfit t xs) (FirstUnfit t (xs ++ ys)) (λ f first. record {
+  before = first.before;
+  sentence = first.sentence;
+  later = first.later ++ ys;
+  order = ap (λ (l : List MsgSentence). l ++ ys) first.order ∙ append_assoc first.before (first.sentence ∷ first.later) ys;
+  fail = first.fail;
+  breaks = first.breaks;
+}) told
