@@ -8,7 +8,7 @@ use Rattle.mh_opts.specs.declared.options.Mode.{Mode}
 use Rattle.mh_opts.specs.declared.options.Mode.TheVariants as mode
 use Rattle.mh_opts.specs.declared.options.Need.{Need}
 use Rattle.mh_opts.specs.declared.options.Opt.{Opt}
-use Rattle.mh_opts.specs.declared.options.TheConstants.{COMPILE_ERRORS, GRAMMARS, INTERPRET_SHOW_CST, NEEDS, NO_STDLIB, STRICT}
+use Rattle.mh_opts.specs.declared.options.TheConstants.{COMPILE_ERRORS, GRAMMARS, INTERPRET_SHOW_CST, MESSAGES, NEEDS, NO_STDLIB, STRICT}
 use Rattle.mh_opts.specs.declared.order.Job.{Job}
 use Rattle.mh_opts.specs.declared.order.Job.TheVariants as job
 use Rattle.mh_opts.specs.declared.order.Order.{Order}
@@ -83,6 +83,7 @@ order_for rows mode = record {
   strict = is_given STRICT.now rows;
   stdlib = not (is_given NO_STDLIB.now rows);
   show_cst = is_given INTERPRET_SHOW_CST.now rows;
+  messages = first_of MESSAGES.now rows;
 }
 
 abbrev pub order_with : List Row → Mode → Option Text → Result Order UsageFault

@@ -20,6 +20,8 @@ pub(crate) const NO_STDLIB: &str = "no-stdlib";
 
 pub(crate) const COMPILE_ERRORS: &str = "compile-errors";
 
+pub(crate) const MESSAGES: &str = "messages";
+
 /// What is to be done, without the values that stand behind its words: a constant holds nothing that owns memory.
 #[derive(Clone, Copy)]
 pub enum Mode {
@@ -47,7 +49,7 @@ pub struct Need<T> {
     pub needs: T,
 }
 
-const OPTIONS: [Opt<&str>; 9] = [
+const OPTIONS: [Opt<&str>; 10] = [
     Opt {
         name: INTERPRET,
         action: ArgAction::SetTrue,
@@ -79,6 +81,11 @@ const OPTIONS: [Opt<&str>; 9] = [
         mode: Some(Mode::CompileErrors),
     },
     Opt {
+        name: MESSAGES,
+        action: ArgAction::Set,
+        mode: None,
+    },
+    Opt {
         name: INTERPRET_SHOW_CST,
         action: ArgAction::SetTrue,
         mode: None,
@@ -96,10 +103,16 @@ const OPTIONS: [Opt<&str>; 9] = [
 ];
 
 /// The first that stands without what it needs is the one that is told.
-const NEEDS: [Need<&str>; 1] = [Need {
-    option: INTERPRET_SHOW_CST,
-    needs: INTERPRET,
-}];
+const NEEDS: [Need<&str>; 2] = [
+    Need {
+        option: INTERPRET_SHOW_CST,
+        needs: INTERPRET,
+    },
+    Need {
+        option: MESSAGES,
+        needs: INTERPRET,
+    },
+];
 
 /// The options.
 pub(crate) fn options<'a>() -> &'a [Opt<&'a str>]

@@ -35,6 +35,8 @@ pub struct Order {
     pub stdlib: bool,
     /// `--interpret-show-cst`: trees of what is accepted.
     pub show_cst: bool,
+    /// `--messages FILE`: the messages of what is refused.
+    pub messages: Option<Name>,
 }
 
 /// Why words are no order: the first of these faults, in the order of the variants.

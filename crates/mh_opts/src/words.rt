@@ -2,15 +2,15 @@
 ghost use Rattle.std.specs.Prelude.{◌≡◌, IfOk, Ok, not, option_map, map, string_bytes};
 ghost use Rattle.clap.specs.Takes as clap;
 ghost use Rattle.clap.specs.Walk.{is_empty};
-ghost use Rattle.clap.specs.Words.{found_of, rows_of};
+ghost use Rattle.clap.specs.Words.{first_of, found_of, rows_of};
 ghost use Rattle.mh_opts.specs.Orders as orders;
 ghost use Rattle.mh_opts.specs.Orders.{Answers, grammars_of, job_for, lacks, misplaced_in, mode_at, mode_in, needs, order_in, order_of, plain_need, written};
 ghost use Rattle.mh_opts.specs.App.{options, plain};
 
 use crate::command::menhir_command;
 use crate::options::{
-    COMPILE_ERRORS, GRAMMARS, INTERPRET_SHOW_CST, Mode, NO_STDLIB, Need, Opt, STRICT, needs,
-    options,
+    COMPILE_ERRORS, GRAMMARS, INTERPRET_SHOW_CST, MESSAGES, Mode, NO_STDLIB, Need, Opt, STRICT,
+    needs, options,
 };
 use crate::order::{Job, Order, UsageFault};
 use clap::ArgMatches;
@@ -56,6 +56,16 @@ fn only_mode(matches: &ArgMatches<'_>) -> Result<Mode, UsageFault>
         }
     }
     found.ok_or(UsageFault::NoMode)
+}
+
+/// The value that stands behind an option.
+fn value_of(alloc: Global, matches: &ArgMatches<'_>, name: &str) -> Result<Option<Name>, Memory>
+    ensures { IfOk result (λ value. value ≡ first_of name.now (rows_of (found_of matches.now))) }
+{
+    match matches.get_str(name) {
+        Some(value) => Ok(Some(from_bytes(alloc, value.as_bytes())?)),
+        None => Ok(None),
+    }
 }
 
 /// The file that stands behind an option.
@@ -158,13 +168,17 @@ fn both<A: Drop, B: Drop>(
 fn order_for(alloc: Global, matches: &ArgMatches<'_>, mode: Mode) -> Result<Order, Memory>
     ensures { IfOk result (λ order. order ≡ orders.order_for (rows_of (found_of matches.now)) mode) }
 {
-    let (job, grammars) = both(job_of(alloc, matches, mode), grammars(alloc, matches))?;
+    let (job, (grammars, messages)) = both(
+        job_of(alloc, matches, mode),
+        both(grammars(alloc, matches), value_of(alloc, matches, MESSAGES)),
+    )?;
     Ok(Order {
         job,
         grammars,
         strict: is_given(matches, STRICT),
         stdlib: !is_given(matches, NO_STDLIB),
         show_cst: is_given(matches, INTERPRET_SHOW_CST),
+        messages,
     })
 }
 

@@ -15,7 +15,7 @@ use Rattle.mh_top.specs.Text.{Text, too_long}
 use Rattle.mh_top.specs.TableStage.{mode_of, source_of}
 use Rattle.mh_top.specs.Verdicts.{Answering}
 use Rattle.mh_top.specs.Listing.{Lists, TooLong}
-use Rattle.mh_top.specs.Plan.{Ending, Plan, Ends, AtEnd, Judges, Explains, Serves, ending_of, Answers, EndsByJob, EndsWith, IsFixed, IsFixedJob, IsPlanOfJob, IsTurnOfJob, halts, lists, plan_by}
+use Rattle.mh_top.specs.Plan.{Ending, Plan, Ends, AtEnd, Judges, Explains, Serves, ending_of, Answers, EndsByJob, EndsWith, IsFixed, IsFixedJob, IsPlanOfJob, IsTurnOfJob, halts, judges, lists, plan_by}
 use Rattle.mh_top.specs.Causes.{Staged, Go, Halt}
 use Rattle.mh_top.specs.MessagesStage.{Messages}
 use Rattle.mh_top.specs.FileStage.{IsFound, loaded}
@@ -26,7 +26,7 @@ use Rattle.mh_top.specs.declared.explaining.Told.{Told}
 use Rattle.mh_top.specs.declared.explaining.Told.TheVariants.{Entry, Not}
 use Rattle.mh_top.proofs.Answering.{one_once}
 use Rattle.mh_top.proofs.Telling.{told_once}
-use Rattle.mh_top.proofs.Messaging.{StagedRight, file_messages_once, messages_right, some_messages, unread_halts}
+use Rattle.mh_top.proofs.Messaging.{StagedRight, file_messages_once, for_unread_halts, messages_for_once, messages_for_right, messages_right, some_messages, some_messages_for, unread_halts}
 use Rattle.mh_top.proofs.Binding.{IsOne}
 use Rattle.mh_top.proofs.Refusals.{list_cause_once}
 
@@ -38,7 +38,7 @@ pub record Runs (p : Prepared) : Type 0 where
   pub grammar : p.tabled.halting.grammar ≡ plain_of p.grammar
 
 pub some_plan : (job : Job) (files : Option Files) (p : Prepared) → Runs p → (plan : Plan) × IsPlanOfJob job files p plan
-some_plan Interpret files p runs = (_, refl)
+some_plan Interpret files p runs = let s = some_messages_for p runs.halts runs.grammar p.order.messages files in (plan_by (judges p) s.0, (s.0, s.1, refl))
 some_plan InterpretError files p runs = (_, refl)
 some_plan Session files p runs = (_, refl)
 some_plan ShowAutomaton files p runs = (_, refl)
@@ -46,7 +46,7 @@ some_plan (CompileErrors file) files p runs = let s = some_messages p.grammar p.
 some_plan ListErrors files p runs = (_, refl)
 
 pub job_once : (job : Job) (files : Files) (p : Prepared) → IsOne (IsPlanOfJob job (Some files) p)
-job_once Interpret files p x y is so = is ∙ sym so
+job_once Interpret files p x y is so = is.2 ∙ ap (plan_by (judges p)) (messages_for_once p p.order.messages files is.0 so.0 is.1 so.1) ∙ sym so.2
 job_once InterpretError files p x y is so = is ∙ sym so
 job_once Session files p x y is so = is ∙ sym so
 job_once ShowAutomaton files p x y is so = is ∙ sym so
@@ -55,7 +55,7 @@ job_once ListErrors files p x y is so = is ∙ sym so
 
 -- a file whose turn has come, and which gives no bytes, ends the work
 pub turn_halts : (job : Job) (files : Files) (p : Prepared) (name : Text) (what : Found) (cause : Cause) (plan : Plan) → IsTurnOfJob job (Some files) p name → IsFound (Some files) name what → loaded name what ≡ Halt cause → IsPlanOfJob job (Some files) p plan → plan ≡ halts cause
-turn_halts Interpret files p name what cause plan turn found halt is = absurd turn
+turn_halts Interpret files p name what cause plan turn found halt is = is.2 ∙ ap (plan_by (judges p)) (for_unread_halts p p.order.messages files name what cause is.0 turn found halt is.1)
 turn_halts Session files p name what cause plan turn found halt is = absurd turn
 turn_halts ShowAutomaton files p name what cause plan turn found halt is = absurd turn
 turn_halts (CompileErrors file) files p name what cause plan turn found halt is =
@@ -71,9 +71,13 @@ module _ (Has : Grammar → TableData → Type 0) where
   lists_not (Go messages) by is = cc
   lists_not (Halt cause) by is = cc
 
+  judges_has : (p : Prepared) (s : Staged (Option Messages)) (by : Answering) → Judges by ≡ plan_by (judges p) s → Has p.grammar p.tabled.halting → Has by.grammar by.table
+  judges_has p (Go messages) by is has = judged (record { trees = p.order.show_cst; grammar = p.grammar; table = p.tabled.halting; messages = messages }) by is has
+  judges_has p (Halt cause) by is has = absurd (cc)
+
   -- what judges, judges by the table
   pub job_judges : (job : Job) (files : Option Files) (p : Prepared) (by : Answering) → Has p.grammar p.tabled.halting → IsPlanOfJob job files p (Judges by) → Has by.grammar by.table
-  job_judges Interpret files p by has is = judged (record { trees = p.order.show_cst; grammar = p.grammar; table = p.tabled.halting }) by is has
+  job_judges Interpret files p by has is = judges_has p is.0 by is.2 has
   job_judges InterpretError files p by has is = absurd (cc)
   job_judges Session files p by has is = absurd (cc)
   job_judges ShowAutomaton files p by has is = absurd (cc)
@@ -152,12 +156,16 @@ module _ (Right : Cause → Type 0) where
 
   -- any mode may refuse
   module _ (may_refuse : (line : Text) → Right (Refused line)) where
+    judged_right : (p : Prepared) (s : Staged (Option Messages)) → StagedRight Right s → EndsRight (plan_by (judges p) s)
+    judged_right p (Go messages) right = tt
+    judged_right p (Halt cause) right = right
+
     staged_right : (s : Staged Messages) → StagedRight Right s → EndsRight (plan_by lists s)
     staged_right (Go messages) right = tt
     staged_right (Halt cause) right = right
 
     pub job_right : (job : Job) (files : Option Files) (p : Prepared) (plan : Plan) → FilesRight job files p → IsPlanOfJob job files p plan → EndsRight plan
-    job_right Interpret files p plan of_file is = subst EndsRight (sym is) tt
+    job_right Interpret files p plan of_file is = subst EndsRight (sym is.2) (judged_right p is.0 (messages_for_right p Right may_refuse p.order.messages files is.0 of_file is.1))
     job_right InterpretError files p plan of_file is = subst EndsRight (sym is) tt
     job_right Session files p plan of_file is = subst EndsRight (sym is) tt
     job_right ShowAutomaton files p plan of_file is = subst EndsRight (sym is) tt

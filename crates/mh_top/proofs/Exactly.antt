@@ -46,10 +46,11 @@ use Rattle.mh_top.specs.GrammarStage.{IsGrammarStage}
 use Rattle.mh_top.specs.TableStage.{HasTooMany, IsAutomatonStage, IsResolvedStage, IsTableStage, mode_of, source_of}
 use Rattle.mh_msgfile.specs.Sentences.{LineFound}
 use Rattle.mh_msgfile.proofs.Below.{sentence_start}
-use Rattle.mh_top.specs.Verdicts.{Answering, FoundBy, SentenceText, verdict_text, outcome_text}
+use Rattle.mh_top.specs.Verdicts.{Answering, FoundBy, SentenceText, behind_refusal, verdict_text, outcome_text}
+use Rattle.mh_top.specs.MessagesStage.{Messages}
 use Rattle.mh_top.specs.Plan.{Judges, halts}
 use Rattle.mh_top.specs.Work.{Work, IsFront, IsPlanUnless, IsPrepared, IsTabledFront, IsWork, IsWorkOf, has_warning}
-use Rattle.mh_top.specs.Exact.{IsLR1, AnswersSentence, Accepts, IsTooDeepText, ShowsTree, AcceptsExactly, RejectsRightly, OvershootsRightly, AcceptsRightly, TooDeepExactly}
+use Rattle.mh_top.specs.Exact.{IsLR1, AnswersSentence, Accepts, Rejects, IsTooDeepText, ShowsTree, AcceptsExactly, RejectsRightly, OvershootsRightly, AcceptsRightly, TooDeepExactly}
 use Rattle.mh_top.specs.declared.prepared.Front.{Front}
 use Rattle.mh_top.specs.Shapes.{Prepared, Tabled}
 use Rattle.mh_top.specs.declared.stop.Cause.{Cause}
@@ -132,22 +133,22 @@ module _ (words : List Text) (files : Option Files) where
       at (Go front) here rest = of_table front (front_range front here) rest.0 rest.1 rest.2
       at (Halt cause) here same = absurd (cc)
 
-abbrev by : Bool → Grammar → TableData → Answering
-by trees g t = record { trees = trees; grammar = g; table = t }
+abbrev by : Bool → Grammar → TableData → Option Messages → Answering
+by trees g t messages = record { trees = trees; grammar = g; table = t; messages = messages }
 
-module _ (warnings : Text) (trees : Bool) (g : Grammar) (t : TableData) where
+module _ (warnings : Text) (trees : Bool) (g : Grammar) (t : TableData) (messages : Option Messages) where
   abbrev work : Work
-  work = record { warnings = warnings; plan = Judges (by trees g t) }
+  work = record { warnings = warnings; plan = Judges (by trees g t messages) }
 
-  of_plan : (refused : Bool) (files : Option Files) (p : Prepared) → IsTabled p.grammar p.tabled.halting → IsPlanUnless refused files p (Judges (by trees g t)) → IsTabled g t
+  of_plan : (refused : Bool) (files : Option Files) (p : Prepared) → IsTabled p.grammar p.tabled.halting → IsPlanUnless refused files p (Judges (by trees g t messages)) → IsTabled g t
   of_plan true files p has is = absurd (cc)
-  of_plan false files p has is = job_judges IsTabled p.order.job files p (by trees g t) has is
+  of_plan false files p has is = job_judges IsTabled p.order.job files p (by trees g t messages) has is
 
   pub asked_tabled : (words : List Text) (files : Option Files) → IsWork words files work → IsTabled g t
   asked_tabled words files asked = at asked.0 asked.1 asked.2
     where
       no_halt : (cause : Cause) → work ≡ record { warnings = []; plan = halts cause } → ⊥
-      no_halt cause e = let same : Judges (by trees g t) ≡ halts cause = ap (λ (w : Work). w.plan) e in absurd (cc)
+      no_halt cause e = let same : Judges (by trees g t messages) ≡ halts cause = ap (λ (w : Work). w.plan) e in absurd (cc)
 
       at : (s : Staged Prepared) → IsPrepared words files s → IsWorkOf files s work → IsTabled g t
       at (Go p) prepared is = of_plan (p.order.strict && has_warning p.tabled.conflicts) files p (prepared_tabled words files p prepared) is.1
@@ -239,55 +240,55 @@ Leaves true g t s read text = (tree : SyntaxTree) × (text ≡ codes "ACCEPT\n" 
 data Shown (trees : Bool) (g : Grammar) (t : TableData) (s : Sentence) (text : Text) : Type 0 where
   Accept : (read : ℕ) → VerdictOf t s.start s.tokens (Accepted read) → Accepts trees g text → Leaves trees g t s read text → Shown trees g t s text
   Overshoot : (state : ℕ) → VerdictOf t s.start s.tokens (Overshot state) → text ≡ codes "OVERSHOOT\n" → Shown trees g t s text
-  Reject : (at state : ℕ) → VerdictOf t s.start s.tokens (Rejected at state) → text ≡ codes "REJECT\n" → Shown trees g t s text
+  Reject : (at state : ℕ) (rest : Text) → VerdictOf t s.start s.tokens (Rejected at state) → text ≡ codes "REJECT\n" ++ rest → Shown trees g t s text
   TooDeep : IsTooDeepText trees text → Shown trees g t s text
 
 module _ (g : Grammar) (t : TableData) (s : Sentence) (text : Text) where
-  of_verdict : (how : Ended) → VerdictOf t s.start s.tokens how → text ≡ verdict_text how → Shown false g t s text
-  of_verdict (Accepted read) verdict e = Accept read verdict e tt
-  of_verdict (Overshot state) verdict e = Overshoot state verdict e
-  of_verdict (Rejected at state) verdict e = Reject at state verdict e
+  of_verdict : (messages : Option Messages) (how : Ended) → VerdictOf t s.start s.tokens how → text ≡ verdict_text messages how → Shown false g t s text
+  of_verdict messages (Accepted read) verdict e = Accept read verdict e tt
+  of_verdict messages (Overshot state) verdict e = Overshoot state verdict e
+  of_verdict messages (Rejected at state) verdict e = Reject at state (behind_refusal messages state) verdict e
 
-  of_outcome : (outcome : TreeEnding) → IsTreeEnding t s.start s.tokens outcome → text ≡ outcome_text g outcome → Shown true g t s text
-  of_outcome (AcceptedTree read tree) is e = Accept read (is.0.left.steps, is.0.left.ends) (tree, e) (tree, e, is.0)
-  of_outcome (OvershotTree state) is e = Overshoot state is.0 e
-  of_outcome (RejectedTree at state) is e = Reject at state is.0 e
-  of_outcome DeepTree is e = TooDeep e
+  of_outcome : (messages : Option Messages) (outcome : TreeEnding) → IsTreeEnding t s.start s.tokens outcome → text ≡ outcome_text g messages outcome → Shown true g t s text
+  of_outcome messages (AcceptedTree read tree) is e = Accept read (is.0.left.steps, is.0.left.ends) (tree, e) (tree, e, is.0)
+  of_outcome messages (OvershotTree state) is e = Overshoot state is.0 e
+  of_outcome messages (RejectedTree at state) is e = Reject at state (behind_refusal messages state) is.0 e
+  of_outcome messages DeepTree is e = TooDeep e
 
-  shown : (trees : Bool) → SentenceText trees g t s text → Shown trees g t s text
-  shown false said = of_verdict said.0 said.1 said.2
-  shown true said = of_outcome said.0 said.1 said.2
+  shown : (trees : Bool) (messages : Option Messages) → SentenceText trees g t messages s text → Shown trees g t s text
+  shown false messages said = of_verdict messages said.0 said.1 said.2
+  shown true messages said = of_outcome messages said.0 said.1 said.2
 
-  deep_so : (outcome : TreeEnding) → IsTreeEnding t s.start s.tokens outcome → text ≡ outcome_text g outcome → (text ≡ codes "TOODEEP\n") ↔ IsTooDeep t s.start s.tokens
-  deep_so (AcceptedTree read tree) is e = (λ deep. absurd (differ text 65 84 (ap first e) (ap first deep) (omega arith)), λ deep. absurd (is.1 deep))
-  deep_so (OvershotTree state) is e = (λ deep. absurd (differ text 79 84 (ap first e) (ap first deep) (omega arith)), λ deep. absurd (is.1 deep))
-  deep_so (RejectedTree at state) is e = (λ deep. absurd (differ text 82 84 (ap first e) (ap first deep) (omega arith)), λ deep. absurd (is.1 deep))
-  deep_so DeepTree is e = (λ deep. is, λ deep. e)
+  deep_so : (messages : Option Messages) (outcome : TreeEnding) → IsTreeEnding t s.start s.tokens outcome → text ≡ outcome_text g messages outcome → (text ≡ codes "TOODEEP\n") ↔ IsTooDeep t s.start s.tokens
+  deep_so messages (AcceptedTree read tree) is e = (λ deep. absurd (differ text 65 84 (ap first e) (ap first deep) (omega arith)), λ deep. absurd (is.1 deep))
+  deep_so messages (OvershotTree state) is e = (λ deep. absurd (differ text 79 84 (ap first e) (ap first deep) (omega arith)), λ deep. absurd (is.1 deep))
+  deep_so messages (RejectedTree at state) is e = (λ deep. absurd (differ text 82 84 (ap first e) (ap first deep) (omega arith)), λ deep. absurd (is.1 deep))
+  deep_so messages DeepTree is e = (λ deep. is, λ deep. e)
 
   module _ (trees : Bool) where
     accepted : Shown trees g t s text → Accepts trees g text → (read : ℕ) × VerdictOf t s.start s.tokens (Accepted read) × Leaves trees g t s read text
     accepted (Accept read verdict e leaves) is = (read, verdict, leaves)
     accepted (Overshoot state verdict e) is = absurd (differ text 65 79 (first_accepts trees g text is) (ap first e) (omega arith))
-    accepted (Reject at state verdict e) is = absurd (differ text 65 82 (first_accepts trees g text is) (ap first e) (omega arith))
+    accepted (Reject at state rest verdict e) is = absurd (differ text 65 82 (first_accepts trees g text is) (ap first e) (omega arith))
     accepted (TooDeep deep) is = absurd (differ text 65 84 (first_accepts trees g text is) (first_deep trees text deep) (omega arith))
 
     overshot_at : Shown trees g t s text → text ≡ codes "OVERSHOOT\n" → (state : ℕ) × VerdictOf t s.start s.tokens (Overshot state)
     overshot_at (Accept read verdict e leaves) is = absurd (differ text 65 79 (first_accepts trees g text e) (ap first is) (omega arith))
     overshot_at (Overshoot state verdict e) is = (state, verdict)
-    overshot_at (Reject at state verdict e) is = absurd (differ text 79 82 (ap first is) (ap first e) (omega arith))
+    overshot_at (Reject at state rest verdict e) is = absurd (differ text 79 82 (ap first is) (ap first e) (omega arith))
     overshot_at (TooDeep deep) is = absurd (differ text 79 84 (ap first is) (first_deep trees text deep) (omega arith))
 
-    rejected_at : Shown trees g t s text → text ≡ codes "REJECT\n" → (at : ℕ) × (state : ℕ) × VerdictOf t s.start s.tokens (Rejected at state)
-    rejected_at (Accept read verdict e leaves) is = absurd (differ text 65 82 (first_accepts trees g text e) (ap first is) (omega arith))
-    rejected_at (Overshoot state verdict e) is = absurd (differ text 79 82 (ap first e) (ap first is) (omega arith))
-    rejected_at (Reject at state verdict e) is = (at, state, verdict)
-    rejected_at (TooDeep deep) is = absurd (differ text 82 84 (ap first is) (first_deep trees text deep) (omega arith))
+    rejected_at : Shown trees g t s text → Rejects text → (at : ℕ) × (state : ℕ) × VerdictOf t s.start s.tokens (Rejected at state)
+    rejected_at (Accept read verdict e leaves) is = absurd (differ text 65 82 (first_accepts trees g text e) (ap first is.1) (omega arith))
+    rejected_at (Overshoot state verdict e) is = absurd (differ text 79 82 (ap first e) (ap first is.1) (omega arith))
+    rejected_at (Reject at state rest verdict e) is = (at, state, verdict)
+    rejected_at (TooDeep deep) is = absurd (differ text 82 84 (ap first is.1) (first_deep trees text deep) (omega arith))
 
     -- where the verdict is that it is accepted
     accepts_or_deep : (read : ℕ) → VerdictOf t s.start s.tokens (Accepted read) → Shown trees g t s text → Accepts trees g text ⊎ IsTooDeepText trees text
     accepts_or_deep read is (Accept read' verdict e leaves) = inl e
     accepts_or_deep read is (Overshoot state verdict e) = let same = one_ending t (initial s.start s.tokens) (Overshot state) (Accepted read) verdict is in absurd (cc)
-    accepts_or_deep read is (Reject at state verdict e) = let same = one_ending t (initial s.start s.tokens) (Rejected at state) (Accepted read) verdict is in absurd (cc)
+    accepts_or_deep read is (Reject at state rest verdict e) = let same = one_ending t (initial s.start s.tokens) (Rejected at state) (Accepted read) verdict is in absurd (cc)
     accepts_or_deep read is (TooDeep deep) = inr deep
 
 -- the tree of the run is one of the grammar
@@ -300,16 +301,16 @@ shows_tree g t is s text true read leaves =
 
 module _ (words : List Text) (files : Option Files) (trees : Bool) (g : Grammar) (s : Sentence) (text : Text) (by : AnswersSentence words files trees g s text) where
   is : IsTabled g by.table
-  is = asked_tabled by.warnings trees g by.table words files by.asked
+  is = asked_tabled by.warnings trees g by.table by.messages words files by.asked
 
   known : s.start < length g.starts
   known = sentence_start g by.line s by.sentence
 
-  said : SentenceText trees g by.table s text
-  said = subst (λ (f : LineFound). FoundBy (SentenceText trees g by.table) f text) by.sentence by.answer
+  said : SentenceText trees g by.table by.messages s text
+  said = subst (λ (f : LineFound). FoundBy (SentenceText trees g by.table by.messages) f text) by.sentence by.answer
 
   how : Shown trees g by.table s text
-  how = shown g by.table s text trees said
+  how = shown g by.table s text trees by.messages said
 
   accepts_read : IsLR1 g → Accepts trees g text → (read : ℕ) × IsPrefixSentence (plain_of g) s.start s.tokens read
   accepts_read lr1 e = let p = accepted g by.table s text trees how e in (p.0, (accepts g by.table is s.start known lr1 s.tokens p.0).0 p.1)
@@ -322,7 +323,7 @@ module _ (words : List Text) (files : Option Files) (trees : Bool) (g : Grammar)
       let p = accepted g by.table s text trees how e in
       (p.0, accepts_rightly g by.table is s.start known s.tokens p.0 p.1, shows_tree g by.table is s text trees p.0 p.2)
 
-  refused : IsLR1 g → text ≡ codes "REJECT\n" → (at : ℕ) × (at < length s.tokens) × (BeginsSentence (plain_of g) s.start (take (at + 1) s.tokens) → ⊥)
+  refused : IsLR1 g → Rejects text → (at : ℕ) × (at < length s.tokens) × (BeginsSentence (plain_of g) s.start (take (at + 1) s.tokens) → ⊥)
   refused lr1 e =
       let p = rejected_at g by.table s text trees how e in
       (p.0, (verdict_cut by.table s.start s.tokens p.0 p.1 p.2).0, λ b. rejects g by.table is s.start known lr1 s.tokens p.0 p.1 p.2 b)
@@ -344,4 +345,4 @@ module _ (words : List Text) (files : Option Files) where
   all_rightly trees g s text by e = rightly words files trees g s text by e
 
   pub deep_exactly : TooDeepExactly words files
-  deep_exactly g s text by = let text_is = said words files true g s text by in deep_so g by.table s text text_is.0 text_is.1 text_is.2
+  deep_exactly g s text by = let text_is = said words files true g s text by in deep_so g by.table s text by.messages text_is.0 text_is.1 text_is.2

@@ -1,5 +1,5 @@
 -- Messages files: what their bytes come to is one thing, and something.
-use Rattle.std.proofs.Common.{◌≡◌, ◌⊎◌, inl, inr, ℕ, ◌<◌, ◌≤◌, ◌^◌, List, length, Option, None, Some, refl, sym, ◌∙◌, ap, subst, arith}
+use Rattle.std.proofs.Common.{◌≡◌, ◌⊎◌, inl, inr, ℕ, ◌<◌, ◌≤◌, ◌^◌, List, length, Option, None, Some, Err, refl, sym, ◌∙◌, ap, subst, arith}
 use Rattle.mh_grammar.specs.declared.types.Grammar.{Grammar}
 use Rattle.mh_grammar.specs.Plain.{PlainGrammar, plain_of}
 use Rattle.mh_tables.specs.Table.{TableData}
@@ -15,16 +15,22 @@ use Rattle.mh_check.proofs.Once as checked
 use Rattle.mh_check.proofs.Either.{compiled_or_fault}
 use Rattle.mh_outside.specs.Shelf.{Files, Found, NoFile, Long, Bytes, file_at, found}
 use Rattle.mh_top.specs.Text.{Text}
-use Rattle.mh_top.specs.Causes.{Staged, Go, Halt, Then, On}
+use Rattle.mh_top.specs.Causes.{Staged, Go, Halt, Then, Gives, On}
 use Rattle.mh_top.specs.FileStage.{IsFile, IsFound, IsLoaded, file_limit, loaded}
 use Rattle.mh_top.specs.MessagesStage.{AreMessages, AreMessagesOf, Messages}
 use Rattle.mh_top.specs.declared.stop.Cause.{Cause}
 use Rattle.mh_top.specs.declared.stop.Cause.TheVariants.{Refused}
+use Rattle.mh_top.specs.Modes.{Opens}
+use Rattle.mh_top.specs.Plan.{Plan, MessagesFor, plan_by}
+use Rattle.mh_top.specs.Stages.{FilesGive}
+use Rattle.mh_top.specs.declared.stop.Stop.{Stop}
+use Rattle.mh_top.specs.declared.stop.Stop.TheVariants.{Halted, ShelfFailed, InputFailed, WriteFailed, OutOfMemory}
+use Rattle.mh_top.specs.Shapes.{Prepared}
 use Rattle.mh_top.proofs.Binding.{IsOne, then_once}
 use Rattle.mh_top.proofs.Loads.{found_fits}
 
 -- where it halts, it may
-abbrev pub StagedRight : (Cause → Type 0) → Staged Messages → Type 0
+abbrev pub StagedRight : {A : Type 0} → (Cause → Type 0) → Staged A → Type 0
 StagedRight Right (Go messages) = Unit {0}
 StagedRight Right (Halt cause) = Right cause
 
@@ -100,3 +106,44 @@ module _ (g : Grammar) (t : TableData) (halts : HaltingFacts t) (same : t.gramma
   pub some_messages : (files : Option Files) (name : Text) → (s : Staged Messages) × IsFile files (AreMessages g t) name s
   some_messages None name = (Halt _, (loaded name Long, (Long, tt, refl), refl))
   some_messages (Some files) name = some_found files name (found files name file_limit) refl
+
+-- ---- the messages that an order names
+
+module _ (p : Prepared) where
+  some_named : (files : Option Files) (name : Text) (first : Staged Messages) → IsFile files (AreMessages p.grammar p.tabled.halting) name first → (s : Staged (Option Messages)) × MessagesFor (Some name) files p s
+  some_named files name (Go messages) is = (Go (Some messages), (Go messages, is, refl))
+  some_named files name (Halt cause) is = (Halt cause, (Halt cause, is, refl))
+
+  pub some_messages_for : HaltingFacts p.tabled.halting → p.tabled.halting.grammar ≡ plain_of p.grammar → (named : Option Text) (files : Option Files) → (s : Staged (Option Messages)) × MessagesFor named files p s
+  some_messages_for halts same None files = (Go None, refl)
+  some_messages_for halts same (Some name) files = let s = some_messages p.grammar p.tabled.halting halts same files name in some_named files name s.0 s.1
+
+  pub messages_for_once : (named : Option Text) (files : Files) → IsOne (MessagesFor named (Some files) p)
+  messages_for_once None files = λ s r is so. is ∙ sym so
+  messages_for_once (Some name) files =
+      then_once (IsFile (Some files) (AreMessages p.grammar p.tabled.halting) name) (λ messages. Gives (Some messages)) (file_messages_once p.grammar p.tabled.halting files name) (λ messages s r is so. is ∙ sym so)
+
+  pub for_unread_halts : (named : Option Text) (files : Files) (name : Text) (what : Found) (cause : Cause) (s : Staged (Option Messages)) → named ≡ Some name → IsFound (Some files) name what → loaded name what ≡ Halt cause → MessagesFor named (Some files) p s → s ≡ Halt cause
+  for_unread_halts None files name what cause s turn found halt is = absurd (cc)
+  for_unread_halts (Some other) files name what cause s turn found halt is =
+      let same : name ≡ other = cc in
+      let first : is.0 ≡ Halt cause =
+      unread_halts p.grammar p.tabled.halting files other what cause is.0 (subst (λ (n : Text). IsFound (Some files) n what) same found) (subst (λ (n : Text). loaded n what ≡ Halt cause) same halt) is.1 in
+      subst (λ (f : Staged Messages). On f (λ messages. Gives (Some messages)) s) first is.2
+
+  module _ (Right : Cause → Type 0) (may_refuse : (line : Text) → Right (Refused line)) where
+    named_right : (first : Staged Messages) (s : Staged (Option Messages)) → StagedRight Right first → On first (λ messages. Gives (Some messages)) s → StagedRight Right s
+    named_right (Go messages) s right on = subst (StagedRight Right) (sym on) tt
+    named_right (Halt cause) s right on = subst (StagedRight Right) (sym on) right
+
+    pub messages_for_right : (named : Option Text) (files : Option Files) (s : Staged (Option Messages)) → ((name : Text) (what : Found) (cause : Cause) → named ≡ Some name → IsFound files name what → loaded name what ≡ Halt cause → Right cause) → MessagesFor named files p s → StagedRight Right s
+    messages_for_right None files s unread is = subst (StagedRight Right) (sym is) tt
+    messages_for_right (Some name) files s unread is = named_right is.0 s (messages_right p.grammar p.tabled.halting Right may_refuse files name is.0 (λ what cause found halt. unread name what cause refl found halt) is.1) is.2
+
+-- what a stage that reads files gives, as a mode is opened by it
+pub stage_opens : {A M : Type 0} (Has : Staged A → Type 0) (Names : Text → Type 0) (StandsFor : M → Plan → Type 0) (by : A → Plan) (stop : Stop) → FilesGive Has Names (Err stop) → Opens StandsFor (λ plan. (s : Staged A) × Has s × (plan ≡ plan_by by s)) Names (Err stop)
+stage_opens Has Names StandsFor by (Halted cause) has = (Halt cause, has, refl)
+stage_opens Has Names StandsFor by (ShelfFailed name) has = has
+stage_opens Has Names StandsFor by OutOfMemory has = tt
+stage_opens Has Names StandsFor by InputFailed has = absurd has
+stage_opens Has Names StandsFor by WriteFailed has = absurd has

@@ -13,6 +13,7 @@ use Rattle.mh_tables.specs.TreeRuns.{IsTooDeep}
 use Rattle.mh_outside.specs.Shelf.{Files}
 use Rattle.mh_top.specs.Text.{Text}
 use Rattle.mh_msgfile.specs.Sentences.{IsSentence, sentence_in, vocabulary_of}
+use Rattle.mh_top.specs.MessagesStage.{Messages}
 use Rattle.mh_top.specs.Verdicts.{AnswersOne}
 use Rattle.mh_top.specs.Plan.{Judges}
 use Rattle.mh_top.specs.Work.{IsWork}
@@ -23,20 +24,25 @@ pub record IsLR1 (g : Grammar) : Type 0 where
   pub canonical : IsCanonical (plain_of g) automaton
   pub clear : HasNoConflicts g automaton
 
--- The words ask for verdicts by a table of the grammar, with trees or without, and the text answers a line that is this
+-- The words ask for verdicts by a table of the grammar, with trees or without, with messages or without, and the text answers a line that is this
 -- sentence.
 pub record AnswersSentence (words : List Text) (files : Option Files) (trees : Bool) (g : Grammar) (s : Sentence) (text : Text) : Type 0 where
   pub table : TableData
+  pub messages : Option Messages
   pub warnings : Text
-  pub asked : IsWork words files (record { warnings = warnings; plan = Judges (record { trees = trees; grammar = g; table = table }) })
+  pub asked : IsWork words files (record { warnings = warnings; plan = Judges (record { trees = trees; grammar = g; table = table; messages = messages }) })
   pub line : Text
   pub sentence : sentence_in (vocabulary_of g) line ≡ IsSentence s
-  pub answer : AnswersOne (record { trees = trees; grammar = g; table = table }) line text
+  pub answer : AnswersOne (record { trees = trees; grammar = g; table = table; messages = messages }) line text
 
 -- the text accepts a line; with trees it has one line more
 abbrev pub Accepts : Bool → Grammar → Text → Type 0
 Accepts false g text = text ≡ codes "ACCEPT\n"
 Accepts true g text = (tree : SyntaxTree) × (text ≡ codes "ACCEPT\n" ++ text_of g tree ++ codes "\n")
+
+-- the text refuses a line; with messages more stands behind it
+abbrev pub Rejects : Text → Type 0
+Rejects text = (rest : Text) × (text ≡ codes "REJECT\n" ++ rest)
 
 -- with trees, the text may also say that they are too deep
 abbrev pub IsTooDeepText : Bool → Text → Type 0
@@ -59,7 +65,7 @@ AcceptsExactly words files = (trees : Bool) (g : Grammar) (s : Sentence) (text :
 -- And REJECT answers a line only where no sentence begins with its tokens up to one of them.
 abbrev pub RejectsRightly : List Text → Option Files → Type 0
 RejectsRightly words files = (trees : Bool) (g : Grammar) (s : Sentence) (text : Text) → AnswersSentence words files trees g s text → IsLR1 g →
-    text ≡ codes "REJECT\n" → (at : ℕ) × (at < length s.tokens) × (BeginsSentence (plain_of g) s.start (take (at + 1) s.tokens) → ⊥)
+    Rejects text → (at : ℕ) × (at < length s.tokens) × (BeginsSentence (plain_of g) s.start (take (at + 1) s.tokens) → ⊥)
 
 -- By any grammar each of whose nonterminals derives some word, OVERSHOOT answers a line only where some sentence begins
 -- with its tokens.

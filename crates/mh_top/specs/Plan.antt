@@ -11,7 +11,7 @@ use Rattle.mh_session.specs.Answers.{Branches}
 use Rattle.mh_replies.specs.Replies.{AnswersLine}
 use Rattle.mh_check.specs.Texts.{compiled_text}
 use Rattle.mh_top.specs.Text.{Text}
-use Rattle.mh_top.specs.Causes.{Staged, Go, Halt}
+use Rattle.mh_top.specs.Causes.{Staged, Go, Halt, Then, Gives}
 use Rattle.mh_top.specs.FileStage.{IsFile}
 use Rattle.mh_top.specs.MessagesStage.{Messages, AreMessages}
 use Rattle.mh_top.specs.Explained.{IsTold}
@@ -101,9 +101,18 @@ plan_by plan (Halt cause) = halts cause
 abbrev pub lists : Messages → Plan
 lists messages = Ends (record { cause = None; out = compiled_text messages })
 
+-- the messages that an order names, where it names a file of them
+abbrev pub MessagesFor : Option Text → Option Files → Prepared → Staged (Option Messages) → Type 0
+MessagesFor None files p s = Gives None s
+MessagesFor (Some name) files p s = Then (IsFile files (AreMessages p.grammar p.tabled.halting) name) (λ messages. Gives (Some messages)) s
+
+-- it answers each line with its verdict
+abbrev pub judges : Prepared → Option Messages → Plan
+judges p messages = Judges (record { trees = p.order.show_cst; grammar = p.grammar; table = p.tabled.halting; messages = messages })
+
 -- the mode of a job; from here on a mode may read files of its own
 abbrev pub IsPlanOfJob : Job → Option Files → Prepared → Plan → Type 0
-IsPlanOfJob Interpret files p plan = plan ≡ Judges (record { trees = p.order.show_cst; grammar = p.grammar; table = p.tabled.halting })
+IsPlanOfJob Interpret files p plan = (s : Staged (Option Messages)) × MessagesFor p.order.messages files p s × (plan ≡ plan_by (judges p) s)
 IsPlanOfJob InterpretError files p plan = plan ≡ Explains p
 IsPlanOfJob Session files p plan = plan ≡ Serves p.grammar p.tabled.halting []
 IsPlanOfJob ShowAutomaton files p plan = plan ≡ AtEnd p
@@ -118,13 +127,17 @@ files_of_job ShowAutomaton = []
 files_of_job ListErrors = []
 files_of_job (CompileErrors file) = file ∷ []
 
+abbrev pub messages_file : Option Text → List Text
+messages_file None = []
+messages_file (Some name) = name ∷ []
+
 -- the files that the mode of an order reads behind the warnings
 abbrev pub files_of_mode : Order → List Text
-files_of_mode order = files_of_job order.job
+files_of_mode order = files_of_job order.job ++ messages_file order.messages
 
 -- the turn of one of them has come
 abbrev pub IsTurnOfJob : Job → Option Files → Prepared → Text → Type 0
-IsTurnOfJob Interpret files p name = ⊥
+IsTurnOfJob Interpret files p name = p.order.messages ≡ Some name
 IsTurnOfJob InterpretError files p name = ⊥
 IsTurnOfJob Session files p name = ⊥
 IsTurnOfJob ShowAutomaton files p name = ⊥

@@ -8,8 +8,7 @@ ghost use Rattle.mh_top.specs.Prepared.{IsFit};
 ghost use Rattle.mh_top.specs.Stages.{ShelfCounts};
 
 use crate::drive::{Asks, Mode, write_text};
-use crate::files::read_file;
-use crate::messages::MessagesFiles;
+use crate::messages::read_messages_file;
 use crate::prepared::Prepared;
 use crate::stop::Stop;
 use mh_check::{Compiled, compiled_text};
@@ -69,13 +68,8 @@ pub(crate) fn list_by<F: Shelf, const W: usize>(
     ensures counts { ShelfCounts (F.faults shelf.old) (F.faults shelf.new) result }
     ensures kept { F.files shelf.new ≡ F.files shelf.old }
 {
-    let halting = &prepared.tabled.halting;
-    halting.table().facts();
-    let files = MessagesFiles {
-        grammar: &prepared.grammar,
-        table: halting,
-    };
-    match read_file(alloc, shelf, &files, file) {
+    prepared.tabled.halting.table().facts();
+    match read_messages_file(alloc, prepared, shelf, file) {
         Ok(compiled) => Ok(writing(alloc, &compiled)?),
         Err(stop) => Err(stop),
     }

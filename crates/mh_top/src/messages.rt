@@ -1,18 +1,22 @@
 //! Messages files: read, spelled, and checked against the table.
-ghost use Rattle.std.specs.Prelude.{◌≡◌, ◌<◌, ◌^◌, length};
+ghost use Rattle.std.specs.Prelude.{◌≡◌, ◌<◌, ◌≤◌, ◌^◌, length};
 ghost use Rattle.mh_grammar.specs.Plain.{plain_of};
 ghost use Rattle.mh_msgfile.specs.Messages.{AreOf, Tells as TellsFile};
 ghost use Rattle.mh_check.specs.Compiling.{Tells};
 ghost use Rattle.mh_check.specs.Texts.{file_line, check_line};
 ghost use Rattle.mh_top.specs.MessagesStage.{AreMessages, AreMessagesOf};
-ghost use Rattle.mh_top.specs.Stages.{Halts, StageHas};
+ghost use Rattle.mh_top.specs.FileStage.{IsFile};
+ghost use Rattle.mh_top.specs.Prepared.{IsFit};
+ghost use Rattle.mh_top.specs.Stages.{FilesGive, Halts, ShelfCounts, StageHas};
 ghost use Rattle.mh_top.specs.declared.stop.Cause.TheVariants.{Refused as Refused'};
 
-use crate::files::Spelling;
+use crate::files::{Spelling, read_file};
+use crate::prepared::Prepared;
 use crate::stop::{Cause, Stop};
 use mh_check::{CheckFault, Compiled, check_fault_line, compile, file_fault_line};
 use mh_grammar::{Grammar, Memory, Sequence};
 use mh_msgfile::{MsgFault, MsgFile, read_messages};
+use mh_outside::Shelf;
 use mh_tables::Halting;
 use std::alloc::Global;
 
@@ -93,4 +97,26 @@ impl Spelling<Compiled> for MessagesFiles<'_> {
     fn spell(&self, alloc: Global, name: &[u8], bytes: &[u8]) -> Result<Compiled, Stop> {
         messages_in(alloc, self, name, bytes)
     }
+}
+
+/// The messages of the named file, against what is prepared.
+pub(crate) fn read_messages_file<F: Shelf, const W: usize>(
+    alloc: Global,
+    prepared: &Prepared<W>,
+    shelf: &mut F,
+    name: &[u8],
+) -> Result<Compiled, Stop>
+    requires few { W ≤ 8 }
+    requires fit { IsFit prepared.now }
+    requires asked { F.MayAsk shelf.old name.now }
+    ensures messages { FilesGive (IsFile (F.files shelf.old) (AreMessages prepared.now.grammar prepared.now.tabled.halting) name.now)
+        (λ other. other ≡ name.now) result }
+    ensures counts { ShelfCounts (F.faults shelf.old) (F.faults shelf.new) result }
+    ensures kept { F.files shelf.new ≡ F.files shelf.old }
+{
+    let files = MessagesFiles {
+        grammar: &prepared.grammar,
+        table: &prepared.tabled.halting,
+    };
+    read_file(alloc, shelf, &files, name)
 }

@@ -155,7 +155,7 @@ pub(crate) fn follow<F: Shelf, I: Source, O: Sink, const W: usize>(
         return Err(refused(alloc, b"", b"", b""));
     }
     match &prepared.order.job {
-        Job::Interpret => drive_opened(alloc, judge_by(alloc, prepared), input, out),
+        Job::Interpret => drive_opened(alloc, judge_by(alloc, prepared, shelf), input, out),
         Job::InterpretError => {
             let mode = Explaining {
                 prepared,

@@ -1,4 +1,4 @@
-//! Messages files, compiled.
+//! Messages files: compiled, and said of what is refused.
 use crate::runs::{Fails, check_cases, check_cases_with, run, run_on};
 use std::alloc::Global;
 use std::process::Abort;
@@ -219,6 +219,78 @@ No sentence begins with B.
 ~
 ";
 
+// What is refused has its state's message, or none; the file is read and checked before the first line is asked for.
+const SAID: &str = "0 --interpret --messages m g.mly
+~
+m
+EOF
+
+M
+~
+EOF
+A A
+A EOF
+A
+A Z
+~
+REJECT
+M
+REJECT
+no message for state 1
+ACCEPT
+OVERSHOOT
+ERROR unknown token Z
+~
+^
+0 --interpret --interpret-show-cst --messages m g.mly
+~
+m
+A A
+
+Expected
+EOF.
+~
+A EOF
+A A
+~
+ACCEPT
+[s: A EOF]
+REJECT
+Expected
+EOF.
+~
+^
+1 --interpret --messages m g.mly
+input 1
+~
+m
+EOF
+
+M
+
+EOF
+
+N
+~
+EOF
+~
+~
+menhir: m:5: state 0 is shared with line 1
+^
+3 --interpret --messages m g.mly
+~
+EOF
+~
+~
+menhir: cannot read m
+^
+2 --compile-errors m --messages m g.mly
+~
+~
+~
+menhir: usage: misplaced --messages
+";
+
 /// A list of errors with a message put in for each place.
 fn with_messages(alloc: Global, list: &str) -> Result<Vec<u8>, Fail> {
     let mut text = Vec::new(alloc);
@@ -288,6 +360,11 @@ fn compiled(rt: HostRuntime) -> Result<(), Fail> {
 #[test]
 fn grammars(rt: HostRuntime) -> Result<(), Fail> {
     check_cases(&rt, rt.alloc(), GRAMMARS)
+}
+
+#[test]
+fn said_of_refusals(rt: HostRuntime) -> Result<(), Fail> {
+    check_cases_with(&rt, rt.alloc(), SHARED, SAID)
 }
 
 #[test]

@@ -11,11 +11,11 @@ returns-then-is_refused-clause-read g c = refused_read _ _ c.refused.result c.re
 
 pub returns-in-Interpret-clause-ran : goal.returns-in-Interpret-clause-ran
 returns-in-Interpret-clause-ran g c =
-    opened_followed (g.F.Shelf.files c.args.shelf.now) c.args.prepared.now _ c.if-is_refused.false c.is_refused.ensures _ Interpret c.in-Interpret.is _ _ _ _ c.drive_opened.result c.judge_by.result c.judge_by.ensures c.drive_opened.ensures.ran
+    opened_followed (g.F.Shelf.files c.args.shelf.now) c.args.prepared.now _ c.if-is_refused.false c.is_refused.ensures _ Interpret c.in-Interpret.is _ _ _ _ c.drive_opened.result c.judge_by.result c.judge_by.ensures.opens c.drive_opened.ensures.ran
 
 pub returns-in-Interpret-clause-read : goal.returns-in-Interpret-clause-read
 returns-in-Interpret-clause-read g c =
-    opened_read _ _ _ c.judge_by.result _ _ _ _ _ _ c.drive_opened.result c.judge_by.ensures (opened_calm _ _ c.judge_by.result _ c.judge_by.ensures) c.drive_opened.ensures.ran
+    opened_read _ _ _ c.judge_by.result _ _ _ _ _ _ c.drive_opened.result c.judge_by.ensures.opens c.judge_by.ensures.counts c.drive_opened.ensures.ran
 
 pub returns-in-InterpretError-clause-ran : goal.returns-in-InterpretError-clause-ran
 returns-in-InterpretError-clause-ran g c =
