@@ -1,15 +1,13 @@
 -- What goes along with a run, step by step.
-use Rattle.std.proofs.Common.{◌≡◌, ℕ, zero, suc, ◌+◌, inl, inr, List, [], length, Option, Some, None, true, false, refl, ap, arith, ◌∙◌}
-use Rattle.std.proofs.lemmas.Bool.{cases_lt}
+use Rattle.std.proofs.Common.{◌≡◌, ℕ, zero, suc, ◌+◌, List, length, Option, Some, None, refl, ap, arith, ◌∙◌}
 use Rattle.mh_grammar.specs.Plain.{rhs_of}
 use Rattle.mh_tables.specs.Table.{TableData}
-use Rattle.mh_tables.specs.Run.{Config, Move, Accepts, Asks, Refuses, Shifts, Reduces, move_of, top_of, reduce, step, goes_to, Ends, Ending, next_of, after}
+use Rattle.mh_tables.specs.Run.{Config, Move, Reduces, move_of, top_of, reduce, step, goes_to, next_of, after}
 use Rattle.mh_tables.specs.Halting.{look_list}
 use Rattle.mh_tables.proofs.Reductions.{move_at_next}
 use Rattle.mh_tables.proofs.Ending.{step_moves}
 use Rattle.mh_run.specs.code.Following.{Following, along, along_after}
-use Rattle.mh_run.specs.code.Settled.{left_with, standing, Leads, SettlesDeep}
-use Rattle.mh_tables.proofs.Accepted.{EndsBy, step_ends}
+use Rattle.mh_run.specs.code.Settled.{left_with, standing, Leads}
 
 -- one more step
 pub after_one_more : (t : TableData) (n : ℕ) (c : Config) → after t (suc n) c ≡ next_of (after t n c) (step t (after t n c))
@@ -31,31 +29,9 @@ module _ {S : Type 0} (f : Following S) (t : TableData) where
   along_add zero m c s = let e : zero + m ≡ m = omega arith in rw e refl
   along_add (suc n) m c s = let e : suc n + m ≡ suc (n + m) = omega arith in rw e (along_add n m (next_of c (step t c)) (along f t (move_of t (top_of c.stack) c.left) c.left s))
 
-  -- where a run has ended the value stays
-  stays : (m : Move) (c : Config) (how : Ending) (left : List ℕ) (s : S) → EndsBy m c how → along f t m left s ≡ s
-  stays Accepts c how left s e = refl
-  stays Asks c how left s e = refl
-  stays Refuses c how left s e = refl
-  stays (Shifts j) c how left s e = absurd e
-  stays (Reduces p) c how left s e = absurd e
-
-  pub along_ended : (n : ℕ) (c : Config) (how : Ending) (s : S) → step t c ≡ Ends how → along_after f t n c s ≡ s
-  along_ended zero c how s e = refl
-  along_ended (suc n) c how s e =
-      let same : along f t (move_of t (top_of c.stack) c.left) c.left s ≡ s = stays _ c how c.left s (step_ends t c how e) in
-      ap (along_after f t n (next_of c (step t c))) same ∙ ap (λ x. along_after f t n (next_of c x) s) e ∙ along_ended n c how s e
-
   -- no reduction was made yet
-  pub leads_none : (look : Option ℕ) (old : List ℕ) (before : S) → f.deep before ≡ false → Leads f t look 0 old old before before
-  leads_none look old before d = record {
-    there = λ read rest. refl;
-    value = λ read rest. refl;
-    fits = λ read rest n le. let e : n ≡ zero = omega arith in rw e d;
-  }
-
-  -- the value is not too deep
-  pub leads_fits : (look : Option ℕ) (n : ℕ) (old stack : List ℕ) (before now : S) → Leads f t look n old stack before now → f.deep now ≡ false
-  leads_fits look n old stack before now h = rw (h.value 0 []) at (h.fits 0 [] n (omega arith))
+  pub leads_none : (look : Option ℕ) (old : List ℕ) (before : S) → Leads f t look 0 old old before before
+  leads_none look old before = record { there = λ read rest. refl; value = λ read rest. refl }
 
   module _ (look : Option ℕ) (n : ℕ) (old stack : List ℕ) (before s : S) (h : Leads f t look n old stack before s) (p : ℕ) (m : move_of t (top_of stack) (look_list look) ≡ Reduces p) where
     -- the value after one more
@@ -67,21 +43,12 @@ module _ {S : Type 0} (f : Following S) (t : TableData) where
         ∙ ap (along f t (move_of t (top_of stack) (left_with look rest)) (left_with look rest)) (h.value read rest)
         ∙ ap (λ (x : Move). along f t x (left_with look rest) s) (move_with t (top_of stack) look rest ∙ m)
 
-    pub leads_more : (new : List ℕ) → reduce t p stack ≡ Some new → f.deep (f.reduced s (length (rhs_of t.grammar p)) p) ≡ false
-        → Leads f t look (suc n) old new before (f.reduced s (length (rhs_of t.grammar p)) p)
-    leads_more new is d = record {
+    pub leads_more : (new : List ℕ) → reduce t p stack ≡ Some new → Leads f t look (suc n) old new before (f.reduced s (length (rhs_of t.grammar p)) p)
+    leads_more new is = record {
       there = λ read rest.
           let here : Config = standing stack read look rest in
           after_one_more t n (standing old read look rest)
           ∙ ap (λ (c : Config). next_of c (step t c)) (h.there read rest)
           ∙ ap (next_of here) (step_moves t here (Reduces p) (move_with t (top_of stack) look rest ∙ m) ∙ ap (goes_to here) is);
       value = value_more;
-      fits = λ read rest k le.
-          elim (cases_lt k (suc n)) [
-            | inl lt ↦ h.fits read rest k (omega arith)
-            | inr ge ↦ (let e : k ≡ suc n = omega arith in rw (e, value_more read rest) d)
-          ];
     }
-
-    pub leads_deep : f.deep (f.reduced s (length (rhs_of t.grammar p)) p) ≡ true → SettlesDeep f t look old before
-    leads_deep d = record { count = suc n; deep = λ read rest. rw (value_more read rest) d }

@@ -1,19 +1,14 @@
 -- One token after another.
-use Rattle.std.proofs.Common.{◌≡◌, ℕ, zero, suc, ◌+◌, ◌-◌, ◌<◌, ◌≤◌, inl, inr, List, [], ◌∷◌, ◌++◌, length, drop, get_or, Some, None, Option, true, false, refl, ap, sym, arith, ◌∙◌}
-use Rattle.std.proofs.lemmas.Bool.{cases_lt}
+use Rattle.std.proofs.Common.{◌≡◌, ℕ, suc, ◌+◌, ◌-◌, ◌<◌, ◌≤◌, List, [], ◌∷◌, ◌++◌, length, drop, get_or, Some, None, Option, refl, ap, sym, arith, ◌∙◌}
 use Rattle.std.proofs.lemmas.List.{drop_more, drop_all, get_or_default}
-use Rattle.mh_tables.specs.declared.parts.Action.{Action}
-use Rattle.mh_tables.specs.declared.parts.Action.TheVariants as actions
-use Rattle.mh_tables.specs.declared.parts.Fallback.{Fallback}
-use Rattle.mh_tables.specs.declared.parts.Fallback.TheVariants as fallbacks
-use Rattle.mh_tables.specs.Table.{TableData, fallback_of, cell_of}
+use Rattle.mh_tables.specs.Table.{TableData}
 use Rattle.mh_tables.specs.Facts.{Facts}
-use Rattle.mh_tables.specs.Run.{Config, Move, Asks, Refuses, Shifts, move_of, move_of_action, move_by_default, top_of, IsRunStack, Ends, step, step_by, next_of, after, Ending, initial}
+use Rattle.mh_tables.specs.Run.{Config, Move, Shifts, move_of, top_of, IsRunStack, Ends, step, step_by, next_of, after, Ending, initial}
 use Rattle.mh_tables.proofs.Reductions.{move_at_next, after-add}
 use Rattle.mh_tables.proofs.Ending.{step_moves, run_shift, run_begins}
-use Rattle.mh_run.specs.code.Following.{Following, along, along_after, RunsSo, RunsDeep}
-use Rattle.mh_run.specs.code.Settled.{left_with, standing, SettlesTo, SettlesDeep}
-use Rattle.mh_run.proofs.Along.{after_one_more, along_one_more, along_add, along_ended}
+use Rattle.mh_run.specs.code.Following.{Following, along, along_after, RunsSo}
+use Rattle.mh_run.specs.code.Settled.{left_with, standing, SettlesTo}
+use Rattle.mh_run.proofs.Along.{after_one_more, along_one_more, along_add}
 
 -- nothing is left past the end
 pub none_left : (w : List ℕ) (read : ℕ) → length w ≤ read → drop read w ≡ []
@@ -37,17 +32,15 @@ pub record SoFar {S : Type 0} (f : Following S) (t : TableData) (start : ℕ) (w
   pub steps : ℕ
   pub there : after t steps (initial start w) ≡ at stack read (drop read w)
   pub value : along_after f t steps (initial start w) first ≡ s
-  pub fits : (n : ℕ) → n ≤ steps → f.deep (along_after f t n (initial start w) first) ≡ false
 
 module _ {S : Type 0} (f : Following S) (t : TableData) (start : ℕ) (w : List ℕ) (first : S) where
-  pub so_far_none : (stack : List ℕ) → start < length t.grammar.starts → stack ≡ start ∷ [] → f.deep first ≡ false → SoFar f t start w first stack 0 first
-  so_far_none stack lt e d =
+  pub so_far_none : (stack : List ℕ) → start < length t.grammar.starts → stack ≡ start ∷ [] → SoFar f t start w first stack 0 first
+  so_far_none stack lt e =
       rw e (record {
         run = run_begins t start lt;
         steps = 0;
         there = refl;
         value = refl;
-        fits = λ n le. let z : n ≡ zero = omega arith in rw z d;
       })
 
   module _ (stack : List ℕ) (read : ℕ) (s : S) (h : SoFar f t start w first stack read s) where
@@ -58,9 +51,6 @@ module _ {S : Type 0} (f : Following S) (t : TableData) (start : ℕ) (w : List 
         ∙ ap (λ (x : Config). along_after f t k x (along_after f t h.steps (initial start w) first)) (h.there ∙ e)
         ∙ ap (along_after f t k c) h.value
 
-    deep_here : f.deep s ≡ false
-    deep_here = rw h.value at (h.fits h.steps (omega arith))
-
     -- after the reductions that come next
     pub so_far_settled : (look : Option ℕ) (rest new : List ℕ) (now : S) (m : Move) → drop read w ≡ left_with look rest → SettlesTo f t look stack new s now m → SoFar f t start w first new read now
     so_far_settled look rest new now m e r =
@@ -70,15 +60,7 @@ module _ {S : Type 0} (f : Following S) (t : TableData) (start : ℕ) (w : List 
           steps = h.steps + r.count;
           there = after-add t h.steps r.count (initial start w) ∙ ap (after t r.count) (h.there ∙ here) ∙ r.leads.there read rest ∙ ap (at new read) (sym e);
           value = behind (standing stack read look rest) r.count here ∙ r.leads.value read rest;
-          fits = λ n le.
-              elim (cases_lt n (h.steps + 1)) [
-                | inl lt ↦ h.fits n (omega arith)
-                | inr ge ↦ (let k : n ≡ h.steps + (n - h.steps) = omega arith in rw (k, behind (standing stack read look rest) (n - h.steps) here) (r.leads.fits read rest (n - h.steps) (omega arith)))
-              ];
         }
-
-    pub so_far_deep : (look : Option ℕ) (rest : List ℕ) → drop read w ≡ left_with look rest → SettlesDeep f t look stack s → RunsDeep f t start w first
-    so_far_deep look rest e r = (h.steps + r.count, rw (behind (standing stack read look rest) r.count (ap (at stack read) e)) (r.deep read rest))
 
     module _ (z j : ℕ) (rest : List ℕ) (e : drop read w ≡ z ∷ rest) (m : move_of t (top_of stack) (z ∷ []) ≡ Shifts j) where
       shifts : move_of t (top_of stack) (z ∷ rest) ≡ Shifts j
@@ -91,8 +73,8 @@ module _ {S : Type 0} (f : Following S) (t : TableData) (start : ℕ) (w : List 
           ∙ ap (along f t (move_of t (top_of stack) (z ∷ rest)) (z ∷ rest)) h.value
           ∙ ap (λ (x : Move). along f t x (z ∷ rest) s) shifts
 
-      pub so_far_shifted : Facts t → rest ≡ drop (read + 1) w → f.deep (f.shifted s z) ≡ false → SoFar f t start w first (stack ++ j ∷ []) (read + 1) (f.shifted s z)
-      so_far_shifted facts r d = record {
+      pub so_far_shifted : Facts t → rest ≡ drop (read + 1) w → SoFar f t start w first (stack ++ j ∷ []) (read + 1) (f.shifted s z)
+      so_far_shifted facts r = record {
         run = run_shift t facts stack z j rest h.run shifts;
         steps = suc h.steps;
         there =
@@ -101,32 +83,13 @@ module _ {S : Type 0} (f : Following S) (t : TableData) (start : ℕ) (w : List 
             ∙ ap (next_of (at stack read (z ∷ rest))) (step_moves t (at stack read (z ∷ rest)) (Shifts j) shifts)
             ∙ ap (at (stack ++ j ∷ []) (read + 1)) r;
         value = value_shifted;
-        fits = λ n le.
-            elim (cases_lt n (suc h.steps)) [
-              | inl lt ↦ h.fits n (omega arith)
-              | inr ge ↦ (let k : n ≡ suc h.steps = omega arith in rw (k, value_shifted) d)
-            ];
       }
-
-      pub so_far_shift_deep : f.deep (f.shifted s z) ≡ true → RunsDeep f t start w first
-      so_far_shift_deep d = (suc h.steps, rw value_shifted d)
 
     -- an ending
     pub so_far_ends : (m : Move) (how : Ending) → move_of t (top_of stack) (drop read w) ≡ m → step_by t (at stack read (drop read w)) m ≡ Ends how → RunsSo f t start w first how s
     so_far_ends m how e ended =
         let ends : step t (at stack read (drop read w)) ≡ Ends how = step_moves t (at stack read (drop read w)) m e ∙ ended in
-        record {
-          steps = h.steps;
-          ends = ap (step t) h.there ∙ ends;
-          value = h.value;
-          fits = λ n.
-              elim (cases_lt n (h.steps + 1)) [
-                | inl lt ↦ h.fits n (omega arith)
-                | inr ge ↦ (
-                    let k : n ≡ h.steps + (n - h.steps) = omega arith in
-                    rw (k, behind (at stack read (drop read w)) (n - h.steps) refl, along_ended f t (n - h.steps) (at stack read (drop read w)) how s ends) deep_here)
-              ];
-        }
+        record { steps = h.steps; ends = ap (step t) h.there ∙ ends; value = h.value }
 
 -- an ending on a token
 pub turn_ends : {S : Type 0} (f : Following S) (t : TableData) (start : ℕ) (w : List ℕ) (first : S) (old new : List ℕ) (read z : ℕ) (before now : S) (m : Move) (how : Ending) → SoFar f t start w first old read before
@@ -138,20 +101,10 @@ turn_ends f t start w first old new read z before now m how h lt e s ended =
 
 -- a shift
 pub turn_shifts : {S : Type 0} (f : Following S) (t : TableData) (facts : Facts t) (start : ℕ) (w : List ℕ) (first : S) (old new : List ℕ) (read z j : ℕ) (before now : S) → SoFar f t start w first old read before
-    → read < length w → z ≡ get_or w read 0 → SettlesTo f t (Some z) old new before now (Shifts j) → f.deep (f.shifted now z) ≡ false → SoFar f t start w first (new ++ j ∷ []) (read + 1) (f.shifted now z)
-turn_shifts f t facts start w first old new read z j before now h lt e s d =
+    → read < length w → z ≡ get_or w read 0 → SettlesTo f t (Some z) old new before now (Shifts j) → SoFar f t start w first (new ++ j ∷ []) (read + 1) (f.shifted now z)
+turn_shifts f t facts start w first old new read z j before now h lt e s =
     let left = next_is w read z lt e in
-    so_far_shifted f t start w first new read now (so_far_settled f t start w first old read before h (Some z) (drop (read + 1) w) new now (Shifts j) left s) z j (drop (read + 1) w) left s.next facts refl d
-
-pub turn_shifts_deep : {S : Type 0} (f : Following S) (t : TableData) (start : ℕ) (w : List ℕ) (first : S) (old new : List ℕ) (read z j : ℕ) (before now : S) → SoFar f t start w first old read before
-    → read < length w → z ≡ get_or w read 0 → SettlesTo f t (Some z) old new before now (Shifts j) → f.deep (f.shifted now z) ≡ true → RunsDeep f t start w first
-turn_shifts_deep f t start w first old new read z j before now h lt e s d =
-    let left = next_is w read z lt e in
-    so_far_shift_deep f t start w first new read now (so_far_settled f t start w first old read before h (Some z) (drop (read + 1) w) new now (Shifts j) left s) z j (drop (read + 1) w) left s.next d
-
-pub turn_deep : {S : Type 0} (f : Following S) (t : TableData) (start : ℕ) (w : List ℕ) (first : S) (old : List ℕ) (read z : ℕ) (before : S) → SoFar f t start w first old read before → read < length w → z ≡ get_or w read 0
-    → SettlesDeep f t (Some z) old before → RunsDeep f t start w first
-turn_deep f t start w first old read z before h lt e s = so_far_deep f t start w first old read before h (Some z) (drop (read + 1) w) (next_is w read z lt e) s
+    so_far_shifted f t start w first new read now (so_far_settled f t start w first old read before h (Some z) (drop (read + 1) w) new now (Shifts j) left s) z j (drop (read + 1) w) left s.next facts refl
 
 -- an ending with no token left
 pub last_ends : {S : Type 0} (f : Following S) (t : TableData) (start : ℕ) (w : List ℕ) (first : S) (old new : List ℕ) (read : ℕ) (before now : S) (m : Move) (how : Ending) → SoFar f t start w first old read before → length w ≤ read
@@ -160,7 +113,3 @@ last_ends f t start w first old new read before now m how h le s ended =
     let left = none_left w read le in
     so_far_ends f t start w first new read now (so_far_settled f t start w first old read before h None [] new now m left s) m how (ap (move_of t (top_of new)) left ∙ s.next)
     (rw left ended)
-
-pub last_deep : {S : Type 0} (f : Following S) (t : TableData) (start : ℕ) (w : List ℕ) (first : S) (old : List ℕ) (read : ℕ) (before : S) → SoFar f t start w first old read before → length w ≤ read
-    → SettlesDeep f t None old before → RunsDeep f t start w first
-last_deep f t start w first old read before h le s = so_far_deep f t start w first old read before h None [] (none_left w read le) s

@@ -1,4 +1,3 @@
 pub mod Trace
-pub mod TreeRuns
 pub mod Verdicts
 pub mod code

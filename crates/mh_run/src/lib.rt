@@ -1,4 +1,4 @@
-//! Verdicts of sentences on a table, and the runs behind them, with their last reductions or their trees.
+//! Verdicts of sentences on a table, and the runs behind them, with their last reductions.
 #![tactic(auto)]
 
 mod follow;
@@ -6,9 +6,7 @@ mod outcome;
 mod runs;
 mod settle;
 mod tracing;
-mod tree_run;
 
 pub use outcome::Verdict;
 pub use runs::verdict;
 pub use tracing::trace;
-pub use tree_run::{TreeOutcome, run_with_trees};

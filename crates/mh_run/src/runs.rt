@@ -1,11 +1,10 @@
 //! Runs on whole sentences.
-ghost use Rattle.std.specs.Prelude.{◌≡◌, ◌<◌, ◌^◌, true, false, length, IfOk, IfErr, All};
+ghost use Rattle.std.specs.Prelude.{◌<◌, ◌^◌, length, IfOk, All};
 ghost use Rattle.mh_tables.specs.Run.{VerdictOf};
-ghost use Rattle.mh_run.specs.code.Following.{RunsSo, RunsDeep};
+ghost use Rattle.mh_run.specs.code.Following.{RunsSo};
 ghost use Rattle.mh_run.specs.Verdicts.{ending_for};
-ghost use Rattle.mh_run.specs.declared.follow.Unfinished.TheVariants.{TooDeep};
 
-use crate::follow::{Alone, Follow, Unfinished};
+use crate::follow::{Alone, Follow};
 use crate::outcome::Verdict;
 use crate::settle::settle;
 use mh_grammar::{Memory, Token};
@@ -24,10 +23,8 @@ pub fn verdict(
     requires few { length sentence.now < 2 ^ 32 }
     ensures { IfOk result (λ verdict. VerdictOf table.now start sentence.now (ending_for verdict)) }
 {
-    match run(alloc, table, start, sentence, &mut Alone) {
-        Ok(verdict) => Ok(verdict),
-        Err(_) => Err(Memory),
-    }
+    let verdict = run(alloc, table, start, sentence, &mut Alone)?;
+    Ok(verdict)
 }
 
 /// The run of a start on a sentence, with what goes along.
@@ -37,27 +34,19 @@ pub(crate) fn run<F: Follow>(
     start: u16,
     sentence: &[Token],
     follower: &mut F,
-) -> Result<Verdict, Unfinished>
+) -> Result<Verdict, Memory>
     requires start { start < length table.now.grammar.starts }
     requires tokens { All (λ z. z < table.now.grammar.tokens) sentence.now }
     requires few { length sentence.now < 2 ^ 32 }
-    requires fits { F.following.deep follower.old ≡ false }
-    ensures ended { IfOk result (λ verdict. RunsSo F.following table.now start sentence.now follower.old (ending_for verdict) follower.new) }
-    ensures deep { IfErr result (λ stop. stop ≡ TooDeep → RunsDeep F.following table.now start sentence.now follower.old) }
+    ensures { IfOk result (λ verdict. RunsSo F.following table.now start sentence.now follower.old (ending_for verdict) follower.new) }
 {
     let _rows = table.table();
     let mut stack: Vec<u32> = Vec::new(alloc);
     stack.push(u32::from(start))?;
     for (at, token) in sentence.iter().enumerate() {
-        let choice = match settle(alloc, table, &mut stack, Some(*token), follower) {
-            Ok(choice) => choice,
-            Err(stop) => return Err(stop),
-        };
-        match choice {
+        match settle(table, &mut stack, Some(*token), follower)? {
             Choice::Shift(target) => {
-                if let Err(stop) = follower.shift(alloc, *token) {
-                    return Err(stop);
-                }
+                follower.shift(*token)?;
                 stack.push(target)?;
             }
             Choice::Accept => return Ok(Verdict::Accept { read: at as u32 }),
@@ -72,11 +61,7 @@ pub(crate) fn run<F: Follow>(
             Choice::Reduce(_) => unreachable!(),
         }
     }
-    let choice = match settle(alloc, table, &mut stack, None, follower) {
-        Ok(choice) => choice,
-        Err(stop) => return Err(stop),
-    };
-    match choice {
+    match settle(table, &mut stack, None, follower)? {
         Choice::Accept => Ok(Verdict::Accept {
             read: sentence.len() as u32,
         }),

@@ -1,17 +1,16 @@
 //! The reductions between two shifts of a run.
-ghost use Rattle.std.specs.Prelude.{◌≡◌, ◌<◌, true, false, length, IfOk, IfErr, OnOk, Some};
+ghost use Rattle.std.specs.Prelude.{◌≡◌, length, IfOk, OnOk, Some};
 ghost use Rattle.mh_grammar.specs.Plain.{rhs_of};
 ghost use Rattle.mh_tables.specs.Table.{TableData};
 ghost use Rattle.mh_tables.specs.Run.{move_of, top_of, reduce, IsRunStack, Reduces};
 ghost use Rattle.mh_tables.specs.Halting.{IsLook, look_list};
 ghost use Rattle.mh_tables.specs.Moves.{move_for};
-ghost use Rattle.mh_run.specs.code.Settled.{CanReduce, SettlesTo, SettlesDeep};
-ghost use Rattle.mh_run.specs.declared.follow.Unfinished.TheVariants.{TooDeep};
+ghost use Rattle.mh_run.specs.code.Settled.{CanReduce, SettlesTo};
 
-use crate::follow::{Follow, Unfinished};
-use mh_grammar::Token;
+use crate::follow::Follow;
+use mh_grammar::{Memory, Token};
 use mh_tables::{Choice, Halting, Table, choose};
-use std::alloc::{AllocError, Global};
+use std::alloc::AllocError;
 
 // Takes off the states of a right side, and goes on the left side.
 fn reduce_on(table: &Table, stack: &mut Vec<u32>, production: u32) -> Result<(), AllocError>
@@ -54,38 +53,31 @@ fn reduce_next(
 
 // Tells what goes along of the reduction that comes next.
 fn tell_next<F: Follow>(
-    alloc: Global,
     table: &Halting,
     stack: &[u32],
     look: Option<Token>,
     production: u32,
     follower: &mut F,
-) -> Result<(), Unfinished>
+) -> Result<(), Memory>
     requires run { IsRunStack table.now stack.now }
     requires next { move_of table.now (top_of stack.now) (look_list look) ≡ Reduces production }
-    requires fits { F.following.deep follower.old ≡ false }
-    ensures value { OnOk result (follower.new ≡ F.following.reduced follower.old (length (rhs_of table.now.grammar production)) production) }
-    ensures fits { OnOk result (F.following.deep (F.following.reduced follower.old (length (rhs_of table.now.grammar production)) production) ≡ false) }
-    ensures deep { IfErr result (λ stop. stop ≡ TooDeep → F.following.deep (F.following.reduced follower.old (length (rhs_of table.now.grammar production)) production) ≡ true) }
+    ensures { OnOk result (follower.new ≡ F.following.reduced follower.old (length (rhs_of table.now.grammar production)) production) }
 {
     let rows = table.table();
-    follower.reduce(alloc, rows.length_of(production) as usize, production)
+    follower.reduce(rows.length_of(production) as usize, production)
 }
 
 // Makes the reductions that come next, tells what goes along of them, and says what comes then. Each reduction either
 // leaves the state at the place `floor` on the stack, which at most `MAX_REDUCTIONS` in a row do, or lowers that place.
 pub(crate) fn settle<F: Follow>(
-    alloc: Global,
     table: &Halting,
     stack: &mut Vec<u32>,
     look: Option<Token>,
     follower: &mut F,
-) -> Result<Choice, Unfinished>
+) -> Result<Choice, Memory>
     requires run { IsRunStack table.now stack.old.items }
     requires look { IsLook table.now look }
-    requires fits { F.following.deep follower.old ≡ false }
-    ensures settled { IfOk result (λ choice. SettlesTo F.following table.now look stack.old.items stack.new.items follower.old follower.new (move_for choice)) }
-    ensures deep { IfErr result (λ stop. stop ≡ TooDeep → SettlesDeep F.following table.now look stack.old.items follower.old) }
+    ensures { IfOk result (λ choice. SettlesTo F.following table.now look stack.old.items stack.new.items follower.old follower.new (move_for choice)) }
 {
     let _rows = table.table();
     let mut floor = stack.len().saturating_sub(2);
@@ -93,9 +85,7 @@ pub(crate) fn settle<F: Follow>(
     'reductions: loop {
         match next_choice(table, stack, look) {
             Choice::Reduce(production) => {
-                if let Err(stop) = tell_next(alloc, table, stack, look, production, follower) {
-                    return Err(stop);
-                }
+                tell_next(table, stack, look, production, follower)?;
                 reduce_next(table, stack, look, production)?;
                 if floor + 1 < stack.len() {
                     count += 1;

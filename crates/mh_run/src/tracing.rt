@@ -3,7 +3,7 @@ ghost use Rattle.std.specs.Prelude.{◌≡◌, ◌<◌, ◌^◌, length, IfOk, A
 ghost use Rattle.mh_run.specs.Trace.{TraceOf};
 ghost use Rattle.mh_run.specs.Verdicts.{ending_for};
 
-use crate::follow::{Follow, Unfinished};
+use crate::follow::Follow;
 use crate::outcome::Verdict;
 use crate::runs::run;
 use mh_grammar::{Memory, Token};
@@ -26,16 +26,16 @@ impl Model for SinceShift {
 }
 
 impl Follow for SinceShift {
-    ghost use Rattle.std.specs.Prelude.{false, [], ◌∷◌, ◌++◌};
+    ghost use Rattle.std.specs.Prelude.{[], ◌∷◌, ◌++◌};
 
-    ghost following = { record { shifted = λ ps z. []; reduced = λ ps m p. ps ++ p ∷ []; deep = λ ps. false } };
+    ghost following = { record { shifted = λ ps z. []; reduced = λ ps m p. ps ++ p ∷ [] } };
 
-    fn shift(&mut self, _: Global, _: Token) -> Result<(), Unfinished> {
+    fn shift(&mut self, _: Token) -> Result<(), Memory> {
         self.productions.clear();
         Ok(())
     }
 
-    fn reduce(&mut self, _: Global, _: usize, production: u32) -> Result<(), Unfinished> {
+    fn reduce(&mut self, _: usize, production: u32) -> Result<(), Memory> {
         self.productions.push(production)?;
         Ok(())
     }
@@ -57,8 +57,6 @@ pub fn trace(
     let mut since = SinceShift {
         productions: Vec::new(alloc),
     };
-    match run(alloc, table, start, sentence, &mut since) {
-        Ok(verdict) => Ok((verdict, since.productions)),
-        Err(_) => Err(Memory),
-    }
+    let verdict = run(alloc, table, start, sentence, &mut since)?;
+    Ok((verdict, since.productions))
 }

@@ -1,15 +1,13 @@
 -- What goes along with a run: it is told of each shift and each reduction.
-use Rattle.std.specs.Prelude.{◌≡◌, ℕ, zero, suc, Bool, true, false, List, [], ◌∷◌, length}
+use Rattle.std.specs.Prelude.{◌≡◌, ℕ, zero, suc, List, [], ◌∷◌, length}
 use Rattle.mh_grammar.specs.Plain.{rhs_of}
 use Rattle.mh_tables.specs.Table.{TableData}
 use Rattle.mh_tables.specs.Run.{Config, Move, Accepts, Asks, Refuses, Shifts, Reduces, Ending, Ends, initial, move_of, top_of, step, next_of, after}
 
--- What becomes of a value by the shift of a token, and by the reduction of so many symbols to a production; and whether
--- it is too deep for the run to go on.
+-- What becomes of a value by the shift of a token, and by the reduction of so many symbols to a production.
 pub record Following (S : Type 0) : Type 0 where
   pub shifted : S → ℕ → S
   pub reduced : S → ℕ → ℕ → S
-  pub deep : S → Bool
 
 -- the value after a move
 abbrev pub along : {S : Type 0} → Following S → TableData → Move → List ℕ → S → S
@@ -25,13 +23,8 @@ abbrev pub along_after : {S : Type 0} → Following S → TableData → ℕ → 
 along_after f t zero c s = s
 along_after f t (suc n) c s = along_after f t n (next_of c (step t c)) (along f t (move_of t (top_of c.stack) c.left) c.left s)
 
--- the run of a start on w ends so and leaves the value s, and at no moment the value was too deep
+-- the run of a start on w ends so and leaves the value s
 pub record RunsSo {S : Type 0} (f : Following S) (t : TableData) (start : ℕ) (w : List ℕ) (first : S) (how : Ending) (s : S) : Type 0 where
   pub steps : ℕ
   pub ends : step t (after t steps (initial start w)) ≡ Ends how
   pub value : along_after f t steps (initial start w) first ≡ s
-  pub fits : (n : ℕ) → f.deep (along_after f t n (initial start w) first) ≡ false
-
--- after some steps of it the value is too deep
-abbrev pub RunsDeep : {S : Type 0} → Following S → TableData → ℕ → List ℕ → S → Type 0
-RunsDeep f t start w first = (n : ℕ) × (f.deep (along_after f t n (initial start w) first) ≡ true)

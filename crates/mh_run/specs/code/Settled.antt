@@ -1,5 +1,5 @@
 -- What the functions of the run answer.
-use Rattle.std.specs.Prelude.{◌≡◌, ℕ, true, false, List, [], ◌∷◌, Option, Some, None, ◌<◌, ◌≤◌, ◌-◌, length, slice_index}
+use Rattle.std.specs.Prelude.{◌≡◌, ℕ, List, [], ◌∷◌, Option, Some, None, ◌<◌, ◌≤◌, ◌-◌, length, slice_index}
 use Rattle.mh_grammar.specs.Plain.{rhs_of, production_count}
 use Rattle.mh_tables.specs.Table.{TableData}
 use Rattle.mh_tables.specs.Facts.{HasGoto}
@@ -28,12 +28,10 @@ left_with (Some z) rest = z ∷ rest
 abbrev pub standing : List ℕ → ℕ → Option ℕ → List ℕ → Config
 standing stack read look rest = record { stack = stack; read = read; left = left_with look rest }
 
--- So many steps lead from one stack to another, and from one value to another, whatever stands behind the next token, and
--- on the way no value is too deep.
+-- So many steps lead from one stack to another, and from one value to another, whatever stands behind the next token.
 pub record Leads {S : Type 0} (f : Following S) (t : TableData) (look : Option ℕ) (count : ℕ) (old new : List ℕ) (before now : S) : Type 0 where
   pub there : (read : ℕ) (rest : List ℕ) → after t count (standing old read look rest) ≡ standing new read look rest
   pub value : (read : ℕ) (rest : List ℕ) → along_after f t count (standing old read look rest) before ≡ now
-  pub fits : (read : ℕ) (rest : List ℕ) (n : ℕ) → n ≤ count → f.deep (along_after f t n (standing old read look rest) before) ≡ false
 
 -- a stack and a value after all reductions that come next, and the move that comes then
 pub record SettlesTo {S : Type 0} (f : Following S) (t : TableData) (look : Option ℕ) (old new : List ℕ) (before now : S) (move : Move) : Type 0 where
@@ -42,8 +40,3 @@ pub record SettlesTo {S : Type 0} (f : Following S) (t : TableData) (look : Opti
   pub run : IsRunStack t new
   pub next : move_of t (top_of new) (look_list look) ≡ move
   pub settled : (p : ℕ) → move ≡ Reduces p → ⊥
-
--- one of them makes a value that is too deep
-pub record SettlesDeep {S : Type 0} (f : Following S) (t : TableData) (look : Option ℕ) (old : List ℕ) (before : S) : Type 0 where
-  pub count : ℕ
-  pub deep : (read : ℕ) (rest : List ℕ) → f.deep (along_after f t count (standing old read look rest) before) ≡ true

@@ -1,22 +1,11 @@
 use Rattle.std.proofs.Common.{◌≡◌, ◌≤◌, ◌+◌, suc, sym, arith}
 use Rattle.mh_tables.specs.Run.{move_of, top_of, Reduces}
 use Rattle.mh_tables.specs.Halting.{look_list}
-use Rattle.mh_run.proofs.Along.{leads_fits}
-use Rattle.mh_run.proofs.Progress.{progress_from, progress_above, progress_to, progress_few, progress_deep, two_left}
+use Rattle.mh_run.proofs.Progress.{progress_from, progress_above, progress_to, progress_few, two_left}
 use Rattle.mh_run.proofs.settle.settle.Goals as goal
 
 pub reductions-init : goal.reductions-init
-reductions-init g c = progress_from g.F.Follow.following c.args.table.now c.args.look c.args.stack.now.items c.args.follower.now c.saturating_sub-floor.result c.requires.run (omega arith) c.requires.fits
-
-pub tell_next-requires-clause-fits : goal.tell_next-requires-clause-fits
-tell_next-requires-clause-fits g c =
-    leads_fits g.F.Follow.following c.args.table.now c.args.look c.reductions.invariant.steps c.args.stack.now.items c.reductions.stack.items c.args.follower.now c.reductions.follower c.reductions.invariant.leads
-
-pub returns-in-Err-clause-deep : goal.returns-in-Err-clause-deep
-returns-in-Err-clause-deep g c =
-    let m : move_of c.args.table.now (top_of c.reductions.stack.items) (look_list c.args.look) ≡ Reduces c.in-Reduce.production = rw c.deref.ensures.value at (sym c.in-Reduce.ensures) in
-    λ e. progress_deep g.F.Follow.following c.args.table.now c.args.look c.args.stack.now.items c.args.follower.now c.reductions.stack.items c.reductions.follower c.reductions.floor c.reductions.count c.in-Reduce.production c.reductions.invariant m
-    (c.in-Err.ensures.deep e)
+reductions-init g c = progress_from g.F.Follow.following c.args.table.now c.args.look c.args.stack.now.items c.args.follower.now c.saturating_sub-floor.result c.requires.run (omega arith)
 
 pub overflow_add-count : goal.overflow_add-count
 overflow_add-count g c =
@@ -26,23 +15,23 @@ pub reductions-preserved-then-floor-len : goal.reductions-preserved-then-floor-l
 reductions-preserved-then-floor-len g c =
     let m : move_of c.args.table.now (top_of c.reductions.stack.items) (look_list c.args.look) ≡ Reduces c.in-Reduce.production = rw c.deref.ensures.value at (sym c.in-Reduce.ensures) in
     let e : c.reductions.count + 1 ≡ suc c.reductions.count = omega arith in
-    rw (e, c.in_default-tell_next.ensures.value)
+    rw (e, c.in_ok-tell_next-in-Reduce.ensures)
     (progress_above g.F.Follow.following c.args.table.now c.args.look c.args.stack.now.items c.args.follower.now c.reductions.stack.items c.reductions.follower c.reductions.floor c.reductions.count c.in-Reduce.production c.reductions.invariant m
-    c.reduce_next.new.stack.items c.in_ok-reduce_next-in-Reduce.ensures.ok c.in_default-tell_next.ensures.fits (omega arith))
+    c.reduce_next.new.stack.items c.in_ok-reduce_next-in-Reduce.ensures.ok (omega arith))
 
 pub reductions-preserved : goal.reductions-preserved
 reductions-preserved g c =
     let m : move_of c.args.table.now (top_of c.reductions.stack.items) (look_list c.args.look) ≡ Reduces c.in-Reduce.production = rw c.deref.ensures.value at (sym c.in-Reduce.ensures) in
-    rw c.in_default-tell_next.ensures.value
+    rw c.in_ok-tell_next-in-Reduce.ensures
     (progress_to g.F.Follow.following c.args.table.now c.args.look c.args.stack.now.items c.args.follower.now c.reductions.stack.items c.reductions.follower c.reductions.floor c.reductions.count c.in-Reduce.production c.reductions.invariant m
-    c.reduce_next.new.stack.items c.saturating_sub-floor-else-floor-len.result c.in_ok-reduce_next-in-Reduce.ensures.ok c.in_default-tell_next.ensures.fits (omega arith))
+    c.reduce_next.new.stack.items c.saturating_sub-floor-else-floor-len.result c.in_ok-reduce_next-in-Reduce.ensures.ok (omega arith))
 
 pub reductions-smaller-then-floor-len : goal.reductions-smaller-then-floor-len
 reductions-smaller-then-floor-len g c =
     let m : move_of c.args.table.now (top_of c.reductions.stack.items) (look_list c.args.look) ≡ Reduces c.in-Reduce.production = rw c.deref.ensures.value at (sym c.in-Reduce.ensures) in
     let next =
     progress_above g.F.Follow.following c.args.table.now c.args.look c.args.stack.now.items c.args.follower.now c.reductions.stack.items c.reductions.follower c.reductions.floor c.reductions.count c.in-Reduce.production c.reductions.invariant m
-    c.reduce_next.new.stack.items c.in_ok-reduce_next-in-Reduce.ensures.ok c.in_default-tell_next.ensures.fits (omega arith) in
+    c.reduce_next.new.stack.items c.in_ok-reduce_next-in-Reduce.ensures.ok (omega arith) in
     let few : suc c.reductions.count ≤ 10000 = progress_few g.F.Follow.following c.args.table.now c.args.look c.args.stack.now.items c.args.follower.now c.table-rows.ensures.facts c.requires.look _ _ _ _ next in
     omega arith
 
