@@ -2,8 +2,8 @@
 use Rattle.std.proofs.Common.{◌≡◌, ℕ, zero, suc, ◌+◌, ◌-◌, ◌<◌, ◌≤◌, ◌⊎◌, inl, inr, List, [], ◌∷◌, ◌++◌, length, refl, ap, sym, subst, arith, ◌∙◌}
 use Rattle.std.proofs.lemmas.Bool.{cases_lt}
 use Rattle.mh_least.specs.Least.{Laws, LabelLaws, Label, longer}
-use Rattle.mh_tables.specs.Failing.{cost_by}
-use Rattle.mh_least.specs.Orders.{cap, CostLe, CostLabelLe, LexLe, FirstLe, SentenceLe}
+use Rattle.mh_tables.specs.Failing.{cost_by, LexLe}
+use Rattle.mh_least.specs.Orders.{cap, CostLe, CostLabelLe, FirstLe, SentenceLe}
 use Rattle.mh_least.specs.Orders as orders
 
 pub cost_append : (weigh : ℕ → ℕ) (u v : List ℕ) → cost_by weigh (u ++ v) ≡ cost_by weigh u + cost_by weigh v
@@ -160,29 +160,3 @@ module _ (weigh : ℕ → ℕ) where
     both = λ k l u v. cost_both k.word l.word u v;
     front = λ k v. inl (let l = cost_append weigh k.word v in omega arith);
   }
-
--- one sentence comes first
-module _ (weigh : ℕ → ℕ) where
-  lex_one : (u v : List ℕ) → LexLe u v → LexLe v u → u ≡ v
-  lex_one [] [] a b = refl
-  lex_one [] (y ∷ v) a b = absurd b
-  lex_one (x ∷ u) [] a b = absurd a
-  lex_one (x ∷ u) (y ∷ v) (inl a) (inl b) = absurd (omega arith)
-  lex_one (x ∷ u) (y ∷ v) (inl a) (inr b) = absurd (let e = b.0 in omega arith)
-  lex_one (x ∷ u) (y ∷ v) (inr a) (inl b) = absurd (let e = a.0 in omega arith)
-  lex_one (x ∷ u) (y ∷ v) (inr a) (inr b) = let tail = lex_one u v a.1 b.1 in rw (a.0, tail) refl
-
-  pub one_first : (k l : Label) → cost_by weigh k.word < cap → SentenceLe weigh k l → SentenceLe weigh l k → (k.start ≡ l.start) × (k.word ≡ l.word)
-  one_first k l lt (orders.SentenceLe.Over a b) h = absurd (omega arith)
-  one_first k l lt (orders.SentenceLe.Cheaper a) (orders.SentenceLe.Cheaper b) = absurd (omega arith)
-  one_first k l lt (orders.SentenceLe.Cheaper a) (orders.SentenceLe.Over b c) = absurd (omega arith)
-  one_first k l lt (orders.SentenceLe.Cheaper a) (orders.SentenceLe.Sooner b c) = absurd (omega arith)
-  one_first k l lt (orders.SentenceLe.Cheaper a) (orders.SentenceLe.Lower b c d) = absurd (omega arith)
-  one_first k l lt (orders.SentenceLe.Sooner e a) (orders.SentenceLe.Cheaper b) = absurd (omega arith)
-  one_first k l lt (orders.SentenceLe.Sooner e a) (orders.SentenceLe.Over b c) = absurd (omega arith)
-  one_first k l lt (orders.SentenceLe.Sooner e a) (orders.SentenceLe.Sooner b c) = absurd (omega arith)
-  one_first k l lt (orders.SentenceLe.Sooner e a) (orders.SentenceLe.Lower b c d) = absurd (omega arith)
-  one_first k l lt (orders.SentenceLe.Lower e s a) (orders.SentenceLe.Cheaper b) = absurd (omega arith)
-  one_first k l lt (orders.SentenceLe.Lower e s a) (orders.SentenceLe.Over b c) = absurd (omega arith)
-  one_first k l lt (orders.SentenceLe.Lower e s a) (orders.SentenceLe.Sooner b c) = absurd (omega arith)
-  one_first k l lt (orders.SentenceLe.Lower e s a) (orders.SentenceLe.Lower b c d) = (s, lex_one k.word l.word a d)

@@ -1,6 +1,6 @@
 -- Orders of words and of sentences.
 use Rattle.std.specs.Prelude.{◌≡◌, ℕ, zero, suc, List, [], ◌∷◌, ◌++◌, length, ◌<◌, ◌≤◌, ◌⊎◌, ◌+◌}
-use Rattle.mh_tables.specs.Failing.{cost_by}
+use Rattle.mh_tables.specs.Failing.{cost_by, LexLe}
 use Rattle.mh_least.specs.Least.{Label}
 
 -- costs end here: one more than the dearest sentence of a catalogue
@@ -10,12 +10,6 @@ cap = 1000001
 -- no cheaper, or both are too dear to tell
 abbrev pub CostLe : (ℕ → ℕ) → List ℕ → List ℕ → Type 0
 CostLe weigh u v = (cost_by weigh u ≤ cost_by weigh v) ⊎ ((cap ≤ cost_by weigh u) × (cap ≤ cost_by weigh v))
-
--- at the first place where they differ u has the lower number, or they don't differ
-abbrev pub LexLe : List ℕ → List ℕ → Type 0
-LexLe [] v = Unit {0}
-LexLe (x ∷ u) [] = ⊥
-LexLe (x ∷ u) (y ∷ v) = (x < y) ⊎ ((x ≡ y) × LexLe u v)
 
 -- by cost, then by numbers
 pub data FirstLe (weigh : ℕ → ℕ) (u v : List ℕ) : Type 0 where

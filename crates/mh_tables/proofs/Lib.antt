@@ -1,6 +1,7 @@
 pub mod Accepted
 pub mod Asking
 pub mod Quieting
+pub mod Catalogues
 pub mod Cut
 pub mod Depth
 pub mod Ending

@@ -1,6 +1,6 @@
 -- The sentences that are refused at their last token, the states that they fail in, and the catalogue of these states: Pottier
 -- 2016, "Reachability and error diagnosis in LR(1) parsers". Costs of tokens, in place of lengths, are this project's own.
-use Rattle.std.specs.Prelude.{◌≡◌, ℕ, List, [], ◌∷◌, length, ◌-◌, ◌+◌, ◌<◌, ◌≤◌}
+use Rattle.std.specs.Prelude.{◌≡◌, ℕ, List, [], ◌∷◌, length, ◌-◌, ◌+◌, ◌<◌, ◌≤◌, ◌⊎◌}
 use Rattle.std.specs.List.{AllByRecursion, Contains}
 use Rattle.mh_grammar.specs.Edges.{IsRising}
 use Rattle.mh_tables.specs.Table.{TableData, cost_of_token}
@@ -33,6 +33,16 @@ cost_of_word t w = cost_by (cost_of_token t) w
 -- first is left open.
 abbrev pub IsNoLater : TableData → ℕ → List ℕ → ℕ → List ℕ → Type 0
 IsNoLater t start w start' w' = cost_of_word t w ≤ cost_of_word t w'
+
+-- at the first place where they differ u has the lower number, or u is a front of v
+abbrev pub LexLe : List ℕ → List ℕ → Type 0
+LexLe [] v = Unit {0}
+LexLe (x ∷ u) [] = ⊥
+LexLe (x ∷ u) (y ∷ v) = (x < y) ⊎ ((x ≡ y) × LexLe u v)
+
+-- The fixed order of sentences: by cost, then by start, then by the numbers of the tokens. Of two that differ one comes first.
+abbrev pub IsInOrder : TableData → ℕ → List ℕ → ℕ → List ℕ → Type 0
+IsInOrder t start w start' w' = (cost_of_word t w < cost_of_word t w') ⊎ ((cost_of_word t w ≡ cost_of_word t w') × ((start < start') ⊎ ((start ≡ start') × LexLe w w')))
 
 -- the sentence fails there, and none that fails there comes sooner
 pub record FailsFirst (t : TableData) (start : ℕ) (w : List ℕ) (s : ℕ) : Type 0 where

@@ -1,5 +1,6 @@
 //! Laws of runs: empty calls that tell them to contracts.
-ghost use Rattle.std.specs.Prelude.{◌≡◌, ◌<◌, ◌+◌, ◌++◌, List, ℕ, [], Option, length, take};
+ghost use Rattle.std.specs.Prelude.{◌≡◌, ◌<◌, ◌+◌, ◌++◌, ◌⊎◌, List, ℕ, [], Option, length, take};
+ghost use Rattle.mh_tables.specs.Failing.{IsInOrder};
 ghost use Rattle.mh_tables.specs.Halting.{LoopsAt};
 ghost use Rattle.mh_tables.specs.Run.{VerdictOf, Ending, Rejected, after, initial};
 ghost use Rattle.mh_tables.specs.RunTrees.{Stands, trees_after};
@@ -39,5 +40,11 @@ impl Table {
     /// At most one relative run is the first that makes more than `MAX_REDUCTIONS` reductions.
     pub fn one_loop(&self)
         ensures { (below : Option ℕ) (s : ℕ) (look below' : Option ℕ) (s' : ℕ) (look' : Option ℕ) → LoopsAt self.now below s look → LoopsAt self.now below' s' look' → (below ≡ below') × (s ≡ s') × (look ≡ look') }
+    {}
+
+    /// Of two sentences one comes first in the fixed order, and if each does, they are one.
+    pub fn one_comes_first(&self)
+        ensures some { (start : ℕ) (w : List ℕ) (start' : ℕ) (w' : List ℕ) → IsInOrder self.now start w start' w' ⊎ IsInOrder self.now start' w' start w }
+        ensures one { (start : ℕ) (w : List ℕ) (start' : ℕ) (w' : List ℕ) → IsInOrder self.now start w start' w' → IsInOrder self.now start' w' start w → (start ≡ start') × (w ≡ w') }
     {}
 }
