@@ -12,22 +12,23 @@ use Rattle.mh_tables.proofs.Reductions.{shifts_from_move}
 use Rattle.mh_facts.specs.declared.store.FactKey.{FactKey}
 use Rattle.mh_least.specs.Least.{Label, longer, HoldsAt, SoundReach, SoundWay}
 use Rattle.mh_least.specs.Orders.{cap}
+use Rattle.mh_least.proofs.Sound.{shift_known}
 use Rattle.mh_least.proofs.Least.{reach_begins, reach_shifts, reach_goes}
-use Rattle.mh_reach.specs.declared.work.Whole.{Whole}
-use Rattle.mh_reach.specs.declared.work.Way.{Way}
-use Rattle.mh_reach.specs.declared.work.Work.{Work}
-use Rattle.mh_reach.specs.declared.classes.Classes.{Classes}
+use Rattle.mh_search.specs.declared.work.Whole.{Whole}
+use Rattle.mh_search.specs.declared.work.Way.{Way}
+use Rattle.mh_search.specs.declared.work.Work.{Work}
+use Rattle.mh_search.specs.declared.classes.Classes.{Classes}
 use Rattle.mh_reach.specs.declared.arrivals.Spot.{Spot}
 use Rattle.mh_reach.specs.declared.arrivals.Step.TheVariants as steps
 use Rattle.mh_reach.specs.declared.arrivals.Arrival.{Arrival}
 use Rattle.mh_reach.specs.declared.arrivals.Coming.{Coming}
-use Rattle.mh_reach.specs.Rows.{Waits, Gains, Among}
-use Rattle.mh_reach.specs.Classes.{IsClasses, rep_of, place_of}
-use Rattle.mh_reach.specs.Rules.{wholes_at}
-use Rattle.mh_reach.specs.Tales.{NoDearerAt, capped}
-use Rattle.mh_reach.specs.Good.{WaysIn, WholeOk}
+use Rattle.mh_search.specs.Rows.{Waits, Gains, Among}
+use Rattle.mh_search.specs.Classes.{IsClasses, rep_of, place_of}
+use Rattle.mh_search.specs.Rules.{wholes_at}
+use Rattle.mh_search.specs.Tales.{NoDearerAt, capped}
+use Rattle.mh_search.specs.Good.{WaysIn, WholeOk}
 use Rattle.mh_reach.specs.Arriving.{Spots, spot, StepsAlong, StepsShift, StepsWay, GoesOn, Starts, Journey, ComingOk, PendingAt, GoodAt, HasArrived, ComesNext, NoneComes, Arrived, labels_at}
-use Rattle.mh_reach.proofs.Wording.{some_is, least_of, capped_one, capped_both, min_cap, no_lower}
+use Rattle.mh_search.proofs.Wording.{some_is, least_of, capped_one, capped_both, min_cap, no_lower}
 use Rattle.mh_reach.proofs.Spots.{label_kept, journey_more, new_labels, labels_kept, labels_here, labels_only, spots_cases}
 
 abbrev pub Comings : Type 0
@@ -152,7 +153,7 @@ module _ (t : TableData) (f : Facts t) (c : Classes) (cls : IsClasses t c) (word
           let o : Coming = record { spot = spot j (rep j z); step = steps.Shift i.spot x } in
           let edge : edge_of t i.spot.state (T x) ≡ Some j = f.shifts i.spot.state x j (shifts_from_move t i.spot.state x [] j move) in
           let s : StepsAlong t c i.spot level x (min (level + cost_of_token t x) cap) o = record { end = j; z = rep j z; token = token; move = move; listed = cls.list_all j z (f.each_target i.spot.state (T x) j edge) lt; cost_is = refl; is = refl } in
-          let e = capped_one t ok.label.word x level ok.cost_is in
+          let e = capped_one t f ok.label.word x level (shift_known t f i.spot.state x j ok.state move) ok.cost_is in
           inr (min (level + cost_of_token t x) cap, o, more.all (min (level + cost_of_token t x) cap) o (inl (x, s)), refl, omega (arith, e))
 
       way_on : (n x g : ℕ) (v : List ℕ) → WaysIn c words work i.spot.state n i.spot.next x v → edge_of t i.spot.state (N n) ≡ Some g → PendingAt t later new g x (longer ok.label v)
@@ -182,7 +183,7 @@ module _ (t : TableData) (f : Facts t) (c : Classes) (cls : IsClasses t c) (word
             few = min_cap (level + cost_of_token t x);
             label = longer ok.label (x ∷ []);
             by = (ok.label, here, refl);
-            cost_is = capped_one t ok.label.word x level ok.cost_is;
+            cost_is = capped_one t f ok.label.word x level (shift_known t f i.spot.state x s.end ok.state s.move) ok.cost_is;
             sound = reach_shifts t f rep i.spot.state x s.z s.end ok.label ok.state before s.move;
           })
 

@@ -4,7 +4,7 @@ use Rattle.std.specs.Global.{Vec}
 use Rattle.mh_reach.specs.declared.arrivals.Spot.{Spot}
 use Rattle.mh_reach.specs.declared.arrivals.Arrival.{Arrival}
 use Rattle.mh_reach.specs.declared.arrivals.Coming.{Coming}
-use Rattle.mh_reach.specs.Rows.{Waits, Taken, NoneTaken}
+use Rattle.mh_search.specs.Rows.{Waits, Taken, NoneTaken}
 use Rattle.mh_reach.specs.Arriving.{Spots, arrival_at, HasArrived, ComesNext, NoneComes}
 
 -- what was in a queue is there still, or stored

@@ -5,25 +5,24 @@ use Rattle.std.proofs.lemmas.Grind.{common_steps}
 use Rattle.std.proofs.lemmas.Bool.{cases_lt}
 use Rattle.mh_tables.specs.Table.{TableData, cost_of_token}
 use Rattle.mh_tables.specs.Facts.{Facts}
-use Rattle.mh_tables.specs.Failing.{Fails, cost_of_word}
+use Rattle.mh_tables.specs.Failing.{Fails, cost_by, cost_of_word}
 use Rattle.mh_tables.specs.Run.{Refuses, move_of}
 use Rattle.mh_facts.specs.declared.store.FactKey.{FactKey}
 use Rattle.mh_least.specs.Least.{Label, Holds, HoldsAt, ClosedAt}
 use Rattle.mh_least.specs.Orders.{cap}
 use Rattle.mh_least.proofs.Least.{fails_candidate, closed_reached, candidate_fails}
 use Rattle.mh_least.proofs.Best.{closes_all_at}
-use Rattle.mh_least.proofs.Orders.{cost_laws, cost_label_laws}
-use Rattle.mh_reach.specs.declared.classes.Classes.{Classes}
-use Rattle.mh_reach.specs.declared.search.Found.{Found}
+use Rattle.mh_search.specs.declared.classes.Classes.{Classes}
+use Rattle.mh_search.specs.declared.settling.Found.{Found}
 use Rattle.mh_reach.specs.declared.arrivals.Spot.{Spot}
 use Rattle.mh_reach.specs.declared.arrivals.Arrival.{Arrival}
 use Rattle.mh_reach.specs.declared.sentences.Best.{Best}
-use Rattle.mh_reach.specs.Classes.{rep_of}
-use Rattle.mh_reach.specs.Tales.{NoDearer, NoDearerAt, capped}
-use Rattle.mh_reach.specs.Good.{WaysIn}
+use Rattle.mh_search.specs.Classes.{rep_of}
+use Rattle.mh_search.specs.Tales.{NoLater, NoDearerAt, capped, weigh}
+use Rattle.mh_search.specs.Good.{WaysIn}
 use Rattle.mh_reach.specs.Arriving.{Spots, arrival_at, labels_at, ArrivedIn}
 use Rattle.mh_reach.specs.Reaching.{AreCheap, BestOn, BestBelow, spot_of, lesser, cheaper, BestOk, BestAt, AreBest, IsReach, LeastCost}
-use Rattle.mh_reach.proofs.Wording.{capped_one, min_cap, some_is}
+use Rattle.mh_search.proofs.Wording.{capped_one, weigh_word, order_laws, label_laws, min_cap, some_is}
 use Rattle.mh_reach.proofs.Walking.{arrived_at}
 
 below_next : (z n : ℕ) → z < n + 1 → (z < n) ⊎ (z ≡ n)
@@ -68,6 +67,10 @@ le_min : (a b : ℕ) → (a ≤ b) ⊎ ((cap ≤ a) × (cap ≤ b)) → min a ca
 le_min a b (inl le) = grind (arith, common_steps, le)
 le_min a b (inr h) = grind (arith, common_steps, h.0, h.1)
 
+-- of a sentence that fails what it weighs is what it costs
+pub capped_cost : (t : TableData) (f : Facts t) (s i : ℕ) (w : List ℕ) → Fails t i w s → capped t w ≡ min (cost_of_word t w) cap
+capped_cost t f s i w fails = ap (λ (n : ℕ). min n cap) (weigh_word t f w fails.sentence.tokens)
+
 module _ (t : TableData) (f : Facts t) (c : Classes) (found : Found) (spots : Spots) (h : ArrivedIn t c found spots) where
   abbrev rep : ℕ → ℕ → ℕ
   rep = rep_of c
@@ -79,24 +82,24 @@ module _ (t : TableData) (f : Facts t) (c : Classes) (found : Found) (spots : Sp
   words = h.found_is.tale.words
 
   closed : ClosedAt t rep words (labels_at labels) (HoldsAt (NoDearerAt t) (labels_at labels))
-  closed = closes_all_at t rep (NoDearer t) (NoDearerAt t) (cost_laws (cost_of_token t)) (cost_label_laws (cost_of_token t)) words (WaysIn c words found.work) (labels_at labels) (Holds (NoDearer t) words) h.found_is.closed h.arrived.closed
+  closed = closes_all_at t rep (NoLater t) (NoDearerAt t) (order_laws t) (label_laws t) words (WaysIn c words found.work) (labels_at labels) (Holds (NoLater t) words) h.found_is.closed h.arrived.closed
 
   pub are_cheap : AreCheap spots
-  are_cheap k r e = let told = h.arrived.journey.some k r e in let m = min_cap (cost_of_word t told.label.word) in let is = told.cost_is in omega (arith, is, m)
+  are_cheap k r e = let told = h.arrived.journey.some k r e in let m = min_cap (cost_by (weigh t) told.label.word) in let is = told.cost_is in omega (arith, is, m)
 
   -- each failing sentence is no cheaper than some arrival and the token that is refused behind it
   candidate : (s i : ℕ) (w : List ℕ) → Fails t i w s → (z : ℕ) × (r : Arrival) × (z < t.grammar.tokens) × (move_of t s (z ∷ []) ≡ Refuses) × (arrival_at spots (spot_of c s z) ≡ Some r) × (min (r.cost + cost_of_token t z) cap ≤ capped t w)
   candidate s i w fails =
-      let got = fails_candidate t f rep (NoDearer t) (NoDearerAt t) (cost_laws (cost_of_token t)) (cost_label_laws (cost_of_token t)) (labels_at labels)
-      (closed_reached t f rep (NoDearer t) (NoDearerAt t) (cost_laws (cost_of_token t)) (cost_label_laws (cost_of_token t)) words h.found_is.complete (labels_at labels) closed) i s w fails in
+      let got = fails_candidate t f rep (NoLater t) (NoDearerAt t) (order_laws t) (label_laws t) (labels_at labels)
+      (closed_reached t f rep (NoLater t) (NoDearerAt t) (order_laws t) (label_laws t) words h.found_is.complete (labels_at labels) closed) i s w fails in
       let z = got.0 in
       let l = got.1 in
       let there = arrived_at t words spots h.arrived.journey (spot_of c s z) l got.2.reached_at in
       let told = h.arrived.journey.some (spot_of c s z) there.0 there.1 in
       let one : told.label ≡ l = some_is _ told.label l told.is got.2.reached_at in
       let cost : there.0.cost ≡ capped t l.word = rw one at told.cost_is in
-      let more = capped_one t l.word z there.0.cost cost in
-      let le = le_min (cost_of_word t (l.word ++ z ∷ [])) (cost_of_word t w) got.3 in
+      let more = capped_one t f l.word z there.0.cost got.2.known cost in
+      let le = le_min (cost_by (weigh t) (l.word ++ z ∷ [])) (cost_by (weigh t) w) got.3 in
       (z, there.0, got.2.known, got.2.refuses, there.1, omega (arith, le, more))
 
   pub best_at : (s : ℕ) (b : Option Best) → BestBelow t c spots s t.grammar.tokens b → BestAt t words labels s b
@@ -116,8 +119,8 @@ module _ (t : TableData) (f : Facts t) (c : Classes) (found : Found) (spots : Sp
         label = l;
         is = rw at_spot told.is;
         fails = rw token fails;
-        cost_is = rw token (cost ∙ capped_one t l.word z r.cost told.cost_is);
-        least = λ i w fails. (let x = candidate s i w fails in let y = best.0 x.0 x.1 x.2 x.3 x.4 in let q = x.5 in omega (arith, y, q));
+        cost_is = rw token (cost ∙ capped_one t f l.word z r.cost o.1 told.cost_is ∙ capped_cost t f s l.start (l.word ++ z ∷ []) fails);
+        least = λ i w fails. (let x = candidate s i w fails in let y = best.0 x.0 x.1 x.2 x.3 x.4 in let q = x.5 in let e = capped_cost t f s i w fails in omega (arith, y, q, e));
       }
 
   pub is_reach : (best : List (Option Best)) → AreBest t c spots (length t.states) best → IsReach t found.store spots best

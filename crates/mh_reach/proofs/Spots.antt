@@ -11,9 +11,9 @@ use Rattle.mh_reach.specs.declared.arrivals.Spot.{Spot}
 use Rattle.mh_reach.specs.declared.arrivals.Step.{Step}
 use Rattle.mh_reach.specs.declared.arrivals.Step.TheVariants as steps
 use Rattle.mh_reach.specs.declared.arrivals.Arrival.{Arrival}
-use Rattle.mh_reach.specs.Tales.{capped}
+use Rattle.mh_search.specs.Tales.{capped}
 use Rattle.mh_reach.specs.Arriving.{Spots, same_spot, arrival_at, spot, put_at, height_by, with_height, heights_of, LabelBy, Reached, Journey}
-use Rattle.mh_reach.proofs.Wording.{some_is}
+use Rattle.mh_search.proofs.Wording.{some_is}
 
 both_true : (a b : Bool) → (a && b) ≡ true → (a ≡ true) × (b ≡ true)
 both_true true b e = (refl, e)

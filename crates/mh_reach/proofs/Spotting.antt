@@ -4,7 +4,7 @@ use Rattle.std.specs.Prelude.{◌^◌}
 use Rattle.mh_reach.specs.declared.arrivals.Spot.{Spot}
 use Rattle.mh_reach.specs.declared.arrivals.Arrival.{Arrival}
 use Rattle.mh_reach.specs.Arriving.{Spots, arrival_at, spot}
-use Rattle.mh_reach.proofs.Counting.{total, total_le, total_less, wide, narrow}
+use Rattle.mh_search.proofs.Counting.{total, total_le, total_less, wide, narrow}
 use Rattle.mh_reach.proofs.Spots.{spots_kept, spots_push, spot_same}
 
 unfoldable pub bit : Option Arrival → ℕ

@@ -3,19 +3,22 @@ use Rattle.std.proofs.Common.{◌≡◌, ℕ, ◌+◌, List, [], ◌∷◌, Some
 use Rattle.std.specs.Prelude.{min}
 use Rattle.std.specs.Option.{is_some}
 use Rattle.std.specs.Global.{Vec}
-use Rattle.mh_tables.specs.Table.{TableData, cost_of_token}
+use Rattle.mh_tables.specs.Table.{TableData, cost_of_token, state_at}
+use Rattle.mh_tables.specs.Facts.{Facts}
 use Rattle.mh_tables.specs.Run.{Shifts, move_of}
+use Rattle.mh_grammar.specs.declared.types.Symbol.TheVariants.{T}
 use Rattle.mh_least.specs.Orders.{cap}
 use Rattle.mh_reach.specs.declared.arrivals.Spot.{Spot}
 use Rattle.mh_reach.specs.declared.arrivals.Step.TheVariants as steps
 use Rattle.mh_reach.specs.declared.arrivals.Arrival.{Arrival}
 use Rattle.mh_reach.specs.declared.arrivals.Coming.{Coming}
-use Rattle.mh_reach.specs.declared.classes.Classes.{Classes}
-use Rattle.mh_reach.specs.Rows.{Gains, Among}
-use Rattle.mh_reach.specs.Classes.{rep_of, list_at}
-use Rattle.mh_reach.specs.Arriving.{StepsOn, StepsAlong}
-use Rattle.mh_reach.proofs.Gaining.{gains_by}
-use Rattle.mh_reach.proofs.Shifting.{one_shift}
+use Rattle.mh_search.specs.declared.classes.Classes.{Classes}
+use Rattle.mh_search.specs.Rows.{Gains, Among}
+use Rattle.mh_search.specs.Classes.{rep_of, list_at}
+use Rattle.mh_reach.specs.Arriving.{StepsOn, StepsAlong, StepsEdge, StepsShift}
+use Rattle.mh_search.proofs.Gaining.{gains_by}
+use Rattle.mh_search.proofs.Shifting.{one_shift, shift_target}
+use Rattle.mh_search.proofs.Edging.{edge_there}
 
 module _ (t : TableData) (c : Classes) (k : Spot) (cost token end at : ℕ) (like : rep_of c k.state token ≡ k.next) (move : move_of t k.state (token ∷ []) ≡ Shifts end) (at_is : at ≡ min (cost + cost_of_token t token) cap) where
   pub along_gains : (old new : List (Vec Coming)) → Gains (Among (StepsOn at end (steps.Shift k token)) (list_at c end)) old new → Gains (StepsAlong t c k cost token) old new
@@ -24,6 +27,13 @@ module _ (t : TableData) (c : Classes) (k : Spot) (cost token end at : ℕ) (lik
       (λ p o s.
       let ends : s.end ≡ end = one_shift s.end end (sym s.move ∙ move) in
       (s.z, rw ends at s.listed, (s.cost_is ∙ sym at_is, s.is ∙ rw ends refl)))
+      g
+
+module _ (t : TableData) (f : Facts t) (c : Classes) (k : Spot) (cost : ℕ) where
+  pub step_gains : (old new : List (Vec Coming)) → Gains (Among (StepsEdge t c k cost) (state_at t k.state).edges) old new → Gains (StepsShift t c k cost) old new
+  step_gains old new g = gains_by (Among (StepsEdge t c k cost) (state_at t k.state).edges) (StepsShift t c k cost) old new
+      (λ at o h. ((h.2).0, (h.2).2))
+      (λ at o s. (record { symbol = T s.0; target = s.1.end }, edge_there t k.state (T s.0) s.1.end (shift_target t f k.state s.0 s.1.end s.1.move), (s.0, refl, s.1)))
       g
 
 pub none_there : (o : Option Arrival) {r : Option Arrival} → r ≡ o → is_some r ≡ false → o ≡ None

@@ -9,20 +9,20 @@ use Rattle.mh_grammar.specs.declared.edges.Edge.{Edge}
 use Rattle.mh_facts.specs.declared.store.FactKey.{FactKey}
 use Rattle.mh_least.specs.Least.{Label, longer, HoldsAt, ClosesAt, SoundReach}
 use Rattle.mh_least.specs.Orders.{cap}
-use Rattle.mh_reach.specs.declared.work.Whole.{Whole}
-use Rattle.mh_reach.specs.declared.work.Work.{Work}
-use Rattle.mh_reach.specs.declared.classes.Classes.{Classes}
+use Rattle.mh_search.specs.declared.work.Whole.{Whole}
+use Rattle.mh_search.specs.declared.work.Work.{Work}
+use Rattle.mh_search.specs.declared.classes.Classes.{Classes}
 use Rattle.mh_reach.specs.declared.arrivals.Spot.{Spot}
 use Rattle.mh_reach.specs.declared.arrivals.Step.{Step}
 use Rattle.mh_reach.specs.declared.arrivals.Step.TheVariants as steps
 use Rattle.mh_reach.specs.declared.arrivals.Arrival.{Arrival}
 use Rattle.mh_reach.specs.declared.arrivals.Coming.{Coming}
-use Rattle.mh_reach.specs.Rows.{Waits, IsOne, Below, Among}
-use Rattle.mh_reach.specs.Classes.{rep_of, place_of, list_at}
-use Rattle.mh_reach.specs.Rules.{wholes_at}
-use Rattle.mh_reach.specs.Tales.{NoDearerAt, capped}
-use Rattle.mh_reach.specs.declared.search.Found.{Found}
-use Rattle.mh_reach.specs.Good.{WaysIn, IsFound}
+use Rattle.mh_search.specs.Rows.{Waits, IsOne, Below, Among}
+use Rattle.mh_search.specs.Classes.{rep_of, place_of, list_at}
+use Rattle.mh_search.specs.Rules.{wholes_at}
+use Rattle.mh_search.specs.Tales.{NoDearerAt, capped}
+use Rattle.mh_search.specs.declared.settling.Found.{Found}
+use Rattle.mh_search.specs.Good.{WaysIn, IsFound}
 
 abbrev pub Spots : Type 0
 Spots = List (Spot × Arrival)

@@ -1,13 +1,3 @@
-pub mod Adding
 pub mod Arriving
-pub mod Begins
-pub mod Classes
-pub mod Classing
-pub mod Good
-pub mod Left
-pub mod Past
 pub mod Reaching
-pub mod Rows
-pub mod Rules
 pub mod Spelling
-pub mod Tales

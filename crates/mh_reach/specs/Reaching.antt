@@ -8,11 +8,11 @@ use Rattle.mh_facts.specs.Stored.{Facts}
 use Rattle.mh_least.specs.Least.{Label}
 use Rattle.mh_least.specs.Orders.{cap}
 use Rattle.mh_reach.specs.declared.sentences.Best.{Best}
-use Rattle.mh_reach.specs.Tales.{Tale, capped}
+use Rattle.mh_search.specs.Tales.{Tale}
 use Rattle.mh_reach.specs.declared.arrivals.Spot.{Spot}
 use Rattle.mh_reach.specs.declared.arrivals.Arrival.{Arrival}
-use Rattle.mh_reach.specs.declared.classes.Classes.{Classes}
-use Rattle.mh_reach.specs.Classes.{rep_of}
+use Rattle.mh_search.specs.declared.classes.Classes.{Classes}
+use Rattle.mh_search.specs.Classes.{rep_of}
 use Rattle.mh_reach.specs.Arriving.{Spots, Journey, arrival_at, spot}
 
 -- no sentence fails in the state, or this is the least cost of one that does, up to the highest
@@ -25,8 +25,8 @@ pub record BestOk (t : TableData) (words : FactKey → Option (List ℕ)) (label
   pub label : Label
   pub is : labels b.spot ≡ Some label
   pub fails : Fails t label.start (label.word ++ b.token ∷ []) s
-  pub cost_is : b.cost ≡ capped t (label.word ++ b.token ∷ [])
-  pub least : (start : ℕ) (w : List ℕ) → Fails t start w s → b.cost ≤ capped t w
+  pub cost_is : b.cost ≡ min (cost_of_word t (label.word ++ b.token ∷ [])) cap
+  pub least : (start : ℕ) (w : List ℕ) → Fails t start w s → b.cost ≤ min (cost_of_word t w) cap
 
 abbrev pub BestAt : (t : TableData) → (FactKey → Option (List ℕ)) → (Spot → Option Label) → ℕ → Option Best → Type 0
 BestAt t words labels s None = Failing t s → ⊥

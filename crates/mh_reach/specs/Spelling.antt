@@ -8,7 +8,7 @@ use Rattle.mh_facts.specs.declared.store.Back.TheVariants as backs
 use Rattle.mh_facts.specs.Stored.{Facts, fact_at}
 use Rattle.mh_least.specs.Least.{Label}
 use Rattle.mh_reach.specs.declared.arrivals.Spot.{Spot}
-use Rattle.mh_reach.specs.Tales.{Tale, before_dot}
+use Rattle.mh_search.specs.Tales.{Tale, before_dot}
 use Rattle.mh_reach.specs.Arriving.{Spots, Journey}
 
 -- the fact is stored
@@ -18,10 +18,6 @@ HasWord t facts k = (tale : Tale t facts) × (w : List ℕ) × (tale.words k ≡
 -- its word is put in front of what is spelled
 abbrev pub Spells : TableData → Facts → FactKey → List ℕ → List ℕ → Type 0
 Spells t facts k old new = (tale : Tale t facts) (w : List ℕ) → tale.words k ≡ Some w → reverse new ≡ w ++ reverse old
-
-abbrev pub listed : Option ℕ → List ℕ
-listed None = []
-listed (Some x) = x ∷ []
 
 -- what a fact came from takes its place, and the token that it ends with is spelled
 abbrev pub SpellsOne : TableData → FactKey → Back → List FactKey → List FactKey → List ℕ → List ℕ → Type 0

@@ -2,21 +2,18 @@
 ghost use Rattle.std.specs.Prelude.{◌≡◌, ◌≤◌, ◌<◌, ◌+◌, ◌⊎◌, ℕ, [], Some, OnOk, IfOk, length, min};
 ghost use Rattle.std.specs.List.{Contains};
 ghost use Rattle.mh_tables.specs.Table.{edge_of};
-ghost use Rattle.mh_reach.specs.declared.work.Whole.{Whole};
+ghost use Rattle.mh_search.specs.declared.work.Whole.{Whole};
 ghost use Rattle.mh_least.specs.Orders.{cap};
-ghost use Rattle.mh_reach.specs.Rows.{Gains, Among, row_of};
-ghost use Rattle.mh_reach.specs.Classes.{IsClasses, place_of};
-ghost use Rattle.mh_reach.specs.Rules.{OnlyAt};
-ghost use Rattle.mh_reach.specs.Good.{IsFound};
+ghost use Rattle.mh_search.specs.Rows.{Gains, Among, row_of};
+ghost use Rattle.mh_search.specs.Classes.{IsClasses, place_of};
+ghost use Rattle.mh_search.specs.Rules.{OnlyAt};
+ghost use Rattle.mh_search.specs.Good.{IsFound};
 ghost use Rattle.mh_reach.specs.Arriving.{NextComing, StepsOn, StepsAlong, StepsEdge, StepsShift, StepsWay, Starts, GoodIn, ArrivedIn};
 
 use crate::arrivals::{Arrival, Arrivals, Coming, Spot, Step, arrival_of, arrive_at, no_arrivals};
-use crate::classes::{Classes, class_of, list_of};
-use crate::joins::{CAP, add_costs};
-use crate::queue::{Queue, empty_queue, push, take};
-use crate::search::Found;
-use crate::work::Whole;
 use mh_grammar::{Edge, Memory, Symbol, Token};
+use mh_search::queue::{Queue, empty_queue, push, take};
+use mh_search::{CAP, Classes, Found, Whole, add_costs, class_of, list_of};
 use mh_tables::{Choice, Table, choose};
 use std::alloc::Global;
 

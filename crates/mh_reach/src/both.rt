@@ -1,16 +1,13 @@
 //! Both searches, and the best way to fail in each state.
 ghost use Rattle.std.specs.Prelude.{◌≡◌, ◌<◌, IfOk, length};
-ghost use Rattle.mh_reach.specs.Classes.{IsClasses};
+ghost use Rattle.mh_search.specs.Classes.{IsClasses};
 ghost use Rattle.mh_reach.specs.Reaching.{AreCheap, BestOn, BestBelow, AreBest, lesser};
 
 use crate::arrivals::{Arrivals, Spot, arrival_of};
 use crate::arrive::arrive;
-use crate::classes::{Classes, class_of};
-use crate::classing::classes_of;
-use crate::joins::add_costs;
-use crate::search::search;
 use crate::sentences::{Best, Reach};
 use mh_grammar::{Memory, Token};
+use mh_search::{Classes, add_costs, class_of, classes_of, search};
 use mh_tables::{Choice, Halting, Table, choose};
 use std::alloc::Global;
 

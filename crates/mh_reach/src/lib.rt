@@ -1,20 +1,11 @@
-//! The best-first search for least failing sentences.
+//! The least sentence that fails in each state: how states are reached, and the best way to fail there.
 #![tactic(auto)]
 
 mod arrivals;
 mod arrive;
-mod begins;
 mod both;
-mod classes;
-mod classing;
-mod joins;
-mod left;
-mod past;
-mod queue;
-mod search;
 mod sentences;
 mod spell;
-mod work;
 
 pub use both::reach;
 pub use sentences::Reach;

@@ -1,30 +1,12 @@
 //! Words and sentences, by what facts and arrivals came from.
 ghost use Rattle.std.specs.Prelude.{◌≡◌, OnOk};
-ghost use Rattle.mh_reach.specs.Spelling.{HasWord, Spells, SpellsOne, SpellsNext, listed};
-ghost use Rattle.mh_reach.specs.Tales.{before_dot};
+ghost use Rattle.mh_reach.specs.Spelling.{HasWord, Spells, SpellsOne, SpellsNext};
 
 use mh_facts::{Back, FactKey, FactStore};
-use mh_grammar::{Memory, Symbol, Token};
+use mh_grammar::{Memory, Token};
+use mh_search::token_before;
 use mh_tables::Table;
 use std::alloc::Global;
-
-/// The token before the dot.
-#[tactic(auto, unfolding(mh_grammar::specs::Plain::rhs_of))]
-fn token_before(table: &Table, key: FactKey) -> Option<Token>
-    ensures { listed result ≡ before_dot table.now key }
-{
-    if key.production >= table.productions() {
-        return None;
-    }
-    let place = if key.dot == 0 { 0 } else { key.dot - 1 };
-    if place >= table.length_of(key.production) {
-        return None;
-    }
-    match table.symbol_of(key.production, place) {
-        Symbol::T(token) => Some(token),
-        Symbol::N(_) => None,
-    }
-}
 
 /// Puts what a fact came from in its place; the token that it ends with is spelled.
 fn spell_one(

@@ -1,5 +1,5 @@
 use Rattle.std.proofs.Common.{◌<◌, ◌++◌, ◌∷◌, [], arith}
-use Rattle.mh_reach.specs.Rows.{Gains}
+use Rattle.mh_search.specs.Rows.{Gains}
 use Rattle.mh_reach.specs.Arriving.{ComesNext, GoesOn}
 use Rattle.mh_reach.proofs.Arriving.{arrival_for, arrive_ends_level, arrive_settles}
 use Rattle.mh_reach.proofs.Spotting.{unreached, unreached_less}

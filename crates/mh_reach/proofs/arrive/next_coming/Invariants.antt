@@ -1,5 +1,5 @@
 use Rattle.std.proofs.Common.{length}
-use Rattle.mh_reach.specs.Rows.{row_of}
+use Rattle.mh_search.specs.Rows.{row_of}
 use Rattle.mh_reach.proofs.Coming.{Thinned}
 use Rattle.mh_reach.proofs.arrive.next_coming.Given as goal
 

@@ -1,6 +1,6 @@
-use Rattle.mh_reach.specs.Rows.{Gains}
+use Rattle.mh_search.specs.Rows.{Gains}
 use Rattle.mh_reach.specs.Arriving.{StepsOn}
-use Rattle.mh_reach.proofs.Gaining.{First}
+use Rattle.mh_search.proofs.Gaining.{First}
 use Rattle.mh_reach.proofs.arrive.push_each.Given as goal
 
 abbrev pub invariant-loop-next : goal.invariant-loop-next

@@ -1,8 +1,8 @@
 use Rattle.std.proofs.Common.{◌≡◌, arith, length, []}
-use Rattle.mh_reach.specs.Rows.{Among}
-use Rattle.mh_reach.specs.Classes.{list_at}
+use Rattle.mh_search.specs.Rows.{Among}
+use Rattle.mh_search.specs.Classes.{list_at}
 use Rattle.mh_reach.specs.Arriving.{StartsOn}
-use Rattle.mh_reach.proofs.Gaining.{below_begins, below_goes}
+use Rattle.mh_search.proofs.Gaining.{below_begins, below_goes}
 use Rattle.mh_reach.proofs.arrive.starts.Goals as goal
 
 pub loop-start-init : goal.loop-start-init

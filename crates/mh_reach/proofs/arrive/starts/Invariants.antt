@@ -1,6 +1,6 @@
 use Rattle.std.proofs.Common.{[]}
-use Rattle.mh_reach.specs.Rows.{Gains, Below, Among}
-use Rattle.mh_reach.specs.Classes.{list_at}
+use Rattle.mh_search.specs.Rows.{Gains, Below, Among}
+use Rattle.mh_search.specs.Classes.{list_at}
 use Rattle.mh_reach.specs.Arriving.{StartsOn}
 use Rattle.mh_reach.proofs.arrive.starts.Given as goal
 

@@ -1,9 +1,9 @@
 use Rattle.std.proofs.Common.{◌≡◌, [], ◌∷◌, sym, refl, ◌∙◌}
 use Rattle.mh_grammar.specs.declared.types.Symbol.TheVariants.{T}
 use Rattle.mh_tables.specs.Run.{Shifts, move_of}
-use Rattle.mh_reach.specs.Classes.{rep_of}
-use Rattle.mh_reach.proofs.Wording.{token_cheap}
-use Rattle.mh_reach.proofs.Shifting.{shift_target}
+use Rattle.mh_search.specs.Classes.{rep_of}
+use Rattle.mh_search.proofs.Wording.{token_cheap}
+use Rattle.mh_search.proofs.Shifting.{shift_target}
 use Rattle.mh_reach.proofs.Stepping.{along_gains}
 use Rattle.mh_reach.proofs.arrive.step_on.Goals as goal
 

@@ -4,8 +4,9 @@ use Rattle.mh_grammar.specs.declared.types.Symbol.TheVariants.{T}
 use Rattle.mh_grammar.specs.declared.edges.Edge.{Edge}
 use Rattle.mh_tables.specs.Table.{state_at}
 use Rattle.mh_reach.specs.Arriving.{StepsEdge}
-use Rattle.mh_reach.proofs.Gaining.{in_list, first_next, first_all}
-use Rattle.mh_reach.proofs.Edging.{edge_leads, step_gains}
+use Rattle.mh_search.proofs.Gaining.{in_list, first_next, first_all}
+use Rattle.mh_search.proofs.Edging.{edge_leads}
+use Rattle.mh_reach.proofs.Stepping.{step_gains}
 use Rattle.mh_reach.proofs.arrive.step_shifts.Goals as goal
 
 pub step_edge-requires-clause-edge : goal.step_edge-requires-clause-edge

@@ -1,7 +1,7 @@
 use Rattle.mh_tables.specs.Table.{state_at}
-use Rattle.mh_reach.specs.Rows.{Gains}
+use Rattle.mh_search.specs.Rows.{Gains}
 use Rattle.mh_reach.specs.Arriving.{StepsEdge}
-use Rattle.mh_reach.proofs.Gaining.{First}
+use Rattle.mh_search.proofs.Gaining.{First}
 use Rattle.mh_reach.proofs.arrive.step_shifts.Given as goal
 
 abbrev pub invariant-loop-edge : goal.invariant-loop-edge

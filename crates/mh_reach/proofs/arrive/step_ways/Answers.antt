@@ -1,6 +1,6 @@
 use Rattle.std.proofs.Common.{arith}
 use Rattle.mh_reach.specs.Arriving.{StepsWay}
-use Rattle.mh_reach.proofs.Gaining.{in_list, first_next, first_all}
+use Rattle.mh_search.proofs.Gaining.{in_list, first_next, first_all}
 use Rattle.mh_reach.proofs.arrive.step_ways.Goals as goal
 
 pub step_way-requires-clause-whole : goal.step_way-requires-clause-whole

@@ -1,4 +1,4 @@
-use Rattle.mh_reach.proofs.Wording.{token_cheap}
+use Rattle.mh_search.proofs.Wording.{token_cheap}
 use Rattle.mh_reach.proofs.both.best_on.Goals as goal
 
 pub add_costs-requires-clause-right : goal.add_costs-requires-clause-right

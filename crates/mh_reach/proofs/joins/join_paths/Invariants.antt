@@ -1,7 +1,0 @@
-use Rattle.mh_reach.specs.Rows.{Gains}
-use Rattle.mh_reach.specs.Rules.{FollowsWay}
-use Rattle.mh_reach.proofs.Gaining.{First}
-use Rattle.mh_reach.proofs.joins.join_paths.Given as goal
-
-abbrev pub invariant-loop-path : goal.invariant-loop-path
-invariant-loop-path l = Gains (First (λ path. FollowsWay l.table path l.whole) l.paths l.path-index) l.fn.queue.buckets.items l.queue.buckets.items

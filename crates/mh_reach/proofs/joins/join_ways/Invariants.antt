@@ -1,7 +1,0 @@
-use Rattle.mh_reach.specs.Rows.{Gains}
-use Rattle.mh_reach.specs.Rules.{FollowsWay}
-use Rattle.mh_reach.proofs.Gaining.{First}
-use Rattle.mh_reach.proofs.joins.join_ways.Given as goal
-
-abbrev pub invariant-loop-whole : goal.invariant-loop-whole
-invariant-loop-whole l = Gains (First (FollowsWay l.table l.path) l.wholes l.whole-index) l.fn.queue.buckets.items l.queue.buckets.items

@@ -1,7 +1,0 @@
-use Rattle.std.specs.Prelude.{take}
-use Rattle.mh_reach.specs.Classes.{list_at}
-use Rattle.mh_reach.specs.Adding.{MeetsOn}
-use Rattle.mh_reach.proofs.joins.meet_whole.Given as goal
-
-abbrev pub invariant-loop-next : goal.invariant-loop-next
-invariant-loop-next l = MeetsOn l.table l.classes l.fn.work l.work l.inner l.target (take l.next-index (list_at l.classes l.target))

@@ -1,7 +1,0 @@
-use Rattle.mh_reach.specs.Rows.{Gains}
-use Rattle.mh_reach.specs.Adding.{WithNext}
-use Rattle.mh_reach.proofs.Gaining.{First}
-use Rattle.mh_reach.proofs.joins.push_each.Given as goal
-
-abbrev pub invariant-loop-next : goal.invariant-loop-next
-invariant-loop-next l = Gains (First (WithNext l.cost l.item) l.tokens l.next-index) l.fn.queue.buckets.items l.queue.buckets.items

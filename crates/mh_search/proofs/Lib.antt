@@ -1,0 +1,22 @@
+mod Alike
+mod Collecting
+pub mod Compared
+pub mod Counting
+pub mod Edging
+mod Following
+pub mod Gaining
+mod Lefting
+mod Levels
+mod Meeting
+mod Parting
+mod Pasting
+pub mod Putting
+mod Queueing
+mod Ranging
+mod Rising
+mod Rowed
+pub mod Rowing
+pub mod Shifting
+pub mod Taking
+mod Turns
+pub mod Wording

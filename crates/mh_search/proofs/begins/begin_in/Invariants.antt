@@ -1,0 +1,9 @@
+use Rattle.mh_tables.specs.Table.{state_at}
+use Rattle.mh_search.specs.Rows.{Gains}
+use Rattle.mh_search.specs.Classes.{list_at}
+use Rattle.mh_search.specs.Begins.{BeginsBehind}
+use Rattle.mh_search.proofs.Gaining.{First}
+use Rattle.mh_search.proofs.begins.begin_in.Given as goal
+
+abbrev pub invariant-loop-edge : goal.invariant-loop-edge
+invariant-loop-edge l = Gains (First (BeginsBehind l.from (list_at l.classes l.from) l.left) (state_at l.table l.from).edges l.edge-index) l.fn.queue.buckets.items l.queue.buckets.items

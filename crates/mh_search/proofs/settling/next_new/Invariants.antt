@@ -1,0 +1,10 @@
+use Rattle.std.proofs.Common.{length}
+use Rattle.mh_search.specs.Rows.{row_of}
+use Rattle.mh_search.proofs.Queueing.{Thinned}
+use Rattle.mh_search.proofs.settling.next_new.Given as goal
+
+abbrev pub invariant-items : goal.invariant-items
+invariant-items l = Thinned l.store l.fn.queue.buckets.items l.queue.buckets.items
+
+abbrev pub decreases-items : goal.decreases-items
+decreases-items l = length (row_of l.queue.buckets.items l.cost)

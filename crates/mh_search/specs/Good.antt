@@ -1,0 +1,138 @@
+-- The search between two of its turns.
+use Rattle.std.specs.Prelude.{◌≡◌, ℕ, List, [], ◌∷◌, ◌++◌, slice_get, Option, Some, None, ◌<◌, ◌≤◌, ◌⊎◌, length}
+use Rattle.std.specs.List.{Contains}
+use Rattle.mh_grammar.specs.declared.types.Symbol.TheVariants.{N}
+use Rattle.mh_grammar.specs.Plain.{rhs_of}
+use Rattle.mh_tables.specs.Table.{TableData, edge_of}
+use Rattle.mh_facts.specs.declared.store.FactKey.{FactKey}
+use Rattle.mh_facts.specs.declared.store.Fact.{Fact}
+use Rattle.mh_facts.specs.Stored.{Facts, fact_at, last_of}
+use Rattle.mh_least.specs.Least.{IsEnd, Frontier, SoundAt, SoundWay, Complete, Closes, Holds}
+use Rattle.mh_least.specs.Orders.{cap}
+use Rattle.mh_search.specs.declared.work.Item.{Item}
+use Rattle.mh_search.specs.declared.work.Path.{Path}
+use Rattle.mh_search.specs.declared.work.Whole.{Whole}
+use Rattle.mh_search.specs.declared.work.Way.{Way}
+use Rattle.mh_search.specs.declared.work.Work.{Work}
+use Rattle.mh_search.specs.declared.classes.Classes.{Classes}
+use Rattle.mh_search.specs.declared.settling.Found.{Found}
+use Rattle.mh_search.specs.Rows.{Waits, IsOne, Beside}
+use Rattle.mh_search.specs.Classes.{rep_of, place_of}
+use Rattle.mh_search.specs.Rules.{InRange, path_of, way_of, queue_of, paths_at, wholes_at, Knows, IsReady}
+use Rattle.mh_search.specs.Tales.{NoLater, capped, WordBy, Tale}
+
+-- some fact is stored for the key
+abbrev pub IsStored : Facts → FactKey → Type 0
+IsStored facts k = (f : Fact) × (fact_at facts k ≡ Some f)
+
+-- the next item of a cost that is not stored; what is stored is dropped
+pub record NextIs (facts : Facts) (old new : List (Rattle.std.specs.Global.Vec Item)) (cost : ℕ) (i : Item) : Type 0 where
+  pub was : Waits old cost i
+  pub fresh : fact_at facts i.key ≡ None
+  pub kept : (c : ℕ) (o : Item) → Waits old c o → (Waits new c o ⊎ IsStored facts o.key) ⊎ IsOne cost i c o
+  pub only : (c : ℕ) (o : Item) → Waits new c o → Waits old c o
+
+pub record NoneIsNext (facts : Facts) (old new : List (Rattle.std.specs.Global.Vec Item)) (cost : ℕ) : Type 0 where
+  pub none : (o : Item) → Waits new cost o → ⊥
+  pub kept : (c : ℕ) (o : Item) → Waits old c o → Waits new c o ⊎ IsStored facts o.key
+  pub only : (c : ℕ) (o : Item) → Waits new c o → Waits old c o
+
+abbrev pub NextNew : Facts → List (Rattle.std.specs.Global.Vec Item) → List (Rattle.std.specs.Global.Vec Item) → ℕ → Option Item → Type 0
+NextNew facts old new cost None = NoneIsNext facts old new cost
+NextNew facts old new cost (Some i) = NextIs facts old new cost i
+
+-- the words that wait for a key
+abbrev pub InQueue : TableData → (FactKey → Option (List ℕ)) → (ℕ → Item → Type 0) → FactKey → List ℕ → Type 0
+InQueue t words waits k u = (cost : ℕ) × (i : Item) × waits cost i × (i.key ≡ k) × WordBy t words i.key i.back u
+
+-- what waits: in the queue, or beside it with the level's cost
+abbrev pub Waiting : Work → ℕ → List Item → ℕ → Item → Type 0
+Waiting work level beside cost i = Beside (queue_of work) level beside cost i
+
+-- the ways that are filed, with their words
+abbrev pub WaysIn : Classes → (FactKey → Option (List ℕ)) → Work → (from nonterminal first next : ℕ) → List ℕ → Type 0
+WaysIn c words work s n y x v = (w : Whole) × Contains (wholes_at work (place_of c s y)) w × (way_of w ≡ record { from = s; nonterminal = n; first = y; next = x }) × (words w.inner ≡ Some v)
+
+-- what is known of an item that waits
+pub record ItemOk (t : TableData) (rep : ℕ → ℕ → ℕ) (words : FactKey → Option (List ℕ)) (cost : ℕ) (i : Item) : Type 0 where
+  pub range : InRange t (path_of cost i)
+  pub word : List ℕ
+  pub by : WordBy t words i.key i.back word
+  pub cost_is : cost ≡ capped t word
+  pub short : cost ≡ 0 → word ≡ []
+  pub sound : SoundAt t rep i.key word
+
+-- what is known of a path that is filed
+pub record PathOk (t : TableData) (words : FactKey → Option (List ℕ)) (p : Path) : Type 0 where
+  pub range : InRange t p
+  pub word : List ℕ
+  pub stored : words p.key ≡ Some word
+  pub cost_is : p.cost ≡ capped t word
+  pub short : p.cost ≡ 0 → word ≡ []
+
+-- what is known of a way that is filed
+pub record WholeOk (t : TableData) (rep : ℕ → ℕ → ℕ) (words : FactKey → Option (List ℕ)) (level : ℕ) (w : Whole) : Type 0 where
+  pub few : w.cost ≤ cap
+  pub low : w.cost ≤ level
+  pub from : w.inner.from < length t.states
+  pub edge : edge_of t w.inner.from (N w.nonterminal) ≡ Some w.target
+  pub next : w.next < t.grammar.tokens
+  pub word : List ℕ
+  pub stored : words w.inner ≡ Some word
+  pub cost_is : w.cost ≡ capped t word
+  pub short : w.cost ≡ 0 → word ≡ []
+  pub sound : SoundWay t rep w.inner.from w.nonterminal w.inner.first w.next w.target word
+
+-- All that is cheaper than the level is settled. Some items of the level's cost may wait beside the queue.
+pub record Good (t : TableData) (c : Classes) (facts : Facts) (work : Work) (level : ℕ) (beside : List Item) : Type 0 where
+  pub tale : Tale t facts
+  pub ready : IsReady t c work
+  pub frontier : Frontier t (rep_of c) (NoLater t) tale.words (WaysIn c tale.words work) (InQueue t tale.words (Waiting work level beside))
+  pub items : (cost : ℕ) (i : Item) → Waiting work level beside cost i → ItemOk t (rep_of c) tale.words cost i
+  pub low : (cost : ℕ) (i : Item) → Waiting work level beside cost i → level ≤ cost
+  pub high : last_of facts ≤ level
+  pub paths : (n : ℕ) (p : Path) → Contains (paths_at work n) p → PathOk t tale.words p
+  pub all_paths : (k : FactKey) (u : List ℕ) (s n : ℕ) → tale.words k ≡ Some u → IsEnd t k.from k.production k.dot s → slice_get (rhs_of t.grammar k.production) k.dot ≡ Some (N n) → (p : Path) × Contains (paths_at work (place_of c s k.next)) p × (p.key ≡ k)
+  pub wholes : (n : ℕ) (w : Whole) → Contains (wholes_at work n) w → WholeOk t (rep_of c) tale.words level w
+  pub filed : (k : Way) → Knows work k → (w : Whole) × Contains (wholes_at work (place_of c k.from k.first)) w × (way_of w ≡ k)
+
+-- the words of the items rise
+abbrev pub IsRising : TableData → (FactKey → Option (List ℕ)) → List Item → Type 0
+IsRising t words [] = Unit {0}
+IsRising t words (i ∷ is) = ((o : Item) (u v : List ℕ) → Contains is o → WordBy t words i.key i.back u → WordBy t words o.key o.back v → NoLater t u v) × IsRising t words is
+
+-- each item of the level in the queue comes no later than all that waits, and those beside it rise
+pub record InOrder (t : TableData) (c : Classes) (facts : Facts) (work : Work) (level : ℕ) (beside : List Item) : Type 0 where
+  pub good : Good t c facts work level beside
+  pub flat : (o i : Item) (cost : ℕ) (u v : List ℕ) → Waits (queue_of work) level o → Waiting work level beside cost i → WordBy t good.tale.words o.key o.back u → WordBy t good.tale.words i.key i.back v → NoLater t u v
+  pub rising : IsRising t good.tale.words beside
+
+-- nothing of the level waits in the queue, and the items beside it rise
+pub record LevelReady (t : TableData) (c : Classes) (facts : Facts) (work : Work) (level : ℕ) (beside : List Item) : Type 0 where
+  pub good : Good t c facts work level beside
+  pub none : (o : Item) → Waits (queue_of work) level o → ⊥
+  pub rising : IsRising t good.tale.words beside
+
+abbrev pub KeepsNew : Facts → Item → List Item → List Item → Type 0
+KeepsNew facts i old new = (new ≡ old ++ i ∷ []) ⊎ ((new ≡ old) × IsStored facts i.key)
+
+-- all items of a cost are taken out, and those that are not stored kept
+pub record AllNew (facts : Facts) (old new : List (Rattle.std.specs.Global.Vec Item)) (cost : ℕ) (all : List Item) : Type 0 where
+  pub kept : (c : ℕ) (o : Item) → Waits old c o → (Waits new c o ⊎ IsStored facts o.key) ⊎ ((c ≡ cost) × Contains all o)
+  pub only : (c : ℕ) (o : Item) → Waits new c o → Waits old c o
+  pub each : (o : Item) → Contains all o → Waits old cost o
+
+-- none of them is left
+pub record AllTaken (facts : Facts) (old new : List (Rattle.std.specs.Global.Vec Item)) (cost : ℕ) (all : List Item) : Type 0 where
+  pub taken : AllNew facts old new cost all
+  pub none : (o : Item) → Waits new cost o → ⊥
+
+-- What the search leaves. A path that a run goes along is stored with a word that the run reads on it, and no other such word comes
+-- before that one: the stored cost is the least.
+pub record IsFound (t : TableData) (c : Classes) (found : Found) : Type 0 where
+  pub tale : Tale t found.store
+  pub sound : (k : FactKey) (u : List ℕ) → tale.words k ≡ Some u → SoundAt t (rep_of c) k u
+  pub rows : length found.work.wholes.items ≡ c.places
+  pub closed : Closes t (rep_of c) (NoLater t) tale.words (WaysIn c tale.words found.work) (Holds (NoLater t) tale.words)
+  pub complete : Complete t (rep_of c) (NoLater t) tale.words
+  pub wholes : (n : ℕ) (w : Whole) → Contains (wholes_at found.work n) w → WholeOk t (rep_of c) tale.words cap w

@@ -1,0 +1,12 @@
+pub mod Adding
+pub mod Begins
+pub mod Classes
+pub mod Classing
+pub mod Good
+pub mod Left
+pub mod Past
+pub mod Rows
+pub mod Rules
+pub mod Sorted
+pub mod Tails
+pub mod Tales

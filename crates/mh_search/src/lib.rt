@@ -1,0 +1,21 @@
+//! The best-first search for facts: each path that a run goes along, with the first of its words of least cost.
+#![tactic(auto)]
+
+mod begins;
+mod classes;
+mod classing;
+mod joins;
+mod left;
+mod past;
+pub mod queue;
+mod settling;
+mod sorting;
+mod tails;
+mod work;
+
+pub use classes::{Class, Classes, class_of, list_of};
+pub use classing::classes_of;
+pub use joins::{CAP, add_costs, add_token};
+pub use settling::{Found, search};
+pub use tails::{Part, Rests, is_later, token_before};
+pub use work::{Item, Path, Way, Whole, Work};

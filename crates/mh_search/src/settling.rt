@@ -1,0 +1,183 @@
+//! Facts are settled in order of their costs.
+ghost use Rattle.std.specs.Prelude.{◌≡◌, ◌↔◌, IsTrue, ◌≤◌, ◌<◌, ◌+◌, [], OnOk, IfOk, Some, drop, length, slice_get};
+ghost use Rattle.mh_least.specs.Orders.{cap};
+ghost use Rattle.mh_search.specs.Classes.{IsClasses};
+ghost use Rattle.mh_search.specs.Good.{NextNew, KeepsNew, AllTaken, Good, LevelReady, IsFound};
+
+use crate::begins::begin;
+use crate::classes::Classes;
+use crate::joins::{CAP, expand};
+use crate::queue::{Queue, push, take};
+use crate::sorting::sorted;
+use crate::work::{Item, Path, Work};
+use mh_facts::FactStore;
+use mh_grammar::Memory;
+use mh_tables::Table;
+use std::alloc::Global;
+
+/// The settled facts, and the ways over nonterminals.
+#[derive(Drop)]
+pub struct Found {
+    pub store: FactStore,
+    pub work: Work,
+}
+
+/// Takes the next item of a cost that is not stored; those that are stored are dropped.
+fn next_new(queue: &mut Queue<Item>, store: &FactStore, cost: u32) -> Option<Item>
+    ensures { NextNew store.now queue.old.buckets.items queue.new.buckets.items cost result }
+{
+    'items: loop {
+        match take(queue, cost) {
+            None => return None,
+            Some(item) => {
+                if store.cost(&item.key).is_none() {
+                    return Some(item);
+                }
+            }
+        }
+    }
+}
+
+/// Puts an item in, where it is not stored.
+fn keep_new(all: &mut Vec<Item>, store: &FactStore, item: Item) -> Result<(), Memory>
+    ensures { OnOk result (KeepsNew store.now item all.old.items all.new.items) }
+{
+    if store.cost(&item.key).is_none() {
+        all.push(item)?;
+    }
+    Ok(())
+}
+
+/// Takes all that waits with a cost and is not stored.
+fn all_new(
+    alloc: Global,
+    queue: &mut Queue<Item>,
+    store: &FactStore,
+    cost: u32,
+) -> Result<Vec<Item>, Memory>
+    ensures { IfOk result (λ all. AllTaken store.now queue.old.buckets.items queue.new.buckets.items cost all.items) }
+{
+    let mut all = Vec::new(alloc);
+    'items: loop {
+        match take(queue, cost) {
+            None => return Ok(all),
+            Some(item) => keep_new(&mut all, store, item)?,
+        }
+    }
+}
+
+/// Items of one cost, in their order.
+#[derive(Clone, Copy, Debug, Drop)]
+struct Level<'a> {
+    cost: u32,
+    items: &'a [Item],
+}
+
+/// An item of a level.
+fn item_at(level: &Level, place: usize) -> Item
+    requires { place < length level.now.items.now }
+    ensures { slice_get level.now.items.now place ≡ Some result }
+{
+    level.items[place]
+}
+
+/// Settles one item of a level, and what follows from it with the same cost.
+fn settle_one(
+    alloc: Global,
+    table: &Table,
+    classes: &Classes,
+    found: &mut Found,
+    level: &Level,
+    place: usize,
+) -> Result<(), Memory>
+    requires classes { IsClasses table.now classes.now }
+    requires place { place < length level.now.items.now }
+    requires ready { LevelReady table.now classes.now found.old.store found.old.work level.now.cost (drop place level.now.items.now) }
+    requires cost { level.now.cost ≤ cap }
+    ensures { OnOk result (LevelReady table.now classes.now found.new.store found.new.work level.now.cost (drop (place + 1) level.now.items.now)) }
+{
+    table.facts();
+    let item = item_at(level, place);
+    push(alloc, &mut found.work.queue, level.cost, item)?;
+    'turns: loop {
+        match next_new(&mut found.work.queue, &found.store, level.cost) {
+            None => return Ok(()),
+            Some(item) => {
+                found.store.settle(item.key, level.cost, item.back)?;
+                let path = Path {
+                    key: item.key,
+                    end: item.end,
+                    cost: level.cost,
+                };
+                expand(alloc, table, classes, &mut found.work, path)?;
+            }
+        }
+    }
+}
+
+/// Settles the items of a level.
+fn settle_each(
+    alloc: Global,
+    table: &Table,
+    classes: &Classes,
+    found: &mut Found,
+    level: &Level,
+) -> Result<(), Memory>
+    requires classes { IsClasses table.now classes.now }
+    requires ready { LevelReady table.now classes.now found.old.store found.old.work level.now.cost level.now.items.now }
+    requires cost { level.now.cost ≤ cap }
+    ensures { OnOk result (Good table.now classes.now found.new.store found.new.work (level.now.cost + 1) []) }
+{
+    table.facts();
+    for place in 0..level.items.len() {
+        settle_one(alloc, table, classes, found, level, place)?;
+    }
+    Ok(())
+}
+
+/// Whether words of a cost are too dear to be put in order.
+fn is_over(cost: u32) -> bool
+    ensures { IsTrue result ↔ (cost ≡ cap) }
+{
+    cost == CAP
+}
+
+/// Settles all that waits with a cost, and what follows from it with the same cost.
+fn settle_level(
+    alloc: Global,
+    table: &Table,
+    classes: &Classes,
+    found: &mut Found,
+    cost: u32,
+) -> Result<(), Memory>
+    requires classes { IsClasses table.now classes.now }
+    requires good { Good table.now classes.now found.old.store found.old.work cost [] }
+    requires cost { cost ≤ cap }
+    ensures { OnOk result (Good table.now classes.now found.new.store found.new.work (cost + 1) []) }
+{
+    table.facts();
+    let all = all_new(alloc, &mut found.work.queue, &found.store, cost)?;
+    if is_over(cost) {
+        let items = all.as_slice();
+        return settle_each(alloc, table, classes, found, &Level { cost, items });
+    }
+    let ordered = sorted(alloc, table, &found.store, all.as_slice())?;
+    let items = ordered.as_slice();
+    settle_each(alloc, table, classes, found, &Level { cost, items })
+}
+
+/// Each path that a run goes along with the least cost of its words, and of the words of that cost the first: the one that has the
+/// lower number at the first place where it differs from another.
+pub fn search(alloc: Global, table: &Table, classes: &Classes) -> Result<Found, Memory>
+    requires { IsClasses table.now classes.now }
+    ensures { IfOk result (λ found. IsFound table.now classes.now found) }
+{
+    table.facts();
+    let store = FactStore::new(alloc);
+    let work = begin(alloc, table, classes)?;
+    let mut found = Found { store, work };
+    for cost in 0..CAP + 1 {
+        settle_level(alloc, table, classes, &mut found, cost)?;
+    }
+    Ok(found)
+}
