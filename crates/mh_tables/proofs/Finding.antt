@@ -1,10 +1,9 @@
 -- The first relative run that loops, level by level.
-use Rattle.std.proofs.Common.{◌≡◌, ℕ, zero, suc, ◌+◌, ◌<◌, ◌≤◌, ◌⊎◌, inl, inr, List, [], ◌∷◌, length, get_or, map, Some, None, Option, Bool, true, false, cond, refl, ap, arith, ◌∙◌, below_more}
-use Rattle.std.proofs.lemmas.Bool.{cases_lt}
+use Rattle.std.proofs.Common.{◌≡◌, ℕ, zero, suc, ◌+◌, ◌<◌, ◌≤◌, ◌⊎◌, inl, inr, List, [], ◌∷◌, ◌++◌, length, get_or, Some, None, Option, Bool, true, false, cond, refl, ap, sym, arith, ◌∙◌, below_more}
+use Rattle.std.proofs.lemmas.Bool.{cases_lt, cases_eq}
 use Rattle.std.proofs.lemmas.List.{get_or_past, get_or_default}
-use Rattle.std.proofs.lemmas.List.Elements.{All-map}
+use Rattle.std.proofs.lemmas.List.Elements.{All-push, Contains-push, Contains-append_left}
 use Rattle.std.proofs.lemmas.List.Sorted.{All-permutation, Contains-permutation, IsNonDecreasingBy-from_sort}
-use Rattle.std.proofs.lemmas.Option.{slice_get-get_or, slice_get-map, slice_get_within, get_or_from_slice_get}
 use Rattle.std.specs.List.{slice_get, All, Contains}
 use Rattle.std.specs.List.Sorted.{IsPermutation, IsSorted}
 use Rattle.std.specs.Ordering.{nat_cmp}
@@ -17,7 +16,7 @@ use Rattle.mh_tables.specs.Run.{reductions}
 use Rattle.mh_grammar.proofs.EdgeOrder.{edge_found}
 use Rattle.mh_tables.proofs.Reductions.{reductions_none, reductions_split, reductions_before}
 use Rattle.mh_tables.specs.Halting.{IsBeginning, IsLook, Loops, Clear, Before, LoopsAt, NoneLoops, Halts, look_list, beginning}
-use Rattle.mh_tables.specs.code.Relative.{FirstLook, FirstState, AllClear, AreTargets}
+use Rattle.mh_tables.specs.code.Relative.{FirstLook, FirstState, AllClear, AddsTarget, AreTargets}
 
 pub first_look_is : (t : TableData) (below : Option ℕ) (s z : ℕ) → z < t.grammar.tokens → (Loops t below s None → ⊥) → ((y : ℕ) → y < z → Loops t below s (Some y) → ⊥) → Loops t below s (Some z) → FirstLook t below s (Some z)
 first_look_is t below s z lt none tokens loops = record { known = lt; loops = loops; no_look = earlier }
@@ -46,28 +45,47 @@ found_at : (es : List Edge) (x : Symbol) (u : ℕ) → find_edge es x ≡ Some u
 found_at [] x u h = cc
 found_at (e ∷ es) x u h = here_or e es x u (same_symbol e.symbol x) h (found_at es x u)
 
-each_target_begins : (t : TableData) (f : Facts t) (r : ℕ) (es : List Edge) → es ≡ (state_at t r).edges → All (λ e. IsBeginning t (Some r) e.target) es
+-- an edge of a list is one of the state
+pub edge_is : (t : TableData) (f : Facts t) (r : ℕ) (es : List Edge) (k : ℕ) (e : Edge) → es ≡ (state_at t r).edges → slice_get es k ≡ Some e → edge_of t r e.symbol ≡ Some e.target
 unfolding edge_of
-each_target_begins t f r es is k d lt = ((get_or es k d).symbol, rw (← is) (edge_found es k (get_or es k d) (rw is (f.ranges.order r)) (slice_get-get_or es k d lt)))
+edge_is t f r es k e is at = rw (← is) (edge_found es k e (rw is (f.ranges.order r)) at)
 
-contains_target : (t : TableData) (r u : ℕ) (es : List Edge) → es ≡ (state_at t r).edges → IsBeginning t (Some r) u → Contains (map (λ (e : Edge). e.target) es) u
+pub target_added : (t : TableData) (r u : ℕ) (old new : List ℕ) → IsBeginning t (Some r) u → new ≡ old ++ u ∷ [] → AddsTarget t r u old new
+target_added t r u old new begins is = record {
+  each = λ h. rw is (All-push (IsBeginning t (Some r)) old u h begins);
+  kept = λ v there. rw is (Contains-append_left old (u ∷ []) v there);
+  here = inl (rw is (Contains-push old u));
+}
+
+-- what was added of a state's edges, sorted
+pub targets_are : (t : TableData) (f : Facts t) (r n : ℕ) (es : List Edge) (added targets : List ℕ) → es ≡ (state_at t r).edges → length es ≤ n → All (IsBeginning t (Some r)) added
+    → ((k : ℕ) (e : Edge) → k < n → slice_get es k ≡ Some e → Contains added e.target ⊎ Clear t (Some r) e.target) → IsPermutation added targets → IsSorted nat_cmp targets → AreTargets t r targets
 unfolding edge_of
-contains_target t r u es is b =
-    let found = found_at es b.0 u (rw is b.1) in
-    let got : slice_get (map (λ (e : Edge). e.target) es) found.0 ≡ Some u = rw (slice_get-map (λ (e : Edge). e.target) es found.0, found.3) (ap (λ (n : ℕ). Some n) found.4) in
-    (found.0, slice_get_within (map (λ (e : Edge). e.target) es) found.0 u got, get_or_from_slice_get (map (λ (e : Edge). e.target) es) found.0 u u got)
-
--- the targets of a state's edges, sorted
-pub targets_are : (t : TableData) (f : Facts t) (r : ℕ) (es : List Edge) (targets : List ℕ) → es ≡ (state_at t r).edges → IsPermutation (map (λ (e : Edge). e.target) es) targets → IsSorted nat_cmp targets → AreTargets t r targets
-targets_are t f r es targets is moved sorted =
-    let each : All (IsBeginning t (Some r)) targets =
-    All-permutation (IsBeginning t (Some r)) (map (λ (e : Edge). e.target) es) targets moved (All-map (IsBeginning t (Some r)) (λ (e : Edge). e.target) es (each_target_begins t f r es is)) in
+targets_are t f r n es added targets is past each all moved sorted =
+    let begins : All (IsBeginning t (Some r)) targets = All-permutation (IsBeginning t (Some r)) added targets moved each in
     record {
-      each = each;
-      all = λ u b. Contains-permutation (map (λ (e : Edge). e.target) es) targets u moved (contains_target t r u es is b);
-      known = λ k d lt. let b = each k d lt in f.each_target r b.0 (get_or targets k d) b.1;
+      each = begins;
+      all = λ u b. (
+          let found = found_at es b.0 u (rw is b.1) in
+          let inside = found.2 in
+          elim (all found.0 found.1 (omega arith) found.3) [
+            | inl there ↦ inl (Contains-permutation added targets u moved (rw found.4 at there))
+            | inr clear ↦ inr (rw found.4 at clear)
+          ]);
+      known = λ k d lt. let b = begins k d lt in f.each_target r b.0 (get_or targets k d) b.1;
       order = IsNonDecreasingBy-from_sort (λ x. x) targets sorted;
     }
+
+-- one more edge was looked at
+pub targets_more : (t : TableData) (r n : ℕ) (es : List Edge) (old new : List ℕ) (e : Edge) → slice_get es n ≡ Some e → AddsTarget t r e.target old new → ((k : ℕ) (d : Edge) → k < n → slice_get es k ≡ Some d → Contains old d.target ⊎ Clear t (Some r) d.target)
+    → (k : ℕ) (d : Edge) → k < n + 1 → slice_get es k ≡ Some d → Contains new d.target ⊎ Clear t (Some r) d.target
+targets_more t r n es old new e at adds before k d l is = elim (cases_eq k n) [
+  | inl same ↦ (
+      let one : Some d ≡ Some e = sym is ∙ ap (slice_get es) same ∙ at in
+      let edge : d ≡ e = cc in
+      rw edge adds.here)
+  | inr other ↦ elim (before k d (omega arith) is) [ inl c ↦ inl (adds.kept d.target c) | inr clear ↦ inr clear ]
+]
 
 -- only known states have edges
 pub edge_source : (t : TableData) (r u : ℕ) (x : Symbol) → edge_of t r x ≡ Some u → r < length t.states
@@ -95,11 +113,14 @@ above_first t r targets i s look h lt is before found = record {
   where
     earlier : (s' : ℕ) → s' < s → IsBeginning t (Some r) s' → Clear t (Some r) s'
     earlier s' less b =
-        let there = h.all s' b in
-        let read : get_or targets there.0 0 ≡ s' = get_or_default targets there.0 0 s' there.1 ∙ there.2 in
-        elim (cases_lt there.0 i) [
-          | inl lower ↦ rw read at (before there.0 lower)
-          | inr upper ↦ absurd (let o : get_or targets i 0 ≤ get_or targets there.0 0 = h.order i there.0 0 upper there.1 in omega arith)
+        elim (h.all s' b) [
+          | inl there ↦ (
+              let read : get_or targets there.0 0 ≡ s' = get_or_default targets there.0 0 s' there.1 ∙ there.2 in
+              elim (cases_lt there.0 i) [
+                | inl lower ↦ rw read at (before there.0 lower)
+                | inr upper ↦ absurd (let o : get_or targets i 0 ≤ get_or targets there.0 0 = h.order i there.0 0 upper there.1 in omega arith)
+              ])
+          | inr clear ↦ clear
         ]
 
 pub above_more : (t : TableData) (r : ℕ) (targets : List ℕ) (i s : ℕ) → s ≡ get_or targets i 0 → ((k : ℕ) → k < i → Clear t (Some r) (get_or targets k 0)) → Clear t (Some r) s → (k : ℕ) → k < i + 1 → Clear t (Some r) (get_or targets k 0)
@@ -107,9 +128,12 @@ above_more t r targets i s is before here = below_more (λ k. Clear t (Some r) (
 
 pub above_all : (t : TableData) (r : ℕ) (targets : List ℕ) (i : ℕ) → AreTargets t r targets → length targets ≤ i → ((k : ℕ) → k < i → Clear t (Some r) (get_or targets k 0)) → AllClear t (Some r)
 above_all t r targets i h le before s b =
-    let there = h.all s b in
-    let read : get_or targets there.0 0 ≡ s = get_or_default targets there.0 0 s there.1 ∙ there.2 in
-    rw read at (before there.0 (let l = there.1 in omega arith))
+    elim (h.all s b) [
+      | inl there ↦ (
+          let read : get_or targets there.0 0 ≡ s = get_or_default targets there.0 0 s there.1 ∙ there.2 in
+          rw read at (before there.0 (let l = there.1 in omega arith)))
+      | inr clear ↦ clear
+    ]
 
 pub loops_alone : (t : TableData) (s : ℕ) (look : Option ℕ) → FirstState t None s look → LoopsAt t None s look
 loops_alone t s look h = record {

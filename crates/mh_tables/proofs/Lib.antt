@@ -1,13 +1,14 @@
 pub mod Accepted
 pub mod Asking
-pub mod Quieting
 pub mod Catalogues
 pub mod Cut
 pub mod Depth
 pub mod Ending
 pub mod Finding
+pub mod Known
 pub mod Longer
 pub mod OneTreeEnding
+pub mod Passing
 pub mod Path
 pub mod Reductions
 pub mod Settling

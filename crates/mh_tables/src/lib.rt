@@ -1,11 +1,11 @@
 //! Tables of a parser with the facts that they keep, and the test that every run on one ends.
 #![tactic(auto)]
 
-mod calm;
 mod halting;
 mod laws;
 mod moves;
 mod parts;
+mod passages;
 mod relative;
 mod table;
 

@@ -3,17 +3,17 @@ ghost use Rattle.std.specs.Prelude.{◌≡◌, ◌<◌, ◌≤◌, length, All, 
 ghost use Rattle.std.specs.Option.{ForSome};
 ghost use Rattle.std.specs.List.Sorted.{IsPermutation};
 ghost use Rattle.mh_grammar.specs.Plain.{production_count, rhs_of};
-ghost use Rattle.mh_tables.specs.Table.{TableData, state_at, cell_of};
+ghost use Rattle.mh_tables.specs.Table.{TableData, state_at, cell_of, edge_of};
 ghost use Rattle.mh_tables.specs.Run.{top_of as top};
 ghost use Rattle.mh_tables.specs.Halting.{IsLook, look_list, IsBeginning, beginning};
-ghost use Rattle.mh_tables.specs.code.Relative.{ReducedOr, ReducesNext, StackReduced, TriedOr, LoopsOr, Waits, LookFound, TokenFound, StateFound, AreTargets, TestFound};
-ghost use Rattle.mh_tables.specs.code.Calm.{AreCalm};
+ghost use Rattle.mh_tables.specs.code.Relative.{ReducedOr, ReducesNext, StackReduced, TriedOr, LoopsOr, Waits, LookFound, TokenFound, StateFound, AddsTarget, AreTargets, TestFound};
+ghost use Rattle.mh_tables.specs.code.Passages.{symbol_count, AreSettled};
 
-use crate::calm::calm_states;
 use crate::moves::{Choice, choose};
 use crate::parts::Action;
+use crate::passages::{MAX_BOUND, bounds_of, place_of};
 use crate::table::Table;
-use mh_grammar::Token;
+use mh_grammar::{Edge, Token};
 use std::alloc::{AllocError, Global};
 
 /// The most reductions that a relative run may make: this project's own limit.
@@ -31,7 +31,7 @@ pub enum HaltFault {
         state: u32,
         token: Option<Token>,
     },
-    /// There was no memory for a stack, or for the list of where the edges of a state lead.
+    /// There was no memory for a stack, for bounds, or for the list of where the edges of a state lead.
     Memory,
 }
 
@@ -228,55 +228,59 @@ fn first_look(
     }
 }
 
-// The first look with which the relative run loops. From a calm state none does.
-fn tried_look(
-    table: &Table,
-    stack: &mut Vec<u32>,
-    calm: &[bool],
-    below: Option<u32>,
-    state: u32,
-) -> Result<Option<Option<Token>>, AllocError>
-    requires marks { length calm.now ≡ length table.now.states }
-    requires calm { AreCalm table.now MAX_REDUCTIONS calm.now }
-    requires below { ForSome below (λ r. r < length table.now.states) }
-    requires state { state < length table.now.states }
-    ensures { IfOk result (λ found. LookFound table.now below state found) }
-{
-    if calm[state as usize] {
-        return Ok(None);
-    }
-    first_look(table, stack, below, state)
-}
-
 // The first start state alone that begins a relative run of more than `MAX_REDUCTIONS` reductions.
 fn first_start(
     table: &Table,
     stack: &mut Vec<u32>,
-    calm: &[bool],
 ) -> Result<Option<(u32, Option<Token>)>, AllocError>
-    requires marks { length calm.now ≡ length table.now.states }
-    requires calm { AreCalm table.now MAX_REDUCTIONS calm.now }
     ensures { IfOk result (λ found. StateFound table.now None found) }
 {
     table.facts();
     'states: for state in 0..u32::from(table.starts()) {
-        if let Some(look) = tried_look(table, stack, calm, None, state)? {
+        if let Some(look) = first_look(table, stack, None, state)? {
             return Ok(Some((state, look)));
         }
     }
     Ok(None)
 }
 
-// Where the edges of a state lead, in the order of states.
-fn targets_of(alloc: Global, table: &Table, from: u32) -> Result<Vec<u32>, AllocError>
-    requires { from < length table.now.states }
+// Adds where an edge of a state leads, unless the bound of its symbol tells that no relative run above it loops.
+fn add_target(
+    table: &Table,
+    bounds: &[u32],
+    from: u32,
+    edge: &Edge,
+    targets: &mut Vec<u32>,
+) -> Result<(), AllocError>
+    requires bounds { length bounds.now ≡ symbol_count table.now }
+    requires settled { AreSettled table.now bounds.now }
+    requires edge { edge_of table.now from edge.now.symbol ≡ Some edge.now.target }
+    ensures { OnOk result (AddsTarget table.now from edge.now.target targets.old.items targets.new.items) }
+{
+    table.facts();
+    if bounds[place_of(table, edge.symbol) as usize] <= MAX_BOUND {
+        return Ok(());
+    }
+    targets.push(edge.target)?;
+    Ok(())
+}
+
+// Where the edges of a state lead above which relative runs are to be tried, in the order of states.
+fn targets_of(
+    alloc: Global,
+    table: &Table,
+    bounds: &[u32],
+    from: u32,
+) -> Result<Vec<u32>, AllocError>
+    requires bounds { length bounds.now ≡ symbol_count table.now }
+    requires settled { AreSettled table.now bounds.now }
+    requires from { from < length table.now.states }
     ensures { IfOk result (λ targets. AreTargets table.now from targets.items) }
 {
     table.facts();
-    let edges = table.edges(from);
-    let mut targets = Vec::with_capacity(alloc, edges.len())?;
-    for edge in edges {
-        targets.push(edge.target)?;
+    let mut targets = Vec::new(alloc);
+    for edge in table.edges(from) {
+        add_target(table, bounds, from, edge, &mut targets)?;
     }
     targets.sort_unstable();
     Ok(targets)
@@ -287,18 +291,18 @@ fn first_above(
     alloc: Global,
     table: &Table,
     stack: &mut Vec<u32>,
-    calm: &[bool],
+    bounds: &[u32],
     below: u32,
 ) -> Result<Option<(u32, Option<Token>)>, AllocError>
-    requires marks { length calm.now ≡ length table.now.states }
-    requires calm { AreCalm table.now MAX_REDUCTIONS calm.now }
+    requires bounds { length bounds.now ≡ symbol_count table.now }
+    requires settled { AreSettled table.now bounds.now }
     requires below { below < length table.now.states }
     ensures { IfOk result (λ found. StateFound table.now (Some below) found) }
 {
     table.facts();
-    let targets = targets_of(alloc, table, below)?;
+    let targets = targets_of(alloc, table, bounds, below)?;
     'targets: for target in targets.as_slice() {
-        if let Some(look) = tried_look(table, stack, calm, Some(below), *target)? {
+        if let Some(look) = first_look(table, stack, Some(below), *target)? {
             return Ok(Some((*target, look)));
         }
     }
@@ -311,8 +315,8 @@ pub(crate) fn first_loop(alloc: Global, table: &Table) -> Result<Option<Relative
 {
     table.facts();
     let mut stack = Vec::new(alloc);
-    let calm = calm_states(alloc, table, &mut stack)?;
-    if let Some((state, token)) = first_start(table, &mut stack, &calm)? {
+    let bounds = bounds_of(alloc, table, &mut stack)?;
+    if let Some((state, token)) = first_start(table, &mut stack)? {
         return Ok(Some(RelativeRun {
             below: None,
             state,
@@ -320,7 +324,7 @@ pub(crate) fn first_loop(alloc: Global, table: &Table) -> Result<Option<Relative
         }));
     }
     'lower: for below in 0..table.states() {
-        if let Some((state, token)) = first_above(alloc, table, &mut stack, &calm, below)? {
+        if let Some((state, token)) = first_above(alloc, table, &mut stack, &bounds, below)? {
             return Ok(Some(RelativeRun {
                 below: Some(below),
                 state,

@@ -1,13 +1,14 @@
 //! A table that keeps its facts.
-ghost use Rattle.std.specs.Prelude.{◌≡◌, ◌<◌, ◌≤◌, Some, length, slice_get, IfOk};
+ghost use Rattle.std.specs.Prelude.{◌≡◌, ◌<◌, ◌≤◌, Some, ℕ, length, slice_get, IfOk, IfSome};
+ghost use Rattle.mh_grammar.specs.declared.types.Symbol.{Symbol};
 ghost use Rattle.mh_grammar.specs.declared.types.Symbol.TheVariants.{N};
-ghost use Rattle.mh_grammar.specs.Plain.{production_count, rhs_of, lhs_of};
+ghost use Rattle.mh_grammar.specs.Plain.{production_count, rhs_of, lhs_of, IsSymbolBelow};
 ghost use Rattle.mh_grammar.specs.Edges.{IsRising, IsEdgeBefore};
 ghost use Rattle.mh_grammar.specs.Costs.{costs_of};
 ghost use Rattle.mh_tables.specs.Table.{TableData, state_at, cell_of, fallback_of, edge_of, cost_of_token, table_data};
 ghost use Rattle.mh_tables.specs.Facts.{Facts};
 
-use crate::parts::{Action, Fallback, StateParts};
+use crate::parts::{Action, Fallback, Place, StateParts};
 use mh_grammar::{
     Edge, Grammar, Memory, Production, Sequence, Symbol, Token, TokenInfo, find_edge,
 };
@@ -175,6 +176,30 @@ impl Table {
         ensures { result ≡ edge_of self.now state (N nonterminal) }
     {
         find_edge(self.edges(state), Symbol::N(nonterminal))
+    }
+
+    // The core of a state.
+    fn core(&self, state: u32) -> &[Place]
+        requires { state < length self.now.states }
+        ensures { result.now ≡ (state_at self.now state).core }
+    {
+        let parts = &self.states.as_slice()[state as usize];
+        parts.core.as_slice()
+    }
+
+    /// The symbol of the edges that lead to a state, that of its core before the dot; a start state has none.
+    pub fn symbol_to(&self, state: u32) -> Option<Symbol>
+        requires { state < length self.now.states }
+        ensures symbol { (r : ℕ) (x : Symbol) → edge_of self.now r x ≡ Some state → result ≡ Some x }
+        ensures known { IfSome result (IsSymbolBelow self.now.grammar.tokens self.now.grammar.nonterminals) }
+    {
+        self.facts();
+        let place = self.core(state)[0];
+        if place.dot == 0 {
+            None
+        } else {
+            Some(self.symbol_of(place.production, place.dot - 1))
+        }
     }
 
     /// The left side of an ordinary production.

@@ -1,5 +1,5 @@
 -- What the test of relative runs finds at each level.
-use Rattle.std.specs.Prelude.{◌≡◌, ℕ, List, [], ◌∷◌, ◌++◌, length, take, ◌≤◌, Option, Some, None, ◌<◌, Bool, true, false}
+use Rattle.std.specs.Prelude.{◌≡◌, ℕ, List, [], ◌∷◌, ◌++◌, length, take, ◌≤◌, ◌⊎◌, Option, Some, None, ◌<◌, Bool, true, false}
 use Rattle.std.specs.List.{All, Contains}
 use Rattle.std.specs.List.Sorted.{IsNonDecreasing}
 use Rattle.mh_grammar.specs.Plain.{production_count}
@@ -82,10 +82,16 @@ abbrev pub StateFound : TableData → Option ℕ → Option (ℕ × Option ℕ) 
 StateFound t below None = AllClear t below
 StateFound t below (Some (s, look)) = FirstState t below s look
 
--- where the edges of a state lead, in the order of states
+-- where an edge of a state leads was added, or no relative run above it loops
+pub record AddsTarget (t : TableData) (r u : ℕ) (old new : List ℕ) : Type 0 where
+  pub each : All (IsBeginning t (Some r)) old → All (IsBeginning t (Some r)) new
+  pub kept : (v : ℕ) → Contains old v → Contains new v
+  pub here : Contains new u ⊎ Clear t (Some r) u
+
+-- where the edges of a state lead above which relative runs are to be tried, in the order of states
 pub record AreTargets (t : TableData) (r : ℕ) (targets : List ℕ) : Type 0 where
   pub each : All (IsBeginning t (Some r)) targets
-  pub all : (u : ℕ) → IsBeginning t (Some r) u → Contains targets u
+  pub all : (u : ℕ) → IsBeginning t (Some r) u → Contains targets u ⊎ Clear t (Some r) u
   pub known : All (λ u. u < length t.states) targets
   pub order : IsNonDecreasing targets
 

@@ -2,11 +2,11 @@ use Rattle.std.proofs.Common.{arith}
 use Rattle.mh_tables.proofs.Finding.{loops_above, lower_more, none_loops}
 use Rattle.mh_tables.proofs.relative.first_loop.Goals as goal
 
-pub first_start-requires-clause-calm : goal.first_start-requires-clause-calm
-first_start-requires-clause-calm c = rw c.deref.ensures.value c.in_ok-calm.ensures.calm
+pub first_above-requires-clause-bounds : goal.first_above-requires-clause-bounds
+first_above-requires-clause-bounds c = rw c.deref.ensures.value c.in_ok-bounds.ensures.size
 
-pub first_above-requires-clause-calm : goal.first_above-requires-clause-calm
-first_above-requires-clause-calm c = rw c.deref-in-lower.ensures.value c.in_ok-calm.ensures.calm
+pub first_above-requires-clause-settled : goal.first_above-requires-clause-settled
+first_above-requires-clause-settled c = rw c.deref.ensures.value c.in_ok-bounds.ensures.settled
 
 pub returns-in-Some-2 : goal.returns-in-Some-2
 returns-in-Some-2 c = loops_above c.args.table.now c.lower.below c.in-Some-2.state c.in-Some-2.token c.lower.invariant.alone c.lower.invariant.lower (rw c.in-Some-2.is at c.in_ok-state-2.ensures)
