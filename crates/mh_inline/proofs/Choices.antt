@@ -1,6 +1,7 @@
 -- Unfoldings behind one another: a monoid, with all choices from lists of them.
 use Rattle.std.proofs.Common.{◌≡◌, List, [], ◌∷◌, ◌++◌, map, refl, sym, ap, ◌∙◌, append_assoc}
 use Rattle.std.proofs.lemmas.List.{append-nil, map-append}
+use Rattle.mh_grammar.proofs.Lists.{cons_same}
 use Rattle.mh_rules.specs.declared.joined.Prec.{Prec}
 use Rattle.mh_rules.specs.declared.joined.Prec.TheVariants.{Absent, Given}
 use Rattle.mh_rules.specs.declared.instances.Part.{Part}
@@ -32,9 +33,6 @@ joined-nothing_right u = ap (λ rhs. unfolding_of rhs u.prec) (append-nil u.rhs)
 pub joined_assoc : (u v w : Unfolding) → joined (joined u v) w ≡ joined u (joined v w)
 unfolding unfolding_of
 joined_assoc u v w = ap (λ rhs. unfolding_of rhs (rightmost (rightmost u.prec v.prec) w.prec)) (append_assoc u.rhs v.rhs w.rhs) ∙ ap (unfolding_of (u.rhs ++ (v.rhs ++ w.rhs))) (rightmost_assoc u.prec v.prec w.prec)
-
-cons_same : {X : Type 0} (x y : X) (xs ys : List X) → x ≡ y → xs ≡ ys → x ∷ xs ≡ y ∷ ys
-cons_same x y xs ys e f = λ i. e i ∷ f i
 
 pub append_same : {X : Type 0} (xs ys zs ws : List X) → xs ≡ ys → zs ≡ ws → xs ++ zs ≡ ys ++ ws
 append_same xs ys zs ws e f = λ i. e i ++ f i

@@ -5,6 +5,7 @@ use Rattle.std.proofs.lemmas.Bool.{cases_eq}
 use Rattle.std.proofs.lemmas.List.{take_more, take_all}
 use Rattle.std.proofs.lemmas.List.Elements.{Contains-push_cases}
 use Rattle.std.proofs.lemmas.Option.{same_Some, slice_get_within, slice_get-get_or}
+use Rattle.mh_grammar.proofs.Lists.{contains_none, set_here, set_elsewhere}
 use Rattle.mh_rules.specs.declared.instances.Part.TheVariants.{Instance as Applied}
 use Rattle.mh_rules.specs.declared.instances.Instance.{Instance}
 use Rattle.mh_inline.specs.declared.unfoldings.Unfolding.{Unfolding}
@@ -15,8 +16,6 @@ use Rattle.mh_inline.specs.Sizes.{AreSmall, IsSizing}
 use Rattle.mh_inline.specs.Found.{IsMadeOf}
 use Rattle.mh_inline.specs.Uses.{IsPartOfKept, PutsOff, AreLast, Forgets, KnowsNeeded, KnowsUsed}
 use Rattle.mh_inline.proofs.Knowing.{inline_instance}
-use Rattle.mh_inline.proofs.OriginOrder.{contains_none}
-use Rattle.mh_inline.proofs.Ordering.{slice_set_same, slice_set_other}
 
 -- what stands in the order of sizes is an instance
 pub order_within : (is : List Instance) (s : Sizing) (order : List ℕ) → order ≡ s.order.items → IsSizing is s → (k d : ℕ) → k < length order → get_or order k d < length is
@@ -68,8 +67,8 @@ module _ (is : List Instance) (order : List ℕ) where
   KnowsNeeded-more last known new i n us l at within new_is f k = record {
     len = f.len ∙ length-set known n us ∙ k.len;
     each = λ m vs needed c u small. f.kept m (omega arith) ∙ elim (cases_eq m n) [
-      | inl same ↦ (rw same (slice_set_same known n us within ∙ ap Some (new_is vs (rw same at u) small)))
-      | inr other ↦ slice_set_other known n m us other ∙ elim (Contains-push_cases (take i order) (get_or order i 0) m (rw (take_more order i 0 l) at c)) [
+      | inl same ↦ (rw same (set_here known n us within ∙ ap Some (new_is vs (rw same at u) small)))
+      | inr other ↦ set_elsewhere known n us m other ∙ elim (Contains-push_cases (take i order) (get_or order i 0) m (rw (take_more order i 0 l) at c)) [
         | inl before ↦ k.each m vs (omega arith) before u small
         | inr same ↦ absurd (other (sym same ∙ sym at))
       ]

@@ -10,6 +10,7 @@ use Rattle.mh_grammar.specs.declared.types.Grammar.{Grammar}
 use Rattle.mh_grammar.specs.Edges.{IsRising}
 use Rattle.mh_grammar.specs.Plain.{plain_of, IsProductive}
 use Rattle.mh_grammar.proofs.Placing.{contains_at}
+use Rattle.mh_grammar.proofs.Lists.{contains_here, contains_there, contains_cases, contains_none}
 use Rattle.mh_rules.specs.declared.instances.Expanded.{Expanded}
 use Rattle.mh_rules.specs.declared.instances.Instance.{Instance}
 use Rattle.mh_inline.specs.declared.fault.InlineFault.{InlineFault}
@@ -18,7 +19,6 @@ use Rattle.mh_inline.specs.declared.origins.Origin.{Origin}
 use Rattle.mh_inline.specs.Instances.{is_inlined}
 use Rattle.mh_inline.specs.Inlined.{number_of, IsOriginBefore, AreProductions, IsInlined}
 use Rattle.mh_inline.specs.Faults.{HasNoInlineStart, IsFault, IsFirstCyclicAt, IsFirstInlineStartAt, IsFirstEmptyAt, IsGrammarOf, IsNamed, IsNoMemory, IsOver, IsSmall}
-use Rattle.mh_inline.proofs.OriginOrder.{contains_here, contains_there, contains_cases, contains_none}
 use Rattle.mh_inline.proofs.Limits.{made_same}
 
 before_once : (x y : Origin) → IsOriginBefore x y → IsOriginBefore y x → ⊥

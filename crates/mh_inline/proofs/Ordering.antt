@@ -5,7 +5,7 @@ use Rattle.std.proofs.lemmas.Bool.{cases_eq, false≢true}
 use Rattle.std.proofs.lemmas.List.{take_at, take-append-le}
 use Rattle.std.proofs.lemmas.List.Elements.{Contains-append_left, Contains-push}
 use Rattle.std.proofs.lemmas.Option.{same_Some, none-some, slice_get_within}
-use Rattle.mh_grammar.proofs.Placing.{get_cases}
+use Rattle.mh_grammar.proofs.Lists.{get_cases, set_here, set_elsewhere}
 use Rattle.mh_rules.specs.declared.instances.Part.TheVariants.{Instance as Applied}
 use Rattle.mh_rules.specs.declared.instances.Instance.{Instance}
 use Rattle.mh_inline.specs.declared.sizes.Size.{Size}
@@ -13,19 +13,6 @@ use Rattle.mh_inline.specs.Instances.{is_inlined}
 use Rattle.mh_inline.specs.Unfoldings as unfoldings
 use Rattle.mh_inline.specs.Sizes.{IsPartSize, IsEachSize, AreEachSized, IsEachBlocked, AreOrdered, IsOrdered, IsSettled}
 use Rattle.mh_inline.proofs.Same.{AreSome}
-
-module _ {X : Type 0} where
-  pub slice_set_same : (xs : List X) (n : ℕ) (v : X) → n < length xs → slice_get (set xs n v) n ≡ Some v
-  slice_set_same [] n v l = absurd (omega arith)
-  slice_set_same (x ∷ xs) zero v l = refl
-  slice_set_same (x ∷ xs) (suc n) v l = slice_set_same xs n v (omega arith)
-
-  pub slice_set_other : (xs : List X) (n m : ℕ) (v : X) → m ≢ n → slice_get (set xs n v) m ≡ slice_get xs m
-  slice_set_other [] n m v d = refl
-  slice_set_other (x ∷ xs) zero zero v d = absurd (d refl)
-  slice_set_other (x ∷ xs) zero (suc m) v d = refl
-  slice_set_other (x ∷ xs) (suc n) zero v d = refl
-  slice_set_other (x ∷ xs) (suc n) (suc m) v d = slice_set_other xs n m v (λ e. d (ap suc e))
 
 module _ (is : List Instance) (h : AreSome is) (sizes : List (Option Size)) (order : List ℕ) (s : AreOrdered is sizes order) where
   module _ (n : ℕ) (i : Instance) (z : Size) (at : slice_get is n ≡ Some i) (inline : is_inlined is n ≡ true) (open_ : slice_get sizes n ≡ Some None) (size : IsEachSize is i.productions z) (sized : AreEachSized is sizes i.productions) where
@@ -42,13 +29,13 @@ module _ (is : List Instance) (h : AreSome is) (sizes : List (Option Size)) (ord
     was m w e same = let f : Some (Some w) ≡ Some None = sym e ∙ ap (slice_get sizes) same ∙ open_ in none-some w (sym (same_Some _ _ f))
 
     sized_new : (m : ℕ) (w : Size) → slice_get sizes m ≡ Some (Some w) → slice_get (set sizes n (Some z)) m ≡ Some (Some w)
-    sized_new m w e = slice_set_other sizes n m (Some z) (was m w e) ∙ e
+    sized_new m w e = set_elsewhere sizes n (Some z) m (was m w e) ∙ e
 
     last : IsOrdered is (set sizes n (Some z)) order n
     last = record {
       inlined = inline;
       size = z;
-      sized = slice_set_same sizes n (Some z) within;
+      sized = set_here sizes n (Some z) within;
       behind = λ q inl.
           let one : inl.alternative.instance ≡ i = same_Some _ _ (sym inl.alternative.at ∙ at) in
           let there : slice_get i.productions inl.place ≡ Some inl.production = ap (λ (x : Instance). slice_get x.productions inl.place) (sym one) ∙ inl.alternative.alternative in
@@ -61,15 +48,15 @@ module _ (is : List Instance) (h : AreSome is) (sizes : List (Option Size)) (ord
       right = record {
         len = length-set sizes n (Some z) ∙ s.right.len;
         sound = λ m w e. elim (cases_eq m n) [
-          | inl same ↦ (let f : Some (Some z) ≡ Some (Some w) = sym (slice_set_same sizes n (Some z) within) ∙ ap (slice_get (set sizes n (Some z))) (sym same) ∙ e in
+          | inl same ↦ (let f : Some (Some z) ≡ Some (Some w) = sym (set_here sizes n (Some z) within) ∙ ap (slice_get (set sizes n (Some z))) (sym same) ∙ e in
               let one : z ≡ w = same_Some _ _ (same_Some _ _ f) in
               rw (same, ← one) part)
-          | inr other ↦ s.right.sound m w (sym (slice_set_other sizes n m (Some z) other) ∙ e)
+          | inr other ↦ s.right.sound m w (sym (set_elsewhere sizes n (Some z) m other) ∙ e)
         ];
       };
       listed = λ m w e. elim (cases_eq m n) [
         | inl same ↦ rw same (Contains-push order n)
-        | inr other ↦ Contains-append_left order (n ∷ []) m (s.listed m w (sym (slice_set_other sizes n m (Some z) other) ∙ e))
+        | inr other ↦ Contains-append_left order (n ∷ []) m (s.listed m w (sym (set_elsewhere sizes n (Some z) m other) ∙ e))
       ];
       ordered = λ j m e. elim (get_cases order n j m e) [
         | inl before ↦ (let o = s.ordered j m before in

@@ -13,6 +13,8 @@ use Rattle.std.proofs.lemmas.Map.Keys.{sorted_tail}
 use Rattle.std.proofs.lemmas.Map.Views.{All-after_first}
 use Rattle.std.proofs.lemmas.List.Elements.{All-weaker, recursion_from_All}
 use Rattle.mh_grammar.specs.Edges.{IsRising}
+use Rattle.mh_grammar.proofs.Lists as lists
+use Rattle.mh_grammar.proofs.Lists.{contains_none, inserted_contains}
 use Rattle.mh_rules.specs.declared.instances.InstanceProduction.{InstanceProduction}
 use Rattle.mh_rules.specs.declared.instances.Instance.{Instance}
 use Rattle.mh_inline.specs.declared.origins.Origin.{Origin}
@@ -43,7 +45,7 @@ origin_same x y e f g h = λ i. record { rank = e i; place = f i; instance = g i
 compared : Origin → Origin → Ordering
 compared x y = ordering_then (nat_cmp x.rank y.rank) (ordering_then (nat_cmp x.place y.place) (ordering_then (nat_cmp x.instance y.instance) (nat_cmp x.alternative y.alternative)))
 
-pub origin_less : (x y : Origin) → order.cmp-value.it x y ≡ Less → IsOriginBefore x y
+origin_less : (x y : Origin) → order.cmp-value.it x y ≡ Less → IsOriginBefore x y
 unfolding compared
 origin_less x y e =
     let z : compared x y ≡ Less = e in
@@ -73,53 +75,9 @@ origin_equal x y e =
     let t = then_equal (nat_cmp x.instance y.instance) _ s.1 in
     origin_same x y (equal x.rank y.rank r.0) (equal x.place y.place s.0) (equal x.instance y.instance t.0) (equal x.alternative y.alternative t.1)
 
-module _ {X : Type 0} where
-  pub contains_here : (x : X) (xs : List X) → Contains (x ∷ xs) x
-  contains_here x xs = (0, omega arith, refl)
-
-  pub contains_there : (x : X) (xs : List X) (y : X) → Contains xs y → Contains (x ∷ xs) y
-  contains_there x xs y c = (suc c.0, omega (arith, c.1), c.2)
-
-  pub contains_cases : (x : X) (xs : List X) (y : X) → Contains (x ∷ xs) y → (x ≡ y) ⊎ Contains xs y
-  contains_cases x xs y c = go c.0 c.1 c.2
-    where
-      go : (k : ℕ) → k < length (x ∷ xs) → get_or (x ∷ xs) k y ≡ y → (x ≡ y) ⊎ Contains xs y
-      go zero l e = inl e
-      go (suc k) l e = inr (k, omega arith, e)
-
-  pub contains_none : (y : X) → Contains [] y → ⊥
-  contains_none y c = let l : c.0 < 0 = c.1 in omega arith
-
-  -- the keys of a set with one put in its place, in any order in which only one item is equal to it
-  module _ (compare : X → X → Ordering) (same : (x y : X) → compare x y ≡ Equal → x ≡ y) where
-    pub inserted_contains : (xs : List X) (x y : X) → Contains (insert_key compare xs x) y ↔ ((x ≡ y) ⊎ Contains xs y)
-    inserted_contains [] x y = ((λ c. elim (contains_cases x [] y c) [ inl e ↦ inl e | inr d ↦ absurd (contains_none y d) ]), (λ c. elim c [ inl e ↦ rw (← e) (contains_here x []) | inr d ↦ absurd (contains_none y d) ]))
-    inserted_contains (z ∷ xs) x y = go (compare x z) refl (inserted_contains xs x y)
-      where
-        go : (o : Ordering) → compare x z ≡ o → (Contains (insert_key compare xs x) y ↔ ((x ≡ y) ⊎ Contains xs y)) → Contains (match_ordering o (x ∷ z ∷ xs) (z ∷ xs) (z ∷ insert_key compare xs x)) y ↔ ((x ≡ y) ⊎ Contains (z ∷ xs) y)
-        go Less e r = (contains_cases x (z ∷ xs) y, (λ c. elim c [ inl f ↦ rw (← f) (contains_here x (z ∷ xs)) | inr d ↦ contains_there x (z ∷ xs) y d ]))
-        go Equal e r = (inr, (λ c. elim c [ inl f ↦ (let one : z ≡ y = sym (same x z e) ∙ f in rw (← one) (contains_here z xs)) | inr d ↦ d ]))
-        go Greater e r = (
-          (λ c. elim (contains_cases z (insert_key compare xs x) y c) [
-            | inl f ↦ inr (rw (← f) (contains_here z xs))
-            | inr d ↦ elim (r.0 d) [ inl f ↦ inl f | inr h ↦ inr (contains_there z xs y h) ]
-          ]),
-          (λ c. elim c [
-            | inl f ↦ contains_there z (insert_key compare xs x) y (r.1 (inl f))
-            | inr d ↦ elim (contains_cases z xs y d) [
-              | inl f ↦ rw (← f) (contains_here z (insert_key compare xs x))
-              | inr h ↦ contains_there z (insert_key compare xs x) y (r.1 (inr h))
-            ]
-          ]),
-        )
-
 -- origins in the order of a set rise
 pub rising_keys : (s : BTreeSet Origin) → IsOrdered order.cmp-value.it s → IsRising IsOriginBefore s.keys
-rising_keys s o = go s.keys o
-  where
-    go : (xs : List Origin) → IsStrictlySortedBy order.cmp-value.it xs → IsRising IsOriginBefore xs
-    go [] o = tt
-    go (x ∷ xs) o = (recursion_from_All (IsOriginBefore x) xs (All-weaker (λ y. order.cmp-value.it x y ≡ Less) (IsOriginBefore x) (origin_less x) xs (All-after_first order.cmp-value.it x xs o)), go xs (sorted_tail order.cmp-value.it x xs o))
+rising_keys s o = lists.rising_keys order.cmp-value.it IsOriginBefore origin_less s o
 
 pub AreOriginsBelow-none : (is : List Instance) → AreOriginsBelow is 0 0 []
 AreOriginsBelow-none is = record { rising = tt; exact = λ s. ((λ c. absurd (contains_none s c)), (λ b. elim b.1 [ inl l ↦ absurd (omega arith) | inr r ↦ absurd (let l = r.1 in omega arith) ])) }

@@ -13,6 +13,7 @@ use Rattle.mh_grammar.specs.declared.types.Grammar.{Grammar}
 use Rattle.mh_grammar.specs.Numbering.{AreDistinct}
 use Rattle.mh_grammar.specs.Plain.{plain_of, IsInRange, IsProductive, IsSymbolBelow, IsProductionBelow}
 use Rattle.mh_grammar.proofs.Pigeon.{length-distinct_in}
+use Rattle.mh_grammar.proofs.Lists.{contains_here, contains_there}
 use Rattle.mh_rules.specs.declared.joined.Prec.{Prec}
 use Rattle.mh_rules.specs.declared.instances.Part.{Part}
 use Rattle.mh_rules.specs.declared.instances.Part.TheVariants.{Token, Instance as Applied}
@@ -29,7 +30,6 @@ use Rattle.mh_inline.specs.Inlined as inlined
 use Rattle.mh_inline.specs.Inlined.{is_kept, nonterminal_of, number_of, symbol_of, production_of, IsOrigin, AreOrigins, AreProductions, IsInlined}
 use Rattle.mh_inline.specs.Faults.{HasEmptyStart, HasNoCycle, HasNoInlineStart, IsFirstUnmarked, IsSmall}
 use Rattle.mh_inline.proofs.Producing.{AreBelow, below_ready}
-use Rattle.mh_inline.proofs.OriginOrder.{contains_here, contains_there}
 use Rattle.mh_inline.proofs.Cycling.{numbers, length-numbers, numbers_at}
 
 -- an instance that is not inline, by its number

@@ -14,6 +14,7 @@ use Rattle.mh_grammar.specs.Derivations.{Derivation, Derivations}
 use Rattle.mh_grammar.specs.Plain.{plain_of, IsToken, Produces, Derives, DerivesAll}
 use Rattle.mh_grammar.proofs.Numbered.{produces_at, listed_from_for}
 use Rattle.mh_grammar.proofs.Placing.{at_contains, contains_at}
+use Rattle.mh_grammar.proofs.Lists.{contains_here, contains_there, contains_cases, contains_none, contains_map, map_contains}
 use Rattle.mh_rules.specs.declared.instances.Part.{Part}
 use Rattle.mh_rules.specs.declared.instances.Part.TheVariants.{Token, Instance as Applied}
 use Rattle.mh_rules.specs.declared.instances.InstanceProduction.{InstanceProduction}
@@ -30,26 +31,11 @@ use Rattle.mh_inline.specs.Inlined.{number_of, symbol_of, production_of, rank_of
 use Rattle.mh_rules.specs.Sentences.{IsTokenPart, PartProduces}
 use Rattle.mh_inline.specs.Sentences.{KeepsSentences}
 use Rattle.mh_inline.specs.Faults.{HasNoInlineStart}
-use Rattle.mh_inline.proofs.OriginOrder.{contains_here, contains_there, contains_cases, contains_none}
 use Rattle.mh_inline.proofs.Limits.{alternative_same}
 use Rattle.mh_inline.proofs.Producing.{below_ready}
 use Rattle.mh_inline.proofs.Ranges.{IsNonterminal, IsGood, number_apart, side_good, start_at, start_nonterminal}
 
 -- MEMBERS
-
-contains_map : {X Y : Type 0} (f : X → Y) (xs : List X) (x : X) → Contains xs x → Contains (map f xs) (f x)
-contains_map f [] x c = absurd (contains_none x c)
-contains_map f (y ∷ xs) x c = elim (contains_cases y xs x c) [
-  | inl e ↦ rw (← e) (contains_here (f y) (map f xs))
-  | inr d ↦ contains_there (f y) (map f xs) (f x) (contains_map f xs x d)
-]
-
-map_contains : {X Y : Type 0} (f : X → Y) (xs : List X) (y : Y) → Contains (map f xs) y → (x : X) × Contains xs x × (f x ≡ y)
-map_contains f [] y c = absurd (contains_none y c)
-map_contains f (x ∷ xs) y c = elim (contains_cases (f x) (map f xs) y c) [
-  | inl e ↦ (x, contains_here x xs, e)
-  | inr d ↦ (let m = map_contains f xs y d in (m.0, contains_there x xs m.0 m.1, m.2))
-]
 
 contains_choices : (us vs : List Unfolding) (u v : Unfolding) → Contains us u → Contains vs v → Contains (choices us vs) (joined u v)
 contains_choices [] vs u v c d = absurd (contains_none u c)

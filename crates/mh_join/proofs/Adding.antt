@@ -8,6 +8,7 @@ use Rattle.std.proofs.lemmas.Bool.Decides.{Decides-eqb}
 use Rattle.std.proofs.lemmas.List.{append-nil, length-map}
 use Rattle.std.proofs.lemmas.List.Concat.{flat_map-append}
 use Rattle.std.proofs.lemmas.Option.{slice_get-get_or, slice_get_within}
+use Rattle.mh_grammar.proofs.Lists.{taken, set_here, set_elsewhere}
 use Rattle.mh_rules.specs.declared.modules.Rule.{Rule}
 use Rattle.mh_rules.specs.declared.joined.JoinedAlternative.{JoinedAlternative}
 use Rattle.mh_rules.specs.declared.joined.JoinedRule.{JoinedRule}
@@ -16,8 +17,7 @@ use Rattle.mh_join.specs.Names.{Text, Definition, definitions_from}
 use Rattle.mh_join.specs.Faults.{Meanings}
 use Rattle.mh_join.specs.Joining.{alternatives_by, alternatives_for, is_number, rule_without, without_alternatives, AreRules}
 use Rattle.mh_join.specs.Standing.{Adds}
-use Rattle.mh_join.proofs.Lists.{take_item, enumerate-push, length-take_in}
-use Rattle.mh_join.proofs.Numbers.{get_set_same, get_set_other}
+use Rattle.mh_join.proofs.Lists.{enumerate-push, length-take_in}
 
 eqb_self : (n : ℕ) → (n == n) ≡ true
 eqb_self n = (Decides-eqb n n).1 refl
@@ -72,13 +72,13 @@ module _ (w : Meanings) where
     outlines = ap (map without_alternatives) put ∙ kept old n within at;
     alternatives = λ i t r p q. elim (cases_eq i n) [
       | inl e ↦
-          let r_is : record s { alternatives = more } ≡ r = some_is (sym (get_set_same old n (record s { alternatives = more }) within) ∙ ap (slice_get (set old n (record s { alternatives = more }))) (sym e) ∙ ap (λ k. slice_get k i) (sym put) ∙ q) in
+          let r_is : record s { alternatives = more } ≡ r = some_is (sym (set_here old n (record s { alternatives = more }) within) ∙ ap (slice_get (set old n (record s { alternatives = more }))) (sym e) ∙ ap (λ k. slice_get k i) (sym put) ∙ q) in
           let t_is : s ≡ t = some_is (ap Some at ∙ sym (slice_get-get_or old n s within) ∙ ap (slice_get old) (sym e) ∙ p) in
           ap (λ (k : JoinedRule). map Some k.alternatives) (sym r_is) ∙ added ∙ ap (λ (k : JoinedRule). map Some k.alternatives ++ alternatives_by w d) t_is
           ∙ ap (λ k. map Some t.alternatives ++ k) (sym (append-nil (alternatives_by w d)))
           ∙ ap (λ b. map Some t.alternatives ++ ((if b then alternatives_by w d else []) ++ [])) (sym (ap (is_number i) number ∙ ap (λ k. k == n) e ∙ eqb_self n))
       | inr apart ↦
-          let r_is : t ≡ r = some_is (sym p ∙ sym (get_set_other old n i (record s { alternatives = more }) apart) ∙ ap (λ k. slice_get k i) (sym put) ∙ q) in
+          let r_is : t ≡ r = some_is (sym p ∙ sym (set_elsewhere old n (record s { alternatives = more }) i apart) ∙ ap (λ k. slice_get k i) (sym put) ∙ q) in
           ap (λ (k : JoinedRule). map Some k.alternatives) (sym r_is) ∙ sym (append-nil (map Some t.alternatives))
           ∙ ap (λ b. map Some t.alternatives ++ ((if b then alternatives_by w d else []) ++ [])) (sym (ap (is_number i) number ∙ eqb_apart i n apart))
     ];
@@ -118,7 +118,7 @@ AddsRules-none w owner k old = record { added = Adds-nothing w old; place_is = r
 pub AddsRules-more : (w : Meanings) (owner : Text → Option ℕ) (k : ℕ) (rs : List Rule) (i : ℕ) (r : Rule) (old mid new : List JoinedRule) (place next : ℕ) → i < length rs → r ≡ get_or rs i r → AddsRules w owner k (take i rs) old mid place
     → Adds w (record { file = k; owner = owner r.name; place = place; rule = r } ∷ []) mid new → next ≡ place + length r.alternatives → AddsRules w owner k (take (i + 1) rs) old new next
 AddsRules-more w owner k rs i r old mid new place next h at before adds is =
-    subst (λ xs. AddsRules w owner k xs old new next) (sym (take_item rs i r h at)) (record {
+    subst (λ xs. AddsRules w owner k xs old new next) (sym (taken rs i r h at)) (record {
       added = subst (λ ds. Adds w ds old new) (sym (definitions_from-push owner k 0 (take i rs) r))
           (Adds-append w (definitions_from owner k 0 (take i rs)) (record { file = k; owner = owner r.name; place = place_behind 0 (take i rs); rule = r } ∷ []) old mid new before.added
           (subst (λ n. Adds w (record { file = k; owner = owner r.name; place = n; rule = r } ∷ []) mid new) before.place_is adds));
@@ -129,7 +129,7 @@ AddsRules-more w owner k rs i r old mid new place next h at before adds is =
 
 pub Adds-enum_more : {A : Type 0} (w : Meanings) (f : ℕ × A → List Definition) (a b c : List JoinedRule) (n : ℕ) (xs : List A) (i j : ℕ) (x : A) → i < length xs → x ≡ get_or xs i x → n + i ≡ j → Adds w (flat_map f (enumerate_from n (take i xs))) a b → Adds w (f (j, x)) b c → Adds w (flat_map f (enumerate_from n (take (i + 1) xs))) a c
 Adds-enum_more w f a b c n xs i j x h e at p q =
-    rw (take_item xs i x h e, enumerate-push n (take i xs) x, length-take_in xs i h, at, flat_map-append f (enumerate_from n (take i xs)) ((j, x) ∷ []), append-nil (f (j, x)))
+    rw (taken xs i x h e, enumerate-push n (take i xs) x, length-take_in xs i h, at, flat_map-append f (enumerate_from n (take i xs)) ((j, x) ∷ []), append-nil (f (j, x)))
     (Adds-append w (flat_map f (enumerate_from n (take i xs))) (f (j, x)) a b c p q)
 
 -- RULES

@@ -12,6 +12,7 @@ use Rattle.std.proofs.lemmas.List.Concat.{flat_map-append}
 use Rattle.std.proofs.lemmas.Iterator.Adapters.{position_from-zero}
 use Rattle.std.specs.HashMap.{HashMap}
 use Rattle.indexmap.specs.IndexMap.{get}
+use Rattle.mh_grammar.proofs.Lists.{taken}
 use Rattle.mh_join.specs.Puts.{Puts}
 use Rattle.mh_join.specs.Names.{Text, same}
 
@@ -34,12 +35,8 @@ same_cases x y = go (same x y) refl (same y x) refl
 
 -- LISTS
 
--- one more of a list that is gone through
-pub take_item : {A : Type 0} (xs : List A) (i : ℕ) (x : A) → i < length xs → x ≡ get_or xs i x → take (i + 1) xs ≡ take i xs ++ x ∷ []
-take_item xs i x h e = take_more xs i x h ∙ ap (λ k. take i xs ++ k ∷ []) (sym e)
-
 pub flat_more : {A B : Type 0} (f : A → List B) (xs : List A) (i : ℕ) (x : A) → i < length xs → x ≡ get_or xs i x → flat_map f (take (i + 1) xs) ≡ flat_map f (take i xs) ++ (f x ++ [])
-flat_more f xs i x h e = ap (flat_map f) (take_item xs i x h e) ∙ flat_map-append f (take i xs) (x ∷ [])
+flat_more f xs i x h e = ap (flat_map f) (taken xs i x h e) ∙ flat_map-append f (take i xs) (x ∷ [])
 
 pub enumerate-push : {A : Type 0} (n : ℕ) (xs : List A) (x : A) → enumerate_from n (xs ++ x ∷ []) ≡ enumerate_from n xs ++ (n + length xs, x) ∷ []
 enumerate-push n [] x = ap (λ k. (k, x) ∷ []) (let e : n ≡ n + 0 = omega arith in e)
@@ -110,11 +107,11 @@ module _ {Y S : Type 0} where
 
   pub Puts-more : {A : Type 0} (f : A → List (Text × Y)) (m n k : HashMap Text Y S) (xs : List A) (i : ℕ) (x : A) → i < length xs → x ≡ get_or xs i x → Puts m (flat_map f (take i xs)) n → Puts n (f x) k → Puts m (flat_map f (take (i + 1) xs)) k
   Puts-more f m n k xs i x h e p q =
-      rw (take_item xs i x h e, flat_map-append f (take i xs) (x ∷ []), append-nil (f x)) (Puts-append m n k (flat_map f (take i xs)) (f x) p q)
+      rw (taken xs i x h e, flat_map-append f (take i xs) (x ∷ []), append-nil (f x)) (Puts-append m n k (flat_map f (take i xs)) (f x) p q)
 
   pub Puts-enum_more : {A : Type 0} (f : ℕ × A → List (Text × Y)) (m n k : HashMap Text Y S) (b : ℕ) (xs : List A) (i j : ℕ) (x : A) → i < length xs → x ≡ get_or xs i x → b + i ≡ j → Puts m (flat_map f (enumerate_from b (take i xs))) n → Puts n (f (j, x)) k → Puts m (flat_map f (enumerate_from b (take (i + 1) xs))) k
   Puts-enum_more f m n k b xs i j x h e at p q =
-      rw (take_item xs i x h e, enumerate-push b (take i xs) x, length-take_in xs i h, at, flat_map-append f (enumerate_from b (take i xs)) ((j, x) ∷ []), append-nil (f (j, x)))
+      rw (taken xs i x h e, enumerate-push b (take i xs) x, length-take_in xs i h, at, flat_map-append f (enumerate_from b (take i xs)) ((j, x) ∷ []), append-nil (f (j, x)))
       (Puts-append m n k (flat_map f (enumerate_from b (take i xs))) (f (j, x)) p q)
 
 -- a value put in at the next place
@@ -123,7 +120,7 @@ position_more test m n key xs i a is h e at p x =
     p x ∙ ap (λ o. option_or o (cond (same x (key a)) (Some i) None)) (at x)
     ∙ ap (λ b. option_or (position (test x) (take i xs)) (cond b (Some i) None)) (sym (is x))
     ∙ ap (λ k. option_or (position (test x) (take i xs)) (cond (test x a) (Some k) None)) (sym (length-take_in xs i h))
-    ∙ sym (position-push (test x) (take i xs) a) ∙ ap (position (test x)) (sym (take_item xs i a h e))
+    ∙ sym (position-push (test x) (take i xs) a) ∙ ap (position (test x)) (sym (taken xs i a h e))
 
 -- SETS AND TESTS
 
@@ -141,7 +138,7 @@ pub any_enum_more : {A : Type 0} (p : ℕ × A → Bool) (n : ℕ) (xs : List A)
 any_enum_more p n xs i j x h e at =
     ap (λ b. list_any p (enumerate_from n (take i xs)) || b) (sym (or_false (p (j, x)))) ∙ sym (list_any-append p (enumerate_from n (take i xs)) ((j, x) ∷ []))
     ∙ ap (λ k. list_any p (enumerate_from n (take i xs) ++ (k, x) ∷ [])) (sym at ∙ ap (λ k. n + k) (sym (length-take_in xs i h)))
-    ∙ sym (ap (list_any p) (ap (enumerate_from n) (take_item xs i x h e) ∙ enumerate-push n (take i xs) x))
+    ∙ sym (ap (list_any p) (ap (enumerate_from n) (taken xs i x h e) ∙ enumerate-push n (take i xs) x))
 
 -- a name put into a set
 pub any_put : (ks : List Text) (k x : Text) → list_any (same x) (insert_key same ks k) ≡ (list_any (same x) ks || same x k)

@@ -12,23 +12,14 @@ use Rattle.indexmap.specs.IndexSet.{insert_all, insert_key}
 use Rattle.std.proofs.lemmas.List.{map-append, append-nil}
 use Rattle.std.proofs.lemmas.List.Concat.{flat_map-append}
 use Rattle.std.proofs.lemmas.Iterator.Adapters.{position_from-zero}
+use Rattle.mh_grammar.proofs.Lists.{taken}
 use Rattle.mh_join.specs.declared.numbering.Outline.{Outline}
 use Rattle.mh_join.specs.declared.numbering.Numbering.{Numbering}
 use Rattle.mh_join.specs.Names.{Text, same, same_owner, is_rule, same_rule}
 use Rattle.mh_join.specs.Numbering.{number_in, IsNumbered, IsOwner, AddsNumber, Numbers}
-use Rattle.mh_join.proofs.Lists.{position-push, take_item, enumerate-push, length-take_in}
+use Rattle.mh_join.proofs.Lists.{position-push, enumerate-push, length-take_in}
 
 module _ {A : Type 0} where
-  pub get_set_same : (xs : List A) (i : ℕ) (y : A) → i < length xs → slice_get (set xs i y) i ≡ Some y
-  get_set_same xs i y h = slice_get-get_or (set xs i y) i y (let e : i < length (set xs i y) = omega (arith, length-set xs i y) in e) ∙ ap Some (get_or-set_same xs i y y h)
-
-  pub get_set_other : (xs : List A) (i k : ℕ) (y : A) → (k ≡ i → ⊥) → slice_get (set xs i y) k ≡ slice_get xs k
-  get_set_other [] i k y apart = refl
-  get_set_other (x ∷ xs) zero zero y apart = absurd (apart refl)
-  get_set_other (x ∷ xs) zero (suc k) y apart = refl
-  get_set_other (x ∷ xs) (suc i) zero y apart = refl
-  get_set_other (x ∷ xs) (suc i) (suc k) y apart = get_set_other xs i k y (λ e. apart (ap suc e))
-
   any_from : (p : A → Bool) (n : ℕ) (xs : List A) → is_some (position_from p n xs) ≡ list_any p xs
   any_from p n [] = refl
   any_from p n (x ∷ xs) = go (p x) (any_from p (n + 1) xs)
@@ -101,11 +92,11 @@ Numbers-append a b c os ps p q = record {
 }
 
 pub Numbers-more : {A : Type 0} (f : A → Outline) (a b c : Numbering) (xs : List A) (i : ℕ) (x : A) → i < length xs → x ≡ get_or xs i x → Numbers a b (map f (take i xs)) → Numbers b c (f x ∷ []) → Numbers a c (map f (take (i + 1) xs))
-Numbers-more f a b c xs i x h e p q = rw (take_item xs i x h e, map-append f (take i xs) (x ∷ [])) (Numbers-append a b c (map f (take i xs)) (f x ∷ []) p q)
+Numbers-more f a b c xs i x h e p q = rw (taken xs i x h e, map-append f (take i xs) (x ∷ [])) (Numbers-append a b c (map f (take i xs)) (f x ∷ []) p q)
 
 pub Numbers-enum_more : {A : Type 0} (f : ℕ × A → List Outline) (a b c : Numbering) (n : ℕ) (xs : List A) (i j : ℕ) (x : A) → i < length xs → x ≡ get_or xs i x → n + i ≡ j → Numbers a b (flat_map f (enumerate_from n (take i xs))) → Numbers b c (f (j, x)) → Numbers a c (flat_map f (enumerate_from n (take (i + 1) xs)))
 Numbers-enum_more f a b c n xs i j x h e at p q =
-    rw (take_item xs i x h e, enumerate-push n (take i xs) x, length-take_in xs i h, at, flat_map-append f (enumerate_from n (take i xs)) ((j, x) ∷ []), append-nil (f (j, x)))
+    rw (taken xs i x h e, enumerate-push n (take i xs) x, length-take_in xs i h, at, flat_map-append f (enumerate_from n (take i xs)) ((j, x) ∷ []), append-nil (f (j, x)))
     (Numbers-append a b c (flat_map f (enumerate_from n (take i xs))) (f (j, x)) p q)
 
 -- the owner of a rule in a file

@@ -4,6 +4,7 @@ use Rattle.std.specs.Prelude.{is_some, option_map, option_and_then}
 use Rattle.std.specs.List.{flat_map, enumerate_from}
 use Rattle.std.proofs.lemmas.List.{map-append, take-append-drop, append-nil}
 use Rattle.std.proofs.lemmas.List.Concat.{flat_map-append}
+use Rattle.mh_grammar.proofs.Lists.{taken}
 use Rattle.mh_rules.specs.declared.modules.Ref.{Ref}
 use Rattle.mh_rules.specs.declared.modules.Actual.{Actual}
 use Rattle.mh_rules.specs.declared.modules.Actual.TheViews.{out-Actual}
@@ -13,7 +14,7 @@ use Rattle.mh_rules.specs.declared.joined.Applied.{Applied}
 use Rattle.mh_join.specs.declared.fault.JoinFault.{JoinFault}
 use Rattle.mh_join.specs.Faults.{unless, undefined, undefined_in_actual}
 use Rattle.mh_join.specs.Joining.{all_of, applied_to, apply_step, resolved}
-use Rattle.mh_join.proofs.Lists.{take_item, enumerate-push, length-take_in}
+use Rattle.mh_join.proofs.Lists.{enumerate-push, length-take_in}
 use Rattle.mh_join.proofs.Finding.{drop_item}
 use Rattle.mh_join.proofs.Actuals.{actual_out}
 
@@ -82,22 +83,22 @@ pub somes_more : {A B : Type 0} (g : A → Option B) (before : List (Option B)) 
 somes_more g before xs i x done new y h at so_far is put =
     ap (map Some) put ∙ map-append Some done (y ∷ []) ∙ ap (λ k. k ++ Some y ∷ []) so_far ∙ append_assoc before (map g (take i xs)) (Some y ∷ [])
     ∙ ap (λ o. before ++ (map g (take i xs) ++ o ∷ [])) is
-    ∙ ap (λ k. before ++ k) (sym (ap (map g) (take_item xs i x h at) ∙ map-append g (take i xs) (x ∷ [])))
+    ∙ ap (λ k. before ++ k) (sym (ap (map g) (taken xs i x h at) ∙ map-append g (take i xs) (x ∷ [])))
 
 pub somes_enum_more : {A B : Type 0} (g : ℕ × A → Option B) (before : List (Option B)) (n : ℕ) (xs : List A) (i j : ℕ) (x : A) (done new : List B) (y : B) → i < length xs → x ≡ get_or xs i x → n + i ≡ j → map Some done ≡ before ++ map g (enumerate_from n (take i xs)) → Some y ≡ g (j, x) → new ≡ done ++ y ∷ [] → map Some new ≡ before ++ map g (enumerate_from n (take (i + 1) xs))
 somes_enum_more g before n xs i j x done new y h at place so_far is put =
     ap (map Some) put ∙ map-append Some done (y ∷ []) ∙ ap (λ k. k ++ Some y ∷ []) so_far ∙ append_assoc before (map g (enumerate_from n (take i xs))) (Some y ∷ [])
     ∙ ap (λ o. before ++ (map g (enumerate_from n (take i xs)) ++ o ∷ [])) is
-    ∙ ap (λ k. before ++ k) (sym (ap (map g) (ap (enumerate_from n) (take_item xs i x h at) ∙ enumerate-push n (take i xs) x ∙ ap (λ k. enumerate_from n (take i xs) ++ (k, x) ∷ []) (ap (λ k. n + k) (length-take_in xs i h) ∙ place))
+    ∙ ap (λ k. before ++ k) (sym (ap (map g) (ap (enumerate_from n) (taken xs i x h at) ∙ enumerate-push n (take i xs) x ∙ ap (λ k. enumerate_from n (take i xs) ++ (k, x) ∷ []) (ap (λ k. n + k) (length-take_in xs i h) ∙ place))
     ∙ map-append g (enumerate_from n (take i xs)) ((j, x) ∷ [])))
 
 -- some lists more, each behind the others
 pub flat_somes_more : {A B : Type 0} (g : ℕ × A → List (Option B)) (n : ℕ) (xs : List A) (i j : ℕ) (x : A) (done new : List B) → i < length xs → x ≡ get_or xs i x → n + i ≡ j → map Some done ≡ flat_map g (enumerate_from n (take i xs)) → map Some new ≡ map Some done ++ g (j, x) → map Some new ≡ flat_map g (enumerate_from n (take (i + 1) xs))
 flat_somes_more g n xs i j x done new h at place so_far put =
     put ∙ ap (λ k. k ++ g (j, x)) so_far
-    ∙ sym (ap (flat_map g) (ap (enumerate_from n) (take_item xs i x h at) ∙ enumerate-push n (take i xs) x ∙ ap (λ k. enumerate_from n (take i xs) ++ (k, x) ∷ []) (ap (λ k. n + k) (length-take_in xs i h) ∙ place))
+    ∙ sym (ap (flat_map g) (ap (enumerate_from n) (taken xs i x h at) ∙ enumerate-push n (take i xs) x ∙ ap (λ k. enumerate_from n (take i xs) ++ (k, x) ∷ []) (ap (λ k. n + k) (length-take_in xs i h) ∙ place))
     ∙ flat_map-append g (enumerate_from n (take i xs)) ((j, x) ∷ []) ∙ ap (λ k. flat_map g (enumerate_from n (take i xs)) ++ k) (append-nil (g (j, x))))
 
 pub maps_more : {A B : Type 0} (f : A → B) (xs : List A) (i : ℕ) (x : A) (done new : List B) (y : B) → i < length xs → x ≡ get_or xs i x → done ≡ map f (take i xs) → y ≡ f x → new ≡ done ++ y ∷ [] → new ≡ map f (take (i + 1) xs)
 maps_more f xs i x done new y h at so_far is put =
-    put ∙ ap (λ k. k ++ y ∷ []) so_far ∙ ap (λ k. map f (take i xs) ++ k ∷ []) is ∙ sym (ap (map f) (take_item xs i x h at) ∙ map-append f (take i xs) (x ∷ []))
+    put ∙ ap (λ k. k ++ y ∷ []) so_far ∙ ap (λ k. map f (take i xs) ++ k ∷ []) is ∙ sym (ap (map f) (taken xs i x h at) ∙ map-append f (take i xs) (x ∷ []))

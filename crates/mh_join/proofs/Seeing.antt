@@ -6,13 +6,14 @@ use Rattle.std.specs.HashSet.{HashSet}
 use Rattle.std.proofs.lemmas.List.{append-nil}
 use Rattle.std.proofs.lemmas.List.Folds.{list_any-append}
 use Rattle.indexmap.specs.IndexSet.{insert_key}
+use Rattle.mh_grammar.proofs.Lists.{taken}
 use Rattle.mh_rules.specs.declared.modules.Rule.{Rule}
 use Rattle.mh_join.specs.declared.fault.JoinFault.{JoinFault}
 use Rattle.mh_join.specs.declared.fault.JoinFault.TheVariants as faults
 use Rattle.mh_join.specs.Names.{Text, same}
 use Rattle.mh_join.specs.Faults.{first, unless, repeats, own_name, own_names}
 use Rattle.mh_join.specs.Once.{PutsOwn}
-use Rattle.mh_join.proofs.Lists.{any_put, take_item, flat_more}
+use Rattle.mh_join.proofs.Lists.{any_put, flat_more}
 use Rattle.mh_join.proofs.Finding.{IsFirst, drop_item}
 
 -- the set has these names, of which none repeats; the rest is to come
@@ -70,7 +71,7 @@ own_err test old new rules i r h at seen e puts =
 -- one more name
 pub name_more : (keys new names : List Text) (i : ℕ) (x : Text) → i < length names → x ≡ get_or names i x → Seen keys (take i names) (drop i names) names → new ≡ insert_key same keys x → list_any (same x) keys ≡ false → Seen new (take (i + 1) names) (drop (i + 1) names) names
 name_more keys new names i x h at seen put lacks =
-    subst (λ k. Seen new k (drop (i + 1) names) names) (sym (take_item names i x h at)) (Seen-more keys new (take i names) (drop (i + 1) names) names x (subst (λ k. Seen keys (take i names) k names) (drop_item names i x h at) seen) put lacks)
+    subst (λ k. Seen new k (drop (i + 1) names) names) (sym (taken names i x h at)) (Seen-more keys new (take i names) (drop (i + 1) names) names x (subst (λ k. Seen keys (take i names) k names) (drop_item names i x h at) seen) put lacks)
 
 pub name_err : (keys names : List Text) (i : ℕ) (x : Text) → i < length names → x ≡ get_or names i x → Seen keys (take i names) (drop i names) names → (e : JoinFault) → (e ≡ faults.Memory) ⊎ ((e ≡ faults.Duplicate x) × (list_any (same x) keys ≡ true)) → IsFirst (repeats [] names) e
 name_err keys names i x h at seen e puts = Seen-err keys (take i names) (drop (i + 1) names) names x e (subst (λ k. Seen keys (take i names) k names) (drop_item names i x h at) seen) puts
