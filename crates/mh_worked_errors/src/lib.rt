@@ -3,5 +3,3 @@
 
 #[cfg(test)]
 mod catalogues;
-#[cfg(test)]
-mod made;

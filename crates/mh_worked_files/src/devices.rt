@@ -31,6 +31,12 @@ fn lines(alloc: Global, input: &mut MemSource, limit: usize) -> Result<Vec<u8>, 
     Ok(text)
 }
 
+/// The lines of these bytes, where these reads fail.
+fn lines_of(alloc: Global, bytes: &[u8], fails: &[u64], limit: usize) -> Result<Vec<u8>, Fail> {
+    let mut input = source(alloc, bytes, fails)?;
+    lines(alloc, &mut input, limit)
+}
+
 #[test]
 fn lines_are_read(rt: HostRuntime) -> Result<(), Fail> {
     let alloc = rt.alloc();
@@ -44,8 +50,8 @@ fn lines_are_read(rt: HostRuntime) -> Result<(), Fail> {
         (b"abc\nd", 2, b"+>>d"),
         (b"a", 0, b"+"),
     ] {
-        let mut input = source(alloc, input, &[])?;
-        assert_eq!(rt; lines(alloc, &mut input, limit)?.as_slice(), want);
+        let found = lines_of(alloc, input, &[], limit)?;
+        assert_eq!(rt; found.as_slice(), want);
     }
     Ok(())
 }
@@ -63,8 +69,8 @@ fn each_read_fails_in_turn(rt: HostRuntime) -> Result<(), Fail> {
         (6, b">ab>c!"),
         (7, b">ab>c"),
     ] {
-        let mut input = source(alloc, b"ab\nc", &[fail])?;
-        assert_eq!(rt; lines(alloc, &mut input, 9)?.as_slice(), want, "{fail}");
+        let found = lines_of(alloc, b"ab\nc", &[fail], 9)?;
+        assert_eq!(rt; found.as_slice(), want, "{fail}");
     }
     Ok(())
 }
@@ -118,30 +124,48 @@ fn each_write_fails_in_turn(rt: HostRuntime) -> Result<(), Fail> {
     Ok(())
 }
 
+fn file(alloc: Global, name: &[u8], bytes: &[u8]) -> Result<(Vec<u8>, Vec<u8>), Fail> {
+    let name = name.to_vec(alloc)?;
+    Ok((name, bytes.to_vec(alloc)?))
+}
+
+/// A shelf of two files, whose third read fails.
+fn shelf(alloc: Global) -> Result<MemShelf, Fail> {
+    let mut files = Vec::new(alloc);
+    files.push(file(alloc, b"g", b"HELLO")?)?;
+    files.push(file(alloc, b"h", b"")?)?;
+    Ok(MemShelf::new(files, [3].to_vec(alloc)?))
+}
+
+/// The bytes of a file, or the fault.
+fn read_shown(
+    alloc: Global,
+    shelf: &mut MemShelf,
+    name: &[u8],
+    limit: usize,
+) -> Result<Vec<u8>, Fail> {
+    match shelf.read_file(alloc, name, limit) {
+        Ok(bytes) => Ok(bytes),
+        Err(ShelfFault::TooBig) => Ok(b"too big".to_vec(alloc)?),
+        Err(ShelfFault::Failed) => Ok(b"failed".to_vec(alloc)?),
+        Err(ShelfFault::Absent) => Ok(b"absent".to_vec(alloc)?),
+        Err(ShelfFault::Memory) => Err(Fail::from("memory")),
+    }
+}
+
 #[test]
 fn files_are_read(rt: HostRuntime) -> Result<(), Fail> {
-    let alloc = rt.alloc();
-    let mut files = Vec::new(alloc);
-    files.push((b"g".to_vec(alloc)?, b"HELLO".to_vec(alloc)?))?;
-    files.push((b"h".to_vec(alloc)?, b"".to_vec(alloc)?))?;
-    let mut shelf = MemShelf::new(files, [3].to_vec(alloc)?);
-    assert_eq!(rt;
-        shelf.read_file(alloc, b"g", 5)?.as_slice(),
-        b"HELLO".as_slice()
-    );
-    assert_eq!(rt;
-        shelf.read_file(alloc, b"g", 4).err(),
-        Some(ShelfFault::TooBig)
-    );
-    assert_eq!(rt;
-        shelf.read_file(alloc, b"g", 5).err(),
-        Some(ShelfFault::Failed)
-    );
-    assert_eq!(rt;
-        shelf.read_file(alloc, b"i", 5).err(),
-        Some(ShelfFault::Absent)
-    );
-    assert_eq!(rt; shelf.read_file(alloc, b"h", 0)?.as_slice(), b"".as_slice());
+    let mut shelf = shelf(rt.alloc())?;
+    for (name, limit, want) in [
+        (b"g".as_slice(), 5, b"HELLO".as_slice()),
+        (b"g", 4, b"too big"),
+        (b"g", 5, b"failed"),
+        (b"i", 5, b"absent"),
+        (b"h", 0, b""),
+    ] {
+        let found = read_shown(rt.alloc(), &mut shelf, name, limit)?;
+        assert_eq!(rt; found.as_slice(), want);
+    }
     Ok(())
 }
 

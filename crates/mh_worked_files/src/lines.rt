@@ -2,34 +2,54 @@
 ghost use Rattle.mh_grammar.specs.Plain.{plain_of, IsInRange};
 
 use crate::cases::{digit, parts};
-use mh_grammar::{Grammar, Memory, NontermInfo, Sequence, TokenInfo, from_bytes, is_in_range};
+use mh_grammar::{
+    Grammar, Memory, NontermInfo, Sentence, Sequence, TokenInfo, from_bytes, is_in_range,
+};
 use mh_msgfile::{SentenceFault, read_sentence};
 use std::alloc::Global;
+use std::process::Abort;
 use std::test::Fail;
+
+fn add_token(alloc: Global, grammar: &mut Grammar, name: &str) -> Result<(), Memory> {
+    let name = from_bytes(alloc, name.as_bytes())?;
+    grammar.tokens.push(TokenInfo {
+        name,
+        level: None,
+        cost: 1,
+    })?;
+    Ok(())
+}
+
+fn add_nonterminal(alloc: Global, grammar: &mut Grammar, name: &str) -> Result<(), Memory> {
+    let name = from_bytes(alloc, name.as_bytes())?;
+    grammar.nonterminals.push(NontermInfo {
+        name,
+        on_error: None,
+    })?;
+    Ok(())
+}
+
+/// A grammar without tokens and nonterminals.
+fn bare(alloc: Global, starts: &[u16]) -> Result<Grammar, Memory> {
+    let starts = Vec::from_slice(alloc, starts)?;
+    Ok(Grammar {
+        tokens: Sequence::new(alloc),
+        nonterminals: Sequence::new(alloc),
+        productions: Sequence::new(alloc),
+        starts: Sequence::from_vec(starts),
+    })
+}
 
 /// A grammar of the tokens `A`, `B'` and `EOF` and the nonterminals `r` and `s`, with these starts.
 pub fn sample(alloc: Global, starts: &[u16]) -> Result<Grammar, Memory> {
-    let mut tokens = Sequence::new(alloc);
+    let mut grammar = bare(alloc, starts)?;
     for name in ["A", "B'", "EOF"] {
-        tokens.push(TokenInfo {
-            name: from_bytes(alloc, name.as_bytes())?,
-            level: None,
-            cost: 1,
-        })?;
+        add_token(alloc, &mut grammar, name)?;
     }
-    let mut nonterminals = Sequence::new(alloc);
     for name in ["r", "s"] {
-        nonterminals.push(NontermInfo {
-            name: from_bytes(alloc, name.as_bytes())?,
-            on_error: None,
-        })?;
+        add_nonterminal(alloc, &mut grammar, name)?;
     }
-    Ok(Grammar {
-        tokens,
-        nonterminals,
-        productions: Sequence::new(alloc),
-        starts: Sequence::from_vec(Vec::from_slice(alloc, starts)?),
-    })
+    Ok(grammar)
 }
 
 pub fn joined(alloc: Global, front: &str, name: &[u8]) -> Result<Vec<u8>, Memory> {
@@ -38,20 +58,23 @@ pub fn joined(alloc: Global, front: &str, name: &[u8]) -> Result<Vec<u8>, Memory
     Ok(text)
 }
 
-/// The digits of a line's start and, behind a colon, of its tokens; or its fault, with the name.
+/// The digits of a sentence's start and, behind a colon, of its tokens.
+fn digits_of(alloc: Global, sentence: &Sentence) -> Result<Vec<u8>, Memory> {
+    let mut text = Vec::new(alloc);
+    text.push(digit(u64::from(sentence.start)))?;
+    text.push(b':')?;
+    for token in sentence.tokens.as_slice() {
+        text.push(digit(u64::from(*token)))?;
+    }
+    Ok(text)
+}
+
+/// The digits of a line's sentence, or its fault, with the name.
 fn shown(alloc: Global, grammar: &Grammar, line: &[u8]) -> Result<Vec<u8>, Memory>
     requires { IsInRange (plain_of grammar.now) }
 {
     match read_sentence(alloc, grammar, line) {
-        Ok(sentence) => {
-            let mut text = Vec::new(alloc);
-            text.push(digit(u64::from(sentence.start)))?;
-            text.push(b':')?;
-            for token in sentence.tokens.as_slice() {
-                text.push(digit(u64::from(*token)))?;
-            }
-            Ok(text)
-        }
+        Ok(sentence) => digits_of(alloc, &sentence),
         Err(SentenceFault::Unreadable) => joined(alloc, "unreadable", b""),
         Err(SentenceFault::UnknownStart { name }) => { joined(alloc, "no start ", name.as_slice()) }
         Err(SentenceFault::MissingStart) => joined(alloc, "missing start", b""),
@@ -94,21 +117,28 @@ const OF_TWO_STARTS: &str = "s: A~0:0^\
      A 1~unreadable^\
      :~unreadable";
 
-#[test]
-fn lines(rt: HostRuntime) -> Result<(), Fail> {
-    let alloc = rt.alloc();
-    for (starts, cases, count) in [
-        ([1].as_slice(), OF_ONE_START, 22),
-        ([1, 0].as_slice(), OF_TWO_STARTS, 8),
-    ] {
-        let grammar = sample(alloc, starts)?;
-        assert!(rt; is_in_range(&grammar));
-        for case in cases.split('^') {
-            let (line, expected) = parts(case)?;
-            let found = shown(alloc, &grammar, line.as_bytes())?;
-            assert_eq!(rt; found.as_slice(), expected.as_bytes(), "at {line:?}");
-        }
-        assert_eq!(rt; cases.split('^').count(), count);
+fn check_line(rt: &impl Abort, alloc: Global, grammar: &Grammar, case: &str) -> Result<(), Fail>
+    requires range { IsInRange (plain_of grammar.now) }
+{
+    let (line, expected) = parts(case)?;
+    let found = shown(alloc, grammar, line.as_bytes())?;
+    assert_eq!(rt; found.as_slice(), expected.as_bytes(), "at {line:?}");
+    Ok(())
+}
+
+fn check_lines(rt: &impl Abort, alloc: Global, starts: &[u16], cases: &str) -> Result<(), Fail> {
+    let grammar = sample(alloc, starts)?;
+    assert!(rt; is_in_range(&grammar));
+    for case in cases.split('^') {
+        check_line(rt, alloc, &grammar, case)?;
     }
     Ok(())
+}
+
+#[test]
+fn lines(rt: HostRuntime) -> Result<(), Fail> {
+    assert_eq!(rt; OF_ONE_START.split('^').count(), 22);
+    check_lines(&rt, rt.alloc(), &[1], OF_ONE_START)?;
+    assert_eq!(rt; OF_TWO_STARTS.split('^').count(), 8);
+    check_lines(&rt, rt.alloc(), &[1, 0], OF_TWO_STARTS)
 }

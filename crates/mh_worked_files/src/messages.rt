@@ -7,6 +7,7 @@ use crate::lines::{joined, sample};
 use mh_grammar::{Grammar, Memory, is_in_range};
 use mh_msgfile::{MsgFault, echo, print_messages, read_messages};
 use std::alloc::Global;
+use std::process::Abort;
 use std::test::Fail;
 
 /// A fault, with the digit of its line.
@@ -59,23 +60,35 @@ const FILES: &str = "~^\
 /// The sentences of a file, one a line.
 const SENTENCES: &str = "EOF\n  A A\r\n\nM\n\ns : EOF A\n\nN\n~s: EOF\ns: A A\ns: EOF A\n";
 
-#[test]
-fn files(rt: HostRuntime) -> Result<(), Fail> {
-    let alloc = rt.alloc();
-    let grammar = sample(alloc, &[1])?;
-    assert!(rt; is_in_range(&grammar));
-    for case in FILES.split('^') {
-        let (text, expected) = parts(case)?;
-        assert!(rt; text.len() < 1_000);
-        let found = printed(alloc, &grammar, text.as_bytes())?;
-        assert_eq!(rt; found.as_slice(), expected.as_bytes(), "at {text:?}");
-    }
-    assert_eq!(rt; FILES.split('^').count(), 14);
-    let (text, expected) = parts(SENTENCES)?;
+fn check_printed(rt: &impl Abort, alloc: Global, grammar: &Grammar, case: &str) -> Result<(), Fail>
+    requires range { IsInRange (plain_of grammar.now) }
+{
+    let (text, expected) = parts(case)?;
     assert!(rt; text.len() < 1_000);
-    let found = echoed(alloc, &grammar, text.as_bytes())?;
+    let found = printed(alloc, grammar, text.as_bytes())?;
+    assert_eq!(rt; found.as_slice(), expected.as_bytes(), "at {text:?}");
+    Ok(())
+}
+
+fn check_echoed(rt: &impl Abort, alloc: Global, grammar: &Grammar, case: &str) -> Result<(), Fail>
+    requires range { IsInRange (plain_of grammar.now) }
+{
+    let (text, expected) = parts(case)?;
+    assert!(rt; text.len() < 1_000);
+    let found = echoed(alloc, grammar, text.as_bytes())?;
     assert_eq!(rt; found.as_slice(), expected.as_bytes());
     Ok(())
+}
+
+#[test]
+fn files(rt: HostRuntime) -> Result<(), Fail> {
+    let grammar = sample(rt.alloc(), &[1])?;
+    assert!(rt; is_in_range(&grammar));
+    for case in FILES.split('^') {
+        check_printed(&rt, rt.alloc(), &grammar, case)?;
+    }
+    assert_eq!(rt; FILES.split('^').count(), 14);
+    check_echoed(&rt, rt.alloc(), &grammar, SENTENCES)
 }
 
 /// Two starts: a sentence has to name one.

@@ -2,6 +2,7 @@
 use crate::cases::parts;
 use mh_opts::{Job, Order, UsageFault, read_words};
 use std::alloc::{AllocError, Global};
+use std::process::Abort;
 use std::test::Fail;
 
 /// The job, what is on, and each file behind a colon.
@@ -70,18 +71,33 @@ const CASES: &str = "--interpret g.mly~interpret :g.mly^\
     -h~bad words^\
     --version~bad words";
 
+/// The words of a line.
+fn words_of(alloc: Global, line: &str) -> Result<Vec<String>, AllocError> {
+    let mut words = Vec::new(alloc);
+    for word in line.split(' ') {
+        words.push(String::from_str(alloc, word)?)?;
+    }
+    Ok(words)
+}
+
+/// What a line of words comes to.
+fn answer_of(alloc: Global, line: &str) -> Result<Vec<u8>, AllocError> {
+    let words = words_of(alloc, line)?;
+    answer(alloc, words.as_slice())
+}
+
+fn check_case(rt: &impl Abort, alloc: Global, case: &str) -> Result<(), Fail> {
+    let (line, expected) = parts(case)?;
+    let found = answer_of(alloc, line)?;
+    assert_eq!(rt; found.as_slice(), expected.as_bytes(), "at {line:?}");
+    Ok(())
+}
+
 #[test]
 fn cases(rt: HostRuntime) -> Result<(), Fail> {
-    let alloc = rt.alloc();
     for case in CASES.split('^') {
-        let (line, expected) = parts(case)?;
-        let mut words = Vec::new(alloc);
-        for word in line.split(' ') {
-            words.push(String::from_str(alloc, word)?)?;
-        }
-        let found = answer(alloc, words.as_slice())?;
-        assert_eq!(rt; found.as_slice(), expected.as_bytes(), "at {line:?}");
+        check_case(&rt, rt.alloc(), case)?;
     }
-    assert_eq!(rt; answer(alloc, &[])?.as_slice(), b"no mode".as_slice());
+    assert_eq!(rt; answer(rt.alloc(), &[])?.as_slice(), b"no mode".as_slice());
     Ok(())
 }

@@ -9,6 +9,7 @@ use mh_expand::{
 };
 use mh_join::{Joined, join};
 use std::alloc::{AllocError, Global};
+use std::process::Abort;
 use std::test::Fail;
 
 /// The rules of a file that is spelled and has no fault.
@@ -124,12 +125,17 @@ fn found(alloc: Global, text: &str) -> Result<Vec<u8>, Fail> {
     Ok(answer(alloc, &joined)?)
 }
 
+fn check_case(rt: &impl Abort, alloc: Global, text: &str, expected: &str) -> Result<(), Fail> {
+    let found = found(alloc, text)?;
+    assert_eq!(rt; str::from_utf8(found.as_slice())?, expected, "at {text:?}");
+    Ok(())
+}
+
 #[test]
 fn files(rt: HostRuntime) -> Result<(), Fail> {
     for case in cases().split('^') {
         let (text, expected) = parts(case)?;
-        let found = found(rt.alloc(), text)?;
-        assert_eq!(rt; str::from_utf8(found.as_slice())?, expected, "at {text:?}");
+        check_case(&rt, rt.alloc(), text, expected)?;
     }
     Ok(())
 }
@@ -143,32 +149,33 @@ fn letters(alloc: Global, count: usize) -> Result<String, AllocError> {
     Ok(name)
 }
 
+/// What a file gives whose one rule has a name of so many letters.
+fn found_of_letters(alloc: Global, count: usize) -> Result<Vec<u8>, Fail> {
+    let name = letters(alloc, count)?;
+    let text = format!(in alloc; "%start {name} %% {name}: {{}}")?;
+    found(alloc, &text)
+}
+
 #[test]
 fn long_starts(rt: HostRuntime) -> Result<(), Fail> {
-    let most = letters(rt.alloc(), 1000)?;
-    let text = format!(in rt.alloc(); "%start {most} %% {most}: {{}}")?;
-    let instances = format!(in rt.alloc(); ">0:{most}|1.0;")?;
-    assert_eq!(rt; found(rt.alloc(), &text)?.as_slice(), instances.as_bytes());
-    let more = letters(rt.alloc(), 1001)?;
-    let text = format!(in rt.alloc(); "%start {more} %% {more}: {{}}")?;
-    let fault = format!(in rt.alloc(); "E {more}")?;
-    assert_eq!(rt; found(rt.alloc(), &text)?.as_slice(), fault.as_bytes());
+    for (count, length, front) in [(1000, 1008, ">0:s"), (1001, 1003, "E s")] {
+        let found = found_of_letters(rt.alloc(), count)?;
+        assert_eq!(rt; found.len(), length);
+        assert!(rt; found.starts_with(front.as_bytes()));
+    }
     Ok(())
 }
 
 /// The term with eight pairs in one another has 1,276 bytes, and `i` has one argument too few.
 #[test]
 fn arity_before_expansion(rt: HostRuntime) -> Result<(), Fail> {
-    let mut term = format!(in rt.alloc(); "A")?;
-    for _ in 0..8u8 {
-        term = format!(in rt.alloc(); "p({term},{term})")?;
-    }
-    assert_eq!(rt; term.len(), 1276);
     let text = "%token A %start s %% s: a(A) {} a(x): b(p(x, x)) {} b(x): c(p(x, x)) {} \
                 c(x): d(p(x, x)) {} d(x): e(p(x, x)) {} e(x): f(p(x, x)) {} f(x): g(p(x, x)) {} \
                 g(x): h(p(x, x)) {} h(x): i(p(x, x)) {} i(x, y): {} p(x, y): {}";
-    let fault = format!(in rt.alloc(); "A i({term})")?;
-    assert_eq!(rt; found(rt.alloc(), text)?.as_slice(), fault.as_bytes());
+    let found = found(rt.alloc(), text)?;
+    assert_eq!(rt; found.len(), 1276 + 5);
+    assert!(rt; found.starts_with(b"A i(p(p(p(p(p(p(p(p(A,A),p(A,A)),"));
+    assert!(rt; found.ends_with(b"p(A,A)))))))))"));
     Ok(())
 }
 

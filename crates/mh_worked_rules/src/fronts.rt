@@ -3,6 +3,7 @@ use crate::cases::{modules_of, parts, push_digit};
 use mh_front::{GrammarFault, fault_line, grammar_of};
 use mh_grammar::{Grammar, Symbol};
 use std::alloc::{AllocError, Global};
+use std::fmt::Write;
 use std::test::Fail;
 
 fn push_symbol(out: &mut Vec<u8>, symbol: Symbol) -> Result<(), AllocError> {
@@ -93,8 +94,7 @@ fn one_token_too_many(rt: HostRuntime) -> Result<(), Fail> {
     let mut text = String::new(alloc);
     text.push_str("%token")?;
     for number in 0..513u16 {
-        let name = format!(in alloc; " T{number}")?;
-        text.push_str(&name)?;
+        write!(text, " T{number}")?;
     }
     text.push_str(" %start s %% s: T0 {}")?;
     assert_eq!(rt;
@@ -112,8 +112,7 @@ fn one_production_too_long(rt: HostRuntime) -> Result<(), Fail> {
     text.push_str("%token A %start s %% s: x14 {} %inline x0: A {}")?;
     for number in 1..15u16 {
         let below = number - 1;
-        let rule = format!(in alloc; " %inline x{number}: x{below} x{below} {{}}")?;
-        text.push_str(&rule)?;
+        write!(text, " %inline x{number}: x{below} x{below} {{}}")?;
     }
     assert_eq!(rt;
         answer(alloc, &text, true)?.as_slice(),

@@ -117,12 +117,17 @@ fn cases() -> &'static str {
      %token A %start s t %% s: A {} t: t A {}~E t"
 }
 
+/// The grammar of files, or their fault.
+fn found(alloc: Global, texts: &str) -> Result<Vec<u8>, Fail> {
+    let expanded = expanded_of(alloc, texts)?;
+    Ok(answer(alloc, &expanded)?)
+}
+
 #[test]
 fn files(rt: HostRuntime) -> Result<(), Fail> {
     for case in cases().split('^') {
         let (texts, expected) = parts(case)?;
-        let expanded = expanded_of(rt.alloc(), texts)?;
-        let found = answer(rt.alloc(), &expanded)?;
+        let found = found(rt.alloc(), texts)?;
         assert_eq!(rt; found.as_slice(), expected.as_bytes(), "at {texts:?}");
     }
     Ok(())

@@ -6,6 +6,7 @@ use mh_join::{
 };
 use mh_reader::{Actual, Module, Ref, Rule};
 use std::alloc::{AllocError, Global};
+use std::fmt::Write;
 use std::process::Abort;
 use std::test::Fail;
 
@@ -281,29 +282,32 @@ fn with_tokens(alloc: Global, more: &str) -> Result<Vec<u8>, Fail> {
     texts.push_str("%token")?;
     for first in 'A'..='P' {
         for second in 'a'..='p' {
-            let names = format!(in alloc; " {first}{second} {first}{second}_")?;
-            texts.push_str(&names)?;
+            write!(texts, " {first}{second} {first}{second}_")?;
         }
     }
     texts.push_str(more)?;
     found(alloc, &texts, false)
 }
 
+/// Text behind 512 tokens, and how many bytes its answer has and what they end with.
 #[test]
 fn counts_of_tokens(rt: HostRuntime) -> Result<(), Fail> {
-    let most = with_tokens(rt.alloc(), " %start s %% s: {}")?;
-    assert_eq!(rt; most.len(), 256 * 7 + 10);
-    assert!(rt; most.ends_with(b"Pp_ >0:s0|1.0;"));
-    let more = with_tokens(rt.alloc(), " Z %start s %% s: {}")?;
-    assert_eq!(rt; more.as_slice(), b"too many 513".as_slice());
-    let repeated = with_tokens(rt.alloc(), " Z Aa Z Y %start s %% s: {}")?;
-    assert_eq!(rt; repeated.as_slice(), b"too many 514".as_slice());
-    let known = with_tokens(rt.alloc(), " %start s %% s: {}#%token Pp_ Aa %%")?;
-    assert!(rt; known.ends_with(b"Pp_ >0:s0|1.0;"));
-    let in_two_files = with_tokens(rt.alloc(), " %start s %% s: {}#%token Pp_ Z Aa %%")?;
-    assert_eq!(rt; in_two_files.as_slice(), b"too many 513".as_slice());
-    let without_level = with_tokens(rt.alloc(), " Z %start s %% s: {} %prec y")?;
-    assert_eq!(rt; without_level.as_slice(), b"L y".as_slice());
+    for (more, length, end) in [
+        (" %start s %% s: {}", 256 * 7 + 10, "Pp_ >0:s0|1.0;"),
+        (" Z %start s %% s: {}", 12, "too many 513"),
+        (" Z Aa Z Y %start s %% s: {}", 12, "too many 514"),
+        (
+            " %start s %% s: {}#%token Pp_ Aa %%",
+            256 * 7 + 10,
+            "Pp_ >0:s0|1.0;",
+        ),
+        (" %start s %% s: {}#%token Pp_ Z Aa %%", 12, "too many 513"),
+        (" Z %start s %% s: {} %prec y", 3, "L y"),
+    ] {
+        let found = with_tokens(rt.alloc(), more)?;
+        assert_eq!(rt; found.len(), length, "at {more:?}");
+        assert!(rt; found.ends_with(end.as_bytes()), "at {more:?}");
+    }
     Ok(())
 }
 

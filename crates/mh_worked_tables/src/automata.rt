@@ -1,8 +1,8 @@
 //! Collections that were worked out by hand, by Knuth's construction.
-use crate::made::{automaton_of, grammar_of};
 use mh_canon::{canonical, is_one_automaton};
 use mh_grammar::{Edge, Symbol, is_in_range};
 use mh_items::Automaton;
+use mh_made::{automaton_of, grammar_of};
 use std::alloc::{AllocError, Global};
 use std::process::Abort;
 use std::test::Fail;

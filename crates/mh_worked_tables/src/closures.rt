@@ -1,7 +1,7 @@
 //! Worked closures and moves, computed by hand.
-use crate::made::grammar_of;
 use mh_grammar::{Grammar, Look, Memory, Symbol, is_in_range};
 use mh_items::{Kernel, are_equal, closure, firsts, moved, one_list, start_kernel, symbol_at};
+use mh_made::grammar_of;
 use mh_sets::TokenSet;
 use std::alloc::Global;
 use std::test::Fail;

@@ -7,8 +7,6 @@ mod automata;
 #[cfg(test)]
 mod closures;
 #[cfg(test)]
-mod made;
-#[cfg(test)]
 mod resolving;
 #[cfg(test)]
 mod runs;

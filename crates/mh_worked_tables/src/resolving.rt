@@ -1,7 +1,7 @@
 //! Cells, defaults, actions on an error and conflicts that were worked out by hand. Each grammar begins with the token A,
 //! and state 1 is the one behind it.
-use crate::made::{grammar_of, resolved};
 use mh_grammar::Look;
+use mh_made::{grammar_of, resolved};
 use mh_resolve::{Conflict, ConflictKind, Mode};
 use mh_tables::Table;
 use std::alloc::Global;

@@ -1,9 +1,9 @@
 //! Runs of sentences of whole grammars, worked out by hand, with their last reductions and their trees.
 ghost use Rattle.std.specs.Prelude.{◌<◌, length, IsTrue, All};
 
-use crate::made::{grammar_of, halting_of};
 use mh_engine::{TreeOutcome, run_with_trees};
 use mh_grammar::{Grammar, Token};
+use mh_made::{grammar_of, halting_of};
 use mh_run::{Verdict, trace, verdict};
 use mh_tables::Halting;
 use mh_tree::{print_tree, yield_of};

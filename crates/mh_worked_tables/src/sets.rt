@@ -1,32 +1,48 @@
 //! What nonterminals derive and begin with, names and edges, computed by hand.
-use crate::made::grammar_of;
+ghost use Rattle.mh_grammar.specs.Plain.{plain_of, IsInRange};
+
 use mh_grammar::{
     Edge, Grammar, Memory, NontermInfo, Production, Sequence, Symbol, TokenInfo, find_edge, first,
     from_bytes, is_in_range, left_side_name, nonterminal_name, nullable, productive, start_name,
     symbol_name, token_name, words_begin_with_first,
 };
+use mh_made::grammar_of;
 use std::alloc::Global;
+use std::process::Abort;
 use std::test::Fail;
 
 const SAMPLE: &str = "A B; s x b c; s: x A b; x:; x: B; b: b; c: B";
 
-#[test]
-fn sets_of_a_sample(rt: HostRuntime) -> Result<(), Fail> {
-    let alloc = rt.alloc();
-    let grammar = grammar_of(alloc, SAMPLE)?;
-    assert!(rt; is_in_range(&grammar));
-    words_begin_with_first(&grammar);
-    let empty = nullable(alloc, &grammar)?;
+/// Which nonterminals derive the empty word, and which derive a word.
+fn check_marks(rt: &impl Abort, alloc: Global, grammar: &Grammar) -> Result<(), Fail>
+    requires { IsInRange (plain_of grammar.now) }
+{
+    let empty = nullable(alloc, grammar)?;
     assert_eq!(rt; empty.as_slice(), [false, true, false, false].as_slice());
-    let trees = productive(alloc, &grammar)?;
+    let trees = productive(alloc, grammar)?;
     assert_eq!(rt; trees.as_slice(), [false, true, false, true].as_slice());
-    let rows = first(alloc, &grammar)?;
+    Ok(())
+}
+
+fn check_firsts(rt: &impl Abort, alloc: Global, grammar: &Grammar) -> Result<(), Fail>
+    requires { IsInRange (plain_of grammar.now) }
+{
+    let rows = first(alloc, grammar)?;
     assert_eq!(rt; rows.len(), 4);
     assert_eq!(rt; rows[0].as_slice(), [0, 1].as_slice());
     assert_eq!(rt; rows[1].as_slice(), [1].as_slice());
     assert_eq!(rt; rows[2].as_slice(), [].as_slice());
     assert_eq!(rt; rows[3].as_slice(), [1].as_slice());
     Ok(())
+}
+
+#[test]
+fn sets_of_a_sample(rt: HostRuntime) -> Result<(), Fail> {
+    let grammar = grammar_of(rt.alloc(), SAMPLE)?;
+    assert!(rt; is_in_range(&grammar));
+    words_begin_with_first(&grammar);
+    check_marks(&rt, rt.alloc(), &grammar)?;
+    check_firsts(&rt, rt.alloc(), &grammar)
 }
 
 fn production(lhs: u16, rhs: Vec<Symbol>) -> Production {
@@ -37,19 +53,31 @@ fn production(lhs: u16, rhs: Vec<Symbol>) -> Production {
     }
 }
 
+/// Whether the sample with one production more is in range.
+fn takes_production(alloc: Global, production: Production) -> Result<bool, Fail> {
+    let mut grammar = grammar_of(alloc, SAMPLE)?;
+    grammar.productions.push(production)?;
+    Ok(is_in_range(&grammar))
+}
+
+/// Whether the sample with one start more is in range.
+fn takes_start(alloc: Global, start: u16) -> Result<bool, Fail> {
+    let mut grammar = grammar_of(alloc, SAMPLE)?;
+    grammar.starts.push(start)?;
+    Ok(is_in_range(&grammar))
+}
+
 #[test]
 fn numbers_that_name_nothing_are_out_of_range(rt: HostRuntime) -> Result<(), Fail> {
-    let alloc = rt.alloc();
-    let mut side = grammar_of(alloc, SAMPLE)?;
-    side.productions.push(production(4, Vec::new(alloc)))?;
-    assert!(rt; !is_in_range(&side));
-    let mut symbol = grammar_of(alloc, SAMPLE)?;
-    let rhs = vec![in alloc; Symbol::T(0), Symbol::T(2)]?;
-    symbol.productions.push(production(0, rhs))?;
-    assert!(rt; !is_in_range(&symbol));
-    let mut start = grammar_of(alloc, SAMPLE)?;
-    start.starts.push(4)?;
-    assert!(rt; !is_in_range(&start));
+    for (side, token, wanted) in [(3, 1, true), (4, 1, false), (3, 2, false)] {
+        let rhs = vec![in rt.alloc(); Symbol::T(0), Symbol::T(token)]?;
+        assert_eq!(rt;
+            takes_production(rt.alloc(), production(side, rhs))?,
+            wanted
+        );
+    }
+    assert!(rt; takes_start(rt.alloc(), 3)?);
+    assert!(rt; !takes_start(rt.alloc(), 4)?);
     Ok(())
 }
 
@@ -115,20 +143,29 @@ fn edges_are_found(rt: HostRuntime) -> Result<(), Fail> {
     Ok(())
 }
 
+fn check_symbols(rt: &impl Abort, grammar: &Grammar) {
+    for (token, name) in [(1, "B"), (2, "")] {
+        assert_eq!(rt; token_name(grammar, token), name.as_bytes());
+    }
+    assert_eq!(rt; nonterminal_name(grammar, 1), b"x".as_slice());
+    for (symbol, name) in [(Symbol::T(0), "A"), (Symbol::N(2), "b")] {
+        assert_eq!(rt; symbol_name(grammar, symbol), name.as_bytes());
+    }
+}
+
+fn check_places(rt: &impl Abort, grammar: &Grammar) {
+    for (production, name) in [(0, ""), (1, "s"), (3, "x"), (5, "c"), (6, "")] {
+        assert_eq!(rt; left_side_name(grammar, production), name.as_bytes());
+    }
+    for (start, name) in [(0, "s"), (1, "")] {
+        assert_eq!(rt; start_name(grammar, start), name.as_bytes());
+    }
+}
+
 #[test]
 fn names_of_a_sample(rt: HostRuntime) -> Result<(), Fail> {
     let grammar = grammar_of(rt.alloc(), SAMPLE)?;
-    assert_eq!(rt; token_name(&grammar, 1), b"B".as_slice());
-    assert_eq!(rt; token_name(&grammar, 2), b"".as_slice());
-    assert_eq!(rt; nonterminal_name(&grammar, 1), b"x".as_slice());
-    assert_eq!(rt; symbol_name(&grammar, Symbol::T(0)), b"A".as_slice());
-    assert_eq!(rt; symbol_name(&grammar, Symbol::N(2)), b"b".as_slice());
-    assert_eq!(rt; left_side_name(&grammar, 0), b"".as_slice());
-    assert_eq!(rt; left_side_name(&grammar, 1), b"s".as_slice());
-    assert_eq!(rt; left_side_name(&grammar, 3), b"x".as_slice());
-    assert_eq!(rt; left_side_name(&grammar, 5), b"c".as_slice());
-    assert_eq!(rt; left_side_name(&grammar, 6), b"".as_slice());
-    assert_eq!(rt; start_name(&grammar, 0), b"s".as_slice());
-    assert_eq!(rt; start_name(&grammar, 1), b"".as_slice());
+    check_symbols(&rt, &grammar);
+    check_places(&rt, &grammar);
     Ok(())
 }

@@ -1,6 +1,6 @@
 //! Tables that were worked out by hand, and whether runs on them end.
-use crate::made::{grammar_of, resolved};
 use mh_grammar::Symbol;
+use mh_made::{grammar_of, resolved};
 use mh_resolve::Mode;
 use mh_tables::{Action, Fallback, HaltFault, Table, check_halts};
 use std::alloc::Global;

@@ -2,8 +2,8 @@
 ghost use Rattle.std.specs.Prelude.{◌≡◌, ◌<◌, IfOk};
 ghost use Rattle.mh_tree.specs.Trees.{height_of, Node, Cons, Nil};
 
-use crate::made::grammar_of;
 use mh_grammar::Memory;
+use mh_made::grammar_of;
 use mh_tree::{Tree, leaf, node, print_tree, yield_of};
 use std::alloc::Global;
 use std::process::Abort;

@@ -3,10 +3,10 @@ ghost use Rattle.std.specs.Prelude.{◌≤◌, ◌*◌, length, IfOk};
 ghost use Rattle.mh_grammar.specs.Plain.{plain_of, IsInRange};
 ghost use Rattle.mh_canon.specs.Canonical.{IsCanonical};
 
-use crate::made::grammar_of;
 use mh_canon::{canonical, is_one_automaton};
 use mh_grammar::{Grammar, Look, is_in_range};
 use mh_items::{Automaton, Kernel};
+use mh_made::grammar_of;
 use std::alloc::Global;
 use std::test::Fail;
 
@@ -58,21 +58,42 @@ fn canonical_at<const W: usize>(alloc: Global, grammar: &Grammar) -> Result<Auto
     }
 }
 
+/// Whether the automaton with sets of another width is this one.
+fn is_same_at<const V: usize, const W: usize>(
+    alloc: Global,
+    grammar: &Grammar,
+    left: &Automaton<V>,
+) -> Result<bool, Fail>
+    requires first { V ≤ 8 }
+    requires few { W ≤ 8 }
+    requires width { length grammar.now.tokens ≤ 64 * W }
+    requires range { IsInRange (plain_of grammar.now) }
+    requires left { IsCanonical (plain_of grammar.now) left.now }
+{
+    let right = canonical_at::<W>(alloc, grammar)?;
+    is_one_automaton(grammar, left, &right);
+    are_same(alloc, left, &right)
+}
+
 /// How many states there are at the widths of one, four and eight words, which must be the same automaton.
+fn states_at_widths(alloc: Global, grammar: &Grammar) -> Result<usize, Fail>
+    requires width { length grammar.now.tokens ≤ 64 }
+    requires range { IsInRange (plain_of grammar.now) }
+{
+    let one = canonical_at::<1>(alloc, grammar)?;
+    if is_same_at::<1, 4>(alloc, grammar, &one)? && is_same_at::<1, 8>(alloc, grammar, &one)? {
+        Ok(one.kernels.len())
+    } else {
+        Err(Fail::from("the automata differ"))
+    }
+}
+
 fn states_of(alloc: Global, text: &str) -> Result<usize, Fail> {
     let grammar = grammar_of(alloc, text)?;
     if !is_in_range(&grammar) || grammar.tokens.len() > 64 {
         return Err(Fail::from("out of range"));
     }
-    let one = canonical_at::<1>(alloc, &grammar)?;
-    let four = canonical_at::<4>(alloc, &grammar)?;
-    let eight = canonical_at::<8>(alloc, &grammar)?;
-    is_one_automaton(&grammar, &one, &four);
-    is_one_automaton(&grammar, &four, &eight);
-    if !are_same(alloc, &one, &four)? || !are_same(alloc, &four, &eight)? {
-        return Err(Fail::from("the automata differ"));
-    }
-    Ok(one.kernels.len())
+    states_at_widths(alloc, &grammar)
 }
 
 #[test]

@@ -1,4 +1,6 @@
-//! Grammars from texts, and what is made of them: each call of the layers stands here once.
+//! Grammars from short texts, and their automata and tables, for the crates of tests: each call of the layers stands here once.
+#![tactic(auto)]
+
 use mh_canon::canonical;
 use mh_grammar::{
     Assoc, Grammar, Level, NontermInfo, Production, Sequence, Symbol, TokenInfo, from_bytes,
@@ -31,8 +33,12 @@ fn level_of(text: &str) -> Result<Level, Fail> {
     })
 }
 
-/// A token, with its level behind a `%`.
+/// A token, with its level behind a `%` and its cost behind a `$`.
 fn token_of(alloc: Global, word: &str) -> Result<TokenInfo, Fail> {
+    let (word, cost) = match word.split_once('$') {
+        Some((word, cost)) => (word, cost.parse()?),
+        None => (word, 1),
+    };
     let (name, level) = match word.split_once('%') {
         Some((name, level)) => (name, Some(level_of(level)?)),
         None => (word, None),
@@ -40,12 +46,13 @@ fn token_of(alloc: Global, word: &str) -> Result<TokenInfo, Fail> {
     Ok(TokenInfo {
         name: from_bytes(alloc, name.as_bytes())?,
         level,
-        cost: 1,
+        cost,
     })
 }
 
-/// A nonterminal, with its rank on an error behind a `<`.
+/// A nonterminal, with its rank on an error behind a `<`, and perhaps the `*` of a start.
 fn nonterminal_of(alloc: Global, word: &str) -> Result<NontermInfo, Fail> {
+    let word = word.strip_suffix('*').unwrap_or(word);
     let (name, on_error) = match word.split_once('<') {
         Some((name, rank)) => (name, Some(rank_of(rank)?)),
         None => (word, None),
@@ -75,66 +82,105 @@ fn place_of_nonterminal(nonterminals: &[NontermInfo], name: &[u8]) -> Option<u16
 }
 
 /// The symbol of a name.
-fn symbol_of(
-    tokens: &[TokenInfo],
-    nonterminals: &[NontermInfo],
-    word: &str,
-) -> Result<Symbol, Fail> {
-    match place_of_token(tokens, word.as_bytes()) {
+fn symbol_of(grammar: &Grammar, word: &str) -> Result<Symbol, Fail> {
+    match place_of_token(grammar.tokens.as_slice(), word.as_bytes()) {
         Some(token) => Ok(Symbol::T(token)),
-        None => match place_of_nonterminal(nonterminals, word.as_bytes()) {
+        None => match place_of_nonterminal(grammar.nonterminals.as_slice(), word.as_bytes()) {
             Some(nonterminal) => Ok(Symbol::N(nonterminal)),
             None => Err(Fail::from("an unknown symbol")),
         },
     }
 }
 
-/// A production: its left side, a colon, its symbols, and its level behind a `%`.
-fn production_of(
-    alloc: Global,
-    tokens: &[TokenInfo],
-    nonterminals: &[NontermInfo],
-    rule: &str,
-) -> Result<Production, Fail> {
-    let (left, right) = rule.split_once(':').ok_or("a rule without a colon")?;
-    let lhs = place_of_nonterminal(nonterminals, left.trim_ascii().as_bytes());
-    let mut rhs = Vec::new(alloc);
-    let mut level = None;
+/// The symbols of a right side; the level behind a `%` is none of them.
+fn side_of(alloc: Global, grammar: &Grammar, right: &str) -> Result<Sequence<Symbol>, Fail> {
+    let mut side = Sequence::new(alloc);
     for word in right.split_ascii_whitespace() {
-        match word.strip_prefix('%') {
-            Some(text) => level = Some(level_of(text)?),
-            None => rhs.push(symbol_of(tokens, nonterminals, word)?)?,
+        if !word.starts_with('%') {
+            side.push(symbol_of(grammar, word)?)?;
         }
     }
+    Ok(side)
+}
+
+/// The level behind a `%`.
+fn side_level(right: &str) -> Result<Option<Level>, Fail> {
+    match right.split_once('%') {
+        Some((_, level)) => Ok(Some(level_of(level.trim_ascii())?)),
+        None => Ok(None),
+    }
+}
+
+/// A production: its left side, a colon, its symbols, and its level behind a `%`.
+fn production_of(alloc: Global, grammar: &Grammar, rule: &str) -> Result<Production, Fail> {
+    let (left, right) = rule.split_once(':').ok_or("a rule without a colon")?;
+    let lhs = place_of_nonterminal(
+        grammar.nonterminals.as_slice(),
+        left.trim_ascii().as_bytes(),
+    );
     Ok(Production {
         lhs: lhs.ok_or("an unknown left side")?,
-        rhs: Sequence::from_vec(rhs),
-        level,
+        level: side_level(right)?,
+        rhs: side_of(alloc, grammar, right)?,
     })
 }
 
-/// The grammar of a text, in which a `;` stands between its tokens, its nonterminals, the first of which is the start, and
-/// each production.
-pub fn grammar_of(alloc: Global, text: &str) -> Result<Grammar, Fail> {
-    let mut parts = text.split(';');
-    let mut tokens = Vec::new(alloc);
-    for word in parts.next().unwrap_or("").split_ascii_whitespace() {
+fn add_tokens(
+    alloc: Global,
+    tokens: &mut Sequence<TokenInfo>,
+    words: &str,
+) -> Result<(), Fail> {
+    for word in words.split_ascii_whitespace() {
         tokens.push(token_of(alloc, word)?)?;
     }
-    let mut nonterminals = Vec::new(alloc);
-    for word in parts.next().unwrap_or("").split_ascii_whitespace() {
+    Ok(())
+}
+
+fn add_nonterminals(
+    alloc: Global,
+    nonterminals: &mut Sequence<NontermInfo>,
+    words: &str,
+) -> Result<(), Fail> {
+    for word in words.split_ascii_whitespace() {
         nonterminals.push(nonterminal_of(alloc, word)?)?;
     }
-    let mut productions = Vec::new(alloc);
-    for rule in parts {
-        productions.push(production_of(alloc, &tokens, &nonterminals, rule)?)?;
+    Ok(())
+}
+
+/// Adds the places of the first nonterminal, and of each with a `*` behind it.
+fn add_starts(starts: &mut Sequence<u16>, nonterminals: &str) -> Result<(), Fail> {
+    for (place, word) in nonterminals.split_ascii_whitespace().enumerate() {
+        if place == 0 || word.ends_with('*') {
+            starts.push(u16::try_from(place).ok().ok_or("too many nonterminals")?)?;
+        }
     }
-    Ok(Grammar {
-        tokens: Sequence::from_vec(tokens),
-        nonterminals: Sequence::from_vec(nonterminals),
-        productions: Sequence::from_vec(productions),
-        starts: Sequence::from_vec(vec![in alloc; 0]?),
-    })
+    Ok(())
+}
+
+fn empty_grammar(alloc: Global) -> Grammar {
+    Grammar {
+        tokens: Sequence::new(alloc),
+        nonterminals: Sequence::new(alloc),
+        productions: Sequence::new(alloc),
+        starts: Sequence::new(alloc),
+    }
+}
+
+/// The grammar of a text, in which a `;` stands between its tokens, its nonterminals and each production. The first nonterminal is a
+/// start, and each with a `*` behind it.
+pub fn grammar_of(alloc: Global, text: &str) -> Result<Grammar, Fail> {
+    let mut parts = text.split(';');
+    let tokens = parts.next().unwrap_or("");
+    let nonterminals = parts.next().unwrap_or("");
+    let mut grammar = empty_grammar(alloc);
+    add_tokens(alloc, &mut grammar.tokens, tokens)?;
+    add_nonterminals(alloc, &mut grammar.nonterminals, nonterminals)?;
+    add_starts(&mut grammar.starts, nonterminals)?;
+    for rule in parts {
+        let production = production_of(alloc, &grammar, rule)?;
+        grammar.productions.push(production)?;
+    }
+    Ok(grammar)
 }
 
 /// The canonical automaton of a grammar of at most 64 tokens.
