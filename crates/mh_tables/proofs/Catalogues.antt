@@ -5,7 +5,7 @@ use Rattle.std.proofs.lemmas.Bool.{cases_lt}
 use Rattle.mh_grammar.specs.Edges.{IsRising}
 use Rattle.mh_grammar.proofs.Lists.{recursion_contains, rising_same}
 use Rattle.mh_tables.specs.Table.{TableData}
-use Rattle.mh_tables.specs.Failing.{LexLe, IsInOrder, Row, IsRowBefore, cost_of_word}
+use Rattle.mh_tables.specs.Failing.{LexLe, IsInOrder, Row, IsRowBefore, Failing, FailsFirst, Catalogue, cost_of_word}
 
 -- NUMBERS OF TOKENS
 
@@ -67,7 +67,7 @@ module _ (t : TableData) (start : ℕ) (w : List ℕ) (start' : ℕ) (w' : List 
 -- ROWS
 
 -- rows of the same states, rising, each the only one of its state, are one list
-pub rows_once : (Is : Row → Type 0) → ((a b : Row) → Is a → Is b → a.state ≡ b.state → a ≡ b) → (InState : ℕ → Type 0) → ((a : Row) → Is a → InState a.state) → (xs ys : List Row) → IsRising IsRowBefore xs → IsRising IsRowBefore ys → AllByRecursion Is xs → AllByRecursion Is ys
+rows_once : (Is : Row → Type 0) → ((a b : Row) → Is a → Is b → a.state ≡ b.state → a ≡ b) → (InState : ℕ → Type 0) → ((a : Row) → Is a → InState a.state) → (xs ys : List Row) → IsRising IsRowBefore xs → IsRising IsRowBefore ys → AllByRecursion Is xs → AllByRecursion Is ys
     → ((s : ℕ) → InState s → (row : Row) × Contains xs row × (row.state ≡ s)) → ((s : ℕ) → InState s → (row : Row) × Contains ys row × (row.state ≡ s)) → xs ≡ ys
 rows_once Is one InState fails xs ys rise rise' each each' all all' = rising_same IsRowBefore (λ x y a b. omega (arith, a, b)) xs ys rise rise' (λ x. (to ys each' all' xs each x, to xs each all ys each' x))
   where
@@ -77,3 +77,21 @@ rows_once Is one InState fails xs ys rise rise' each each' all all' = rising_sam
         let other = all' x.state (fails x h) in
         let same : other.0 ≡ x = one other.0 x (recursion_contains Is ys each' other.0 other.1) h other.2 in
         subst (λ (row : Row). Contains ys row) same other.1
+
+abbrev row_with : ℕ → ℕ → List ℕ → Row
+row_with state start sentence = record { state = state; start = start; sentence = sentence }
+
+module _ (t : TableData) where
+  pub first_once : (start : ℕ) (w : List ℕ) (start' : ℕ) (w' : List ℕ) (s : ℕ) → FailsFirst t start w s → FailsFirst t start' w' s → (start ≡ start') × (w ≡ w')
+  first_once start w start' w' s a b = order_one t start w start' w' (a.first start' w' b.fails) (b.first start w a.fails)
+
+  row_once : (a b : Row) → FailsFirst t a.start a.sentence a.state → FailsFirst t b.start b.sentence b.state → a.state ≡ b.state → a ≡ b
+  row_once a b first other state =
+      let same = first_once a.start a.sentence b.start b.sentence a.state first (subst (λ (s : ℕ). FailsFirst t b.start b.sentence s) (sym state) other) in
+      let start = same.0 in
+      let sentence = same.1 in
+      let with : row_with a.state a.start a.sentence ≡ row_with b.state b.start b.sentence = cc in
+      with
+
+  pub catalogue_once : (xs ys : List Row) → Catalogue t xs → Catalogue t ys → xs ≡ ys
+  catalogue_once xs ys a b = rows_once (λ row. FailsFirst t row.start row.sentence row.state) row_once (Failing t) (λ row first. (row.start, row.sentence, first.fails)) xs ys a.rising b.rising a.each b.each a.complete b.complete
