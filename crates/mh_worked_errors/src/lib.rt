@@ -5,3 +5,5 @@
 mod catalogues;
 #[cfg(test)]
 mod made;
+#[cfg(test)]
+mod sentences;
