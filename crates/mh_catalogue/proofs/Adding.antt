@@ -11,6 +11,7 @@ use Rattle.mh_grammar.specs.Costs.{IsCost}
 use Rattle.mh_tables.specs.Table.{TableData, cost_of_token}
 use Rattle.mh_tables.specs.Failing.{Row as TableRow, IsRowBefore, Fails, FailsFirst, FailsCheaply, Failing, TooLongAt, Catalogue, cost_of_word, dearest}
 use Rattle.mh_tables.specs.Facts.{Facts}
+use Rattle.mh_tables.proofs.Catalogues.{order_cheaper}
 use Rattle.mh_least.specs.Orders.{cap}
 use Rattle.mh_least.proofs.Complete.{fails_refused}
 use Rattle.mh_least.proofs.Sound.{reaches_known}
@@ -41,7 +42,7 @@ word_costs t f (z ∷ w) known = let one = token_costs t f z known.0 in let rest
 first_short : (t : TableData) (f : Facts t) (start : ℕ) (w : List ℕ) (s : ℕ) → FailsFirst t start w s → FailsCheaply t s → length w ≤ dearest
 first_short t f start w s first cheap =
     let long = word_costs t f w first.fails.sentence.tokens in
-    let least = first.first cheap.0 cheap.1 cheap.2 in
+    let least = order_cheaper t start w cheap.0 cheap.1 (first.first cheap.0 cheap.1 cheap.2) in
     let few = cheap.3 in
     omega arith
 

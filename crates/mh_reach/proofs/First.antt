@@ -27,12 +27,8 @@ first_of t i w s first cheap i' v fails = elim (first i' v fails) [ inl order �
     not_dear (inl (inr (e, rest))) le = let l = low in omega (arith, l, e, le)
     not_dear (inr (a, b)) le = let l = low in omega (arith, l, b)
 
-no_dearer : (t : TableData) (i : ℕ) (w : List ℕ) (i' : ℕ) (v : List ℕ) → IsInOrder t i w i' v → cost_of_word t w ≤ cost_of_word t v
-no_dearer t i w i' v (inl lt) = omega (arith, lt)
-no_dearer t i w i' v (inr (e, rest)) = omega (arith, e)
-
 pub best_first : (t : TableData) (words : FactKey → Option (List ℕ)) (labels : Spot → Option Label) (s start : ℕ) (b : Best) (w : List ℕ) (h : BestOk t words labels s b) → FailsCheaply t s → start ≡ h.label.start → w ≡ h.label.word ++ b.token ∷ [] → FailsFirst t start w s
 best_first t words labels s start b w h cheap from is = rw (from, is) (record {
   fails = h.fails;
-  first = λ i v fails. no_dearer t h.label.start (h.label.word ++ b.token ∷ []) i v (first_of t h.label.start (h.label.word ++ b.token ∷ []) s h.first cheap i v fails);
+  first = first_of t h.label.start (h.label.word ++ b.token ∷ []) s h.first cheap;
 })

@@ -1,11 +1,11 @@
 -- Of two sentences that differ one comes first, so a table has one catalogue.
-use Rattle.std.proofs.Common.{◌≡◌, ℕ, ◌<◌, ◌⊎◌, inl, inr, List, [], ◌∷◌, refl, sym, subst, arith}
+use Rattle.std.proofs.Common.{◌≡◌, ℕ, ◌<◌, ◌≤◌, ◌⊎◌, inl, inr, List, [], ◌∷◌, refl, sym, subst, arith}
 use Rattle.std.specs.List.{AllByRecursion, Contains}
 use Rattle.std.proofs.lemmas.Bool.{cases_lt}
 use Rattle.mh_grammar.specs.Edges.{IsRising}
 use Rattle.mh_grammar.proofs.Lists.{recursion_contains, rising_same}
 use Rattle.mh_tables.specs.Table.{TableData}
-use Rattle.mh_tables.specs.Failing.{LexLe, IsInOrder, Row, IsRowBefore, cost_of_word}
+use Rattle.mh_tables.specs.Failing.{LexLe, IsInOrder, Failing, FailsFirst, Catalogue, Row, IsRowBefore, cost_of_word}
 
 -- NUMBERS OF TOKENS
 
@@ -64,6 +64,15 @@ module _ (t : TableData) (start : ℕ) (w : List ℕ) (start' : ℕ) (w' : List 
     ])
   ]
 
+-- what comes first is no dearer
+pub order_cheaper : (t : TableData) (start : ℕ) (w : List ℕ) (start' : ℕ) (w' : List ℕ) → IsInOrder t start w start' w' → cost_of_word t w ≤ cost_of_word t w'
+order_cheaper t start w start' w' (inl lt) = omega (arith, lt)
+order_cheaper t start w start' w' (inr (e, rest)) = omega (arith, e)
+
+-- one sentence comes first of those that fail in a state
+pub first_once : (t : TableData) (s start : ℕ) (w : List ℕ) (start' : ℕ) (w' : List ℕ) → FailsFirst t start w s → FailsFirst t start' w' s → (start ≡ start') × (w ≡ w')
+first_once t s start w start' w' a b = order_one t start w start' w' (a.first start' w' b.fails) (b.first start w a.fails)
+
 -- ROWS
 
 -- rows of the same states, rising, each the only one of its state, are one list
@@ -77,3 +86,11 @@ rows_once Is one InState fails xs ys rise rise' each each' all all' = rising_sam
         let other = all' x.state (fails x h) in
         let same : other.0 ≡ x = one other.0 x (recursion_contains Is ys each' other.0 other.1) h other.2 in
         subst (λ (row : Row). Contains ys row) same other.1
+
+pub catalogue_once : (t : TableData) (xs ys : List Row) → Catalogue t xs → Catalogue t ys → xs ≡ ys
+catalogue_once t xs ys a b = rows_once (λ (row : Row). FailsFirst t row.start row.sentence row.state) one (Failing t) (λ row h. (row.start, row.sentence, h.fails)) xs ys a.rising b.rising a.each b.each a.complete b.complete
+  where
+    one : (x y : Row) → FailsFirst t x.start x.sentence x.state → FailsFirst t y.start y.sentence y.state → x.state ≡ y.state → x ≡ y
+    one x y h k e =
+        let same = first_once t x.state x.start x.sentence y.start y.sentence h (rw (← e) at k) in
+        λ i. record { state = e i; start = same.0 i; sentence = same.1 i }

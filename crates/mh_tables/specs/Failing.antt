@@ -29,25 +29,21 @@ cost_by weigh (z ∷ w) = weigh z + cost_by weigh w
 abbrev pub cost_of_word : TableData → List ℕ → ℕ
 cost_of_word t w = cost_by (cost_of_token t) w
 
--- The order that a catalogue chooses by: the first sentence costs no more than the second. Which of equally dear ones comes
--- first is left open.
-abbrev pub IsNoLater : TableData → ℕ → List ℕ → ℕ → List ℕ → Type 0
-IsNoLater t start w start' w' = cost_of_word t w ≤ cost_of_word t w'
-
 -- at the first place where they differ u has the lower number, or u is a front of v
 abbrev pub LexLe : List ℕ → List ℕ → Type 0
 LexLe [] v = Unit {0}
 LexLe (x ∷ u) [] = ⊥
 LexLe (x ∷ u) (y ∷ v) = (x < y) ⊎ ((x ≡ y) × LexLe u v)
 
--- The fixed order of sentences: by cost, then by start, then by the numbers of the tokens. Of two that differ one comes first.
+-- The order that a catalogue chooses by: by cost, then by start, then by the numbers of the tokens. Of two sentences that differ one
+-- comes first.
 abbrev pub IsInOrder : TableData → ℕ → List ℕ → ℕ → List ℕ → Type 0
 IsInOrder t start w start' w' = (cost_of_word t w < cost_of_word t w') ⊎ ((cost_of_word t w ≡ cost_of_word t w') × ((start < start') ⊎ ((start ≡ start') × LexLe w w')))
 
 -- the sentence fails there, and none that fails there comes sooner
 pub record FailsFirst (t : TableData) (start : ℕ) (w : List ℕ) (s : ℕ) : Type 0 where
   pub fails : Fails t start w s
-  pub first : (start' : ℕ) (w' : List ℕ) → Fails t start' w' s → IsNoLater t start w start' w'
+  pub first : (start' : ℕ) (w' : List ℕ) → Fails t start' w' s → IsInOrder t start w start' w'
 
 -- the highest cost of a sentence in a catalogue
 abbrev pub dearest : ℕ

@@ -1,6 +1,6 @@
 //! Laws of runs: empty calls that tell them to contracts.
 ghost use Rattle.std.specs.Prelude.{◌≡◌, ◌<◌, ◌+◌, ◌++◌, ◌⊎◌, List, ℕ, [], Option, length, take};
-ghost use Rattle.mh_tables.specs.Failing.{IsInOrder};
+ghost use Rattle.mh_tables.specs.Failing.{Catalogue, IsInOrder, Row};
 ghost use Rattle.mh_tables.specs.Halting.{LoopsAt};
 ghost use Rattle.mh_tables.specs.Run.{VerdictOf, Ending, Rejected, after, initial};
 ghost use Rattle.mh_tables.specs.RunTrees.{Stands, trees_after};
@@ -46,5 +46,10 @@ impl Table {
     pub fn one_comes_first(&self)
         ensures some { (start : ℕ) (w : List ℕ) (start' : ℕ) (w' : List ℕ) → IsInOrder self.now start w start' w' ⊎ IsInOrder self.now start' w' start w }
         ensures one { (start : ℕ) (w : List ℕ) (start' : ℕ) (w' : List ℕ) → IsInOrder self.now start w start' w' → IsInOrder self.now start' w' start w → (start ≡ start') × (w ≡ w') }
+    {}
+
+    /// A table has one catalogue: of the sentences that fail in a state one comes first.
+    pub fn one_catalogue(&self)
+        ensures { (a b : List Row) → Catalogue self.now a → Catalogue self.now b → a ≡ b }
     {}
 }
