@@ -9,7 +9,7 @@ use Rattle.std.proofs.lemmas.List.Elements.{All-get_or, Contains-push, Contains-
 use Rattle.mh_grammar.proofs.Lists.{recursion_contains, recursion-push, recursion-weaker, rising-push}
 use Rattle.mh_grammar.specs.Costs.{IsCost}
 use Rattle.mh_tables.specs.Table.{TableData, cost_of_token}
-use Rattle.mh_tables.specs.Failing.{Row as TableRow, IsRowBefore, Fails, FailsFirst, FailsCheaply, Failing, TooLongAt, Catalogue, cost_of_word, dearest}
+use Rattle.mh_tables.specs.Failing.{Row as TableRow, IsRowBefore, Fails, FailsFirst, FailsCheaply, Failing, TooLongAt, Catalogue, IsInOrder, cost_of_word, dearest}
 use Rattle.mh_tables.specs.Facts.{Facts}
 use Rattle.mh_least.specs.Orders.{cap}
 use Rattle.mh_least.proofs.Complete.{fails_refused}
@@ -37,11 +37,16 @@ word_costs : (t : TableData) (f : Facts t) (w : List ℕ) → AllByRecursion (λ
 word_costs t f [] known = omega arith
 word_costs t f (z ∷ w) known = let one = token_costs t f z known.0 in let rest = word_costs t f w known.1 in omega arith
 
+-- what comes first is no dearer
+order_cheaper : (t : TableData) (start : ℕ) (w : List ℕ) (start' : ℕ) (w' : List ℕ) → IsInOrder t start w start' w' → cost_of_word t w ≤ cost_of_word t w'
+order_cheaper t start w start' w' (inl lt) = omega (arith, lt)
+order_cheaper t start w start' w' (inr (e, rest)) = omega (arith, e)
+
 -- the first sentence costs no more than a cheap one
 first_short : (t : TableData) (f : Facts t) (start : ℕ) (w : List ℕ) (s : ℕ) → FailsFirst t start w s → FailsCheaply t s → length w ≤ dearest
 first_short t f start w s first cheap =
     let long = word_costs t f w first.fails.sentence.tokens in
-    let least = first.first cheap.0 cheap.1 cheap.2 in
+    let least = order_cheaper t start w cheap.0 cheap.1 (first.first cheap.0 cheap.1 cheap.2) in
     let few = cheap.3 in
     omega arith
 

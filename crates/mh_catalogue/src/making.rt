@@ -67,7 +67,7 @@ fn all_rows(alloc: Global, reach: &Reach, states: u32) -> Result<Vec<Row>, Catal
     Ok(rows)
 }
 
-/// The catalogue of a table: a row for each state in which some sentence fails, rising, with one of least cost. `TooLong` is
+/// The catalogue of a table: a row for each state in which some sentence fails, rising, with the sentence that fails there first. `TooLong` is
 /// answered exactly where each sentence that fails in some state costs more than 1,000,000, with the lowest such state.
 pub fn catalogue(alloc: Global, table: &Halting) -> Result<Vec<Row>, CatalogueFault>
     ensures ok { IfOk result (λ rows. Catalogue table.now (rows_of rows.items)) }

@@ -1,7 +1,7 @@
 //! A catalogue's rows, and the fault where there is none.
 use mh_grammar::{Sequence, Token};
 
-/// A state in which some sentence fails, with such a sentence of least cost: the number of its start, and its tokens, of which
+/// A state in which some sentence fails, with the first of these sentences: the number of its start, and its tokens, of which
 /// the last is refused in the state.
 #[derive(Debug, Drop)]
 pub struct Row {

@@ -2,8 +2,12 @@ mod Arriving
 mod Coming
 mod Costing
 mod First
+mod Labelling
+mod Levels
+mod Listing
 mod Spelled
 mod Spots
 mod Spotting
 mod Stepping
+mod Tracing
 mod Walking

@@ -1,5 +1,5 @@
 -- The second search: how a state is reached with a token to come.
-use Rattle.std.specs.Prelude.{◌≡◌, ℕ, List, [], ◌∷◌, length, fold, Option, Some, None, Bool, if◌then◌else◌, nat_eq, ◌&&◌, ◌<◌, ◌≤◌, ◌⊎◌, ◌+◌, min}
+use Rattle.std.specs.Prelude.{◌≡◌, ℕ, List, [], ◌∷◌, ◌++◌, length, fold, Option, Some, None, Bool, if◌then◌else◌, nat_eq, ◌&&◌, ◌<◌, ◌≤◌, ◌⊎◌, ◌+◌, min}
 use Rattle.std.specs.List.{Contains}
 use Rattle.std.specs.Map.{lookup}
 use Rattle.mh_tables.specs.Table.{TableData, cost_of_token}
@@ -8,7 +8,7 @@ use Rattle.mh_grammar.specs.declared.types.Symbol.TheVariants.{T}
 use Rattle.mh_grammar.specs.declared.edges.Edge.{Edge}
 use Rattle.mh_facts.specs.declared.store.FactKey.{FactKey}
 use Rattle.mh_least.specs.Least.{Label, longer, HoldsAt, ClosesAt, SoundReach}
-use Rattle.mh_least.specs.Orders.{cap}
+use Rattle.mh_least.specs.Orders.{cap, SentenceLe}
 use Rattle.mh_search.specs.declared.work.Whole.{Whole}
 use Rattle.mh_search.specs.declared.work.Work.{Work}
 use Rattle.mh_search.specs.declared.classes.Classes.{Classes}
@@ -17,12 +17,17 @@ use Rattle.mh_reach.specs.declared.arrivals.Step.{Step}
 use Rattle.mh_reach.specs.declared.arrivals.Step.TheVariants as steps
 use Rattle.mh_reach.specs.declared.arrivals.Arrival.{Arrival}
 use Rattle.mh_reach.specs.declared.arrivals.Coming.{Coming}
-use Rattle.mh_search.specs.Rows.{Waits, IsOne, Below, Among}
+use Rattle.mh_search.specs.Rows.{Waits, Beside, IsOne, Below, Among}
 use Rattle.mh_search.specs.Classes.{rep_of, place_of, list_at}
 use Rattle.mh_search.specs.Rules.{wholes_at}
-use Rattle.mh_search.specs.Tales.{NoDearerAt, capped}
+use Rattle.mh_search.specs.Tales.{weigh, capped}
 use Rattle.mh_search.specs.declared.settling.Found.{Found}
 use Rattle.mh_search.specs.Good.{WaysIn, IsFound}
+use Rattle.mh_reach.specs.Rising.{Rises}
+
+-- sentences by cost, then by start, then by the numbers of their tokens
+abbrev pub NoLaterAt : TableData → Label → Label → Type 0
+NoLaterAt t k l = SentenceLe (weigh t) k l
 
 abbrev pub Spots : Type 0
 Spots = List (Spot × Arrival)
@@ -122,18 +127,41 @@ pub record ComingOk (t : TableData) (c : Classes) (words : FactKey → Option (L
   pub cost_is : cost ≡ capped t label.word
   pub sound : SoundReach t (rep_of c) o.spot.state o.spot.next label
 
--- held, or something no dearer waits
-abbrev pub PendingAt : TableData → (Spot → Option Label) → List (Rattle.std.specs.Global.Vec Coming) → ℕ → ℕ → Label → Type 0
-PendingAt t labels q s z l = HoldsAt (NoDearerAt t) (labels_at labels) s z l ⊎ ((cost : ℕ) × (o : Coming) × Waits q cost o × (o.spot ≡ spot s z) × (cost ≤ capped t l.word))
+-- what waits: in the queue, or beside it with the level's cost
+abbrev pub Waiting : List (Rattle.std.specs.Global.Vec Coming) → ℕ → List Coming → ℕ → Coming → Type 0
+Waiting q level beside cost o = Beside q level beside cost o
 
--- all that is cheaper than the level is settled
-pub record GoodAt (t : TableData) (c : Classes) (words : FactKey → Option (List ℕ)) (work : Work) (spots : Spots) (q : List (Rattle.std.specs.Global.Vec Coming)) (level : ℕ) : Type 0 where
+-- held, or something waits that comes no later
+abbrev pub PendingAt : TableData → (FactKey → Option (List ℕ)) → (Spot → Option Label) → (ℕ → Coming → Type 0) → ℕ → ℕ → Label → Type 0
+PendingAt t words labels waits s z l = HoldsAt (NoLaterAt t) (labels_at labels) s z l
+    ⊎ ((cost : ℕ) × (o : Coming) × (k : Label) × waits cost o × (o.spot ≡ spot s z) × LabelBy words labels o.step k × NoLaterAt t k l)
+
+-- All that is cheaper than the level is settled. Some arrivals of the level's cost may wait beside the queue.
+pub record GoodAt (t : TableData) (c : Classes) (words : FactKey → Option (List ℕ)) (work : Work) (spots : Spots) (q : List (Rattle.std.specs.Global.Vec Coming)) (level : ℕ) (beside : List Coming) : Type 0 where
   pub journey : Journey t words spots
-  pub closed : ClosesAt t (rep_of c) (WaysIn c words work) (labels_at journey.labels) (PendingAt t journey.labels q)
+  pub closed : ClosesAt t (rep_of c) (WaysIn c words work) (labels_at journey.labels) (PendingAt t words journey.labels (Waiting q level beside))
   pub sound : (s z : ℕ) (l : Label) → journey.labels (spot s z) ≡ Some l → SoundReach t (rep_of c) s z l
-  pub items : (cost : ℕ) (o : Coming) → Waits q cost o → ComingOk t c words journey.labels cost o
-  pub low : (cost : ℕ) (o : Coming) → Waits q cost o → level ≤ cost
+  pub items : (cost : ℕ) (o : Coming) → Waiting q level beside cost o → ComingOk t c words journey.labels cost o
+  pub low : (cost : ℕ) (o : Coming) → Waiting q level beside cost o → level ≤ cost
   pub high : (k : Spot) (r : Arrival) → arrival_at spots k ≡ Some r → r.cost ≤ level
+  -- what is stored comes no later than what waits
+  pub before : (k : Spot) (l m : Label) (cost : ℕ) (o : Coming) → journey.labels k ≡ Some l → Waiting q level beside cost o → LabelBy words journey.labels o.step m → NoLaterAt t l m
+
+-- the first comes no later
+abbrev pub NoLaterBy : TableData → (FactKey → Option (List ℕ)) → (Spot → Option Label) → Coming → Coming → Type 0
+NoLaterBy t words labels x y = (k l : Label) → LabelBy words labels x.step k → LabelBy words labels y.step l → NoLaterAt t k l
+
+-- each arrival of the level in the queue comes no later than all that waits, and those beside it rise
+pub record InOrderAt (t : TableData) (c : Classes) (words : FactKey → Option (List ℕ)) (work : Work) (spots : Spots) (q : List (Rattle.std.specs.Global.Vec Coming)) (level : ℕ) (beside : List Coming) : Type 0 where
+  pub good : GoodAt t c words work spots q level beside
+  pub flat : (x y : Coming) (cost : ℕ) → Waits q level x → Waiting q level beside cost y → NoLaterBy t words good.journey.labels x y
+  pub rising : Rises (NoLaterBy t words good.journey.labels) beside
+
+-- nothing of the level waits in the queue, and the arrivals beside it rise
+pub record ReadyAt (t : TableData) (c : Classes) (words : FactKey → Option (List ℕ)) (work : Work) (spots : Spots) (q : List (Rattle.std.specs.Global.Vec Coming)) (level : ℕ) (beside : List Coming) : Type 0 where
+  pub good : GoodAt t c words work spots q level beside
+  pub none : (o : Coming) → Waits q level o → ⊥
+  pub rising : Rises (NoLaterBy t words good.journey.labels) beside
 
 -- some arrival is stored for the spot
 abbrev pub HasArrived : Spots → Spot → Type 0
@@ -159,15 +187,38 @@ pub record HasWays (t : TableData) (c : Classes) (work : Work) : Type 0 where
   pub rows : length work.wholes.items ≡ c.places
   pub few : (n : ℕ) (w : Whole) → Contains (wholes_at work n) w → w.cost ≤ cap
 
+-- an arrival is put behind others, where its spot is not reached
+abbrev pub KeepsComing : Spots → Coming → List Coming → List Coming → Type 0
+KeepsComing spots o old new = (new ≡ old ++ o ∷ []) ⊎ ((new ≡ old) × HasArrived spots o.spot)
+
+-- arrivals of a cost are taken out, and those at spots that are not reached kept
+pub record TakesComings (spots : Spots) (old new : List (Rattle.std.specs.Global.Vec Coming)) (cost : ℕ) (all : List Coming) : Type 0 where
+  pub kept : (c : ℕ) (o : Coming) → Waits old c o → (Waits new c o ⊎ HasArrived spots o.spot) ⊎ ((c ≡ cost) × Contains all o)
+  pub only : (c : ℕ) (o : Coming) → Waits new c o → Waits old c o
+  pub each : (o : Coming) → Contains all o → Waits old cost o
+
+-- none of them is left
+pub record TakesAll (spots : Spots) (old new : List (Rattle.std.specs.Global.Vec Coming)) (cost : ℕ) (all : List Coming) : Type 0 where
+  pub taken : TakesComings spots old new cost all
+  pub none : (o : Coming) → Waits new cost o → ⊥
+
 -- the second search over what the first one found
-pub record GoodIn (t : TableData) (c : Classes) (found : Found) (spots : Spots) (q : List (Rattle.std.specs.Global.Vec Coming)) (level : ℕ) : Type 0 where
+pub record GoodIn (t : TableData) (c : Classes) (found : Found) (spots : Spots) (q : List (Rattle.std.specs.Global.Vec Coming)) (level : ℕ) (beside : List Coming) : Type 0 where
   pub found_is : IsFound t c found
-  pub good : GoodAt t c found_is.tale.words found.work spots q level
+  pub good : GoodAt t c found_is.tale.words found.work spots q level beside
+
+pub record InOrderIn (t : TableData) (c : Classes) (found : Found) (spots : Spots) (q : List (Rattle.std.specs.Global.Vec Coming)) (level : ℕ) (beside : List Coming) : Type 0 where
+  pub found_is : IsFound t c found
+  pub order : InOrderAt t c found_is.tale.words found.work spots q level beside
+
+pub record ReadyIn (t : TableData) (c : Classes) (found : Found) (spots : Spots) (q : List (Rattle.std.specs.Global.Vec Coming)) (level : ℕ) (beside : List Coming) : Type 0 where
+  pub found_is : IsFound t c found
+  pub ready : ReadyAt t c found_is.tale.words found.work spots q level beside
 
 -- what the second search leaves
 pub record Arrived (t : TableData) (c : Classes) (words : FactKey → Option (List ℕ)) (work : Work) (spots : Spots) : Type 0 where
   pub journey : Journey t words spots
-  pub closed : ClosesAt t (rep_of c) (WaysIn c words work) (labels_at journey.labels) (HoldsAt (NoDearerAt t) (labels_at journey.labels))
+  pub closed : ClosesAt t (rep_of c) (WaysIn c words work) (labels_at journey.labels) (HoldsAt (NoLaterAt t) (labels_at journey.labels))
   pub sound : (s z : ℕ) (l : Label) → journey.labels (spot s z) ≡ Some l → SoundReach t (rep_of c) s z l
 
 pub record ArrivedIn (t : TableData) (c : Classes) (found : Found) (spots : Spots) : Type 0 where

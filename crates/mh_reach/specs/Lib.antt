@@ -1,3 +1,5 @@
 pub mod Arriving
+pub mod Comparing
 pub mod Reaching
+pub mod Rising
 pub mod Spelling

@@ -1,5 +1,5 @@
 //! The second search: how a state is reached with a token to come.
-ghost use Rattle.std.specs.Prelude.{◌≡◌, ◌≤◌, ◌<◌, ◌+◌, ◌⊎◌, ℕ, [], Some, OnOk, IfOk, length, min};
+ghost use Rattle.std.specs.Prelude.{◌≡◌, ◌≤◌, ◌<◌, ◌+◌, ◌⊎◌, ◌∷◌, ℕ, [], Some, OnOk, IfOk, drop, length, min};
 ghost use Rattle.std.specs.List.{Contains};
 ghost use Rattle.mh_tables.specs.Table.{edge_of};
 ghost use Rattle.mh_search.specs.declared.work.Whole.{Whole};
@@ -8,12 +8,16 @@ ghost use Rattle.mh_search.specs.Rows.{Gains, Among, row_of};
 ghost use Rattle.mh_search.specs.Classes.{IsClasses, place_of};
 ghost use Rattle.mh_search.specs.Rules.{OnlyAt};
 ghost use Rattle.mh_search.specs.Good.{IsFound};
-ghost use Rattle.mh_reach.specs.Arriving.{NextComing, StepsOn, StepsAlong, StepsEdge, StepsShift, StepsWay, Starts, GoodIn, ArrivedIn};
+ghost use Rattle.mh_reach.specs.Arriving.{NextComing, StepsOn, StepsAlong, StepsEdge, StepsShift, StepsWay, Starts, KeepsComing, TakesAll, GoodIn, ReadyIn, ArrivedIn};
+ghost use Rattle.mh_reach.specs.Comparing.{AreKnown, InTurn, IsTold};
+ghost use Rattle.mh_reach.specs.Rising.{Rises, Same};
 
 use crate::arrivals::{Arrival, Arrivals, Coming, Spot, Step, arrival_of, arrive_at, no_arrivals};
+use crate::sorting::sorted;
+use mh_facts::FactStore;
 use mh_grammar::{Edge, Memory, Symbol, Token};
 use mh_search::queue::{Queue, empty_queue, push, take};
-use mh_search::{CAP, Classes, Found, Whole, add_costs, class_of, list_of};
+use mh_search::{CAP, Classes, Found, Whole, add_costs, add_token, class_of, list_of};
 use mh_tables::{Choice, Table, choose};
 use std::alloc::Global;
 
@@ -92,7 +96,7 @@ fn step_on(
                 from: from.spot,
                 token,
             };
-            let cost = add_costs(from.cost, table.token_cost(token));
+            let cost = add_token(table, from.cost, token);
             push_each(alloc, queue, list_of(table, classes, end), cost, end, step)?;
             Ok(())
         }
@@ -237,6 +241,131 @@ fn next_coming(queue: &mut Queue<Coming>, arrivals: &Arrivals, cost: u32) -> Opt
     }
 }
 
+/// Puts an arrival behind others, where its spot is not reached.
+fn keep_coming(all: &mut Vec<Coming>, arrivals: &Arrivals, coming: Coming) -> Result<(), Memory>
+    ensures { OnOk result (KeepsComing arrivals.now.spots.entries coming all.old.items all.new.items) }
+{
+    if arrival_of(arrivals, coming.spot).is_none() {
+        all.push(coming)?;
+    }
+    Ok(())
+}
+
+/// Takes all arrivals of a cost at spots that are not reached.
+fn take_all(
+    alloc: Global,
+    queue: &mut Queue<Coming>,
+    arrivals: &Arrivals,
+    cost: u32,
+) -> Result<Vec<Coming>, Memory>
+    ensures { IfOk result (λ all. TakesAll arrivals.now.spots.entries queue.old.buckets.items queue.new.buckets.items cost all.items) }
+{
+    let mut all = Vec::new(alloc);
+    'items: loop {
+        match take(queue, cost) {
+            None => return Ok(all),
+            Some(coming) => keep_coming(&mut all, arrivals, coming)?,
+        }
+    }
+}
+
+/// Arrivals of a cost in the order of their sentences; those that are too dear stand in any order.
+fn ordered(
+    alloc: Global,
+    table: &Table,
+    store: &FactStore,
+    arrivals: &Arrivals,
+    all: Vec<Coming>,
+    cost: u32,
+) -> Result<Vec<Coming>, Memory>
+    requires told { IsTold table.now store.now arrivals.now.spots.entries }
+    requires known { AreKnown store.now arrivals.now.spots.entries all.items }
+    ensures same { IfOk result (λ new. Same all.items new.items) }
+    ensures rises { cost < cap → IfOk result (λ new. Rises (InTurn table.now store.now arrivals.now.spots.entries) new.items) }
+{
+    if cost >= CAP {
+        return Ok(all);
+    }
+    sorted(alloc, table, store, arrivals, all.as_slice())
+}
+
+/// Arrivals of one cost, in their order.
+#[derive(Clone, Copy, Debug, Drop)]
+struct Level<'a> {
+    cost: u32,
+    comings: &'a [Coming],
+}
+
+/// The first arrival of a level.
+fn first_of(level: &Level) -> Coming
+    requires { 0 < length level.now.comings.now }
+    ensures { level.now.comings.now ≡ result ∷ drop 1 level.now.comings.now }
+{
+    level.comings[0]
+}
+
+/// Settles the first arrival of a level, and what it leads to with the same cost.
+fn arrive_one(
+    alloc: Global,
+    table: &Table,
+    classes: &Classes,
+    found: &Found,
+    second: &mut Second,
+    level: &Level,
+) -> Result<(), Memory>
+    requires classes { IsClasses table.now classes.now }
+    requires some { 0 < length level.now.comings.now }
+    requires ready { ReadyIn table.now classes.now found.now second.old.arrivals.spots.entries second.old.queue.buckets.items level.now.cost level.now.comings.now }
+    requires cost { level.now.cost ≤ cap }
+    ensures { OnOk result (ReadyIn table.now classes.now found.now second.new.arrivals.spots.entries second.new.queue.buckets.items level.now.cost (drop 1 level.now.comings.now)) }
+{
+    table.facts();
+    push(alloc, &mut second.queue, level.cost, first_of(level))?;
+    'turns: loop {
+        match next_coming(&mut second.queue, &second.arrivals, level.cost) {
+            None => return Ok(()),
+            Some(coming) => {
+                let arrival = Arrival {
+                    cost: level.cost,
+                    step: coming.step,
+                };
+                arrive_at(&mut second.arrivals, coming.spot, arrival)?;
+                let from = Settled {
+                    spot: coming.spot,
+                    cost: level.cost,
+                };
+                let wholes = found.work.wholes.as_slice();
+                go_on(alloc, table, classes, &mut second.queue, wholes, from)?;
+            }
+        }
+    }
+}
+
+/// Settles the arrivals of a level.
+fn arrive_each(
+    alloc: Global,
+    table: &Table,
+    classes: &Classes,
+    found: &Found,
+    second: &mut Second,
+    level: &Level,
+) -> Result<(), Memory>
+    requires classes { IsClasses table.now classes.now }
+    requires ready { ReadyIn table.now classes.now found.now second.old.arrivals.spots.entries second.old.queue.buckets.items level.now.cost level.now.comings.now }
+    requires cost { level.now.cost ≤ cap }
+    ensures { OnOk result (GoodIn table.now classes.now found.now second.new.arrivals.spots.entries second.new.queue.buckets.items (level.now.cost + 1) []) }
+{
+    table.facts();
+    for place in 0..level.comings.len() {
+        let rest = Level {
+            cost: level.cost,
+            comings: &level.comings[place..],
+        };
+        arrive_one(alloc, table, classes, found, second, &rest)?;
+    }
+    Ok(())
+}
+
 /// Settles all arrivals of a cost.
 fn arrive_level(
     alloc: Global,
@@ -247,29 +376,18 @@ fn arrive_level(
     cost: u32,
 ) -> Result<(), Memory>
     requires classes { IsClasses table.now classes.now }
-    requires good { GoodIn table.now classes.now found.now second.old.arrivals.spots.entries second.old.queue.buckets.items cost }
+    requires good { GoodIn table.now classes.now found.now second.old.arrivals.spots.entries second.old.queue.buckets.items cost [] }
     requires cost { cost ≤ cap }
-    ensures { OnOk result (GoodIn table.now classes.now found.now second.new.arrivals.spots.entries second.new.queue.buckets.items (cost + 1)) }
+    ensures { OnOk result (GoodIn table.now classes.now found.now second.new.arrivals.spots.entries second.new.queue.buckets.items (cost + 1) []) }
 {
     table.facts();
-    'turns: loop {
-        match next_coming(&mut second.queue, &second.arrivals, cost) {
-            None => return Ok(()),
-            Some(coming) => {
-                let arrival = Arrival {
-                    cost,
-                    step: coming.step,
-                };
-                arrive_at(&mut second.arrivals, coming.spot, arrival)?;
-                let from = Settled {
-                    spot: coming.spot,
-                    cost,
-                };
-                let wholes = found.work.wholes.as_slice();
-                go_on(alloc, table, classes, &mut second.queue, wholes, from)?;
-            }
-        }
-    }
+    let all = take_all(alloc, &mut second.queue, &second.arrivals, cost)?;
+    let comings = ordered(alloc, table, &found.store, &second.arrivals, all, cost)?;
+    let level = Level {
+        cost,
+        comings: comings.as_slice(),
+    };
+    arrive_each(alloc, table, classes, found, second, &level)
 }
 
 /// What the second search keeps.
@@ -279,7 +397,7 @@ struct Second {
     queue: Queue<Coming>,
 }
 
-/// Each state and token to come that a run reaches, with the least cost.
+/// Each state and token to come that a run reaches, with the first of the sentences of least cost.
 pub fn arrive(
     alloc: Global,
     table: &Table,

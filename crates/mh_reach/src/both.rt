@@ -1,15 +1,29 @@
 //! Both searches, and the best way to fail in each state.
-ghost use Rattle.std.specs.Prelude.{◌≡◌, ◌<◌, IfOk, length};
+ghost use Rattle.std.specs.Prelude.{◌≡◌, ◌<◌, IfOk, IfSome, length};
 ghost use Rattle.mh_search.specs.Classes.{IsClasses};
-ghost use Rattle.mh_reach.specs.Reaching.{AreCheap, BestOn, BestBelow, AreBest, lesser};
+ghost use Rattle.mh_reach.specs.Arriving.{HasArrived};
+ghost use Rattle.mh_reach.specs.Comparing.{ComesLater, IsTold};
+ghost use Rattle.mh_reach.specs.Reaching.{AreCheap, BestOn, BestBelow, AreBest, IsFirstOf, IsFirstOfBoth, step_of};
 
-use crate::arrivals::{Arrivals, Spot, arrival_of};
+use crate::arrivals::{Arrivals, Spot, Step, arrival_of};
 use crate::arrive::arrive;
+use crate::comparing::comes_later;
 use crate::sentences::{Best, Reach};
+use mh_facts::FactStore;
 use mh_grammar::{Memory, Token};
-use mh_search::{Classes, add_costs, class_of, classes_of, search};
+use mh_search::{Classes, add_token, class_of, classes_of, search};
 use mh_tables::{Choice, Halting, Table, choose};
 use std::alloc::Global;
+
+/// The step behind which a state refuses the token.
+fn step_of(best: Best) -> Step
+    ensures { result ≡ step_of best }
+{
+    Step::Shift {
+        from: best.spot,
+        token: best.token,
+    }
+}
 
 /// How a state refuses a token, where it does behind some sentence.
 fn best_on(
@@ -35,7 +49,7 @@ fn best_on(
             match arrival_of(arrivals, spot) {
                 None => None,
                 Some(arrival) => Some(Best {
-                    cost: add_costs(arrival.cost, table.token_cost(token)),
+                    cost: add_token(table, arrival.cost, token),
                     spot,
                     token,
                 }),
@@ -45,35 +59,91 @@ fn best_on(
     }
 }
 
-/// The cheaper of two.
-fn lesser_of(left: Option<Best>, right: Option<Best>) -> Option<Best>
-    ensures { result ≡ lesser left right }
+/// Whether the sentence of the left one comes later, of two of one cost.
+fn is_behind(
+    alloc: Global,
+    table: &Table,
+    store: &FactStore,
+    arrivals: &Arrivals,
+    left: Best,
+    right: Best,
+) -> Result<bool, Memory>
+    requires told { IsTold table.now store.now arrivals.now.spots.entries }
+    requires left { HasArrived arrivals.now.spots.entries left.spot }
+    requires right { HasArrived arrivals.now.spots.entries right.spot }
+    ensures { IfOk result (ComesLater table.now store.now arrivals.now.spots.entries (step_of left) (step_of right)) }
 {
-    match (left, right) {
-        (None, right) => right,
-        (Some(left), None) => Some(left),
-        (Some(left), Some(right)) => {
-            if right.cost < left.cost {
-                Some(right)
-            } else {
-                Some(left)
-            }
-        }
+    let one = step_of(left);
+    let two = step_of(right);
+    comes_later(alloc, table, store, arrivals, one, two)
+}
+
+/// The one whose sentence comes first: the cheaper one; of one cost by their sentences.
+fn sooner_of(
+    alloc: Global,
+    table: &Table,
+    store: &FactStore,
+    arrivals: &Arrivals,
+    left: Best,
+    right: Best,
+) -> Result<Best, Memory>
+    requires told { IsTold table.now store.now arrivals.now.spots.entries }
+    requires left { HasArrived arrivals.now.spots.entries left.spot }
+    requires right { HasArrived arrivals.now.spots.entries right.spot }
+    ensures { IfOk result (IsFirstOf table.now store.now arrivals.now.spots.entries left right) }
+{
+    if left.cost < right.cost {
+        return Ok(left);
+    }
+    if right.cost < left.cost {
+        return Ok(right);
+    }
+    let behind = is_behind(alloc, table, store, arrivals, left, right)?;
+    if behind { Ok(right) } else { Ok(left) }
+}
+
+/// The best of those so far and one more.
+fn first_of(
+    alloc: Global,
+    table: &Table,
+    store: &FactStore,
+    arrivals: &Arrivals,
+    best: Option<Best>,
+    more: Option<Best>,
+) -> Result<Option<Best>, Memory>
+    requires told { IsTold table.now store.now arrivals.now.spots.entries }
+    requires best { IfSome best (λ b. HasArrived arrivals.now.spots.entries b.spot) }
+    requires more { IfSome more (λ b. HasArrived arrivals.now.spots.entries b.spot) }
+    ensures { IfOk result (IsFirstOfBoth table.now store.now arrivals.now.spots.entries best more) }
+{
+    match (best, more) {
+        (None, more) => Ok(more),
+        (Some(best), None) => Ok(Some(best)),
+        (Some(best), Some(more)) => Ok(Some(sooner_of(alloc, table, store, arrivals, best, more)?)),
     }
 }
 
 /// The best way to fail in a state.
-fn best_of(table: &Table, classes: &Classes, arrivals: &Arrivals, state: u32) -> Option<Best>
+fn best_of(
+    alloc: Global,
+    table: &Table,
+    classes: &Classes,
+    store: &FactStore,
+    arrivals: &Arrivals,
+    state: u32,
+) -> Result<Option<Best>, Memory>
     requires classes { IsClasses table.now classes.now }
+    requires told { IsTold table.now store.now arrivals.now.spots.entries }
     requires arrivals { AreCheap arrivals.now.spots.entries }
     requires state { state < length table.now.states }
-    ensures { BestBelow table.now classes.now arrivals.now.spots.entries state table.now.grammar.tokens result }
+    ensures { IfOk result (BestBelow table.now classes.now store.now arrivals.now.spots.entries state table.now.grammar.tokens) }
 {
     let mut best = None;
     for token in 0..table.tokens() {
-        best = lesser_of(best, best_on(table, classes, arrivals, state, token));
+        let more = best_on(table, classes, arrivals, state, token);
+        best = first_of(alloc, table, store, arrivals, best, more)?;
     }
-    best
+    Ok(best)
 }
 
 /// The best way to fail in each state.
@@ -81,15 +151,18 @@ fn all_best(
     alloc: Global,
     table: &Table,
     classes: &Classes,
+    store: &FactStore,
     arrivals: &Arrivals,
 ) -> Result<Vec<Option<Best>>, Memory>
     requires classes { IsClasses table.now classes.now }
+    requires told { IsTold table.now store.now arrivals.now.spots.entries }
     requires arrivals { AreCheap arrivals.now.spots.entries }
-    ensures { IfOk result (λ best. AreBest table.now classes.now arrivals.now.spots.entries (length table.now.states) best.items) }
+    ensures { IfOk result (λ best. AreBest table.now classes.now store.now arrivals.now.spots.entries (length table.now.states) best.items) }
 {
     let mut all = Vec::new(alloc);
     for state in 0..table.states() {
-        all.push(best_of(table, classes, arrivals, state))?;
+        let best = best_of(alloc, table, classes, store, arrivals, state)?;
+        all.push(best)?;
     }
     Ok(all)
 }
@@ -103,7 +176,7 @@ pub fn reach<'t>(alloc: Global, table: &'t Halting) -> Result<Reach<'t>, Memory>
     let classes = classes_of(alloc, inner)?;
     let found = search(alloc, inner, &classes)?;
     let arrivals = arrive(alloc, inner, &classes, &found)?;
-    let best = all_best(alloc, inner, &classes, &arrivals)?;
+    let best = all_best(alloc, inner, &classes, &found.store, &arrivals)?;
     Ok(Reach {
         table,
         store: found.store,

@@ -4,7 +4,9 @@
 mod arrivals;
 mod arrive;
 mod both;
+mod comparing;
 mod sentences;
+mod sorting;
 mod spell;
 
 pub use both::reach;

@@ -1,4 +1,4 @@
-//! The least cost of a sentence that fails in a state, and the sentence.
+//! The least cost of a sentence that fails in a state, and the first of these sentences.
 ghost use Rattle.std.specs.Prelude.{◌≡◌, ◌<◌, IfOk, length};
 ghost use Rattle.mh_tables.specs.Failing.{FailsFirst, FailsCheaply};
 ghost use Rattle.mh_reach.specs.Spelling.{HasLabel, Walks};
@@ -20,7 +20,7 @@ pub struct Best {
     pub token: Token,
 }
 
-/// For each state of a table, whether some sentence fails there, and one of least cost.
+/// For each state of a table, whether some sentence fails there, and the first that does.
 #[derive(Drop)]
 pub struct Reach<'t> {
     pub(crate) table: &'t Halting,
@@ -84,7 +84,8 @@ impl<'t> Reach<'t> {
         }
     }
 
-    /// A sentence of least cost that fails in a state, where one that costs at most 1,000,000 does.
+    /// The sentence that comes first of those that fail in a state, where one that costs at most 1,000,000 does: by cost, then
+    /// by start, then by the numbers of the tokens.
     pub fn sentence_of(&self, alloc: Global, state: u32) -> Result<Sentence, Memory>
         requires state { state < length self.now.states }
         requires cheap { FailsCheaply self.now state }

@@ -3,3 +3,5 @@
 
 #[cfg(test)]
 mod catalogues;
+#[cfg(test)]
+mod sentences;

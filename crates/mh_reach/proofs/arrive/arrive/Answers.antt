@@ -1,4 +1,4 @@
-use Rattle.std.proofs.Common.{◌≤◌, ◌+◌, arith}
+use Rattle.std.proofs.Common.{◌≤◌, ◌+◌, [], arith}
 use Rattle.mh_least.specs.Orders.{cap}
 use Rattle.mh_reach.proofs.Arriving.{arrive_begins, arrive_ends}
 use Rattle.mh_reach.proofs.arrive.arrive.Goals as goal
@@ -14,6 +14,6 @@ returns c =
     let level : cap + 1 ≤ c.loop-cost.cost = (let a = c.loop-cost-test.false in omega arith) in
     record {
       found_is = g.found_is;
-      arrived = arrive_ends c.args.table.now c.facts.ensures c.args.classes.now c.requires.classes g.found_is.tale.words c.args.found.now.work g.found_is.wholes c.loop-cost.second.arrivals.spots.entries c.loop-cost.second.queue.buckets.items c.loop-cost.cost g.good
+      arrived = arrive_ends c.args.table.now c.facts.ensures c.args.classes.now c.requires.classes g.found_is.tale.words c.args.found.now.work g.found_is.wholes c.loop-cost.second.arrivals.spots.entries c.loop-cost.second.queue.buckets.items c.loop-cost.cost [] g.good
           (λ cost o h. (let low = g.good.low cost o h in let few = (g.good.items cost o h).few in omega arith));
     }

@@ -1,14 +1,10 @@
-use Rattle.std.proofs.Common.{◌≡◌, [], ◌∷◌, sym, refl, ◌∙◌}
+use Rattle.std.proofs.Common.{◌≡◌, [], ◌∷◌, sym, ◌∙◌}
 use Rattle.mh_grammar.specs.declared.types.Symbol.TheVariants.{T}
 use Rattle.mh_tables.specs.Run.{Shifts, move_of}
 use Rattle.mh_search.specs.Classes.{rep_of}
-use Rattle.mh_search.proofs.Wording.{token_cheap}
 use Rattle.mh_search.proofs.Shifting.{shift_target}
 use Rattle.mh_reach.proofs.Stepping.{along_gains}
 use Rattle.mh_reach.proofs.arrive.step_on.Goals as goal
-
-pub add_costs-cost-requires-clause-right : goal.add_costs-cost-requires-clause-right
-add_costs-cost-requires-clause-right c = rw c.token_cost.ensures (token_cheap c.args.table.now c.facts.ensures c.args.token c.requires.token)
 
 pub list_of-requires-clause-state : goal.list_of-requires-clause-state
 list_of-requires-clause-state c =
@@ -19,4 +15,4 @@ pub returns-in_ok-push_each-in-Shift : goal.returns-in_ok-push_each-in-Shift
 returns-in_ok-push_each-in-Shift c =
     let move : move_of c.args.table.now c.args.from.spot.state (c.args.token ∷ []) ≡ Shifts c.in-Shift.end = sym (rw c.in-Shift.is at c.choose.ensures) in
     let like : rep_of c.args.classes.now c.args.from.spot.state c.args.token ≡ c.args.from.spot.next = sym c.class_of.ensures.representative ∙ c.if-class_of-from.false in
-    along_gains c.args.table.now c.args.classes.now c.args.from.spot c.args.from.cost c.args.token c.in-Shift.end c.add_costs-cost.result like move (c.add_costs-cost.ensures ∙ rw c.token_cost.ensures refl) c.args.queue.now.buckets.items c.push_each.new.queue.buckets.items (rw c.list_of.ensures at c.in_ok-push_each-in-Shift.ensures)
+    along_gains c.args.table.now c.args.classes.now c.args.from.spot c.args.from.cost c.args.token c.in-Shift.end c.add_token-cost.result like move c.add_token-cost.ensures c.args.queue.now.buckets.items c.push_each.new.queue.buckets.items (rw c.list_of.ensures at c.in_ok-push_each-in-Shift.ensures)

@@ -1,0 +1,43 @@
+use Rattle.std.proofs.Common.{◌∙◌, sym, drop, inl, inr, Some}
+use Rattle.mh_reach.specs.declared.arrivals.Coming.{Coming}
+use Rattle.mh_reach.specs.Comparing.{IsKnown, InTurn}
+use Rattle.mh_reach.specs.Rising.{IsSooner}
+use Rattle.mh_reach.proofs.Listing.{here, in_cons, get_first, some_first, merge_begins, merge_ends, merges_left, merges_right}
+use Rattle.mh_reach.proofs.Tracing.{precedes_after}
+use Rattle.mh_reach.proofs.sorting.merged.Goals as goal
+
+pub comings-init : goal.comings-init
+comings-init c = rw c.new-all.ensures.items (merge_begins (InTurn c.args.table.now c.args.store.now c.args.arrivals.now.spots.entries) c.args.left.now c.args.right.now c.requires.left c.requires.right)
+
+pub sooner-requires-clause-known : goal.sooner-requires-clause-known
+sooner-requires-clause-known c o there =
+    let m = c.comings.invariant in
+    let first = get_first c.comings.rest.now c.in-Some.coming (sym c.first_of.ensures ∙ c.in-Some.is) in
+    elim (in_cons c.in-Some.coming c.comings.others.now o there) [
+      | inl is ↦ rw is (c.requires.left_known c.in-Some.coming (m.rest_only c.in-Some.coming (rw first (here c.in-Some.coming (drop 1 c.comings.rest.now)))))
+      | inr other ↦ c.requires.right_known o (m.others_only o other)
+    ]
+
+pub sooner-requires-clause-rising : goal.sooner-requires-clause-rising
+sooner-requires-clause-rising c = c.comings.invariant.others_rises
+
+pub returns-in-None : goal.returns-in-None
+returns-in-None c =
+    rw c.in_ok-push_all-in-None.ensures (merge_ends (InTurn c.args.table.now c.args.store.now c.args.arrivals.now.spots.entries) c.args.left.now c.args.right.now c.comings.rest.now c.comings.others.now c.comings.all.items c.comings.invariant (sym c.first_of.ensures ∙ c.in-None.is))
+
+pub behind-rest-requires : goal.behind-rest-requires
+behind-rest-requires c = some_first c.comings.rest.now c.in-Some.coming (drop 1 c.comings.rest.now) (get_first c.comings.rest.now c.in-Some.coming (sym c.first_of.ensures ∙ c.in-Some.is))
+
+pub behind-others-requires : goal.behind-others-requires
+behind-others-requires c =
+    let h : IsSooner (InTurn c.args.table.now c.args.store.now c.args.arrivals.now.spots.entries) c.in-Some.coming c.comings.others.now (Some c.in-Some-2.other) = rw c.in-Some-2.is at c.in_ok-sooner-in-Some.ensures in
+    some_first c.comings.others.now c.in-Some-2.other h.0 h.1
+
+pub comings-preserved-in-None-2 : goal.comings-preserved-in-None-2
+comings-preserved-in-None-2 c =
+    rw (c.behind-rest.ensures, c.in_ok-push-in-None-2.ensures.items) (merges_left (InTurn c.args.table.now c.args.store.now c.args.arrivals.now.spots.entries) (λ (x : Coming). IsKnown c.args.store.now c.args.arrivals.now.spots.entries x.step) (λ x y z h. precedes_after c.args.table.now c.args.store.now c.args.arrivals.now.spots.entries x.step y.step z.step h) c.args.left.now c.args.right.now c.comings.rest.now c.comings.others.now c.comings.all.items c.in-Some.coming c.comings.invariant (sym c.first_of.ensures ∙ c.in-Some.is) (rw c.in-None-2.is at c.in_ok-sooner-in-Some.ensures))
+
+pub comings-preserved : goal.comings-preserved
+comings-preserved c =
+    let known = c.requires.left_known c.in-Some.coming (c.comings.invariant.rest_only c.in-Some.coming (rw (get_first c.comings.rest.now c.in-Some.coming (sym c.first_of.ensures ∙ c.in-Some.is)) (here c.in-Some.coming (drop 1 c.comings.rest.now)))) in
+    rw (c.behind-others.ensures, c.in_ok-push-in-Some-2.ensures.items) (merges_right (InTurn c.args.table.now c.args.store.now c.args.arrivals.now.spots.entries) (λ (x : Coming). IsKnown c.args.store.now c.args.arrivals.now.spots.entries x.step) (λ x y z h. precedes_after c.args.table.now c.args.store.now c.args.arrivals.now.spots.entries x.step y.step z.step h) c.args.left.now c.args.right.now c.comings.rest.now c.comings.others.now c.comings.all.items c.in-Some.coming c.in-Some-2.other c.comings.invariant (sym c.first_of.ensures ∙ c.in-Some.is) known (rw c.in-Some-2.is at c.in_ok-sooner-in-Some.ensures))
