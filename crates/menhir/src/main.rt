@@ -3,7 +3,7 @@
 
 ghost use Rattle.std.specs.Prelude.{◌≡◌, map, string_bytes};
 ghost use Rattle.std.specs.Process.{exit_status};
-ghost use Rattle.mh_top.specs.Turns.{AsksFor};
+ghost use Rattle.mh_top.specs.Asking.{AsksFor};
 ghost use Rattle.mh_top.specs.Run.{world, Ran};
 ghost use Rattle.mh_top.specs.Saying.{SaysLine};
 

@@ -4,8 +4,8 @@ use Rattle.std.specs.Prelude.{Some, List, [], ◌∷◌, codes, map, true}
 use Rattle.clap.specs.Words.{App, Rule, Text, new_app, new_rule, with_rule}
 use Rattle.clap.specs.Simple.{on_top}
 use Rattle.clap.specs.declared.builder.action.ArgAction.TheVariants.{Append}
-use Rattle.mh_opts.specs.declared.options.Opt.{Opt}
-use Rattle.mh_opts.specs.declared.options.TheConstants.{GRAMMARS, OPTIONS}
+use Rattle.mh_opts.specs.declared.jobs.Opt.{Opt}
+use Rattle.mh_opts.specs.declared.jobs.TheConstants.{GRAMMARS, OPTIONS}
 
 -- a row with its name as text
 abbrev pub plain : {N : Type 0} → Opt N → (N → Text) → Opt Text

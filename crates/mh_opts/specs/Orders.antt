@@ -4,13 +4,13 @@ use Rattle.std.specs.Prelude.{◌≡◌, ◌++◌, Bool, not, ◌&&◌, List, []
 use Rattle.clap.specs.Words.{Row, Text, all_of, first_of, fault_of, matches_of}
 use Rattle.clap.specs.Walk.{is_empty}
 use Rattle.clap.specs.Takes.{is_given}
-use Rattle.mh_opts.specs.declared.options.Mode.{Mode}
-use Rattle.mh_opts.specs.declared.options.Mode.TheVariants as mode
-use Rattle.mh_opts.specs.declared.options.Need.{Need}
-use Rattle.mh_opts.specs.declared.options.Opt.{Opt}
-use Rattle.mh_opts.specs.declared.options.TheConstants.{COMPILE_ERRORS, GRAMMARS, INTERPRET_SHOW_CST, MESSAGES, NEEDS, NO_STDLIB, STRICT}
-use Rattle.mh_opts.specs.declared.order.Job.{Job}
-use Rattle.mh_opts.specs.declared.order.Job.TheVariants as job
+use Rattle.mh_opts.specs.declared.jobs.Mode.{Mode}
+use Rattle.mh_opts.specs.declared.jobs.Mode.TheVariants as mode
+use Rattle.mh_opts.specs.declared.jobs.Need.{Need}
+use Rattle.mh_opts.specs.declared.jobs.Opt.{Opt}
+use Rattle.mh_opts.specs.declared.jobs.TheConstants.{COMPILE_ERRORS, GRAMMARS, INTERPRET_SHOW_CST, MESSAGES, NEEDS, NO_STDLIB, STRICT}
+use Rattle.mh_opts.specs.declared.jobs.Job.{Job}
+use Rattle.mh_opts.specs.declared.jobs.Job.TheVariants as job
 use Rattle.mh_opts.specs.declared.order.Order.{Order}
 use Rattle.mh_opts.specs.declared.order.UsageFault.{UsageFault}
 use Rattle.mh_opts.specs.declared.order.UsageFault.TheVariants.{Parse, NoMode, TwoModes, Misplaced, NoGrammar, Memory}

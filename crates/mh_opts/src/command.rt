@@ -3,7 +3,7 @@ ghost use Rattle.std.specs.Prelude.{◌≡◌, IfOk};
 ghost use Rattle.clap.specs.Words.{app_of, with_rule};
 ghost use Rattle.mh_opts.specs.App.{bare_app, grammars_rule, menhir_app, option_rule, plain, plain_rows, with_options};
 
-use crate::options::{GRAMMARS, Opt, options};
+use crate::jobs::{GRAMMARS, Opt, options};
 use clap::{Arg, ArgAction, Command};
 use std::alloc::{AllocError, Global};
 

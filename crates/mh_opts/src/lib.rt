@@ -2,9 +2,11 @@
 #![tactic(auto)]
 
 mod command;
-mod options;
+mod found;
+mod jobs;
 mod order;
 mod words;
 
-pub use order::{Job, Order, UsageFault};
+pub use jobs::Job;
+pub use order::{Order, UsageFault};
 pub use words::read_words;

@@ -2,26 +2,10 @@
 ghost use Rattle.std.specs.Prelude.{◌≡◌};
 ghost use Rattle.mh_opts.specs.declared.order.UsageFault.TheVariants as faults;
 
+use crate::jobs::Job;
 use mh_grammar::{Memory, Name, Sequence};
 use std::alloc::AllocError;
 use thiserror::Error;
-
-/// What is to be done.
-#[derive(Debug, Drop, PartialEq, Eq)]
-pub enum Job {
-    /// `--interpret`: a verdict for each line of the input.
-    Interpret,
-    /// `--interpret-error`: the entry of the sentence on the first line of the input.
-    InterpretError,
-    /// `--session`: the reply to a command on named branches for each line of the input.
-    Session,
-    /// `--show-automaton`: the automaton as text.
-    ShowAutomaton,
-    /// `--list-errors`: an entry for each state in which some sentence fails.
-    ListErrors,
-    /// `--compile-errors FILE`: the messages of a file, by state.
-    CompileErrors { file: Name },
-}
 
 /// A job, and what else the words say.
 #[derive(Debug, Drop)]

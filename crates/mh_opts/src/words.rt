@@ -1,34 +1,22 @@
 //! The order that words spell.
 ghost use Rattle.std.specs.Prelude.{◌≡◌, IfOk, Ok, not, option_map, map, string_bytes};
-ghost use Rattle.clap.specs.Takes as clap;
 ghost use Rattle.clap.specs.Walk.{is_empty};
-ghost use Rattle.clap.specs.Words.{first_of, found_of, rows_of};
+ghost use Rattle.clap.specs.Words.{found_of, rows_of};
 ghost use Rattle.mh_opts.specs.Orders as orders;
-ghost use Rattle.mh_opts.specs.Orders.{Answers, grammars_of, job_for, lacks, misplaced_in, mode_at, mode_in, needs, order_in, order_of, plain_need, written};
+ghost use Rattle.mh_opts.specs.Orders.{Answers, grammars_of, lacks, misplaced_in, mode_at, mode_in, needs, order_in, order_of, plain_need, written};
 ghost use Rattle.mh_opts.specs.App.{options, plain};
 
 use crate::command::menhir_command;
-use crate::options::{
-    COMPILE_ERRORS, GRAMMARS, INTERPRET_SHOW_CST, MESSAGES, Mode, NO_STDLIB, Need, Opt, STRICT,
-    needs, options,
+use crate::found::{is_given, value_of};
+use crate::jobs::{
+    GRAMMARS, INTERPRET_SHOW_CST, MESSAGES, Mode, NO_STDLIB, Need, Opt, STRICT, job_of, needs,
+    options,
 };
-use crate::order::{Job, Order, UsageFault};
+use crate::order::{Order, UsageFault};
 use clap::ArgMatches;
 use clap::error::ErrorKind;
-use clap::parser::ValueSource;
 use mh_grammar::{Memory, Name, Sequence, from_bytes};
 use std::alloc::Global;
-
-/// Whether the words hold an option, or a grammar file. The value that clap gives a flag by default is not of the words.
-fn is_given(matches: &ArgMatches<'_>, name: &str) -> bool
-    ensures { result ≡ clap.is_given name.now (rows_of (found_of matches.now)) }
-{
-    match matches.value_source(name) {
-        Some(ValueSource::CommandLine) => true,
-        Some(ValueSource::DefaultValue) => false,
-        None => matches.contains_id(name),
-    }
-}
 
 /// The mode of an option, where the words hold it.
 fn mode_of(matches: &ArgMatches<'_>, option: &Opt<&str>) -> Option<Mode>
@@ -56,42 +44,6 @@ fn only_mode(matches: &ArgMatches<'_>) -> Result<Mode, UsageFault>
         }
     }
     found.ok_or(UsageFault::NoMode)
-}
-
-/// The value that stands behind an option.
-fn value_of(alloc: Global, matches: &ArgMatches<'_>, name: &str) -> Result<Option<Name>, Memory>
-    ensures { IfOk result (λ value. value ≡ first_of name.now (rows_of (found_of matches.now))) }
-{
-    match matches.get_str(name) {
-        Some(value) => Ok(Some(from_bytes(alloc, value.as_bytes())?)),
-        None => Ok(None),
-    }
-}
-
-/// The file that stands behind an option.
-fn file_of(alloc: Global, matches: &ArgMatches<'_>, name: &str) -> Result<Name, Memory>
-    ensures { IfOk result (λ file. file ≡ orders.file_of (rows_of (found_of matches.now)) name.now) }
-{
-    match matches.get_str(name) {
-        Some(value) => from_bytes(alloc, value.as_bytes()),
-        None => from_bytes(alloc, b""),
-    }
-}
-
-/// The job of a mode, with what stands behind its words.
-fn job_of(alloc: Global, matches: &ArgMatches<'_>, mode: Mode) -> Result<Job, Memory>
-    ensures { IfOk result (λ job. job ≡ job_for (rows_of (found_of matches.now)) mode) }
-{
-    match mode {
-        Mode::Interpret => Ok(Job::Interpret),
-        Mode::InterpretError => Ok(Job::InterpretError),
-        Mode::Session => Ok(Job::Session),
-        Mode::ShowAutomaton => Ok(Job::ShowAutomaton),
-        Mode::ListErrors => Ok(Job::ListErrors),
-        Mode::CompileErrors => Ok(Job::CompileErrors {
-            file: file_of(alloc, matches, COMPILE_ERRORS)?,
-        }),
-    }
 }
 
 /// Whether an option stands without what it needs.

@@ -4,18 +4,20 @@ use Rattle.std.proofs.lemmas.List.{append-nil}
 use Rattle.std.specs.Io.KnownBytes.{Appends}
 use Rattle.mh_outside.specs.Faults.{Rose, IsCalm}
 use Rattle.mh_outside.specs.Shelf.{Files}
-use Rattle.mh_top.specs.Text.{Text}
-use Rattle.mh_top.specs.Causes.{Halt, status_of}
-use Rattle.mh_top.specs.Order.{order_of}
-use Rattle.mh_top.specs.Plan.{Plan, AnswersAll, asks_of}
-use Rattle.mh_top.specs.Work.{Work, AsksFor, EndsBehind, IsWork, Outcome, Yields}
-use Rattle.mh_top.specs.Drive.{AreFirst, Partly, GotAt, CutAt, WantsAt, IsOfEnd, IsOfLine}
+use Rattle.mh_drive.specs.Text.{Text}
+use Rattle.mh_drive.specs.Causes.{Halt}
+use Rattle.mh_drive.specs.Statuses.{status_of}
+use Rattle.mh_prepare.specs.Order.{order_of}
+use Rattle.mh_modes.specs.Plan.{Plan, asks_of, by_plan}
+use Rattle.mh_drive.specs.Ways.{AnswersAll, AsksFor, EndsBehind, Outcome, Yields}
+use Rattle.mh_top.specs.Work.{Work, IsWork}
+use Rattle.mh_drive.specs.Drive.{AreFirst, Partly, GotAt, CutAt, WantsAt, IsOfEnd, IsOfLine}
 use Rattle.mh_top.specs.Run.{World, Ran, Finished, CannotReadFile, CannotReadInput, CannotWarn, CannotWrite, CannotSay, NoMemory, Behind, Done, Nothing, Warned, Begun, EndedSo, Says, OfCause, OfFile, OfInput, OfMemory, Does, IsStill}
 use Rattle.mh_top.specs.Claims.{AbsentIsSaid, AsksLines, Completes, Finishes, IsAbsent, IsDone, IsLongFile, IsLongInput, IsOutPart, IsPast, IsStatus, Keeps, LongFileIsSaid, LongInputIsSaid, MisuseHasCause, ReadFaultHasCause, TooBigHasCause, WantKeeps, WriteFaultHasCause, WriteFaultIsSaid, WriteFaultStops, WritesPart, WritesPartOfEach}
-use Rattle.mh_top.specs.declared.drive.Asks.{Asks}
-use Rattle.mh_top.specs.declared.drive.Asks.TheVariants.{NoLine, FirstLine, EachLine}
-use Rattle.mh_top.specs.declared.stop.Cause.{Cause}
-use Rattle.mh_top.specs.declared.stop.Cause.TheVariants.{Refused, Misused, Missing, LongFile, LongInput}
+use Rattle.mh_drive.specs.declared.driving.Asks.{Asks}
+use Rattle.mh_drive.specs.declared.driving.Asks.TheVariants.{NoLine, FirstLine, EachLine}
+use Rattle.mh_drive.specs.declared.stop.Cause.{Cause}
+use Rattle.mh_drive.specs.declared.stop.Cause.TheVariants.{Refused, Misused, Missing, LongFile, LongInput}
 use Rattle.mh_top.proofs.Endings.{AccountsOn, ended, long_gives, misused_says, missing_gives}
 use Rattle.mh_top.proofs.Once.{work_once}
 
@@ -78,10 +80,10 @@ past_false NoLine input lines whole some past asks = absurd (some refl)
 past_false FirstLine input lines whole some past asks = sym asks.1 ∙ past
 past_false EachLine input lines whole some past asks = sym asks.1 ∙ past
 
-past_cause : (plan : Plan) (input : Text) (o : Outcome) → Yields plan (Some input) o → AsksLines plan → IsPast (asks_of plan) (Some input) → o.cause ≡ Some LongInput
+past_cause : (plan : Plan) (input : Text) (o : Outcome) → Yields by_plan plan (Some input) o → AsksLines plan → IsPast (asks_of plan) (Some input) → o.cause ≡ Some LongInput
 past_cause plan input o yields some past =
     let cut : yields.whole ≡ false = past_false (asks_of plan) input yields.lines yields.whole some past yields.asks in
-    let ends : EndsBehind false yields.last yields.text o.cause o.out = subst (λ (w : Bool). EndsBehind w yields.last yields.text o.cause o.out) cut yields.ends in ends.0
+    let ends : EndsBehind by_plan false yields.last yields.text o.cause o.out = subst (λ (w : Bool). EndsBehind by_plan w yields.last yields.text o.cause o.out) cut yields.ends in ends.0
 
 -- ---- what stands on out
 
@@ -89,20 +91,20 @@ module _ (plan : Plan) (old new out0 out1 : Option Text) where
   abbrev Part : Type 0
   Part = (text : Text) × Appends out0 out1 text × IsOutPart plan old text
 
-  got_part : Partly plan old out0 out1 (GotAt plan old new) → Part
+  got_part : Partly by_plan plan old out0 out1 (GotAt by_plan plan old new) → Part
   got_part h = (h.text ++ h.front, h.on_out, record { lines = h.lines; answers = h.text; next = h.next; front = h.front; stands = h.stands; is_front = inl h.at.0; text_is = refl })
 
-  cut_part : Partly plan old out0 out1 (CutAt plan old new) → Part
+  cut_part : Partly by_plan plan old out0 out1 (CutAt by_plan plan old new) → Part
   cut_part h = (h.text ++ h.front, h.on_out, record { lines = h.lines; answers = h.text; next = h.next; front = h.front; stands = h.stands; is_front = is h.at; text_is = refl })
     where
-      is : CutAt plan old new h.lines h.next h.front → (h.front ≡ []) ⊎ IsOfLine plan old h.lines h.next h.front ⊎ IsOfEnd plan old h.lines h.next h.front
+      is : CutAt by_plan plan old new h.lines h.next h.front → (h.front ≡ []) ⊎ IsOfLine by_plan plan old h.lines h.next h.front ⊎ IsOfEnd by_plan plan old h.lines h.next h.front
       is (inl at) = inr (inl at.0)
       is (inr at) = inr (inr at.0)
 
-  want_part : Partly plan old out0 out1 (WantsAt plan old new) → Part
+  want_part : Partly by_plan plan old out0 out1 (WantsAt by_plan plan old new) → Part
   want_part h = (h.text ++ h.front, h.on_out, record { lines = h.lines; answers = h.text; next = h.next; front = h.front; stands = h.stands; is_front = is h.at; text_is = refl })
     where
-      is : WantsAt plan old new h.lines h.next h.front → (h.front ≡ []) ⊎ IsOfLine plan old h.lines h.next h.front ⊎ IsOfEnd plan old h.lines h.next h.front
+      is : WantsAt by_plan plan old new h.lines h.next h.front → (h.front ≡ []) ⊎ IsOfLine by_plan plan old h.lines h.next h.front ⊎ IsOfEnd by_plan plan old h.lines h.next h.front
       is (inl at) = inl at.0
       is (inr at) = inr (inr at.0)
 
@@ -112,8 +114,8 @@ first_all NoLine (Some input) lines whole is = ([], sym (ap (λ (l : List Text).
 first_all FirstLine (Some input) lines whole is = ([], is.0 ∙ sym (append-nil lines))
 first_all EachLine (Some input) lines whole is = ([], is.0 ∙ sym (append-nil lines))
 
-module _ (plan : Plan) (input : Option Text) (lines : List Text) (text : Text) (last : Plan) (cause : Option Cause) (out : Text) (answers : AnswersAll plan lines text last) where
-  all_part : (whole : Bool) → AsksFor (asks_of plan) input lines whole → EndsBehind whole last text cause out → IsOutPart plan input out
+module _ (plan : Plan) (input : Option Text) (lines : List Text) (text : Text) (last : Plan) (cause : Option Cause) (out : Text) (answers : AnswersAll by_plan plan lines text last) where
+  all_part : (whole : Bool) → AsksFor (asks_of plan) input lines whole → EndsBehind by_plan whole last text cause out → IsOutPart plan input out
   all_part true asks ends = record {
     lines = lines;
     answers = text;
@@ -133,7 +135,7 @@ module _ (plan : Plan) (input : Option Text) (lines : List Text) (text : Text) (
     text_is = ends.1 ∙ sym (append-nil text);
   }
 
-yields_part : (plan : Plan) (input : Option Text) (o : Outcome) → Yields plan input o → IsOutPart plan input o.out
+yields_part : (plan : Plan) (input : Option Text) (o : Outcome) → Yields by_plan plan input o → IsOutPart plan input o.out
 yields_part plan input o y = all_part plan input y.lines y.text y.last o.cause o.out y.answers y.whole y.asks y.ends
 
 module _ (words : List Text) (b a : World) where
@@ -217,7 +219,7 @@ module _ (words : List Text) (b a : World) (status : ℕ) where
 
     said_past : (input : Text) → b.left ≡ Some input → AsksLines does.work.plan × IsPast (asks_of does.work.plan) (Some input) → status ≡ 5
     said_past input told past =
-        let yields : Yields does.work.plan (Some input) does.outcome = subst (λ (x : Option Text). Yields does.work.plan x does.outcome) told does.yields in
+        let yields : Yields by_plan does.work.plan (Some input) does.outcome = subst (λ (x : Option Text). Yields by_plan does.work.plan x does.outcome) told does.yields in
         does.status_is ∙ ap status_of (past_cause does.work.plan input does.outcome yields past.0 past.1)
 
   misuse_claim : Run → MisuseHasCause words b a status

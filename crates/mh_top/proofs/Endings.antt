@@ -9,28 +9,32 @@ use Rattle.mh_opts.specs.Orders as spelled
 use Rattle.mh_opts.specs.declared.order.Order.{Order}
 use Rattle.mh_opts.specs.declared.order.UsageFault.{UsageFault}
 use Rattle.std.specs.Prelude.{Result, Ok, Err}
-use Rattle.mh_top.specs.Text.{Text, usage_line}
-use Rattle.mh_top.specs.Causes.{Staged, Go, Halt, On, Then, Gives, said}
-use Rattle.mh_top.specs.Order.{order_of, staged}
-use Rattle.mh_top.specs.FileStage.{AreFiles, IsFile, IsFound, IsLoaded, IsModule, loaded}
-use Rattle.mh_top.specs.Turns.{IsSpelled, IsTurn}
-use Rattle.mh_top.specs.GrammarStage.{IsGrammarStage}
-use Rattle.mh_top.specs.TableStage.{IsAutomatonStage, IsResolvedStage, IsTableStage, mode_of, source_of}
-use Rattle.mh_top.specs.Plan.{Ending, Plan, AnswersAll, EndsWith, asks_of, halts}
-use Rattle.mh_top.specs.Work.{Work, AsksFor, EndsBehind, IsFront, IsPlanUnless, IsPrepared, IsTabledFront, IsWork, IsWorkOf, Outcome, Yields, err_of, has_warning, warnings_of}
-use Rattle.mh_top.specs.Run.{IsDue, OfGrammar, OfMode, IsTurnBehind, IsTurnUnless}
+use Rattle.mh_drive.specs.Text.{Text}
+use Rattle.mh_prepare.specs.Texts.{usage_line}
+use Rattle.mh_drive.specs.Causes.{Staged, Go, Halt, On, Then, Gives}
+use Rattle.mh_drive.specs.Statuses.{said}
+use Rattle.mh_prepare.specs.Order.{order_of, staged}
+use Rattle.mh_prepare.specs.FileStage.{AreFiles, IsFile, IsFound, IsLoaded, IsModule, loaded}
+use Rattle.mh_prepare.specs.Turns.{IsSpelled, IsTurn}
+use Rattle.mh_prepare.specs.GrammarStage.{IsGrammarStage}
+use Rattle.mh_prepare.specs.TableStage.{IsAutomatonStage, IsResolvedStage, IsTableStage, mode_of, source_of}
+use Rattle.mh_drive.specs.Ways.{Ending, AnswersAll, AsksFor, EndsBehind, Outcome, Yields}
+use Rattle.mh_modes.specs.Plan.{Plan, EndsWith, asks_of, halts, by_plan}
+use Rattle.mh_top.specs.Work.{Work, IsPlanUnless, IsWork, IsWorkOf, has_warning, warnings_of}
+use Rattle.mh_prepare.specs.Preparing.{IsFront, IsPrepared, IsTabledFront}
+use Rattle.mh_top.specs.Run.{err_of, IsDue, OfGrammar, OfMode, IsTurnBehind, IsTurnUnless}
 use Rattle.mh_top.specs.Claims.{AsksLines, HoldsFile, IsPast}
-use Rattle.mh_top.specs.declared.drive.Asks.{Asks}
-use Rattle.mh_top.specs.declared.drive.Asks.TheVariants.{NoLine, FirstLine, EachLine}
-use Rattle.mh_top.specs.declared.prepared.Front.{Front}
-use Rattle.mh_top.specs.Shapes.{Prepared, Tabled}
-use Rattle.mh_top.specs.declared.stop.Cause.{Cause}
-use Rattle.mh_top.specs.declared.stop.Cause.TheVariants.{Refused, Misused, Missing, LongFile, LongInput}
-use Rattle.mh_top.specs.declared.tabled.Source.{Source}
-use Rattle.mh_top.specs.declared.tabled.Source.TheVariants.{Canonical}
-use Rattle.mh_top.proofs.Turns.{turn_first, turn_later}
-use Rattle.mh_top.proofs.Once.{prepared_once}
-use Rattle.mh_top.proofs.EachMode.{EndsRight, IsRight, answer_right, ends_right, job_right, turn_halts}
+use Rattle.mh_drive.specs.declared.driving.Asks.{Asks}
+use Rattle.mh_drive.specs.declared.driving.Asks.TheVariants.{NoLine, FirstLine, EachLine}
+use Rattle.mh_prepare.specs.declared.prepared.Front.{Front}
+use Rattle.mh_prepare.specs.Shapes.{Prepared, Tabled}
+use Rattle.mh_drive.specs.declared.stop.Cause.{Cause}
+use Rattle.mh_drive.specs.declared.stop.Cause.TheVariants.{Refused, Misused, Missing, LongFile, LongInput}
+use Rattle.mh_prepare.specs.declared.tabled.Source.{Source}
+use Rattle.mh_prepare.specs.declared.tabled.Source.TheVariants.{Canonical}
+use Rattle.mh_prepare.proofs.Turns.{turn_first, turn_later}
+use Rattle.mh_prepare.proofs.Once.{prepared_once}
+use Rattle.mh_modes.proofs.EachMode.{EndsRight, IsRight, answer_right, ends_right, facts_of}
 
 -- a cause that no words, no file and no input have to account for
 abbrev IsRefusal : Cause → Type 0
@@ -100,7 +104,7 @@ module _ (words : List Text) (files : Option Files) where
     of_modules (Halt cause') are cause same = let one : cause' ≡ cause = cc in subst Accounts one (of_files order.grammars (λ name turn. turn) cause' are)
 
   of_front : (cause : Cause) → IsFront words files (Halt cause) → Accounts cause
-  of_front cause is = at is.0 is.1 is.2
+  of_front cause is = at (order_of words) refl is
     where
       at : (s : Staged Order) → order_of words ≡ s → On {B = Front} s (λ order. Then (AreFiles files IsModule order.grammars) (λ modules. Then (IsGrammarStage order.stdlib modules) (λ grammar. Gives (record { order = order; grammar = grammar })))) (Halt cause) → Accounts cause
       at (Go order) on rest = of_modules order on rest.0 rest.1 cause rest.2
@@ -130,13 +134,13 @@ module _ (words : List Text) (files : Option Files) where
 
   plan_right : (refused : Bool) (p : Prepared) (plan : Plan) → IsPrepared words files (Go p) → refused ≡ (p.order.strict && has_warning p.tabled.conflicts) → IsPlanUnless refused files p plan → EndsRight Accounts plan
   plan_right true p plan prepared test is = subst (EndsRight Accounts) (sym is) tt
-  plan_right false p plan prepared test is = job_right Accounts (λ line. tt) p.order.job files p plan (λ name what cause turn found halt. of_mode p name what cause prepared (subst (λ (b : Bool). IsTurnUnless b files p name) test turn) found halt) is
+  plan_right false p plan prepared test is = (facts_of p.order.job p).right Accounts (λ line. tt) files plan (λ name what cause turn found halt. of_mode p name what cause prepared (subst (λ (b : Bool). IsTurnUnless b files p name) test turn) found halt) is
 
   work_right : (s : Staged Prepared) (w : Work) → IsPrepared words files s → IsWorkOf files s w → EndsRight Accounts w.plan
   work_right (Go p) w prepared is = plan_right (p.order.strict && has_warning p.tabled.conflicts) p w.plan prepared refl is.1
   work_right (Halt cause) w prepared is = subst (λ (x : Work). EndsRight Accounts x.plan) (sym is) (of_prepared cause prepared)
 
-  answers_right : (plan : Plan) (lines : List Text) (text : Text) (next : Plan) → AnswersAll plan lines text next → EndsRight Accounts plan → EndsRight Accounts next
+  answers_right : (plan : Plan) (lines : List Text) (text : Text) (next : Plan) → AnswersAll by_plan plan lines text next → EndsRight Accounts plan → EndsRight Accounts next
   answers_right plan [] text next all right = subst (EndsRight Accounts) (sym all.1) right
   answers_right plan (line ∷ lines) text next all right = answers_right all.2 lines all.1 next all.4 (answer_right Accounts (λ words. tt) plan line all.0 all.2 all.3 right)
 
@@ -165,11 +169,11 @@ module _ (words : List Text) (files : Option Files) where
   past_input FirstLine (Some input) lines is = is.1
   past_input EachLine (Some input) lines is = is.1
 
-  outcome_right : (w : Work) (input : Option Text) (lines : List Text) (whole : Bool) (text : Text) (last : Plan) (cause : Option Cause) (out : Text) → AsksFor (asks_of w.plan) input lines whole → EndsRight Accounts last → EndsBehind whole last text cause out → AccountsOn w input cause
+  outcome_right : (w : Work) (input : Option Text) (lines : List Text) (whole : Bool) (text : Text) (last : Plan) (cause : Option Cause) (out : Text) → AsksFor (asks_of w.plan) input lines whole → EndsRight Accounts last → EndsBehind by_plan whole last text cause out → AccountsOn w input cause
   outcome_right w input lines true text last cause out asks right ends = subst (AccountsOn w input) (sym ends.2) (on_input w input ends.0.cause (ends_right Accounts (λ line. tt) last ends.0 right ends.1))
   outcome_right w input lines false text last cause out asks right ends = subst (AccountsOn w input) (sym ends.0) (past_asks (asks_of w.plan) input lines asks, past_input (asks_of w.plan) input lines asks)
 
-  pub ended : (w : Work) (input : Option Text) (o : Outcome) → IsWork words files w → Yields w.plan input o → AccountsOn w input o.cause
+  pub ended : (w : Work) (input : Option Text) (o : Outcome) → IsWork words files w → Yields by_plan w.plan input o → AccountsOn w input o.cause
   ended w input o asked yields =
       outcome_right w input yields.lines yields.whole yields.text yields.last o.cause o.out yields.asks
       (answers_right w.plan yields.lines yields.text yields.last yields.answers (work_right asked.0 w asked.1 asked.2)) yields.ends
@@ -184,7 +188,7 @@ module _ (words : List Text) (files : Option Files) where
       no_order (Halt cause) at front rest = absurd (cc)
 
       no_front : (s : Staged Front) → IsFront words files s → On s IsTabledFront (Go p) → ⊥
-      no_front (Go front) is rest = no_order is.0 is.1 front is.2
+      no_front (Go front) is rest = no_order (order_of words) refl front is
       no_front (Halt cause) is rest = absurd (cc)
 
   pub misused_says : (w : Work) (o : Outcome) (line : Text) → order_of words ≡ Halt (Misused line) → o.cause ≡ Some (Misused line) → IsWork words files w → err_of w o ≡ line
@@ -194,14 +198,14 @@ module _ (words : List Text) (files : Option Files) where
 -- ---- and what follows of the files
 
 -- the outcome of a work that halts
-halts_gives : (cause : Cause) (input : Option Text) (lines : List Text) (whole : Bool) (text : Text) (last : Plan) (given : Option Cause) (out : Text) → AsksFor NoLine input lines whole → AnswersAll (halts cause) lines text last → EndsBehind whole last text given out → given ≡ Some cause
+halts_gives : (cause : Cause) (input : Option Text) (lines : List Text) (whole : Bool) (text : Text) (last : Plan) (given : Option Cause) (out : Text) → AsksFor NoLine input lines whole → AnswersAll by_plan (halts cause) lines text last → EndsBehind by_plan whole last text given out → given ≡ Some cause
 halts_gives cause input [] true text last given out asks all ends =
     let end : EndsWith (halts cause) ends.0 = subst (λ (l : Plan). EndsWith l ends.0) all.1 ends.1 in
     ends.2 ∙ ap (λ (e : Ending). e.cause) end
 halts_gives cause input [] false text last given out asks all ends = let same : false ≡ true = asks.1 in absurd (cc)
 halts_gives cause input (line ∷ lines) whole text last given out asks all ends = let same : line ∷ lines ≡ [] = asks.0 in absurd (cc)
 
-yields_halts : (cause : Cause) (input : Option Text) (o : Outcome) → Yields (halts cause) input o → o.cause ≡ Some cause
+yields_halts : (cause : Cause) (input : Option Text) (o : Outcome) → Yields by_plan (halts cause) input o → o.cause ≡ Some cause
 yields_halts cause input o y = halts_gives cause input y.lines y.whole y.text y.last o.cause o.out y.asks y.answers y.ends
 
 module _ (words : List Text) (files : Files) where
@@ -217,30 +221,31 @@ module _ (words : List Text) (files : Files) where
   prepared_halts : (order : Order) → order_of words ≡ Go order → (name : Text) → IsTurn (Some files) IsModule order.grammars name → (cause : Cause) → IsFile (Some files) IsModule name (Halt cause) → IsPrepared words (Some files) (Halt cause)
   prepared_halts order on name turn cause is =
       let are : AreFiles (Some files) IsModule order.grammars (Halt cause) = subst (λ (l : List Text). AreFiles (Some files) IsModule l (Halt cause)) (sym turn.names_are) (files_halt name turn.after cause is turn.before turn.spelled) in
-      (Halt cause, (Go order, on, (Halt cause, are, refl)), refl)
+      let front : IsFront words (Some files) (Halt cause) = subst (λ (o : Staged Order). On {B = Front} o (λ x. Then (AreFiles (Some files) IsModule x.grammars) (λ modules. Then (IsGrammarStage x.stdlib modules) (λ grammar. Gives (record { order = x; grammar = grammar })))) (Halt cause)) (sym on) (Halt cause, are, refl) in
+      (Halt cause, front, refl)
 
-  halted_work : (cause : Cause) (w : Work) (input : Option Text) (o : Outcome) → IsPrepared words (Some files) (Halt cause) → IsWork words (Some files) w → Yields w.plan input o → o.cause ≡ Some cause
+  halted_work : (cause : Cause) (w : Work) (input : Option Text) (o : Outcome) → IsPrepared words (Some files) (Halt cause) → IsWork words (Some files) w → Yields by_plan w.plan input o → o.cause ≡ Some cause
   halted_work cause w input o prepared asked yields =
       let same : asked.0 ≡ Halt cause = prepared_once words files asked.0 (Halt cause) asked.1 prepared in
       let work_is : w ≡ record { warnings = []; plan = halts cause } = subst (λ (s : Staged Prepared). IsWorkOf (Some files) s w) same asked.2 in
-      yields_halts cause input o (subst (λ (x : Work). Yields x.plan input o) work_is yields)
+      yields_halts cause input o (subst (λ (x : Work). Yields by_plan x.plan input o) work_is yields)
 
   halted_mode : (refused : Bool) (p : Prepared) (plan : Plan) (name : Text) (what : Found) (cause : Cause) → IsTurnUnless refused (Some files) p name → IsFound (Some files) name what → loaded name what ≡ Halt cause → IsPlanUnless refused (Some files) p plan → plan ≡ halts cause
   halted_mode true p plan name what cause turn found halt is = absurd turn
-  halted_mode false p plan name what cause turn found halt is = turn_halts p.order.job files p name what cause plan turn found halt is
+  halted_mode false p plan name what cause turn found halt is = (facts_of p.order.job p).unread files name what cause plan turn found halt is
 
   -- a file whose turn has come, and which gives no bytes, is the cause
-  due_gives : (w : Work) (input : Option Text) (o : Outcome) (front name : Text) (what : Found) (cause : Cause) → Yields w.plan input o → IsWork words (Some files) w → IsDue words (Some files) front name → IsFound (Some files) name what → loaded name what ≡ Halt cause → o.cause ≡ Some cause
+  due_gives : (w : Work) (input : Option Text) (o : Outcome) (front name : Text) (what : Found) (cause : Cause) → Yields by_plan w.plan input o → IsWork words (Some files) w → IsDue words (Some files) front name → IsFound (Some files) name what → loaded name what ≡ Halt cause → o.cause ≡ Some cause
   due_gives w input o front name what cause yields asked (OfGrammar order on turn front_is) found halt =
       halted_work cause w input o (prepared_halts order on name turn cause (Halt cause, (what, found, sym halt), refl)) asked yields
   due_gives w input o front name what cause yields asked (OfMode p prepared turn front_is) found halt =
       let same : asked.0 ≡ Go p = prepared_once words files asked.0 (Go p) asked.1 prepared in
       let of : IsWorkOf (Some files) (Go p) w = subst (λ (s : Staged Prepared). IsWorkOf (Some files) s w) same asked.2 in
       let plan_is : w.plan ≡ halts cause = halted_mode (p.order.strict && has_warning p.tabled.conflicts) p w.plan name what cause turn found halt of.1 in
-      yields_halts cause input o (subst (λ (x : Plan). Yields x input o) plan_is yields)
+      yields_halts cause input o (subst (λ (x : Plan). Yields by_plan x input o) plan_is yields)
 
-  pub missing_gives : (w : Work) (input : Option Text) (o : Outcome) → Yields w.plan input o → IsWork words (Some files) w → HoldsFile words NoFile (Some files) → (name : Text) × (o.cause ≡ Some (Missing name))
+  pub missing_gives : (w : Work) (input : Option Text) (o : Outcome) → Yields by_plan w.plan input o → IsWork words (Some files) w → HoldsFile words NoFile (Some files) → (name : Text) × (o.cause ≡ Some (Missing name))
   missing_gives w input o yields asked has = (has.1, due_gives w input o has.0 has.1 NoFile (Missing has.1) yields asked has.2 has.3 refl)
 
-  pub long_gives : (w : Work) (input : Option Text) (o : Outcome) → Yields w.plan input o → IsWork words (Some files) w → HoldsFile words Long (Some files) → (name : Text) × (o.cause ≡ Some (LongFile name))
+  pub long_gives : (w : Work) (input : Option Text) (o : Outcome) → Yields by_plan w.plan input o → IsWork words (Some files) w → HoldsFile words Long (Some files) → (name : Text) × (o.cause ≡ Some (LongFile name))
   long_gives w input o yields asked has = (has.1, due_gives w input o has.0 has.1 Long (LongFile has.1) yields asked has.2 has.3 refl)

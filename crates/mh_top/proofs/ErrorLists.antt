@@ -2,51 +2,53 @@
 use Rattle.std.proofs.Common.{◌≡◌, ◌⊎◌, inl, inr, ℕ, Bool, true, false, ◌&&◌, List, [], ◌++◌, Option, None, Some, sym, ◌∙◌, ap, subst}
 use Rattle.std.proofs.lemmas.List.{append-nil}
 use Rattle.std.specs.Io.KnownBytes.{Appends}
-use Rattle.mh_opts.specs.declared.order.Job.{Job}
-use Rattle.mh_opts.specs.declared.order.Job.TheVariants.{ListErrors}
+use Rattle.mh_opts.specs.declared.jobs.Job.{Job}
+use Rattle.mh_opts.specs.declared.jobs.Job.TheVariants.{ListErrors}
 use Rattle.mh_outside.specs.Shelf.{Files}
-use Rattle.mh_top.specs.Causes.{Staged, Go, Halt, said, status_of}
+use Rattle.mh_drive.specs.Causes.{Staged, Go, Halt}
+use Rattle.mh_drive.specs.Statuses.{said, status_of}
 use Rattle.mh_top.specs.ErrorLists.{AnsweredErrors, AsksForErrors, Listed, ListsErrorsExactly, Refused}
-use Rattle.mh_top.specs.Listing.{ListsErrors, Lists, TooLong}
-use Rattle.mh_top.specs.Plan.{Ending, Plan, AtEnd, AnswersAll, EndsByJob, EndsWith, IsPlanOfJob}
-use Rattle.mh_top.specs.Run.{World, Does}
+use Rattle.mh_modes.specs.Listing.{ListsErrors, Lists, TooLong}
+use Rattle.mh_drive.specs.Ways.{Ending, AnswersAll, AsksFor, EndsBehind, Outcome, Yields}
+use Rattle.mh_modes.specs.Plan.{Plan, EndsBy, EndsWith, IsPlanOfJob, Ends, Errors, by_plan}
+use Rattle.mh_top.specs.Run.{World, Does, err_of}
 use Rattle.mh_top.specs.Run as runs
-use Rattle.mh_top.specs.Shapes.{Prepared}
-use Rattle.mh_top.specs.Text.{Text}
-use Rattle.mh_top.specs.Work.{Work, AsksFor, EndsBehind, IsPlanUnless, IsPrepared, IsWork, IsWorkOf, Outcome, Yields, err_of, has_warning, warnings_of}
-use Rattle.mh_top.specs.declared.drive.Asks.TheVariants.{NoLine}
-use Rattle.mh_top.specs.declared.stop.Cause.{Cause}
+use Rattle.mh_prepare.specs.Shapes.{Prepared}
+use Rattle.mh_drive.specs.Text.{Text}
+use Rattle.mh_top.specs.Work.{Work, IsPlanUnless, IsWork, IsWorkOf, has_warning, warnings_of}
+use Rattle.mh_drive.specs.declared.driving.Asks.TheVariants.{NoLine}
+use Rattle.mh_drive.specs.declared.stop.Cause.{Cause}
 use Rattle.mh_top.proofs.Claims.{completes}
-use Rattle.mh_top.proofs.Once.{prepared_once}
+use Rattle.mh_prepare.proofs.Once.{prepared_once}
 
 -- the mode that is asked for
-plan_of : (refused : Bool) (files : Option Files) (p : Prepared) (plan : Plan) → refused ≡ false → p.order.job ≡ ListErrors → IsPlanUnless refused files p plan → plan ≡ AtEnd p
+plan_of : (refused : Bool) (files : Option Files) (p : Prepared) (plan : Plan) → refused ≡ false → p.order.job ≡ ListErrors → IsPlanUnless refused files p plan → plan ≡ Ends (Errors p)
 plan_of true files p plan accepted job is = absurd (cc)
 plan_of false files p plan accepted job is = subst (λ (j : Job). IsPlanOfJob j files p plan) job is
 
 module _ (words : List Text) (files : Files) (p : Prepared) (asks : AsksForErrors words (Some files) p) where
-  work_at : (s : Staged Prepared) (w : Work) → s ≡ Go p → IsWorkOf (Some files) s w → (w.warnings ≡ warnings_of p) × (w.plan ≡ AtEnd p)
+  work_at : (s : Staged Prepared) (w : Work) → s ≡ Go p → IsWorkOf (Some files) s w → (w.warnings ≡ warnings_of p) × (w.plan ≡ Ends (Errors p))
   work_at (Go q) w same is =
       let one : q ≡ p = cc in
       let at : IsWorkOf (Some files) (Go p) w = subst (λ (x : Prepared). IsWorkOf (Some files) (Go x) w) one is in
       (at.0, plan_of (p.order.strict && has_warning p.tabled.conflicts) (Some files) p w.plan asks.accepted asks.job at.1)
   work_at (Halt cause) w same is = absurd (cc)
 
-  work_is : (w : Work) → IsWork words (Some files) w → (w.warnings ≡ warnings_of p) × (w.plan ≡ AtEnd p)
+  work_is : (w : Work) → IsWork words (Some files) w → (w.warnings ≡ warnings_of p) × (w.plan ≡ Ends (Errors p))
   work_is w is = work_at is.0 w (prepared_once words files is.0 (Go p) is.1 asks.prepared) is.2
 
 -- a mode that asks for no line has its end alone
-ends_alone : (p : Prepared) (lines : List Text) (text : Text) (last : Plan) (whole : Bool) (cause : Option Cause) (out : Text) → AsksFor NoLine None lines whole → AnswersAll (AtEnd p) lines text last → EndsBehind whole last text cause out → EndsByJob p.order.job p (record { cause = cause; out = out })
+ends_alone : (p : Prepared) (lines : List Text) (text : Text) (last : Plan) (whole : Bool) (cause : Option Cause) (out : Text) → AsksFor NoLine None lines whole → AnswersAll by_plan (Ends (Errors p)) lines text last → EndsBehind by_plan whole last text cause out → EndsBy (Errors p) (record { cause = cause; out = out })
 ends_alone p lines text last whole cause out asks answers ends =
-    let none : AnswersAll (AtEnd p) [] text last = subst (λ (l : List Text). AnswersAll (AtEnd p) l text last) asks.0 answers in
-    let all : EndsBehind true last text cause out = subst (λ (b : Bool). EndsBehind b last text cause out) asks.1 ends in
+    let none : AnswersAll by_plan (Ends (Errors p)) [] text last = subst (λ (l : List Text). AnswersAll by_plan (Ends (Errors p)) l text last) asks.0 answers in
+    let all : EndsBehind by_plan true last text cause out = subst (λ (b : Bool). EndsBehind by_plan b last text cause out) asks.1 ends in
     let e = all.0 in
-    let is : EndsWith (AtEnd p) e = subst (λ (l : Plan). EndsWith l e) none.1 all.1 in
+    let is : EndsWith (Ends (Errors p)) e = subst (λ (l : Plan). EndsWith l e) none.1 all.1 in
     let out_is : out ≡ e.out = all.3 ∙ ap (λ (t : Text). t ++ e.out) none.0 in
     let same : e ≡ record { cause = cause; out = out } = (λ i. record { cause = sym all.2 i; out = sym out_is i }) in
-    subst (λ (x : Ending). EndsByJob p.order.job p x) same is
+    subst (λ (x : Ending). EndsBy (Errors p) x) same is
 
-yields_end : (p : Prepared) (input : Option Text) (o : Outcome) → Yields (AtEnd p) input o → EndsByJob p.order.job p (record { cause = o.cause; out = o.out })
+yields_end : (p : Prepared) (input : Option Text) (o : Outcome) → Yields by_plan (Ends (Errors p)) input o → EndsBy (Errors p) (record { cause = o.cause; out = o.out })
 yields_end p input o y = ends_alone p y.lines y.text y.last y.whole o.cause o.out y.asks y.answers y.ends
 
 module _ (p : Prepared) (b a : World) (status : ℕ) where
@@ -61,9 +63,8 @@ module _ (words : List Text) (b a : World) (status : ℕ) where
   done : (files : Files) → b.files ≡ Some files → (p : Prepared) → AsksForErrors words (Some files) p → Does words b a status → AnsweredErrors p b a status
   done files told p asks does =
       let work = work_is words files p asks does.work (subst (λ (x : Option Files). IsWork words x does.work) told does.is_asked) in
-      let yields : Yields (AtEnd p) b.left does.outcome = subst (λ (l : Plan). Yields l b.left does.outcome) work.1 does.yields in
-      let list : ListsErrors p.grammar p.tabled.automaton p.tabled.halting does.outcome.cause does.outcome.out =
-      subst (λ (j : Job). EndsByJob j p (record { cause = does.outcome.cause; out = does.outcome.out })) asks.job (yields_end p b.left does.outcome yields) in
+      let yields : Yields by_plan (Ends (Errors p)) b.left does.outcome = subst (λ (l : Plan). Yields by_plan l b.left does.outcome) work.1 does.yields in
+      let list : ListsErrors p.grammar p.tabled.automaton p.tabled.halting does.outcome.cause does.outcome.out = yields_end p b.left does.outcome yields in
       listed p b a status does.outcome.cause does.outcome.out list does.status_is does.on_out (subst (λ (t : Text). Appends b.err a.err (t ++ said does.outcome.cause)) work.0 does.on_err)
 
   pub lists_exactly : runs.Ran words b a status → ListsErrorsExactly words b a status

@@ -1,5 +1,5 @@
 -- The answers to sentence lines, over the work that the words ask for.
-use Rattle.std.proofs.Common.{◌≡◌, ◌⊎◌, ◌↔◌, ℕ, ◌+◌, ◌<◌, ◌≤◌, List, [], ◌∷◌, ◌++◌, length, take, get_or, Bool, true, false, ◌&&◌, Option, sym, ◌∙◌, ap, subst, arith, inl, inr}
+use Rattle.std.proofs.Common.{◌≡◌, ◌⊎◌, ◌↔◌, ℕ, ◌+◌, ◌<◌, ◌≤◌, List, [], ◌++◌, length, take, get_or, Bool, true, false, ◌&&◌, Option, sym, ◌∙◌, ap, subst, arith, inl, inr, refl}
 use Rattle.std.specs.Prelude.{codes}
 use Rattle.std.proofs.lemmas.Bool.{cases_lt}
 use Rattle.std.proofs.lemmas.Option.{slice_get_within, slice_get-get_or}
@@ -7,10 +7,10 @@ use Rattle.mh_grammar.specs.declared.types.Grammar.{Grammar}
 use Rattle.mh_grammar.specs.declared.types.Sentence.{Sentence}
 use Rattle.mh_grammar.specs.Costs.{HaveCosts}
 use Rattle.mh_grammar.specs.Plain.{PlainGrammar, plain_of, start_symbol, IsInRange, BeginsSentence}
-use Rattle.mh_items.specs.Shapes.{Automaton}
-use Rattle.mh_items.specs.Shapes.{Kernel}
+use Rattle.mh_items.specs.Shapes.{Automaton, Kernel}
 use Rattle.mh_items.specs.Automaton.{IsAutomaton, kernel_at}
-use Rattle.mh_canon.specs.Canonical.{IsCanonical}
+use Rattle.mh_canon.specs.Canonical.{IsCanonical, IsOver}
+use Rattle.mh_canon.specs.declared.collection.TheConstants.{MAX_STATES}
 use Rattle.mh_canon.specs.Moves.{IsState, AreStates}
 use Rattle.mh_canon.proofs.Finished.{kernel_got}
 use Rattle.mh_canon.proofs.Meaning.{IsAutomaton-canonical}
@@ -32,32 +32,31 @@ use Rattle.mh_exact.proofs.AcceptedSentence.{accepted_sentence}
 use Rattle.mh_exact.proofs.Telling.{overshoots, tells_prefix, tells_refused}
 use Rattle.mh_outside.specs.Shelf.{Files}
 use Rattle.mh_rules.specs.declared.modules.Module.{Module}
-use Rattle.mh_reader.specs.Spelling.{Spells}
-use Rattle.mh_rules.specs.Ready.{IsModuleReady, AreModulesReady}
+use Rattle.mh_rules.specs.Ready.{AreModulesReady}
 use Rattle.mh_front.proofs.OneGrammar.{have_costs, in_range}
-use Rattle.mh_reader.proofs.Filled.{push_spelled}
 use Rattle.mh_opts.specs.declared.order.Order.{Order}
-use Rattle.std.proofs.lemmas.List.Elements.{All-cons, All-head, All-nil}
-use Rattle.mh_top.specs.Text.{Text}
-use Rattle.mh_top.specs.Causes.{Staged, Go, Halt, On, Then, Gives}
-use Rattle.mh_top.specs.Order.{order_of}
-use Rattle.mh_top.specs.FileStage.{AreFiles, IsFile, IsModule}
-use Rattle.mh_top.specs.GrammarStage.{IsGrammarStage}
-use Rattle.mh_top.specs.TableStage.{HasTooMany, IsAutomatonStage, IsResolvedStage, IsTableStage, mode_of, source_of}
+use Rattle.mh_drive.specs.Text.{Text}
+use Rattle.mh_drive.specs.Causes.{Staged, Go, Halt, On, Then, Gives}
+use Rattle.mh_prepare.specs.Order.{order_of}
+use Rattle.mh_prepare.specs.FileStage.{AreFiles, IsModule}
+use Rattle.mh_prepare.specs.GrammarStage.{IsGrammarStage}
+use Rattle.mh_prepare.specs.TableStage.{IsAutomatonStage, IsResolvedStage, IsTableStage, mode_of, source_of}
 use Rattle.mh_msgfile.specs.Sentences.{LineFound}
 use Rattle.mh_msgfile.proofs.Below.{sentence_start}
-use Rattle.mh_top.specs.Verdicts.{Answering, FoundBy, SentenceText, behind_refusal, verdict_text, outcome_text}
-use Rattle.mh_top.specs.MessagesStage.{Messages}
-use Rattle.mh_top.specs.Plan.{Judges, halts}
-use Rattle.mh_top.specs.Work.{Work, IsFront, IsPlanUnless, IsPrepared, IsTabledFront, IsWork, IsWorkOf, has_warning}
+use Rattle.mh_modes.specs.Verdicts.{Answering, FoundBy, SentenceText, behind_refusal, verdict_text, outcome_text}
+use Rattle.mh_modes.specs.MessagesStage.{Messages}
+use Rattle.mh_modes.specs.Plan.{Judges, halts}
+use Rattle.mh_top.specs.Work.{Work, IsPlanUnless, IsWork, IsWorkOf, has_warning}
+use Rattle.mh_prepare.specs.Preparing.{IsFront, IsPrepared, IsTabledFront}
 use Rattle.mh_top.specs.Exact.{IsLR1, AnswersSentence, Accepts, Rejects, IsTooDeepText, ShowsTree, AcceptsExactly, RejectsRightly, OvershootsRightly, AcceptsRightly, TooDeepExactly}
-use Rattle.mh_top.specs.declared.prepared.Front.{Front}
-use Rattle.mh_top.specs.Shapes.{Prepared, Tabled}
-use Rattle.mh_top.specs.declared.stop.Cause.{Cause}
-use Rattle.mh_top.specs.declared.tabled.Source.{Source}
-use Rattle.mh_top.specs.declared.tabled.Source.TheVariants.{Canonical}
+use Rattle.mh_prepare.specs.declared.prepared.Front.{Front}
+use Rattle.mh_prepare.specs.Shapes.{Prepared, Tabled}
+use Rattle.mh_drive.specs.declared.stop.Cause.{Cause}
+use Rattle.mh_prepare.specs.declared.tabled.Source.{Source}
+use Rattle.mh_prepare.specs.declared.tabled.Source.TheVariants.{Canonical}
 use Rattle.mh_tables.specs.Halting.{Halts}
-use Rattle.mh_top.proofs.EachMode.{Runs, job_judges}
+use Rattle.mh_prepare.proofs.Ready.{have_alternatives}
+use Rattle.mh_modes.proofs.EachMode.{Runs, facts_of as job_facts}
 
 -- ---- the grammar and the table that verdicts go by
 
@@ -70,7 +69,7 @@ pub record HasTable (g : Grammar) (t : TableData) : Type 0 where
 pub record IsTabled (g : Grammar) (t : TableData) : Type 0 where
   range : IsInRange (plain_of g)
   costs : HaveCosts g.tokens
-  few : HasTooMany g → ⊥
+  few : IsOver (plain_of g) MAX_STATES → ⊥
   table : HasTable g t
   halts : Halts t
 
@@ -78,33 +77,11 @@ tabled_so : (source : Source) (g : Grammar) → IsInRange (plain_of g) × HaveCo
 tabled_so Canonical g range (Go a) stage x is = record { range = range.0; costs = range.1; few = stage.0; table = record { automaton = a; canonical = stage.1; table = is.table }; halts = is.halts }
 tabled_so Canonical g range (Halt cause) stage x is = absurd (cc)
 
--- some bytes spell a module that is read
-spelled_module : (files : Option Files) (name : Text) (m : Module) → IsFile files IsModule name (Go m) → (bytes : Text) × Spells bytes m
-spelled_module files name m is = at is.0 is.2
-  where
-    at : (read : Staged Text) → On read (IsModule name) (Go m) → (bytes : Text) × Spells bytes m
-    at (Go bytes) spells = (bytes, spells)
-    at (Halt cause) same = absurd (cc)
-
-pub have_alternatives : (files : Option Files) (names : List Text) (ms : List Module) → AreFiles files IsModule names (Go ms) → AreModulesReady ms
-have_alternatives files [] ms is = let same : ms ≡ [] = cc in subst AreModulesReady (sym same) (All-nil IsModuleReady)
-have_alternatives files (name ∷ names) ms is = at (λ xs are. have_alternatives files names xs are) is.0 is.1 is.2
-  where
-    behind : ((xs : List Module) → AreFiles files IsModule names (Go xs) → AreModulesReady xs) → (m : Module) → IsFile files IsModule name (Go m) → (rest : Staged (List Module)) → AreFiles files IsModule names rest → On rest (λ xs. Gives (m ∷ xs)) (Go ms) → AreModulesReady ms
-    behind again m spelled (Halt cause) are same = absurd (cc)
-    behind again m spelled (Go xs) are same =
-        let one : m ∷ xs ≡ ms = cc in
-        let bytes = spelled_module files name m spelled in
-        let some : IsModuleReady m = All-head IsModuleReady m [] (push_spelled [] bytes.0 m (All-nil IsModuleReady) bytes.1) in
-        subst AreModulesReady one (All-cons IsModuleReady m xs some (again xs are))
-
-    at : ((xs : List Module) → AreFiles files IsModule names (Go xs) → AreModulesReady xs) → (first : Staged Module) → IsFile files IsModule name first → On first (λ x. Then (AreFiles files IsModule names) (λ xs. Gives (x ∷ xs))) (Go ms) → AreModulesReady ms
-    at again (Go m) spelled rest = behind again m spelled rest.0 rest.1 rest.2
-    at again (Halt cause) spelled same = absurd (cc)
+-- ---- up to the table
 
 module _ (words : List Text) (files : Option Files) where
   front_range : (front : Front) → IsFront words files (Go front) → IsInRange (plain_of front.grammar) × HaveCosts front.grammar.tokens
-  front_range front is = at is.0 is.1 is.2
+  front_range front is = at (order_of words) refl is
     where
       of_grammar : (order : Order) (modules : List Module) → AreModulesReady modules → (s : Staged Grammar) → IsGrammarStage order.stdlib modules s → On s (λ grammar. Gives (record { order = order; grammar = grammar })) (Go front) → IsInRange (plain_of front.grammar) × HaveCosts front.grammar.tokens
       of_grammar order modules some (Halt cause) stage same = absurd (cc)
@@ -142,7 +119,7 @@ module _ (warnings : Text) (trees : Bool) (g : Grammar) (t : TableData) (message
 
   of_plan : (refused : Bool) (files : Option Files) (p : Prepared) → IsTabled p.grammar p.tabled.halting → IsPlanUnless refused files p (Judges (by trees g t messages)) → IsTabled g t
   of_plan true files p has is = absurd (cc)
-  of_plan false files p has is = job_judges IsTabled p.order.job files p (by trees g t messages) has is
+  of_plan false files p has is = (job_facts p.order.job p).judged IsTabled files (by trees g t messages) has is
 
   pub asked_tabled : (words : List Text) (files : Option Files) → IsWork words files work → IsTabled g t
   asked_tabled words files asked = at asked.0 asked.1 asked.2

@@ -7,14 +7,14 @@ use Rattle.mh_outside.specs.Faults.{Rose}
 use Rattle.mh_outside.specs.Sink.{AppendsPrefix, WritesWhole}
 use Rattle.mh_outside.specs.declared.sink.WriteFault.{WriteFault}
 use Rattle.mh_outside.proofs.Pieces.{Appends-append}
-use Rattle.mh_top.specs.Text.{Text, cannot_read, cannot_read_input, out_of_memory}
-use Rattle.mh_top.specs.Causes.{code_of, line_of, said, status_of}
+use Rattle.mh_drive.specs.Text.{Text, cannot_read, cannot_read_input, out_of_memory}
+use Rattle.mh_drive.specs.Statuses.{code_of, line_of, said, status_of}
 use Rattle.mh_top.specs.Work.{Work, warnings_of}
 use Rattle.mh_top.specs.Run.{World, Ran, Finished, CannotReadFile, CannotReadInput, CannotWarn, CannotWrite, CannotSay, NoMemory, Behind, Done, Nothing, Warned, Begun, OfCause, OfFile, OfInput, OfMemory, IsQuiet}
 use Rattle.mh_top.specs.Saying.{Worked, LastLine, Reported, Said, Silent, Failed, SaysLine}
-use Rattle.mh_top.specs.declared.stop.Cause.{Cause}
-use Rattle.mh_top.specs.declared.stop.Stop.{Stop}
-use Rattle.mh_top.specs.declared.stop.Stop.TheVariants.{Halted, ShelfFailed, InputFailed, WriteFailed, OutOfMemory}
+use Rattle.mh_drive.specs.declared.stop.Cause.{Cause}
+use Rattle.mh_drive.specs.declared.stop.Stop.{Stop}
+use Rattle.mh_drive.specs.declared.stop.Stop.TheVariants.{Halted, ShelfFailed, InputFailed, WriteFailed, OutOfMemory}
 
 pub reported : (stop stop' : Stop) (status : ℕ) (line given : Text) (err0 err1 : Option Text) (n m result : ℕ) → stop ≡ stop' → LastLine stop' status line → given ≡ line → SaysLine status given err0 err1 n m result → Reported stop err0 err1 n m result
 reported stop stop' status line given err0 err1 n m result is last same (inl h) =

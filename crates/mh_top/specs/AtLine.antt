@@ -1,8 +1,9 @@
 -- From a text to the line of each answer in it: the text is a front, the answer of the line, and the rest.
 use Rattle.std.specs.Prelude.{◌≡◌, List, ◌++◌}
-use Rattle.mh_top.specs.Text.{Text}
-use Rattle.mh_top.specs.Verdicts.{Answering, AnswersOne}
-use Rattle.mh_top.specs.Plan.{Plan, Judges, Answers, AnswersAll}
+use Rattle.mh_drive.specs.Text.{Text}
+use Rattle.mh_modes.specs.Verdicts.{Answering, AnswersOne}
+use Rattle.mh_modes.specs.Plan.{Plan, Judges, Answers, by_plan}
+use Rattle.mh_drive.specs.Ways.{AnswersAll}
 
 -- the lines before this one are answered by the front, and those behind it by the rest
 pub record IsAnsweredAt (plan : Plan) (before : List Text) (line : Text) (after : List Text) (text : Text) (last : Plan) : Type 0 where
@@ -11,9 +12,9 @@ pub record IsAnsweredAt (plan : Plan) (before : List Text) (line : Text) (after 
   pub rest : Text
   pub mid : Plan
   pub next : Plan
-  pub all_before : AnswersAll plan before front mid
+  pub all_before : AnswersAll by_plan plan before front mid
   pub answers : Answers mid line answer next
-  pub all_after : AnswersAll next after rest last
+  pub all_after : AnswersAll by_plan next after rest last
   pub text_is : text ≡ front ++ (answer ++ rest)
 
 -- it stands there with its verdict
@@ -21,6 +22,6 @@ pub record HasVerdictAt (by : Answering) (before : List Text) (line : Text) (aft
   pub front : Text
   pub answer : Text
   pub rest : Text
-  pub all_before : AnswersAll (Judges by) before front (Judges by)
+  pub all_before : AnswersAll by_plan (Judges by) before front (Judges by)
   pub answers : AnswersOne by line answer
   pub text_is : text ≡ front ++ (answer ++ rest)

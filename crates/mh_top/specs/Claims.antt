@@ -4,19 +4,20 @@ use Rattle.std.specs.Io.KnownBytes.{Appends}
 use Rattle.mh_outside.specs.Faults.{Rose, IsCalm}
 use Rattle.mh_outside.specs.Shelf.{Files, Found, NoFile, Long}
 use Rattle.mh_outside.specs.Sink.{AppendsPrefix}
-use Rattle.mh_top.specs.Text.{Text, cannot_read, cannot_read_input, out_of_memory}
-use Rattle.mh_top.specs.Lines.{split, is_small}
-use Rattle.mh_top.specs.Causes.{Go, Halt}
-use Rattle.mh_top.specs.Order.{order_of}
-use Rattle.mh_top.specs.FileStage.{IsFound}
-use Rattle.mh_top.specs.Plan.{Plan, asks_of}
-use Rattle.mh_top.specs.Work.{Work, IsWork, line_limit, most, wanted}
-use Rattle.mh_top.specs.Drive.{IsOfEnd, IsOfLine, Stands}
+use Rattle.mh_drive.specs.Text.{Text, cannot_read, cannot_read_input, out_of_memory}
+use Rattle.mh_drive.specs.Lines.{split, is_small}
+use Rattle.mh_drive.specs.Causes.{Halt}
+use Rattle.mh_prepare.specs.Order.{order_of}
+use Rattle.mh_prepare.specs.FileStage.{IsFound}
+use Rattle.mh_modes.specs.Plan.{Plan, asks_of, by_plan}
+use Rattle.mh_top.specs.Work.{Work, IsWork}
+use Rattle.mh_drive.specs.declared.driving.TheConstants.{LINE_LIMIT}
+use Rattle.mh_drive.specs.Ways.{most, wanted}
+use Rattle.mh_drive.specs.Drive.{IsOfEnd, IsOfLine, Stands}
 use Rattle.mh_top.specs.Run.{World, Behind, CouldWrite, CutOut, CutWarnings, Does, Done, GotLines, IsDue, IsQuiet, IsStill, Says}
-use Rattle.mh_opts.specs.declared.order.Order.{Order}
-use Rattle.mh_top.specs.declared.drive.Asks.{Asks}
-use Rattle.mh_top.specs.declared.drive.Asks.TheVariants.{NoLine}
-use Rattle.mh_top.specs.declared.stop.Cause.TheVariants.{Misused}
+use Rattle.mh_drive.specs.declared.driving.Asks.{Asks}
+use Rattle.mh_drive.specs.declared.driving.Asks.TheVariants.{NoLine}
+use Rattle.mh_drive.specs.declared.stop.Cause.TheVariants.{Misused}
 
 -- what stands under the name of the file whose turn it is, in the files that are told or in some
 abbrev pub HoldsFile : List Text → Found → Option Files → Type 0
@@ -36,7 +37,7 @@ AsksLines plan = asks_of plan ≡ NoLine → ⊥
 -- a line that is asked for passes its limit, or there are too many, where the input is told
 abbrev pub IsPast : Asks → Option Text → Type 0
 IsPast asks None = ⊤
-IsPast asks (Some input) = is_small line_limit (most asks) (wanted asks (most asks) (split input)) ≡ false
+IsPast asks (Some input) = is_small LINE_LIMIT (most asks) (wanted asks (most asks) (split input)) ≡ false
 
 -- the work asked for asks for lines of an input that passes a limit
 abbrev pub IsLongInput : List Text → World → Type 0
@@ -117,8 +118,8 @@ pub record IsOutPart (plan : Plan) (input : Option Text) (text : Text) : Type 0 
   pub answers : Text
   pub next : Plan
   pub front : Text
-  pub stands : Stands plan input lines answers next
-  pub is_front : (front ≡ []) ⊎ IsOfLine plan input lines next front ⊎ IsOfEnd plan input lines next front
+  pub stands : Stands by_plan plan input lines answers next
+  pub is_front : (front ≡ []) ⊎ IsOfLine by_plan plan input lines next front ⊎ IsOfEnd by_plan plan input lines next front
   pub text_is : text ≡ answers ++ front
 
 -- What was written on out is nothing, or a part of what the work asked for writes.

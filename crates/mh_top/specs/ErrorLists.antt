@@ -1,16 +1,17 @@
 -- What the top call promises of a list of errors: after Pottier 2016, "Reachability and error diagnosis in LR(1) parsers".
 use Rattle.std.specs.Prelude.{◌≡◌, ◌⊎◌, ◌&&◌, ℕ, false, List, [], ◌++◌, Option, Some}
 use Rattle.std.specs.Io.KnownBytes.{Appends}
-use Rattle.mh_opts.specs.declared.order.Job.TheVariants.{ListErrors}
+use Rattle.mh_opts.specs.declared.jobs.Job.TheVariants.{ListErrors}
 use Rattle.mh_outside.specs.Shelf.{Files}
 use Rattle.mh_tables.specs.Failing.{TooLongAt}
-use Rattle.mh_top.specs.Causes.{Go}
+use Rattle.mh_drive.specs.Causes.{Go}
 use Rattle.mh_top.specs.Claims.{AllCalm}
-use Rattle.mh_top.specs.Listing.{IsCatalogueText}
+use Rattle.mh_modes.specs.Listing.{IsCatalogueText, too_long}
 use Rattle.mh_top.specs.Run.{World}
-use Rattle.mh_top.specs.Shapes.{Prepared}
-use Rattle.mh_top.specs.Text.{Text, too_long}
-use Rattle.mh_top.specs.Work.{IsPrepared, has_warning, warnings_of}
+use Rattle.mh_prepare.specs.Shapes.{Prepared}
+use Rattle.mh_drive.specs.Text.{Text}
+use Rattle.mh_prepare.specs.Preparing.{IsPrepared}
+use Rattle.mh_top.specs.Work.{has_warning, warnings_of}
 
 -- the words ask for the list of errors of a grammar that is accepted: nothing before the mode refuses it
 pub record AsksForErrors (words : List Text) (files : Option Files) (p : Prepared) : Type 0 where

@@ -11,11 +11,11 @@ use Rattle.mh_tree.specs.Trees.{SyntaxTree, IsTreeFor, text_of, yield_of}
 use Rattle.mh_exact.specs.Exactness.{IsPrefixSentence, AllProductive}
 use Rattle.mh_tables.specs.TreeRuns.{IsTooDeep}
 use Rattle.mh_outside.specs.Shelf.{Files}
-use Rattle.mh_top.specs.Text.{Text}
+use Rattle.mh_drive.specs.Text.{Text}
 use Rattle.mh_msgfile.specs.Sentences.{IsSentence, sentence_in, vocabulary_of}
-use Rattle.mh_top.specs.MessagesStage.{Messages}
-use Rattle.mh_top.specs.Verdicts.{AnswersOne}
-use Rattle.mh_top.specs.Plan.{Judges}
+use Rattle.mh_modes.specs.MessagesStage.{Messages}
+use Rattle.mh_modes.specs.Verdicts.{AnswersOne}
+use Rattle.mh_modes.specs.Plan.{Judges}
 use Rattle.mh_top.specs.Work.{IsWork}
 
 -- The grammar is LR(1) (Knuth 1965): its canonical automaton has no conflict, that with the end of the stream included.

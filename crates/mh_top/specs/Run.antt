@@ -5,16 +5,20 @@ use Rattle.mh_outside.specs.Faults.{Rose}
 use Rattle.mh_outside.specs.Shelf.{Files}
 use Rattle.mh_outside.specs.Sink.{AppendsPrefix}
 use Rattle.mh_opts.specs.declared.order.Order.{Order}
-use Rattle.mh_top.specs.Text.{Text, cannot_read, cannot_read_input, out_of_memory}
-use Rattle.mh_top.specs.Causes.{Go, status_of, line_of}
-use Rattle.mh_top.specs.Order.{order_of}
-use Rattle.mh_top.specs.FileStage.{IsModule}
-use Rattle.mh_top.specs.Turns.{IsTurn}
-use Rattle.mh_top.specs.Work.{Outcome, Work, IsPrepared, IsWork, Yields, err_of, has_warning, warnings_of}
-use Rattle.mh_top.specs.Plan.{IsTurnOfJob}
-use Rattle.mh_top.specs.Drive.{Partly, GotAt, CutAt, WantsAt, LeftIs, Ended}
-use Rattle.mh_top.specs.Shapes.{Prepared}
-use Rattle.mh_top.specs.declared.stop.Cause.{Cause}
+use Rattle.mh_drive.specs.Text.{Text, cannot_read, cannot_read_input, out_of_memory}
+use Rattle.mh_drive.specs.Causes.{Go}
+use Rattle.mh_drive.specs.Statuses.{status_of, line_of, said}
+use Rattle.mh_prepare.specs.Order.{order_of}
+use Rattle.mh_prepare.specs.FileStage.{IsModule}
+use Rattle.mh_prepare.specs.Turns.{IsTurn}
+use Rattle.mh_drive.specs.Ways.{Outcome, Yields}
+use Rattle.mh_top.specs.Work.{Work, IsWork, has_warning, warnings_of}
+use Rattle.mh_prepare.specs.Preparing.{IsPrepared}
+use Rattle.mh_modes.specs.Files.{IsTurnOfJob}
+use Rattle.mh_modes.specs.Plan.{by_plan}
+use Rattle.mh_drive.specs.Drive.{Partly, GotAt, CutAt, WantsAt, LeftIs, Ended}
+use Rattle.mh_prepare.specs.Shapes.{Prepared}
+use Rattle.mh_drive.specs.declared.stop.Cause.{Cause}
 
 -- the outside of a call at one moment: what it tells, and its counts of faults
 pub record World : Type 0 where
@@ -74,7 +78,7 @@ pub record Behind (words : List Text) (before : World) (At : Work → Type 0) (O
 pub data Done (words : List Text) (before now : World) (OnErr : Text → Type 0) : Type 0 where
   Nothing : IsStill before now → OnErr [] → Done words before now OnErr
   Warned : (p : Prepared) → IsPrepared words before.files (Go p) → IsStill before now → OnErr (warnings_of p) → Done words before now OnErr
-  Begun : Behind words before (λ w. Partly w.plan before.left before.out now.out (WantsAt w.plan before.left now.left)) OnErr → Done words before now OnErr
+  Begun : Behind words before (λ w. Partly by_plan w.plan before.left before.out now.out (WantsAt by_plan w.plan before.left now.left)) OnErr → Done words before now OnErr
 
 -- ---- how the work went, before its last line
 
@@ -90,12 +94,16 @@ pub record CouldWrite (before now : World) : Type 0 where
   pub out : now.out_faults ≡ before.out_faults
   pub err : now.err_faults ≡ before.err_faults
 
+-- what a work writes on err
+abbrev pub err_of : Work → Outcome → Text
+err_of w o = w.warnings ++ said o.cause
+
 -- The work asked for was done: the status, the texts and the input left are those of its outcome.
 pub record Does (words : List Text) (before now : World) (status : ℕ) : Type 0 where
   pub work : Work
   pub is_asked : IsWork words before.files work
   pub outcome : Outcome
-  pub yields : Yields work.plan before.left outcome
+  pub yields : Yields by_plan work.plan before.left outcome
   pub status_is : status ≡ status_of outcome.cause
   pub on_out : Appends before.out now.out outcome.out
   pub on_err : Appends before.err now.err (err_of work outcome)
@@ -103,11 +111,11 @@ pub record Does (words : List Text) (before now : World) (status : ℕ) : Type 0
 
 -- a read of the input failed: out holds exactly the text of the lines that were got whole
 abbrev pub GotLines : World → World → Work → Type 0
-GotLines before now w = Partly w.plan before.left before.out now.out (GotAt w.plan before.left now.left)
+GotLines before now w = Partly by_plan w.plan before.left before.out now.out (GotAt by_plan w.plan before.left now.left)
 
 -- a write on out failed: nothing was written behind, and no further line taken
 abbrev pub CutOut : World → World → Work → Type 0
-CutOut before now w = Partly w.plan before.left before.out now.out (CutAt w.plan before.left now.left)
+CutOut before now w = Partly by_plan w.plan before.left before.out now.out (CutAt by_plan w.plan before.left now.left)
 
 -- a write of the warnings failed
 pub record CutWarnings (words : List Text) (before now : World) : Type 0 where
@@ -118,7 +126,7 @@ pub record CutWarnings (words : List Text) (before now : World) : Type 0 where
 
 -- the work is done, or ended by itself before its time
 abbrev pub EndedSo : World → World → Option Cause → Work → Type 0
-EndedSo before now cause w = Ended w.plan before.left now.left before.out now.out cause
+EndedSo before now cause w = Ended by_plan w.plan before.left now.left before.out now.out cause
 
 -- What was to be said last on err, behind what stands there: `OnErr front line`.
 pub data Says (words : List Text) (before now : World) (OnErr : Text → Text → Type 0) : Type 0 where

@@ -3,11 +3,18 @@ use Rattle.std.specs.Prelude.{◌≡◌, ◌⊎◌, ℕ, List, Option, None, Som
 use Rattle.std.specs.Io.KnownBytes.{Appends}
 use Rattle.mh_outside.specs.Faults.{Rose}
 use Rattle.mh_outside.specs.Sink.{AppendsPrefix}
-use Rattle.mh_top.specs.Text.{Text, cannot_read, cannot_read_input, out_of_memory}
-use Rattle.mh_top.specs.Causes.{code_of, line_of}
-use Rattle.mh_top.specs.declared.stop.Stop.{Stop}
-use Rattle.mh_top.specs.declared.stop.Stop.TheVariants.{Halted, ShelfFailed, InputFailed, WriteFailed, OutOfMemory}
+use Rattle.mh_drive.specs.Text.{Text, cannot_read, cannot_read_input, out_of_memory}
+use Rattle.mh_drive.specs.Statuses.{code_of, line_of}
+use Rattle.mh_drive.specs.declared.stop.Stop.{Stop}
+use Rattle.mh_drive.specs.declared.stop.Stop.TheVariants.{Halted, ShelfFailed, InputFailed, WriteFailed, OutOfMemory}
 use Rattle.mh_top.specs.Run.{Behind, CouldWrite, CutOut, CutWarnings, Done, EndedSo, GotLines, IsDue, IsQuiet, IsStill, World}
+
+-- the warnings were written, or a front of them, or memory was wanted before they were begun
+abbrev pub Warned : Text → Option Text → Option Text → Result (Unit {0}) Stop → Type 0
+Warned text err0 err1 (Ok _) = Appends err0 err1 text
+Warned text err0 err1 (Err WriteFailed) = AppendsPrefix err0 err1 text
+Warned text err0 err1 (Err OutOfMemory) = err1 ≡ err0
+Warned text err0 err1 (Err _) = ⊥
 
 -- how the work went
 abbrev pub Worked : List Text → World → World → Result (Unit {0}) Stop → Type 0

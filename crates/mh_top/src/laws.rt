@@ -2,12 +2,15 @@
 ghost use Rattle.std.specs.Prelude.{◌≡◌, ◌∷◌, ◌++◌, List, Option, Some};
 ghost use Rattle.mh_outside.specs.Shelf.{Files};
 ghost use Rattle.mh_top.specs.AtLine.{IsAnsweredAt, HasVerdictAt};
-ghost use Rattle.mh_top.specs.Causes.{Staged};
-ghost use Rattle.mh_top.specs.Plan.{Plan, AnswersAll, IsFixed, Judges};
-ghost use Rattle.mh_top.specs.Text.{Text};
-ghost use Rattle.mh_top.specs.Verdicts.{Answering};
-ghost use Rattle.mh_top.specs.Work.{Work, IsPrepared, IsWork, Outcome, Yields};
-ghost use Rattle.mh_top.specs.Shapes.{Prepared};
+ghost use Rattle.mh_drive.specs.Causes.{Staged};
+ghost use Rattle.mh_modes.specs.Plan.{Plan, Judges, by_plan};
+ghost use Rattle.mh_drive.specs.Ways.{AnswersAll, Outcome, Yields};
+ghost use Rattle.mh_modes.specs.Fixed.{IsFixed};
+ghost use Rattle.mh_drive.specs.Text.{Text};
+ghost use Rattle.mh_modes.specs.Verdicts.{Answering};
+ghost use Rattle.mh_top.specs.Work.{Work, IsWork};
+ghost use Rattle.mh_prepare.specs.Preparing.{IsPrepared};
+ghost use Rattle.mh_prepare.specs.Shapes.{Prepared};
 
 /// Over given files the words ask for one work, and a mode has one outcome on a given input; but in a list of errors sentences of
 /// one cost may stand for each other.
@@ -15,7 +18,7 @@ pub fn work_is_one()
     ensures work { (words : List Text) (files : Files) (v w : Work) →
         IsWork words (Some files) v → IsWork words (Some files) w → v ≡ w }
     ensures outcome { (plan : Plan) (input : Text) (o p : Outcome) →
-        Yields plan (Some input) o → Yields plan (Some input) p →
+        Yields by_plan plan (Some input) o → Yields by_plan plan (Some input) p →
         (o.cause ≡ p.cause) × (o.left ≡ p.left) × (IsFixed plan → o.out ≡ p.out) }
 {}
 
@@ -29,7 +32,7 @@ pub fn some_work_is_asked()
 /// answer is the one of that line by itself.
 pub fn lines_are_answered()
     ensures each { (plan last : Plan) (before after : List Text) (line text : Text) →
-        AnswersAll plan (before ++ line ∷ after) text last → IsAnsweredAt plan before line after text last }
+        AnswersAll by_plan plan (before ++ line ∷ after) text last → IsAnsweredAt plan before line after text last }
     ensures verdict { (by : Answering) (last : Plan) (before after : List Text) (line text : Text) →
-        AnswersAll (Judges by) (before ++ line ∷ after) text last → HasVerdictAt by before line after text }
+        AnswersAll by_plan (Judges by) (before ++ line ∷ after) text last → HasVerdictAt by before line after text }
 {}

@@ -3,24 +3,24 @@ ghost use Rattle.std.specs.Prelude.{◌≡◌, ◌≤◌, ◌*◌, ◌++◌, Lis
 ghost use Rattle.std.specs.List.{All};
 ghost use Rattle.mh_grammar.specs.Costs.{HaveCosts};
 ghost use Rattle.mh_grammar.specs.Plain.{plain_of, IsInRange};
-ghost use Rattle.mh_top.specs.Text.{Text};
+ghost use Rattle.mh_drive.specs.Text.{Text};
 ghost use Rattle.mh_outside.specs.Faults.{Counts};
 ghost use Rattle.mh_outside.specs.Sink.{WritesWhole};
-ghost use Rattle.mh_top.specs.Causes.{Go, code_of, line_of};
+ghost use Rattle.mh_drive.specs.Causes.{Go};
+ghost use Rattle.mh_drive.specs.Statuses.{code_of, line_of};
 ghost use Rattle.mh_top.specs.Claims.{Keeps};
 ghost use Rattle.mh_top.specs.ErrorLists.{ListsErrorsExactly};
 ghost use Rattle.mh_top.specs.Exact.{AcceptsExactly, RejectsRightly, OvershootsRightly, AcceptsRightly, TooDeepExactly};
-ghost use Rattle.mh_top.specs.Plan.{files_of_mode};
-ghost use Rattle.mh_top.specs.Turns.{AsksFor};
+ghost use Rattle.mh_modes.specs.Files.{files_of_mode};
+ghost use Rattle.mh_top.specs.Asking.{AsksFor};
 ghost use Rattle.mh_top.specs.Run.{world, Ran};
 ghost use Rattle.mh_top.specs.Saying.{Worked, Reported, SaysLine};
-ghost use Rattle.mh_top.specs.Work.{IsFront};
+ghost use Rattle.mh_prepare.specs.Preparing.{IsFront};
 
-use crate::modes::{follow, warn};
-use crate::prepared::{Front, front_of, prepare};
-use crate::status;
-use crate::stop::{Cause, Stop};
+use crate::warning::{go_on, warn};
+use mh_drive::{Cause, Stop, status};
 use mh_outside::{Shelf, Sink, Source, WriteFault, write_whole};
+use mh_prepare::{Front, front_of, prepare};
 use mh_sets::with_width;
 use std::alloc::Global;
 
@@ -51,9 +51,33 @@ fn work_on<F: Shelf, I: Source, O: Sink, E: Sink, const W: usize>(
         Err(stop) => return Err(stop),
     };
     match warn(alloc, &prepared, err) {
-        Ok(()) => follow(alloc, &prepared, shelf, input, out),
+        Ok(()) => go_on(alloc, &prepared, shelf, input, out),
         Err(stop) => Err(stop),
     }
+}
+
+/// The work behind the grammar, at the least width of sets of tokens.
+fn work_at_width<F: Shelf, I: Source, O: Sink, E: Sink>(
+    alloc: Global,
+    front: Front,
+    shelf: &mut F,
+    input: &mut I,
+    out: &mut O,
+    err: &mut E,
+) -> Result<(), Stop>
+    requires tokens { length front.grammar.tokens ≤ 512 }
+    requires range { IsInRange (plain_of front.grammar) }
+    requires costs { HaveCosts front.grammar.tokens }
+    requires asked { All (F.MayAsk shelf.old) (files_of_mode front.order) }
+    ensures kept { F.files shelf.new ≡ F.files shelf.old }
+    ensures ran { (words : List Text) → IsFront words (F.files shelf.old) (Go front) → Worked words
+        (world F.files F.faults I.left I.faults O.written O.faults E.written E.faults
+        shelf.old input.old out.old err.old)
+        (world F.files F.faults I.left I.faults O.written O.faults E.written E.faults
+        shelf.new input.new out.new err.new)
+        result }
+{
+    with_width!(front.grammar.tokens.len(); work_on; F, I, O, E; alloc, front, shelf, input, out, err)
 }
 
 /// The work up to its last line on err.
@@ -75,8 +99,7 @@ fn work<F: Shelf, I: Source, O: Sink, E: Sink>(
         result }
 {
     match front_of(alloc, words, shelf) {
-        Ok(front) =>
-            with_width!(front.grammar.tokens.len(); work_on; F, I, O, E; alloc, front, shelf, input, out, err),
+        Ok(front) => work_at_width(alloc, front, shelf, input, out, err),
         Err(stop) => Err(stop),
     }
 }

@@ -1,5 +1,5 @@
 use Rattle.std.proofs.Common.{ap, refl}
-use Rattle.mh_top.specs.Text.{cannot_read}
+use Rattle.mh_drive.specs.Text.{cannot_read}
 use Rattle.mh_top.proofs.Reports.{reported, silent}
 use Rattle.mh_top.proofs.top.report.Goals as goal
 

@@ -1,5 +1,5 @@
 use Rattle.std.proofs.Common.{ap, refl}
-use Rattle.mh_top.specs.Text.{cannot_read, too_big}
+use Rattle.mh_drive.specs.Text.{cannot_read, too_big}
 use Rattle.mh_top.proofs.Reports.{says_so}
 use Rattle.mh_top.proofs.top.say_cause.Goals as goal
 

@@ -6,7 +6,7 @@ returns-in-Err-clause-ran g c = λ words is. prepare_stops words _ c.args.front 
 
 pub returns-in-Ok-warn-clause-ran : goal.returns-in-Ok-warn-clause-ran
 returns-in-Ok-warn-clause-ran g c = λ words is.
-    followed words _ _ _ (prepared_so words _ c.args.front _ is c.in-Ok.ensures.prepared) c.in-Ok-warn.ensures.text c.in-Ok-warn.ensures.counts c.follow.result c.follow.ensures.ran c.follow.ensures.counts c.follow.ensures.read
+    followed words _ _ _ (prepared_so words _ c.args.front _ is c.in-Ok.ensures.prepared) c.in-Ok-warn.ensures.text c.in-Ok-warn.ensures.counts c.go_on.result c.go_on.ensures.ran c.go_on.ensures.counts c.go_on.ensures.read
 
 pub returns-clause-ran : goal.returns-clause-ran
 returns-clause-ran g c = λ words is.

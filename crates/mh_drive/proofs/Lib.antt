@@ -1,0 +1,5 @@
+pub mod Binding
+pub mod Splits
+pub mod SoFar
+pub mod Answered
+pub mod Opening

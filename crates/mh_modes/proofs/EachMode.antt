@@ -1,0 +1,234 @@
+-- Each mode by itself: what is proved by a case for each job, each end and each plan, and by nothing else.
+use Rattle.std.proofs.Common.{◌≡◌, ◌++◌, ◌∷◌, List, Option, None, Some, [], sym, ◌∙◌, ap, subst, refl}
+use Rattle.std.specs.Bool.{⊤}
+use Rattle.mh_grammar.specs.declared.types.Grammar.{Grammar}
+use Rattle.mh_grammar.specs.Plain.{plain_of}
+use Rattle.mh_opts.specs.declared.jobs.Job.{Job}
+use Rattle.mh_opts.specs.declared.jobs.Job.TheVariants.{Interpret, InterpretError, Session, ShowAutomaton, ListErrors, CompileErrors}
+use Rattle.mh_outside.specs.Shelf.{Files, Found}
+use Rattle.mh_report.proofs.OneText.{text_once}
+use Rattle.mh_replies.proofs.Once.{answer_once as line_once}
+use Rattle.mh_session.specs.Answers.{Branches}
+use Rattle.mh_tables.specs.Table.{TableData}
+use Rattle.mh_tables.specs.Halting.{HaltingFacts}
+use Rattle.mh_check.specs.Texts.{compiled_text}
+use Rattle.mh_drive.specs.Text.{Text}
+use Rattle.mh_drive.specs.Causes.{Staged, Go, Halt}
+use Rattle.mh_drive.specs.Ways.{Ending}
+use Rattle.mh_drive.specs.declared.stop.Cause.{Cause}
+use Rattle.mh_drive.specs.declared.stop.Cause.TheVariants.{Refused}
+use Rattle.mh_drive.proofs.Binding.{IsOne}
+use Rattle.mh_prepare.specs.FileStage.{IsFile, IsFound, loaded}
+use Rattle.mh_prepare.specs.Shapes.{Prepared}
+use Rattle.mh_prepare.specs.TableStage.{mode_of, source_of}
+use Rattle.mh_prepare.specs.Turns.{IsTurn}
+use Rattle.mh_prepare.proofs.Turns.{turn_first}
+use Rattle.mh_modes.specs.Explained.{ending_of}
+use Rattle.mh_modes.specs.Files.{files_of_job, named}
+use Rattle.mh_modes.specs.Fixed.{IsFixed, IsFixedEnd}
+use Rattle.mh_modes.specs.Listing.{ListsErrors, Lists, TooLong, too_long}
+use Rattle.mh_modes.specs.MessagesStage.{AreMessages, Messages}
+use Rattle.mh_modes.specs.Plan.{Answers, Automaton, End, Ends, EndsBy, EndsWith, Errors, Explains, IsPlanOfJob, Judges, Known, MessagesFor, Plan, Serves, halts, judges, plan_by}
+use Rattle.mh_modes.specs.Verdicts.{Answering}
+use Rattle.mh_modes.specs.declared.modes.explaining.Told.{Told}
+use Rattle.mh_modes.specs.declared.modes.explaining.Told.TheVariants.{Entry, Not}
+use Rattle.mh_modes.proofs.Answering.{one_once}
+use Rattle.mh_modes.proofs.Messaging.{StagedRight, file_messages_once, for_unread_halts, messages_for_once, messages_for_right, messages_right, named_turn, some_messages, some_messages_for, unread_halts}
+use Rattle.mh_modes.proofs.Refusals.{list_cause_once}
+use Rattle.mh_modes.proofs.Telling.{told_once}
+
+-- every run on its table ends
+pub record Runs (p : Prepared) : Type 0 where
+  pub halts : HaltingFacts p.tabled.halting
+  pub grammar : p.tabled.halting.grammar ≡ plain_of p.grammar
+
+-- ---- for which causes a mode may end
+
+module _ (Right : Cause → Type 0) where
+  abbrev pub IsRight : Option Cause → Type 0
+  IsRight None = ⊤
+  IsRight (Some cause) = Right cause
+
+  -- so it ends, as it stands
+  abbrev pub EndsRight : Plan → Type 0
+  EndsRight (Ends (Known e)) = IsRight e.cause
+  EndsRight plan = ⊤
+
+-- ---- the files that a mode reads
+
+abbrev Turn : Prepared → List Text → Option Files → Text → Type 0
+Turn p names files name = IsTurn files (AreMessages p.grammar p.tabled.halting) names name
+
+nil_not : (before after : List Text) (name : Text) → [] ≡ before ++ name ∷ after → ⊥
+nil_not [] after name is = cc
+nil_not (b ∷ before) after name is = cc
+
+one_is : (before after : List Text) (name file : Text) → file ∷ [] ≡ before ++ name ∷ after → file ≡ name
+one_is [] after name file is = cc
+one_is (b ∷ before) after name file is = let none : [] ≡ before ++ name ∷ after = cc in absurd (nil_not before after name none)
+
+module _ (p : Prepared) (files : Option Files) (name : Text) where
+  no_turn : Turn p [] files name → ⊥
+  no_turn turn = nil_not turn.before turn.after name turn.names_are
+
+  turn_of_one : (file : Text) → Turn p (file ∷ []) files name → file ≡ name
+  turn_of_one file turn = one_is turn.before turn.after name file turn.names_are
+
+  turn_of_named : (file : Option Text) → Turn p (named file) files name → file ≡ Some name
+  turn_of_named None turn = absurd (no_turn turn)
+  turn_of_named (Some file) turn = ap Some (turn_of_one file turn)
+
+-- ---- a job has a plan, and one alone over given files
+
+-- what is known of the plans of a job that reads these files
+pub record Facts (p : Prepared) (names : List Text) (Is : Option Files → Plan → Type 0) : Type 1 where
+  pub some : (files : Option Files) → Runs p → (plan : Plan) × Is files plan
+  pub once : (files : Files) → IsOne (Is (Some files))
+  -- a file whose turn has come, and which gives no bytes, ends the work
+  pub unread : (files : Files) (name : Text) (what : Found) (cause : Cause) (plan : Plan) → Turn p names (Some files) name → IsFound (Some files) name what → loaded name what ≡ Halt cause → Is (Some files) plan → plan ≡ halts cause
+  -- what judges, judges by the table
+  pub judged : (Has : Grammar → TableData → Type 0) (files : Option Files) (by : Answering) → Has p.grammar p.tabled.halting → Is files (Judges by) → Has by.grammar by.table
+  -- it ends for no other cause than it may: it may refuse, and halt at a file
+  pub right : (Right : Cause → Type 0) → ((line : Text) → Right (Refused line)) → (files : Option Files) (plan : Plan) → ((name : Text) (what : Found) (cause : Cause) → Turn p names files name → IsFound files name what → loaded name what ≡ Halt cause → Right cause) → Is files plan → EndsRight Right plan
+
+module _ (p : Prepared) where
+  -- one that reads no file, and judges nothing
+  fixed : (plan : Plan) → ((by : Answering) → Judges by ≡ plan → ⊥) → ((Right : Cause → Type 0) → EndsRight Right plan) → Facts p [] (λ files other. other ≡ plan)
+  fixed plan never ends = record {
+    some = λ files runs. (plan, refl);
+    once = λ files x y is so. is ∙ sym so;
+    unread = λ files name what cause other turn found halt is. absurd (no_turn p (Some files) name turn);
+    judged = λ Has files by has is. absurd (never by is);
+    right = λ Right may files other of_file is. subst (EndsRight Right) (sym is) (ends Right);
+  }
+
+  -- one that reads a file of messages, and judges nothing
+  module _ (file : Text) (plan : Messages → Plan) (never : (messages : Messages) (by : Answering) → Judges by ≡ plan messages → ⊥) (ends : (Right : Cause → Type 0) (messages : Messages) → EndsRight Right (plan messages)) where
+    judges_not : (s : Staged Messages) (by : Answering) → Judges by ≡ plan_by plan s → ⊥
+    judges_not (Go messages) by is = never messages by is
+    judges_not (Halt cause) by is = cc
+
+    ends_so : (Right : Cause → Type 0) (s : Staged Messages) → StagedRight Right s → EndsRight Right (plan_by plan s)
+    ends_so Right (Go messages) right = ends Right messages
+    ends_so Right (Halt cause) right = right
+
+    of_messages : Facts p (file ∷ []) (λ files other. (s : Staged Messages) × IsFile files (AreMessages p.grammar p.tabled.halting) file s × (other ≡ plan_by plan s))
+    of_messages = record {
+      some = λ files runs. let s = some_messages p.grammar p.tabled.halting runs.halts runs.grammar files file in (plan_by plan s.0, (s.0, s.1, refl));
+      once = λ files x y is so. is.2 ∙ ap (plan_by plan) (file_messages_once p.grammar p.tabled.halting files file is.0 so.0 is.1 so.1) ∙ sym so.2;
+      unread = λ files name what cause other turn found halt is.
+          let same = turn_of_one p (Some files) name file turn in
+          is.2 ∙ ap (plan_by plan) (unread_halts p.grammar p.tabled.halting files file what cause is.0 (subst (λ (n : Text). IsFound (Some files) n what) (sym same) found) (subst (λ (n : Text). loaded n what ≡ Halt cause) (sym same) halt) is.1);
+      judged = λ Has files by has is. absurd (judges_not is.0 by is.2);
+      right = λ Right may files other of_file is.
+          subst (EndsRight Right) (sym is.2) (ends_so Right is.0 (messages_right p.grammar p.tabled.halting Right may files file is.0 (λ what cause found halt. of_file file what cause (turn_first files (AreMessages p.grammar p.tabled.halting) file []) found halt) is.1));
+    }
+
+  -- one that judges
+  module _ (Has : Grammar → TableData → Type 0) where
+    judged_by : (x by : Answering) → Judges by ≡ Judges x → Has x.grammar x.table → Has by.grammar by.table
+    judged_by x by e has = let same : x ≡ by = cc in subst (λ (y : Answering). Has y.grammar y.table) same has
+
+    judges_has : (s : Staged (Option Messages)) (by : Answering) → Judges by ≡ plan_by (judges p) s → Has p.grammar p.tabled.halting → Has by.grammar by.table
+    judges_has (Go messages) by is has = judged_by (record { trees = p.order.show_cst; grammar = p.grammar; table = p.tabled.halting; messages = messages }) by is has
+    judges_has (Halt cause) by is has = absurd (cc)
+
+  judges_right : (Right : Cause → Type 0) (s : Staged (Option Messages)) → StagedRight Right s → EndsRight Right (plan_by (judges p) s)
+  judges_right Right (Go messages) right = tt
+  judges_right Right (Halt cause) right = right
+
+  judging : (file : Option Text) → Facts p (named file) (λ files plan. (s : Staged (Option Messages)) × MessagesFor file files p s × (plan ≡ plan_by (judges p) s))
+  judging file = record {
+    some = λ files runs. let s = some_messages_for p runs.halts runs.grammar file files in (plan_by (judges p) s.0, (s.0, s.1, refl));
+    once = λ files x y is so. is.2 ∙ ap (plan_by (judges p)) (messages_for_once p file files is.0 so.0 is.1 so.1) ∙ sym so.2;
+    unread = λ files name what cause plan turn found halt is. is.2 ∙ ap (plan_by (judges p)) (for_unread_halts p file files name what cause is.0 (turn_of_named p (Some files) name file turn) found halt is.1);
+    judged = λ Has files by has is. judges_has Has is.0 by is.2 has;
+    right = λ Right may files plan of_file is.
+        subst (EndsRight Right) (sym is.2) (judges_right Right is.0 (messages_for_right p Right may file files is.0 (λ name what cause same found halt. of_file name what cause (named_turn p files file name same) found halt) is.1));
+  }
+
+pub facts_of : (job : Job) (p : Prepared) → Facts p (files_of_job job p.order) (λ files. IsPlanOfJob job files p)
+facts_of Interpret p = judging p p.order.messages
+facts_of InterpretError p = fixed p (Explains p []) (λ by is. cc) (λ Right. tt)
+facts_of Session p = fixed p (Serves p.grammar p.tabled.halting []) (λ by is. cc) (λ Right. tt)
+facts_of ShowAutomaton p = fixed p (Ends (Automaton p)) (λ by is. cc) (λ Right. tt)
+facts_of ListErrors p = fixed p (Ends (Errors p)) (λ by is. cc) (λ Right. tt)
+facts_of (CompileErrors file) p = of_messages p file (λ messages. Ends (Known (record { cause = None; out = compiled_text messages }))) (λ messages by is. cc) (λ Right messages. tt)
+
+-- ---- an end is one, but for the choice of sentences in a list of errors
+
+pub record EndFacts (end : End) : Type 1 where
+  pub cause : (x y : Ending) → EndsBy end x → EndsBy end y → x.cause ≡ y.cause
+  pub out : (x y : Ending) → IsFixedEnd end → EndsBy end x → EndsBy end y → x.out ≡ y.out
+  pub right : (Right : Cause → Type 0) → ((line : Text) → Right (Refused line)) → (e : Ending) → EndsRight Right (Ends end) → EndsBy end e → IsRight Right e.cause
+
+list_right : (p : Prepared) (Right : Cause → Type 0) → ((line : Text) → Right (Refused line)) → (e : Ending) → ListsErrors p.grammar p.tabled.automaton p.tabled.halting e.cause e.out → IsRight Right e.cause
+list_right p Right may e (Lists none cause list) = subst (IsRight Right) (sym cause) tt
+list_right p Right may e (TooLong s long cause out) = subst (IsRight Right) (sym cause) (may (too_long s))
+
+pub end_facts : (end : End) → EndFacts end
+end_facts (Known end) = record {
+  cause = λ x y is so. ap (λ (e : Ending). e.cause) (is ∙ sym so);
+  out = λ x y fixed is so. ap (λ (e : Ending). e.out) (is ∙ sym so);
+  right = λ Right may e right is. subst (IsRight Right) (sym (ap (λ (x : Ending). x.cause) is)) right;
+}
+end_facts (Automaton p) = record {
+  cause = λ x y is so. is.0 ∙ sym so.0;
+  out = λ x y fixed is so. text_once p.grammar p.tabled.automaton (mode_of (source_of p.order)) p.tabled.halting x.out y.out is.1 so.1;
+  right = λ Right may e right is. subst (IsRight Right) (sym is.0) tt;
+}
+end_facts (Errors p) = record {
+  cause = λ x y is so. list_cause_once p.grammar p.tabled.automaton p.tabled.halting x.cause y.cause x.out y.out is so;
+  out = λ x y fixed is so. absurd fixed;
+  right = λ Right may e right is. list_right p Right may e is;
+}
+
+-- ---- a line has one answer, and a mode one end
+
+module _ (line : Text) where
+  pub answer_once : (plan : Plan) (a c : Text) (x y : Plan) → Answers plan line a x → Answers plan line c y → (a ≡ c) × (x ≡ y)
+  answer_once (Ends e) a c x y p q = (p.0 ∙ sym q.0, p.1 ∙ sym q.1)
+  answer_once (Judges by) a c x y p q = (one_once by line a c p.0 q.0, p.1 ∙ sym q.1)
+  answer_once (Explains from old) a c x y p q = (p.0 ∙ sym q.0, p.1 ∙ sym q.1)
+  answer_once (Serves g t branches) a c x y p q =
+      let same = line_once g t branches line a c p.0 q.0 p.1 q.1 in (same.0, p.2 ∙ ap (λ (after : Branches). Serves g t after) same.1 ∙ sym q.2)
+
+  pub answer_fixed : (plan : Plan) (text : Text) (next : Plan) → Answers plan line text next → IsFixed plan → IsFixed next
+  answer_fixed (Ends e) text next is fixed = subst IsFixed (sym is.1) fixed
+  answer_fixed (Judges by) text next is fixed = subst IsFixed (sym is.1) tt
+  answer_fixed (Explains p old) text next is fixed = subst IsFixed (sym is.1) tt
+  answer_fixed (Serves g t branches) text next is fixed = subst IsFixed (sym is.2) tt
+
+explained_once : (p : Prepared) (line : Text) (x y : Ending) → EndsWith (Explains p line) x → EndsWith (Explains p line) y → x ≡ y
+explained_once p line x y is so = is.2 ∙ ap ending_of (told_once p line is.0 so.0 is.1 so.1) ∙ sym so.2
+
+pub cause_once : (plan : Plan) (x y : Ending) → EndsWith plan x → EndsWith plan y → x.cause ≡ y.cause
+cause_once (Ends end) x y is so = (end_facts end).cause x y is so
+cause_once (Judges by) x y is so = ap (λ (end : Ending). end.cause) (is ∙ sym so)
+cause_once (Explains p line) x y is so = ap (λ (end : Ending). end.cause) (explained_once p line x y is so)
+cause_once (Serves g t branches) x y is so = ap (λ (end : Ending). end.cause) (is ∙ sym so)
+
+pub out_once : (plan : Plan) (x y : Ending) → IsFixed plan → EndsWith plan x → EndsWith plan y → x.out ≡ y.out
+out_once (Ends end) x y fixed is so = (end_facts end).out x y fixed is so
+out_once (Judges by) x y fixed is so = ap (λ (end : Ending). end.out) (is ∙ sym so)
+out_once (Explains p line) x y fixed is so = ap (λ (end : Ending). end.out) (explained_once p line x y is so)
+out_once (Serves g t branches) x y fixed is so = ap (λ (end : Ending). end.out) (is ∙ sym so)
+
+-- ---- a mode ends for no other cause than it may
+
+module _ (Right : Cause → Type 0) (may_refuse : (line : Text) → Right (Refused line)) where
+  pub answer_right : (plan : Plan) (line text : Text) (next : Plan) → Answers plan line text next → EndsRight Right plan → EndsRight Right next
+  answer_right (Ends e) line text next is right = subst (EndsRight Right) (sym is.1) right
+  answer_right (Judges by) line text next is right = subst (EndsRight Right) (sym is.1) tt
+  answer_right (Explains p old) line text next is right = subst (EndsRight Right) (sym is.1) tt
+  answer_right (Serves g t branches) line text next is right = subst (EndsRight Right) (sym is.2) tt
+
+  told_right : (told : Told) → IsRight Right (ending_of told).cause
+  told_right (Entry text) = tt
+  told_right (Not line) = may_refuse line
+
+  pub ends_right : (plan : Plan) (e : Ending) → EndsRight Right plan → EndsWith plan e → IsRight Right e.cause
+  ends_right (Ends end) e right is = (end_facts end).right Right may_refuse e right is
+  ends_right (Judges by) e right is = subst (IsRight Right) (sym (ap (λ (x : Ending). x.cause) is)) tt
+  ends_right (Explains p line) e right is = subst (IsRight Right) (sym (ap (λ (x : Ending). x.cause) is.2)) (told_right is.0)
+  ends_right (Serves g t branches) e right is = subst (IsRight Right) (sym (ap (λ (x : Ending). x.cause) is)) tt

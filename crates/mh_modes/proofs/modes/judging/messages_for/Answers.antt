@@ -1,0 +1,14 @@
+use Rattle.std.proofs.Common.{◌≡◌, Some, ap, sym, ◌∙◌}
+use Rattle.mh_drive.specs.Text.{Text}
+use Rattle.mh_opts.specs.declared.jobs.Job.TheVariants.{Interpret}
+use Rattle.mh_modes.specs.Files.{IsTurnOfJob}
+use Rattle.mh_modes.proofs.Messaging.{messages_stop, named_turn}
+use Rattle.mh_modes.proofs.modes.judging.messages_for.Goals as goal
+
+pub returns-in-Err-clause-messages : goal.returns-in-Err-clause-messages
+returns-in-Err-clause-messages g c =
+    let p = c.args.prepared.now in
+    let files = g.F.Shelf.files c.args.shelf.now in
+    let file : Text = c.as_slice.result.now in
+    let same : p.order.messages ≡ Some file = c.in-Some.is ∙ ap Some (sym c.as_slice.ensures) in
+    messages_stop p files (IsTurnOfJob Interpret files p) p.order.messages file same (named_turn p files p.order.messages file same) c.in-Err.stop c.in-Err.ensures.messages

@@ -1,0 +1,9 @@
+pub mod Verdicts
+pub mod Explained
+pub mod MessagesStage
+pub mod Listing
+pub mod Plan
+pub mod Files
+pub mod Fixed
+pub mod Modes
+pub mod Entries

@@ -1,0 +1,7 @@
+//! The modes: what is done behind the table and the warnings, by the job.
+#![tactic(auto)]
+
+mod messages;
+mod modes;
+
+pub use modes::follow;

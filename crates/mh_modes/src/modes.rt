@@ -1,0 +1,67 @@
+//! What follows the warnings, by the job.
+ghost use Rattle.std.specs.Prelude.{◌≡◌, ◌≤◌};
+ghost use Rattle.std.specs.List.{All};
+ghost use Rattle.mh_drive.specs.Steps.{Counts, FileCounts};
+ghost use Rattle.mh_modes.specs.Files.{IsTurnOfJob, files_of_mode};
+ghost use Rattle.mh_modes.specs.Modes.{Followed};
+ghost use Rattle.mh_modes.specs.Plan.{IsPlanOfJob};
+ghost use Rattle.mh_prepare.specs.Prepared.{IsFit};
+
+mod at_end;
+mod compiling;
+mod explaining;
+mod judging;
+mod listing;
+mod serving;
+mod showing;
+
+use at_end::AtEnd;
+use compiling::list_by;
+use explaining::explain_by;
+use judging::judge_by;
+use listing::Listing;
+use mh_drive::{Stop, drive, drive_opened};
+use mh_opts::Job;
+use mh_outside::{Shelf, Sink, Source};
+use mh_prepare::Prepared;
+use serving::serve_on;
+use showing::Showing;
+use std::alloc::Global;
+
+/// Does what the job asks for. A mode that reads files of its own takes them from the shelf.
+pub fn follow<F: Shelf, I: Source, O: Sink, const W: usize>(
+    alloc: Global,
+    prepared: &Prepared<W>,
+    shelf: &mut F,
+    input: &mut I,
+    out: &mut O,
+) -> Result<(), Stop>
+    requires few { W ≤ 8 }
+    requires fit { IsFit prepared.now }
+    requires asked { All (F.MayAsk shelf.old) (files_of_mode prepared.now.order) }
+    ensures ran { Followed (IsPlanOfJob prepared.now.order.job (F.files shelf.old) prepared.now)
+        (IsTurnOfJob prepared.now.order.job (F.files shelf.old) prepared.now)
+        (I.left input.old) (I.left input.new) (O.written out.old) (O.written out.new) result }
+    ensures counts { Counts (I.faults input.old) (I.faults input.new)
+        (O.faults out.old) (O.faults out.new) result }
+    ensures read { FileCounts (F.faults shelf.old) (F.faults shelf.new) result }
+    ensures kept { F.files shelf.new ≡ F.files shelf.old }
+{
+    match &prepared.order.job {
+        Job::Interpret => drive_opened(alloc, judge_by(alloc, prepared, shelf), input, out),
+        Job::InterpretError => drive(alloc, explain_by(alloc, prepared), input, out),
+        Job::Session => drive_opened(alloc, serve_on(alloc, prepared), input, out),
+        Job::ShowAutomaton => {
+            let writer = Showing { prepared };
+            drive(alloc, AtEnd { writer }, input, out)
+        }
+        Job::ListErrors => {
+            let writer = Listing { prepared };
+            drive(alloc, AtEnd { writer }, input, out)
+        }
+        Job::CompileErrors { file } => {
+            let opened = list_by(alloc, prepared, shelf, file.as_slice());
+            drive_opened(alloc, opened, input, out)
+        }
+    }
+}

@@ -1,0 +1,45 @@
+//! What clap found among the words.
+ghost use Rattle.std.specs.Prelude.{◌≡◌, IfOk};
+ghost use Rattle.clap.specs.Takes as clap;
+ghost use Rattle.clap.specs.Words.{first_of, found_of, rows_of};
+ghost use Rattle.mh_opts.specs.Orders as orders;
+
+use clap::ArgMatches;
+use clap::parser::ValueSource;
+use mh_grammar::{Memory, Name, from_bytes};
+use std::alloc::Global;
+
+/// Whether the words hold an option, or a grammar file. The value that clap gives a flag by default is not of the words.
+pub(crate) fn is_given(matches: &ArgMatches<'_>, name: &str) -> bool
+    ensures { result ≡ clap.is_given name.now (rows_of (found_of matches.now)) }
+{
+    match matches.value_source(name) {
+        Some(ValueSource::CommandLine) => true,
+        Some(ValueSource::DefaultValue) => false,
+        None => matches.contains_id(name),
+    }
+}
+
+/// The value that stands behind an option.
+pub(crate) fn value_of(
+    alloc: Global,
+    matches: &ArgMatches<'_>,
+    name: &str,
+) -> Result<Option<Name>, Memory>
+    ensures { IfOk result (λ value. value ≡ first_of name.now (rows_of (found_of matches.now))) }
+{
+    match matches.get_str(name) {
+        Some(value) => Ok(Some(from_bytes(alloc, value.as_bytes())?)),
+        None => Ok(None),
+    }
+}
+
+/// The file that stands behind an option.
+pub(crate) fn file_of(alloc: Global, matches: &ArgMatches<'_>, name: &str) -> Result<Name, Memory>
+    ensures { IfOk result (λ file. file ≡ orders.file_of (rows_of (found_of matches.now)) name.now) }
+{
+    match matches.get_str(name) {
+        Some(value) => from_bytes(alloc, value.as_bytes()),
+        None => from_bytes(alloc, b""),
+    }
+}

@@ -1,0 +1,166 @@
+//! What the program may do, and the options that ask for it, a row for each. Definitions read the same rows as the code.
+ghost use Rattle.std.specs.Prelude.{◌≡◌, IfOk};
+ghost use Rattle.clap.specs.Words.{found_of, rows_of};
+ghost use Rattle.mh_opts.specs.App as app;
+ghost use Rattle.mh_opts.specs.App.{plain_rows};
+ghost use Rattle.mh_opts.specs.Orders as orders;
+ghost use Rattle.mh_opts.specs.Orders.{job_for, plain_needs};
+
+use crate::found::file_of;
+use clap::{ArgAction, ArgMatches};
+use mh_grammar::{Memory, Name};
+use std::alloc::Global;
+
+/// The words that are no options, by the name under which clap keeps them.
+pub(crate) const GRAMMARS: &str = "grammars";
+
+pub(crate) const INTERPRET: &str = "interpret";
+
+pub(crate) const INTERPRET_SHOW_CST: &str = "interpret-show-cst";
+
+pub(crate) const STRICT: &str = "strict";
+
+pub(crate) const NO_STDLIB: &str = "no-stdlib";
+
+pub(crate) const COMPILE_ERRORS: &str = "compile-errors";
+
+pub(crate) const MESSAGES: &str = "messages";
+
+/// What is to be done.
+#[derive(Debug, Drop, PartialEq, Eq)]
+pub enum Job {
+    /// `--interpret`: a verdict for each line of the input.
+    Interpret,
+    /// `--interpret-error`: the entry of the sentence on the first line of the input.
+    InterpretError,
+    /// `--session`: the reply to a command on named branches for each line of the input.
+    Session,
+    /// `--show-automaton`: the automaton as text.
+    ShowAutomaton,
+    /// `--list-errors`: an entry for each state in which some sentence fails.
+    ListErrors,
+    /// `--compile-errors FILE`: the messages of a file, by state.
+    CompileErrors { file: Name },
+}
+
+/// What is to be done, without the values that stand behind its words: a constant holds nothing that owns memory.
+#[derive(Clone, Copy)]
+pub enum Mode {
+    Interpret,
+    InterpretError,
+    Session,
+    ShowAutomaton,
+    ListErrors,
+    CompileErrors,
+}
+
+/// The job of a mode, with what stands behind its words.
+pub(crate) fn job_of(alloc: Global, matches: &ArgMatches<'_>, mode: Mode) -> Result<Job, Memory>
+    ensures { IfOk result (λ job. job ≡ job_for (rows_of (found_of matches.now)) mode) }
+{
+    match mode {
+        Mode::Interpret => Ok(Job::Interpret),
+        Mode::InterpretError => Ok(Job::InterpretError),
+        Mode::Session => Ok(Job::Session),
+        Mode::ShowAutomaton => Ok(Job::ShowAutomaton),
+        Mode::ListErrors => Ok(Job::ListErrors),
+        Mode::CompileErrors => Ok(Job::CompileErrors {
+            file: file_of(alloc, matches, COMPILE_ERRORS)?,
+        }),
+    }
+}
+
+/// An option. Its name is a `&str`, by a parameter: a constant of other rows is none that a definition can name.
+pub struct Opt<T> {
+    /// The name behind the two hyphens.
+    pub name: T,
+    /// `SetTrue` where no value stands behind it, `Set` where one does.
+    pub action: ArgAction,
+    /// What it says is to be done.
+    pub mode: Option<Mode>,
+}
+
+/// An option that has no meaning without another.
+pub struct Need<T> {
+    pub option: T,
+    pub needs: T,
+}
+
+const OPTIONS: [Opt<&str>; 10] = [
+    Opt {
+        name: INTERPRET,
+        action: ArgAction::SetTrue,
+        mode: Some(Mode::Interpret),
+    },
+    Opt {
+        name: "interpret-error",
+        action: ArgAction::SetTrue,
+        mode: Some(Mode::InterpretError),
+    },
+    Opt {
+        name: "session",
+        action: ArgAction::SetTrue,
+        mode: Some(Mode::Session),
+    },
+    Opt {
+        name: "show-automaton",
+        action: ArgAction::SetTrue,
+        mode: Some(Mode::ShowAutomaton),
+    },
+    Opt {
+        name: "list-errors",
+        action: ArgAction::SetTrue,
+        mode: Some(Mode::ListErrors),
+    },
+    Opt {
+        name: COMPILE_ERRORS,
+        action: ArgAction::Set,
+        mode: Some(Mode::CompileErrors),
+    },
+    Opt {
+        name: MESSAGES,
+        action: ArgAction::Set,
+        mode: None,
+    },
+    Opt {
+        name: INTERPRET_SHOW_CST,
+        action: ArgAction::SetTrue,
+        mode: None,
+    },
+    Opt {
+        name: STRICT,
+        action: ArgAction::SetTrue,
+        mode: None,
+    },
+    Opt {
+        name: NO_STDLIB,
+        action: ArgAction::SetTrue,
+        mode: None,
+    },
+];
+
+/// The first that stands without what it needs is the one that is told.
+const NEEDS: [Need<&str>; 2] = [
+    Need {
+        option: INTERPRET_SHOW_CST,
+        needs: INTERPRET,
+    },
+    Need {
+        option: MESSAGES,
+        needs: INTERPRET,
+    },
+];
+
+/// The options.
+pub(crate) fn options<'a>() -> &'a [Opt<&'a str>]
+    ensures { plain_rows result.now (λ name. name.now) ≡ app.options }
+{
+    OPTIONS.as_slice()
+}
+
+/// The needs.
+pub(crate) fn needs<'a>() -> &'a [Need<&'a str>]
+    ensures { plain_needs result.now (λ name. name.now) ≡ orders.needs }
+{
+    NEEDS.as_slice()
+}

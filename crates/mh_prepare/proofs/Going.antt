@@ -1,0 +1,67 @@
+-- How the work goes on up to the table.
+use Rattle.std.proofs.Common.{◌≡◌, List, Option, refl, subst, sym}
+use Rattle.std.specs.Prelude.{Result, Ok, Err}
+use Rattle.mh_grammar.specs.declared.types.Grammar.{Grammar}
+use Rattle.mh_opts.specs.declared.order.Order.{Order}
+use Rattle.mh_outside.specs.Shelf.{Files}
+use Rattle.mh_rules.specs.declared.modules.Module.{Module}
+use Rattle.mh_drive.specs.Text.{Text}
+use Rattle.mh_drive.specs.Causes.{Staged, Go, Halt, On, Then, Gives}
+use Rattle.mh_drive.specs.Stages.{FilesGive, StageHas}
+use Rattle.mh_drive.specs.declared.stop.Cause.{Cause}
+use Rattle.mh_drive.specs.declared.stop.Stop.{Stop}
+use Rattle.mh_drive.specs.declared.stop.Stop.TheVariants.{Halted, ShelfFailed, InputFailed, WriteFailed, OutOfMemory}
+use Rattle.mh_drive.proofs.Binding.{names_wider, no_names, then_on, then_stops}
+use Rattle.mh_prepare.specs.Order.{order_of}
+use Rattle.mh_prepare.specs.FileStage.{AreFiles, IsModule}
+use Rattle.mh_prepare.specs.Turns.{IsGrammarTurn, IsTurn}
+use Rattle.mh_prepare.specs.GrammarStage.{IsGrammarStage}
+use Rattle.mh_prepare.specs.TableStage.{IsTableStage, source_of}
+use Rattle.mh_prepare.specs.Preparing.{IsFront, IsTabledFront}
+use Rattle.mh_prepare.specs.Shapes.{Prepared}
+use Rattle.mh_prepare.specs.declared.prepared.Front.{Front}
+
+-- ---- up to the grammar
+
+module _ (words : List Text) (files : Option Files) where
+  abbrev Due : Text → Type 0
+  Due = IsGrammarTurn words files
+
+  abbrev AfterModules : Order → List Module → Staged Front → Type 0
+  AfterModules order modules = Then (IsGrammarStage order.stdlib modules) (λ grammar. Gives (record { order = order; grammar = grammar }))
+
+  abbrev AfterOrder : Order → Staged Front → Type 0
+  AfterOrder order = Then (AreFiles files IsModule order.grammars) (AfterModules order)
+
+  -- behind the order
+  behind : (order : Order) (r : Result Front Stop) → order_of words ≡ Go order → FilesGive (AfterOrder order) Due r → FilesGive (IsFront words files) Due r
+  behind order r on has = subst (λ (o : Staged Order). FilesGive (λ s. On o AfterOrder s) Due r) (sym on) has
+
+  halts_first : (cause : Cause) → order_of words ≡ Halt cause → IsFront words files (Halt cause)
+  halts_first cause is = subst (λ (o : Staged Order). On o AfterOrder (Halt cause)) (sym is) refl
+
+  pub order_stops : (stop : Stop) → StageHas {A = Order} (λ s. order_of words ≡ s) (Err stop) → FilesGive {A = Front} (IsFront words files) Due (Err stop)
+  order_stops (Halted cause) has = halts_first cause has
+  order_stops (ShelfFailed name) has = absurd has
+  order_stops OutOfMemory has = tt
+  order_stops InputFailed has = absurd has
+  order_stops WriteFailed has = absurd has
+
+  pub files_stop : (order : Order) (stop : Stop) → order_of words ≡ Go order → FilesGive {A = List Module} (AreFiles files IsModule order.grammars) (IsTurn files IsModule order.grammars) (Err stop) → FilesGive {A = Front} (IsFront words files) Due (Err stop)
+  files_stop order stop on has =
+      behind order (Err stop) on
+      (then_stops (AreFiles files IsModule order.grammars) (AfterModules order) Due stop (names_wider (AreFiles files IsModule order.grammars) (IsTurn files IsModule order.grammars) Due (Err stop) (λ name turn. (order, on, turn)) has))
+
+  pub grammar_stops : (order : Order) (modules : List Module) (stop : Stop) → order_of words ≡ Go order → AreFiles files IsModule order.grammars (Go modules) → StageHas (IsGrammarStage order.stdlib modules) (Err stop) → FilesGive {A = Front} (IsFront words files) Due (Err stop)
+  grammar_stops order modules stop on are has =
+      behind order (Err stop) on
+      (then_on (AreFiles files IsModule order.grammars) (AfterModules order) Due modules (Err stop) are
+      (then_stops (IsGrammarStage order.stdlib modules) (λ grammar. Gives (record { order = order; grammar = grammar })) Due stop (no_names (IsGrammarStage order.stdlib modules) Due (Err stop) has)))
+
+  pub front_made : (order : Order) (modules : List Module) (grammar : Grammar) → order_of words ≡ Go order → AreFiles files IsModule order.grammars (Go modules) → IsGrammarStage order.stdlib modules (Go grammar) → IsFront words files (Go (record { order = order; grammar = grammar }))
+  front_made order modules grammar on are is = behind order (Ok (record { order = order; grammar = grammar })) on (Go modules, are, (Go grammar, is, refl))
+
+-- ---- the table
+
+pub table_stops : (front : Front) (stop : Stop) → StageHas (IsTableStage (source_of front.order) front.grammar) (Err stop) → StageHas {A = Prepared} (IsTabledFront front) (Err stop)
+table_stops front stop has = then_stops (IsTableStage (source_of front.order) front.grammar) (λ tabled. Gives (record { order = front.order; grammar = front.grammar; tabled = tabled })) (λ name. ⊥) stop has

@@ -1,0 +1,7 @@
+pub mod Loads
+pub mod Turns
+pub mod Tabling
+pub mod Refusing
+pub mod Going
+pub mod Ready
+pub mod Once

@@ -1,0 +1,41 @@
+-- The grammar's stage, by the fault that the code found.
+use Rattle.std.proofs.Common.{Bool, List, sym, subst}
+use Rattle.std.specs.Prelude.{Err}
+use Rattle.mh_grammar.specs.declared.types.Grammar.{Grammar}
+use Rattle.mh_rules.specs.declared.modules.Module.{Module}
+use Rattle.mh_front.specs.declared.fault.GrammarFault.{GrammarFault}
+use Rattle.mh_front.specs.declared.fault.GrammarFault.TheVariants.{Undefined, Duplicate, NoStart, ErrorToken, UnknownLevel, TooManyTokens, Arity, Expansion, InlineCycle, InlineStart, TooManyProductions, EmptyLanguage, Memory}
+use Rattle.mh_front.specs.Stages.{IsGrammarFault, Causes}
+use Rattle.mh_prepare.specs.GrammarStage.{IsGrammarStage}
+use Rattle.mh_prepare.specs.Texts.{refusal}
+use Rattle.mh_prepare.specs.Faults.{RefusesBy}
+use Rattle.mh_drive.specs.Stages.{StageHas, Halts}
+use Rattle.mh_drive.specs.declared.stop.Cause.TheVariants.{Refused}
+use Rattle.mh_drive.specs.declared.stop.Stop.{Stop}
+use Rattle.mh_drive.specs.declared.stop.Stop.TheVariants.{Halted, ShelfFailed, InputFailed, WriteFailed, OutOfMemory}
+
+module _ (prelude : Bool) (modules : List Module) where
+  abbrev Has : Stop → Type 0
+  Has stop = StageHas {A = Grammar} (IsGrammarStage prelude modules) (Err stop)
+
+  halts_so : (fault : GrammarFault) (stop : Stop) → IsGrammarFault prelude modules fault → Halts (Refused (refusal fault)) stop → Has stop
+  halts_so fault (Halted cause) is halts = (fault, is, halts)
+  halts_so fault OutOfMemory is halts = tt
+  halts_so fault (ShelfFailed name) is halts = absurd halts
+  halts_so fault InputFailed is halts = absurd halts
+  halts_so fault WriteFailed is halts = absurd halts
+
+  pub refused_so : (fault : GrammarFault) (stop : Stop) → Causes (IsGrammarFault prelude modules) fault → RefusesBy fault stop → Has stop
+  refused_so (Undefined name) stop is halts = halts_so (Undefined name) stop is halts
+  refused_so (Duplicate name) stop is halts = halts_so (Duplicate name) stop is halts
+  refused_so NoStart stop is halts = halts_so NoStart stop is halts
+  refused_so ErrorToken stop is halts = halts_so ErrorToken stop is halts
+  refused_so (UnknownLevel name) stop is halts = halts_so (UnknownLevel name) stop is halts
+  refused_so (TooManyTokens count) stop is halts = halts_so (TooManyTokens count) stop is halts
+  refused_so (Arity instance) stop is halts = halts_so (Arity instance) stop is halts
+  refused_so (Expansion name) stop is halts = halts_so (Expansion name) stop is halts
+  refused_so (InlineCycle instance) stop is halts = halts_so (InlineCycle instance) stop is halts
+  refused_so (InlineStart name) stop is halts = halts_so (InlineStart name) stop is halts
+  refused_so TooManyProductions stop is halts = halts_so TooManyProductions stop is halts
+  refused_so (EmptyLanguage name) stop is halts = halts_so (EmptyLanguage name) stop is halts
+  refused_so Memory stop is halts = subst Has (sym halts) tt

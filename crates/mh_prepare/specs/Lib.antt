@@ -1,0 +1,10 @@
+pub mod Texts
+pub mod Order
+pub mod FileStage
+pub mod GrammarStage
+pub mod TableStage
+pub mod Shapes
+pub mod Prepared
+pub mod Preparing
+pub mod Turns
+pub mod Faults

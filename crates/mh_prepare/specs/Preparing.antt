@@ -1,0 +1,22 @@
+-- All that comes before the warnings.
+use Rattle.std.specs.Prelude.{List, Option}
+use Rattle.mh_outside.specs.Shelf.{Files}
+use Rattle.mh_drive.specs.Text.{Text}
+use Rattle.mh_drive.specs.Causes.{Staged, On, Then, Gives}
+use Rattle.mh_prepare.specs.Order.{order_of}
+use Rattle.mh_prepare.specs.FileStage.{AreFiles, IsModule}
+use Rattle.mh_prepare.specs.GrammarStage.{IsGrammarStage}
+use Rattle.mh_prepare.specs.TableStage.{IsTableStage, source_of}
+use Rattle.mh_prepare.specs.Shapes.{Prepared}
+use Rattle.mh_prepare.specs.declared.prepared.Front.{Front}
+
+-- the order that the words spell, and the grammar of its files
+abbrev pub IsFront : List Text → Option Files → Staged Front → Type 0
+IsFront words files s = On (order_of words) (λ order. Then (AreFiles files IsModule order.grammars) (λ modules. Then (IsGrammarStage order.stdlib modules) (λ grammar. Gives (record { order = order; grammar = grammar })))) s
+
+-- and its table
+abbrev pub IsTabledFront : Front → Staged Prepared → Type 0
+IsTabledFront front s = Then (IsTableStage (source_of front.order) front.grammar) (λ tabled. Gives (record { order = front.order; grammar = front.grammar; tabled = tabled })) s
+
+abbrev pub IsPrepared : List Text → Option Files → Staged Prepared → Type 0
+IsPrepared words files s = Then (IsFront words files) IsTabledFront s

@@ -1,0 +1,60 @@
+-- The automaton of a grammar with its table, where every run on it ends, and the list of its conflicts.
+use Rattle.std.specs.Prelude.{◌≡◌, ℕ, Option}
+use Rattle.mh_grammar.specs.declared.types.Grammar.{Grammar}
+use Rattle.mh_grammar.specs.Plain.{plain_of}
+use Rattle.mh_items.specs.Shapes.{Automaton}
+use Rattle.mh_canon.specs.Canonical.{IsCanonical, IsOver}
+use Rattle.mh_canon.specs.declared.collection.TheConstants.{MAX_STATES}
+use Rattle.mh_resolve.specs.States.{IsTableOf}
+use Rattle.mh_resolve.specs.Conflicts.{AreConflicts}
+use Rattle.mh_resolve.specs.declared.kinds.Mode.{Mode}
+use Rattle.mh_resolve.specs.declared.kinds.Mode.TheVariants as modes
+use Rattle.mh_tables.specs.Table.{TableData}
+use Rattle.mh_tables.specs.Halting.{Halts, LoopsAt}
+use Rattle.mh_prepare.specs.Texts.{loops_line, too_many_states}
+use Rattle.mh_drive.specs.Causes.{Staged, Go, Halt, Then}
+use Rattle.mh_msgfile.specs.Sentences.{token_names}
+use Rattle.mh_opts.specs.declared.order.Order.{Order}
+use Rattle.mh_drive.specs.declared.stop.Cause.{Cause}
+use Rattle.mh_drive.specs.declared.stop.Cause.TheVariants.{Refused}
+use Rattle.mh_prepare.specs.declared.tabled.Source.{Source}
+use Rattle.mh_prepare.specs.declared.tabled.Source.TheVariants.{Canonical}
+use Rattle.mh_prepare.specs.Shapes.{Tabled}
+
+-- ---- the automaton, by where it comes from
+
+abbrev pub source_of : Order → Source
+source_of order = Canonical
+
+abbrev pub mode_of : Source → Mode
+mode_of Canonical = modes.Canonical
+
+abbrev pub IsAutomatonStage : Source → Grammar → Staged Automaton → Type 0
+IsAutomatonStage Canonical g (Go a) = (IsOver (plain_of g) MAX_STATES → ⊥) × IsCanonical (plain_of g) a
+IsAutomatonStage Canonical g (Halt cause) = IsOver (plain_of g) MAX_STATES × (cause ≡ Refused too_many_states)
+
+-- ---- its table
+
+-- a run on the table never ends, and this is the cause for the first that does not
+pub record LoopsFirst (mode : Mode) (g : Grammar) (a : Automaton) (cause : Cause) : Type 0 where
+  pub found : TableData
+  pub table : IsTableOf g a mode found
+  pub below : Option ℕ
+  pub state : ℕ
+  pub look : Option ℕ
+  pub loops : LoopsAt found below state look
+  pub cause_is : cause ≡ Refused (loops_line (token_names g) below state look)
+
+-- the automaton with its table, on which every run ends, and the list of its conflicts
+pub record AreTabled (mode : Mode) (g : Grammar) (a : Automaton) (tabled : Tabled) : Type 0 where
+  pub automaton : tabled.automaton ≡ a
+  pub table : IsTableOf g a mode tabled.halting
+  pub conflicts : AreConflicts g a tabled.conflicts
+  pub halts : Halts tabled.halting
+
+abbrev pub IsResolvedStage : Mode → Grammar → Automaton → Staged Tabled → Type 0
+IsResolvedStage mode g a (Go tabled) = AreTabled mode g a tabled
+IsResolvedStage mode g a (Halt cause) = LoopsFirst mode g a cause
+
+abbrev pub IsTableStage : Source → Grammar → Staged Tabled → Type 0
+IsTableStage source g s = Then (IsAutomatonStage source g) (IsResolvedStage (mode_of source) g) s

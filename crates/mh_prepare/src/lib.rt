@@ -1,0 +1,12 @@
+//! All that comes before the warnings: from words and files to a table.
+#![tactic(auto)]
+
+mod files;
+mod grammar;
+mod order;
+mod prepared;
+mod tabled;
+
+pub use files::{FILE_LIMIT, Spelling, read_file};
+pub use prepared::{Front, Prepared, PreparedWith, front_of, prepare, source_of};
+pub use tabled::{Source, Tabled, TabledWith};

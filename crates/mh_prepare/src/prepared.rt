@@ -1,0 +1,96 @@
+//! All that comes before the warnings, one step after the other. Nothing is written, and nothing of the input is taken.
+ghost use Rattle.std.specs.Prelude.{◌≡◌, ◌≤◌, ◌*◌, List, ℕ, length, map, string_bytes, IfOk};
+ghost use Rattle.mh_grammar.specs.Costs.{HaveCosts};
+ghost use Rattle.mh_grammar.specs.Plain.{plain_of, IsInRange};
+ghost use Rattle.mh_drive.specs.Causes.{Go};
+ghost use Rattle.mh_prepare.specs.Order.{order_of};
+ghost use Rattle.mh_prepare.specs.Prepared.{IsFit};
+ghost use Rattle.mh_prepare.specs.Turns.{AsksForGrammars, IsGrammarTurn};
+ghost use Rattle.mh_drive.specs.Stages.{FilesGive, ShelfCounts, StageHas};
+ghost use Rattle.mh_prepare.specs.TableStage.{source_of as source_in};
+ghost use Rattle.mh_prepare.specs.Preparing.{IsFront, IsTabledFront};
+
+use crate::files::{GrammarFiles, read_files};
+use crate::grammar::grammar_in;
+use crate::order::order_in;
+use crate::tabled::{Source, TabledWith, table_of};
+use mh_drive::Stop;
+use mh_grammar::Grammar;
+use mh_opts::Order;
+use mh_outside::Shelf;
+use mh_sets::TokenSet;
+use std::alloc::Global;
+
+/// The order that the words spell, and the grammar of its files.
+#[derive(Drop)]
+pub struct Front {
+    pub order: Order,
+    pub grammar: Grammar,
+}
+
+/// And its table.
+#[derive(Drop)]
+pub struct PreparedWith<L> {
+    pub order: Order,
+    pub grammar: Grammar,
+    pub tabled: TabledWith<L>,
+}
+
+/// One whose sets of tokens have a width.
+pub type Prepared<const W: usize> = PreparedWith<TokenSet<W>>;
+
+/// The order and the grammar of its files: the words, the files, and the grammar that their modules give.
+pub fn front_of<F: Shelf>(alloc: Global, words: &[String], shelf: &mut F) -> Result<Front, Stop>
+    requires asked { AsksForGrammars (map string_bytes words.now) (F.MayAsk shelf.old) }
+    ensures front { FilesGive (IsFront (map string_bytes words.now) (F.files shelf.old))
+        (IsGrammarTurn (map string_bytes words.now) (F.files shelf.old)) result }
+    ensures order { IfOk result (λ front. order_of (map string_bytes words.now) ≡ Go front.order) }
+    ensures range { IfOk result (λ front. IsInRange (plain_of front.grammar)) }
+    ensures costs { IfOk result (λ front. HaveCosts front.grammar.tokens) }
+    ensures tokens { IfOk result (λ front. length front.grammar.tokens ≤ 512) }
+    ensures may_still { IfOk result (λ _. (other : List ℕ) → F.MayAsk shelf.old other → F.MayAsk shelf.new other) }
+    ensures kept { F.files shelf.new ≡ F.files shelf.old }
+    ensures counts { ShelfCounts (F.faults shelf.old) (F.faults shelf.new) result }
+{
+    let order = match order_in(alloc, words) {
+        Ok(order) => order,
+        Err(stop) => return Err(stop),
+    };
+    let modules = match read_files(alloc, shelf, &GrammarFiles, order.grammars.as_slice()) {
+        Ok(modules) => modules,
+        Err(stop) => return Err(stop),
+    };
+    match grammar_in(alloc, modules, order.stdlib) {
+        Ok(grammar) => Ok(Front { order, grammar }),
+        Err(stop) => Err(stop),
+    }
+}
+
+/// Where the automaton of an order comes from.
+pub fn source_of(order: &Order) -> Source
+    ensures { result ≡ source_in order.now }
+{
+    let _order = order;
+    Source::Canonical
+}
+
+/// The table of an order's grammar.
+pub fn prepare<const W: usize>(alloc: Global, front: Front) -> Result<Prepared<W>, Stop>
+    requires few { W ≤ 8 }
+    requires width { length front.grammar.tokens ≤ 64 * W }
+    requires range { IsInRange (plain_of front.grammar) }
+    requires costs { HaveCosts front.grammar.tokens }
+    ensures prepared { StageHas (IsTabledFront front) result }
+    ensures order { IfOk result (λ prepared. prepared.order ≡ front.order) }
+    ensures fit { IfOk result (λ prepared. IsFit prepared) }
+{
+    let Front { order, grammar } = front;
+    match table_of(alloc, source_of(&order), &grammar) {
+        Ok(tabled) => Ok(PreparedWith {
+            order,
+            grammar,
+            tabled,
+        }),
+        Err(stop) => Err(stop),
+    }
+}

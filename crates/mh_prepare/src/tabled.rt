@@ -1,0 +1,165 @@
+//! The automaton of a grammar with its table, where every run on it ends, and the list of its conflicts.
+ghost use Rattle.std.specs.Prelude.{◌≡◌, ◌<◌, ◌≤◌, ◌*◌, length, IfOk, string_bytes, MatchOption, ⊤};
+ghost use Rattle.mh_grammar.specs.Costs.{HaveCosts};
+ghost use Rattle.mh_grammar.specs.Plain.{plain_of, IsInRange};
+ghost use Rattle.mh_items.specs.Automaton.{IsAutomaton};
+ghost use Rattle.mh_prepare.specs.TableStage.{IsAutomatonStage, IsResolvedStage, IsTableStage, mode_of};
+ghost use Rattle.mh_prepare.specs.Texts.{loop_place, look_text, loops_line, too_many_states as too_many_states_line};
+ghost use Rattle.mh_drive.specs.Stages.{Halts, StageHas};
+ghost use Rattle.mh_msgfile.specs.Sentences.{token_names};
+ghost use Rattle.mh_drive.specs.declared.stop.Cause.TheVariants.{Refused};
+
+use mh_canon::canonical;
+use mh_drive::{Stop, refused};
+use mh_grammar::{Grammar, Sequence, Token};
+use mh_items::{Automaton, AutomatonWith, StatesFault};
+use mh_resolve::{Conflict, Mode, resolve};
+use mh_sets::TokenSet;
+use mh_tables::{HaltFault, Halting, check_halts};
+use std::alloc::{AllocError, Global};
+
+/// Where the automaton comes from.
+#[derive(Clone, Copy, Debug, PartialEq, Eq)]
+pub enum Source {
+    /// It is the canonical one of the grammar.
+    Canonical,
+}
+
+impl Source {
+    /// The mode of its table.
+    pub fn mode(self) -> Mode
+        ensures { result ≡ mode_of self }
+    {
+        match self {
+            Source::Canonical => Mode::Canonical,
+        }
+    }
+}
+
+/// The automaton of a grammar, its table, and the list of its conflicts.
+#[derive(Drop)]
+pub struct TabledWith<L> {
+    pub automaton: AutomatonWith<L>,
+    pub halting: Halting,
+    pub conflicts: Sequence<Conflict>,
+}
+
+/// One whose sets of tokens have a width.
+pub type Tabled<const W: usize> = TabledWith<TokenSet<W>>;
+
+fn too_many_states(alloc: Global) -> Stop
+    ensures { Halts (Refused too_many_states_line) result }
+{
+    refused(alloc, b"menhir: too many states\n", b"", b"")
+}
+
+/// The automaton of a grammar.
+fn automaton_of<const W: usize>(
+    alloc: Global,
+    source: Source,
+    grammar: &Grammar,
+) -> Result<Automaton<W>, Stop>
+    requires few { W ≤ 8 }
+    requires width { length grammar.now.tokens ≤ 64 * W }
+    requires range { IsInRange (plain_of grammar.now) }
+    ensures stage { StageHas (IsAutomatonStage source grammar.now) result }
+    ensures automaton { IfOk result (λ automaton. IsAutomaton (plain_of grammar.now) automaton) }
+{
+    match source {
+        Source::Canonical => match canonical(alloc, grammar) {
+            Ok(automaton) => Ok(automaton),
+            Err(StatesFault::TooManyStates) => Err(too_many_states(alloc)),
+            Err(StatesFault::Memory) => Err(Stop::OutOfMemory),
+        },
+    }
+}
+
+/// The name of the next token, where there is one.
+fn look_name(grammar: &Grammar, token: Option<Token>) -> &[u8]
+    requires { MatchOption token ⊤ (λ token. token < length grammar.now.tokens) }
+    ensures { result.now ≡ look_text (token_names grammar.now) token }
+{
+    match token {
+        Some(token) => grammar.tokens[usize::from(token)].name.as_slice(),
+        None => b"no token",
+    }
+}
+
+/// The state of a relative run, alone or above another.
+fn place_of(alloc: Global, below: Option<u32>, state: u32) -> Result<String, AllocError>
+    ensures { IfOk result (λ text. string_bytes text ≡ loop_place below state) }
+{
+    match below {
+        None => format!(in alloc; "menhir: loops: state {state} on "),
+        Some(below) => format!(in alloc; "menhir: loops: state {state} above state {below} on "),
+    }
+}
+
+fn loops(
+    alloc: Global,
+    grammar: &Grammar,
+    below: Option<u32>,
+    state: u32,
+    token: Option<Token>,
+) -> Stop
+    requires { MatchOption token ⊤ (λ token. token < length grammar.now.tokens) }
+    ensures { Halts (Refused (loops_line (token_names grammar.now) below state token)) result }
+{
+    match place_of(alloc, below, state) {
+        Ok(place) => refused(alloc, place.as_bytes(), look_name(grammar, token), b"\n"),
+        Err(_) => Stop::OutOfMemory,
+    }
+}
+
+/// The automaton with its table, where every run on it ends.
+fn with_table<const W: usize>(
+    alloc: Global,
+    mode: Mode,
+    grammar: &Grammar,
+    automaton: Automaton<W>,
+) -> Result<Tabled<W>, Stop>
+    requires few { W ≤ 8 }
+    requires width { length grammar.now.tokens ≤ 64 * W }
+    requires range { IsInRange (plain_of grammar.now) }
+    requires costs { HaveCosts grammar.now.tokens }
+    requires automaton { IsAutomaton (plain_of grammar.now) automaton }
+    ensures { StageHas (IsResolvedStage mode grammar.now automaton.entry) result }
+{
+    let (table, conflicts) = resolve(alloc, grammar, &automaton, mode)?;
+    match check_halts(alloc, table) {
+        Ok(halting) => Ok(TabledWith {
+            automaton,
+            halting,
+            conflicts: Sequence::from_vec(conflicts),
+        }),
+        Err(
+            HaltFault::Loops {
+                below,
+                state,
+                token,
+            },
+        ) => Err(loops(alloc, grammar, below, state, token)),
+        Err(HaltFault::Memory) => Err(Stop::OutOfMemory),
+    }
+}
+
+/// The automaton of a grammar with its table and its conflicts. It halts with the first of these: the automaton has too
+/// many states; a run on the table never ends.
+pub(crate) fn table_of<const W: usize>(
+    alloc: Global,
+    source: Source,
+    grammar: &Grammar,
+) -> Result<Tabled<W>, Stop>
+    requires few { W ≤ 8 }
+    requires width { length grammar.now.tokens ≤ 64 * W }
+    requires range { IsInRange (plain_of grammar.now) }
+    requires costs { HaveCosts grammar.now.tokens }
+    ensures stage { StageHas (IsTableStage source grammar.now) result }
+    ensures automaton { IfOk result (λ tabled.
+        IsAutomaton (plain_of grammar.now) tabled.automaton) }
+{
+    match automaton_of(alloc, source, grammar) {
+        Ok(automaton) => with_table(alloc, source.mode(), grammar, automaton),
+        Err(stop) => Err(stop),
+    }
+}
