@@ -1,0 +1,97 @@
+-- The list of the code while the steps are made.
+use Rattle.std.proofs.Common.{◌≡◌, ◌+◌, ◌<◌, ◌≤◌, ℕ, zero, suc, List, [], ◌∷◌, ◌++◌, Some, replicate, length, refl, sym, ap, ◌∙◌, subst, arith, inl, inr}
+use Rattle.std.specs.List.{slice_get, range_with_len, Contains}
+use Rattle.std.proofs.lemmas.Bool.{cases_lt}
+use Rattle.std.proofs.lemmas.List.{length_push, replicate-append-replicate}
+use Rattle.std.proofs.lemmas.List.FromFn.{length-range_with_len}
+use Rattle.std.proofs.lemmas.Option.{slice_get_within}
+use Rattle.mh_grammar.specs.declared.edges.Edge.{Edge}
+use Rattle.mh_grammar.specs.Plain.{PlainGrammar, IsInRange}
+use Rattle.mh_grammar.proofs.Lists.{get_left, get_last, at_contains}
+use Rattle.mh_items.specs.Shapes.{Kernel}
+use Rattle.mh_items.specs.Automaton.{start_kernel}
+use Rattle.mh_canon.specs.declared.collection.TheConstants.{MAX_STATES}
+use Rattle.mh_pager.specs.Steps.{Work, IsStep, Steps, none, more, IsBegun, AreBegun, IsList, IsReady, Overruns, IsSwollen, start_numbers}
+use Rattle.mh_pager.proofs.Readying.{step_ready}
+use Rattle.mh_pager.proofs.Sound.{begun_running, start_numbers_at}
+use Rattle.mh_pager.proofs.Weights.{weight, step_weight}
+
+-- from so many start kernels to the first list
+pub begun_of : (g : PlainGrammar) (w : Work) → AreBegun (length g.starts) w → IsBegun g w
+begun_of g w b = record { kernels = b.kernels; rows = b.rows; queue = b.queue }
+
+pub IsList-start : (g : PlainGrammar) (w : Work) → AreBegun (length g.starts) w → IsList g w
+IsList-start g w b = record { first = w; begun = begun_of g w b; steps = none }
+
+pub few_starts : (g : PlainGrammar) (w : Work) → IsInRange g → AreBegun (length g.starts) w → length w.kernels ≤ MAX_STATES
+few_starts g w r b = let few = r.few_starts in let len = b.kernels.len in omega arith
+
+begun_ready : (g : PlainGrammar) (w : Work) → IsBegun g w → IsReady g w
+begun_ready g w b =
+    let r = begun_running g w b in
+    record {
+      valid = λ n k at. (r.sound.each n k at).valid;
+      len = r.len;
+      queued = λ n c.
+          let at = at_contains (start_numbers g) n (subst (λ (q : List ℕ). Contains q n) b.queue c) in
+          rw b.kernels.len (within n at.0 at.1);
+    }
+  where
+    within : (n i : ℕ) → slice_get (start_numbers g) i ≡ Some n → n < length g.starts
+    within n i e =
+        let l : i < length g.starts = rw (← length-range_with_len 0 (length g.starts)) (slice_get_within (start_numbers g) i n e) in
+        let one : Some n ≡ Some i = sym e ∙ start_numbers_at g i l in
+        let same : n ≡ i = cc in
+        omega arith
+
+steps_ready : (g : PlainGrammar) (first last : Work) → IsBegun g first → Steps g first last → IsReady g last
+steps_ready g first last b none = begun_ready g first b
+steps_ready g first last b (more {old} s step) = step_ready g old last step (steps_ready g first old b s)
+
+pub of_list : (g : PlainGrammar) (w : Work) → IsList g w → IsReady g w
+of_list g w l = steps_ready g l.first w l.begun l.steps
+
+abbrev with_queue : Work → List ℕ → Work
+with_queue w queue = record { kernels = w.kernels; rows = w.rows; queue = queue }
+
+module _ (g : PlainGrammar) (old : Work) where
+  module _ (new : Work) (state : ℕ) (rest : List ℕ) (e : old.queue ≡ state ∷ rest) where
+    pub IsList-step : IsList g old → IsStep g (with_queue old (state ∷ rest)) new → IsList g new
+    IsList-step l s =
+        let step : IsStep g old new = subst (λ (q : List ℕ). IsStep g (with_queue old q) new) (sym e) s in
+        record { first = l.first; begun = l.begun; steps = more l.steps step }
+
+  pub list_ready : (state : ℕ) (rest : List ℕ) (e : old.queue ≡ state ∷ rest) → IsList g old → IsReady g (with_queue old (state ∷ rest))
+  list_ready state rest e l = subst (λ (q : List ℕ). IsReady g (with_queue old q)) e (of_list g old l)
+
+  pub list_over : (limit state : ℕ) (rest : List ℕ) (e : old.queue ≡ state ∷ rest) → IsList g old → Overruns g limit (with_queue old (state ∷ rest)) → IsSwollen g limit
+  list_over limit state rest e l o = record { first = l.first; old = old; begun = l.begun; steps = l.steps; overruns = subst (λ (q : List ℕ). Overruns g limit (with_queue old q)) (sym e) o }
+
+pub list_weight : (g : PlainGrammar) (limit : ℕ) (old new : Work) (state : ℕ) (rest : List ℕ) → old.queue ≡ state ∷ rest → IsStep g (with_queue old (state ∷ rest)) new → length new.kernels ≤ limit → weight g limit new < weight g limit old
+list_weight g limit old new state rest e s few = subst (λ (q : List ℕ). weight g limit new < weight g limit (with_queue old q)) (sym e) (step_weight g limit (with_queue old (state ∷ rest)) new s few)
+
+pub AreBegun-none : AreBegun 0 (record { kernels = []; rows = []; queue = [] })
+AreBegun-none = record { kernels = record { len = refl; each = λ i l. absurd (omega arith) }; rows = refl; queue = refl }
+
+replicate_push : (n : ℕ) (x : List Edge) → replicate n x ++ x ∷ [] ≡ replicate (n + 1) x
+replicate_push n x = replicate-append-replicate n 1 x
+
+range_longer : (a n m : ℕ) → a + n ≡ m → range_with_len a n ++ m ∷ [] ≡ range_with_len a (suc n)
+range_longer a zero m e = let same : m ≡ a = omega arith in ap (λ x. x ∷ []) same
+range_longer a (suc n) m e = ap (λ xs. a ∷ xs) (range_longer (a + 1) n m (omega arith))
+
+pub range_push : (n : ℕ) → range_with_len 0 n ++ n ∷ [] ≡ range_with_len 0 (n + 1)
+range_push n = let e : suc n ≡ n + 1 = omega arith in range_longer 0 n n (omega arith) ∙ ap (range_with_len 0) e
+
+pub AreBegun-push : (n : ℕ) (old new : Work) (k : Kernel) → AreBegun n old → k ≡ start_kernel n → new.kernels ≡ old.kernels ++ k ∷ [] → new.rows ≡ old.rows ++ [] ∷ [] → new.queue ≡ old.queue ++ n ∷ [] → AreBegun (n + 1) new
+AreBegun-push n old new k b is kernels rows queue = record {
+  kernels = record {
+    len = ap length kernels ∙ length_push old.kernels k ∙ ap (λ m. m + 1) b.kernels.len;
+    each = λ i l. elim (cases_lt i n) [
+      | inl m ↦ rw kernels (get_left old.kernels (k ∷ []) i (start_kernel i) (b.kernels.each i m))
+      | inr m ↦ (let e : i ≡ n = omega arith in rw (kernels, e) (get_last old.kernels k n (sym b.kernels.len) ∙ ap Some is))
+    ];
+  };
+  rows = rows ∙ ap (λ (rs : List (List Edge)). rs ++ [] ∷ []) b.rows ∙ replicate_push n [];
+  queue = queue ∙ ap (λ (q : List ℕ). q ++ n ∷ []) b.queue ∙ range_push n;
+}

@@ -1,0 +1,19 @@
+use Rattle.std.proofs.Common.{◌≤◌, length}
+use Rattle.mh_grammar.specs.Plain.{plain_of}
+use Rattle.mh_canon.specs.declared.collection.TheConstants.{MAX_STATES}
+use Rattle.mh_pager.specs.Listing.{work_of, IsKept}
+use Rattle.mh_pager.specs.Steps.{IsList}
+use Rattle.mh_moves.specs.Mover.{IsMover}
+use Rattle.mh_pager.proofs.Weights.{weight}
+use Rattle.mh_pager.proofs.listed.listed.Given as goal
+
+abbrev pub invariant-steps : goal.invariant-steps
+invariant-steps g l = record {
+  list : IsList (plain_of l.grammar) (work_of l.listing);
+  few : length l.listing.kernels.items ≤ MAX_STATES;
+  kept : IsKept l.listing;
+  mover : IsMover (plain_of l.grammar) l.mover;
+}
+
+abbrev pub decreases-steps : goal.decreases-steps
+decreases-steps g l = weight (plain_of l.grammar) MAX_STATES (work_of l.listing)

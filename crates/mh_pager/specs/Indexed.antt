@@ -1,0 +1,46 @@
+-- An index of the list by core: the states of each core, rising. Only these can keep or take a move of that core.
+use Rattle.std.specs.Prelude.{◌≡◌, ◌<◌, ℕ, List, [], Some, length, map, slice_get}
+use Rattle.std.specs.List.{All, Contains}
+use Rattle.mh_grammar.specs.Edges.{IsRising}
+use Rattle.mh_grammar.specs.Numbering.{AreDistinct}
+use Rattle.mh_items.specs.Shapes.{KernelItem}
+use Rattle.mh_items.specs.Shapes.{Kernel}
+
+-- an item without its looks
+abbrev pub bare : KernelItem → KernelItem
+bare x = record { production = x.production; dot = x.dot; looks = [] }
+
+abbrev pub core_of : Kernel → Kernel
+core_of k = record { items = map bare k.items }
+
+abbrev pub IsBefore : ℕ → ℕ → Type 0
+IsBefore m n = m < n
+
+-- the states that have the core of a move, rising
+pub record AreCandidates (kernels : List Kernel) (move : Kernel) (candidates : List ℕ) : Type 0 where
+  pub rising : IsRising IsBefore candidates
+  pub within : All (λ n. n < length kernels) candidates
+  pub all : (n : ℕ) (k : Kernel) → slice_get kernels n ≡ Some k → core_of k ≡ core_of move → Contains candidates n
+  pub only : (n : ℕ) (k : Kernel) → Contains candidates n → slice_get kernels n ≡ Some k → core_of k ≡ core_of move
+
+-- where a state stands in the index
+pub record Stands (cores : List Kernel) (groups : List (List ℕ)) (k : Kernel) (n : ℕ) : Type 0 where
+  pub core : ℕ
+  pub group : List ℕ
+  pub at : slice_get cores core ≡ Some (core_of k)
+  pub of_core : slice_get groups core ≡ Some group
+  pub has : Contains group n
+
+pub record IsIndexed (kernels cores : List Kernel) (groups : List (List ℕ)) : Type 0 where
+  pub len : length groups ≡ length cores
+  pub distinct : AreDistinct cores
+  pub rising : (c : ℕ) (group : List ℕ) → slice_get groups c ≡ Some group → IsRising IsBefore group
+  pub within : (c : ℕ) (group : List ℕ) → slice_get groups c ≡ Some group → All (λ n. n < length kernels) group
+  pub all : (n : ℕ) (k : Kernel) → slice_get kernels n ≡ Some k → Stands cores groups k n
+  pub only : (c n : ℕ) (group : List ℕ) (k : Kernel) → slice_get groups c ≡ Some group → Contains group n → slice_get kernels n ≡ Some k → slice_get cores c ≡ Some (core_of k)
+
+-- the states of a core stand at a place of the index
+pub record IsGroup (cores : List Kernel) (groups : List (List ℕ)) (core : Kernel) (c : ℕ) : Type 0 where
+  pub group : List ℕ
+  pub at : slice_get cores c ≡ Some core
+  pub of : slice_get groups c ≡ Some group

@@ -1,0 +1,78 @@
+//! The state that a move goes to.
+ghost use Rattle.std.specs.Prelude.{◌≡◌, ◌<◌, ◌≤◌, ◌↔◌, ℕ, Some, slice_get, IsTrue, MatchOption};
+ghost use Rattle.mh_grammar.specs.Plain.{PlainGrammar, plain_of};
+ghost use Rattle.mh_items.specs.Shapes.{Kernel as KernelOf};
+ghost use Rattle.mh_items.specs.Kernels.{Holds, IsKernel};
+ghost use Rattle.mh_pager.specs.Indexed.{AreCandidates};
+ghost use Rattle.mh_pager.specs.Weak.{OneCore, Covers, AreCompatible};
+ghost use Rattle.mh_pager.specs.Steps.{Keeps, Takes, IsFirst, HasNone};
+
+use crate::compatible::{are_compatible, are_within};
+use mh_grammar::Grammar;
+use mh_items::Kernel;
+
+/// Whether two kernels of one core are weakly compatible (Pager 1977): at any two places that differ, no look of one
+/// kernel's stands at the other place of the other kernel, or one of the kernels has a look at both places.
+pub fn weakly_compatible<const W: usize>(left: &Kernel<W>, right: &Kernel<W>) -> bool
+    requires few { W ≤ 8 }
+    requires kernels { (g : PlainGrammar) × IsKernel g left.now × IsKernel g right.now }
+    requires core { OneCore (Holds left.now) (Holds right.now) }
+    ensures { IsTrue result ↔ AreCompatible (Holds left.now) (Holds right.now) }
+{
+    are_compatible(left.items.as_slice(), right.items.as_slice())
+}
+
+/// Whether a state contains the looks of a move of its core.
+fn covers<const W: usize>(grammar: &Grammar, state: &Kernel<W>, kernel: &Kernel<W>) -> bool
+    requires few { W ≤ 8 }
+    requires state { IsKernel (plain_of grammar.now) state.now }
+    requires kernel { IsKernel (plain_of grammar.now) kernel.now }
+    requires core { OneCore (Holds state.now) (Holds kernel.now) }
+    ensures { IsTrue result ↔ Covers (Holds state.now) (Holds kernel.now) }
+{
+    let _grammar = grammar;
+    are_within(kernel.items.as_slice(), state.items.as_slice())
+}
+
+/// The first state that keeps a move, among those of its core.
+pub(crate) fn first_keeping<const W: usize>(
+    grammar: &Grammar,
+    kernels: &[Kernel<W>],
+    states: &[u32],
+    kernel: &Kernel<W>,
+) -> Option<u32>
+    requires few { W ≤ 8 }
+    requires kernels { (n : ℕ) (k : KernelOf) → slice_get kernels.now n ≡ Some k → IsKernel (plain_of grammar.now) k }
+    requires kernel { IsKernel (plain_of grammar.now) kernel.now }
+    requires states { AreCandidates kernels.now kernel.now states.now }
+    ensures { MatchOption result (HasNone (Keeps kernel.now) kernels.now) (λ n. (k : KernelOf) × IsFirst (Keeps kernel.now) kernels.now n k) }
+{
+    for state in states {
+        if covers(grammar, &kernels[*state as usize], kernel) {
+            return Some(*state);
+        }
+    }
+    None
+}
+
+/// The first state that takes a move, among those of its core.
+pub(crate) fn first_taking<const W: usize>(
+    grammar: &Grammar,
+    kernels: &[Kernel<W>],
+    states: &[u32],
+    kernel: &Kernel<W>,
+) -> Option<u32>
+    requires few { W ≤ 8 }
+    requires kernels { (n : ℕ) (k : KernelOf) → slice_get kernels.now n ≡ Some k → IsKernel (plain_of grammar.now) k }
+    requires kernel { IsKernel (plain_of grammar.now) kernel.now }
+    requires states { AreCandidates kernels.now kernel.now states.now }
+    ensures { MatchOption result (HasNone (Takes kernel.now) kernels.now) (λ n. (k : KernelOf) × IsFirst (Takes kernel.now) kernels.now n k) }
+{
+    let _grammar = grammar;
+    for candidate in states {
+        if weakly_compatible(&kernels[*candidate as usize], kernel) {
+            return Some(*candidate);
+        }
+    }
+    None
+}

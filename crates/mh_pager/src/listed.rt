@@ -1,0 +1,52 @@
+//! All steps.
+ghost use Rattle.std.specs.Prelude.{◌≡◌, ◌<◌, ◌≤◌, ◌*◌, [], ℕ, length, Err, IfOk, OnOk};
+ghost use Rattle.mh_grammar.specs.Plain.{plain_of, IsInRange};
+ghost use Rattle.mh_pager.specs.Listing.{work_of, IsKept};
+ghost use Rattle.mh_pager.specs.Steps.{AreBegun, IsList, IsSwollen};
+
+use crate::listing::{Listing, empty, push_start};
+use crate::stepping::step;
+use mh_canon::MAX_STATES;
+use mh_grammar::{Grammar, Memory};
+use mh_items::{StatesFault, start_kernel};
+use mh_moves::Mover;
+use std::alloc::Global;
+
+/// Makes steps until no state waits.
+pub(crate) fn listed<const W: usize>(
+    alloc: Global,
+    grammar: &Grammar,
+) -> Result<Listing<W>, StatesFault>
+    requires few { W ≤ 8 }
+    requires width { length grammar.now.tokens ≤ 64 * W }
+    requires range { IsInRange (plain_of grammar.now) }
+    ensures ok { IfOk result (λ l. IsList (plain_of grammar.now) (work_of l)) }
+    ensures done { IfOk result (λ l. l.queue.states.items ≡ []) }
+    ensures few { IfOk result (λ l. length l.kernels.items ≤ MAX_STATES) }
+    ensures over { result ≡ Err StatesFault.TooManyStates → IsSwollen (plain_of grammar.now) MAX_STATES }
+{
+    let mut mover = Mover::new(alloc, grammar)?;
+    let mut listing = begun(alloc, grammar)?;
+    'steps: while let Some(state) = listing.queue.take_oldest() {
+        match step(alloc, grammar, &mut mover, &mut listing, state) {
+            Ok(()) => {}
+            Err(fault) => return Err(fault),
+        }
+    }
+    Ok(listing)
+}
+
+/// The start kernels, all queued.
+fn begun<const W: usize>(alloc: Global, grammar: &Grammar) -> Result<Listing<W>, Memory>
+    requires few { W ≤ 8 }
+    requires range { IsInRange (plain_of grammar.now) }
+    ensures begun { IfOk result (λ l. AreBegun (length grammar.now.starts) (work_of l)) }
+    ensures kept { IfOk result IsKept }
+{
+    let mut listing = empty(alloc);
+    for start in 0..grammar.starts.len() {
+        let kernel = start_kernel(alloc, grammar, start as u16)?;
+        push_start(alloc, &mut listing, kernel)?;
+    }
+    Ok(listing)
+}

@@ -1,0 +1,63 @@
+//! The merged automaton.
+ghost use Rattle.std.specs.Prelude.{◌≡◌, ◌↔◌, ◌≤◌, ◌*◌, [], length, Err, IfOk};
+ghost use Rattle.mh_grammar.specs.Plain.{plain_of, IsInRange};
+ghost use Rattle.mh_items.specs.Shapes.{Automaton as AutomatonOf};
+ghost use Rattle.mh_items.specs.Automaton.{IsAutomaton};
+ghost use Rattle.mh_canon.specs.Canonical.{IsCanonical};
+ghost use Rattle.mh_items.specs.Conflicts.{IsConflicting, IsFaulty};
+ghost use Rattle.mh_pager.specs.Paths.{CoversPaths};
+ghost use Rattle.mh_pager.specs.Listing.{work_of};
+ghost use Rattle.mh_pager.specs.Steps.{IsList, IsMerged, IsSwollen};
+
+use crate::listed::listed;
+use crate::listing::Listing;
+use crate::numbering::{picked, reached};
+use mh_canon::MAX_STATES;
+use mh_grammar::{Grammar, Memory, Sequence};
+use mh_items::{Automaton, StatesFault};
+use std::alloc::Global;
+
+/// Pager's merged automaton of a grammar (Pager 1977). `TooManyStates` comes exactly where the list of its steps comes to
+/// hold more than `MAX_STATES` states; `Memory` may come at any grammar.
+pub fn merged<const W: usize>(alloc: Global, grammar: &Grammar) -> Result<Automaton<W>, StatesFault>
+    requires small { W ≤ 8 }
+    requires width { length grammar.now.tokens ≤ 64 * W }
+    requires range { IsInRange (plain_of grammar.now) }
+    ensures ok { IfOk result (IsMerged (plain_of grammar.now)) }
+    ensures few { IfOk result (λ a. length a.kernels ≤ MAX_STATES) }
+    ensures exact { IfOk result (λ _. IsSwollen (plain_of grammar.now) MAX_STATES → ⊥) }
+    ensures over { result ≡ Err StatesFault.TooManyStates → IsSwollen (plain_of grammar.now) MAX_STATES }
+    ensures automaton { IfOk result (IsAutomaton (plain_of grammar.now)) }
+    // Each path of the canonical automaton is one of it, whose states contain its looks.
+    ensures paths { IfOk result (CoversPaths (plain_of grammar.now)) }
+    // Merging adds no conflict.
+    ensures clashes { IfOk result (λ a. (c : AutomatonOf) → IsCanonical (plain_of grammar.now) c → IsConflicting (plain_of grammar.now) a ↔ IsConflicting (plain_of grammar.now) c) }
+    ensures faults { IfOk result (λ a. (c : AutomatonOf) → IsCanonical (plain_of grammar.now) c → IsFaulty (plain_of grammar.now) a ↔ IsFaulty (plain_of grammar.now) c) }
+{
+    match listed(alloc, grammar) {
+        Ok(listing) => Ok(numbered(alloc, grammar, &listing)?),
+        Err(fault) => Err(fault),
+    }
+}
+
+/// The states of a list that the starts reach.
+fn numbered<const W: usize>(
+    alloc: Global,
+    grammar: &Grammar,
+    listing: &Listing<W>,
+) -> Result<Automaton<W>, Memory>
+    requires small { W ≤ 8 }
+    requires range { IsInRange (plain_of grammar.now) }
+    requires list { IsList (plain_of grammar.now) (work_of listing.now) }
+    requires done { listing.now.queue.states.items ≡ [] }
+    requires few { length listing.now.kernels.items ≤ MAX_STATES }
+    ensures ok { IfOk result (IsMerged (plain_of grammar.now)) }
+    ensures few { IfOk result (λ a. length a.kernels ≤ MAX_STATES) }
+{
+    let (states, edges) = reached(alloc, grammar.starts.len(), listing.rows.as_slice())?;
+    let kernels = picked(alloc, listing.kernels.as_slice(), states.as_slice())?;
+    Ok(Automaton {
+        kernels: Sequence::from_vec(kernels),
+        edges: Sequence::from_vec(edges),
+    })
+}

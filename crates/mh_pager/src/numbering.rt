@@ -1,0 +1,114 @@
+//! The states that the starts reach, numbered breadth first.
+ghost use Rattle.std.specs.Prelude.{◌≡◌, ◌<◌, ◌≤◌, ℕ, Some, length, slice_get, IfOk, OnOk};
+ghost use Rattle.std.specs.List.{All, AllZip};
+ghost use Rattle.mh_grammar.specs.Placed.{Placed};
+ghost use Rattle.mh_canon.specs.Canonical.{targets_of};
+ghost use Rattle.mh_pager.specs.Numbered.{AreBelow, IsRenamed, AreReached, AreClosed};
+ghost use Rattle.mh_pager.specs.Steps.{start_numbers};
+ghost use Rattle.std.specs.List.{range_with_len};
+
+use crate::unions::copied;
+use indexmap::IndexSet;
+use mh_canon::MAX_STATES;
+use mh_grammar::{Edge, Memory, Sequence};
+use mh_items::Kernel;
+use std::alloc::{AllocFailed, Global};
+
+/// The states that the starts reach, by their old numbers in the order of the new ones, and their edges.
+pub(crate) fn reached(
+    alloc: Global,
+    starts: usize,
+    rows: &[Sequence<Edge>],
+) -> Result<(IndexSet<u32>, Vec<Sequence<Edge>>), Memory>
+    requires starts { starts ≤ length rows.now }
+    requires few { length rows.now ≤ MAX_STATES }
+    requires closed { AreClosed rows.now }
+    ensures { IfOk result (λ r. AreReached starts rows.now r.0.keys r.1.items) }
+{
+    let mut states = first_states(alloc, starts, rows.len())?;
+    let mut edges = Vec::new(alloc);
+    'states: while edges.len() < states.len() {
+        let state = states.as_slice()[edges.len()];
+        let row = renamed(
+            alloc,
+            rows[state as usize].as_slice(),
+            &mut states,
+            rows.len(),
+        )?;
+        edges.push(row)?;
+    }
+    Ok((states, edges))
+}
+
+/// The numbers of the starts.
+fn first_states(alloc: Global, starts: usize, count: usize) -> Result<IndexSet<u32>, Memory>
+    requires within { starts ≤ count }
+    requires few { count ≤ MAX_STATES }
+    ensures { IfOk result (λ s. s.keys ≡ range_with_len 0 starts) }
+{
+    let mut states = IndexSet::new(alloc);
+    for start in 0..starts {
+        insert(&mut states, start as u32)?;
+    }
+    Ok(states)
+}
+
+/// A row with its targets named anew.
+fn renamed(
+    alloc: Global,
+    row: &[Edge],
+    states: &mut IndexSet<u32>,
+    count: usize,
+) -> Result<Sequence<Edge>, Memory>
+    requires below { AreBelow count states.old.keys }
+    requires few { count ≤ MAX_STATES }
+    requires targets { All (λ t. t < count) (targets_of row.now) }
+    ensures { IfOk result (λ new. IsRenamed row.now new states.old.keys states.new.keys) }
+{
+    let mut new = Sequence::new(alloc);
+    for edge in row {
+        let target = place(states, edge.target, count)?;
+        new.push(Edge {
+            symbol: edge.symbol,
+            target,
+        })?;
+    }
+    Ok(new)
+}
+
+/// The new number of a state; a new one is put behind the others.
+fn place(states: &mut IndexSet<u32>, state: u32, count: usize) -> Result<u32, Memory>
+    requires below { AreBelow count states.old.keys }
+    requires few { count ≤ MAX_STATES }
+    requires state { state < count }
+    ensures { IfOk result (Placed states.old.keys states.new.keys state) }
+{
+    let _count = count;
+    let at = insert(states, state)?;
+    Ok(at as u32)
+}
+
+fn insert(states: &mut IndexSet<u32>, state: u32) -> Result<usize, AllocFailed<u32>>
+    ensures { IfOk result (Placed states.old.keys states.new.keys state) }
+{
+    let (at, _) = states.insert_full(state)?;
+    Ok(at)
+}
+
+/// The kernels of states.
+pub(crate) fn picked<const W: usize>(
+    alloc: Global,
+    kernels: &[Kernel<W>],
+    states: &[u32],
+) -> Result<Vec<Kernel<W>>, Memory>
+    requires small { W ≤ 8 }
+    requires within { All (λ n. n < length kernels.now) states.now }
+    ensures { IfOk result (λ v. AllZip (λ n k. slice_get kernels.now n ≡ Some k) states.now v.items) }
+{
+    let mut all = Vec::new(alloc);
+    for state in states {
+        let kernel = copied(alloc, &kernels[*state as usize])?;
+        all.push(kernel)?;
+    }
+    Ok(all)
+}
