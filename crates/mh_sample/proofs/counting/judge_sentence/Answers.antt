@@ -1,0 +1,11 @@
+use Rattle.std.proofs.Common.{◌≡◌, ◌++◌, ℕ, List, length, ap, arith, ◌∙◌}
+use Rattle.mh_sample.specs.Texts.{sentence_text}
+use Rattle.mh_sample.proofs.Fronts.{sentence_short}
+use Rattle.mh_sample.proofs.counting.judge_sentence.Goals as goal
+
+pub judge_line-requires-clause-short : goal.judge_line-requires-clause-short
+judge_line-requires-clause-short c =
+    let short = sentence_short c.args.operators c.args.sentence c.requires.some c.requires.few in
+    let text : c.as_slice.result.now ≡ sentence_text c.args.operators c.args.sentence =
+    c.as_slice.ensures.value ∙ c.in_ok-write_sentence.ensures ∙ ap (λ (l : List ℕ). l ++ sentence_text c.args.operators c.args.sentence) c.new-line.ensures.items in
+    omega (arith, ap length text, short)

@@ -1,0 +1,255 @@
+//! What a table makes of the sentences of a sample, counted.
+ghost use Rattle.std.specs.Prelude.{◌≡◌, ◌<◌, ◌≤◌, ◌^◌, ◌∷◌, ◌++◌, [], List, length, map, count_by, decimal, IfOk, OnOk};
+ghost use Rattle.std.specs.List.{All};
+ghost use Rattle.mh_grammar.specs.Plain.{plain_of, IsInRange};
+ghost use Rattle.mh_grammar.specs.declared.types.Sentence.{Sentence as Sentence'};
+ghost use Rattle.mh_run.specs.Verdicts.{ending_for};
+ghost use Rattle.mh_msgfile.specs.Sentences.{vocabulary_in, vocabulary_of, sentence_in};
+ghost use Rattle.mh_sample.specs.Texts.{each_from, operators_of, sentence_text};
+ghost use Rattle.mh_sample.specs.Counts.{HaveEndings, IsSampleLine, SpeaksOf, counts_line as counts_text, endings_text, grammar_sizes, table_sizes, is_accepted, is_overshot, is_rejected, sample_sentences, sentences_of, sentences_at};
+
+use crate::texts::{SENTENCES, operators, write_sentence};
+use mh_grammar::{Grammar, Memory, Sentence};
+use mh_msgfile::{Lexicon, SentenceFault};
+use mh_run::{Verdict, verdict};
+use mh_tables::{Halting, Table};
+use std::alloc::Global;
+
+/// Puts in the verdict of a sentence.
+fn put_verdict(
+    alloc: Global,
+    table: &Halting,
+    sentence: &Sentence,
+    verdicts: &mut Vec<Verdict>,
+) -> Result<(), Memory>
+    requires start { sentence.now.start < length table.now.grammar.starts }
+    requires tokens { All (λ z. z < table.now.grammar.tokens) sentence.now.tokens }
+    requires few { length sentence.now.tokens < 2 ^ 32 }
+    ensures { OnOk result ((done : List Sentence') → HaveEndings table.now done (map ending_for verdicts.old.items) → HaveEndings table.now (done ++ sentence.now ∷ []) (map ending_for verdicts.new.items)) }
+{
+    let verdict = verdict(alloc, table, sentence.start, sentence.tokens.as_slice())?;
+    verdicts.push(verdict)?;
+    Ok(())
+}
+
+/// Puts in the verdict of a line, if it is a sentence.
+fn judge_line(
+    alloc: Global,
+    lexicon: &Lexicon,
+    table: &Halting,
+    line: &[u8],
+    verdicts: &mut Vec<Verdict>,
+) -> Result<(), Memory>
+    requires short { length line.now < 2 ^ 32 }
+    requires speaks { SpeaksOf lexicon.now table.now }
+    ensures { OnOk result ((done : List Sentence') → HaveEndings table.now done (map ending_for verdicts.old.items) → HaveEndings table.now (done ++ sentences_of (sentence_in (vocabulary_in lexicon.now) line.now)) (map ending_for verdicts.new.items)) }
+{
+    match lexicon.read(alloc, line) {
+        Ok(sentence) => put_verdict(alloc, table, &sentence, verdicts),
+        Err(SentenceFault::Memory) => Err(Memory),
+        Err(SentenceFault::Unreadable) => Ok(()),
+        Err(SentenceFault::UnknownStart { .. }) => Ok(()),
+        Err(SentenceFault::MissingStart) => Ok(()),
+        Err(SentenceFault::UnknownToken { .. }) => Ok(()),
+    }
+}
+
+/// Puts in the verdict of a sentence of the sample.
+fn judge_sentence(
+    alloc: Global,
+    lexicon: &Lexicon,
+    table: &Halting,
+    operators: u32,
+    sentence: u32,
+    verdicts: &mut Vec<Verdict>,
+) -> Result<(), Memory>
+    requires some { 0 < operators }
+    requires few { operators < 32 }
+    requires sentence { sentence < 3000 }
+    requires speaks { SpeaksOf lexicon.now table.now }
+    ensures { OnOk result ((done : List Sentence') → HaveEndings table.now done (map ending_for verdicts.old.items) → HaveEndings table.now (done ++ sentences_at (vocabulary_in lexicon.now) operators sentence) (map ending_for verdicts.new.items)) }
+{
+    let mut line = Vec::new(alloc);
+    write_sentence(alloc, &mut line, operators, sentence)?;
+    judge_line(alloc, lexicon, table, line.as_slice(), verdicts)
+}
+
+/// The verdicts of the first sentences of a sample.
+fn judge_sentences(
+    alloc: Global,
+    lexicon: &Lexicon,
+    table: &Halting,
+    operators: u32,
+    count: u32,
+) -> Result<Vec<Verdict>, Memory>
+    requires some { 0 < operators }
+    requires few { operators < 32 }
+    requires count { count ≤ 3000 }
+    requires speaks { SpeaksOf lexicon.now table.now }
+    ensures { IfOk result (λ verdicts. HaveEndings table.now (each_from (sentences_at (vocabulary_in lexicon.now) operators) 0 count) (map ending_for verdicts.items)) }
+{
+    let mut verdicts = Vec::new(alloc);
+    for sentence in 0..count {
+        judge_sentence(alloc, lexicon, table, operators, sentence, &mut verdicts)?;
+    }
+    Ok(verdicts)
+}
+
+/// The verdicts of all sentences of a sample.
+fn judge_sample(
+    alloc: Global,
+    number: u32,
+    grammar: &Grammar,
+    table: &Halting,
+) -> Result<Vec<Verdict>, Memory>
+    requires range { IsInRange (plain_of grammar.now) }
+    requires same { table.now.grammar ≡ plain_of grammar.now }
+    ensures { IfOk result (λ verdicts. HaveEndings table.now (sample_sentences grammar.now number) (map ending_for verdicts.items)) }
+{
+    let lexicon = Lexicon::new(alloc, grammar)?;
+    judge_sentences(alloc, &lexicon, table, operators(number), SENTENCES)
+}
+
+fn accepts(verdict: Verdict) -> bool
+    ensures { result ≡ is_accepted (ending_for verdict) }
+{
+    match verdict {
+        Verdict::Accept { .. } => true,
+        Verdict::Overshoot { .. } => false,
+        Verdict::Reject { .. } => false,
+    }
+}
+
+fn overshoots(verdict: Verdict) -> bool
+    ensures { result ≡ is_overshot (ending_for verdict) }
+{
+    match verdict {
+        Verdict::Accept { .. } => false,
+        Verdict::Overshoot { .. } => true,
+        Verdict::Reject { .. } => false,
+    }
+}
+
+fn rejects(verdict: Verdict) -> bool
+    ensures { result ≡ is_rejected (ending_for verdict) }
+{
+    match verdict {
+        Verdict::Accept { .. } => false,
+        Verdict::Overshoot { .. } => false,
+        Verdict::Reject { .. } => true,
+    }
+}
+
+fn count_accepts(verdicts: &[Verdict]) -> usize
+    ensures { result ≡ count_by is_accepted (map ending_for verdicts.now) }
+{
+    verdicts.iter().filter(|verdict| accepts(**verdict)).count()
+}
+
+fn count_overshoots(verdicts: &[Verdict]) -> usize
+    ensures { result ≡ count_by is_overshot (map ending_for verdicts.now) }
+{
+    verdicts
+        .iter()
+        .filter(|verdict| overshoots(**verdict))
+        .count()
+}
+
+fn count_rejects(verdicts: &[Verdict]) -> usize
+    ensures { result ≡ count_by is_rejected (map ending_for verdicts.now) }
+{
+    verdicts.iter().filter(|verdict| rejects(**verdict)).count()
+}
+
+/// Writes words and a count.
+fn write_count(alloc: Global, text: &mut Vec<u8>, words: &[u8], count: usize) -> Result<(), Memory>
+    ensures { OnOk result (text.new.items ≡ text.old.items ++ words.now ++ decimal count) }
+{
+    text.extend_from_slice(words)?;
+    let digits = format!(in alloc; "{count}")?;
+    text.extend_from_slice(digits.as_bytes())?;
+    Ok(())
+}
+
+/// Writes the number, and the sizes of the grammar.
+#[tactic(auto, unfolding(crate::specs::Counts::grammar_sizes))]
+fn write_grammar_sizes(
+    alloc: Global,
+    text: &mut Vec<u8>,
+    number: u32,
+    grammar: &Grammar,
+) -> Result<(), Memory>
+    ensures { OnOk result (text.new.items ≡ text.old.items ++ grammar_sizes number (length grammar.now.tokens) (length grammar.now.productions)) }
+{
+    write_count(alloc, text, b"sample ", number as usize)?;
+    write_count(alloc, text, b": tokens ", grammar.tokens.len())?;
+    write_count(alloc, text, b", productions ", grammar.productions.len())?;
+    Ok(())
+}
+
+/// Writes the sizes of the table and of the catalogue.
+#[tactic(auto, unfolding(crate::specs::Counts::table_sizes))]
+fn write_table_sizes(
+    alloc: Global,
+    text: &mut Vec<u8>,
+    table: &Table,
+    listed: usize,
+) -> Result<(), Memory>
+    ensures { OnOk result (text.new.items ≡ text.old.items ++ table_sizes (length table.now.states) listed) }
+{
+    write_count(alloc, text, b", states ", table.states() as usize)?;
+    write_count(alloc, text, b", listed ", listed)
+}
+
+/// Writes how many sentences end in each way.
+#[tactic(auto, unfolding(crate::specs::Counts::endings_text))]
+fn write_endings(alloc: Global, text: &mut Vec<u8>, verdicts: &[Verdict]) -> Result<(), Memory>
+    ensures { OnOk result (text.new.items ≡ text.old.items ++ endings_text (map ending_for verdicts.now)) }
+{
+    write_count(alloc, text, b", accept ", count_accepts(verdicts))?;
+    write_count(alloc, text, b", overshoot ", count_overshoots(verdicts))?;
+    write_count(alloc, text, b", reject ", count_rejects(verdicts))
+}
+
+/// The line that tells the counts.
+fn counts_line(
+    alloc: Global,
+    number: u32,
+    grammar: &Grammar,
+    table: &Table,
+    listed: usize,
+    verdicts: &[Verdict],
+) -> Result<Vec<u8>, Memory>
+    ensures { IfOk result (λ text. text.items ≡ counts_text number (length grammar.now.tokens) (length grammar.now.productions) (length table.now.states) listed (map ending_for verdicts.now)) }
+{
+    let mut text = Vec::new(alloc);
+    write_grammar_sizes(alloc, &mut text, number, grammar)?;
+    write_table_sizes(alloc, &mut text, table, listed)?;
+    write_endings(alloc, &mut text, verdicts)?;
+    text.push(b'\n')?;
+    Ok(text)
+}
+
+/// The line that a sample comes to: how many tokens, productions and states there are, how many states the catalogue lists, and how
+/// many of the sentences are accepted, overshot and refused. Fails for want of memory alone.
+pub fn sample_line(
+    alloc: Global,
+    number: u32,
+    grammar: &Grammar,
+    table: &Halting,
+    listed: usize,
+) -> Result<Vec<u8>, Memory>
+    requires range { IsInRange (plain_of grammar.now) }
+    requires same { table.now.grammar ≡ plain_of grammar.now }
+    ensures { IfOk result (λ text. IsSampleLine grammar.now table.now number listed text.items) }
+{
+    let verdicts = judge_sample(alloc, number, grammar, table)?;
+    counts_line(
+        alloc,
+        number,
+        grammar,
+        table.table(),
+        listed,
+        verdicts.as_slice(),
+    )
+}

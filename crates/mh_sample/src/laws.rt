@@ -1,0 +1,13 @@
+//! What readers may rely on of samples. The call does nothing; its clause is a theorem.
+ghost use Rattle.std.specs.Prelude.{◌≡◌, List, ℕ};
+ghost use Rattle.mh_grammar.specs.declared.types.Grammar.{Grammar};
+ghost use Rattle.mh_sample.specs.Counts.{IsSampleLine};
+
+use mh_tables::Halting;
+
+/// By a grammar, its table and the size of the catalogue a sample has one line.
+pub fn sample_line_is_one(table: &Halting)
+    ensures { (g : Grammar) (number listed : ℕ) (x y : List ℕ) → IsSampleLine g table.now number listed x → IsSampleLine g table.now number listed y → x ≡ y }
+{
+    let _table = table;
+}

@@ -1,0 +1,14 @@
+//! The program's own benchmark: a large valid grammar for each number, with sentences of it, and the counts of what its table makes of
+//! them.
+#![tactic(auto)]
+
+mod counting;
+mod laws;
+mod making;
+mod repeating;
+mod texts;
+
+pub use counting::sample_line;
+pub use laws::sample_line_is_one;
+pub use making::sample;
+pub use texts::{Sample, sample_grammar};

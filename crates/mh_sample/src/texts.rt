@@ -1,0 +1,226 @@
+//! The grammar and the sentences of a number.
+ghost use Rattle.std.specs.Prelude.{◌≡◌, ◌<◌, ◌≤◌, ◌+◌, ◌-◌, ◌%◌, ◌++◌, IfOk, OnOk};
+ghost use Rattle.mh_sample.specs.Texts.{operators_of, each_from, token_line, left_text, right_text, level_line, last_level_line, grammar_text, operator_at, operand_text, opened, closed, sentence_text, sentence_line, sentences_text};
+
+use crate::repeating::write_times;
+use mh_grammar::Memory;
+use std::alloc::Global;
+
+/// A grammar file and its sentences, one a line.
+#[derive(Debug, Drop)]
+pub struct Sample {
+    pub grammar: Vec<u8>,
+    pub sentences: Vec<u8>,
+}
+
+/// How many sentences a sample has.
+pub(crate) const SENTENCES: u32 = 3_000;
+
+/// How many operators the grammar of a number has.
+pub(crate) fn operators(number: u32) -> u32
+    ensures { result ≡ operators_of number }
+{
+    2 + number % 30
+}
+
+#[tactic(auto, unfolding(crate::specs::Texts::token_line))]
+fn write_token(alloc: Global, text: &mut Vec<u8>, operator: u32) -> Result<(), Memory>
+    ensures { OnOk result (text.new.items ≡ text.old.items ++ token_line operator) }
+{
+    let line = format!(in alloc; "%token OP{operator}\n")?;
+    text.extend_from_slice(line.as_bytes())?;
+    Ok(())
+}
+
+/// Writes the declarations of the operators.
+fn write_tokens(alloc: Global, text: &mut Vec<u8>, operators: u32) -> Result<(), Memory>
+    requires { operators < 32 }
+    ensures { OnOk result (text.new.items ≡ text.old.items ++ each_from token_line 1 operators) }
+{
+    for place in 0..operators {
+        write_token(alloc, text, place + 1)?;
+    }
+    Ok(())
+}
+
+/// Writes the beginning of a level's rule: its operator has the level before it.
+#[tactic(auto, unfolding(crate::specs::Texts::left_text))]
+fn write_left(alloc: Global, text: &mut Vec<u8>, level: u32) -> Result<(), Memory>
+    ensures { OnOk result (text.new.items ≡ text.old.items ++ left_text level) }
+{
+    let part = format!(in alloc; "e{level}: e{level} OP{level} ")?;
+    text.extend_from_slice(part.as_bytes())?;
+    Ok(())
+}
+
+/// Writes the end of a level's rule: an operand behind the operator, or alone.
+#[tactic(auto, unfolding(crate::specs::Texts::right_text))]
+fn write_right(text: &mut Vec<u8>, operand: &[u8]) -> Result<(), Memory>
+    ensures { OnOk result (text.new.items ≡ text.old.items ++ right_text operand.now) }
+{
+    text.extend_from_slice(operand)?;
+    text.extend_from_slice(b" {} | ")?;
+    text.extend_from_slice(operand)?;
+    text.extend_from_slice(b" {}\n")?;
+    Ok(())
+}
+
+/// Writes the rule of a level, with the next one for its operands.
+fn write_level(alloc: Global, text: &mut Vec<u8>, level: u32) -> Result<(), Memory>
+    requires { level < 32 }
+    ensures { OnOk result (text.new.items ≡ text.old.items ++ level_line level) }
+{
+    let next = level + 1;
+    let operand = format!(in alloc; "e{next}")?;
+    write_left(alloc, text, level)?;
+    write_right(text, operand.as_bytes())
+}
+
+/// Writes the rules of all levels but the last.
+fn write_levels(alloc: Global, text: &mut Vec<u8>, levels: u32) -> Result<(), Memory>
+    requires { levels < 32 }
+    ensures { OnOk result (text.new.items ≡ text.old.items ++ each_from level_line 1 levels) }
+{
+    for place in 0..levels {
+        write_level(alloc, text, place + 1)?;
+    }
+    Ok(())
+}
+
+/// Writes the rule of the last level, whose operands are no level.
+fn write_last_level(alloc: Global, text: &mut Vec<u8>, level: u32) -> Result<(), Memory>
+    ensures { OnOk result (text.new.items ≡ text.old.items ++ last_level_line level) }
+{
+    write_left(alloc, text, level)?;
+    write_right(text, b"a")
+}
+
+/// The grammar file of a number.
+pub fn sample_grammar(alloc: Global, number: u32) -> Result<Vec<u8>, Memory>
+    ensures { IfOk result (λ text. text.items ≡ grammar_text number) }
+{
+    let operators = operators(number);
+    let mut text = b"%token EOF LP RP INT\n".to_vec(alloc)?;
+    write_tokens(alloc, &mut text, operators)?;
+    text.extend_from_slice(b"%start main\n%%\nmain: e1 EOF {}\n")?;
+    write_levels(alloc, &mut text, operators - 1)?;
+    write_last_level(alloc, &mut text, operators)?;
+    text.extend_from_slice(b"a: INT {} | LP e1 RP {}\n")?;
+    Ok(text)
+}
+
+/// Writes an operator and an operand.
+#[tactic(auto, unfolding(crate::specs::Texts::operand_text))]
+fn write_operand(alloc: Global, text: &mut Vec<u8>, operator: u32) -> Result<(), Memory>
+    ensures { OnOk result (text.new.items ≡ text.old.items ++ operand_text operator) }
+{
+    let part = format!(in alloc; " OP{operator} INT")?;
+    text.extend_from_slice(part.as_bytes())?;
+    Ok(())
+}
+
+/// The operator at a place of a sentence.
+fn operator(operators: u32, sentence: u32, place: u32) -> u32
+    requires some { 0 < operators }
+    requires few { operators < 32 }
+    requires sentence { sentence < 3000 }
+    requires place { place < 5 }
+    ensures { result ≡ operator_at operators sentence place }
+{
+    1 + sentence * place % operators
+}
+
+/// Writes the operators of a sentence with their operands.
+fn write_operands(
+    alloc: Global,
+    text: &mut Vec<u8>,
+    operators: u32,
+    sentence: u32,
+) -> Result<(), Memory>
+    requires some { 0 < operators }
+    requires few { operators < 32 }
+    requires sentence { sentence < 3000 }
+    ensures { OnOk result (text.new.items ≡ text.old.items ++ each_from (λ place. operand_text (operator_at operators sentence place)) 1 (sentence % 5)) }
+{
+    for place in 0..sentence % 5 {
+        write_operand(alloc, text, operator(operators, sentence, place + 1))?;
+    }
+    Ok(())
+}
+
+/// How many parentheses a sentence closes: one too few in each third, where it opens any.
+fn count_closed(sentence: u32) -> u32
+    ensures { result ≡ closed sentence }
+{
+    let count = sentence % 17;
+    if sentence % 3 == 0 {
+        count.saturating_sub(1)
+    } else {
+        count
+    }
+}
+
+/// Writes a sentence without an LF.
+#[tactic(auto, unfolding(crate::specs::Texts::sentence_text))]
+pub(crate) fn write_sentence(
+    alloc: Global,
+    text: &mut Vec<u8>,
+    operators: u32,
+    sentence: u32,
+) -> Result<(), Memory>
+    requires some { 0 < operators }
+    requires few { operators < 32 }
+    requires sentence { sentence < 3000 }
+    ensures { OnOk result (text.new.items ≡ text.old.items ++ sentence_text operators sentence) }
+{
+    write_times(text, b"LP ", sentence % 17)?;
+    text.extend_from_slice(b"INT")?;
+    write_operands(alloc, text, operators, sentence)?;
+    write_times(text, b" RP", count_closed(sentence))?;
+    text.extend_from_slice(b" EOF")?;
+    Ok(())
+}
+
+fn write_line(
+    alloc: Global,
+    text: &mut Vec<u8>,
+    operators: u32,
+    sentence: u32,
+) -> Result<(), Memory>
+    requires some { 0 < operators }
+    requires few { operators < 32 }
+    requires sentence { sentence < 3000 }
+    ensures { OnOk result (text.new.items ≡ text.old.items ++ sentence_line operators sentence) }
+{
+    write_sentence(alloc, text, operators, sentence)?;
+    text.push(b'\n')?;
+    Ok(())
+}
+
+/// Writes the first sentences, each with an LF behind it.
+fn write_sentences(
+    alloc: Global,
+    text: &mut Vec<u8>,
+    operators: u32,
+    count: u32,
+) -> Result<(), Memory>
+    requires some { 0 < operators }
+    requires few { operators < 32 }
+    requires count { count ≤ 3000 }
+    ensures { OnOk result (text.new.items ≡ text.old.items ++ each_from (sentence_line operators) 0 count) }
+{
+    for sentence in 0..count {
+        write_line(alloc, text, operators, sentence)?;
+    }
+    Ok(())
+}
+
+/// The sentences of a number, one a line.
+#[tactic(auto, unfolding(crate::specs::Texts::sentences_text))]
+pub(crate) fn sample_sentences(alloc: Global, number: u32) -> Result<Vec<u8>, Memory>
+    ensures { IfOk result (λ text. text.items ≡ sentences_text number) }
+{
+    let mut text = Vec::new(alloc);
+    write_sentences(alloc, &mut text, operators(number), SENTENCES)?;
+    Ok(text)
+}

@@ -1,0 +1,14 @@
+use Rattle.std.proofs.Common.{◌≡◌, []}
+use Rattle.mh_check.proofs.Placing.{early_by, accepted_by, overshot_by}
+use Rattle.mh_update.proofs.comments.check_sentence.Goals as goal
+
+pub returns-in-Reject-2 : goal.returns-in-Reject-2
+returns-in-Reject-2 c =
+    let same : c.in-Reject.at ≡ c.in-Reject-2.at = cc in
+    early_by c.args.table.now c.args.sentence.now _ c.as_slice-tokens.ensures c.in-Ok.ended c.in-Reject-2.at c.in-Reject-2.state c.in-Reject-2.is (λ e. c.if-at-tokens.false (rw same e)) c.in-Ok.ensures []
+
+pub returns-in-Accept : goal.returns-in-Accept
+returns-in-Accept c = accepted_by c.args.table.now c.args.sentence.now _ c.as_slice-tokens.ensures c.in-Ok.ended c.in-Accept.read c.in-Accept.is c.in-Ok.ensures []
+
+pub returns-in-Overshoot : goal.returns-in-Overshoot
+returns-in-Overshoot c = overshot_by c.args.table.now c.args.sentence.now _ c.as_slice-tokens.ensures c.in-Ok.ended c.in-Overshoot.state c.in-Overshoot.is c.in-Ok.ensures []

@@ -1,0 +1,151 @@
+//! The comment lines of the sentences of a messages file.
+ghost use Rattle.std.specs.Prelude.{◌≡◌, ◌≤◌, ◌++◌, ◌∷◌, [], ℕ, List, flat_map, length, IfOk, MatchResult};
+ghost use Rattle.std.specs.List.{AllByRecursion};
+ghost use Rattle.mh_grammar.specs.Plain.{plain_of};
+ghost use Rattle.mh_items.specs.Automaton.{IsAutomaton};
+ghost use Rattle.mh_msgfile.specs.Messages.{IsOf};
+ghost use Rattle.mh_msgfile.specs.declared.messages.MsgSentence.{MsgSentence as MsgSentence'};
+ghost use Rattle.mh_check.specs.Checks.{Breaks, FailsIn, sentences_of};
+ghost use Rattle.mh_check.specs.Compiling.{Tells};
+ghost use Rattle.mh_update.specs.Updates.{AreComments, FirstUnfit, IsComment, Comments as CommentsOf};
+
+use mh_check::CheckFault;
+use mh_comments::comment_lines;
+use mh_grammar::{Grammar, Memory, Sequence};
+use mh_items::Automaton;
+use mh_msgfile::{Entry, MsgSentence};
+use mh_run::{Verdict, verdict};
+use mh_tables::Halting;
+use std::alloc::Global;
+
+/// What stands behind the line of a sentence.
+#[derive(Drop)]
+pub struct Comment {
+    /// The number of the sentence's line, from 1.
+    pub line: u32,
+    pub text: Sequence<u8>,
+}
+
+/// Whether a sentence fails at its last token.
+fn check_sentence(alloc: Global, table: &Halting, sentence: &MsgSentence) -> Result<(), CheckFault>
+    requires { IsOf (length table.now.grammar.starts) table.now.grammar.tokens sentence.now }
+    ensures { MatchResult result (λ _. (s : ℕ) × FailsIn table.now sentence.now s) (λ fault. Tells fault (Breaks table.now [] sentence.now)) }
+{
+    let line = sentence.line;
+    let tokens = sentence.tokens.as_slice();
+    let ended = match verdict(alloc, table, sentence.start, tokens) {
+        Ok(ended) => ended,
+        Err(Memory) => return Err(CheckFault::Memory),
+    };
+    match ended {
+        Verdict::Reject { at, .. } if at as usize + 1 == tokens.len() => Ok(()),
+        Verdict::Reject { at, .. } => Err(CheckFault::RefusedEarly { line, at }),
+        Verdict::Accept { .. } => Err(CheckFault::NotRefused {
+            line,
+            verdict: ended,
+        }),
+        Verdict::Overshoot { .. } => Err(CheckFault::NotRefused {
+            line,
+            verdict: ended,
+        }),
+    }
+}
+
+/// The comment of a sentence that fails.
+fn comment_of<const W: usize>(
+    alloc: Global,
+    grammar: &Grammar,
+    automaton: &Automaton<W>,
+    table: &Halting,
+    sentence: &MsgSentence,
+) -> Result<Comment, Memory>
+    requires few { W ≤ 8 }
+    requires automaton { IsAutomaton (plain_of grammar.now) automaton.now }
+    requires states { length table.now.states ≡ length automaton.now.kernels }
+    requires known { IsOf (length table.now.grammar.starts) table.now.grammar.tokens sentence.now }
+    requires fails { (s : ℕ) × FailsIn table.now sentence.now s }
+    ensures { IfOk result (IsComment grammar.now automaton.now table.now sentence.now) }
+{
+    let tokens = sentence.tokens.as_slice();
+    let text = comment_lines(alloc, grammar, automaton, table, sentence.start, tokens)?;
+    Ok(Comment {
+        line: sentence.line,
+        text: Sequence::from_vec(text),
+    })
+}
+
+/// The comment of a sentence, or why it has none.
+fn checked_comment<const W: usize>(
+    alloc: Global,
+    grammar: &Grammar,
+    automaton: &Automaton<W>,
+    table: &Halting,
+    sentence: &MsgSentence,
+) -> Result<Comment, CheckFault>
+    requires few { W ≤ 8 }
+    requires automaton { IsAutomaton (plain_of grammar.now) automaton.now }
+    requires states { length table.now.states ≡ length automaton.now.kernels }
+    requires known { IsOf (length table.now.grammar.starts) table.now.grammar.tokens sentence.now }
+    ensures { MatchResult result (IsComment grammar.now automaton.now table.now sentence.now) (λ fault. Tells fault (Breaks table.now [] sentence.now)) }
+{
+    match check_sentence(alloc, table, sentence) {
+        Ok(()) => match comment_of(alloc, grammar, automaton, table, sentence) {
+            Ok(comment) => Ok(comment),
+            Err(Memory) => Err(CheckFault::Memory),
+        },
+        Err(fault) => Err(fault),
+    }
+}
+
+/// Puts in the comments of some sentences.
+fn put_comments<const W: usize>(
+    alloc: Global,
+    grammar: &Grammar,
+    automaton: &Automaton<W>,
+    table: &Halting,
+    sentences: &[MsgSentence],
+    comments: &mut Vec<Comment>,
+) -> Result<(), CheckFault>
+    requires few { W ≤ 8 }
+    requires automaton { IsAutomaton (plain_of grammar.now) automaton.now }
+    requires states { length table.now.states ≡ length automaton.now.kernels }
+    requires known { AllByRecursion (IsOf (length table.now.grammar.starts) table.now.grammar.tokens) sentences.now }
+    ensures { (done : List MsgSentence') → AreComments grammar.now automaton.now table.now done comments.old.items → CommentsOf grammar.now automaton.now table.now (done ++ sentences.now) comments.new.items result }
+{
+    for sentence in sentences {
+        match checked_comment(alloc, grammar, automaton, table, sentence) {
+            Ok(comment) => match comments.push(comment) {
+                Ok(()) => {}
+                Err(_) => return Err(CheckFault::Memory),
+            },
+            Err(fault) => return Err(fault),
+        }
+    }
+    Ok(())
+}
+
+/// Puts in the comments of all sentences of some entries, from none.
+pub(crate) fn all_comments<const W: usize>(
+    alloc: Global,
+    grammar: &Grammar,
+    automaton: &Automaton<W>,
+    table: &Halting,
+    entries: &[Entry],
+    comments: &mut Vec<Comment>,
+) -> Result<(), CheckFault>
+    requires few { W ≤ 8 }
+    requires automaton { IsAutomaton (plain_of grammar.now) automaton.now }
+    requires states { length table.now.states ≡ length automaton.now.kernels }
+    requires known { AllByRecursion (λ entry. AllByRecursion (IsOf (length table.now.grammar.starts) table.now.grammar.tokens) entry.sentences) entries.now }
+    requires none { comments.old.items ≡ [] }
+    ensures { CommentsOf grammar.now automaton.now table.now (flat_map (λ entry. entry.sentences) entries.now) comments.new.items result }
+{
+    for entry in entries {
+        let sentences = entry.sentences.as_slice();
+        match put_comments(alloc, grammar, automaton, table, sentences, comments) {
+            Ok(()) => {}
+            Err(fault) => return Err(fault),
+        }
+    }
+    Ok(())
+}

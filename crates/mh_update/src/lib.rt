@@ -1,0 +1,11 @@
+//! A messages file kept while its grammar grows: the comment lines of its sentences are made anew, and all else stays.
+#![tactic(auto)]
+
+mod comments;
+mod laws;
+mod texts;
+mod updating;
+
+pub use laws::{updated_again, updated_or_unfit};
+pub use texts::missing_text;
+pub use updating::update;

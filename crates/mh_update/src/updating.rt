@@ -1,0 +1,121 @@
+//! The text of a messages file that is brought up to date.
+ghost use Rattle.std.specs.Prelude.{◌≡◌, ◌≤◌, ◌-◌, ◌++◌, length, take, drop, IfOk, OnOk, MatchResult};
+ghost use Rattle.mh_grammar.specs.Plain.{plain_of};
+ghost use Rattle.mh_items.specs.Automaton.{IsAutomaton};
+ghost use Rattle.mh_msgfile.specs.Messages.{AreOf};
+ghost use Rattle.mh_check.specs.Checks.{sentences_of};
+ghost use Rattle.mh_check.specs.Compiling.{Tells};
+ghost use Rattle.mh_update.specs.Updates.{FirstUnfit, IsUpdated, is_made as is_made_line, own_text, own_texts, updated};
+
+use crate::comments::{Comment, all_comments};
+use mh_check::CheckFault;
+use mh_grammar::{Grammar, Memory, Name};
+use mh_items::Automaton;
+use mh_msgfile::MsgFile;
+use mh_tables::Halting;
+use std::alloc::Global;
+
+/// Whether a line is made anew: it begins with two number signs.
+fn is_made(line: &[u8]) -> bool
+    ensures { result ≡ is_made_line line.now }
+{
+    line.starts_with(b"##")
+}
+
+fn write_own(text: &mut Vec<u8>, line: &[u8]) -> Result<(), Memory>
+    ensures { OnOk result (text.new.items ≡ text.old.items ++ own_text line.now) }
+{
+    if !is_made(line) {
+        text.extend_from_slice(line)?;
+        text.push(b'\n')?;
+    }
+    Ok(())
+}
+
+/// Writes the lines that are not made anew.
+fn write_all_own(text: &mut Vec<u8>, lines: &[Name]) -> Result<(), Memory>
+    ensures { OnOk result (text.new.items ≡ text.old.items ++ own_texts lines.now) }
+{
+    for line in lines {
+        write_own(text, line.as_slice())?;
+    }
+    Ok(())
+}
+
+/// The lines behind the first ones.
+fn behind(lines: &[Name], count: usize) -> &[Name]
+    ensures { result.now ≡ drop count lines.now }
+{
+    if count < lines.len() {
+        &lines[count..]
+    } else {
+        &lines[..0]
+    }
+}
+
+/// The first lines.
+fn first(lines: &[Name], count: usize) -> &[Name]
+    ensures { result.now ≡ take count lines.now }
+{
+    if count < lines.len() {
+        &lines[..count]
+    } else {
+        lines
+    }
+}
+
+/// Writes the lines up to a sentence's, where the first ones are written, and its comment lines.
+fn write_comment(
+    text: &mut Vec<u8>,
+    lines: &[Name],
+    written: usize,
+    comment: &Comment,
+) -> Result<(), Memory>
+    ensures { OnOk result (text.new.items ≡ text.old.items ++ own_texts (take (comment.now.line - written) (drop written lines.now)) ++ comment.now.text) }
+{
+    let count = (comment.line as usize).saturating_sub(written);
+    write_all_own(text, first(behind(lines, written), count))?;
+    text.extend_from_slice(comment.text.as_slice())?;
+    Ok(())
+}
+
+/// The lines that are not made anew, with comments behind those of sentences.
+fn with_comments(alloc: Global, lines: &[Name], comments: &[Comment]) -> Result<Vec<u8>, Memory>
+    ensures { IfOk result (λ text. text.items ≡ updated lines.now comments.now) }
+{
+    let mut text = Vec::new(alloc);
+    let mut written = 0usize;
+    for comment in comments {
+        write_comment(&mut text, lines, written, comment)?;
+        written = comment.line as usize;
+    }
+    write_all_own(&mut text, behind(lines, written))?;
+    Ok(text)
+}
+
+/// A messages file brought up to date: each of its lines that does not begin with two number signs, in order, and behind the line of
+/// each sentence its comment lines, by this grammar, automaton and table. Fails at the first sentence that is not refused, or before
+/// its last token; two sentences may fail in one state. `Memory` only where there was none.
+pub fn update<const W: usize>(
+    alloc: Global,
+    grammar: &Grammar,
+    automaton: &Automaton<W>,
+    table: &Halting,
+    file: &MsgFile,
+) -> Result<Vec<u8>, CheckFault>
+    requires few { W ≤ 8 }
+    requires automaton { IsAutomaton (plain_of grammar.now) automaton.now }
+    requires states { length table.now.states ≡ length automaton.now.kernels }
+    requires known { AreOf (length table.now.grammar.starts) table.now.grammar.tokens file.now }
+    ensures { MatchResult result (λ text. IsUpdated grammar.now automaton.now table.now file.now text.items) (λ fault. Tells fault (FirstUnfit table.now (sentences_of file.now))) }
+{
+    let mut comments = Vec::new(alloc);
+    let entries = file.entries.as_slice();
+    match all_comments(alloc, grammar, automaton, table, entries, &mut comments) {
+        Ok(()) => match with_comments(alloc, file.lines.as_slice(), comments.as_slice()) {
+            Ok(text) => Ok(text),
+            Err(Memory) => Err(CheckFault::Memory),
+        },
+        Err(fault) => Err(fault),
+    }
+}
