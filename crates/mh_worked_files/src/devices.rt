@@ -1,5 +1,5 @@
 //! Devices in memory: what is read of them and written to them, where each call fails in turn.
-ghost use Rattle.std.specs.Prelude.{Some};
+ghost use Rattle.std.specs.Prelude.{◌≡◌, IfOk, Some};
 ghost use Rattle.mh_outside.specs.Fakes.{sink_written, sink_calls};
 
 use mh_outside::{
@@ -124,7 +124,9 @@ fn each_write_fails_in_turn(rt: HostRuntime) -> Result<(), Fail> {
     Ok(())
 }
 
-fn file(alloc: Global, name: &[u8], bytes: &[u8]) -> Result<(Vec<u8>, Vec<u8>), Fail> {
+fn file(alloc: Global, name: &[u8], bytes: &[u8]) -> Result<(Vec<u8>, Vec<u8>), Fail>
+    ensures { IfOk result (λ file. (file.0.items ≡ name.now) × (file.1.items ≡ bytes.now)) }
+{
     let name = name.to_vec(alloc)?;
     Ok((name, bytes.to_vec(alloc)?))
 }

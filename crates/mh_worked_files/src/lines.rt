@@ -1,7 +1,7 @@
 //! Lines and what they are, worked out by hand.
 ghost use Rattle.mh_grammar.specs.Plain.{plain_of, IsInRange};
 
-use crate::cases::{digit, parts};
+use crate::cases::{check, digit, parts, release};
 use mh_grammar::{
     Grammar, Memory, NontermInfo, Sentence, Sequence, TokenInfo, from_bytes, is_in_range,
 };
@@ -10,46 +10,57 @@ use std::alloc::Global;
 use std::process::Abort;
 use std::test::Fail;
 
-fn add_token(alloc: Global, grammar: &mut Grammar, name: &str) -> Result<(), Memory> {
-    let name = from_bytes(alloc, name.as_bytes())?;
-    grammar.tokens.push(TokenInfo {
-        name,
-        level: None,
-        cost: 1,
-    })?;
-    Ok(())
+fn tokens(alloc: Global) -> Result<Sequence<TokenInfo>, Memory> {
+    let mut tokens = Sequence::new(alloc);
+    for name in ["A", "B'", "EOF"] {
+        let name = from_bytes(alloc, name.as_bytes())?;
+        tokens.push(TokenInfo {
+            name,
+            level: None,
+            cost: 1,
+        })?;
+    }
+    Ok(tokens)
 }
 
-fn add_nonterminal(alloc: Global, grammar: &mut Grammar, name: &str) -> Result<(), Memory> {
-    let name = from_bytes(alloc, name.as_bytes())?;
-    grammar.nonterminals.push(NontermInfo {
-        name,
-        on_error: None,
-    })?;
-    Ok(())
+fn nonterminals(alloc: Global) -> Result<Sequence<NontermInfo>, Memory> {
+    let mut nonterminals = Sequence::new(alloc);
+    for name in ["r", "s"] {
+        let name = from_bytes(alloc, name.as_bytes())?;
+        nonterminals.push(NontermInfo {
+            name,
+            on_error: None,
+        })?;
+    }
+    Ok(nonterminals)
 }
 
-/// A grammar without tokens and nonterminals.
-fn bare(alloc: Global, starts: &[u16]) -> Result<Grammar, Memory> {
-    let starts = Vec::from_slice(alloc, starts)?;
-    Ok(Grammar {
-        tokens: Sequence::new(alloc),
-        nonterminals: Sequence::new(alloc),
-        productions: Sequence::new(alloc),
-        starts: Sequence::from_vec(starts),
-    })
+/// Both, or want of memory. What it lets go is let go in one call.
+fn both<A: Drop, B: Drop>(
+    first: Result<A, Memory>,
+    second: Result<B, Memory>,
+) -> Result<(A, B), Memory> {
+    let first = first?;
+    let second = second?;
+    Ok((first, second))
+}
+
+fn starts_of(alloc: Global, starts: &[u16]) -> Result<Sequence<u16>, Memory> {
+    Ok(Sequence::from_vec(Vec::from_slice(alloc, starts)?))
 }
 
 /// A grammar of the tokens `A`, `B'` and `EOF` and the nonterminals `r` and `s`, with these starts.
 pub fn sample(alloc: Global, starts: &[u16]) -> Result<Grammar, Memory> {
-    let mut grammar = bare(alloc, starts)?;
-    for name in ["A", "B'", "EOF"] {
-        add_token(alloc, &mut grammar, name)?;
-    }
-    for name in ["r", "s"] {
-        add_nonterminal(alloc, &mut grammar, name)?;
-    }
-    Ok(grammar)
+    let (tokens, (nonterminals, starts)) = both(
+        tokens(alloc),
+        both(nonterminals(alloc), starts_of(alloc, starts)),
+    )?;
+    Ok(Grammar {
+        tokens,
+        nonterminals,
+        productions: Sequence::new(alloc),
+        starts,
+    })
 }
 
 pub fn joined(alloc: Global, front: &str, name: &[u8]) -> Result<Vec<u8>, Memory> {
@@ -121,24 +132,29 @@ fn check_line(rt: &impl Abort, alloc: Global, grammar: &Grammar, case: &str) -> 
     requires range { IsInRange (plain_of grammar.now) }
 {
     let (line, expected) = parts(case)?;
-    let found = shown(alloc, grammar, line.as_bytes())?;
-    assert_eq!(rt; found.as_slice(), expected.as_bytes(), "at {line:?}");
+    check(rt, shown(alloc, grammar, line.as_bytes())?, expected, line);
     Ok(())
 }
 
-fn check_lines(rt: &impl Abort, alloc: Global, starts: &[u16], cases: &str) -> Result<(), Fail> {
-    let grammar = sample(alloc, starts)?;
-    assert!(rt; is_in_range(&grammar));
+fn check_lines(rt: &impl Abort, alloc: Global, grammar: &Grammar, cases: &str) -> Result<(), Fail> {
+    assert!(rt; is_in_range(grammar));
     for case in cases.split('^') {
-        check_line(rt, alloc, &grammar, case)?;
+        check_line(rt, alloc, grammar, case)?;
     }
     Ok(())
+}
+
+fn check_starts(rt: &impl Abort, alloc: Global, starts: &[u16], cases: &str) -> Result<(), Fail> {
+    let grammar = sample(alloc, starts)?;
+    let result = check_lines(rt, alloc, &grammar, cases);
+    release(grammar);
+    result
 }
 
 #[test]
 fn lines(rt: HostRuntime) -> Result<(), Fail> {
     assert_eq!(rt; OF_ONE_START.split('^').count(), 22);
-    check_lines(&rt, rt.alloc(), &[1], OF_ONE_START)?;
+    check_starts(&rt, rt.alloc(), &[1], OF_ONE_START)?;
     assert_eq!(rt; OF_TWO_STARTS.split('^').count(), 8);
-    check_lines(&rt, rt.alloc(), &[1, 0], OF_TWO_STARTS)
+    check_starts(&rt, rt.alloc(), &[1, 0], OF_TWO_STARTS)
 }

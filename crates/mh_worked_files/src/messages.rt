@@ -2,7 +2,7 @@
 ghost use Rattle.std.specs.Prelude.{◌<◌, ◌^◌, length};
 ghost use Rattle.mh_grammar.specs.Plain.{plain_of, IsInRange};
 
-use crate::cases::{digit, parts};
+use crate::cases::{check, digit, parts, release};
 use crate::lines::{joined, sample};
 use mh_grammar::{Grammar, Memory, is_in_range};
 use mh_msgfile::{MsgFault, echo, print_messages, read_messages};
@@ -65,8 +65,12 @@ fn check_printed(rt: &impl Abort, alloc: Global, grammar: &Grammar, case: &str) 
 {
     let (text, expected) = parts(case)?;
     assert!(rt; text.len() < 1_000);
-    let found = printed(alloc, grammar, text.as_bytes())?;
-    assert_eq!(rt; found.as_slice(), expected.as_bytes(), "at {text:?}");
+    check(
+        rt,
+        printed(alloc, grammar, text.as_bytes())?,
+        expected,
+        text,
+    );
     Ok(())
 }
 
@@ -75,29 +79,33 @@ fn check_echoed(rt: &impl Abort, alloc: Global, grammar: &Grammar, case: &str) -
 {
     let (text, expected) = parts(case)?;
     assert!(rt; text.len() < 1_000);
-    let found = echoed(alloc, grammar, text.as_bytes())?;
-    assert_eq!(rt; found.as_slice(), expected.as_bytes());
+    check(rt, echoed(alloc, grammar, text.as_bytes())?, expected, text);
     Ok(())
+}
+
+fn check_files(rt: &impl Abort, alloc: Global, grammar: &Grammar) -> Result<(), Fail> {
+    assert!(rt; is_in_range(grammar));
+    for case in FILES.split('^') {
+        check_printed(rt, alloc, grammar, case)?;
+    }
+    assert_eq!(rt; FILES.split('^').count(), 14);
+    check_echoed(rt, alloc, grammar, SENTENCES)
 }
 
 #[test]
 fn files(rt: HostRuntime) -> Result<(), Fail> {
     let grammar = sample(rt.alloc(), &[1])?;
-    assert!(rt; is_in_range(&grammar));
-    for case in FILES.split('^') {
-        check_printed(&rt, rt.alloc(), &grammar, case)?;
-    }
-    assert_eq!(rt; FILES.split('^').count(), 14);
-    check_echoed(&rt, rt.alloc(), &grammar, SENTENCES)
+    let result = check_files(&rt, rt.alloc(), &grammar);
+    release(grammar);
+    result
 }
 
 /// Two starts: a sentence has to name one.
 #[test]
 fn starts(rt: HostRuntime) -> Result<(), Fail> {
-    let alloc = rt.alloc();
-    let grammar = sample(alloc, &[1, 0])?;
+    let grammar = sample(rt.alloc(), &[1, 0])?;
     assert!(rt; is_in_range(&grammar));
-    let found = printed(alloc, &grammar, b"EOF A\n")?;
-    assert_eq!(rt; found.as_slice(), b"missing start 1".as_slice());
-    Ok(())
+    let result = check_printed(&rt, rt.alloc(), &grammar, "EOF A\n~missing start 1");
+    release(grammar);
+    result
 }

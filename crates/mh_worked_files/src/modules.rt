@@ -1,7 +1,7 @@
 //! Grammar files and what they spell, worked out by hand.
 ghost use Rattle.std.specs.Prelude.{◌<◌, ◌^◌, length};
 
-use crate::cases::parts;
+use crate::cases::{check, parts, release};
 use mh_grammar::Memory;
 use mh_lex::SyntaxFault;
 use mh_reader::{Module, print_module, read_module, spelled_once};
@@ -164,7 +164,9 @@ fn depths(rt: HostRuntime) -> Result<(), Fail> {
         ("%type <t> a", "*", 1000, "%%", "1"),
     ] {
         let bytes = deep_file(alloc, front, repeated, times, back)?;
-        check_verdict(&rt, alloc, bytes.as_slice(), expected)?;
+        let result = check_verdict(&rt, alloc, bytes.as_slice(), expected);
+        release(bytes);
+        result?;
     }
     Ok(())
 }
@@ -194,8 +196,7 @@ fn printed(alloc: Global, bytes: &[u8]) -> Result<Vec<u8>, Memory> {
 
 #[test]
 fn a_module(rt: HostRuntime) -> Result<(), Fail> {
-    let text = printed(rt.alloc(), FILE.as_bytes())?;
-    assert_eq!(rt; text.as_slice(), PRINTED.as_bytes());
+    check(&rt, printed(rt.alloc(), FILE.as_bytes())?, PRINTED, FILE);
     Ok(())
 }
 
@@ -243,40 +244,50 @@ const COSTS: &str = "%token A [@cost 5] B %%~5 -^\
      %token <t> A [@cost 9] %token A [@cost 3] %%~9 3^\
      %start [@cost 3] s %token A [@cost 999] %%~999";
 
-/// The module of a short file that spells one.
-fn module_of(alloc: Global, bytes: &[u8]) -> Result<Module, Fail> {
-    if bytes.len() >= 10_000 {
-        return Err(Fail::from("a long file"));
-    }
-    Ok(read_module(alloc, bytes).ok().ok_or("no module")?)
-}
-
-fn costs_of(alloc: Global, module: &Module) -> Result<String, Fail> {
-    let mut text = String::new(alloc);
+fn push_costs(text: &mut String, module: &Module) -> Result<(), AllocError> {
     for token in module.tokens.as_slice() {
         match token.cost {
             Some(cost) => write!(text, "{cost} ")?,
             None => text.push_str("- ")?,
         }
     }
+    Ok(())
+}
+
+/// The costs of the tokens of a short file; nothing where it spells no module.
+fn costs_of(alloc: Global, bytes: &[u8]) -> Result<String, AllocError> {
+    let mut text = String::new(alloc);
+    if bytes.len() > 10_000 {
+        return Ok(text);
+    }
+    if let Ok(module) = read_module(alloc, bytes) {
+        let result = push_costs(&mut text, &module);
+        release(module);
+        result?;
+    }
     Ok(text)
 }
 
 fn check_costs(rt: &impl Abort, alloc: Global, bytes: &[u8], expected: &str) -> Result<(), Fail> {
-    let module = module_of(alloc, bytes)?;
-    let found = costs_of(alloc, &module)?;
+    let found = costs_of(alloc, bytes)?;
     assert_eq!(rt; found.trim(), expected, "at {bytes:?}");
     Ok(())
 }
 
 /// The costs of a file's tokens are those of what its module is printed as.
+fn check_again(rt: &impl Abort, alloc: Global, bytes: &[u8], expected: &str) -> Result<(), Fail> {
+    let again = printed(alloc, bytes)?;
+    let result = check_costs(rt, alloc, again.as_slice(), expected);
+    release(again);
+    result
+}
+
 #[test]
 fn costs(rt: HostRuntime) -> Result<(), Fail> {
     for case in COSTS.split('^') {
         let (bytes, expected) = parts(case)?;
         check_costs(&rt, rt.alloc(), bytes.as_bytes(), expected)?;
-        let again = printed(rt.alloc(), bytes.as_bytes())?;
-        check_costs(&rt, rt.alloc(), again.as_slice(), expected)?;
+        check_again(&rt, rt.alloc(), bytes.as_bytes(), expected)?;
     }
     assert_eq!(rt; COSTS.split('^').count(), 16);
     Ok(())

@@ -1,5 +1,5 @@
 //! Words, and the orders that they spell by hand.
-use crate::cases::parts;
+use crate::cases::{check, parts};
 use mh_opts::{Job, Order, UsageFault, read_words};
 use std::alloc::{AllocError, Global};
 use std::process::Abort;
@@ -88,8 +88,7 @@ fn answer_of(alloc: Global, line: &str) -> Result<Vec<u8>, AllocError> {
 
 fn check_case(rt: &impl Abort, alloc: Global, case: &str) -> Result<(), Fail> {
     let (line, expected) = parts(case)?;
-    let found = answer_of(alloc, line)?;
-    assert_eq!(rt; found.as_slice(), expected.as_bytes(), "at {line:?}");
+    check(rt, answer_of(alloc, line)?, expected, line);
     Ok(())
 }
 
@@ -98,6 +97,6 @@ fn cases(rt: HostRuntime) -> Result<(), Fail> {
     for case in CASES.split('^') {
         check_case(&rt, rt.alloc(), case)?;
     }
-    assert_eq!(rt; answer(rt.alloc(), &[])?.as_slice(), b"no mode".as_slice());
+    check(&rt, answer(rt.alloc(), &[])?, "no mode", "");
     Ok(())
 }
