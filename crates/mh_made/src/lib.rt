@@ -125,11 +125,7 @@ fn production_of(alloc: Global, grammar: &Grammar, rule: &str) -> Result<Product
     })
 }
 
-fn add_tokens(
-    alloc: Global,
-    tokens: &mut Sequence<TokenInfo>,
-    words: &str,
-) -> Result<(), Fail> {
+fn add_tokens(alloc: Global, tokens: &mut Sequence<TokenInfo>, words: &str) -> Result<(), Fail> {
     for word in words.split_ascii_whitespace() {
         tokens.push(token_of(alloc, word)?)?;
     }
