@@ -1,7 +1,8 @@
 -- The turns of the search.
-use Rattle.std.proofs.Common.{◌≡◌, ℕ, suc, ◌+◌, ◌-◌, ◌<◌, ◌≤◌, ◌⊎◌, inl, inr, List, [], ◌∷◌, ◌++◌, length, Some, None, Option, refl, ap, sym, subst, arith, ◌∙◌}
+use Rattle.std.proofs.Common.{◌≡◌, ℕ, zero, suc, ◌+◌, ◌-◌, ◌<◌, ◌≤◌, ◌⊎◌, inl, inr, List, [], ◌∷◌, ◌++◌, length, Some, None, Option, refl, ap, sym, subst, arith, ◌∙◌}
 use Rattle.std.specs.Prelude.{min, slice_get}
 use Rattle.std.specs.List.{Contains}
+use Rattle.std.specs.Global.{Vec}
 use Rattle.std.proofs.lemmas.Bool.{cases_lt}
 use Rattle.mh_grammar.specs.declared.types.Symbol.TheVariants.{T, N}
 use Rattle.mh_grammar.specs.Plain.{rhs_of, lhs_of}
@@ -490,10 +491,9 @@ module _ (t : TableData) (f : Facts t) (c : Classes) (cls : IsClasses t c) (work
   }
 
 -- where it ends
-pub search_ends : (t : TableData) (f : Facts t) (c : Classes) (found : Found) → Good t c found.store found.work (cap + 1) [] → IsFound t c found
-search_ends t f c found good =
-    let waiting = Waiting found.work (cap + 1) [] in
-    let none : (k : FactKey) (u : List ℕ) → InQueue t good.tale.words waiting k u → ⊥ = λ k u h. (let low = good.low h.0 h.1 h.2 in let high = (good.items h.0 h.1 h.2).range.cost in omega arith) in
+search_left : (t : TableData) (f : Facts t) (c : Classes) (found : Found) (level : ℕ) (good : Good t c found.store found.work level []) → ((k : FactKey) (u : List ℕ) → InQueue t good.tale.words (Waiting found.work level []) k u → ⊥) → IsFound t c found
+search_left t f c found level good none =
+    let waiting = Waiting found.work level [] in
     record {
       tale = good.tale;
       sound = good.frontier.stored;
@@ -502,3 +502,20 @@ search_ends t f c found good =
       complete = empty_complete t f (rep_of c) (NoLater t) (order_laws t) good.tale.words (WaysIn c good.tale.words found.work) (InQueue t good.tale.words waiting) good.frontier none;
       wholes = λ n w h. (let ok = good.wholes n w h in record { few = ok.few; low = ok.few; from = ok.from; edge = ok.edge; next = ok.next; word = ok.word; stored = ok.stored; cost_is = ok.cost_is; short = ok.short; sound = ok.sound });
     }
+
+pub search_ends : (t : TableData) (f : Facts t) (c : Classes) (found : Found) → Good t c found.store found.work (cap + 1) [] → IsFound t c found
+search_ends t f c found good = search_left t f c found (cap + 1) good (λ k u h. (let low = good.low h.0 h.1 h.2 in let high = (good.items h.0 h.1 h.2).range.cost in omega arith))
+
+-- what waits has a row
+has_row : {X : Type 0} (rows : List (Vec X)) (n : ℕ) (x : X) → Waits rows n x → n < length rows
+has_row [] n x h = absurd (let l = h.1 in omega arith)
+has_row (r ∷ rows) zero x h = omega arith
+has_row (r ∷ rows) (suc n) x h = let l = has_row rows n x h in omega arith
+
+-- the search is done where nothing waits
+pub search_done : (t : TableData) (f : Facts t) (c : Classes) (found : Found) (level : ℕ) → Good t c found.store found.work level [] → length (queue_of found.work) ≤ level → IsFound t c found
+search_done t f c found level good le = search_left t f c found level good (λ k u h. none h.0 h.1 h.2)
+  where
+    none : (cost : ℕ) (i : Item) → Waiting found.work level [] cost i → ⊥
+    none cost i (inl there) = let lt = has_row (queue_of found.work) cost i there in let low = good.low cost i (inl there) in omega arith
+    none cost i (inr beside) = let l = (beside.1).1 in omega arith

@@ -166,6 +166,13 @@ fn settle_level(
     settle_each(alloc, table, classes, found, &Level { cost, items })
 }
 
+/// Whether nothing waits with a cost or with a higher one.
+fn is_done(found: &Found, cost: u32) -> bool
+    ensures { IsTrue result ↔ (length found.now.work.queue.buckets.items ≤ cost) }
+{
+    found.work.queue.buckets.len() <= cost as usize
+}
+
 /// Each path that a run goes along with the least cost of its words, and of the words of that cost the first: the one that has the
 /// lower number at the first place where it differs from another.
 pub fn search(alloc: Global, table: &Table, classes: &Classes) -> Result<Found, Memory>
@@ -177,6 +184,9 @@ pub fn search(alloc: Global, table: &Table, classes: &Classes) -> Result<Found, 
     let work = begin(alloc, table, classes)?;
     let mut found = Found { store, work };
     for cost in 0..CAP + 1 {
+        if is_done(&found, cost) {
+            return Ok(found);
+        }
         settle_level(alloc, table, classes, &mut found, cost)?;
     }
     Ok(found)

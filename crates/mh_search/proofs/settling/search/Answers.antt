@@ -1,6 +1,6 @@
-use Rattle.std.proofs.Common.{◌≡◌, ◌+◌, arith}
+use Rattle.std.proofs.Common.{◌≡◌, ◌+◌, refl, arith}
 use Rattle.mh_least.specs.Orders.{cap}
-use Rattle.mh_search.proofs.Turns.{search_begins, search_ends}
+use Rattle.mh_search.proofs.Turns.{search_begins, search_done, search_ends}
 use Rattle.mh_search.proofs.settling.search.Goals as goal
 
 pub loop-cost-init : goal.loop-cost-init
@@ -8,3 +8,6 @@ loop-cost-init c = rw c.new-store.ensures (search_begins c.args.table.now c.fact
 
 pub returns : goal.returns
 returns c = let e : c.loop-cost.cost ≡ cap + 1 = (let a = c.loop-cost-test.false in let b = c.loop-cost.auto.cost-end in omega arith) in search_ends c.args.table.now c.facts.ensures c.args.classes.now c.loop-cost.found (rw e at c.loop-cost.invariant)
+
+pub returns-then-is_done : goal.returns-then-is_done
+returns-then-is_done c = search_done c.args.table.now c.facts.ensures c.args.classes.now c.loop-cost.found c.loop-cost.cost c.loop-cost.invariant (c.if-is_done.ensures.0 refl)
