@@ -25,7 +25,6 @@ use Rattle.mh_prepare.specs.Turns.{IsTurn}
 use Rattle.mh_prepare.proofs.Turns.{turn_first}
 use Rattle.mh_modes.specs.Explained.{ending_of}
 use Rattle.mh_modes.specs.Files.{files_of_job, named}
-use Rattle.mh_modes.specs.Fixed.{IsFixed, IsFixedEnd}
 use Rattle.mh_modes.specs.Listing.{ListsErrors, Lists, TooLong, too_long}
 use Rattle.mh_modes.specs.MessagesStage.{AreMessages, Messages}
 use Rattle.mh_modes.specs.Plan.{Answers, Automaton, End, Ends, EndsBy, EndsWith, Errors, Explains, IsPlanOfJob, Judges, Known, MessagesFor, Plan, Serves, halts, judges, plan_by}
@@ -34,7 +33,7 @@ use Rattle.mh_modes.specs.declared.modes.explaining.Told.{Told}
 use Rattle.mh_modes.specs.declared.modes.explaining.Told.TheVariants.{Entry, Not}
 use Rattle.mh_modes.proofs.Answering.{one_once}
 use Rattle.mh_modes.proofs.Messaging.{StagedRight, file_messages_once, for_unread_halts, messages_for_once, messages_for_right, messages_right, named_turn, some_messages, some_messages_for, unread_halts}
-use Rattle.mh_modes.proofs.Refusals.{list_cause_once}
+use Rattle.mh_modes.proofs.Refusals.{list_cause_once, list_out_once}
 use Rattle.mh_modes.proofs.Telling.{told_once}
 
 -- every run on its table ends
@@ -155,11 +154,11 @@ facts_of ShowAutomaton p = fixed p (Ends (Automaton p)) (λ by is. cc) (λ Right
 facts_of ListErrors p = fixed p (Ends (Errors p)) (λ by is. cc) (λ Right. tt)
 facts_of (CompileErrors file) p = of_messages p file (λ messages. Ends (Known (record { cause = None; out = compiled_text messages }))) (λ messages by is. cc) (λ Right messages. tt)
 
--- ---- an end is one, but for the choice of sentences in a list of errors
+-- ---- an end is one
 
 pub record EndFacts (end : End) : Type 1 where
   pub cause : (x y : Ending) → EndsBy end x → EndsBy end y → x.cause ≡ y.cause
-  pub out : (x y : Ending) → IsFixedEnd end → EndsBy end x → EndsBy end y → x.out ≡ y.out
+  pub out : (x y : Ending) → EndsBy end x → EndsBy end y → x.out ≡ y.out
   pub right : (Right : Cause → Type 0) → ((line : Text) → Right (Refused line)) → (e : Ending) → EndsRight Right (Ends end) → EndsBy end e → IsRight Right e.cause
 
 list_right : (p : Prepared) (Right : Cause → Type 0) → ((line : Text) → Right (Refused line)) → (e : Ending) → ListsErrors p.grammar p.tabled.automaton p.tabled.halting e.cause e.out → IsRight Right e.cause
@@ -169,17 +168,17 @@ list_right p Right may e (TooLong s long cause out) = subst (IsRight Right) (sym
 pub end_facts : (end : End) → EndFacts end
 end_facts (Known end) = record {
   cause = λ x y is so. ap (λ (e : Ending). e.cause) (is ∙ sym so);
-  out = λ x y fixed is so. ap (λ (e : Ending). e.out) (is ∙ sym so);
+  out = λ x y is so. ap (λ (e : Ending). e.out) (is ∙ sym so);
   right = λ Right may e right is. subst (IsRight Right) (sym (ap (λ (x : Ending). x.cause) is)) right;
 }
 end_facts (Automaton p) = record {
   cause = λ x y is so. is.0 ∙ sym so.0;
-  out = λ x y fixed is so. text_once p.grammar p.tabled.automaton (mode_of (source_of p.order)) p.tabled.halting x.out y.out is.1 so.1;
+  out = λ x y is so. text_once p.grammar p.tabled.automaton (mode_of (source_of p.order)) p.tabled.halting x.out y.out is.1 so.1;
   right = λ Right may e right is. subst (IsRight Right) (sym is.0) tt;
 }
 end_facts (Errors p) = record {
   cause = λ x y is so. list_cause_once p.grammar p.tabled.automaton p.tabled.halting x.cause y.cause x.out y.out is so;
-  out = λ x y fixed is so. absurd fixed;
+  out = λ x y is so. list_out_once p.grammar p.tabled.automaton p.tabled.halting x.cause y.cause x.out y.out is so;
   right = λ Right may e right is. list_right p Right may e is;
 }
 
@@ -193,12 +192,6 @@ module _ (line : Text) where
   answer_once (Serves g t branches) a c x y p q =
       let same = line_once g t branches line a c p.0 q.0 p.1 q.1 in (same.0, p.2 ∙ ap (λ (after : Branches). Serves g t after) same.1 ∙ sym q.2)
 
-  pub answer_fixed : (plan : Plan) (text : Text) (next : Plan) → Answers plan line text next → IsFixed plan → IsFixed next
-  answer_fixed (Ends e) text next is fixed = subst IsFixed (sym is.1) fixed
-  answer_fixed (Judges by) text next is fixed = subst IsFixed (sym is.1) tt
-  answer_fixed (Explains p old) text next is fixed = subst IsFixed (sym is.1) tt
-  answer_fixed (Serves g t branches) text next is fixed = subst IsFixed (sym is.2) tt
-
 explained_once : (p : Prepared) (line : Text) (x y : Ending) → EndsWith (Explains p line) x → EndsWith (Explains p line) y → x ≡ y
 explained_once p line x y is so = is.2 ∙ ap ending_of (told_once p line is.0 so.0 is.1 so.1) ∙ sym so.2
 
@@ -208,11 +201,11 @@ cause_once (Judges by) x y is so = ap (λ (end : Ending). end.cause) (is ∙ sym
 cause_once (Explains p line) x y is so = ap (λ (end : Ending). end.cause) (explained_once p line x y is so)
 cause_once (Serves g t branches) x y is so = ap (λ (end : Ending). end.cause) (is ∙ sym so)
 
-pub out_once : (plan : Plan) (x y : Ending) → IsFixed plan → EndsWith plan x → EndsWith plan y → x.out ≡ y.out
-out_once (Ends end) x y fixed is so = (end_facts end).out x y fixed is so
-out_once (Judges by) x y fixed is so = ap (λ (end : Ending). end.out) (is ∙ sym so)
-out_once (Explains p line) x y fixed is so = ap (λ (end : Ending). end.out) (explained_once p line x y is so)
-out_once (Serves g t branches) x y fixed is so = ap (λ (end : Ending). end.out) (is ∙ sym so)
+pub out_once : (plan : Plan) (x y : Ending) → EndsWith plan x → EndsWith plan y → x.out ≡ y.out
+out_once (Ends end) x y is so = (end_facts end).out x y is so
+out_once (Judges by) x y is so = ap (λ (end : Ending). end.out) (is ∙ sym so)
+out_once (Explains p line) x y is so = ap (λ (end : Ending). end.out) (explained_once p line x y is so)
+out_once (Serves g t branches) x y is so = ap (λ (end : Ending). end.out) (is ∙ sym so)
 
 -- ---- a mode ends for no other cause than it may
 

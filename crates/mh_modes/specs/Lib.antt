@@ -4,6 +4,5 @@ pub mod MessagesStage
 pub mod Listing
 pub mod Plan
 pub mod Files
-pub mod Fixed
 pub mod Modes
 pub mod Entries

@@ -19,7 +19,7 @@ abbrev pub AreEntries : Grammar → Automaton → TableData → List Row → Tex
 AreEntries g a t [] text = text ≡ []
 AreEntries g a t (row ∷ rows) text = (first rest : Text) × IsEntryText g a t row.start row.sentence first × AreEntries g a t rows rest × (text ≡ first ++ rest)
 
--- the entries of the catalogue of the table, with whichever of the sentences of least cost
+-- the entries of the catalogue of the table
 pub record IsCatalogueText (g : Grammar) (a : Automaton) (t : TableData) (text : Text) : Type 0 where
   pub rows : List Row
   pub catalogue : Catalogue t rows

@@ -1,5 +1,5 @@
 -- The turns of the second search.
-use Rattle.std.proofs.Common.{◌≡◌, ℕ, ◌+◌, ◌<◌, ◌≤◌, ◌⊎◌, inl, inr, List, [], ◌∷◌, ◌++◌, Some, None, Option, refl, ap, sym, subst, arith, ◌∙◌}
+use Rattle.std.proofs.Common.{◌≡◌, ℕ, ◌+◌, ◌<◌, ◌≤◌, ◌⊎◌, inl, inr, List, [], ◌∷◌, ◌++◌, length, Some, None, Option, refl, ap, sym, subst, arith, ◌∙◌}
 use Rattle.std.specs.Prelude.{min}
 use Rattle.std.specs.List.{Contains}
 use Rattle.std.specs.Global.{Vec}
@@ -29,6 +29,7 @@ use Rattle.mh_search.specs.Tales.{NoLater, capped}
 use Rattle.mh_search.specs.Good.{WaysIn, WholeOk}
 use Rattle.mh_reach.specs.Arriving.{NoLaterAt, NoLaterBy, Spots, spot, StepsAlong, StepsShift, StepsWay, GoesOn, Starts, Journey, LabelBy, ComingOk, Waiting, PendingAt, GoodAt, InOrderAt, HasArrived, ComesNext, Arrived, labels_at}
 use Rattle.mh_reach.specs.Rising.{Rises}
+use Rattle.mh_search.proofs.Rowing.{none_in, row_past}
 use Rattle.mh_search.proofs.Wording.{some_is, capped_one, capped_both, min_cap, no_lower}
 use Rattle.mh_reach.proofs.Spots.{label_kept, label_one, journey_more, new_labels, labels_kept, labels_here, labels_only, spots_cases}
 use Rattle.mh_reach.proofs.Labelling.{label_laws, same_label, over_from}
@@ -39,6 +40,11 @@ Comings = List (Vec Coming)
 
 abbrev pub arrival_for : ℕ → Coming → Arrival
 arrival_for level i = record { cost = level; step = i.step }
+
+-- nothing waits with a cost that has no bucket
+pub none_over : (q : Comings) (level cost : ℕ) (o : Coming) → length q ≤ level → level ≤ cost → Waiting q level [] cost o → ⊥
+none_over q level cost o over low (inl there) = none_in _ o (row_past q cost (omega arith)) there
+none_over q level cost o over low (inr beside) = none_in [] o refl beside.1
 
 module _ (t : TableData) (f : Facts t) (c : Classes) (cls : IsClasses t c) (words : FactKey → Option (List ℕ)) (work : Work) (ways_ok : (n : ℕ) (w : Whole) → Contains (wholes_at work n) w → WholeOk t (rep_of c) words cap w) where
   abbrev rep : ℕ → ℕ → ℕ

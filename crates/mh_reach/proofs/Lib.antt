@@ -5,6 +5,7 @@ mod First
 mod Labelling
 mod Levels
 mod Listing
+mod Runs
 mod Spelled
 mod Spots
 mod Spotting

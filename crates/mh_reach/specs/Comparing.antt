@@ -1,5 +1,5 @@
 -- Sentences that are not written out: what they are made of, and which of two comes first.
-use Rattle.std.specs.Prelude.{◌≡◌, ℕ, List, [], ◌∷◌, Option, Some, None, Bool, true, false}
+use Rattle.std.specs.Prelude.{◌≡◌, ℕ, List, [], ◌∷◌, ◌++◌, Option, Some, None, Bool, true, false}
 use Rattle.std.specs.List.{Contains}
 use Rattle.mh_tables.specs.Table.{TableData}
 use Rattle.mh_tables.specs.Failing.{LexLe}
@@ -74,3 +74,11 @@ AreKnown facts spots xs = (o : Coming) → Contains xs o → IsKnown facts spots
 -- the arrivals by their sentences
 abbrev pub InTurn : TableData → Facts → Spots → Coming → Coming → Type 0
 InTurn t facts spots x y = Precedes t facts spots x.step y.step
+
+-- the first of some arrivals are put behind others; they came by one step
+pub record PutsRun (xs rest old new : List Coming) : Type 0 where
+  pub first : Coming
+  pub run : List Coming
+  pub is : xs ≡ (first ∷ run) ++ rest
+  pub put : new ≡ old ++ first ∷ run
+  pub same : (y : Coming) → Contains run y → y.step ≡ first.step

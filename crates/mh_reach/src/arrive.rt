@@ -414,6 +414,10 @@ pub fn arrive(
         queue: starts(alloc, table, classes)?,
     };
     for cost in 0..CAP + 1 {
+        let buckets = second.queue.buckets.len();
+        if buckets <= cost as usize {
+            return Ok(second.arrivals);
+        }
         arrive_level(alloc, table, classes, found, &mut second, cost)?;
     }
     Ok(second.arrivals)

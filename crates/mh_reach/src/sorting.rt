@@ -1,9 +1,9 @@
 //! Arrivals of one cost, put in the order of their sentences.
-ghost use Rattle.std.specs.Prelude.{◌≡◌, ◌<◌, ◌∷◌, ◌++◌, IfOk, OnOk, drop, length, slice_get};
-ghost use Rattle.mh_reach.specs.Comparing.{AreKnown, InTurn, IsTold};
+ghost use Rattle.std.specs.Prelude.{◌≡◌, ◌<◌, ◌∷◌, ◌++◌, IfOk, IsTrue, OnOk, drop, length, slice_get};
+ghost use Rattle.mh_reach.specs.Comparing.{AreKnown, InTurn, IsTold, PutsRun};
 ghost use Rattle.mh_reach.specs.Rising.{IsSooner, Merges, Rises, Sorts};
 
-use crate::arrivals::{Arrivals, Coming};
+use crate::arrivals::{Arrivals, Coming, Step};
 use crate::comparing::comes_later;
 use mh_facts::FactStore;
 use mh_grammar::Memory;
@@ -18,6 +18,14 @@ fn first_of(comings: &[Coming]) -> Option<Coming>
         Some(coming) => Some(*coming),
         None => None,
     }
+}
+
+/// The first of arrivals, of which there is one.
+fn head_of(comings: &[Coming]) -> Coming
+    requires { 0 < length comings.now }
+    ensures { comings.now ≡ result ∷ drop 1 comings.now }
+{
+    comings[0]
 }
 
 /// Some arrivals without the first.
@@ -48,6 +56,69 @@ fn sooner(
         Some(other) => {
             let later = comes_later(alloc, table, store, arrivals, coming.step, other.step)?;
             if later { Ok(Some(other)) } else { Ok(None) }
+        }
+    }
+}
+
+/// Whether two steps are one, where they have a sentence by other spots.
+fn is_same(left: Step, right: Step) -> bool
+    ensures { IsTrue result → left ≡ right }
+{
+    match (left, right) {
+        (
+            Step::Shift {
+                from: one,
+                token: last,
+            },
+            Step::Shift {
+                from: two,
+                token: other,
+            },
+        ) => {
+            if one != two {
+                return false;
+            }
+            last == other
+        }
+        (
+            Step::Way {
+                from: one,
+                inner: last,
+            },
+            Step::Way {
+                from: two,
+                inner: other,
+            },
+        ) => {
+            if one != two {
+                return false;
+            }
+            last == other
+        }
+        _ => false,
+    }
+}
+
+/// Puts the first of some arrivals behind others, and those behind it that came by the same step, so that they have the
+/// same sentence: one for each token to come. Gives the rest.
+fn push_run<'a>(all: &mut Vec<Coming>, comings: &'a [Coming]) -> Result<&'a [Coming], Memory>
+    requires { 0 < length comings.now }
+    ensures { IfOk result (λ rest. PutsRun comings.now rest.now all.old.items all.new.items) }
+{
+    let first = head_of(comings);
+    all.push(first)?;
+    let mut rest = behind(comings);
+    'comings: loop {
+        match first_of(rest) {
+            None => return Ok(rest),
+            Some(coming) => {
+                if is_same(coming.step, first.step) {
+                    all.push(coming)?;
+                    rest = behind(rest);
+                } else {
+                    return Ok(rest);
+                }
+            }
         }
     }
 }
@@ -88,14 +159,8 @@ fn merged(
                 return Ok(all);
             }
             Some(coming) => match sooner(alloc, table, store, arrivals, coming, others)? {
-                None => {
-                    all.push(coming)?;
-                    rest = behind(rest);
-                }
-                Some(other) => {
-                    all.push(other)?;
-                    others = behind(others);
-                }
+                None => rest = push_run(&mut all, rest)?,
+                Some(_) => others = push_run(&mut all, others)?,
             },
         }
     }

@@ -5,7 +5,6 @@ use Rattle.mh_drive.specs.Text.{Text}
 use Rattle.mh_drive.specs.Causes.{Staged, Go, Halt}
 use Rattle.mh_modes.specs.Plan.{Plan, asks_of, by_plan}
 use Rattle.mh_drive.specs.Ways.{AnswersAll, AsksFor, EndsBehind, Outcome, Yields, left_behind}
-use Rattle.mh_modes.specs.Fixed.{IsFixed}
 use Rattle.mh_top.specs.Work.{Work, IsPlanUnless, IsWork, IsWorkOf, has_warning}
 use Rattle.mh_drive.specs.declared.driving.Asks.{Asks}
 use Rattle.mh_drive.specs.declared.driving.Asks.TheVariants.{NoLine, FirstLine, EachLine}
@@ -13,7 +12,7 @@ use Rattle.mh_prepare.specs.Shapes.{Prepared}
 use Rattle.mh_drive.specs.declared.stop.Cause.{Cause}
 use Rattle.mh_drive.proofs.Binding.{IsOne}
 use Rattle.mh_prepare.proofs.Once.{prepared_once}
-use Rattle.mh_modes.proofs.EachMode.{answer_once, cause_once, out_once, answer_fixed, facts_of}
+use Rattle.mh_modes.proofs.EachMode.{answer_once, cause_once, out_once, facts_of}
 
 -- ---- the work
 
@@ -47,16 +46,12 @@ asks_once NoLine input lines lines' whole whole' p q = (p.0 ∙ sym q.0, p.1 ∙
 asks_once FirstLine input lines lines' whole whole' p q = (sym p.0 ∙ q.0, sym p.1 ∙ q.1)
 asks_once EachLine input lines lines' whole whole' p q = (sym p.0 ∙ q.0, sym p.1 ∙ q.1)
 
-answers_fixed : (plan : Plan) (lines : List Text) (text : Text) (next : Plan) → AnswersAll by_plan plan lines text next → IsFixed plan → IsFixed next
-answers_fixed plan [] text next all fixed = subst IsFixed (sym all.1) fixed
-answers_fixed plan (line ∷ lines) text next all fixed = answers_fixed all.2 lines all.1 next all.4 (answer_fixed line plan all.0 all.2 all.3 fixed)
-
-behind_once : (whole : Bool) (plan : Plan) (text : Text) (c d : Option Cause) (t u : Text) → EndsBehind by_plan whole plan text c t → EndsBehind by_plan whole plan text d u → (c ≡ d) × (IsFixed plan → t ≡ u)
+behind_once : (whole : Bool) (plan : Plan) (text : Text) (c d : Option Cause) (t u : Text) → EndsBehind by_plan whole plan text c t → EndsBehind by_plan whole plan text d u → (c ≡ d) × (t ≡ u)
 behind_once true plan text c d t u p q =
-    (p.2 ∙ cause_once plan p.0 q.0 p.1 q.1 ∙ sym q.2, λ fixed. p.3 ∙ ap (λ (out : Text). text ++ out) (out_once plan p.0 q.0 fixed p.1 q.1) ∙ sym q.3)
-behind_once false plan text c d t u p q = (p.0 ∙ sym q.0, λ fixed. p.1 ∙ sym q.1)
+    (p.2 ∙ cause_once plan p.0 q.0 p.1 q.1 ∙ sym q.2, p.3 ∙ ap (λ (out : Text). text ++ out) (out_once plan p.0 q.0 p.1 q.1) ∙ sym q.3)
+behind_once false plan text c d t u p q = (p.0 ∙ sym q.0, p.1 ∙ sym q.1)
 
-pub outcome_once : (plan : Plan) (input : Text) (o r : Outcome) → Yields by_plan plan (Some input) o → Yields by_plan plan (Some input) r → (o.cause ≡ r.cause) × (o.left ≡ r.left) × (IsFixed plan → o.out ≡ r.out)
+pub outcome_once : (plan : Plan) (input : Text) (o r : Outcome) → Yields by_plan plan (Some input) o → Yields by_plan plan (Some input) r → o ≡ r
 outcome_once plan input o r p q =
     let asks = asks_once (asks_of plan) input q.lines p.lines q.whole p.whole q.asks p.asks in
     let all = answers_once plan p.lines p.text q.text p.last q.last p.answers (subst (λ (l : List Text). AnswersAll by_plan plan l q.text q.last) asks.0 q.answers) in
@@ -64,4 +59,9 @@ outcome_once plan input o r p q =
     subst (λ (w : Bool). EndsBehind by_plan w p.last p.text r.cause r.out) asks.1 (subst (λ (t : Text). EndsBehind by_plan q.whole p.last t r.cause r.out) (sym all.0) (subst (λ (l : Plan). EndsBehind by_plan q.whole l q.text r.cause r.out) (sym all.1) q.ends)) in
     let same = behind_once p.whole p.last p.text o.cause r.cause o.out r.out p.ends ends in
     let left : o.left ≡ r.left = p.left_is ∙ ap₂ (λ (w : Bool) (l : List Text). left_behind (Some input) w l) (sym asks.1) (sym asks.0) ∙ sym q.left_is in
-    (same.0, left, λ fixed. same.1 (answers_fixed plan p.lines p.text p.last p.answers fixed))
+    λ i. record { cause = same.0 i; out = same.1 i; left = left i }
+
+pub run_once : (words : List Text) (files : Files) (input : Text) (v w : Work) (o p : Outcome) → IsWork words (Some files) v → Yields by_plan v.plan (Some input) o → IsWork words (Some files) w → Yields by_plan w.plan (Some input) p → (v ≡ w) × (o ≡ p)
+run_once words files input v w o p is yields is' yields' =
+    let same = work_once words files v w is is' in
+    (same, outcome_once v.plan input o p yields (subst (λ (x : Work). Yields by_plan x.plan (Some input) p) (sym same) yields'))

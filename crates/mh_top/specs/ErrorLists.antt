@@ -25,7 +25,7 @@ pub data AnsweredErrors (p : Prepared) (before now : World) (status : ℕ) : Typ
   Refused : (s : ℕ) → TooLongAt p.tabled.halting s → status ≡ 1 → Appends before.out now.out [] → Appends before.err now.err (warnings_of p ++ too_long s) → AnsweredErrors p before now status
 
 -- For every accepted grammar out holds exactly the entries of the states in which some sentence is refused, each once, rising, each
--- with a sentence of least cost that is refused there at its last token. The premises: the files are told, no count rose, and no
+-- with the first sentence that is refused there at its last token. The premises: the files are told, no count rose, and no
 -- state has only sentences that are too dear; where the last fails, the lowest such state is told in place of the list.
 abbrev pub ListsErrorsExactly : List Text → World → World → ℕ → Type 0
 ListsErrorsExactly words before now status =

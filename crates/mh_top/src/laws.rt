@@ -5,21 +5,27 @@ ghost use Rattle.mh_top.specs.AtLine.{IsAnsweredAt, HasVerdictAt};
 ghost use Rattle.mh_drive.specs.Causes.{Staged};
 ghost use Rattle.mh_modes.specs.Plan.{Plan, Judges, by_plan};
 ghost use Rattle.mh_drive.specs.Ways.{AnswersAll, Outcome, Yields};
-ghost use Rattle.mh_modes.specs.Fixed.{IsFixed};
 ghost use Rattle.mh_drive.specs.Text.{Text};
 ghost use Rattle.mh_modes.specs.Verdicts.{Answering};
 ghost use Rattle.mh_top.specs.Work.{Work, IsWork};
 ghost use Rattle.mh_prepare.specs.Preparing.{IsPrepared};
 ghost use Rattle.mh_prepare.specs.Shapes.{Prepared};
 
-/// Over given files the words ask for one work, and a mode has one outcome on a given input; but in a list of errors sentences of
-/// one cost may stand for each other.
+/// Over given files the words ask for one work, and a mode has one outcome on a given input.
 pub fn work_is_one()
     ensures work { (words : List Text) (files : Files) (v w : Work) →
         IsWork words (Some files) v → IsWork words (Some files) w → v ≡ w }
     ensures outcome { (plan : Plan) (input : Text) (o p : Outcome) →
         Yields by_plan plan (Some input) o → Yields by_plan plan (Some input) p →
-        (o.cause ≡ p.cause) × (o.left ≡ p.left) × (IsFixed plan → o.out ≡ p.out) }
+        o ≡ p }
+{}
+
+/// Two runs on the same words, files and input warn of the same, write the same text, end for the same cause, and leave the same
+/// input.
+pub fn runs_are_one()
+    ensures { (words : List Text) (files : Files) (input : Text) (v w : Work) (o p : Outcome) →
+        IsWork words (Some files) v → Yields by_plan v.plan (Some input) o →
+        IsWork words (Some files) w → Yields by_plan w.plan (Some input) p → (v ≡ w) × (o ≡ p) }
 {}
 
 /// Words ask for some work wherever what comes before the warnings goes on or halts.
