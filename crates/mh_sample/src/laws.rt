@@ -1,5 +1,6 @@
 //! What readers may rely on of samples. The call does nothing; its clause is a theorem.
 ghost use Rattle.std.specs.Prelude.{◌≡◌, List, ℕ};
+ghost use Rattle.mh_grammar.specs.Plain.{plain_of};
 ghost use Rattle.mh_grammar.specs.declared.types.Grammar.{Grammar};
 ghost use Rattle.mh_sample.specs.Counts.{IsSampleLine};
 
@@ -7,7 +8,8 @@ use mh_tables::Halting;
 
 /// By a grammar, its table and the size of the catalogue a sample has one line.
 pub fn sample_line_is_one(table: &Halting)
-    ensures { (g : Grammar) (number listed : ℕ) (x y : List ℕ) → IsSampleLine g table.now number listed x → IsSampleLine g table.now number listed y → x ≡ y }
+    ensures some { (g : Grammar) → table.now.grammar ≡ plain_of g → (number listed : ℕ) → (text : List ℕ) × IsSampleLine g table.now number listed text }
+    ensures once { (g : Grammar) (number listed : ℕ) (x y : List ℕ) → IsSampleLine g table.now number listed x → IsSampleLine g table.now number listed y → x ≡ y }
 {
-    let _table = table;
+    let _facts = table.table();
 }
