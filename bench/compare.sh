@@ -1,7 +1,7 @@
 #!/usr/bin/env bash
 # Compares the built program with Menhir itself (Debian's package `menhir`): states, verdicts, trees and lists of errors on real
 # grammars, which must be the same, and times, which are printed as ratios. It ends with 1 if anything is not the same.
-# Of each grammar file in FOLDER it compares how the canonical automaton is built (states, time, memory) and the list of errors, too.
+# Of each grammar file in FOLDER it compares how both automata are built (states, time, memory) and the list of errors, too.
 # Usage: bench/compare.sh PATH-OF-OUR-PROGRAM [FOLDER]   (after a run of the gate: crates/menhir/out/menhir)
 set -eu
 ours=$(readlink -f "${1:?the path of the built program}")
@@ -36,9 +36,15 @@ same() { # whether two files hold the same words, blanks apart
     cmp -s <(tr -d ' \n' <"$1") <(tr -d ' \n' <"$2")
 }
 
-# A thousand random sentences of a real grammar, every second one with a token changed.
+# What the word of a mode is called.
+called() { if [ -n "$1" ]; then echo canonical; else echo merged; fi; }
+# How many states the automaton of a grammar has, ours and Menhir's.
+our_states() { "$ours" $1 --show-automaton "${@:2}" 2>err.txt | head -1 | tr -dc 0-9; }
+their_states() { menhir --base g $1 --interpret -la 2 "${@:2}" 2>&1 </dev/null | sed -n 's/^Built an LR(1) automaton with \([0-9]*\) states.*/\1/p'; }
+
+# A thousand random sentences of a real grammar, every second one with a token changed, in both modes.
 compare_grammar() {
-    local name=$1 sentences=$1.in files file
+    local name=$1 sentences=$1.in files file mode
     mkdir "$name"
     for file in "$bench/grammars/$name"/*.mly; do
         # Menhir's interpreter puts EOF behind each sentence by itself, so the token has another name here.
@@ -46,59 +52,65 @@ compare_grammar() {
     done
     files=("$name"/*.mly)
     menhir --base "$name" --only-preprocess-u "${files[@]}" 2>/dev/null | python3 "$bench/sentences.py" 1 1000 14 >"$sentences"
-    local states their_states
-    states=$("$ours" --show-automaton "${files[@]}" | head -1 | tr -dc 0-9)
-    their_states=$(menhir --base "$name" --canonical --interpret -la 2 "${files[@]}" 2>&1 </dev/null | sed -n 's/^Built an LR(1) automaton with \([0-9]*\) states.*/\1/p')
-    echo "$name: $(wc -w <"$sentences") tokens in 1,000 sentences; $states canonical states, Menhir has $their_states"
-    [ "$states" = "$their_states" ] || differs "$name, states"
-    local words our_time canonical_time their_time
-    for words in "--interpret" "--interpret --interpret-show-cst"; do
-        our_time=$(seconds "$ours" $words "${files[@]}" <"$sentences")
-        mv out.txt ours.txt
-        canonical_time=$(seconds menhir --base "$name" --canonical $words "${files[@]}" <"$sentences")
-        sed '/^Ready!$/d' out.txt >canonical.txt
-        their_time=$(seconds menhir --base "$name" $words "${files[@]}" <"$sentences")
-        sed '/^Ready!$/d' out.txt >theirs.txt
-        same ours.txt canonical.txt || differs "$name, $words, canonical"
-        same ours.txt theirs.txt || differs "$name, $words"
-        echo "    $words: Menhir takes $(ratio "$canonical_time" "$our_time") times as long with its canonical automaton, $(ratio "$their_time" "$our_time") with its merged one"
+    echo "$name: $(wc -w <"$sentences") tokens in 1,000 sentences"
+    for mode in "" --canonical; do
+        compare_states "$name" "$mode" "${files[@]}"
+        compare_verdicts "$name" "$mode" "$sentences" "${files[@]}"
+        compare_errors "$name" "$mode" "${files[@]}"
     done
-    compare_errors "$name" "${files[@]}"
+}
+
+compare_states() { # NAME MODE FILE..
+    local name=$1 mode=$2 states theirs
+    shift 2
+    states=$(our_states "$mode" "$@")
+    theirs=$(their_states "$mode" "$@")
+    echo "    $states $(called "$mode") states; Menhir has $theirs"
+    [ "$states" = "$theirs" ] || differs "$name, $(called "$mode") states"
+}
+
+compare_verdicts() { # NAME MODE SENTENCES FILE..
+    local name=$1 mode=$2 sentences=$3 words our_time their_time
+    shift 3
+    for words in "--interpret" "--interpret --interpret-show-cst"; do
+        our_time=$(seconds "$ours" $mode $words "$@" <"$sentences")
+        mv out.txt ours.txt
+        their_time=$(seconds menhir --base "$name" $mode $words "$@" <"$sentences")
+        sed '/^Ready!$/d' out.txt >theirs.txt
+        same ours.txt theirs.txt || differs "$name, $words, $(called "$mode")"
+        echo "    $words, $(called "$mode"): Menhir takes $(ratio "$their_time" "$our_time") times as long"
+    done
 }
 
 # How many sentences a list of errors has of each length.
 lengths() { sed -n '/^[^#<].*:/s/^[^:]*://p' | awk '{ print NF }' | sort -n | uniq -c; }
 
-# The lists of errors of a grammar. Over one automaton the lengths are the same where states are merged; a canonical state that could
-# reduce by default refuses at once here and not in Menhir, so there the lists differ, and times alone are told.
-compare_errors() { # BASE FILE..
-    local base=$1 built=() our_time their_time mode entries their_entries
-    shift
-    mode=$("$ours" --show-automaton "$@" 2>err.txt | sed -n '1s/:.*//p')
-    [ "$mode" = canonical ] && built=(--canonical)
-    our_time=$(seconds "$ours" --list-errors "$@")
+# The lists of errors of a grammar. Where states are merged the lengths are the same; a canonical state that could reduce by default
+# refuses at once here and not in Menhir, so there the lists differ, and times alone are told.
+compare_errors() { # NAME MODE FILE..
+    local name=$1 mode=$2 our_time their_time entries their_entries
+    shift 2
+    our_time=$(seconds "$ours" $mode --list-errors "$@")
     lengths <out.txt >ours.txt
     entries=$(grep -c '^## Ends in an error' out.txt || true)
-    their_time=$(seconds timeout 300 menhir --base "$base" "${built[@]}" --list-errors "$@")
+    their_time=$(seconds timeout 300 menhir --base "$name" $mode --list-errors "$@")
     lengths <out.txt >theirs.txt
     their_entries=$(grep -c '^## Ends in an error' out.txt || true)
-    echo "    --list-errors, $mode: $entries entries in $our_time s; Menhir has $their_entries and takes $(ratio "$their_time" "$our_time") times as long"
-    [ "$mode" = canonical ] || cmp -s ours.txt theirs.txt || differs "$base, lengths of sentences"
+    echo "    --list-errors, $(called "$mode"): $entries entries in $our_time s; Menhir has $their_entries and takes $(ratio "$their_time" "$our_time") times as long"
+    [ -n "$mode" ] || cmp -s ours.txt theirs.txt || differs "$name, lengths of sentences"
 }
 
-# How a grammar's canonical automaton is built, without input: states, processor seconds and MB.
-compare_build() { # FILE
-    local base file=grammar.mly measured states their_states=
+# How a grammar's automaton is built, without input: states, processor seconds and MB.
+compare_build() { # FILE MODE
+    local base file=grammar.mly mode=$2 measured
     base=$(basename "$1" .mly)
     sed 's/\<EOF\>/STOP/g' "$1" >"$file"
-    states=$("$ours" --show-automaton "$file" | head -1 | tr -dc 0-9)
-    measured=$(resources "$ours" --interpret "$file")
-    echo "$base: $states canonical states; ${measured% *} s and ${measured#* } MB"
+    measured=$(resources "$ours" $mode --interpret "$file")
+    echo "$base: $(our_states "$mode" "$file") $(called "$mode") states; ${measured% *} s and ${measured#* } MB"
     if menhir_there; then
-        their_states=$(menhir --base g --canonical --interpret -la 2 "$file" 2>&1 </dev/null | sed -n 's/^Built an LR(1) automaton with \([0-9]*\) states.*/\1/p')
-        [ "$states" = "$their_states" ] || differs "$base, states"
+        compare_states "$base" "$mode" "$file"
         local theirs
-        theirs=$(resources menhir --base g --canonical --interpret "$file")
+        theirs=$(resources menhir --base g $mode --interpret "$file")
         echo "    Menhir takes $(ratio "${theirs% *}" "${measured% *}") times as long and $(ratio "${theirs#* }" "${measured#* }") times the memory"
     fi
 }
@@ -110,7 +122,7 @@ compare_time() { # NAME INPUT WORD..
     our_time=$(seconds "$ours" "$@" <"$input")
     mv out.txt ours.txt
     if menhir_there; then
-        their_time=$(seconds timeout 100 menhir --base g --canonical "$@" <"$input")
+        their_time=$(seconds timeout 100 menhir --base g "$@" <"$input")
         [ -s out.txt ] && ! grep -q 'Fatal error' err.txt || their_time=
     fi
     echo "$name: $our_time s${their_time:+; Menhir takes $(ratio "$their_time" "$our_time") times as long}"
@@ -120,18 +132,21 @@ if menhir_there; then
     for name in json c lua sql; do compare_grammar "$name"; done
     for file in ${further:+"$further"/*.mly}; do
         echo "$(basename "$file" .mly):"
-        compare_errors "$(basename "$file" .mly)" "$file"
+        compare_errors "$(basename "$file" .mly)" "" "$file"
     done
 else
     echo "Menhir is not here: only our times follow"
 fi
 if [ -n "$further" ]; then
-    for file in "$further"/*.mly; do compare_build "$file"; done
+    for file in "$further"/*.mly; do
+        compare_build "$file" ""
+        compare_build "$file" --canonical
+    done
 fi
 python3 "$bench/inputs.py"
 compare_time "1,002,000 tokens of sums" sums.in --interpret sums.mly
 compare_time "the same, with trees" sums.in --interpret --interpret-show-cst sums.mly
-compare_time "a canonical automaton of 8,000 states" one.in --interpret states.mly
+compare_time "a canonical automaton of 8,000 states" one.in --canonical --interpret states.mly
 compare_time "a chain of 19,000 rules, with 64 tokens" one.in --interpret chain.mly
 compare_time "5,000 unit rules, with 256 tokens" one.in --interpret units.mly
 compare_time "a file of 16 MiB of small rules" one.in --interpret rules.mly

@@ -8,7 +8,7 @@ use Rattle.mh_opts.specs.declared.jobs.Mode.{Mode}
 use Rattle.mh_opts.specs.declared.jobs.Mode.TheVariants as mode
 use Rattle.mh_opts.specs.declared.jobs.Need.{Need}
 use Rattle.mh_opts.specs.declared.jobs.Opt.{Opt}
-use Rattle.mh_opts.specs.declared.jobs.TheConstants.{COMPILE_ERRORS, GRAMMARS, INTERPRET_SHOW_CST, MESSAGES, NEEDS, NO_STDLIB, STRICT}
+use Rattle.mh_opts.specs.declared.jobs.TheConstants.{CANONICAL, COMPILE_ERRORS, GRAMMARS, INTERPRET_SHOW_CST, MESSAGES, NEEDS, NO_STDLIB, STRICT}
 use Rattle.mh_opts.specs.declared.jobs.Job.{Job}
 use Rattle.mh_opts.specs.declared.jobs.Job.TheVariants as job
 use Rattle.mh_opts.specs.declared.order.Order.{Order}
@@ -80,6 +80,7 @@ abbrev pub order_for : List Row → Mode → Order
 order_for rows mode = record {
   job = job_for rows mode;
   grammars = grammars_of rows;
+  canonical = is_given CANONICAL.now rows;
   strict = is_given STRICT.now rows;
   stdlib = not (is_given NO_STDLIB.now rows);
   show_cst = is_given INTERPRET_SHOW_CST.now rows;

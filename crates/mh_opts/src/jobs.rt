@@ -18,6 +18,8 @@ pub(crate) const INTERPRET: &str = "interpret";
 
 pub(crate) const INTERPRET_SHOW_CST: &str = "interpret-show-cst";
 
+pub(crate) const CANONICAL: &str = "canonical";
+
 pub(crate) const STRICT: &str = "strict";
 
 pub(crate) const NO_STDLIB: &str = "no-stdlib";
@@ -86,7 +88,7 @@ pub struct Need<T> {
     pub needs: T,
 }
 
-const OPTIONS: [Opt<&str>; 10] = [
+const OPTIONS: [Opt<&str>; 11] = [
     Opt {
         name: INTERPRET,
         action: ArgAction::SetTrue,
@@ -124,6 +126,11 @@ const OPTIONS: [Opt<&str>; 10] = [
     },
     Opt {
         name: INTERPRET_SHOW_CST,
+        action: ArgAction::SetTrue,
+        mode: None,
+    },
+    Opt {
+        name: CANONICAL,
         action: ArgAction::SetTrue,
         mode: None,
     },

@@ -13,6 +13,8 @@ pub struct Order {
     pub job: Job,
     /// The grammar files in the order of their words.
     pub grammars: Sequence<Name>,
+    /// `--canonical`: the automaton is the canonical one, and not the merged one.
+    pub canonical: bool,
     /// `--strict`: a conflict is a refusal.
     pub strict: bool,
     /// Whether the standard library may be used; `--no-stdlib` forbids it.

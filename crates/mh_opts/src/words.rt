@@ -9,8 +9,8 @@ ghost use Rattle.mh_opts.specs.App.{options, plain};
 use crate::command::menhir_command;
 use crate::found::{is_given, value_of};
 use crate::jobs::{
-    GRAMMARS, INTERPRET_SHOW_CST, MESSAGES, Mode, NO_STDLIB, Need, Opt, STRICT, job_of, needs,
-    options,
+    CANONICAL, GRAMMARS, INTERPRET_SHOW_CST, MESSAGES, Mode, NO_STDLIB, Need, Opt, STRICT, job_of,
+    needs, options,
 };
 use crate::order::{Order, UsageFault};
 use clap::ArgMatches;
@@ -127,6 +127,7 @@ fn order_for(alloc: Global, matches: &ArgMatches<'_>, mode: Mode) -> Result<Orde
     Ok(Order {
         job,
         grammars,
+        canonical: is_given(matches, CANONICAL),
         strict: is_given(matches, STRICT),
         stdlib: !is_given(matches, NO_STDLIB),
         show_cst: is_given(matches, INTERPRET_SHOW_CST),

@@ -4,6 +4,7 @@ use Rattle.mh_grammar.specs.declared.types.Grammar.{Grammar}
 use Rattle.mh_grammar.specs.Plain.{plain_of}
 use Rattle.mh_items.specs.Shapes.{Automaton}
 use Rattle.mh_canon.proofs.Only.{one_canonical}
+use Rattle.mh_pager.proofs.OneMerged.{merged_one}
 use Rattle.mh_resolve.proofs.Once.{one_table, conflicts_once}
 use Rattle.mh_resolve.specs.declared.kinds.Mode.{Mode}
 use Rattle.mh_tables.specs.Table.{TableData}
@@ -28,7 +29,7 @@ use Rattle.mh_prepare.specs.Preparing.{IsFront, IsPrepared, IsTabledFront}
 use Rattle.mh_prepare.specs.Shapes.{Tabled}
 use Rattle.mh_prepare.specs.declared.prepared.Front.{Front}
 use Rattle.mh_prepare.specs.declared.tabled.Source.{Source}
-use Rattle.mh_prepare.specs.declared.tabled.Source.TheVariants.{Canonical}
+use Rattle.mh_prepare.specs.declared.tabled.Source.TheVariants.{Canonical, Merged}
 
 gives_once : {A : Type 0} (x : A) → IsOne (Gives x)
 gives_once x s r p q = p ∙ sym q
@@ -67,6 +68,10 @@ grammar_once prelude modules (Halt cause) (Halt cause') p q =
 -- ---- a table
 
 automaton_once : (source : Source) (g : Grammar) → IsOne (IsAutomatonStage source g)
+automaton_once Merged g (Go a) (Go c) p q = ap Go (merged_one (plain_of g) a c p.1 q.1)
+automaton_once Merged g (Go a) (Halt cause) p q = absurd (p.0 q.0)
+automaton_once Merged g (Halt cause) (Go a) p q = absurd (q.0 p.0)
+automaton_once Merged g (Halt cause) (Halt cause') p q = ap Halt (p.1 ∙ sym q.1)
 automaton_once Canonical g (Go a) (Go c) p q = ap Go (one_canonical (plain_of g) a c p.1 q.1)
 automaton_once Canonical g (Go a) (Halt cause) p q = absurd (p.0 q.0)
 automaton_once Canonical g (Halt cause) (Go a) p q = absurd (q.0 p.0)

@@ -1,9 +1,10 @@
 -- The automaton of a grammar with its table, where every run on it ends, and the list of its conflicts.
-use Rattle.std.specs.Prelude.{◌≡◌, ℕ, Option}
+use Rattle.std.specs.Prelude.{if◌then◌else◌, ◌≡◌, ℕ, Option}
 use Rattle.mh_grammar.specs.declared.types.Grammar.{Grammar}
 use Rattle.mh_grammar.specs.Plain.{plain_of}
 use Rattle.mh_items.specs.Shapes.{Automaton}
 use Rattle.mh_canon.specs.Canonical.{IsCanonical, IsOver}
+use Rattle.mh_pager.specs.Steps.{IsMerged, IsSwollen}
 use Rattle.mh_canon.specs.declared.collection.TheConstants.{MAX_STATES}
 use Rattle.mh_resolve.specs.States.{IsTableOf}
 use Rattle.mh_resolve.specs.Conflicts.{AreConflicts}
@@ -18,18 +19,21 @@ use Rattle.mh_opts.specs.declared.order.Order.{Order}
 use Rattle.mh_drive.specs.declared.stop.Cause.{Cause}
 use Rattle.mh_drive.specs.declared.stop.Cause.TheVariants.{Refused}
 use Rattle.mh_prepare.specs.declared.tabled.Source.{Source}
-use Rattle.mh_prepare.specs.declared.tabled.Source.TheVariants.{Canonical}
+use Rattle.mh_prepare.specs.declared.tabled.Source.TheVariants.{Canonical, Merged}
 use Rattle.mh_prepare.specs.Shapes.{Tabled}
 
 -- ---- the automaton, by where it comes from
 
 abbrev pub source_of : Order → Source
-source_of order = Canonical
+source_of order = if order.canonical then Canonical else Merged
 
 abbrev pub mode_of : Source → Mode
+mode_of Merged = modes.Merged
 mode_of Canonical = modes.Canonical
 
 abbrev pub IsAutomatonStage : Source → Grammar → Staged Automaton → Type 0
+IsAutomatonStage Merged g (Go a) = (IsSwollen (plain_of g) MAX_STATES → ⊥) × IsMerged (plain_of g) a
+IsAutomatonStage Merged g (Halt cause) = IsSwollen (plain_of g) MAX_STATES × (cause ≡ Refused too_many_states)
 IsAutomatonStage Canonical g (Go a) = (IsOver (plain_of g) MAX_STATES → ⊥) × IsCanonical (plain_of g) a
 IsAutomatonStage Canonical g (Halt cause) = IsOver (plain_of g) MAX_STATES × (cause ≡ Refused too_many_states)
 

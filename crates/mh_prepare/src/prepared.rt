@@ -70,8 +70,11 @@ pub fn front_of<F: Shelf>(alloc: Global, words: &[String], shelf: &mut F) -> Res
 pub fn source_of(order: &Order) -> Source
     ensures { result ≡ source_in order.now }
 {
-    let _order = order;
-    Source::Canonical
+    if order.canonical {
+        Source::Canonical
+    } else {
+        Source::Merged
+    }
 }
 
 /// The table of an order's grammar.

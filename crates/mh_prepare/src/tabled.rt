@@ -7,12 +7,14 @@ ghost use Rattle.mh_prepare.specs.TableStage.{IsAutomatonStage, IsResolvedStage,
 ghost use Rattle.mh_prepare.specs.Texts.{loop_place, look_text, loops_line, too_many_states as too_many_states_line};
 ghost use Rattle.mh_drive.specs.Stages.{Halts, StageHas};
 ghost use Rattle.mh_msgfile.specs.Sentences.{token_names};
+ghost use Rattle.mh_prepare.specs.declared.tabled.Source.TheVariants.{Canonical, Merged};
 ghost use Rattle.mh_drive.specs.declared.stop.Cause.TheVariants.{Refused};
 
 use mh_canon::canonical;
 use mh_drive::{Stop, refused};
 use mh_grammar::{Grammar, Sequence, Token};
 use mh_items::{Automaton, AutomatonWith, StatesFault};
+use mh_pager::merged;
 use mh_resolve::{Conflict, Mode, resolve};
 use mh_sets::TokenSet;
 use mh_tables::{HaltFault, Halting, check_halts};
@@ -21,6 +23,8 @@ use std::alloc::{AllocError, Global};
 /// Where the automaton comes from.
 #[derive(Clone, Copy, Debug, PartialEq, Eq)]
 pub enum Source {
+    /// It is the merged one of the grammar.
+    Merged,
     /// It is the canonical one of the grammar.
     Canonical,
 }
@@ -31,6 +35,7 @@ impl Source {
         ensures { result ≡ mode_of self }
     {
         match self {
+            Source::Merged => Mode::Merged,
             Source::Canonical => Mode::Canonical,
         }
     }
@@ -53,6 +58,36 @@ fn too_many_states(alloc: Global) -> Stop
     refused(alloc, b"menhir: too many states\n", b"", b"")
 }
 
+/// The canonical automaton of a grammar.
+fn canonical_of<const W: usize>(alloc: Global, grammar: &Grammar) -> Result<Automaton<W>, Stop>
+    requires few { W ≤ 8 }
+    requires width { length grammar.now.tokens ≤ 64 * W }
+    requires range { IsInRange (plain_of grammar.now) }
+    ensures stage { StageHas (IsAutomatonStage Canonical grammar.now) result }
+    ensures automaton { IfOk result (λ automaton. IsAutomaton (plain_of grammar.now) automaton) }
+{
+    match canonical(alloc, grammar) {
+        Ok(automaton) => Ok(automaton),
+        Err(StatesFault::TooManyStates) => Err(too_many_states(alloc)),
+        Err(StatesFault::Memory) => Err(Stop::OutOfMemory),
+    }
+}
+
+/// The merged automaton of a grammar.
+fn merged_of<const W: usize>(alloc: Global, grammar: &Grammar) -> Result<Automaton<W>, Stop>
+    requires few { W ≤ 8 }
+    requires width { length grammar.now.tokens ≤ 64 * W }
+    requires range { IsInRange (plain_of grammar.now) }
+    ensures stage { StageHas (IsAutomatonStage Merged grammar.now) result }
+    ensures automaton { IfOk result (λ automaton. IsAutomaton (plain_of grammar.now) automaton) }
+{
+    match merged(alloc, grammar) {
+        Ok(automaton) => Ok(automaton),
+        Err(StatesFault::TooManyStates) => Err(too_many_states(alloc)),
+        Err(StatesFault::Memory) => Err(Stop::OutOfMemory),
+    }
+}
+
 /// The automaton of a grammar.
 fn automaton_of<const W: usize>(
     alloc: Global,
@@ -66,11 +101,8 @@ fn automaton_of<const W: usize>(
     ensures automaton { IfOk result (λ automaton. IsAutomaton (plain_of grammar.now) automaton) }
 {
     match source {
-        Source::Canonical => match canonical(alloc, grammar) {
-            Ok(automaton) => Ok(automaton),
-            Err(StatesFault::TooManyStates) => Err(too_many_states(alloc)),
-            Err(StatesFault::Memory) => Err(Stop::OutOfMemory),
-        },
+        Source::Merged => merged_of(alloc, grammar),
+        Source::Canonical => canonical_of(alloc, grammar),
     }
 }
 

@@ -31,7 +31,7 @@ use Rattle.mh_prepare.specs.Shapes.{Prepared, Tabled}
 use Rattle.mh_drive.specs.declared.stop.Cause.{Cause}
 use Rattle.mh_drive.specs.declared.stop.Cause.TheVariants.{Refused, Misused, Missing, LongFile, LongInput}
 use Rattle.mh_prepare.specs.declared.tabled.Source.{Source}
-use Rattle.mh_prepare.specs.declared.tabled.Source.TheVariants.{Canonical}
+use Rattle.mh_prepare.specs.declared.tabled.Source.TheVariants.{Canonical, Merged}
 use Rattle.mh_prepare.proofs.Turns.{turn_first, turn_later}
 use Rattle.mh_prepare.proofs.Once.{prepared_once}
 use Rattle.mh_modes.proofs.EachMode.{EndsRight, IsRight, answer_right, ends_right, facts_of}
@@ -112,6 +112,7 @@ module _ (words : List Text) (files : Option Files) where
 
   of_automaton : (source : Source) (g : _) (s : _) → IsAutomatonStage source g s → (cause : Cause) → On s (IsResolvedStage (mode_of source) g) (Halt cause) → Accounts cause
   of_automaton source g (Go a) stage cause first = refused_so cause _ first.cause_is
+  of_automaton Merged g (Halt cause') stage cause same = let one : cause' ≡ cause = cc in subst Accounts one (refused_so cause' _ stage.1)
   of_automaton Canonical g (Halt cause') stage cause same = let one : cause' ≡ cause = cc in subst Accounts one (refused_so cause' _ stage.1)
 
   of_table : (front : Front) (s : Staged Tabled) → IsTableStage (source_of front.order) front.grammar s → (cause : Cause) → On {B = Prepared} s (λ tabled. Gives (record { order = front.order; grammar = front.grammar; tabled = tabled })) (Halt cause) → Accounts cause

@@ -16,8 +16,10 @@ use Rattle.mh_canon.proofs.Finished.{kernel_got}
 use Rattle.mh_canon.proofs.Meaning.{IsAutomaton-canonical}
 use Rattle.mh_canon.proofs.Only.{one_canonical}
 use Rattle.mh_canon.proofs.States.{IsOver-states}
+use Rattle.mh_pager.proofs.Finishing.{merged_automaton}
+use Rattle.mh_pager.proofs.Limits.{merged_few}
+use Rattle.mh_top.proofs.Merging.{merged_clear}
 use Rattle.mh_resolve.specs.Clear.{HasNoConflicts}
-use Rattle.mh_resolve.specs.declared.kinds.Mode.TheVariants as modes
 use Rattle.mh_resolve.specs.States.{IsTableOf}
 use Rattle.mh_resolve.proofs.Resolving.{facts_of}
 use Rattle.mh_tables.specs.Table.{TableData, table_data}
@@ -53,29 +55,29 @@ use Rattle.mh_prepare.specs.declared.prepared.Front.{Front}
 use Rattle.mh_prepare.specs.Shapes.{Prepared, Tabled}
 use Rattle.mh_drive.specs.declared.stop.Cause.{Cause}
 use Rattle.mh_prepare.specs.declared.tabled.Source.{Source}
-use Rattle.mh_prepare.specs.declared.tabled.Source.TheVariants.{Canonical}
+use Rattle.mh_prepare.specs.declared.tabled.Source.TheVariants.{Canonical, Merged}
 use Rattle.mh_tables.specs.Halting.{Halts}
 use Rattle.mh_prepare.proofs.Ready.{have_alternatives}
 use Rattle.mh_modes.proofs.EachMode.{Runs, facts_of as job_facts}
 
 -- ---- the grammar and the table that verdicts go by
 
--- the table of the grammar's canonical automaton
+-- the table of the grammar's merged automaton, or of its canonical one
 pub record HasTable (g : Grammar) (t : TableData) : Type 0 where
+  pub source : Source
   pub automaton : Automaton
-  pub canonical : IsCanonical (plain_of g) automaton
-  pub table : IsTableOf g automaton modes.Canonical t
+  pub stage : IsAutomatonStage source g (Go automaton)
+  pub table : IsTableOf g automaton (mode_of source) t
 
 pub record IsTabled (g : Grammar) (t : TableData) : Type 0 where
   range : IsInRange (plain_of g)
   costs : HaveCosts g.tokens
-  few : IsOver (plain_of g) MAX_STATES → ⊥
   table : HasTable g t
   halts : Halts t
 
 tabled_so : (source : Source) (g : Grammar) → IsInRange (plain_of g) × HaveCosts g.tokens → (s : Staged Automaton) → IsAutomatonStage source g s → (x : Tabled) → On s (IsResolvedStage (mode_of source) g) (Go x) → IsTabled g x.halting
-tabled_so Canonical g range (Go a) stage x is = record { range = range.0; costs = range.1; few = stage.0; table = record { automaton = a; canonical = stage.1; table = is.table }; halts = is.halts }
-tabled_so Canonical g range (Halt cause) stage x is = absurd (cc)
+tabled_so source g range (Go a) stage x is = record { range = range.0; costs = range.1; table = record { source = source; automaton = a; stage = stage; table = is.table }; halts = is.halts }
+tabled_so source g range (Halt cause) stage x is = absurd (cc)
 
 -- ---- up to the table
 
@@ -149,31 +151,38 @@ module _ (g : PlainGrammar) (a : Automaton) (h : IsCanonical g a) where
     };
   }
 
-module _ (g : Grammar) (t : TableData) (is : IsTabled g t) where
-  few_states : length is.table.automaton.kernels ≤ 200000
-  few_states =
-      let a = is.table.automaton in
-      elim (cases_lt 200000 (length a.kernels)) [
-        | inl over ↦ absurd (is.few (IsOver-states (plain_of g) a.kernels 200000 (states (plain_of g) a is.table.canonical) over))
-        | inr few ↦ few
-      ]
+few_canonical : (g : PlainGrammar) (a : Automaton) → IsCanonical g a → (IsOver g MAX_STATES → ⊥) → length a.kernels ≤ MAX_STATES
+few_canonical g a canonical few = elim (cases_lt MAX_STATES (length a.kernels)) [
+  | inl over ↦ absurd (few (IsOver-states g a.kernels MAX_STATES (states g a canonical) over))
+  | inr within ↦ within
+]
 
+automaton_so : (source : Source) (g : Grammar) (a : Automaton) → IsInRange (plain_of g) → IsAutomatonStage source g (Go a) → IsAutomaton (plain_of g) a
+automaton_so Merged g a range stage = merged_automaton (plain_of g) a stage.1 (merged_few (plain_of g) a range stage.1 stage.0)
+automaton_so Canonical g a range stage = IsAutomaton-canonical (plain_of g) a stage.1 (few_canonical (plain_of g) a stage.1 stage.0)
+
+-- merging brings no conflict
+clear_so : (source : Source) (g : Grammar) (a : Automaton) → IsInRange (plain_of g) → IsAutomatonStage source g (Go a) → IsLR1 g → HasNoConflicts g a
+clear_so Merged g a range stage lr1 = merged_clear g a lr1.automaton stage.1 (merged_few (plain_of g) a range stage.1 stage.0) lr1.canonical lr1.clear
+clear_so Canonical g a range stage lr1 = subst (HasNoConflicts g) (one_canonical (plain_of g) lr1.automaton a lr1.canonical stage.1) lr1.clear
+
+module _ (g : Grammar) (t : TableData) (is : IsTabled g t) where
   automaton : IsAutomaton (plain_of g) is.table.automaton
-  automaton = IsAutomaton-canonical (plain_of g) is.table.automaton is.table.canonical few_states
+  automaton = automaton_so is.table.source g is.table.automaton is.range is.table.stage
 
   facts : Facts t
   facts =
       let table = is.table.table in
       let grammar : t.grammar ≡ plain_of g = table.grammar in
       let whole : table_data g t.states ≡ t = (λ i. record { grammar = sym grammar i; costs = sym table.costs i; states = t.states }) in
-      subst Facts whole (facts_of g is.table.automaton modes.Canonical t.states is.range is.costs automaton table.states)
+      subst Facts whole (facts_of g is.table.automaton (mode_of is.table.source) t.states is.range is.costs automaton table.states)
 
   clear : IsLR1 g → HasNoConflicts g is.table.automaton
-  clear lr1 = subst (HasNoConflicts g) (one_canonical (plain_of g) lr1.automaton is.table.automaton lr1.canonical is.table.canonical) lr1.clear
+  clear lr1 = clear_so is.table.source g is.table.automaton is.range is.table.stage lr1
 
   module _ (start : ℕ) (known : start < length g.starts) where
     accepts : IsLR1 g → (w : List ℕ) (read : ℕ) → VerdictOf t start w (Accepted read) ↔ IsPrefixSentence (plain_of g) start w read
-    accepts lr1 w read = tells_prefix g is.table.automaton modes.Canonical t facts automaton is.table.table (clear lr1) start w read known
+    accepts lr1 w read = tells_prefix g is.table.automaton (mode_of is.table.source) t facts automaton is.table.table (clear lr1) start w read known
 
     accepts_rightly : (w : List ℕ) (read : ℕ) → VerdictOf t start w (Accepted read) → IsPrefixSentence (plain_of g) start w read
     accepts_rightly w read v =
@@ -182,10 +191,10 @@ module _ (g : Grammar) (t : TableData) (is : IsTabled g t) where
         subst (λ (p : PlainGrammar). IsPrefixSentence p start w read) grammar (accepted_sentence t facts start w read some v)
 
     rejects : IsLR1 g → (w : List ℕ) (at s : ℕ) → VerdictOf t start w (Rejected at s) → BeginsSentence (plain_of g) start (take (at + 1) w) → ⊥
-    rejects lr1 w at s v = tells_refused g is.table.automaton modes.Canonical t facts automaton is.table.table (clear lr1) start w at s known v
+    rejects lr1 w at s v = tells_refused g is.table.automaton (mode_of is.table.source) t facts automaton is.table.table (clear lr1) start w at s known v
 
     overshot : AllProductive (plain_of g) → (w : List ℕ) (s : ℕ) → VerdictOf t start w (Overshot s) → BeginsSentence (plain_of g) start w
-    overshot productive w s v = overshoots g is.table.automaton modes.Canonical t facts automaton is.table.table productive start w s known v
+    overshot productive w s v = overshoots g is.table.automaton (mode_of is.table.source) t facts automaton is.table.table productive start w s known v
 
 -- every run on the table ends
 pub prepared_runs : (words : List Text) (files : Option Files) (p : Prepared) → IsPrepared words files (Go p) → Runs p

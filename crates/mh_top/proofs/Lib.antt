@@ -6,3 +6,4 @@ pub mod Claims
 pub mod Exactly
 pub mod EachLine
 pub mod ErrorLists
+pub mod Merging

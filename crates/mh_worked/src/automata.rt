@@ -1,9 +1,91 @@
-//! Texts of automata.
+//! Texts of automata: merged, and canonical where the words say so.
 use crate::runs::check_cases;
 use std::test::Fail;
 
 // The input is not read.
-const TEXTS: &str = "0 --show-automaton g.mly
+const MERGED: &str = "0 --show-automaton g.mly
+~
+g.mly
+%start s
+%%
+s: {}
+~
+A
+~
+merged: 2 states
+state 0
+  s' -> . s [ # ]
+  default: reduce s ->
+  s: goto 1
+state 1
+  s' -> s . [ # ]
+  default: accept
+~
+^
+0 --show-automaton g.mly
+~
+g.mly
+%token C D
+%start s
+%%
+s: c c {}
+c: C c {} | D {}
+~
+~
+merged: 7 states
+state 0
+  s' -> . s [ # ]
+  C: shift 1
+  D: shift 2
+  s: goto 3
+  c: goto 4
+state 1
+  c -> C . c [ C D # ]
+  C: shift 1
+  D: shift 2
+  c: goto 5
+state 2
+  c -> D . [ C D # ]
+  default: reduce c -> D
+state 3
+  s' -> s . [ # ]
+  default: accept
+state 4
+  s -> c . c [ # ]
+  C: shift 1
+  D: shift 2
+  c: goto 6
+state 5
+  c -> C c . [ C D # ]
+  default: reduce c -> C c
+state 6
+  s -> c c . [ # ]
+  default: reduce s -> c c
+~
+^
+0 --show-automaton g.mly
+~
+g.mly
+%token A B
+%start s
+%%
+s: x B {} | A B B {} | B x {}
+x: B s A {}
+~
+~
+merged: 11 states
+state 0
+...
+~
+menhir: warning: end-of-stream conflict in state 7
+";
+
+#[test]
+fn merged_automata(rt: HostRuntime) -> Result<(), Fail> {
+    check_cases(&rt, rt.alloc(), MERGED)
+}
+
+const TEXTS: &str = "0 --show-automaton --canonical g.mly
 ~
 g.mly
 %start s
@@ -22,7 +104,7 @@ state 1
   default: accept
 ~
 ^
-0 --show-automaton g.mly
+0 --show-automaton --canonical g.mly
 ~
 g.mly
 %token C D
@@ -76,7 +158,7 @@ state 9
   default: reduce c -> C c
 ~
 ^
-0 --show-automaton g.mly
+0 --show-automaton --canonical g.mly
 ~
 g.mly
 %token A B C D
@@ -138,7 +220,7 @@ fn texts_of_automata(rt: HostRuntime) -> Result<(), Fail> {
 
 // A token that a level refuses; a production that is reduced on errors, and the same where none is; the end of the stream,
 // given up for a token.
-const CELLS: &str = "0 --show-automaton --strict g.mly
+const CELLS: &str = "0 --canonical --show-automaton --strict g.mly
 ~
 g.mly
 %token INT EQ EOF
@@ -181,7 +263,7 @@ state 6
   EOF: reduce e -> e EQ e
 ~
 ^
-0 --show-automaton g.mly
+0 --show-automaton --canonical g.mly
 ~
 g.mly
 %token X SEMI EOF
@@ -220,7 +302,7 @@ state 5
   default: reduce main -> s EOF
 ~
 ^
-0 --show-automaton g.mly
+0 --show-automaton --canonical g.mly
 ~
 g.mly
 %token X SEMI EOF
@@ -255,7 +337,7 @@ state 5
   default: reduce main -> s EOF
 ~
 ^
-0 --show-automaton g.mly
+0 --show-automaton --canonical g.mly
 ~
 g.mly
 %token INT PLUS
@@ -293,7 +375,7 @@ fn cells_of_automata(rt: HostRuntime) -> Result<(), Fail> {
 
 // Two uses of one rule before different tokens; sums by rules and by levels; branches by levels; a file as users write
 // it.
-const COUNTS: &str = r#"0 --show-automaton --strict g.mly
+const COUNTS: &str = r#"0 --canonical --show-automaton --strict g.mly
 ~
 g.mly
 %token A B C D E
@@ -309,7 +391,7 @@ state 0
 ...
 ~
 ^
-0 --show-automaton --strict g.mly
+0 --canonical --show-automaton --strict g.mly
 ~
 g.mly
 %token INT PLUS TIMES EOF
@@ -325,7 +407,7 @@ state 0
 ...
 ~
 ^
-0 --show-automaton --strict g.mly
+0 --canonical --show-automaton --strict g.mly
 ~
 g.mly
 %token IF ELSE X EOF
@@ -342,7 +424,7 @@ state 0
 ...
 ~
 ^
-0 --show-automaton --strict g.mly
+0 --canonical --show-automaton --strict g.mly
 ~
 g.mly
 %token EOF LP RP INT
@@ -361,7 +443,7 @@ state 0
 ...
 ~
 ^
-0 --show-automaton --strict g.mly
+0 --canonical --show-automaton --strict g.mly
 ~
 g.mly
 %{ open Ast %}
@@ -385,7 +467,101 @@ state 0
 ~
 "#;
 
+// The same grammars, merged.
+const MERGED_COUNTS: &str = r#"0 --show-automaton --strict g.mly
+~
+g.mly
+%token A B C D E
+%start s
+%%
+s: A x D {} | B y D {} | A y E {} | B x E {}
+x: C {}
+y: C {}
+~
+~
+merged: 14 states
+state 0
+...
+~
+^
+0 --show-automaton --strict g.mly
+~
+g.mly
+%token INT PLUS TIMES EOF
+%start main
+%%
+main: e EOF {}
+e: e PLUS t {} | t {}
+t: t TIMES INT {} | INT {}
+~
+~
+merged: 10 states
+state 0
+...
+~
+^
+0 --show-automaton --strict g.mly
+~
+g.mly
+%token IF ELSE X EOF
+%nonassoc THEN
+%nonassoc ELSE
+%start main
+%%
+main: s EOF {}
+s: IF s %prec THEN {} | IF s ELSE s {} | X {}
+~
+~
+merged: 9 states
+state 0
+...
+~
+^
+0 --show-automaton --strict g.mly
+~
+g.mly
+%token EOF LP RP INT
+%token OP1
+%token OP2
+%start main
+%%
+main: e1 EOF {}
+e1: e1 OP1 e2 {} | e2 {}
+e2: e2 OP2 a {} | a {}
+a: INT {} | LP e1 RP {}
+~
+~
+merged: 14 states
+state 0
+...
+~
+^
+0 --show-automaton --strict g.mly
+~
+g.mly
+%{ open Ast %}
+%token <int> INT
+%token PLUS "+" TIMES "*" LPAREN "(" RPAREN ")" EOF
+%left "+"
+%left "*"
+%start <Ast.expr> main
+%%
+main: e = expr; EOF { e }
+expr:
+| n = INT { Int n }
+| "(" e = expr ")" { e }
+| a = expr "+" b = expr { Add (a, b) }
+| a = expr "*" b = expr { Mul (a, b) }
+~
+~
+merged: 12 states
+state 0
+...
+~
+"#;
+
 #[test]
 fn counts_of_states(rt: HostRuntime) -> Result<(), Fail> {
-    check_cases(&rt, rt.alloc(), COUNTS)
+    check_cases(&rt, rt.alloc(), COUNTS)?;
+    check_cases(&rt, rt.alloc(), MERGED_COUNTS)
 }

@@ -60,7 +60,7 @@ input 1
 ~
 A EOF
 ~
-canonical: 4 states
+merged: 4 states
 ...
 ~
 ";

@@ -1,4 +1,4 @@
-//! Lists of errors. The states are those of canonical automata, and their sentences are of least length.
+//! Lists of errors, by merged automata, and by canonical ones where the words say so. Their sentences are of least length.
 use crate::runs::{check_cases, run_on};
 use std::alloc::Global;
 use std::fmt::Write;
@@ -100,7 +100,7 @@ s: IF s {} | IF s ELSE s {} | X {}
 ~
 ~
 ~
-menhir: warning: conflict in state 9 on ELSE
+menhir: warning: conflict in state 5 on ELSE
 ^
 2 --list-errors --interpret g.mly
 ~
@@ -145,7 +145,7 @@ const REFUSED_EQ: &str = "main: INT EQ INT EQ
 
 ";
 
-// Each grammar, and behind `=` each state that is listed with the length of its sentence.
+// Each grammar, and behind `=` each state of its canonical automaton that is listed with the length of its sentence.
 const ROWS: &str = "%token A B EOF %start s %% s: A EOF {} = 0 1, 1 2,
 %token A B C D %start p q %% p: x A {} q: x B {} x: C D {} = 0 1, 1 1, 2 2, 5 2, 8 3, 10 3,
 %token A B C D %start p q %% p: x A {} q: B x A {} x: C D {} = 0 1, 1 1, 2 2, 5 2, 7 3,
@@ -155,6 +155,17 @@ const ROWS: &str = "%token A B EOF %start s %% s: A EOF {} = 0 1, 1 2,
 %token INT PLUS TIMES EOF %start main %% main: e EOF {} e: e PLUS t {} | t {} t: t TIMES INT {} | INT {} = 0 1, 1 2, 5 3, 7 3, 9 4,
 %token A B C D %start s %% s: A z {} | B B z {} z: C D {} = 0 1, 1 2, 2 2, 4 3, 6 3,
 %token A [@cost 10] B C D %start s %% s: A z {} | B B z {} z: C D {} = 0 1, 1 2, 2 2, 4 4, 6 3,
+%token A %start s %% s: {} =";
+
+// The same by merged automata.
+const MERGED_ROWS: &str = "%token A B EOF %start s %% s: A EOF {} = 0 1, 1 2,
+%token A B C D %start p q %% p: x A {} q: x B {} x: C D {} = 0 1, 1 1, 2 2, 4 3, 6 3,
+%token A B C D %start p q %% p: x A {} q: B x A {} x: C D {} = 0 1, 1 1, 2 2, 4 3, 5 2, 9 4,
+%token INT EQ EOF %nonassoc EQ %start main %% main: e EOF {} e: INT {} | e EQ e {} = 0 1, 3 2, 4 3, 6 4,
+%token X SEMI EOF %start main %% main: s EOF {} s: X {} | X SEMI {} = 0 1, 1 2, 3 3,
+%token X SEMI EOF %start main %on_error_reduce s %% main: s EOF {} s: X {} | X SEMI {} = 0 1, 3 2,
+%token INT PLUS TIMES EOF %start main %% main: e EOF {} e: e PLUS t {} | t {} t: t TIMES INT {} | INT {} = 0 1, 4 2, 5 3, 7 3, 8 4,
+%token INT PLUS TIMES LPAREN RPAREN EOF %left PLUS %left TIMES %start main %% main: expr EOF {} expr: INT {} | LPAREN expr RPAREN {} | expr PLUS expr {} | expr TIMES expr {} = 0 1, 2 2, 4 2, 5 3, 6 3, 7 3, 10 4,
 %token A %start s %% s: {} =";
 
 /// How many words a text has.
@@ -190,8 +201,8 @@ fn rows_of(alloc: Global, list: &str) -> Result<String, Fail> {
 }
 
 /// The text that the list of errors of a grammar is.
-fn list_of(rt: &impl Abort, alloc: Global, grammar: &[u8]) -> Result<Vec<u8>, Fail> {
-    let got = run_on(rt, alloc, "--list-errors g.mly", grammar, Vec::new(alloc))?;
+fn list_of(rt: &impl Abort, alloc: Global, words: &str, grammar: &[u8]) -> Result<Vec<u8>, Fail> {
+    let got = run_on(rt, alloc, words, grammar, Vec::new(alloc))?;
     assert_eq!(rt; got.status, 0);
     assert_eq!(rt; got.err.as_slice(), b"".as_slice());
     Ok(got.out)
@@ -202,12 +213,10 @@ fn texts(rt: HostRuntime) -> Result<(), Fail> {
     check_cases(&rt, rt.alloc(), TEXTS)
 }
 
-#[test]
-fn states_and_lengths(rt: HostRuntime) -> Result<(), Fail> {
-    let alloc = rt.alloc();
-    for case in ROWS.lines() {
+fn check_rows(rt: &impl Abort, alloc: Global, words: &str, cases: &str) -> Result<(), Fail> {
+    for case in cases.lines() {
         let (grammar, wanted) = case.split_once('=').ok_or("a case without rows")?;
-        let list = list_of(&rt, alloc, grammar.as_bytes())?;
+        let list = list_of(rt, alloc, words, grammar.as_bytes())?;
         let rows = rows_of(alloc, str::from_utf8(&list)?)?;
         assert_eq!(rt;
             rows.as_str().trim_ascii(),
@@ -219,18 +228,41 @@ fn states_and_lengths(rt: HostRuntime) -> Result<(), Fail> {
 }
 
 #[test]
+fn states_and_lengths(rt: HostRuntime) -> Result<(), Fail> {
+    check_rows(&rt, rt.alloc(), "--list-errors g.mly", MERGED_ROWS)
+}
+
+#[test]
+fn canonical_states_and_lengths(rt: HostRuntime) -> Result<(), Fail> {
+    check_rows(&rt, rt.alloc(), "--canonical --list-errors g.mly", ROWS)
+}
+
+#[test]
 fn a_sentence_is_too_long(rt: HostRuntime) -> Result<(), Fail> {
     let alloc = rt.alloc();
-    let got = run_on(&rt, alloc, "--list-errors g.mly", LONG, Vec::new(alloc))?;
-    assert_eq!(rt; got.status, 1);
-    assert_eq!(rt; got.out.as_slice(), b"".as_slice());
-    assert_eq!(rt; str::from_utf8(&got.err)?, "menhir: too long: state 82\n");
+    for (words, said) in [
+        ("--list-errors g.mly", "menhir: too long: state 3\n"),
+        (
+            "--canonical --list-errors g.mly",
+            "menhir: too long: state 82\n",
+        ),
+    ] {
+        let got = run_on(&rt, alloc, words, LONG, Vec::new(alloc))?;
+        assert_eq!(rt; got.status, 1);
+        assert_eq!(rt; got.out.as_slice(), b"".as_slice());
+        assert_eq!(rt; str::from_utf8(&got.err)?, said);
+    }
     Ok(())
 }
 
 #[test]
 fn reductions_before_the_error(rt: HostRuntime) -> Result<(), Fail> {
-    let list = list_of(&rt, rt.alloc(), COMPARISONS)?;
+    let list = list_of(
+        &rt,
+        rt.alloc(),
+        "--canonical --list-errors g.mly",
+        COMPARISONS,
+    )?;
     let list = str::from_utf8(&list)?;
     assert!(rt; list.contains(REFUSED_EQ), "{list}");
     Ok(())

@@ -110,16 +110,24 @@ fn with_words_of(alloc: Global, last: u8) -> Result<Vec<u8>, Fail> {
 }
 
 // The words of 18 tokens alone lead to 262,144 states with different cores; 200,000 are the most.
-#[test]
-fn too_many_states(rt: HostRuntime) -> Result<(), Fail> {
-    let alloc = rt.alloc();
+fn check_too_many_states(rt: &impl Abort, alloc: Global, words: &str) -> Result<(), Fail> {
     let grammar = with_words_of(alloc, 18)?;
     let input = b"A\n".to_vec(alloc)?;
-    let got = run_on(&rt, alloc, "--interpret g.mly", &grammar, input)?;
+    let got = run_on(rt, alloc, words, &grammar, input)?;
     assert_eq!(rt; got.status, 1);
     assert_eq!(rt; got.out.as_slice(), b"".as_slice());
     assert_eq!(rt; got.err.as_slice(), b"menhir: too many states\n".as_slice());
     Ok(())
+}
+
+#[test]
+fn too_many_states(rt: HostRuntime) -> Result<(), Fail> {
+    check_too_many_states(&rt, rt.alloc(), "--interpret g.mly")
+}
+
+#[test]
+fn too_many_canonical_states(rt: HostRuntime) -> Result<(), Fail> {
+    check_too_many_states(&rt, rt.alloc(), "--canonical --interpret g.mly")
 }
 
 // A right side of 8,192 symbols, by inlining; 10,000 are the most.

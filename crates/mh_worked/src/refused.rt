@@ -231,7 +231,7 @@ c: {}
 A
 ~
 ~
-menhir: loops: state 0 on A
+menhir: loops: state 0 on no token
 ^
 1 --no-stdlib --interpret g.mly
 ~
@@ -630,9 +630,41 @@ b: %prec HIGH {}
 A
 ~
 ~
+menhir: loops: state 0 on no token
+^
+1 --interpret --canonical g.mly
+~
+g.mly
+%token A
+%nonassoc A
+%nonassoc HIGH
+%start s
+%%
+s: b s A {} | A {}
+b: %prec HIGH {}
+~
+A
+~
+~
 menhir: loops: state 0 on A
 ^
 1 --show-automaton g.mly
+~
+g.mly
+%token X A
+%nonassoc A
+%nonassoc HIGH
+%start main
+%%
+main: X s {}
+s: b s A {} | A {}
+b: %prec HIGH {}
+~
+~
+~
+menhir: loops: state 1 above state 0 on no token
+^
+1 --show-automaton --canonical g.mly
 ~
 g.mly
 %token X A

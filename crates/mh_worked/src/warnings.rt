@@ -52,11 +52,18 @@ IF IF X ELSE X EOF
 ~
 ACCEPT
 ~
-menhir: warning: conflict in state 9 on ELSE
+menhir: warning: conflict in state 5 on ELSE
 ^
 1 --interpret --strict g.mly
 ~
 IF IF X ELSE X EOF
+~
+~
+menhir: warning: conflict in state 5 on ELSE
+^
+1 --interpret --strict --canonical g.mly
+~
+X EOF
 ~
 ~
 menhir: warning: conflict in state 9 on ELSE
@@ -195,7 +202,7 @@ X EOF
 
 ~
 ~
-menhir: warning: conflict in state 9 on ELSE
+menhir: warning: conflict in state 5 on ELSE
 menhir: cannot read the input
 ^
 3 --interpret g.mly
@@ -206,7 +213,7 @@ X EOF
 ~
 ACCEPT
 ~
-menhir: warning: conflict in state 9 on ELSE
+menhir: warning: conflict in state 5 on ELSE
 menhir: cannot read the input
 ^
 4 --interpret g.mly
@@ -216,7 +223,7 @@ X EOF
 
 ~
 ~
-menhir: warning: conflict in state 9 on ELSE
+menhir: warning: conflict in state 5 on ELSE
 ^
 4 --interpret g.mly
 out 2
@@ -226,7 +233,7 @@ X EOF
 ~
 ACCEPT
 ~
-menhir: warning: conflict in state 9 on ELSE
+menhir: warning: conflict in state 5 on ELSE
 ^
 4 --show-automaton g.mly
 out 1
@@ -235,7 +242,7 @@ X EOF
 
 ~
 ~
-menhir: warning: conflict in state 9 on ELSE
+menhir: warning: conflict in state 5 on ELSE
 ^
 4 --interpret g.mly
 err 1
@@ -268,7 +275,7 @@ X EOF
 
 ~
 ~
-menhir: warning: conflict in state 9 on ELSE
+menhir: warning: conflict in state 5 on ELSE
 ^
 1 --show-automaton --strict g.mly
 out 1
@@ -277,7 +284,7 @@ X EOF
 
 ~
 ~
-menhir: warning: conflict in state 9 on ELSE
+menhir: warning: conflict in state 5 on ELSE
 ";
 
 #[test]

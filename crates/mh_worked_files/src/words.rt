@@ -16,6 +16,7 @@ fn shown(alloc: Global, order: &Order) -> Result<Vec<u8>, AllocError> {
         Job::InterpretError => b"explain",
         Job::CompileErrors { .. } => b"compile",
     })?;
+    text.extend_from_slice(if order.canonical { b" canonical" } else { b"" })?;
     text.extend_from_slice(if order.strict { b" strict" } else { b"" })?;
     text.extend_from_slice(if order.stdlib { b"" } else { b" bare" })?;
     text.extend_from_slice(if order.show_cst { b" trees" } else { b"" })?;
@@ -46,6 +47,9 @@ const CASES: &str = "--interpret g.mly~interpret :g.mly^\
     --interpret --no-stdlib g.mly~interpret bare :g.mly^\
     --interpret --strict --interpret-show-cst g.mly~interpret strict trees :g.mly^\
     --show-automaton --strict g.mly~show strict :g.mly^\
+    --canonical --show-automaton g.mly~show canonical :g.mly^\
+    --canonical g.mly~no mode^\
+    --canonical --interpret --canonical g.mly~bad words^\
     --interpret -~interpret :-^\
     --interpret -- --strict -x~interpret :--strict :-x^\
     --interpret  g.mly~interpret : :g.mly^\
