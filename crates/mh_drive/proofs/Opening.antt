@@ -1,5 +1,5 @@
 -- A mode that was opened, or not.
-use Rattle.std.proofs.Common.{ℕ, Option, arith, refl}
+use Rattle.std.proofs.Common.{◌≡◌, ℕ, Option, arith, refl}
 use Rattle.std.specs.Prelude.{Result, Ok, Err}
 use Rattle.mh_drive.specs.Text.{Text}
 use Rattle.mh_drive.specs.Drive.{Ran}

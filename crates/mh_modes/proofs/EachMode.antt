@@ -1,17 +1,17 @@
 -- Each mode by itself: what is proved by a case for each job, each end and each plan, and by nothing else.
-use Rattle.std.proofs.Common.{◌≡◌, ◌++◌, ◌∷◌, List, Option, None, Some, [], sym, ◌∙◌, ap, subst, refl}
+use Rattle.std.proofs.Common.{◌≡◌, ◌∷◌, List, Option, None, Some, [], sym, ◌∙◌, ap, subst, refl}
 use Rattle.std.specs.Bool.{⊤}
 use Rattle.mh_grammar.specs.declared.types.Grammar.{Grammar}
-use Rattle.mh_grammar.specs.Plain.{plain_of}
 use Rattle.mh_opts.specs.declared.jobs.Job.{Job}
-use Rattle.mh_opts.specs.declared.jobs.Job.TheVariants.{Interpret, InterpretError, Session, ShowAutomaton, ListErrors, CompileErrors}
+use Rattle.mh_opts.specs.declared.jobs.Job.TheVariants.{Interpret, InterpretError, Session, ShowAutomaton, ListErrors, CompareErrors, CompileErrors, EchoErrors, UpdateErrors}
 use Rattle.mh_outside.specs.Shelf.{Files, Found}
 use Rattle.mh_report.proofs.OneText.{text_once}
 use Rattle.mh_replies.proofs.Once.{answer_once as line_once}
 use Rattle.mh_session.specs.Answers.{Branches}
 use Rattle.mh_tables.specs.Table.{TableData}
-use Rattle.mh_tables.specs.Halting.{HaltingFacts}
+use Rattle.mh_check.specs.Compiling.{missing}
 use Rattle.mh_check.specs.Texts.{compiled_text}
+use Rattle.mh_msgfile.specs.Printed.{echo_text}
 use Rattle.mh_drive.specs.Text.{Text}
 use Rattle.mh_drive.specs.Causes.{Staged, Go, Halt}
 use Rattle.mh_drive.specs.Ways.{Ending}
@@ -21,25 +21,23 @@ use Rattle.mh_drive.proofs.Binding.{IsOne}
 use Rattle.mh_prepare.specs.FileStage.{IsFile, IsFound, loaded}
 use Rattle.mh_prepare.specs.Shapes.{Prepared}
 use Rattle.mh_prepare.specs.TableStage.{mode_of, source_of}
-use Rattle.mh_prepare.specs.Turns.{IsTurn}
-use Rattle.mh_prepare.proofs.Turns.{turn_first}
-use Rattle.mh_modes.specs.Explained.{ending_of}
+use Rattle.mh_modes.specs.Told.{ending_of}
+use Rattle.mh_modes.specs.Compared.{compared}
 use Rattle.mh_modes.specs.Files.{files_of_job, named}
 use Rattle.mh_modes.specs.Listing.{ListsErrors, Lists, TooLong, too_long}
-use Rattle.mh_modes.specs.MessagesStage.{AreMessages, Messages}
-use Rattle.mh_modes.specs.Plan.{Answers, Automaton, End, Ends, EndsBy, EndsWith, Errors, Explains, IsPlanOfJob, Judges, Known, MessagesFor, Plan, Serves, halts, judges, plan_by}
+use Rattle.mh_modes.specs.MessagesStage.{AreBoth, AreMessages, IsMessagesFile, IsUpdatedFile, Messages}
+use Rattle.mh_modes.specs.Plan.{Answers, Automaton, End, Ends, EndsBy, EndsWith, Errors, Explains, IsPlanOfJob, Judges, Known, MessagesFor, Plan, Serves, halts, judges, plan_by, tells}
 use Rattle.mh_modes.specs.Verdicts.{Answering}
-use Rattle.mh_modes.specs.declared.modes.explaining.Told.{Told}
-use Rattle.mh_modes.specs.declared.modes.explaining.Told.TheVariants.{Entry, Not}
+use Rattle.mh_modes.specs.declared.modes.at_end.Told.{Told}
+use Rattle.mh_modes.specs.declared.modes.at_end.Told.TheVariants.{Said, Not}
 use Rattle.mh_modes.proofs.Answering.{one_once}
-use Rattle.mh_modes.proofs.Messaging.{StagedRight, file_messages_once, for_unread_halts, messages_for_once, messages_for_right, messages_right, named_turn, some_messages, some_messages_for, unread_halts}
+use Rattle.mh_modes.proofs.Messaging.{checking, for_unread_halts, messages_for_once, messages_for_right, named_turn, some_checked, some_messages_for, some_spelled, spelling}
+use Rattle.mh_modes.proofs.Both.{two_files}
+use Rattle.mh_modes.proofs.Updating.{one_updated}
+use Rattle.mh_modes.proofs.Reading.{IsRead, Runs, StagedRight, one_file}
+use Rattle.mh_modes.proofs.Turning.{Turn, no_turn, turn_of_named}
 use Rattle.mh_modes.proofs.Refusals.{list_cause_once, list_out_once}
 use Rattle.mh_modes.proofs.Telling.{told_once}
-
--- every run on its table ends
-pub record Runs (p : Prepared) : Type 0 where
-  pub halts : HaltingFacts p.tabled.halting
-  pub grammar : p.tabled.halting.grammar ≡ plain_of p.grammar
 
 -- ---- for which causes a mode may end
 
@@ -53,29 +51,9 @@ module _ (Right : Cause → Type 0) where
   EndsRight (Ends (Known e)) = IsRight e.cause
   EndsRight plan = ⊤
 
--- ---- the files that a mode reads
-
-abbrev Turn : Prepared → List Text → Option Files → Text → Type 0
-Turn p names files name = IsTurn files (AreMessages p.grammar p.tabled.halting) names name
-
-nil_not : (before after : List Text) (name : Text) → [] ≡ before ++ name ∷ after → ⊥
-nil_not [] after name is = cc
-nil_not (b ∷ before) after name is = cc
-
-one_is : (before after : List Text) (name file : Text) → file ∷ [] ≡ before ++ name ∷ after → file ≡ name
-one_is [] after name file is = cc
-one_is (b ∷ before) after name file is = let none : [] ≡ before ++ name ∷ after = cc in absurd (nil_not before after name none)
-
-module _ (p : Prepared) (files : Option Files) (name : Text) where
-  no_turn : Turn p [] files name → ⊥
-  no_turn turn = nil_not turn.before turn.after name turn.names_are
-
-  turn_of_one : (file : Text) → Turn p (file ∷ []) files name → file ≡ name
-  turn_of_one file turn = one_is turn.before turn.after name file turn.names_are
-
-  turn_of_named : (file : Option Text) → Turn p (named file) files name → file ≡ Some name
-  turn_of_named None turn = absurd (no_turn turn)
-  turn_of_named (Some file) turn = ap Some (turn_of_one file turn)
+told_right : (Right : Cause → Type 0) → ((line : Text) → Right (Refused line)) → (told : Told) → IsRight Right (ending_of told).cause
+told_right Right may (Said text) = tt
+told_right Right may (Not line) = may line
 
 -- ---- a job has a plan, and one alone over given files
 
@@ -101,26 +79,23 @@ module _ (p : Prepared) where
     right = λ Right may files other of_file is. subst (EndsRight Right) (sym is) (ends Right);
   }
 
-  -- one that reads a file of messages, and judges nothing
-  module _ (file : Text) (plan : Messages → Plan) (never : (messages : Messages) (by : Answering) → Judges by ≡ plan messages → ⊥) (ends : (Right : Cause → Type 0) (messages : Messages) → EndsRight Right (plan messages)) where
-    judges_not : (s : Staged Messages) (by : Answering) → Judges by ≡ plan_by plan s → ⊥
-    judges_not (Go messages) by is = never messages by is
+  -- one that reads files, and judges nothing
+  module _ {A : Type 0} (names : List Text) (Has : Option Files → Staged A → Type 0) (read : IsRead p names Has) (plan : A → Plan) (never : (x : A) (by : Answering) → Judges by ≡ plan x → ⊥) (ends : (Right : Cause → Type 0) → ((line : Text) → Right (Refused line)) → (x : A) → EndsRight Right (plan x)) where
+    judges_not : (s : Staged A) (by : Answering) → Judges by ≡ plan_by plan s → ⊥
+    judges_not (Go x) by is = never x by is
     judges_not (Halt cause) by is = cc
 
-    ends_so : (Right : Cause → Type 0) (s : Staged Messages) → StagedRight Right s → EndsRight Right (plan_by plan s)
-    ends_so Right (Go messages) right = ends Right messages
-    ends_so Right (Halt cause) right = right
+    ends_so : (Right : Cause → Type 0) → ((line : Text) → Right (Refused line)) → (s : Staged A) → StagedRight Right s → EndsRight Right (plan_by plan s)
+    ends_so Right may (Go x) right = ends Right may x
+    ends_so Right may (Halt cause) right = right
 
-    of_messages : Facts p (file ∷ []) (λ files other. (s : Staged Messages) × IsFile files (AreMessages p.grammar p.tabled.halting) file s × (other ≡ plan_by plan s))
-    of_messages = record {
-      some = λ files runs. let s = some_messages p.grammar p.tabled.halting runs.halts runs.grammar files file in (plan_by plan s.0, (s.0, s.1, refl));
-      once = λ files x y is so. is.2 ∙ ap (plan_by plan) (file_messages_once p.grammar p.tabled.halting files file is.0 so.0 is.1 so.1) ∙ sym so.2;
-      unread = λ files name what cause other turn found halt is.
-          let same = turn_of_one p (Some files) name file turn in
-          is.2 ∙ ap (plan_by plan) (unread_halts p.grammar p.tabled.halting files file what cause is.0 (subst (λ (n : Text). IsFound (Some files) n what) (sym same) found) (subst (λ (n : Text). loaded n what ≡ Halt cause) (sym same) halt) is.1);
+    reading : Facts p names (λ files other. (s : Staged A) × Has files s × (other ≡ plan_by plan s))
+    reading = record {
+      some = λ files runs. let s = read.some files runs in (plan_by plan s.0, (s.0, s.1, refl));
+      once = λ files x y is so. is.2 ∙ ap (plan_by plan) (read.once files is.0 so.0 is.1 so.1) ∙ sym so.2;
+      unread = λ files name what cause other turn found halt is. is.2 ∙ ap (plan_by plan) (read.unread files name what cause is.0 turn found halt is.1);
       judged = λ Has files by has is. absurd (judges_not is.0 by is.2);
-      right = λ Right may files other of_file is.
-          subst (EndsRight Right) (sym is.2) (ends_so Right is.0 (messages_right p.grammar p.tabled.halting Right may files file is.0 (λ what cause found halt. of_file file what cause (turn_first files (AreMessages p.grammar p.tabled.halting) file []) found halt) is.1));
+      right = λ Right may files other of_file is. subst (EndsRight Right) (sym is.2) (ends_so Right may is.0 (read.right Right may files is.0 of_file is.1));
     }
 
   -- one that judges
@@ -138,7 +113,7 @@ module _ (p : Prepared) where
 
   judging : (file : Option Text) → Facts p (named file) (λ files plan. (s : Staged (Option Messages)) × MessagesFor file files p s × (plan ≡ plan_by (judges p) s))
   judging file = record {
-    some = λ files runs. let s = some_messages_for p runs.halts runs.grammar file files in (plan_by (judges p) s.0, (s.0, s.1, refl));
+    some = λ files runs. let s = some_messages_for p runs.halts runs.fit.table.grammar file files in (plan_by (judges p) s.0, (s.0, s.1, refl));
     once = λ files x y is so. is.2 ∙ ap (plan_by (judges p)) (messages_for_once p file files is.0 so.0 is.1 so.1) ∙ sym so.2;
     unread = λ files name what cause plan turn found halt is. is.2 ∙ ap (plan_by (judges p)) (for_unread_halts p file files name what cause is.0 (turn_of_named p (Some files) name file turn) found halt is.1);
     judged = λ Has files by has is. judges_has Has is.0 by is.2 has;
@@ -146,13 +121,23 @@ module _ (p : Prepared) where
         subst (EndsRight Right) (sym is.2) (judges_right Right is.0 (messages_for_right p Right may file files is.0 (λ name what cause same found halt. of_file name what cause (named_turn p files file name same) found halt) is.1));
   }
 
+-- one messages file, checked
+one_checked : (p : Prepared) (file : Text) → IsRead p (file ∷ []) (λ files. IsFile files (AreMessages p.grammar p.tabled.halting) file)
+one_checked p file = one_file p file (AreMessages p.grammar p.tabled.halting) (checking p.grammar p.tabled.halting) (λ runs. some_checked p.grammar p.tabled.halting runs.halts runs.fit.table.grammar)
+
 pub facts_of : (job : Job) (p : Prepared) → Facts p (files_of_job job p.order) (λ files. IsPlanOfJob job files p)
 facts_of Interpret p = judging p p.order.messages
 facts_of InterpretError p = fixed p (Explains p []) (λ by is. cc) (λ Right. tt)
 facts_of Session p = fixed p (Serves p.grammar p.tabled.halting []) (λ by is. cc) (λ Right. tt)
 facts_of ShowAutomaton p = fixed p (Ends (Automaton p)) (λ by is. cc) (λ Right. tt)
 facts_of ListErrors p = fixed p (Ends (Errors p)) (λ by is. cc) (λ Right. tt)
-facts_of (CompileErrors file) p = of_messages p file (λ messages. Ends (Known (record { cause = None; out = compiled_text messages }))) (λ messages by is. cc) (λ Right messages. tt)
+facts_of (CompileErrors file) p = reading p (file ∷ []) (λ files. IsFile files (AreMessages p.grammar p.tabled.halting) file) (one_checked p file) (λ messages. tells (Said (compiled_text messages))) (λ messages by is. cc) (λ Right may messages. tt)
+facts_of (EchoErrors file) p =
+    reading p (file ∷ []) (λ files. IsFile files (IsMessagesFile p.grammar) file) (one_file p file (IsMessagesFile p.grammar) (spelling p.grammar) (λ runs name bytes short. some_spelled p.grammar name bytes)) (λ spelled. tells (Said (echo_text p.grammar spelled))) (λ spelled by is. cc)
+    (λ Right may spelled. tt)
+facts_of (UpdateErrors file) p = reading p (file ∷ []) (λ files. IsUpdatedFile files p file) (one_updated p file) (λ text. tells (Said text)) (λ text by is. cc) (λ Right may text. tt)
+facts_of (CompareErrors first second) p =
+    reading p (first ∷ second ∷ []) (λ files. AreBoth files p first second) (two_files p first second) (λ both. tells (compared first second (missing both.0 both.1))) (λ both by is. cc) (λ Right may both. told_right Right may (compared first second (missing both.0 both.1)))
 
 -- ---- an end is one
 
@@ -216,12 +201,8 @@ module _ (Right : Cause → Type 0) (may_refuse : (line : Text) → Right (Refus
   answer_right (Explains p old) line text next is right = subst (EndsRight Right) (sym is.1) tt
   answer_right (Serves g t branches) line text next is right = subst (EndsRight Right) (sym is.2) tt
 
-  told_right : (told : Told) → IsRight Right (ending_of told).cause
-  told_right (Entry text) = tt
-  told_right (Not line) = may_refuse line
-
   pub ends_right : (plan : Plan) (e : Ending) → EndsRight Right plan → EndsWith plan e → IsRight Right e.cause
   ends_right (Ends end) e right is = (end_facts end).right Right may_refuse e right is
   ends_right (Judges by) e right is = subst (IsRight Right) (sym (ap (λ (x : Ending). x.cause) is)) tt
-  ends_right (Explains p line) e right is = subst (IsRight Right) (sym (ap (λ (x : Ending). x.cause) is.2)) (told_right is.0)
+  ends_right (Explains p line) e right is = subst (IsRight Right) (sym (ap (λ (x : Ending). x.cause) is.2)) (told_right Right may_refuse is.0)
   ends_right (Serves g t branches) e right is = subst (IsRight Right) (sym (ap (λ (x : Ending). x.cause) is)) tt

@@ -7,7 +7,7 @@ use Rattle.mh_outside.specs.Shelf.{Files}
 use Rattle.mh_opts.specs.declared.jobs.Job.{Job}
 use Rattle.mh_drive.specs.Text.{Text}
 use Rattle.mh_drive.specs.Drive.{Ended, LeftIs, Ran}
-use Rattle.mh_drive.specs.Opening.{Driven}
+use Rattle.mh_drive.specs.Opening.{Driven, IsOpened}
 use Rattle.mh_drive.specs.Stages.{ShelfCounts}
 use Rattle.mh_drive.specs.Steps.{FileCounts}
 use Rattle.mh_drive.specs.Ways.{left_behind}

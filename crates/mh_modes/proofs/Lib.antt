@@ -1,7 +1,11 @@
 pub mod Answering
+pub mod Turning
+pub mod Reading
 pub mod Messaging
 pub mod Telling
 pub mod Refusals
+pub mod Both
+pub mod Updating
 pub mod EachMode
 pub mod Following
 pub mod Listed

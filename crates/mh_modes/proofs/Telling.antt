@@ -15,14 +15,14 @@ use Rattle.mh_msgfile.specs.Sentences.{LineFound, IsSentence, IsUnreadable, Name
 use Rattle.mh_drive.specs.Text.{Text}
 use Rattle.mh_modes.specs.Explained.{IsTold, IsToldBy, IsToldFound, IsToldSentence, told_not}
 use Rattle.mh_prepare.specs.Shapes.{Prepared}
-use Rattle.mh_modes.specs.declared.modes.explaining.Told.{Told}
-use Rattle.mh_modes.specs.declared.modes.explaining.Told.TheVariants.{Entry}
+use Rattle.mh_modes.specs.declared.modes.at_end.Told.{Told}
+use Rattle.mh_modes.specs.declared.modes.at_end.Told.TheVariants.{Said}
 
 module _ (p : Prepared) where
   by_once : (s : Sentence) (how : Ending) (a b : Told) → IsToldBy p s how a → IsToldBy p s how b → a ≡ b
   by_once s (Accepted read) a b x y = x ∙ sym y
   by_once s (Overshot state) a b x y = x ∙ sym y
-  by_once s (Rejected at state) a b (inl (last, text, is, told)) (inl (last', text', is', told')) = told ∙ ap (λ (t : Text). Entry t) (entry_once p.grammar p.tabled.automaton p.tabled.halting s.start s.tokens text text' is is') ∙ sym told'
+  by_once s (Rejected at state) a b (inl (last, text, is, told)) (inl (last', text', is', told')) = told ∙ ap (λ (t : Text). Said t) (entry_once p.grammar p.tabled.automaton p.tabled.halting s.start s.tokens text text' is is') ∙ sym told'
   by_once s (Rejected at state) a b (inl (last, text, is, told)) (inr (early, told')) = absurd (early last)
   by_once s (Rejected at state) a b (inr (early, told)) (inl (last, text, is, told')) = absurd (early last)
   by_once s (Rejected at state) a b (inr (early, told)) (inr (early', told')) = told ∙ sym told'
@@ -44,7 +44,7 @@ module _ (p : Prepared) (s : Sentence) (ts : List ℕ) (same : ts ≡ s.tokens) 
   there : (w : Verdict) → v ≡ w → VerdictOf p.tabled.halting s.start s.tokens (ending_for w)
   there w e = subst (λ (u : Verdict). VerdictOf p.tabled.halting s.start s.tokens (ending_for u)) e (subst (λ (l : List ℕ). VerdictOf p.tabled.halting s.start l (ending_for v)) same is)
 
-  pub told_last : (at state : ℕ) → v ≡ verdicts.Reject at state → at + 1 ≡ length ts → (text : Text) → IsEntryText p.grammar p.tabled.automaton p.tabled.halting s.start s.tokens text → IsToldSentence p s (Entry text)
+  pub told_last : (at state : ℕ) → v ≡ verdicts.Reject at state → at + 1 ≡ length ts → (text : Text) → IsEntryText p.grammar p.tabled.automaton p.tabled.halting s.start s.tokens text → IsToldSentence p s (Said text)
   told_last at state e last text entry = (Rejected at state, there (verdicts.Reject at state) e, inl (last ∙ ap length same, text, entry, refl))
 
   pub told_at_place : (at state : ℕ) → v ≡ verdicts.Reject at state → (at + 1 ≡ length ts → ⊥) → (r : Result Told Memory) → IfOk r (λ told. told ≡ told_not (early_text at)) → IfOk r (λ told. IsToldSentence p s told)

@@ -7,15 +7,8 @@ use Rattle.mh_comments.specs.Comments.{IsEntryText}
 use Rattle.mh_msgfile.specs.Sentences.{LineFound, IsSentence, IsUnreadable, NamesNoStart, LacksStart, NamesUnknown, sentence_in, vocabulary_of}
 use Rattle.mh_drive.specs.Text.{Text}
 use Rattle.mh_prepare.specs.Shapes.{Prepared}
-use Rattle.mh_modes.specs.declared.modes.explaining.Told.{Told}
-use Rattle.mh_modes.specs.declared.modes.explaining.Told.TheVariants.{Entry, Not}
-use Rattle.mh_drive.specs.Ways.{Ending as Ending'}
-use Rattle.mh_drive.specs.declared.stop.Cause.TheVariants.{Refused}
-
--- how a mode ends by it
-abbrev pub ending_of : Told → Ending'
-ending_of (Entry text) = record { cause = None; out = text }
-ending_of (Not line) = record { cause = Some (Refused line); out = [] }
+use Rattle.mh_modes.specs.declared.modes.at_end.Told.{Told}
+use Rattle.mh_modes.specs.declared.modes.at_end.Told.TheVariants.{Said, Not}
 
 -- it has none, for this reason
 abbrev pub told_not : Text → Told
@@ -26,7 +19,7 @@ abbrev pub IsToldBy : Prepared → Sentence → Ending → Told → Type 0
 IsToldBy p s (Accepted read) told = told ≡ told_not (ending_text (Accepted read))
 IsToldBy p s (Overshot state) told = told ≡ told_not (ending_text (Overshot state))
 IsToldBy p s (Rejected at state) told =
-    ((at + 1 ≡ length s.tokens) × (text : Text) × IsEntryText p.grammar p.tabled.automaton p.tabled.halting s.start s.tokens text × (told ≡ Entry text))
+    ((at + 1 ≡ length s.tokens) × (text : Text) × IsEntryText p.grammar p.tabled.automaton p.tabled.halting s.start s.tokens text × (told ≡ Said text))
     ⊎ ((at + 1 ≡ length s.tokens → ⊥) × (told ≡ told_not (early_text at)))
 
 abbrev pub IsToldSentence : Prepared → Sentence → Told → Type 0

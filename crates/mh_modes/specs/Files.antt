@@ -1,7 +1,7 @@
 -- The files that a mode reads behind the warnings.
 use Rattle.std.specs.Prelude.{[], ◌∷◌, List, Option, None, Some}
 use Rattle.mh_opts.specs.declared.jobs.Job.{Job}
-use Rattle.mh_opts.specs.declared.jobs.Job.TheVariants.{Interpret, CompileErrors}
+use Rattle.mh_opts.specs.declared.jobs.Job.TheVariants.{Interpret, CompareErrors, CompileErrors, EchoErrors, UpdateErrors}
 use Rattle.mh_opts.specs.declared.order.Order.{Order}
 use Rattle.mh_outside.specs.Shelf.{Files}
 use Rattle.mh_drive.specs.Text.{Text}
@@ -17,6 +17,9 @@ named (Some name) = name ∷ []
 abbrev pub files_of_job : Job → Order → List Text
 files_of_job Interpret order = named order.messages
 files_of_job (CompileErrors file) order = file ∷ []
+files_of_job (UpdateErrors file) order = file ∷ []
+files_of_job (EchoErrors file) order = file ∷ []
+files_of_job (CompareErrors first second) order = first ∷ second ∷ []
 files_of_job job order = []
 
 abbrev pub files_of_mode : Order → List Text

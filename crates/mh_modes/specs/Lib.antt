@@ -1,4 +1,6 @@
 pub mod Verdicts
+pub mod Told
+pub mod Compared
 pub mod Explained
 pub mod MessagesStage
 pub mod Listing

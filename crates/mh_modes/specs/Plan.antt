@@ -1,14 +1,17 @@
 -- Modes: which lines each asks for, how it answers them, and what it writes at its end. A mode is plain data.
 use Rattle.std.specs.Prelude.{◌≡◌, [], Option, None, Some}
 use Rattle.mh_opts.specs.declared.jobs.Job.{Job}
-use Rattle.mh_opts.specs.declared.jobs.Job.TheVariants.{Interpret, InterpretError, Session, ShowAutomaton, ListErrors, CompileErrors}
+use Rattle.mh_opts.specs.declared.jobs.Job.TheVariants.{Interpret, InterpretError, Session, ShowAutomaton, ListErrors, CompileErrors, CompareErrors, EchoErrors, UpdateErrors}
 use Rattle.mh_outside.specs.Shelf.{Files}
 use Rattle.mh_report.specs.Automata.{IsAutomatonText}
 use Rattle.mh_grammar.specs.declared.types.Grammar.{Grammar}
 use Rattle.mh_tables.specs.Table.{TableData}
 use Rattle.mh_session.specs.Answers.{Branches}
 use Rattle.mh_replies.specs.Replies.{AnswersLine}
+use Rattle.mh_check.specs.Compiling.{missing}
 use Rattle.mh_check.specs.Texts.{compiled_text}
+use Rattle.mh_msgfile.specs.Printed.{echo_text}
+use Rattle.mh_msgfile.specs.declared.messages.MsgFile.{MsgFile}
 use Rattle.mh_drive.specs.Text.{Text}
 use Rattle.mh_drive.specs.Causes.{Staged, Go, Halt, Then, Gives}
 use Rattle.mh_drive.specs.Ways.{Ending, Way}
@@ -18,11 +21,14 @@ use Rattle.mh_drive.specs.declared.stop.Cause.{Cause}
 use Rattle.mh_prepare.specs.FileStage.{IsFile}
 use Rattle.mh_prepare.specs.Shapes.{Prepared}
 use Rattle.mh_prepare.specs.TableStage.{mode_of, source_of}
-use Rattle.mh_modes.specs.MessagesStage.{Messages, AreMessages}
-use Rattle.mh_modes.specs.Explained.{IsTold, ending_of}
+use Rattle.mh_modes.specs.MessagesStage.{Messages, AreBoth, AreMessages, IsMessagesFile, IsUpdatedFile}
+use Rattle.mh_modes.specs.Compared.{compared}
+use Rattle.mh_modes.specs.Explained.{IsTold}
+use Rattle.mh_modes.specs.Told.{ending_of}
 use Rattle.mh_modes.specs.Listing.{ListsErrors}
 use Rattle.mh_modes.specs.Verdicts.{Answering, AnswersOne}
-use Rattle.mh_modes.specs.declared.modes.explaining.Told.{Told}
+use Rattle.mh_modes.specs.declared.modes.at_end.Told.{Told}
+use Rattle.mh_modes.specs.declared.modes.at_end.Told.TheVariants.{Said}
 
 -- what stands at the end of a mode that asks for no line
 pub data End : Type 0 where
@@ -82,6 +88,10 @@ abbrev pub plan_by : {A : Type 0} → (A → Plan) → Staged A → Plan
 plan_by plan (Go x) = plan x
 plan_by plan (Halt cause) = halts cause
 
+-- it tells this
+abbrev pub tells : Told → Plan
+tells told = Ends (Known (ending_of told))
+
 -- the messages that an order names, where it names a file of them
 abbrev pub MessagesFor : Option Text → Option Files → Prepared → Staged (Option Messages) → Type 0
 MessagesFor None files p s = Gives None s
@@ -98,4 +108,7 @@ IsPlanOfJob InterpretError files p plan = plan ≡ Explains p []
 IsPlanOfJob Session files p plan = plan ≡ Serves p.grammar p.tabled.halting []
 IsPlanOfJob ShowAutomaton files p plan = plan ≡ Ends (Automaton p)
 IsPlanOfJob ListErrors files p plan = plan ≡ Ends (Errors p)
-IsPlanOfJob (CompileErrors file) files p plan = (s : Staged Messages) × IsFile files (AreMessages p.grammar p.tabled.halting) file s × (plan ≡ plan_by (λ messages. Ends (Known (record { cause = None; out = compiled_text messages }))) s)
+IsPlanOfJob (CompileErrors file) files p plan = (s : Staged Messages) × IsFile files (AreMessages p.grammar p.tabled.halting) file s × (plan ≡ plan_by (λ messages. tells (Said (compiled_text messages))) s)
+IsPlanOfJob (EchoErrors file) files p plan = (s : Staged MsgFile) × IsFile files (IsMessagesFile p.grammar) file s × (plan ≡ plan_by (λ spelled. tells (Said (echo_text p.grammar spelled))) s)
+IsPlanOfJob (UpdateErrors file) files p plan = (s : Staged Text) × IsUpdatedFile files p file s × (plan ≡ plan_by (λ text. tells (Said text)) s)
+IsPlanOfJob (CompareErrors first second) files p plan = (s : Staged (Messages × Messages)) × AreBoth files p first second s × (plan ≡ plan_by (λ both. tells (compared first second (missing both.0 both.1))) s)

@@ -1,10 +1,10 @@
 //! Messages files: read, spelled, and checked against the table.
-ghost use Rattle.std.specs.Prelude.{◌≡◌, ◌<◌, ◌≤◌, ◌^◌, length};
-ghost use Rattle.mh_grammar.specs.Plain.{plain_of};
+ghost use Rattle.std.specs.Prelude.{◌≡◌, ◌<◌, ◌≤◌, ◌^◌, List, ℕ, length, IfOk};
+ghost use Rattle.mh_grammar.specs.Plain.{plain_of, IsInRange};
 ghost use Rattle.mh_msgfile.specs.Messages.{AreOf, Tells as TellsFile};
 ghost use Rattle.mh_check.specs.Compiling.{Tells};
 ghost use Rattle.mh_check.specs.Texts.{file_line, check_line};
-ghost use Rattle.mh_modes.specs.MessagesStage.{AreMessages, AreMessagesOf};
+ghost use Rattle.mh_modes.specs.MessagesStage.{AreMessages, AreMessagesOf, IsMessagesFile, IsUpdatedFile, IsUpdatedOf};
 ghost use Rattle.mh_prepare.specs.FileStage.{IsFile};
 ghost use Rattle.mh_prepare.specs.Prepared.{IsFit};
 ghost use Rattle.mh_drive.specs.Stages.{FilesGive, Halts, ShelfCounts, StageHas};
@@ -17,11 +17,20 @@ use mh_msgfile::{MsgFault, MsgFile, read_messages};
 use mh_outside::Shelf;
 use mh_prepare::{Prepared, Spelling, read_file};
 use mh_tables::Halting;
+use mh_update::update;
 use std::alloc::Global;
 
 /// Messages files of a grammar, against its table.
 #[derive(Drop)]
 pub(crate) struct MessagesFiles<'a> {
+    pub(crate) grammar: &'a Grammar,
+    pub(crate) table: &'a Halting,
+    ghost same: { table.now.grammar ≡ plain_of grammar.now },
+}
+
+/// The same by themselves; what the table says of the grammar is used alone.
+#[derive(Drop)]
+pub(crate) struct SpelledFiles<'a> {
     pub(crate) grammar: &'a Grammar,
     pub(crate) table: &'a Halting,
     ghost same: { table.now.grammar ≡ plain_of grammar.now },
@@ -70,6 +79,20 @@ fn messages_of(
     }
 }
 
+/// The messages file that the bytes of the named file spell.
+fn spelled_in(alloc: Global, grammar: &Grammar, name: &[u8], bytes: &[u8]) -> Result<MsgFile, Stop>
+    requires range { IsInRange (plain_of grammar.now) }
+    requires size { length bytes.now < 2 ^ 31 }
+    ensures stage { StageHas (IsMessagesFile grammar.now name.now bytes.now) result }
+    ensures fits { IfOk result (λ file. AreOf (length grammar.now.starts) (length grammar.now.tokens) file) }
+{
+    match read_messages(alloc, bytes, grammar) {
+        Ok(file) => Ok(file),
+        Err(MsgFault::Memory) => Err(Stop::OutOfMemory),
+        Err(fault) => Err(no_file(alloc, name, &fault)),
+    }
+}
+
 /// The messages of the states, by the bytes of the named file.
 fn messages_in(
     alloc: Global,
@@ -81,10 +104,9 @@ fn messages_in(
     ensures { StageHas (AreMessages files.now.grammar.now files.now.table.now name.now bytes.now) result }
 {
     files.table.table().facts();
-    match read_messages(alloc, bytes, files.grammar) {
+    match spelled_in(alloc, files.grammar, name, bytes) {
         Ok(file) => messages_of(alloc, files.table, name, &file),
-        Err(MsgFault::Memory) => Err(Stop::OutOfMemory),
-        Err(fault) => Err(no_file(alloc, name, &fault)),
+        Err(stop) => Err(stop),
     }
 }
 
@@ -95,6 +117,17 @@ impl Spelling<Compiled> for MessagesFiles<'_> {
 
     fn spell(&self, alloc: Global, name: &[u8], bytes: &[u8]) -> Result<Compiled, Stop> {
         messages_in(alloc, self, name, bytes)
+    }
+}
+
+impl Spelling<MsgFile> for SpelledFiles<'_> {
+    ghost use Rattle.mh_modes.specs.MessagesStage.{IsMessagesFile};
+
+    ghost Spells = { λ s. IsMessagesFile s.grammar.now };
+
+    fn spell(&self, alloc: Global, name: &[u8], bytes: &[u8]) -> Result<MsgFile, Stop> {
+        self.table.table().facts();
+        spelled_in(alloc, self.grammar, name, bytes)
     }
 }
 
@@ -110,6 +143,7 @@ pub(crate) fn read_messages_file<F: Shelf, const W: usize>(
     requires asked { F.MayAsk shelf.old name.now }
     ensures messages { FilesGive (IsFile (F.files shelf.old) (AreMessages prepared.now.grammar prepared.now.tabled.halting) name.now)
         (λ other. other ≡ name.now) result }
+    ensures may_still { (other : List ℕ) → F.MayAsk shelf.old other → F.MayAsk shelf.new other }
     ensures counts { ShelfCounts (F.faults shelf.old) (F.faults shelf.new) result }
     ensures kept { F.files shelf.new ≡ F.files shelf.old }
 {
@@ -118,4 +152,73 @@ pub(crate) fn read_messages_file<F: Shelf, const W: usize>(
         table: &prepared.tabled.halting,
     };
     read_file(alloc, shelf, &files, name)
+}
+
+/// What the named file spells, by itself.
+pub(crate) fn read_spelled_file<F: Shelf, const W: usize>(
+    alloc: Global,
+    prepared: &Prepared<W>,
+    shelf: &mut F,
+    name: &[u8],
+) -> Result<MsgFile, Stop>
+    requires few { W ≤ 8 }
+    requires fit { IsFit prepared.now }
+    requires asked { F.MayAsk shelf.old name.now }
+    ensures spelled { FilesGive (IsFile (F.files shelf.old) (IsMessagesFile prepared.now.grammar) name.now)
+        (λ other. other ≡ name.now) result }
+    ensures counts { ShelfCounts (F.faults shelf.old) (F.faults shelf.new) result }
+    ensures kept { F.files shelf.new ≡ F.files shelf.old }
+{
+    let files = SpelledFiles {
+        grammar: &prepared.grammar,
+        table: &prepared.tabled.halting,
+    };
+    read_file(alloc, shelf, &files, name)
+}
+
+/// A file that was spelled, brought up to date.
+fn updated_of<const W: usize>(
+    alloc: Global,
+    prepared: &Prepared<W>,
+    name: &[u8],
+    file: &MsgFile,
+) -> Result<Sequence<u8>, Stop>
+    requires few { W ≤ 8 }
+    requires fit { IsFit prepared.now }
+    requires known { AreOf (length prepared.now.tabled.halting.grammar.starts) prepared.now.tabled.halting.grammar.tokens file.now }
+    ensures { StageHas (IsUpdatedOf prepared.now name.now file.now) result }
+{
+    let tabled = &prepared.tabled;
+    match update(
+        alloc,
+        &prepared.grammar,
+        &tabled.automaton,
+        &tabled.halting,
+        file,
+    ) {
+        Ok(text) => Ok(Sequence::from_vec(text)),
+        Err(CheckFault::Memory) => Err(Stop::OutOfMemory),
+        Err(fault) => Err(no_fit(alloc, name, &fault)),
+    }
+}
+
+/// What the named file becomes, brought up to date.
+pub(crate) fn read_updated_file<F: Shelf, const W: usize>(
+    alloc: Global,
+    prepared: &Prepared<W>,
+    shelf: &mut F,
+    name: &[u8],
+) -> Result<Sequence<u8>, Stop>
+    requires few { W ≤ 8 }
+    requires fit { IsFit prepared.now }
+    requires asked { F.MayAsk shelf.old name.now }
+    ensures updated { FilesGive (IsUpdatedFile (F.files shelf.old) prepared.now name.now)
+        (λ other. other ≡ name.now) result }
+    ensures counts { ShelfCounts (F.faults shelf.old) (F.faults shelf.new) result }
+    ensures kept { F.files shelf.new ≡ F.files shelf.old }
+{
+    match read_spelled_file(alloc, prepared, shelf, name) {
+        Ok(file) => updated_of(alloc, prepared, name, &file),
+        Err(stop) => Err(stop),
+    }
 }

@@ -8,15 +8,20 @@ ghost use Rattle.mh_modes.specs.Plan.{IsPlanOfJob};
 ghost use Rattle.mh_prepare.specs.Prepared.{IsFit};
 
 mod at_end;
+mod comparing;
 mod compiling;
+mod echoing;
 mod explaining;
 mod judging;
 mod listing;
 mod serving;
 mod showing;
+mod updating;
 
 use at_end::AtEnd;
-use compiling::list_by;
+use comparing::compare_by;
+use compiling::compile_by;
+use echoing::echo_by;
 use explaining::explain_by;
 use judging::judge_by;
 use listing::Listing;
@@ -27,6 +32,7 @@ use mh_prepare::Prepared;
 use serving::serve_on;
 use showing::Showing;
 use std::alloc::Global;
+use updating::update_by;
 
 /// Does what the job asks for. A mode that reads files of its own takes them from the shelf.
 pub fn follow<F: Shelf, I: Source, O: Sink, const W: usize>(
@@ -60,7 +66,19 @@ pub fn follow<F: Shelf, I: Source, O: Sink, const W: usize>(
             drive(alloc, AtEnd { writer }, input, out)
         }
         Job::CompileErrors { file } => {
-            let opened = list_by(alloc, prepared, shelf, file.as_slice());
+            let opened = compile_by(alloc, prepared, shelf, file.as_slice());
+            drive_opened(alloc, opened, input, out)
+        }
+        Job::CompareErrors { first, second } => {
+            let opened = compare_by(alloc, prepared, shelf, first.as_slice(), second.as_slice());
+            drive_opened(alloc, opened, input, out)
+        }
+        Job::EchoErrors { file } => {
+            let opened = echo_by(alloc, prepared, shelf, file.as_slice());
+            drive_opened(alloc, opened, input, out)
+        }
+        Job::UpdateErrors { file } => {
+            let opened = update_by(alloc, prepared, shelf, file.as_slice());
             drive_opened(alloc, opened, input, out)
         }
     }

@@ -1,3 +1,4 @@
 pub mod Chosen
 pub mod Given
+pub mod Renaming
 pub mod Taken

@@ -8,13 +8,14 @@ use Rattle.mh_opts.specs.declared.jobs.Mode.{Mode}
 use Rattle.mh_opts.specs.declared.jobs.Mode.TheVariants as mode
 use Rattle.mh_opts.specs.declared.jobs.Need.{Need}
 use Rattle.mh_opts.specs.declared.jobs.Opt.{Opt}
-use Rattle.mh_opts.specs.declared.jobs.TheConstants.{CANONICAL, COMPILE_ERRORS, GRAMMARS, INTERPRET_SHOW_CST, MESSAGES, NEEDS, NO_STDLIB, STRICT}
+use Rattle.mh_opts.specs.declared.jobs.TheConstants.{CANONICAL, COMPARE_ERRORS, COMPARE_ERRORS_2, COMPILE_ERRORS, ECHO_ERRORS, GRAMMARS, INTERPRET_SHOW_CST, MESSAGES, NEEDS, NO_STDLIB, STRICT, UPDATE_ERRORS}
 use Rattle.mh_opts.specs.declared.jobs.Job.{Job}
 use Rattle.mh_opts.specs.declared.jobs.Job.TheVariants as job
 use Rattle.mh_opts.specs.declared.order.Order.{Order}
 use Rattle.mh_opts.specs.declared.order.UsageFault.{UsageFault}
 use Rattle.mh_opts.specs.declared.order.UsageFault.TheVariants.{Parse, NoMode, TwoModes, Misplaced, NoGrammar, Memory}
 use Rattle.mh_opts.specs.App.{menhir_app, options}
+use Rattle.mh_opts.specs.Twice.{is_reserved, renamed}
 
 -- the mode of an option that stands among the words
 abbrev pub mode_at : List Row → Opt Text → Option Mode
@@ -48,6 +49,9 @@ job_for rows mode.ShowAutomaton = job.ShowAutomaton
 job_for rows mode.ListErrors = job.ListErrors
 job_for rows mode.InterpretError = job.InterpretError
 job_for rows mode.CompileErrors = job.CompileErrors (file_of rows COMPILE_ERRORS.now)
+job_for rows mode.UpdateErrors = job.UpdateErrors (file_of rows UPDATE_ERRORS.now)
+job_for rows mode.EchoErrors = job.EchoErrors (file_of rows ECHO_ERRORS.now)
+job_for rows mode.CompareErrors = job.CompareErrors (file_of rows COMPARE_ERRORS.now) (file_of rows COMPARE_ERRORS_2.now)
 
 -- an option as it is written
 abbrev pub written : Text → Text
@@ -99,9 +103,13 @@ order_by rows (Ok mode) = order_with rows mode (misplaced_in rows needs)
 abbrev pub order_in : List Row → Result Order UsageFault
 order_in rows = order_by rows (mode_in rows options)
 
--- the order that the words spell, or the first usage fault; words that the command does not take are Parse
+-- the order that words spell as clap reads them; words that the command does not take are Parse
+abbrev pub order_renamed : List Text → Result Order UsageFault
+order_renamed words = if is_empty (fault_of menhir_app words) then order_in (matches_of menhir_app words) else Err Parse
+
+-- the order that the words spell, or the first usage fault
 abbrev pub order_of : List Text → Result Order UsageFault
-order_of words = if is_empty (fault_of menhir_app words) then order_in (matches_of menhir_app words) else Err Parse
+order_of words = if is_reserved words then Err Parse else order_renamed (renamed words)
 
 -- the answer is this one, unless memory ran out
 abbrev pub Answers : {X : Type 0} → Result X UsageFault → Result X UsageFault → Type 0

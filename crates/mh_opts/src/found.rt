@@ -1,5 +1,5 @@
 //! What clap found among the words.
-ghost use Rattle.std.specs.Prelude.{◌≡◌, IfOk};
+ghost use Rattle.std.specs.Prelude.{◌≡◌, IfOk, Ok};
 ghost use Rattle.clap.specs.Takes as clap;
 ghost use Rattle.clap.specs.Words.{first_of, found_of, rows_of};
 ghost use Rattle.mh_opts.specs.Orders as orders;
@@ -42,4 +42,16 @@ pub(crate) fn file_of(alloc: Global, matches: &ArgMatches<'_>, name: &str) -> Re
         Some(value) => from_bytes(alloc, value.as_bytes()),
         None => from_bytes(alloc, b""),
     }
+}
+
+/// Both, or want of memory. What it lets go is let go in one call: where the types are known, each way out would be long to prove.
+pub(crate) fn both<A: Drop, B: Drop>(
+    first: Result<A, Memory>,
+    second: Result<B, Memory>,
+) -> Result<(A, B), Memory>
+    ensures { IfOk result (λ pair. (first ≡ Ok pair.0) × (second ≡ Ok pair.1)) }
+{
+    let first = first?;
+    let second = second?;
+    Ok((first, second))
 }

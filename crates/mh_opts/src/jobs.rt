@@ -3,10 +3,11 @@ ghost use Rattle.std.specs.Prelude.{◌≡◌, IfOk};
 ghost use Rattle.clap.specs.Words.{found_of, rows_of};
 ghost use Rattle.mh_opts.specs.App as app;
 ghost use Rattle.mh_opts.specs.App.{plain_rows};
+ghost use Rattle.mh_opts.specs.declared.jobs.Mode.TheVariants as mode;
 ghost use Rattle.mh_opts.specs.Orders as orders;
 ghost use Rattle.mh_opts.specs.Orders.{job_for, plain_needs};
 
-use crate::found::file_of;
+use crate::found::{both, file_of};
 use clap::{ArgAction, ArgMatches};
 use mh_grammar::{Memory, Name};
 use std::alloc::Global;
@@ -26,6 +27,15 @@ pub(crate) const NO_STDLIB: &str = "no-stdlib";
 
 pub(crate) const COMPILE_ERRORS: &str = "compile-errors";
 
+pub(crate) const COMPARE_ERRORS: &str = "compare-errors";
+
+/// What the second use of `--compare-errors` is called when clap reads it.
+pub(crate) const COMPARE_ERRORS_2: &str = "compare-errors-2";
+
+pub(crate) const ECHO_ERRORS: &str = "echo-errors";
+
+pub(crate) const UPDATE_ERRORS: &str = "update-errors";
+
 pub(crate) const MESSAGES: &str = "messages";
 
 /// What is to be done.
@@ -43,6 +53,12 @@ pub enum Job {
     ListErrors,
     /// `--compile-errors FILE`: the messages of a file, by state.
     CompileErrors { file: Name },
+    /// `--compare-errors FILE`, twice: which states only the first of two files names.
+    CompareErrors { first: Name, second: Name },
+    /// `--echo-errors FILE`: the sentences of a messages file, one a line.
+    EchoErrors { file: Name },
+    /// `--update-errors FILE`: a messages file with its comment lines made anew.
+    UpdateErrors { file: Name },
 }
 
 /// What is to be done, without the values that stand behind its words: a constant holds nothing that owns memory.
@@ -54,6 +70,20 @@ pub enum Mode {
     ShowAutomaton,
     ListErrors,
     CompileErrors,
+    CompareErrors,
+    EchoErrors,
+    UpdateErrors,
+}
+
+/// The job that compares two files.
+fn compared(alloc: Global, matches: &ArgMatches<'_>) -> Result<Job, Memory>
+    ensures { IfOk result (λ job. job ≡ job_for (rows_of (found_of matches.now)) mode.CompareErrors) }
+{
+    let (first, second) = both(
+        file_of(alloc, matches, COMPARE_ERRORS),
+        file_of(alloc, matches, COMPARE_ERRORS_2),
+    )?;
+    Ok(Job::CompareErrors { first, second })
 }
 
 /// The job of a mode, with what stands behind its words.
@@ -68,6 +98,13 @@ pub(crate) fn job_of(alloc: Global, matches: &ArgMatches<'_>, mode: Mode) -> Res
         Mode::ListErrors => Ok(Job::ListErrors),
         Mode::CompileErrors => Ok(Job::CompileErrors {
             file: file_of(alloc, matches, COMPILE_ERRORS)?,
+        }),
+        Mode::CompareErrors => compared(alloc, matches),
+        Mode::EchoErrors => Ok(Job::EchoErrors {
+            file: file_of(alloc, matches, ECHO_ERRORS)?,
+        }),
+        Mode::UpdateErrors => Ok(Job::UpdateErrors {
+            file: file_of(alloc, matches, UPDATE_ERRORS)?,
         }),
     }
 }
@@ -88,7 +125,7 @@ pub struct Need<T> {
     pub needs: T,
 }
 
-const OPTIONS: [Opt<&str>; 11] = [
+const OPTIONS: [Opt<&str>; 15] = [
     Opt {
         name: INTERPRET,
         action: ArgAction::SetTrue,
@@ -120,6 +157,26 @@ const OPTIONS: [Opt<&str>; 11] = [
         mode: Some(Mode::CompileErrors),
     },
     Opt {
+        name: COMPARE_ERRORS,
+        action: ArgAction::Set,
+        mode: Some(Mode::CompareErrors),
+    },
+    Opt {
+        name: COMPARE_ERRORS_2,
+        action: ArgAction::Set,
+        mode: None,
+    },
+    Opt {
+        name: ECHO_ERRORS,
+        action: ArgAction::Set,
+        mode: Some(Mode::EchoErrors),
+    },
+    Opt {
+        name: UPDATE_ERRORS,
+        action: ArgAction::Set,
+        mode: Some(Mode::UpdateErrors),
+    },
+    Opt {
         name: MESSAGES,
         action: ArgAction::Set,
         mode: None,
@@ -147,7 +204,7 @@ const OPTIONS: [Opt<&str>; 11] = [
 ];
 
 /// The first that stands without what it needs is the one that is told.
-const NEEDS: [Need<&str>; 2] = [
+const NEEDS: [Need<&str>; 3] = [
     Need {
         option: INTERPRET_SHOW_CST,
         needs: INTERPRET,
@@ -155,6 +212,10 @@ const NEEDS: [Need<&str>; 2] = [
     Need {
         option: MESSAGES,
         needs: INTERPRET,
+    },
+    Need {
+        option: COMPARE_ERRORS,
+        needs: COMPARE_ERRORS_2,
     },
 ];
 

@@ -5,6 +5,7 @@ mod command;
 mod found;
 mod jobs;
 mod order;
+mod twice;
 mod words;
 
 pub use jobs::Job;

@@ -3,16 +3,17 @@ ghost use Rattle.std.specs.Prelude.{◌≡◌, IfOk, Ok, not, option_map, map, s
 ghost use Rattle.clap.specs.Walk.{is_empty};
 ghost use Rattle.clap.specs.Words.{found_of, rows_of};
 ghost use Rattle.mh_opts.specs.Orders as orders;
-ghost use Rattle.mh_opts.specs.Orders.{Answers, grammars_of, lacks, misplaced_in, mode_at, mode_in, needs, order_in, order_of, plain_need, written};
+ghost use Rattle.mh_opts.specs.Orders.{Answers, grammars_of, lacks, misplaced_in, mode_at, mode_in, needs, order_in, order_of, order_renamed, plain_need, written};
 ghost use Rattle.mh_opts.specs.App.{options, plain};
 
 use crate::command::menhir_command;
-use crate::found::{is_given, value_of};
+use crate::found::{both, is_given, value_of};
 use crate::jobs::{
     CANONICAL, GRAMMARS, INTERPRET_SHOW_CST, MESSAGES, Mode, NO_STDLIB, Need, Opt, STRICT, job_of,
     needs, options,
 };
 use crate::order::{Order, UsageFault};
+use crate::twice::{is_reserved, renamed};
 use clap::ArgMatches;
 use clap::error::ErrorKind;
 use mh_grammar::{Memory, Name, Sequence, from_bytes};
@@ -104,18 +105,6 @@ fn written_name(alloc: Global, option: &str) -> Result<Name, Memory>
     from_bytes(alloc, text.as_bytes())
 }
 
-/// Both, or want of memory. What it lets go is let go in one call: where the types are known, each way out would be long to prove.
-fn both<A: Drop, B: Drop>(
-    first: Result<A, Memory>,
-    second: Result<B, Memory>,
-) -> Result<(A, B), Memory>
-    ensures { IfOk result (λ pair. (first ≡ Ok pair.0) × (second ≡ Ok pair.1)) }
-{
-    let first = first?;
-    let second = second?;
-    Ok((first, second))
-}
-
 /// The order for a mode, with what else the words say.
 fn order_for(alloc: Global, matches: &ArgMatches<'_>, mode: Mode) -> Result<Order, Memory>
     ensures { IfOk result (λ order. order ≡ orders.order_for (rows_of (found_of matches.now)) mode) }
@@ -165,6 +154,17 @@ fn matched_order(alloc: Global, matches: &ArgMatches<'_>) -> Result<Order, Usage
 /// exactly where it holds; and `Memory` only where memory runs out.
 pub fn read_words(alloc: Global, words: &[String]) -> Result<Order, UsageFault>
     ensures { Answers (order_of (map string_bytes words.now)) result }
+{
+    if is_reserved(words) {
+        return Err(UsageFault::Parse);
+    }
+    let renamed = renamed(alloc, words)?;
+    read_renamed(alloc, renamed.as_slice())
+}
+
+/// The order that words spell as clap reads them.
+fn read_renamed(alloc: Global, words: &[String]) -> Result<Order, UsageFault>
+    ensures { Answers (order_renamed (map string_bytes words.now)) result }
 {
     let command = menhir_command(alloc)?;
     match command.try_get_matches_from(words) {

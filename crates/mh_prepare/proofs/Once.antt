@@ -16,7 +16,7 @@ use Rattle.mh_front.proofs.OneGrammar.{one_grammar, one_fault, grammar_or_fault}
 use Rattle.mh_rules.specs.declared.modules.Module.{Module}
 use Rattle.mh_reader.proofs.Lines.{line_once, one_module}
 use Rattle.mh_drive.specs.Text.{Text}
-use Rattle.mh_drive.specs.Causes.{Go, Halt, Then, Gives}
+use Rattle.mh_drive.specs.Causes.{Staged, Go, Halt, Then, Gives}
 use Rattle.mh_drive.specs.declared.stop.Cause.{Cause}
 use Rattle.mh_drive.specs.declared.stop.Cause.TheVariants.{Refused}
 use Rattle.mh_drive.proofs.Binding.{IsOne, on_once, then_once}

@@ -16,6 +16,7 @@ use Rattle.mh_top.specs.Run as runs
 use Rattle.mh_prepare.specs.Shapes.{Prepared}
 use Rattle.mh_drive.specs.Text.{Text}
 use Rattle.mh_top.specs.Work.{Work, IsPlanUnless, IsWork, IsWorkOf, has_warning, warnings_of}
+use Rattle.mh_prepare.specs.Preparing.{IsPrepared}
 use Rattle.mh_drive.specs.declared.driving.Asks.TheVariants.{NoLine}
 use Rattle.mh_drive.specs.declared.stop.Cause.{Cause}
 use Rattle.mh_top.proofs.Claims.{completes}

@@ -1,5 +1,5 @@
 -- The answers to sentence lines, over the work that the words ask for.
-use Rattle.std.proofs.Common.{◌≡◌, ◌⊎◌, ◌↔◌, ℕ, ◌+◌, ◌<◌, ◌≤◌, List, [], ◌++◌, length, take, get_or, Bool, true, false, ◌&&◌, Option, sym, ◌∙◌, ap, subst, arith, inl, inr, refl}
+use Rattle.std.proofs.Common.{◌≡◌, ◌⊎◌, ◌↔◌, ℕ, ◌+◌, ◌<◌, ◌≤◌, List, [], ◌∷◌, ◌++◌, length, take, get_or, Bool, true, false, ◌&&◌, Option, sym, ◌∙◌, ap, subst, arith, inl, inr, refl}
 use Rattle.std.specs.Prelude.{codes}
 use Rattle.std.proofs.lemmas.Bool.{cases_lt}
 use Rattle.std.proofs.lemmas.Option.{slice_get_within, slice_get-get_or}
@@ -37,10 +37,11 @@ use Rattle.mh_rules.specs.declared.modules.Module.{Module}
 use Rattle.mh_rules.specs.Ready.{AreModulesReady}
 use Rattle.mh_front.proofs.OneGrammar.{have_costs, in_range}
 use Rattle.mh_opts.specs.declared.order.Order.{Order}
+use Rattle.std.proofs.lemmas.List.Elements.{All-cons, All-head, All-nil}
 use Rattle.mh_drive.specs.Text.{Text}
 use Rattle.mh_drive.specs.Causes.{Staged, Go, Halt, On, Then, Gives}
 use Rattle.mh_prepare.specs.Order.{order_of}
-use Rattle.mh_prepare.specs.FileStage.{AreFiles, IsModule}
+use Rattle.mh_prepare.specs.FileStage.{AreFiles, IsFile, IsModule}
 use Rattle.mh_prepare.specs.GrammarStage.{IsGrammarStage}
 use Rattle.mh_prepare.specs.TableStage.{IsAutomatonStage, IsResolvedStage, IsTableStage, mode_of, source_of}
 use Rattle.mh_msgfile.specs.Sentences.{LineFound}
@@ -52,13 +53,15 @@ use Rattle.mh_top.specs.Work.{Work, IsPlanUnless, IsWork, IsWorkOf, has_warning}
 use Rattle.mh_prepare.specs.Preparing.{IsFront, IsPrepared, IsTabledFront}
 use Rattle.mh_top.specs.Exact.{IsLR1, AnswersSentence, Accepts, Rejects, IsTooDeepText, ShowsTree, AcceptsExactly, RejectsRightly, OvershootsRightly, AcceptsRightly, TooDeepExactly}
 use Rattle.mh_prepare.specs.declared.prepared.Front.{Front}
+use Rattle.mh_prepare.specs.Prepared.{IsFit}
 use Rattle.mh_prepare.specs.Shapes.{Prepared, Tabled}
 use Rattle.mh_drive.specs.declared.stop.Cause.{Cause}
 use Rattle.mh_prepare.specs.declared.tabled.Source.{Source}
 use Rattle.mh_prepare.specs.declared.tabled.Source.TheVariants.{Canonical, Merged}
 use Rattle.mh_tables.specs.Halting.{Halts}
 use Rattle.mh_prepare.proofs.Ready.{have_alternatives}
-use Rattle.mh_modes.proofs.EachMode.{Runs, facts_of as job_facts}
+use Rattle.mh_modes.proofs.Reading.{Runs}
+use Rattle.mh_modes.proofs.EachMode.{facts_of as job_facts}
 
 -- ---- the grammar and the table that verdicts go by
 
@@ -196,10 +199,30 @@ module _ (g : Grammar) (t : TableData) (is : IsTabled g t) where
     overshot : AllProductive (plain_of g) → (w : List ℕ) (s : ℕ) → VerdictOf t start w (Overshot s) → BeginsSentence (plain_of g) start w
     overshot productive w s v = overshoots g is.table.automaton (mode_of is.table.source) t facts automaton is.table.table productive start w s known v
 
--- every run on the table ends
+-- what is prepared fits together
+tabled_fit : (source : Source) (g : Grammar) → IsInRange (plain_of g) → (s : Staged Automaton) → IsAutomatonStage source g s → (x : Tabled) → On s (IsResolvedStage (mode_of source) g) (Go x) → IsAutomaton (plain_of g) x.automaton × IsTableOf g x.automaton (mode_of source) x.halting
+tabled_fit source g range (Go a) stage x is =
+    (subst (IsAutomaton (plain_of g)) (sym is.automaton) (automaton_so source g a range stage), subst (λ (b : Automaton). IsTableOf g b (mode_of source) x.halting) (sym is.automaton) is.table)
+tabled_fit source g range (Halt cause) stage x is = absurd (cc)
+
+prepared_fit : (words : List Text) (files : Option Files) (p : Prepared) → IsPrepared words files (Go p) → IsFit p
+prepared_fit words files p is = at is.0 is.1 is.2
+  where
+    of_table : (front : Front) → IsInRange (plain_of front.grammar) → (s : Staged Tabled) → IsTableStage (source_of front.order) front.grammar s → On s (λ tabled. Gives (record { order = front.order; grammar = front.grammar; tabled = tabled })) (Go p) → IsFit p
+    of_table front range (Halt cause) stage same = absurd (cc)
+    of_table front range (Go x) stage same =
+        let one : p ≡ record { order = front.order; grammar = front.grammar; tabled = x } = cc in
+        let fit = tabled_fit (source_of front.order) front.grammar range stage.0 stage.1 x stage.2 in
+        subst IsFit (sym one) (record { range = range; automaton = fit.0; table = fit.1 })
+
+    at : (s : Staged Front) → IsFront words files s → On s IsTabledFront (Go p) → IsFit p
+    at (Go front) here rest = of_table front (front_range words files front here).0 rest.0 rest.1 rest.2
+    at (Halt cause) here same = absurd (cc)
+
+-- and every run on the table ends
 pub prepared_runs : (words : List Text) (files : Option Files) (p : Prepared) → IsPrepared words files (Go p) → Runs p
 prepared_runs words files p is =
-    let tabled = prepared_tabled words files p is in record { halts = record { facts = facts p.grammar p.tabled.halting tabled; halts = tabled.halts }; grammar = tabled.table.table.grammar }
+    let tabled = prepared_tabled words files p is in record { halts = record { facts = facts p.grammar p.tabled.halting tabled; halts = tabled.halts }; fit = prepared_fit words files p is }
 
 -- ---- the texts
 

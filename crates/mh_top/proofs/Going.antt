@@ -5,7 +5,8 @@ use Rattle.std.specs.Prelude.{Result, Ok, Err}
 use Rattle.std.specs.Io.KnownBytes.{Appends}
 use Rattle.mh_outside.specs.Shelf.{Files}
 use Rattle.mh_drive.specs.Text.{Text}
-use Rattle.mh_drive.specs.Causes.{Go, Halt}
+use Rattle.mh_drive.specs.Causes.{Staged, Go, Halt, Then, Gives}
+use Rattle.mh_prepare.specs.Order.{order_of}
 use Rattle.mh_prepare.specs.Turns.{IsGrammarTurn}
 use Rattle.mh_modes.specs.Plan.{Plan, IsPlanOfJob, halts, by_plan}
 use Rattle.mh_modes.specs.Files.{IsTurnOfJob}

@@ -1,11 +1,12 @@
 -- The work that the words ask for is one, as each of its stages gives one thing; and so is its outcome on an input.
-use Rattle.std.proofs.Common.{◌≡◌, Bool, true, false, ◌&&◌, List, [], ◌∷◌, ◌++◌, Option, Some, sym, ◌∙◌, ap, ap₂, subst}
+use Rattle.std.proofs.Common.{◌≡◌, ◌≤◌, ℕ, Bool, true, false, ◌&&◌, List, [], ◌∷◌, ◌++◌, Option, Some, sym, ◌∙◌, ap, ap₂, subst, arith}
 use Rattle.mh_outside.specs.Shelf.{Files}
 use Rattle.mh_drive.specs.Text.{Text}
 use Rattle.mh_drive.specs.Causes.{Staged, Go, Halt}
 use Rattle.mh_modes.specs.Plan.{Plan, asks_of, by_plan}
 use Rattle.mh_drive.specs.Ways.{AnswersAll, AsksFor, EndsBehind, Outcome, Yields, left_behind}
 use Rattle.mh_top.specs.Work.{Work, IsPlanUnless, IsWork, IsWorkOf, has_warning}
+use Rattle.mh_prepare.specs.Preparing.{IsPrepared}
 use Rattle.mh_drive.specs.declared.driving.Asks.{Asks}
 use Rattle.mh_drive.specs.declared.driving.Asks.TheVariants.{NoLine, FirstLine, EachLine}
 use Rattle.mh_prepare.specs.Shapes.{Prepared}

@@ -6,7 +6,7 @@ use Rattle.mh_outside.specs.Shelf.{Files, Found, NoFile, Long}
 use Rattle.mh_outside.specs.Sink.{AppendsPrefix}
 use Rattle.mh_drive.specs.Text.{Text, cannot_read, cannot_read_input, out_of_memory}
 use Rattle.mh_drive.specs.Lines.{split, is_small}
-use Rattle.mh_drive.specs.Causes.{Halt}
+use Rattle.mh_drive.specs.Causes.{Go, Halt}
 use Rattle.mh_prepare.specs.Order.{order_of}
 use Rattle.mh_prepare.specs.FileStage.{IsFound}
 use Rattle.mh_modes.specs.Plan.{Plan, asks_of, by_plan}
@@ -15,6 +15,7 @@ use Rattle.mh_drive.specs.declared.driving.TheConstants.{LINE_LIMIT}
 use Rattle.mh_drive.specs.Ways.{most, wanted}
 use Rattle.mh_drive.specs.Drive.{IsOfEnd, IsOfLine, Stands}
 use Rattle.mh_top.specs.Run.{World, Behind, CouldWrite, CutOut, CutWarnings, Does, Done, GotLines, IsDue, IsQuiet, IsStill, Says}
+use Rattle.mh_opts.specs.declared.order.Order.{Order}
 use Rattle.mh_drive.specs.declared.driving.Asks.{Asks}
 use Rattle.mh_drive.specs.declared.driving.Asks.TheVariants.{NoLine}
 use Rattle.mh_drive.specs.declared.stop.Cause.TheVariants.{Misused}

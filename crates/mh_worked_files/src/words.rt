@@ -15,6 +15,9 @@ fn shown(alloc: Global, order: &Order) -> Result<Vec<u8>, AllocError> {
         Job::ListErrors => b"list",
         Job::InterpretError => b"explain",
         Job::CompileErrors { .. } => b"compile",
+        Job::CompareErrors { .. } => b"compare",
+        Job::EchoErrors { .. } => b"echo",
+        Job::UpdateErrors { .. } => b"update",
     })?;
     text.extend_from_slice(if order.canonical { b" canonical" } else { b"" })?;
     text.extend_from_slice(if order.strict { b" strict" } else { b"" })?;
@@ -51,6 +54,19 @@ const CASES: &str = "--interpret g.mly~interpret :g.mly^\
     --canonical g.mly~no mode^\
     --canonical --interpret --canonical g.mly~bad words^\
     --interpret -~interpret :-^\
+    --echo-errors m g.mly~echo :g.mly^\
+    --echo-errors=m --strict g.mly~echo strict :g.mly^\
+    --echo-errors m --compile-errors m g.mly~two modes^\
+    --update-errors m g.mly~update :g.mly^\
+    --update-errors m --echo-errors m g.mly~two modes^\
+    --compare-errors a --compare-errors b g.mly~compare :g.mly^\
+    --compare-errors=a g.mly --compare-errors=b~compare :g.mly^\
+    --compare-errors a g.mly~--compare-errors^\
+    --compare-errors a -- --compare-errors b~--compare-errors^\
+    --compare-errors a --compare-errors b --compare-errors c g.mly~bad words^\
+    --compare-errors a --compare-errors-2 b g.mly~bad words^\
+    --compare-errors-2=b --interpret g.mly~bad words^\
+    --interpret -- --compare-errors-2~interpret :--compare-errors-2^\
     --interpret -- --strict -x~interpret :--strict :-x^\
     --interpret  g.mly~interpret : :g.mly^\
     help --interpret~interpret :help^\

@@ -1,8 +1,11 @@
 //! Modes that ask for no line: they write only at their end.
 ghost use Rattle.mh_drive.specs.Steps.{EndRan, OutCounts};
+ghost use Rattle.std.specs.Prelude.{◌≡◌};
 ghost use Rattle.mh_modes.specs.Plan.{End, EndsBy};
+ghost use Rattle.mh_modes.specs.Told.{ending_of};
+ghost use Rattle.mh_modes.specs.declared.modes.at_end.Told.TheVariants.{Said};
 
-use mh_drive::{Asks, Mode, Stop, write_text};
+use mh_drive::{Asks, Cause, Mode, Stop, write_text};
 use mh_grammar::{Memory, Sequence};
 use mh_outside::Sink;
 use std::alloc::Global;
@@ -51,19 +54,54 @@ impl<T: Writer + Drop> Mode for AtEnd<T> {
     }
 }
 
-/// What writes a text.
+/// What is told at the end.
 #[derive(Drop)]
-pub(crate) struct Written {
-    pub(crate) text: Sequence<u8>,
+pub(crate) enum Told {
+    /// This text, on out.
+    Said { text: Sequence<u8> },
+    /// There is none, and this line on err says why.
+    Not { line: Sequence<u8> },
 }
 
-impl Writer for Written {
-    ghost use Rattle.std.specs.Prelude.{None};
-    ghost use Rattle.mh_modes.specs.Plan.{Known};
+/// What tells it.
+#[derive(Drop)]
+pub(crate) struct Telling {
+    pub(crate) told: Told,
+}
 
-    ghost end = { λ s. Known (record { cause = None; out = s.text }) };
+/// Writes what is told, or refuses.
+pub(crate) fn tell<O: Sink>(out: &mut O, told: Told) -> Result<(), Stop>
+    ensures text { EndRan (λ e. e ≡ ending_of told) (O.written out.old) (O.written out.new) result }
+    ensures counts { OutCounts (O.faults out.old) (O.faults out.new) result }
+{
+    match told {
+        Told::Said { text } => write_text(out, text.as_slice()),
+        Told::Not { line } => Err(Stop::Halted {
+            cause: Cause::Refused { line },
+        }),
+    }
+}
+
+impl Writer for Telling {
+    ghost use Rattle.mh_modes.specs.Plan.{Known};
+    ghost use Rattle.mh_modes.specs.Told.{ending_of};
+
+    ghost end = { λ s. Known (ending_of s.told) };
 
     fn write<O: Sink>(self, _alloc: Global, out: &mut O) -> Result<(), Stop> {
-        write_text(out, self.text.as_slice())
+        tell(out, self.told)
+    }
+}
+
+/// The mode that says a text.
+pub(crate) fn saying(text: Vec<u8>) -> AtEnd<Telling>
+    ensures { result.writer.told ≡ Said text.items }
+{
+    AtEnd {
+        writer: Telling {
+            told: Told::Said {
+                text: Sequence::from_vec(text),
+            },
+        },
     }
 }

@@ -5,29 +5,20 @@ ghost use Rattle.mh_tables.specs.Failing.{Fails};
 ghost use Rattle.mh_comments.specs.Comments.{IsEntryText};
 ghost use Rattle.mh_run.specs.Verdicts.{ending_for};
 ghost use Rattle.mh_check.specs.Texts.{ending_text as ending_words, early_text};
-ghost use Rattle.mh_modes.specs.Explained.{IsTold, IsToldSentence, told_not, ending_of};
+ghost use Rattle.mh_modes.specs.Explained.{IsTold, IsToldSentence, told_not};
 ghost use Rattle.mh_modes.specs.Plan.{Explains};
 ghost use Rattle.mh_prepare.specs.Prepared.{IsFit};
-ghost use Rattle.mh_drive.specs.Steps.{EndRan, OutCounts};
 
+use crate::modes::at_end::{Told, tell};
 use mh_check::{ending_text, write_early};
 use mh_comments::entry_text;
-use mh_drive::{Asks, Cause, Mode, Stop, write_text};
+use mh_drive::{Asks, Mode, Stop};
 use mh_grammar::{Memory, Sentence, Sequence};
 use mh_msgfile::{SentenceFault, read_sentence};
 use mh_outside::Sink;
 use mh_prepare::Prepared;
 use mh_run::{Verdict, verdict};
 use std::alloc::Global;
-
-/// What a line is told.
-#[derive(Drop)]
-pub(crate) enum Told {
-    /// The entry of its sentence.
-    Entry { text: Sequence<u8> },
-    /// It has none, and this line on err says why.
-    Not { line: Sequence<u8> },
-}
 
 /// There is no entry, for a reason in three parts.
 fn not_told(alloc: Global, before: &[u8], middle: &[u8], after: &[u8]) -> Result<Told, Memory>
@@ -104,7 +95,7 @@ fn told_sentence<const W: usize>(
     let tokens = sentence.tokens.as_slice();
     let ended = verdict(alloc, &prepared.tabled.halting, sentence.start, tokens)?;
     match ended {
-        Verdict::Reject { at, .. } if at as usize + 1 == tokens.len() => Ok(Told::Entry {
+        Verdict::Reject { at, .. } if at as usize + 1 == tokens.len() => Ok(Told::Said {
             text: told_entry(alloc, prepared, sentence)?,
         }),
         Verdict::Reject { at, .. } => told_early(alloc, at),
@@ -135,19 +126,6 @@ fn told_line<const W: usize>(
             not_told(alloc, b"unknown token ", name.as_slice(), b"\n")
         }
         Err(SentenceFault::Memory) => Err(Memory),
-    }
-}
-
-/// Writes what a line is told, or refuses.
-fn tell<O: Sink>(out: &mut O, told: Told) -> Result<(), Stop>
-    ensures text { EndRan (λ e. e ≡ ending_of told) (O.written out.old) (O.written out.new) result }
-    ensures counts { OutCounts (O.faults out.old) (O.faults out.new) result }
-{
-    match told {
-        Told::Entry { text } => write_text(out, text.as_slice()),
-        Told::Not { line } => Err(Stop::Halted {
-            cause: Cause::Refused { line },
-        }),
     }
 }
 

@@ -1,5 +1,5 @@
-use Rattle.std.proofs.Common.{refl, sym, ap, ◌∙◌}
-use Rattle.mh_opts.specs.declared.jobs.Job.TheVariants.{Interpret, InterpretError, Session, ShowAutomaton, ListErrors, CompileErrors}
+use Rattle.std.proofs.Common.{refl, sym, ap, ap₂, ◌∙◌}
+use Rattle.mh_opts.specs.declared.jobs.Job.TheVariants.{Interpret, InterpretError, Session, ShowAutomaton, ListErrors, CompileErrors, CompareErrors, EchoErrors, UpdateErrors}
 use Rattle.mh_drive.proofs.Opening.{ran_read}
 use Rattle.mh_modes.specs.Plan.{by_plan}
 use Rattle.mh_modes.proofs.Following.{job_followed, opened_calm, opened_followed, opened_read, opened_still}
@@ -40,5 +40,21 @@ returns-in-ListErrors-clause-read g c = ran_read by_plan _ _ _ _ _ _ c.drive-in-
 
 pub returns-in-CompileErrors-clause-ran : goal.returns-in-CompileErrors-clause-ran
 returns-in-CompileErrors-clause-ran g c =
-    opened_followed (g.F.Shelf.files c.args.shelf.now) c.args.prepared.now _ (CompileErrors c.as_slice.result.now) (c.in-CompileErrors.is ∙ ap CompileErrors (sym c.as_slice.ensures)) _ _ _ _ c.drive_opened-in-CompileErrors.result c.list_by-opened.result c.list_by-opened.ensures.opens
+    opened_followed (g.F.Shelf.files c.args.shelf.now) c.args.prepared.now _ (CompileErrors c.as_slice.result.now) (c.in-CompileErrors.is ∙ ap CompileErrors (sym c.as_slice.ensures)) _ _ _ _ c.drive_opened-in-CompileErrors.result c.compile_by-opened.result c.compile_by-opened.ensures.opens
     c.drive_opened-in-CompileErrors.ensures.ran
+
+pub returns-in-EchoErrors-clause-ran : goal.returns-in-EchoErrors-clause-ran
+returns-in-EchoErrors-clause-ran g c =
+    opened_followed (g.F.Shelf.files c.args.shelf.now) c.args.prepared.now _ (EchoErrors c.as_slice-in-EchoErrors.result.now) (c.in-EchoErrors.is ∙ ap EchoErrors (sym c.as_slice-in-EchoErrors.ensures)) _ _ _ _ c.drive_opened-in-EchoErrors.result c.echo_by-opened.result c.echo_by-opened.ensures.opens
+    c.drive_opened-in-EchoErrors.ensures.ran
+
+pub returns-in-UpdateErrors-clause-ran : goal.returns-in-UpdateErrors-clause-ran
+returns-in-UpdateErrors-clause-ran g c =
+    opened_followed (g.F.Shelf.files c.args.shelf.now) c.args.prepared.now _ (UpdateErrors c.as_slice-in-UpdateErrors.result.now) (c.in-UpdateErrors.is ∙ ap UpdateErrors (sym c.as_slice-in-UpdateErrors.ensures)) _ _ _ _ c.drive_opened-in-UpdateErrors.result c.update_by-opened.result c.update_by-opened.ensures.opens
+    c.drive_opened-in-UpdateErrors.ensures.ran
+
+pub returns-in-CompareErrors-clause-ran : goal.returns-in-CompareErrors-clause-ran
+returns-in-CompareErrors-clause-ran g c =
+    opened_followed (g.F.Shelf.files c.args.shelf.now) c.args.prepared.now _ (CompareErrors c.as_slice-in-CompareErrors.result.now c.as_slice-in-CompareErrors-2.result.now)
+    (c.in-CompareErrors.is ∙ ap₂ CompareErrors (sym c.as_slice-in-CompareErrors.ensures) (sym c.as_slice-in-CompareErrors-2.ensures)) _ _ _ _ c.drive_opened-in-CompareErrors.result c.compare_by-opened.result c.compare_by-opened.ensures.opens
+    c.drive_opened-in-CompareErrors.ensures.ran

@@ -1,4 +1,4 @@
-use Rattle.std.proofs.Common.{◌≡◌}
+use Rattle.std.proofs.Common.{◌≡◌, ℕ}
 use Rattle.mh_modes.proofs.Telling.{told_last, told_at_place, told_accepted, told_overshot}
 use Rattle.mh_modes.proofs.modes.explaining.told_sentence.Goals as goal
 

@@ -1,4 +1,4 @@
-use Rattle.std.proofs.Common.{◌≡◌, Some, ap, sym, ◌∙◌}
+use Rattle.std.proofs.Common.{◌≡◌, Option, Some, ap, sym, ◌∙◌}
 use Rattle.mh_drive.specs.Text.{Text}
 use Rattle.mh_opts.specs.declared.jobs.Job.TheVariants.{Interpret}
 use Rattle.mh_modes.specs.Files.{IsTurnOfJob}
@@ -11,4 +11,4 @@ returns-in-Err-clause-messages g c =
     let files = g.F.Shelf.files c.args.shelf.now in
     let file : Text = c.as_slice.result.now in
     let same : p.order.messages ≡ Some file = c.in-Some.is ∙ ap Some (sym c.as_slice.ensures) in
-    messages_stop p files (IsTurnOfJob Interpret files p) p.order.messages file same (named_turn p files p.order.messages file same) c.in-Err.stop c.in-Err.ensures.messages
+    messages_stop p files p.order.messages file (IsTurnOfJob Interpret files p) same (named_turn p files p.order.messages file same) c.in-Err.stop c.in-Err.ensures.messages
