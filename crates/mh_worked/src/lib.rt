@@ -14,6 +14,8 @@ mod interpreting;
 #[cfg(test)]
 mod limits;
 #[cfg(test)]
+mod many_tokens;
+#[cfg(test)]
 mod messages;
 #[cfg(test)]
 mod refused;
