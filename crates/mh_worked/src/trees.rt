@@ -92,7 +92,7 @@ ACCEPT
 ERROR unknown token Y
 ERROR unreadable
 ~
-menhir: warning: conflict in state 9 on ELSE
+menhir: warning: conflict in state 5 on ELSE
 ^
 0 --interpret --interpret-show-cst g.mly
 ~
