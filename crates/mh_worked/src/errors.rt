@@ -168,13 +168,6 @@ const MERGED_ROWS: &str = "%token A B EOF %start s %% s: A EOF {} = 0 1, 1 2,
 %token INT PLUS TIMES LPAREN RPAREN EOF %left PLUS %left TIMES %start main %% main: expr EOF {} expr: INT {} | LPAREN expr RPAREN {} | expr PLUS expr {} | expr TIMES expr {} = 0 1, 2 2, 4 2, 5 3, 6 3, 7 3, 10 4,
 %token A %start s %% s: {} =";
 
-// Each grammar, and behind `=` each state of its merged automaton that is listed with its sentence: the first of the cheapest.
-const SENTENCES: &str =
-    "%token A [@cost 5] B C EOF %start s %% s: x EOF {} x: A {} | B {} = 0 s: C, 4 s: B B,
-%token A B C EOF %start s %% s: x EOF {} x: A {} | B {} = 0 s: C, 4 s: A A,
-%token A [@cost 0] B C EOF %start s %% s: x EOF {} x: A {} | B {} = 0 s: C, 4 s: A A,
-%token A B C D %start p q %% p: x A {} q: x B {} x: C D {} = 0 p: A, 1 q: A, 2 p: C A, 4 p: C D B, 6 q: C D A,";
-
 /// How many words a text has.
 fn count_words(text: &str) -> usize {
     let mut count = 0usize;
@@ -207,23 +200,6 @@ fn rows_of(alloc: Global, list: &str) -> Result<String, Fail> {
     Ok(rows)
 }
 
-/// What a list of errors says: each state with its sentence.
-fn sentences_of(alloc: Global, list: &str) -> Result<String, Fail> {
-    let mut rows = String::new(alloc);
-    let mut sentence = "";
-    for line in list.lines() {
-        match state_of(line) {
-            Some(state) => write!(rows, "{state} {sentence}, ")?,
-            None => {
-                if !line.starts_with('#') {
-                    sentence = line;
-                }
-            }
-        }
-    }
-    Ok(rows)
-}
-
 /// The text that the list of errors of a grammar is.
 fn list_of(rt: &impl Abort, alloc: Global, words: &str, grammar: &[u8]) -> Result<Vec<u8>, Fail> {
     let got = run_on(rt, alloc, words, grammar, Vec::new(alloc))?;
@@ -247,26 +223,6 @@ fn check_rows(rt: &impl Abort, alloc: Global, words: &str, cases: &str) -> Resul
             wanted.trim_ascii(),
             "{grammar}"
         );
-    }
-    Ok(())
-}
-
-fn check_sentences(rt: &impl Abort, alloc: Global, case: &str) -> Result<(), Fail> {
-    let (grammar, wanted) = case.split_once('=').ok_or("a case without rows")?;
-    let list = list_of(rt, alloc, "--list-errors g.mly", grammar.as_bytes())?;
-    let rows = sentences_of(alloc, str::from_utf8(&list)?)?;
-    assert_eq!(rt;
-        rows.as_str().trim_ascii(),
-        wanted.trim_ascii(),
-        "{grammar}"
-    );
-    Ok(())
-}
-
-#[test]
-fn first_sentences(rt: HostRuntime) -> Result<(), Fail> {
-    for case in SENTENCES.lines() {
-        check_sentences(&rt, rt.alloc(), case)?;
     }
     Ok(())
 }
