@@ -168,6 +168,13 @@ const MERGED_ROWS: &str = "%token A B EOF %start s %% s: A EOF {} = 0 1, 1 2,
 %token INT PLUS TIMES LPAREN RPAREN EOF %left PLUS %left TIMES %start main %% main: expr EOF {} expr: INT {} | LPAREN expr RPAREN {} | expr PLUS expr {} | expr TIMES expr {} = 0 1, 2 2, 4 2, 5 3, 6 3, 7 3, 10 4,
 %token A %start s %% s: {} =";
 
+// Each grammar, and behind `=` each state of its merged automaton that is listed with its sentence: the first of the cheapest.
+const SENTENCES: &str =
+    "%token A [@cost 5] B C EOF %start s %% s: x EOF {} x: A {} | B {} = s: C 0, s: B B 4,
+%token A B C EOF %start s %% s: x EOF {} x: A {} | B {} = s: C 0, s: A A 4,
+%token A [@cost 0] B C EOF %start s %% s: x EOF {} x: A {} | B {} = s: C 0, s: A A 4,
+%token A B C D %start p q %% p: x A {} q: x B {} x: C D {} = p: A 0, q: A 1, p: C A 2, p: C D B 4, q: C D A 6,";
+
 /// How many words a text has.
 fn count_words(text: &str) -> usize {
     let mut count = 0usize;
@@ -200,6 +207,22 @@ fn rows_of(alloc: Global, list: &str) -> Result<String, Fail> {
     Ok(rows)
 }
 
+/// What a list of errors says: each sentence with its state.
+fn sentences_of(alloc: Global, list: &str) -> Result<String, Fail> {
+    let mut rows = String::new(alloc);
+    for line in list.lines() {
+        match state_of(line) {
+            Some(state) => write!(rows, "{state}, ")?,
+            None => {
+                if !line.starts_with('#') && line.split_once(':').is_some() {
+                    write!(rows, "{line} ")?;
+                }
+            }
+        }
+    }
+    Ok(rows)
+}
+
 /// The text that the list of errors of a grammar is.
 fn list_of(rt: &impl Abort, alloc: Global, words: &str, grammar: &[u8]) -> Result<Vec<u8>, Fail> {
     let got = run_on(rt, alloc, words, grammar, Vec::new(alloc))?;
@@ -223,6 +246,26 @@ fn check_rows(rt: &impl Abort, alloc: Global, words: &str, cases: &str) -> Resul
             wanted.trim_ascii(),
             "{grammar}"
         );
+    }
+    Ok(())
+}
+
+fn check_sentences(rt: &impl Abort, alloc: Global, case: &str) -> Result<(), Fail> {
+    let (grammar, wanted) = case.split_once('=').ok_or("a case without rows")?;
+    let list = list_of(rt, alloc, "--list-errors g.mly", grammar.as_bytes())?;
+    let rows = sentences_of(alloc, str::from_utf8(&list)?)?;
+    assert_eq!(rt;
+        rows.as_str().trim_ascii(),
+        wanted.trim_ascii(),
+        "{grammar}"
+    );
+    Ok(())
+}
+
+#[test]
+fn first_sentences(rt: HostRuntime) -> Result<(), Fail> {
+    for case in SENTENCES.lines() {
+        check_sentences(&rt, rt.alloc(), case)?;
     }
     Ok(())
 }
