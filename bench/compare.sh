@@ -1,5 +1,5 @@
 #!/usr/bin/env bash
-# Compares the built program with Menhir itself (Debian's package `menhir`): states, verdicts, trees and lists of errors on real
+# Compares the built program with Menhir itself (Debian's package `menhir`): states, conflicts or none, verdicts, trees and lists of errors on real
 # grammars, which must be the same, and times, which are printed as ratios. It ends with 1 if anything is not the same.
 # Of each grammar file in FOLDER it compares how both automata are built (states, time, memory) and the list of errors, too.
 # Usage: bench/compare.sh PATH-OF-OUR-PROGRAM [FOLDER]   (after a run of the gate: crates/menhir/out/menhir)
@@ -55,9 +55,33 @@ compare_grammar() {
     echo "$name: $(wc -w <"$sentences") tokens in 1,000 sentences"
     for mode in "" --canonical; do
         compare_states "$name" "$mode" "${files[@]}"
+        compare_conflicts "$name" "$mode" "${files[@]}"
         compare_verdicts "$name" "$mode" "$sentences" "${files[@]}"
         compare_errors "$name" "$mode" "${files[@]}"
     done
+}
+
+# Three hundred shorter ones of a further grammar, in the default mode. Where it has several starts, a line names the first.
+compare_further() { # FILE
+    local name start file=further.mly
+    name=$(basename "$1" .mly)
+    sed 's/\<EOF\>/STOP/g' "$1" >"$file"
+    menhir --base "$name" --only-preprocess-u "$file" 2>/dev/null >plain.txt
+    start=$(sed -n 's/^%start \([a-zA-Z_]*\).*/\1/p' plain.txt | head -1)
+    python3 "$bench/sentences.py" 1 300 8 <plain.txt | sed "s/^/$start: /" >"$name.in"
+    echo "$name: $(wc -w <"$name.in") words in 300 sentences"
+    compare_conflicts "$name" "" "$file"
+    compare_verdicts "$name" "" "$name.in" "$file"
+    compare_errors "$name" "" "$file"
+}
+
+compare_conflicts() { # NAME MODE FILE..
+    local name=$1 mode=$2 conflicts theirs
+    shift 2
+    conflicts=$("$ours" $mode --interpret "$@" 2>&1 >/dev/null </dev/null | grep -c 'conflict in state' || true)
+    theirs=$(menhir --base g $mode --interpret "$@" 2>&1 >/dev/null </dev/null | grep -c 'Warning: .* conflict' || true)
+    echo "    $conflicts conflicts, $(called "$mode"); Menhir has $([ "$theirs" -gt 0 ] && echo some || echo none)"
+    [ $((conflicts > 0)) = $((theirs > 0)) ] || differs "$name, $(called "$mode"), conflicts"
 }
 
 compare_states() { # NAME MODE FILE..
@@ -131,8 +155,7 @@ compare_time() { # NAME INPUT WORD..
 if menhir_there; then
     for name in json c lua sql; do compare_grammar "$name"; done
     for file in ${further:+"$further"/*.mly}; do
-        echo "$(basename "$file" .mly):"
-        compare_errors "$(basename "$file" .mly)" "" "$file"
+        compare_further "$file"
     done
 else
     echo "Menhir is not here: only our times follow"
