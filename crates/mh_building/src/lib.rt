@@ -2,7 +2,7 @@
 #![tactic(auto)]
 
 mod building;
-mod joined;
 mod printing;
+mod whole;
 
-pub use joined::joined;
+pub use whole::joined;

@@ -5,8 +5,7 @@ ghost use Rattle.mh_meanings.specs.Joining.{printed_by};
 ghost use Rattle.mh_meanings.specs.Maps.{elsewhere_in};
 
 use mh_grammar::{Memory, Name, from_bytes};
-use mh_meanings::Outline;
-use mh_meanings::Names;
+use mh_meanings::{Names, Outline};
 use std::alloc::Global;
 
 /// A name, `@`, and the number of a file.

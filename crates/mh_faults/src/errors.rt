@@ -1,16 +1,13 @@
 //! The other faults: no start, the token `error`, unknown levels, too many tokens.
 ghost use Rattle.std.specs.Prelude.{◌≡◌, ◌++◌, length};
 ghost use Rattle.std.specs.List.{flat_map};
-ghost use Rattle.mh_meanings.specs.Faults.{Finds, unless, has_some, errors_in_actual, errors_in_rule, errors_in_file, unlevelled, unlevelled_in_rule, unlevelled_in_file, many_tokens, other_faults, faults_by};
+ghost use Rattle.mh_meanings.specs.Faults.{Finds, unless, has_some, errors_in_actual, errors_in_rule, errors_in_file, unlevelled, unlevelled_in_rule, unlevelled_in_file, many_tokens, other_faults};
 ghost use Rattle.mh_meanings.specs.Maps.{meanings_in};
 
-use crate::duplicates::check_duplicates;
-use crate::undefined::{check_undefined, is_error};
+use crate::undefined::is_error;
 use mh_grammar::Name;
-use mh_meanings::JoinFault;
-use mh_meanings::Names;
+use mh_meanings::{JoinFault, Names};
 use mh_rules::{Actual, MAX_TOKENS, Module, Ref, Rule};
-use std::alloc::Global;
 
 fn check_start(names: &Names) -> Result<(), JoinFault>
     ensures { Finds (unless (has_some (meanings_in names.now).starts) JoinFault.NoStart) result }
@@ -161,7 +158,7 @@ fn check_last(names: &Names, modules: &[Module]) -> Result<(), JoinFault>
 }
 
 /// What comes behind names that stand for nothing and names with two meanings.
-fn check_others(names: &Names, modules: &[Module]) -> Result<(), JoinFault>
+pub fn check_others(names: &Names, modules: &[Module]) -> Result<(), JoinFault>
     ensures { Finds (other_faults (meanings_in names.now) modules.now) result }
 {
     if let Err(fault) = check_start(names) {
@@ -171,17 +168,4 @@ fn check_others(names: &Names, modules: &[Module]) -> Result<(), JoinFault>
         return Err(fault);
     }
     check_last(names, modules)
-}
-
-/// Answers the first fault in the files, if there is one.
-pub fn check(alloc: Global, names: &Names, modules: &[Module]) -> Result<(), JoinFault>
-    ensures { Finds (faults_by (meanings_in names.now) modules.now) result }
-{
-    if let Err(fault) = check_undefined(alloc, names, modules) {
-        return Err(fault);
-    }
-    if let Err(fault) = check_duplicates(alloc, names, modules) {
-        return Err(fault);
-    }
-    check_others(names, modules)
 }

@@ -1,9 +1,9 @@
-//! The first fault in several files: names that stand for nothing, names with two meanings, and the others.
+//! Names and strings of several files that stand for nothing, and the faults that are asked for last: no start, the token
+//! `error`, unknown levels, too many tokens.
 #![tactic(auto)]
 
-mod duplicates;
 mod errors;
-mod finding;
 mod undefined;
 
-pub use errors::check;
+pub use errors::check_others;
+pub use undefined::check_undefined;

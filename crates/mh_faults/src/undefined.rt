@@ -7,8 +7,7 @@ ghost use Rattle.mh_meanings.specs.Faults.{Finds, meant_by, unless, undefined_in
 ghost use Rattle.mh_meanings.specs.Maps.{meanings_in, formals_in};
 
 use mh_grammar::{Name, Sequence};
-use mh_meanings::JoinFault;
-use mh_meanings::{Formals, Names, formals_of};
+use mh_meanings::{Formals, JoinFault, Names, formals_of};
 use mh_rules::{Actual, Alternative, LevelDecl, Module, Ref, Rule};
 use std::alloc::Global;
 
@@ -278,11 +277,7 @@ fn check_file(alloc: Global, names: &Names, number: u64, file: &Module) -> Resul
 }
 
 /// Everything in the files stands for something.
-pub(crate) fn check_undefined(
-    alloc: Global,
-    names: &Names,
-    modules: &[Module],
-) -> Result<(), JoinFault>
+pub fn check_undefined(alloc: Global, names: &Names, modules: &[Module]) -> Result<(), JoinFault>
     ensures { Finds (flat_map (undefined_in_file (meanings_in names.now)) (files modules.now)) result }
 {
     for (at, file) in modules.iter().enumerate() {

@@ -5,8 +5,8 @@ ghost use Rattle.mh_meanings.specs.Maps.{HasMeanings};
 ghost use Rattle.mh_meanings.specs.Prelude as spec;
 ghost use Rattle.mh_rules.specs.Ready.{AreModulesReady, IsReady};
 
+use crate::checking::check;
 use mh_building::joined;
-use mh_faults::check;
 use mh_meanings::{JoinFault, Names};
 use mh_naming::names_of;
 use mh_prelude::prelude_rules;

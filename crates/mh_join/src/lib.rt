@@ -1,6 +1,7 @@
 //! The files of a grammar joined: names resolved, public rules put together, the prelude beside them.
 #![tactic(auto)]
 
+mod checking;
 mod joining;
 mod laws;
 

@@ -8,11 +8,7 @@ use indexmap::{IndexMap, IndexSet};
 use mh_grammar::{Memory, Name};
 
 /// Puts in a name with a value, where it has none yet.
-pub fn put_first<V: Drop>(
-    map: &mut IndexMap<Name, V>,
-    name: &Name,
-    value: V,
-) -> Result<(), Memory>
+pub fn put_first<V: Drop>(map: &mut IndexMap<Name, V>, name: &Name, value: V) -> Result<(), Memory>
     ensures { OnOk result (Puts map.old ((name.now, value) ∷ []) map.new) }
 {
     if !map.contains_key(name) {

@@ -58,7 +58,12 @@ fn add_own(numbering: &mut Numbering, file: u64, name: &Name, number: u64) -> Re
 }
 
 /// Gives a rule a number.
-fn add_number(numbering: &mut Numbering, owner: Option<u64>, name: &Name, number: u64) -> Result<(), Memory>
+fn add_number(
+    numbering: &mut Numbering,
+    owner: Option<u64>,
+    name: &Name,
+    number: u64,
+) -> Result<(), Memory>
     requires { IsOwner numbering.old owner }
     ensures { OnOk result (AddsNumber numbering.old owner name.now number numbering.new) }
 {
@@ -131,7 +136,13 @@ pub(crate) fn numbering_of(
 {
     let mut numbering = no_rules(alloc, files.len())?;
     for (at, file) in files.iter().enumerate() {
-        add_rules(&mut numbering, alloc, starts, at as u64 + 1, file.rules.as_slice())?;
+        add_rules(
+            &mut numbering,
+            alloc,
+            starts,
+            at as u64 + 1,
+            file.rules.as_slice(),
+        )?;
     }
     add_prelude(&mut numbering, prelude)?;
     Ok(numbering)
