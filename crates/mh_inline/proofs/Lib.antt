@@ -13,3 +13,5 @@ pub mod Same
 pub mod Sentences
 pub mod OriginOrder
 pub mod Lasting
+pub mod Listed
+pub mod Ranked

@@ -8,3 +8,5 @@ pub mod Sentences
 pub mod Sizes
 pub mod Unfoldings
 pub mod Uses
+pub mod Searching
+pub mod Ranks

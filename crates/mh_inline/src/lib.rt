@@ -3,6 +3,7 @@
 #![tactic(auto)]
 
 mod cycles;
+mod depth;
 mod fault;
 mod inlining;
 mod instances;
@@ -10,6 +11,7 @@ mod laws;
 mod nonterminals;
 mod origins;
 mod productions;
+mod ranks;
 mod sizes;
 mod unfoldings;
 mod uses;

@@ -1,9 +1,7 @@
-use Rattle.std.proofs.Common.{◌≡◌, ◌<◌, length, get_or, refl, sym, ap, ◌∙◌, arith, subst, length-set}
-use Rattle.std.specs.List.{slice_get, Contains}
-use Rattle.std.proofs.lemmas.List.Elements.{Contains-get_or}
+use Rattle.std.proofs.Common.{◌<◌, length, get_or, refl, sym, ap, ◌∙◌, arith, subst, length-set}
+use Rattle.std.specs.List.{slice_get}
 use Rattle.std.proofs.lemmas.Option.{slice_get-get_or}
 use Rattle.mh_inline.specs.Uses.{AreLast, KnowsNeeded, KnowsUsed}
-use Rattle.mh_inline.proofs.Knowing.{inline_instance}
 use Rattle.mh_inline.proofs.Building.{next_from}
 use Rattle.mh_inline.proofs.Lasting.{order_within, KnowsNeeded-start, KnowsNeeded-more, KnowsNeeded-all}
 use Rattle.mh_inline.proofs.unfoldings.unfold_inline.Goals as goal
@@ -36,16 +34,11 @@ pub inlined_in-requires : goal.inlined_in-requires
 inlined_in-requires c = order_within c.args.expanded.now.instances c.args.sizing.now c.as_slice-order.result.now c.as_slice-order.ensures.value c.requires.sizing c.loop-place.place 0 c.loop-place-test.true
 
 pub forget-requires-clause-known : goal.forget-requires-clause-known
-forget-requires-clause-known c = λ k d l.
-    let is = c.args.expanded.now.instances in
+forget-requires-clause-known c =
+    let known = c.loop-place.known.items in
     let n = get_or c.as_slice-order.result.now c.loop-place.place 0 in
-    let xs = c.as_slice-in-loop-place.result.now in
-    let m = get_or xs k d in
-    let made = (c.in_ok-numbers.ensures m).0 (subst (λ ys. Contains ys m) c.as_slice-in-loop-place.ensures.value (Contains-get_or xs k d l)) in
-    let w = (inline_instance is m made.among.used).within in
-    let e = length-set c.loop-place.known.items n c.in_ok-all.all in
-    let len = c.loop-place.invariant.len in
-    omega arith
+    let len = length-set known n c.in_ok-all.all ∙ c.loop-place.invariant.len in
+    rw (c.as_slice-in-loop-place.ensures.value, len) c.in_ok-numbers.ensures.within
 
 pub forget-requires-clause-last : goal.forget-requires-clause-last
 forget-requires-clause-last c =
