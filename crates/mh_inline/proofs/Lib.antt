@@ -15,3 +15,4 @@ pub mod OriginOrder
 pub mod Lasting
 pub mod Listed
 pub mod Ranked
+pub mod Moved

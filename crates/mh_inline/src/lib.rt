@@ -10,6 +10,7 @@ mod instances;
 mod laws;
 mod nonterminals;
 mod origins;
+mod passing;
 mod productions;
 mod ranks;
 mod sizes;
