@@ -1,7 +1,7 @@
 use Rattle.std.proofs.Common.{arith}
 use Rattle.mh_inline.proofs.Knowing.{inline_instance}
 use Rattle.mh_inline.proofs.Cycling.{reaches_user, all_sized}
-use Rattle.mh_inline.proofs.cycles.first_cyclic.Goals as goal
+use Rattle.mh_inline.proofs.cycles.first_cyclic_by.Goals as goal
 
 pub returns-clause-first : goal.returns-clause-first
 returns-clause-first c = λ n r.
