@@ -1,5 +1,5 @@
 -- Words that get numbers.
-use Rattle.std.specs.Prelude.{◌≡◌, ◌<◌, ◌≤◌, ◌+◌, ◌⊎◌, ℕ, suc, List, ◌++◌, length, slice_get, Option, Some, Bool, true, false}
+use Rattle.std.specs.Prelude.{◌≡◌, ◌<◌, ◌≤◌, ◌+◌, ◌⊎◌, ℕ, suc, List, [], ◌∷◌, ◌++◌, length, slice_get, Option, Some, Bool, true, false}
 use Rattle.std.specs.List.{Contains}
 use Rattle.mh_words.specs.declared.made.Made.{Made}
 use Rattle.indexmap.specs.IndexMap.{get}
@@ -57,10 +57,20 @@ pub record PutsOnce (old new : Distinct) (m : Made) : Type 0 where
 abbrev pub AreApart : List ℕ → List ℕ → Type 0
 AreApart u v = (Before u v ⊎ IsFront u v) ⊎ (Before v u ⊎ IsFront v u)
 
+-- whether two words are equal
+abbrev pub IsEqual : Words → Made → Made → Bool → Type 0
+IsEqual words m o true = spelled words m ≡ spelled words o
+IsEqual words m o false = AreApart (spelled words m) (spelled words o)
+
 -- whether the word at a place is the one before it
 abbrev pub IsRepeated : Words → List Made → ℕ → Bool → Type 0
-IsRepeated words ordered place true = (p : ℕ) × (m : Made) × (o : Made) × (place ≡ suc p) × (slice_get ordered p ≡ Some m) × (slice_get ordered place ≡ Some o) × (spelled words m ≡ spelled words o)
-IsRepeated words ordered place false = (p : ℕ) (m o : Made) → place ≡ suc p → slice_get ordered p ≡ Some m → slice_get ordered place ≡ Some o → AreApart (spelled words m) (spelled words o)
+IsRepeated words made place true = (p : ℕ) × (m : Made) × (o : Made) × (place ≡ suc p) × (slice_get made p ≡ Some m) × (slice_get made place ≡ Some o) × IsEqual words m o true
+IsRepeated words made place false = (p : ℕ) (m o : Made) → place ≡ suc p → slice_get made p ≡ Some m → slice_get made place ≡ Some o → IsEqual words m o false
+
+-- the word at a place is put behind those that are new, where it is not the one before it
+abbrev pub AddsNew : Words → ℕ → List Made → ℕ → List Entry → List Entry → Type 0
+AddsNew words group made place old new = (IsRepeated words made place true × (new ≡ old))
+    ⊎ ((m : Made) × (slice_get made place ≡ Some m) × IsRepeated words made place false × (new ≡ old ++ record { made = m; group = group } ∷ []))
 
 -- the word of the entry at place j of those that are new
 pub record IsGiven (words : Words) (es : List Entry) (m : Made) (j : ℕ) : Type 0 where
@@ -70,6 +80,7 @@ pub record IsGiven (words : Words) (es : List Entry) (m : Made) (j : ℕ) : Type
 
 -- the first words have numbers
 pub record Gives (entries : List Entry) (group : ℕ) (ordered : List Made) (count : ℕ) (given : Given) : Type 0 where
+  pub begun : count ≡ 0 → given.entries.items ≡ []
   pub made : (j : ℕ) (e : Entry) → slice_get given.entries.items j ≡ Some e → Contains ordered e.made × (e.group ≡ group)
   pub rising : (j k : ℕ) (d e : Entry) → j < k → slice_get given.entries.items j ≡ Some d → slice_get given.entries.items k ≡ Some e → Before (spelled (words_of entries) d.made) (spelled (words_of entries) e.made)
   pub last : (p : ℕ) (m : Made) → count ≡ suc p → slice_get ordered p ≡ Some m → (j : ℕ) × (length given.entries.items ≡ suc j) × IsGiven (words_of entries) given.entries.items m j

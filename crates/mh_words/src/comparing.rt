@@ -1,5 +1,5 @@
 //! Two words compared from their fronts, through what they are made of: no word is written out.
-ghost use Rattle.std.specs.Prelude.{◌≡◌, ◌<◌, ◌++◌, ◌∷◌, [], IfOk, OnOk, length};
+ghost use Rattle.std.specs.Prelude.{◌≡◌, ◌<◌, ◌++◌, ◌∷◌, [], IfOk, OnOk, length, slice_get};
 ghost use Rattle.mh_words.specs.Compared.{AreTops, IsCompared, IsEntryOf, IsTold, Opens, TakesTop, Turns, top_of};
 ghost use Rattle.mh_words.specs.Words.{IsSound, Knows, group_of, spelled, words_of};
 ghost use Rattle.mh_words.specs.declared.made.Last.TheVariants as lasts;
@@ -33,6 +33,13 @@ fn put_parts(parts: &mut Vec<Last>, made: Made) -> Result<(), Memory>
     Ok(())
 }
 
+/// The entry at a place.
+fn get(entries: &[Entry], place: usize) -> Option<Entry>
+    ensures { result ≡ slice_get entries.now place }
+{
+    entries.get(place).copied()
+}
+
 /// What a word is made of; the empty one is of nothing.
 fn entry_at(entries: &[Entry], number: usize) -> Option<Entry>
     requires { number < length (words_of entries.now) }
@@ -41,7 +48,7 @@ fn entry_at(entries: &[Entry], number: usize) -> Option<Entry>
     if number == 0 {
         return None;
     }
-    Some(entries[number - 1])
+    get(entries, number - 1)
 }
 
 /// The group of a word.
@@ -151,7 +158,62 @@ fn turn_words(
     Ok(Some(Ordering::Greater))
 }
 
-/// What the first parts of two words tell of the order; none of a side says that its word has ended.
+/// What the first parts of two words tell of the order.
+fn turn_both(
+    entries: &[Entry],
+    rests: &mut Rests,
+    left: Last,
+    right: Last,
+) -> Result<Option<Ordering>, Memory>
+    requires sound { IsSound entries.now }
+    requires tops { AreTops (words_of entries.now) rests.old (Some left) (Some right) }
+    ensures { IfOk result (Turns (words_of entries.now) rests.old rests.new (Some left) (Some right)) }
+{
+    match (left, right) {
+        (Last::Token(one), Last::Token(two)) => Ok(told(one, two)),
+        (Last::Word(one), Last::Word(two)) => turn_words(entries, rests, one, two),
+        (Last::Token(_), Last::Word(two)) => {
+            open_right(entries, rests, Some(left), two)?;
+            Ok(None)
+        }
+        (Last::Word(one), Last::Token(_)) => {
+            open_left(entries, rests, one, Some(right))?;
+            Ok(None)
+        }
+    }
+}
+
+/// What the first part of the right word tells of the order, where the left one has ended.
+fn left_ended(entries: &[Entry], rests: &mut Rests, right: Last) -> Result<Option<Ordering>, Memory>
+    requires sound { IsSound entries.now }
+    requires tops { AreTops (words_of entries.now) rests.old None (Some right) }
+    ensures { IfOk result (Turns (words_of entries.now) rests.old rests.new None (Some right)) }
+{
+    match right {
+        Last::Token(_) => Ok(Some(Ordering::Less)),
+        Last::Word(number) => {
+            open_right(entries, rests, None, number)?;
+            Ok(None)
+        }
+    }
+}
+
+/// What the first part of the left word tells of the order, where the right one has ended.
+fn right_ended(entries: &[Entry], rests: &mut Rests, left: Last) -> Result<Option<Ordering>, Memory>
+    requires sound { IsSound entries.now }
+    requires tops { AreTops (words_of entries.now) rests.old (Some left) None }
+    ensures { IfOk result (Turns (words_of entries.now) rests.old rests.new (Some left) None) }
+{
+    match left {
+        Last::Token(_) => Ok(Some(Ordering::Greater)),
+        Last::Word(number) => {
+            open_left(entries, rests, number, None)?;
+            Ok(None)
+        }
+    }
+}
+
+/// What the first parts of two words tell of the order; a word without one has ended.
 fn turn(
     entries: &[Entry],
     rests: &mut Rests,
@@ -164,18 +226,9 @@ fn turn(
 {
     match (left, right) {
         (None, None) => Ok(Some(Ordering::Equal)),
-        (None, Some(Last::Token(_))) => Ok(Some(Ordering::Less)),
-        (Some(Last::Token(_)), None) => Ok(Some(Ordering::Greater)),
-        (Some(Last::Token(one)), Some(Last::Token(two))) => Ok(told(one, two)),
-        (Some(Last::Word(one)), Some(Last::Word(two))) => turn_words(entries, rests, one, two),
-        (left, Some(Last::Word(two))) => {
-            open_right(entries, rests, left, two)?;
-            Ok(None)
-        }
-        (Some(Last::Word(one)), right) => {
-            open_left(entries, rests, one, right)?;
-            Ok(None)
-        }
+        (None, Some(right)) => left_ended(entries, rests, right),
+        (Some(left), None) => right_ended(entries, rests, left),
+        (Some(left), Some(right)) => turn_both(entries, rests, left, right),
     }
 }
 
@@ -205,8 +258,9 @@ pub fn compare(
     'parts: loop {
         let one = take_top(&mut rests.left);
         let two = take_top(&mut rests.right);
-        if let Some(ordering) = turn(entries, rests, one, two)? {
-            return Ok(ordering);
+        match turn(entries, rests, one, two)? {
+            None => {}
+            Some(ordering) => return Ok(ordering),
         }
     }
 }

@@ -1,9 +1,9 @@
 //! Numbers for words: by their order, equal words one.
-ghost use Rattle.std.specs.Prelude.{◌<◌, IfOk, IsSome, OnOk, length};
+ghost use Rattle.std.specs.Prelude.{◌≡◌, ◌<◌, ◌+◌, IfOk, IsSome, OnOk, Some, length, slice_get};
 ghost use Rattle.std.specs.List.{Contains};
-ghost use Rattle.mh_words.specs.Numbered.{AreBelowGroup, AreEven, AreKnown, AreNumbers, Gives, IsNumbered, IsOnce, IsRepeated, PutsOnce, number_in};
+ghost use Rattle.mh_words.specs.Numbered.{AddsNew, AreBelowGroup, AreEven, AreKnown, AreNumbers, Gives, IsEqual, IsNumbered, IsOnce, IsRepeated, PutsOnce, number_in};
 ghost use Rattle.mh_words.specs.Rising.{NoLater, Rises, Same};
-ghost use Rattle.mh_words.specs.Words.{IsSound, words_of};
+ghost use Rattle.mh_words.specs.Words.{IsSound, Knows, words_of};
 
 use crate::comparing::{Rests, compare, no_rests};
 use crate::made::{Entry, Made};
@@ -45,25 +45,76 @@ fn distinct_of(alloc: Global, made: &[Made]) -> Result<Vec<Made>, Memory>
     Ok(distinct.all)
 }
 
+/// The word at a place.
+fn made_at(made: &[Made], place: usize) -> Made
+    requires { place < length made.now }
+    ensures { slice_get made.now place ≡ Some result }
+{
+    made[place]
+}
+
+/// Whether two words are equal.
+fn is_equal(entries: &[Entry], rests: &mut Rests, left: Made, right: Made) -> Result<bool, Memory>
+    requires sound { IsSound entries.now }
+    requires left { Knows (words_of entries.now) left }
+    requires right { Knows (words_of entries.now) right }
+    ensures { IfOk result (IsEqual (words_of entries.now) left right) }
+{
+    match compare(entries, rests, left, right)? {
+        Ordering::Equal => Ok(true),
+        Ordering::Less | Ordering::Greater => Ok(false),
+    }
+}
+
+/// Words in their order, to be numbered in a group.
+#[derive(Clone, Copy, Debug, Drop)]
+struct Ordered<'a> {
+    group: u32,
+    made: &'a [Made],
+}
+
 /// Whether the word at a place is the one before it.
 fn is_repeated(
     entries: &[Entry],
     rests: &mut Rests,
-    ordered: &[Made],
+    ordered: &Ordered,
     place: usize,
 ) -> Result<bool, Memory>
     requires sound { IsSound entries.now }
-    requires known { AreKnown (words_of entries.now) ordered.now }
-    requires place { place < length ordered.now }
-    ensures { IfOk result (IsRepeated (words_of entries.now) ordered.now place) }
+    requires known { AreKnown (words_of entries.now) ordered.now.made.now }
+    requires place { place < length ordered.now.made.now }
+    ensures { IfOk result (IsRepeated (words_of entries.now) ordered.now.made.now place) }
 {
     if place == 0 {
         return Ok(false);
     }
-    match compare(entries, rests, ordered[place - 1], ordered[place])? {
-        Ordering::Equal => Ok(true),
-        Ordering::Less | Ordering::Greater => Ok(false),
+    let before = made_at(ordered.made, place - 1);
+    let made = made_at(ordered.made, place);
+    is_equal(entries, rests, before, made)
+}
+
+/// Puts the word at a place behind those that are new, where it is not the one before it.
+fn add_new(
+    entries: &[Entry],
+    rests: &mut Rests,
+    ordered: &Ordered,
+    place: usize,
+    new: &mut Vec<Entry>,
+) -> Result<(), Memory>
+    requires sound { IsSound entries.now }
+    requires known { AreKnown (words_of entries.now) ordered.now.made.now }
+    requires place { place < length ordered.now.made.now }
+    ensures { OnOk result (AddsNew (words_of entries.now) ordered.now.group ordered.now.made.now place new.old.items new.new.items) }
+{
+    if is_repeated(entries, rests, ordered, place)? {
+        return Ok(());
     }
+    let entry = Entry {
+        made: made_at(ordered.made, place),
+        group: ordered.group,
+    };
+    new.push(entry)?;
+    Ok(())
 }
 
 /// The words that are new, and the numbers of all.
@@ -73,31 +124,47 @@ struct Given {
     numbers: IndexMap<Made, usize>,
 }
 
-/// Gives each of some words in order a number: that of the word before, where they are equal.
+/// Gives the word at a place a number: that of the word before, where they are equal.
+fn give_one(
+    entries: &[Entry],
+    rests: &mut Rests,
+    ordered: &Ordered,
+    place: usize,
+    given: &mut Given,
+) -> Result<(), Memory>
+    requires sound { IsSound entries.now }
+    requires known { AreKnown (words_of entries.now) ordered.now.made.now }
+    requires even { AreEven (words_of entries.now) ordered.now.made.now }
+    requires rises { Rises (NoLater (words_of entries.now)) ordered.now.made.now }
+    requires place { place < length ordered.now.made.now }
+    requires given { Gives entries.now ordered.now.group ordered.now.made.now place given.old }
+    ensures { OnOk result (Gives entries.now ordered.now.group ordered.now.made.now (place + 1) given.new) }
+{
+    add_new(entries, rests, ordered, place, &mut given.entries)?;
+    let number = entries.len() + given.entries.len();
+    given.numbers.insert(made_at(ordered.made, place), number)?;
+    Ok(())
+}
+
+/// Gives each of some words in order a number.
 fn give(
     alloc: Global,
     entries: &[Entry],
     rests: &mut Rests,
-    group: u32,
-    ordered: &[Made],
+    ordered: &Ordered,
 ) -> Result<Given, Memory>
     requires sound { IsSound entries.now }
-    requires known { AreKnown (words_of entries.now) ordered.now }
-    requires even { AreEven (words_of entries.now) ordered.now }
-    requires rises { Rises (NoLater (words_of entries.now)) ordered.now }
-    ensures { IfOk result (λ given. Gives entries.now group ordered.now (length ordered.now) given) }
+    requires known { AreKnown (words_of entries.now) ordered.now.made.now }
+    requires even { AreEven (words_of entries.now) ordered.now.made.now }
+    requires rises { Rises (NoLater (words_of entries.now)) ordered.now.made.now }
+    ensures { IfOk result (λ given. Gives entries.now ordered.now.group ordered.now.made.now (length ordered.now.made.now) given) }
 {
     let mut given = Given {
         entries: Vec::new(alloc),
         numbers: IndexMap::new(alloc),
     };
-    for place in 0..ordered.len() {
-        let made = ordered[place];
-        if !is_repeated(entries, rests, ordered, place)? {
-            given.entries.push(Entry { made, group })?;
-        }
-        let number = entries.len() + given.entries.len();
-        given.numbers.insert(made, number)?;
+    for place in 0..ordered.made.len() {
+        give_one(entries, rests, ordered, place, &mut given)?;
     }
     Ok(given)
 }
@@ -139,8 +206,12 @@ pub fn number_words(
 {
     let distinct = distinct_of(alloc, made)?;
     let mut rests = no_rests(alloc);
-    let ordered = sorted(alloc, entries, &mut rests, distinct.as_slice())?;
-    let given = give(alloc, entries, &mut rests, group, ordered.as_slice())?;
+    let words = sorted(alloc, entries, &mut rests, distinct.as_slice())?;
+    let ordered = Ordered {
+        group,
+        made: words.as_slice(),
+    };
+    let given = give(alloc, entries, &mut rests, &ordered)?;
     let numbers = numbers_of(alloc, &given, made)?;
     Ok(Numbered {
         entries: given.entries,
