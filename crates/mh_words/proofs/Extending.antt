@@ -1,5 +1,5 @@
 -- A book with the words that got numbers.
-use Rattle.std.proofs.Common.{◌≡◌, ◌∙◌, ℕ, ◌+◌, ◌<◌, ◌≤◌, List, ◌++◌, length, None, Some, Option, refl, ap, sym, arith}
+use Rattle.std.proofs.Common.{◌≡◌, ◌∙◌, ℕ, ◌+◌, List, ◌++◌, length, Some, refl, sym, arith}
 use Rattle.std.specs.Prelude.{slice_get, IsSome}
 use Rattle.std.specs.List.{Contains}
 use Rattle.std.proofs.lemmas.Option.{slice_get_within}
@@ -7,8 +7,7 @@ use Rattle.mh_grammar.proofs.Lists.{at_contains, contains_at}
 use Rattle.mh_words.specs.declared.made.Made.{Made}
 use Rattle.mh_words.specs.declared.made.Entry.{Entry}
 use Rattle.mh_words.specs.declared.numbering.Given.{Given}
-use Rattle.mh_words.specs.declared.numbering.Numbered.{Numbered}
-use Rattle.mh_words.specs.Words.{Words, Knows, IsSound, words_of, letters_of, spelled}
+use Rattle.mh_words.specs.Words.{Knows, IsSound, words_of}
 use Rattle.mh_words.specs.Numbered.{AreBelowGroup, AreEven, AreKnown, AreNumbers, Gives, IsNumbered, IsNumberOf, number_in}
 use Rattle.mh_words.specs.Rising.{NoLater, Same, Sorts}
 use Rattle.mh_words.proofs.Growing.{new_is, new_long, new_word, new_place, new_sound}

@@ -1,22 +1,20 @@
 -- How words get their numbers, one after another in their order.
-use Rattle.std.proofs.Common.{◌≡◌, ◌∙◌, ℕ, zero, suc, ◌+◌, ◌<◌, ◌≤◌, ◌⊎◌, inl, inr, List, [], ◌∷◌, ◌++◌, length, None, Some, Option, Bool, true, false, not, cond, refl, ap, sym, arith, Decides, rules}
-use Rattle.std.specs.Prelude.{slice_get, if◌then◌else◌, IsSome}
+use Rattle.std.proofs.Common.{◌≡◌, ◌∙◌, ℕ, zero, suc, ◌+◌, ◌<◌, ◌≤◌, ◌⊎◌, inl, inr, List, [], ◌∷◌, ◌++◌, length, None, Some, Bool, true, false, not, cond, refl, ap, sym, arith, Decides, rules}
+use Rattle.std.specs.Prelude.{slice_get, if◌then◌else◌}
 use Rattle.std.specs.List.{Contains, list_any}
 use Rattle.std.proofs.lemmas.List.{length_push}
 use Rattle.std.proofs.lemmas.Option.{slice_get_within}
 use Rattle.std.proofs.lemmas.List.Elements.{Contains-append_left}
 use Rattle.indexmap.specs.IndexSet.{insert_key}
 use Rattle.indexmap.proofs.CallerLemmas.{Contains-list_any}
-use Rattle.mh_grammar.proofs.Lists.{get_cases, get_left, get_last, same_at, has_place, contains_at, at_contains, contains_last, contains_push, contains_here, contains_there, contains_cases, contains_none}
+use Rattle.mh_grammar.proofs.Lists.{get_cases, get_left, get_last, same_at, has_place, contains_at, at_contains, contains_last, contains_push, contains_none}
 use Rattle.mh_words.specs.contracts.made.MadePartialEq.TheImpl.{ghosts}
-use Rattle.mh_words.specs.declared.made.Last.{Last}
 use Rattle.mh_words.specs.declared.made.Made.{Made}
 use Rattle.mh_words.specs.declared.made.Entry.{Entry}
 use Rattle.mh_words.specs.declared.numbering.Distinct.{Distinct}
 use Rattle.mh_words.specs.declared.numbering.Given.{Given}
-use Rattle.mh_words.specs.declared.numbering.Numbered.{Numbered}
-use Rattle.mh_words.specs.Words.{Words, Before, IsFront, spelled, words_of}
-use Rattle.mh_words.specs.Numbered.{AreEven, AreApart, IsOnce, PutsOnce, IsEqual, IsRepeated, AddsNew, IsGiven, Gives, AreNumbers, number_in}
+use Rattle.mh_words.specs.Words.{Words, Before, spelled, words_of}
+use Rattle.mh_words.specs.Numbered.{AreEven, IsOnce, PutsOnce, IsEqual, IsRepeated, AddsNew, IsGiven, Gives, AreNumbers, number_in}
 use Rattle.mh_words.specs.Rising.{NoLater, Rises, Same}
 use Rattle.mh_words.proofs.Ordered.{before_after, apart_before}
 

@@ -1,7 +1,7 @@
 mod Extending
 mod Giving
 mod Growing
-mod Listing
+pub mod Listing
 mod Parts
 mod Turning
 pub mod Ordered

@@ -1,12 +1,11 @@
 -- What parts spell and weigh, and what a word is opened to.
-use Rattle.std.proofs.Common.{◌≡◌, ◌∙◌, ℕ, zero, suc, ◌+◌, ◌*◌, ◌<◌, ◌≤◌, List, [], ◌∷◌, ◌++◌, length, None, Some, Option, refl, ap, sym, arith, append_assoc}
+use Rattle.std.proofs.Common.{◌≡◌, ◌∙◌, ℕ, zero, suc, ◌+◌, ◌*◌, ◌<◌, ◌≤◌, List, [], ◌∷◌, ◌++◌, length, Some, refl, ap, sym, arith, append_assoc}
 use Rattle.std.specs.Prelude.{slice_get, Result, Ok, Err, OnOk}
 use Rattle.std.proofs.lemmas.List.{append-nil}
 use Rattle.mh_words.specs.declared.made.Last.{Last}
 use Rattle.mh_words.specs.declared.made.Last.TheVariants as lasts
-use Rattle.mh_words.specs.declared.made.Made.{Made}
 use Rattle.mh_words.specs.declared.made.Entry.{Entry}
-use Rattle.mh_words.specs.Words.{Words, letters_of, last_of, spelled, IsLastBelow, words_of, IsSound}
+use Rattle.mh_words.specs.Words.{Words, letters_of, last_of, IsLastBelow, words_of, IsSound}
 use Rattle.mh_words.specs.Compared.{rest_of, AreBelow, weight_of, weight, Opens}
 use Rattle.mh_words.proofs.Growing.{word_at, empty_letters, made_below}
 

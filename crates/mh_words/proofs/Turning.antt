@@ -1,15 +1,14 @@
 -- What the first parts of two words tell of their order.
-use Rattle.std.proofs.Common.{◌≡◌, ◌∙◌, ℕ, zero, suc, ◌+◌, ◌<◌, ◌≤◌, ◌⊎◌, inl, inr, List, [], ◌∷◌, ◌++◌, length, None, Some, Option, refl, ap, sym, arith, append_assoc}
+use Rattle.std.proofs.Common.{◌≡◌, ◌∙◌, ℕ, ◌+◌, ◌<◌, inl, inr, List, [], ◌∷◌, ◌++◌, length, None, Some, Option, refl, ap, sym, arith, append_assoc}
 use Rattle.std.specs.declared.cmp.Ordering.{Ordering}
 use Rattle.std.specs.declared.cmp.Ordering.TheVariants.{Less, Equal, Greater}
-use Rattle.std.proofs.lemmas.List.{append-nil}
 use Rattle.mh_words.specs.declared.made.Last.{Last}
 use Rattle.mh_words.specs.declared.made.Last.TheVariants as lasts
 use Rattle.mh_words.specs.declared.comparing.Rests.{Rests}
 use Rattle.mh_words.specs.declared.made.Made.{Made}
 use Rattle.mh_words.specs.Words.{Words, letters_of, last_of, spelled, group_of, Knows, Before, IsFront, InGroups}
-use Rattle.mh_words.specs.Compared.{IsCompared, rest_of, AreBelow, weight_of, weight, Opens, top_of, AreTops, Goes, Turns, IsTold, TakesTop, Shares}
-use Rattle.mh_words.proofs.Parts.{rest_append, rest_top, weight_append, weight_more, weight_top, below_append, below_front, below_back, some_part}
+use Rattle.mh_words.specs.Compared.{IsCompared, rest_of, AreBelow, weight, Opens, top_of, AreTops, Turns, IsTold, TakesTop, Shares}
+use Rattle.mh_words.proofs.Parts.{rest_top, weight_append, weight_top, below_front, below_back, some_part}
 
 -- TWO WORDS
 

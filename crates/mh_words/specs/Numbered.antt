@@ -8,7 +8,6 @@ use Rattle.mh_words.specs.declared.made.Entry.{Entry}
 use Rattle.mh_words.specs.declared.numbering.Distinct.{Distinct}
 use Rattle.mh_words.specs.declared.numbering.Given.{Given}
 use Rattle.mh_words.specs.declared.numbering.Numbered.{Numbered}
-use Rattle.mh_words.specs.Compared.{IsCompared}
 use Rattle.mh_words.specs.Words.{Words, IsSound, Knows, Before, IsFront, letters_of, group_of, spelled, words_of}
 
 -- what each is made of is there

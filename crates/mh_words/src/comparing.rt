@@ -85,13 +85,13 @@ fn put_back(parts: &mut Vec<Last>, part: Option<Last>) -> Result<(), Memory>
 }
 
 /// What two tokens tell of the order.
-fn told(left: Token, right: Token) -> Option<Ordering>
-    ensures { IsTold left right result }
+fn told(one: Token, two: Token) -> Option<Ordering>
+    ensures { IsTold one two result }
 {
-    if left < right {
+    if one < two {
         return Some(Ordering::Less);
     }
-    if right < left {
+    if two < one {
         return Some(Ordering::Greater);
     }
     None

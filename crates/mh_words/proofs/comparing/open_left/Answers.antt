@@ -1,5 +1,4 @@
 use Rattle.mh_words.specs.declared.comparing.Rests.{Rests}
-use Rattle.mh_words.proofs.Growing.{words_long}
 use Rattle.mh_words.proofs.Parts.{on_ok}
 use Rattle.mh_words.proofs.Turning.{left_word_known, left_opened}
 use Rattle.mh_words.specs.Words.{words_of}

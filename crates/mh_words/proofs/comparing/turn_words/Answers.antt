@@ -1,4 +1,4 @@
-use Rattle.std.proofs.Common.{ap, sym, ◌∙◌, ◌≡◌, arith}
+use Rattle.std.proofs.Common.{ap, ◌≡◌, arith}
 use Rattle.mh_words.specs.declared.made.Last.TheVariants as lasts
 use Rattle.mh_words.specs.Words.{words_of, group_of}
 use Rattle.mh_words.proofs.Turning.{same_parts, left_word_known, right_word_known, left_first, right_first}

@@ -2,7 +2,7 @@ use Rattle.std.proofs.Common.{◌-◌, arith}
 use Rattle.std.proofs.lemmas.Result.{IfOk-weaker}
 use Rattle.mh_grammar.proofs.Lists.{contains_at}
 use Rattle.mh_words.specs.Words.{words_of}
-use Rattle.mh_words.proofs.Giving.{not_repeated, repeated_by}
+use Rattle.mh_words.proofs.Giving.{repeated_by}
 use Rattle.mh_words.proofs.numbering.is_repeated.Goals as goal
 
 pub returns : goal.returns

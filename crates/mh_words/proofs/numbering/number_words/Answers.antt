@@ -1,4 +1,3 @@
-use Rattle.std.proofs.Common.{sym, ap, List}
 use Rattle.mh_words.specs.Rising.{NoLater, Sorts}
 use Rattle.mh_words.specs.Words.{words_of}
 use Rattle.mh_words.proofs.Extending.{ordered_known, ordered_even, number_of, is_numbered}

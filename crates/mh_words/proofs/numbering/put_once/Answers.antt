@@ -1,6 +1,6 @@
 use Rattle.std.proofs.Common.{refl}
 use Rattle.mh_words.specs.declared.numbering.Distinct.{Distinct}
-use Rattle.mh_words.proofs.Giving.{puts_fresh, puts_again}
+use Rattle.mh_words.proofs.Giving.{puts_again}
 use Rattle.mh_words.proofs.numbering.put_once.Goals as goal
 
 pub returns-else-branch : goal.returns-else-branch
