@@ -1,16 +1,14 @@
 -- A level of the search, from its beginning to its end.
-use Rattle.std.proofs.Common.{◌≡◌, ℕ, zero, suc, drop, Some, None, ◌+◌, ◌<◌, ◌≤◌, ◌⊎◌, inl, inr, List, [], ◌∷◌, ◌++◌, Option, refl, ap, sym, arith, ◌∙◌}
+use Rattle.std.proofs.Common.{◌≡◌, ℕ, zero, suc, drop, Some, None, ◌+◌, ◌≤◌, ◌⊎◌, inl, inr, List, [], ◌∷◌, ◌++◌, Option, refl, ap, sym, arith, ◌∙◌}
 use Rattle.std.specs.Prelude.{slice_get}
 use Rattle.std.specs.List.{Contains}
 use Rattle.std.proofs.lemmas.Bool.{cases_lt}
-use Rattle.std.proofs.lemmas.Grind.{common_steps}
 use Rattle.mh_tables.specs.Table.{TableData}
 use Rattle.mh_tables.specs.Facts.{Facts}
 use Rattle.mh_facts.specs.declared.store.FactKey.{FactKey}
 use Rattle.mh_facts.specs.Stored.{Facts as Stored}
 use Rattle.mh_least.specs.Least.{Pending}
 use Rattle.mh_least.specs.Orders.{cap}
-use Rattle.mh_least.specs.Orders as orders
 use Rattle.mh_search.specs.declared.work.Item.{Item}
 use Rattle.mh_search.specs.declared.work.Work.{Work}
 use Rattle.mh_search.specs.declared.classes.Classes.{Classes}
@@ -18,13 +16,13 @@ use Rattle.std.specs.Global.{Vec}
 use Rattle.mh_search.specs.Rows.{Waits, Gains, IsOne, Taken, NoneTaken}
 use Rattle.mh_search.specs.Classes.{IsClasses, rep_of}
 use Rattle.mh_search.specs.Rules.{queue_of}
-use Rattle.mh_search.specs.Tales.{NoLater, capped, WordBy}
+use Rattle.mh_search.specs.Tales.{NoLater, WordBy}
 use Rattle.mh_search.specs.Good.{IsStored, NoneIsNext, InQueue, Waiting, ItemOk, Good, IsRising, InOrder, LevelReady, KeepsNew, AllNew, AllTaken}
 use Rattle.mh_search.proofs.Taking.{in_more, in_cons}
 use Rattle.mh_search.proofs.Wording.{word_one, order_laws, cheaper, over}
 use Rattle.mh_search.proofs.Turns.{SameBeside, good_moves}
 
-none_in : {X : Type 0} (x : X) → Contains [] x → ⊥
+pub none_in : {X : Type 0} (x : X) → Contains [] x → ⊥
 none_in x h = let l = h.1 in omega arith
 
 in_front : {X : Type 0} (xs : List X) (y x : X) → Contains xs x → Contains (xs ++ y ∷ []) x

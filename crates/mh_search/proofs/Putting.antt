@@ -1,5 +1,5 @@
 -- A value put at one key; what is stored, where one fact more is.
-use Rattle.std.proofs.Common.{◌≡◌, ℕ, ◌⊎◌, inl, inr, List, [], ◌∷◌, ◌++◌, Some, None, Option, Bool, true, false, cond, nat_eq, ◌&&◌, refl, sym, arith, ◌∙◌}
+use Rattle.std.proofs.Common.{◌≡◌, ℕ, ◌⊎◌, inl, inr, List, [], ◌∷◌, ◌++◌, Some, None, Option, Bool, true, false, cond, nat_eq, refl, sym, arith, ◌∙◌}
 use Rattle.std.specs.Prelude.{fold}
 use Rattle.std.proofs.lemmas.Grind.{common_steps}
 use Rattle.mh_facts.specs.declared.store.FactKey.{FactKey}

@@ -1,10 +1,11 @@
 -- Items are settled in the order of their words.
-use Rattle.std.proofs.Common.{◌≡◌, ℕ, zero, suc, ◌+◌, ◌<◌, ◌≤◌, ◌⊎◌, inl, inr, List, [], ◌∷◌, ◌++◌, length, map, get_or, Some, Option, refl, ap, sym, arith, ◌∙◌}
-use Rattle.std.specs.Prelude.{slice_get}
+use Rattle.std.proofs.Common.{◌≡◌, ℕ, suc, ◌+◌, ◌<◌, ◌≤◌, inl, inr, List, [], ◌∷◌, ◌++◌, length, get_or, Some, None, Option, refl, arith, ◌∙◌}
+use Rattle.std.specs.Prelude.{slice_get, max}
 use Rattle.std.specs.List.{Contains}
 use Rattle.std.specs.List.Sorted.{IsPermutation, IsNonDecreasingBy}
 use Rattle.std.specs.Global.{Vec}
 use Rattle.std.proofs.lemmas.Bool.{cases_lt}
+use Rattle.std.proofs.lemmas.Grind.{common_steps}
 use Rattle.std.proofs.lemmas.List.{length_push}
 use Rattle.std.proofs.lemmas.List.Sorted.{Contains-permutation, IsPermutation-sym}
 use Rattle.std.proofs.lemmas.Option.{slice_get_within}
@@ -12,9 +13,8 @@ use Rattle.mh_grammar.proofs.Lists.{get_cases, same_at, has_place, at_contains, 
 use Rattle.mh_tables.specs.Table.{TableData}
 use Rattle.mh_tables.specs.Facts.{Facts}
 use Rattle.mh_facts.specs.declared.store.FactKey.{FactKey}
-use Rattle.mh_facts.specs.Stored.{Facts as Stored}
 use Rattle.mh_least.specs.Orders.{cap}
-use Rattle.mh_words.specs.Words.{Words, IsBook}
+use Rattle.mh_words.specs.Words.{Words, IsBook, empty_word}
 use Rattle.mh_search.specs.declared.work.Item.{Item}
 use Rattle.mh_search.specs.declared.work.Work.{Work}
 use Rattle.mh_search.specs.declared.classes.Classes.{Classes}
@@ -23,18 +23,22 @@ use Rattle.mh_search.specs.declared.ranking.Ranked.{Ranked}
 use Rattle.mh_search.specs.declared.settling.Found.{Found}
 use Rattle.mh_search.specs.Rows.{Waits, Gains, IsOne}
 use Rattle.mh_search.specs.Classes.{IsClasses, rep_of}
+use Rattle.mh_search.specs.Begins.{IsBegun}
 use Rattle.mh_search.specs.Rules.{path_of, queue_of, Expanded}
-use Rattle.mh_search.specs.Tales.{NoLater, capped, WordBy}
-use Rattle.mh_search.specs.Good.{NextIs, NoneIsNext, ItemOk, Good, IsRising, LevelReady, AllTaken}
+use Rattle.mh_search.specs.Tales.{WordBy}
+use Rattle.mh_search.specs.Good.{NextIs, NoneIsNext, ItemOk, Good, IsRising, AllTaken}
 use Rattle.mh_search.specs.Numbering.{StandsFor, IsNumbered, AreToNumber, AreNumbered}
-use Rattle.mh_search.specs.Ranking.{IsPaired, ArePaired, unranked, IsRanked, AreRanked, BeforeLevel, InLevel, InTurn}
-use Rattle.mh_search.proofs.Taking.{in_more, in_cons}
+use Rattle.mh_search.specs.Ranking.{ArePaired, unranked, IsRanked, AreRanked, BeforeLevel, InLevel, InTurn}
+use Rattle.mh_search.proofs.Taking.{in_more}
 use Rattle.mh_search.proofs.Wording.{word_one, word_kept, words_kept, words_here, words_only}
-use Rattle.mh_search.proofs.Turns.{SameBeside, good_moves, fact_of, item_ok, later, turn_good, turn_settles, follow_same}
+use Rattle.mh_search.proofs.Turns.{SameBeside, good_moves, fact_of, later, turn_good, turn_settles, follow_same, search_begins}
 use Rattle.mh_search.proofs.Levels.{level_taken, level_sorted, level_pushed, level_drained, level_done, rises_over}
-use Rattle.mh_search.proofs.Numbers.{numbered_more, numbered_push, no_later}
+use Rattle.mh_search.proofs.Numbers.{numbered_more, numbered_push, numbered_higher, none_numbered, no_later}
 
 -- PAIRS
+
+pub none_paired : (items : List Item) (words : List ℕ) → ArePaired items words 0 []
+none_paired items words = record { long = refl; each = λ n r there. absurd (let y : None ≡ Some r = there in cc) }
 
 pub paired_more : (items : List Item) (words : List ℕ) (count : ℕ) (pairs : List Ranked) (i : Item) (word : ℕ) → ArePaired items words count pairs → slice_get items count ≡ Some i → slice_get words count ≡ Some word → ArePaired items words (count + 1) (pairs ++ record { item = i; word = word } ∷ [])
 paired_more items words count pairs i word h at num = record {
@@ -82,7 +86,7 @@ module _ (t : TableData) (c : Classes) (words : FactKey → Option (List ℕ)) (
     rising_ranked rs (λ i j d le l. up (suc i) (suc j) d (omega arith) (omega arith)) (λ o there. each o (in_more r.item (unranked rs) o there)) (λ l q u there by. ranked l q u (in_more r rs q there) by),
   )
 
-module _ (t : TableData) (f : Facts t) (c : Classes) (cls : IsClasses t c) (found : Found) (level : ℕ) (mid : Work) (all : List Item) (before : BeforeLevel t c found level) (same : SameBeside found.work mid) (taken : AllTaken found.store (queue_of found.work) (queue_of mid) level all) where
+module _ (t : TableData) (f : Facts t) (c : Classes) (cls : IsClasses t c) (found : Found) (level : ℕ) (mid : Work) (all : List Item) (before : BeforeLevel t c found level) (same : SameBeside found.work mid) (taken : AllTaken found.store (queue_of found.work) (queue_of mid) level all) (le : level ≤ cap) where
   beside_ok : (o : Item) → Contains all o → ItemOk t (rep_of c) before.good.tale.words level o
   unfolding level_taken good_moves
   beside_ok o there = (level_taken t f c cls found.store found.work level mid all before.good same taken).items level o (inr (refl, there))
@@ -92,45 +96,44 @@ module _ (t : TableData) (f : Facts t) (c : Classes) (cls : IsClasses t c) (foun
   level_numbers = record {
     tale = before.good.tale;
     numbered = before.numbered;
+    most = le;
     each = λ i there. (let ok = beside_ok i there in (ok.word, ok.by, ok.cost_is));
   }
 
-  -- and put in order
-  pub level_ranked : (new : Numbering) (numbers : List ℕ) (rs : List Ranked) → level ≤ cap → AreNumbered t found.store found.numbering new level all numbers → IsBook new.book → IsRanked all numbers rs → InLevel t c (record { store = found.store; work = mid; numbering = new }) level rs
-  unfolding level_taken level_sorted good_moves
-  level_ranked new numbers rs le numbered book ranked = record {
-    ready = record { good = good; none = taken.none; rising = rising };
-    numbered = numbered_more found.store words level found.numbering new numbered.added numbered.same numbered.grown (numbered.below before.numbered.below) before.numbered;
-    ranked = stands;
-  }
-    where
-      abbrev words : FactKey → Option (List ℕ)
-      words = before.good.tale.words
+  module _ (new : Numbering) (numbers : List ℕ) (rs : List Ranked) (numbered : AreNumbered t found.store found.numbering new level all numbers) (book : IsBook new.book) (ranked : IsRanked all numbers rs) where
+    abbrev words : FactKey → Option (List ℕ)
+    words = before.good.tale.words
 
-      only : (o : Item) → Contains (unranked rs) o → Contains all o
-      only o there =
-          let r = map_contains (λ (r : Ranked). r.item) rs o there in
-          let p = ranked.only r.0 r.1 in
-          rw (← r.2) (contains_at all p.0 r.0.item (p.1).item)
+    only : (o : Item) → Contains (unranked rs) o → Contains all o
+    only o there =
+        let r = map_contains (λ (r : Ranked). r.item) rs o there in
+        let p = ranked.only r.0 r.1 in
+        rw (← r.2) (contains_at all p.0 r.0.item (p.1).item)
 
-      abbrev good : Good t c found.store mid level (unranked rs)
-      good = level_sorted t f c cls found.store mid level all (unranked rs) (level_taken t f c cls found.store found.work level mid all before.good same taken) ranked.kept only
+    ok : (o : Item) → Contains (unranked rs) o → ItemOk t (rep_of c) words level o
+    ok o there = beside_ok o (only o there)
 
-      ok : (o : Item) → Contains (unranked rs) o → ItemOk t (rep_of c) words level o
-      ok o there = beside_ok o (only o there)
+    stands : AreRanked t words new.book level rs
+    stands lt r u there by =
+        let p = ranked.only r there in
+        let o = beside_ok r.item (contains_at all p.0 r.item (p.1).item) in
+        let e : u ≡ o.word = word_one t words r.item.key r.item.back u o.word by o.by in
+        rw e (numbered.each before.good.tale p.0 r.word r.item o.word before.numbered (p.1).item (p.1).word o.by o.cost_is lt)
 
-      stands : AreRanked t words new.book level rs
-      stands lt r u there by =
-          let p = ranked.only r there in
-          let o = beside_ok r.item (contains_at all p.0 r.item (p.1).item) in
-          let e : u ≡ o.word = word_one t words r.item.key r.item.back u o.word by o.by in
-          rw e (numbered.each before.good.tale p.0 r.word r.item o.word before.numbered (p.1).item (p.1).word o.by o.cost_is lt)
+    rising : IsRising t words (unranked rs)
+    rising = elim (cases_lt level cap) [
+      | inl lt ↦ rising_ranked t c words new.book level book lt rs ranked.rises ok stands
+      | inr ge ↦ rises_over t f c cls found.store mid level words (omega arith) (unranked rs) ok
+    ]
 
-      rising : IsRising t words (unranked rs)
-      rising = elim (cases_lt level cap) [
-        | inl lt ↦ rising_ranked t c words new.book level book lt rs ranked.rises ok stands
-        | inr ge ↦ rises_over t f c cls found.store mid level words (omega arith) (unranked rs) ok
-      ]
+    -- and put in order
+    pub level_ranked : InLevel t c (record { store = found.store; work = mid; numbering = new }) level rs
+    unfolding level_taken level_sorted good_moves
+    level_ranked = record {
+      ready = record { good = level_sorted t f c cls found.store mid level all (unranked rs) (level_taken t f c cls found.store found.work level mid all before.good same taken) ranked.kept only; none = taken.none; rising = rising };
+      numbered = numbered_more found.store words level found.numbering new numbered.added numbered.same numbered.grown (numbered.below before.numbered.below) before.numbered;
+      ranked = stands;
+    }
 
 -- ONE ITEM
 
@@ -160,35 +163,35 @@ module _ (t : TableData) (f : Facts t) (c : Classes) (cls : IsClasses t c) (foun
   -- the level is done
   pub ranked_done : InLevel t c found level [] → BeforeLevel t c found (level + 1)
   unfolding level_done
-  ranked_done h = record { good = level_done t f c cls found.store found.work level h.ready; numbered = h.numbered }
+  ranked_done h = record { good = level_done t f c cls found.store found.work level h.ready; numbered = numbered_higher found.store h.ready.good.tale.words (level + 1) (max 1 (level + 1)) found.numbering (grind (arith, common_steps)) h.numbered }
 
   module _ (le : level ≤ cap) (word : ℕ) (rs : List Ranked) (h : InTurn t c found level word rs) (mid new : Work) (i : Item) (same : SameBeside found.work mid) (next : NextIs found.store (queue_of found.work) (queue_of mid) level i) (more : Expanded t c mid new (path_of level i)) (v : Vec ℕ) (pushed : v.items ≡ found.numbering.numbers.items ++ word ∷ []) where
     abbrev good : Good t c found.store found.work level (unranked rs)
     good = h.order.good
 
-    abbrev words : FactKey → Option (List ℕ)
-    words = good.tale.words
+    abbrev stored : FactKey → Option (List ℕ)
+    stored = good.tale.words
 
-    abbrev ok : ItemOk t (rep_of c) words level i
-    ok = good.items level i (inl next.was)
+    abbrev settled : ItemOk t (rep_of c) stored level i
+    settled = good.items level i (inl next.was)
 
     abbrev with_more : FactKey → Option (List ℕ)
     with_more = later t f c cls found.store found.work level (unranked rs) good le h.order.flat h.order.rising mid new i same next more
 
-    kept : (o : FactKey) (u : List ℕ) → words o ≡ Some u → with_more o ≡ Some u
-    kept = words_kept t found.store good.tale i.key (fact_of level i) ok.word next.fresh ok.by ok.cost_is ok.short
+    kept : (o : FactKey) (u : List ℕ) → stored o ≡ Some u → with_more o ≡ Some u
+    kept = words_kept t found.store good.tale i.key (fact_of level i) settled.word next.fresh settled.by settled.cost_is settled.short
 
     -- what waited has the word that it had
-    was_word : (o : Item) (k : ItemOk t (rep_of c) words level o) (u : List ℕ) → WordBy t with_more o.key o.back u → u ≡ k.word
-    was_word o k u by = word_one t with_more o.key o.back u k.word by (word_kept t words with_more o.key o.back k.word kept k.by)
+    was_word : (o : Item) (k : ItemOk t (rep_of c) stored level o) (u : List ℕ) → WordBy t with_more o.key o.back u → u ≡ k.word
+    was_word o k u by = word_one t with_more o.key o.back u k.word by (word_kept t stored with_more o.key o.back k.word kept k.by)
 
-    here : level < cap → StandsFor found.numbering.book word level ok.word
-    here lt = h.same lt i ok.word next.was ok.by
+    here : level < cap → StandsFor found.numbering.book word level settled.word
+    here lt = h.same lt i settled.word next.was settled.by
 
     numbered : IsNumbered (found.store ++ (i.key, fact_of level i) ∷ []) with_more (level + 1) (record { numbers = v; book = found.numbering.book })
-    numbered = numbered_push found.store words with_more (level + 1) found.numbering v i.key (fact_of level i) ok.word word next.fresh
-        (words_here t found.store good.tale i.key (fact_of level i) ok.word next.fresh ok.by ok.cost_is ok.short)
-        (words_only t found.store good.tale i.key (fact_of level i) ok.word next.fresh ok.by ok.cost_is ok.short)
+    numbered = numbered_push found.store stored with_more (level + 1) found.numbering v i.key (fact_of level i) settled.word word next.fresh
+        (words_here t found.store good.tale i.key (fact_of level i) settled.word next.fresh settled.by settled.cost_is settled.short)
+        (words_only t found.store good.tale i.key (fact_of level i) settled.word next.fresh settled.by settled.cost_is settled.short)
         pushed here h.numbered
 
     ranked : AreRanked t with_more found.numbering.book level rs
@@ -203,7 +206,7 @@ module _ (t : TableData) (f : Facts t) (c : Classes) (cls : IsClasses t c) (foun
           let k = good.items level o (inl before) in
           rw (was_word o k u by) (h.same lt o k.word before k.by))
       | inr add ↦ (
-          let e : u ≡ ok.word = follow_same t f c cls found.store found.work level (unranked rs) good le h.order.flat h.order.rising mid new i same next more o add u by lt in
+          let e : u ≡ settled.word = follow_same t f c cls found.store found.work level (unranked rs) good le h.order.flat h.order.rising mid new i same next more o add u by lt in
           rw e (here lt))
     ]
 
@@ -216,3 +219,7 @@ module _ (t : TableData) (f : Facts t) (c : Classes) (cls : IsClasses t c) (foun
       ranked = ranked;
       same = one_word;
     }
+
+-- where the search begins
+pub before_all : (t : TableData) (f : Facts t) (c : Classes) (cls : IsClasses t c) (work : Work) → IsBegun t c work → (numbering : Numbering) → numbering.numbers.items ≡ [] → numbering.book ≡ empty_word ∷ [] → BeforeLevel t c (record { store = []; work = work; numbering = numbering }) 0
+before_all t f c cls work begun numbering none only = record { good = search_begins t f c cls work begun; numbered = none_numbered numbering _ none only }

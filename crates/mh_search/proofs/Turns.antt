@@ -1,6 +1,6 @@
 -- The turns of the search.
 use Rattle.std.proofs.Common.{◌≡◌, ℕ, zero, suc, ◌+◌, ◌-◌, ◌<◌, ◌≤◌, ◌⊎◌, inl, inr, List, [], ◌∷◌, ◌++◌, length, Some, None, Option, refl, ap, sym, subst, arith, ◌∙◌}
-use Rattle.std.specs.Prelude.{min, slice_get}
+use Rattle.std.specs.Prelude.{min, max, slice_get}
 use Rattle.std.specs.List.{Contains}
 use Rattle.std.specs.Global.{Vec}
 use Rattle.std.proofs.lemmas.Bool.{cases_lt}
@@ -155,7 +155,7 @@ module _ (t : TableData) (f : Facts t) (c : Classes) (cls : IsClasses t c) (fact
     abbrev pub later : FactKey → Option (List ℕ)
     later = new_words t facts good.tale i.key fact w next.fresh item_ok.by item_ok.cost_is item_ok.short
 
-    kept : (o : FactKey) (u : List ℕ) → words o ≡ Some u → later o ≡ Some u
+    pub kept : (o : FactKey) (u : List ℕ) → words o ≡ Some u → later o ≡ Some u
     kept = words_kept t facts good.tale i.key fact w next.fresh item_ok.by item_ok.cost_is item_ok.short
 
     here : later i.key ≡ Some w
@@ -179,13 +179,13 @@ module _ (t : TableData) (f : Facts t) (c : Classes) (cls : IsClasses t c) (fact
     path_ok : PathOk t later (path_of level i)
     path_ok = record { range = item_ok.range; word = w; stored = here; cost_is = item_ok.cost_is; short = item_ok.short }
 
-    each_path : (n : ℕ) (p : Path) → Contains (paths_at new n) p → PathOk t later p
+    pub each_path : (n : ℕ) (p : Path) → Contains (paths_at new n) p → PathOk t later p
     each_path n p h = elim (more.path_only n p h) [
       | inl was ↦ old_path p (good.paths n p (rw (← beside.paths) was))
       | inr is ↦ rw is path_ok
     ]
 
-    each_whole : (n : ℕ) (v : Whole) → Contains (wholes_at new n) v → WholeOk t rep later level v
+    pub each_whole : (n : ℕ) (v : Whole) → Contains (wholes_at new n) v → WholeOk t rep later level v
     each_whole n v h = elim (more.way_only n v h) [
       | inl was ↦ old_whole v (good.wholes n v (rw (← beside.wholes) was))
       | inr is ↦ way_ok t f c cls later sound level (path_of level i) v path_ok (omega arith) is.0
@@ -201,7 +201,7 @@ module _ (t : TableData) (f : Facts t) (c : Classes) (cls : IsClasses t c) (fact
     came cost o (inl h) = elim (more.only cost o h) [ inl was ↦ inl (inl (next.only cost o was)) | inr add ↦ inr add ]
     came cost o (inr h) = inl (inr h)
 
-    each_item : (cost : ℕ) (o : Item) → Waiting new level aside cost o → ItemOk t rep later cost o
+    pub each_item : (cost : ℕ) (o : Item) → Waiting new level aside cost o → ItemOk t rep later cost o
     each_item cost o h = elim (came cost o h) [ inl was ↦ old_item cost o (good.items cost o was) | inr add ↦ each_follow cost o add ]
 
     low_follow : (cost : ℕ) (o : Item) → Follows t c mid new (path_of level i) cost o → level ≤ cost
@@ -211,7 +211,7 @@ module _ (t : TableData) (f : Facts t) (c : Classes) (cls : IsClasses t c) (fact
         let e : v.cost ≡ level = ap (λ (x : Whole). x.cost) way.is in
         rw (s.cost_is, e) (no_lower_back q.cost level le_cap)
 
-    low_all : (cost : ℕ) (o : Item) → Waiting new level aside cost o → level ≤ cost
+    pub low_all : (cost : ℕ) (o : Item) → Waiting new level aside cost o → level ≤ cost
     low_all cost o h = elim (came cost o h) [ inl was ↦ good.low cost o was | inr add ↦ low_follow cost o add ]
 
     -- what follows has the word that is settled in front or behind
@@ -247,13 +247,13 @@ module _ (t : TableData) (f : Facts t) (c : Classes) (cls : IsClasses t c) (fact
     no_sooner : (cost : ℕ) (o : Item) → Waiting new level aside cost o → (u : List ℕ) → WordBy t later o.key o.back u → NoLater t w u
     no_sooner cost o h u by = elim (came cost o h) [ inl was ↦ waited_later cost o was u by | inr add ↦ follow_later cost o add u by ]
 
-    filed : (k : Way) → Knows new k → (v : Whole) × Contains (wholes_at new (place_of c k.from k.first)) v × (way_of v ≡ k)
+    pub filed : (k : Way) → Knows new k → (v : Whole) × Contains (wholes_at new (place_of c k.from k.first)) v × (way_of v ≡ k)
     filed k h = elim (more.known_only k h) [
       | inl was ↦ (let found = good.filed k (rw (← beside.known) was) in (found.0, more.way_kept _ found.0 (rw beside.wholes found.1), found.2))
       | inr is ↦ is
     ]
 
-    all_paths : (k : FactKey) (u : List ℕ) (s n : ℕ) → later k ≡ Some u → IsEnd t k.from k.production k.dot s → slice_get (rhs_of t.grammar k.production) k.dot ≡ Some (N n) → (p : Path) × Contains (paths_at new (place_of c s k.next)) p × (p.key ≡ k)
+    pub all_paths : (k : FactKey) (u : List ℕ) (s n : ℕ) → later k ≡ Some u → IsEnd t k.from k.production k.dot s → slice_get (rhs_of t.grammar k.production) k.dot ≡ Some (N n) → (p : Path) × Contains (paths_at new (place_of c s k.next)) p × (p.key ≡ k)
     all_paths k u s n e end symbol = elim (only k u e) [
       | inl was ↦ (let found = good.all_paths k u s n was end symbol in (found.0, more.path_kept _ found.0 (rw beside.paths found.1), found.2))
       | inr is ↦ (
@@ -297,7 +297,7 @@ module _ (t : TableData) (f : Facts t) (c : Classes) (cls : IsClasses t c) (fact
         ] in
         (ok.word, (found.0, found.1, found.2, ok.stored), sooner)
 
-    turn : Turn t rep (NoLater t) words later (WaysIn c words old) (WaysIn c later new) (InQueue t words (Waiting old level aside)) (InQueue t later (Waiting new level aside)) i.key w
+    pub turn : Turn t rep (NoLater t) words later (WaysIn c words old) (WaysIn c later new) (InQueue t words (Waiting old level aside)) (InQueue t later (Waiting new level aside)) i.key w
     turn = record {
       only = only;
       kept = kept;
@@ -430,7 +430,7 @@ module _ (t : TableData) (f : Facts t) (c : Classes) (cls : IsClasses t c) (fact
           over t u v (sym top ∙ rw one ok.cost_is) (over_up t w v (sym top ∙ item_ok.cost_is) le))
     ]
 
-    turn_flat : (o q : Item) (cost : ℕ) (u v : List ℕ) → Waits (queue_of new) level o → Waiting new level aside cost q → WordBy t later o.key o.back u → WordBy t later q.key q.back v → NoLater t u v
+    pub turn_flat : (o q : Item) (cost : ℕ) (u v : List ℕ) → Waits (queue_of new) level o → Waiting new level aside cost q → WordBy t later o.key o.back u → WordBy t later q.key q.back v → NoLater t u v
     turn_flat o q cost u v there waits by by' = elim (more.only level o there) [
       | inl was ↦ (
           let before = next.only level o was in
@@ -499,7 +499,7 @@ module _ (t : TableData) (f : Facts t) (c : Classes) (cls : IsClasses t c) (work
   }
 
 -- where it ends
-search_left : (t : TableData) (f : Facts t) (c : Classes) (found : Found) (level : ℕ) (good : Good t c found.store found.work level []) → IsNumbered found.store good.tale.words level found.numbering → level ≤ cap + 1 → ((k : FactKey) (u : List ℕ) → InQueue t good.tale.words (Waiting found.work level []) k u → ⊥) → IsFound t c found
+search_left : (t : TableData) (f : Facts t) (c : Classes) (found : Found) (level : ℕ) (good : Good t c found.store found.work level []) → IsNumbered found.store good.tale.words (max 1 level) found.numbering → level ≤ cap + 1 → ((k : FactKey) (u : List ℕ) → InQueue t good.tale.words (Waiting found.work level []) k u → ⊥) → IsFound t c found
 search_left t f c found level good numbered le none =
     let waiting = Waiting found.work level [] in
     record {
@@ -509,7 +509,7 @@ search_left t f c found level good numbered le none =
       closed = empty_closed t f (rep_of c) (NoLater t) (order_laws t) good.tale.words (WaysIn c good.tale.words found.work) (InQueue t good.tale.words waiting) good.frontier none;
       complete = empty_complete t f (rep_of c) (NoLater t) (order_laws t) good.tale.words (WaysIn c good.tale.words found.work) (InQueue t good.tale.words waiting) good.frontier none;
       wholes = λ n w h. (let ok = good.wholes n w h in record { few = ok.few; low = ok.few; from = ok.from; edge = ok.edge; next = ok.next; word = ok.word; stored = ok.stored; cost_is = ok.cost_is; short = ok.short; sound = ok.sound });
-      numbered = record { long = numbered.long; each = numbered.each; below = λ n lt. (let less = numbered.below n lt in omega arith) };
+      numbered = record { long = numbered.long; each = numbered.each; below = λ n lt. (let less = numbered.below n lt in let high : max 1 level ≤ cap + 1 = grind (arith, common_steps, le) in omega arith) };
     }
 
 pub search_ends : (t : TableData) (f : Facts t) (c : Classes) (found : Found) → BeforeLevel t c found (cap + 1) → IsFound t c found

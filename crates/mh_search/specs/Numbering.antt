@@ -1,5 +1,5 @@
 -- The words of settled facts by numbers.
-use Rattle.std.specs.Prelude.{◌≡◌, ◌<◌, ◌+◌, ℕ, List, ◌++◌, length, slice_get, Option, Some}
+use Rattle.std.specs.Prelude.{◌≡◌, ◌<◌, ◌≤◌, ◌+◌, ℕ, List, ◌++◌, length, max, slice_get, Option, Some}
 use Rattle.std.specs.List.{Contains}
 use Rattle.mh_tables.specs.Table.{TableData}
 use Rattle.mh_facts.specs.declared.store.FactKey.{FactKey}
@@ -55,7 +55,8 @@ pub record AreEmpty (count : ℕ) (numbers : List ℕ) : Type 0 where
 -- items of one cost, and the numbers of all that is cheaper
 pub record AreToNumber (t : TableData) (facts : Facts) (numbering : Numbering) (cost : ℕ) (items : List Item) : Type 0 where
   pub tale : Tale t facts
-  pub numbered : IsNumbered facts tale.words cost numbering
+  pub numbered : IsNumbered facts tale.words (max 1 cost) numbering
+  pub most : cost ≤ cap
   pub each : (i : Item) → Contains items i → (w : List ℕ) × WordBy t tale.words i.key i.back w × (cost ≡ capped t w)
 
 -- their words have numbers
@@ -64,5 +65,5 @@ pub record AreNumbered (t : TableData) (facts : Facts) (old new : Numbering) (co
   pub same : new.numbers.items ≡ old.numbers.items
   pub added : Words
   pub grown : new.book ≡ old.book ++ added
-  pub below : AreBelowGroup old.book cost → AreBelowGroup new.book (cost + 1)
-  pub each : (tale : Tale t facts) (n m : ℕ) (i : Item) (w : List ℕ) → IsNumbered facts tale.words cost old → slice_get items n ≡ Some i → slice_get numbers n ≡ Some m → WordBy t tale.words i.key i.back w → cost ≡ capped t w → cost < cap → StandsFor new.book m cost w
+  pub below : AreBelowGroup old.book (max 1 cost) → AreBelowGroup new.book (cost + 1)
+  pub each : (tale : Tale t facts) (n m : ℕ) (i : Item) (w : List ℕ) → IsNumbered facts tale.words (max 1 cost) old → slice_get items n ≡ Some i → slice_get numbers n ≡ Some m → WordBy t tale.words i.key i.back w → cost ≡ capped t w → cost < cap → StandsFor new.book m cost w

@@ -1,16 +1,13 @@
 -- Items of one cost in the order of their words, and the search that settles them.
-use Rattle.std.specs.Prelude.{◌≡◌, ◌<◌, ◌≤◌, ◌+◌, ℕ, List, [], length, map, slice_get, Option, Some}
+use Rattle.std.specs.Prelude.{◌≡◌, ◌<◌, ◌+◌, ℕ, List, [], length, map, max, slice_get, Option, Some}
 use Rattle.std.specs.List.{Contains}
 use Rattle.std.specs.List.Sorted.{IsNonDecreasingBy}
 use Rattle.mh_tables.specs.Table.{TableData}
 use Rattle.mh_facts.specs.declared.store.FactKey.{FactKey}
-use Rattle.mh_facts.specs.Stored.{Facts}
 use Rattle.mh_least.specs.Orders.{cap}
 use Rattle.mh_words.specs.Words.{Words}
 use Rattle.mh_search.specs.declared.work.Item.{Item}
-use Rattle.mh_search.specs.declared.work.Work.{Work}
 use Rattle.mh_search.specs.declared.classes.Classes.{Classes}
-use Rattle.mh_search.specs.declared.numbering.Numbering.{Numbering}
 use Rattle.mh_search.specs.declared.ranking.Ranked.{Ranked}
 use Rattle.mh_search.specs.declared.settling.Found.{Found}
 use Rattle.mh_search.specs.Rows.{Waits}
@@ -42,10 +39,10 @@ pub record IsRanked (items : List Item) (words : List ℕ) (rs : List Ranked) : 
 abbrev pub AreRanked : TableData → (FactKey → Option (List ℕ)) → Words → ℕ → List Ranked → Type 0
 AreRanked t words book level rs = level < cap → (r : Ranked) (u : List ℕ) → Contains rs r → WordBy t words r.item.key r.item.back u → StandsFor book r.word level u
 
--- the search before a level
+-- the search before a level; the empty word is there from the first
 pub record BeforeLevel (t : TableData) (c : Classes) (found : Found) (level : ℕ) : Type 0 where
   pub good : Good t c found.store found.work level []
-  pub numbered : IsNumbered found.store good.tale.words level found.numbering
+  pub numbered : IsNumbered found.store good.tale.words (max 1 level) found.numbering
 
 -- some items of the level are left
 pub record InLevel (t : TableData) (c : Classes) (found : Found) (level : ℕ) (rs : List Ranked) : Type 0 where

@@ -132,10 +132,10 @@ pub fn numbers_of(
     requires { AreToNumber table.now store.now numbering.old cost items.now }
     ensures { IfOk result (λ numbers. AreNumbered table.now store.now numbering.old numbering.new cost items.now numbers.items) }
 {
+    numbering.book.rising();
     if is_plain(cost) {
         return no_numbers(alloc, items);
     }
-    numbering.book.rising();
     let made = all_made(alloc, table, store, numbering, items)?;
     numbering.book.number_all(alloc, cost, made.as_slice())
 }

@@ -1,17 +1,16 @@
-use Rattle.std.proofs.Common.{rules, ◌≡◌, ◌↔◌, ◌⊎◌, IsTrue, IfOk, length, ℕ, ◌+◌, ◌-◌, ◌*◌, ◌<◌, ◌≤◌, ◌/◌, ◌%◌, Bool, true, false, nat_eq, nat_lt, List, [], ◌∷◌, ◌++◌, slice_index_or, slice_set, bit_and, bit_or, Fits, w8, w32, w64, Bor, MutBor}
-use Rattle.mh_least.specs.Orders.{cap}
-use Rattle.mh_search.specs.Numbering.{AreEmpty, AreMade, AreNumbered, AreToNumber, IsLast, IsMade, IsPlaced}
-use Rattle.mh_search.specs.Tales.{before_dot, listed}
+use Rattle.std.proofs.Common.{◌≡◌, length, arith}
+use Rattle.std.proofs.lemmas.Option.{slice_get-get_or}
+use Rattle.mh_search.proofs.Numbers.{none_made, made_more}
 use Rattle.mh_search.proofs.numbering.all_made.Goals as goal
 
--- src/numbering.rt:99:5
 pub loop-item-init : goal.loop-item-init
-loop-item-init c = ?
+loop-item-init c = rw c.new-made.ensures.items (none_made c.args.table.now c.args.store.now c.args.numbering.now c.args.items.now)
 
--- src/numbering.rt:99:5
 pub loop-item-preserved : goal.loop-item-preserved
-loop-item-preserved c = ?
+loop-item-preserved c =
+    rw c.in_ok-push.ensures.items (made_more c.args.table.now c.args.store.now c.args.numbering.now c.args.items.now c.loop-item.item-index c.loop-item.made.items _ c.made_of.result c.loop-item.invariant (slice_get-get_or c.args.items.now c.loop-item.item-index _ c.loop-item-test.true) c.made_of.ensures)
 
--- src/numbering.rt:89:1
 pub returns : goal.returns
-returns c = ?
+returns c =
+    let e : c.loop-item.item-index ≡ length c.args.items.now = (let a = c.loop-item-test.false in let b = c.loop-item.auto.item-index-end in omega arith) in
+    rw e at c.loop-item.invariant

@@ -1,8 +1,5 @@
-use Rattle.std.proofs.Common.{◌≡◌, ◌↔◌, ◌⊎◌, IsTrue, IfOk, length, ℕ, ◌+◌, ◌-◌, ◌*◌, ◌<◌, ◌≤◌}
-use Rattle.mh_least.specs.Orders.{cap}
-use Rattle.mh_search.specs.Numbering.{AreEmpty, AreMade, AreNumbered, AreToNumber, IsLast, IsMade, IsPlaced}
-use Rattle.mh_search.specs.Tales.{before_dot, listed}
+use Rattle.mh_search.specs.Numbering.{AreMade}
 use Rattle.mh_search.proofs.numbering.all_made.Given as goal
 
 abbrev pub invariant-loop-item : goal.invariant-loop-item
-invariant-loop-item l = ?
+invariant-loop-item l = AreMade l.table l.store l.numbering l.items l.item-index l.made.items

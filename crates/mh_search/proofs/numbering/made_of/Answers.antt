@@ -1,13 +1,8 @@
-use Rattle.std.proofs.Common.{rules, ◌≡◌, ◌↔◌, ◌⊎◌, IsTrue, IfOk, length, ℕ, ◌+◌, ◌-◌, ◌*◌, ◌<◌, ◌≤◌, ◌/◌, ◌%◌, Bool, true, false, nat_eq, nat_lt, List, [], ◌∷◌, ◌++◌, slice_index_or, slice_set, bit_and, bit_or, Fits, w8, w32, w64, Bor, MutBor}
-use Rattle.mh_least.specs.Orders.{cap}
-use Rattle.mh_search.specs.Numbering.{AreEmpty, AreMade, AreNumbered, AreToNumber, IsLast, IsMade, IsPlaced}
-use Rattle.mh_search.specs.Tales.{before_dot, listed}
+use Rattle.mh_search.proofs.Numbers.{made_shifted, made_reduced}
 use Rattle.mh_search.proofs.numbering.made_of.Goals as goal
 
--- src/numbering.rt:69:1
 pub returns-in-Shifted : goal.returns-in-Shifted
-returns-in-Shifted c = ?
+returns-in-Shifted c = made_shifted c.args.table.now c.args.store.now c.args.numbering.now c.args.item c.in-Shifted.path c.number_of.result c.last_before.result c.in-Shifted.is c.number_of.ensures c.last_before.ensures
 
--- src/numbering.rt:69:1
 pub returns-in-Reduced : goal.returns-in-Reduced
-returns-in-Reduced c = ?
+returns-in-Reduced c = made_reduced c.args.table.now c.args.store.now c.args.numbering.now c.args.item c.in-Reduced.path c.in-Reduced.inner c.number_of-in-Reduced.result c.number_of-in-Reduced-2.result c.in-Reduced.is c.number_of-in-Reduced.ensures c.number_of-in-Reduced-2.ensures

@@ -1,17 +1,14 @@
-use Rattle.std.proofs.Common.{rules, ◌≡◌, ◌↔◌, ◌⊎◌, IsTrue, IfOk, length, ℕ, ◌+◌, ◌-◌, ◌*◌, ◌<◌, ◌≤◌, ◌/◌, ◌%◌, Bool, true, false, nat_eq, nat_lt, List, [], ◌∷◌, ◌++◌, slice_index_or, slice_set, bit_and, bit_or, Fits, w8, w32, w64, Bor, MutBor}
-use Rattle.mh_least.specs.Orders.{cap}
-use Rattle.mh_search.specs.Numbering.{AreEmpty, AreMade, AreNumbered, AreToNumber, IsLast, IsMade, IsPlaced}
-use Rattle.mh_search.specs.Tales.{before_dot, listed}
+use Rattle.std.proofs.Common.{◌≡◌, length, arith}
+use Rattle.mh_search.proofs.Numbers.{none_empty, empty_more}
 use Rattle.mh_search.proofs.numbering.no_numbers.Goals as goal
 
--- src/numbering.rt:117:5
 pub loop-init : goal.loop-init
-loop-init c = ?
+loop-init c = rw c.new-numbers.ensures.items none_empty
 
--- src/numbering.rt:117:5
 pub loop-preserved : goal.loop-preserved
-loop-preserved c = ?
+loop-preserved c = rw c.in_ok-push.ensures.items (empty_more c.loop.index c.loop.numbers.items c.loop.invariant)
 
--- src/numbering.rt:113:1
 pub returns : goal.returns
-returns c = ?
+returns c =
+    let e : c.loop.index ≡ length c.args.items.now = (let a = c.loop-test.false in let b = c.loop.auto.index-end in omega arith) in
+    rw e at c.loop.invariant

@@ -1,8 +1,5 @@
-use Rattle.std.proofs.Common.{◌≡◌, ◌↔◌, ◌⊎◌, IsTrue, IfOk, length, ℕ, ◌+◌, ◌-◌, ◌*◌, ◌<◌, ◌≤◌}
-use Rattle.mh_least.specs.Orders.{cap}
-use Rattle.mh_search.specs.Numbering.{AreEmpty, AreMade, AreNumbered, AreToNumber, IsLast, IsMade, IsPlaced}
-use Rattle.mh_search.specs.Tales.{before_dot, listed}
+use Rattle.mh_search.specs.Numbering.{AreEmpty}
 use Rattle.mh_search.proofs.numbering.no_numbers.Given as goal
 
 abbrev pub invariant-loop : goal.invariant-loop
-invariant-loop l = ?
+invariant-loop l = AreEmpty l.index l.numbers.items

@@ -1,21 +1,29 @@
-use Rattle.std.proofs.Common.{rules, ◌≡◌, ◌↔◌, ◌⊎◌, IsTrue, IfOk, length, ℕ, ◌+◌, ◌-◌, ◌*◌, ◌<◌, ◌≤◌, ◌/◌, ◌%◌, Bool, true, false, nat_eq, nat_lt, List, [], ◌∷◌, ◌++◌, slice_index_or, slice_set, bit_and, bit_or, Fits, w8, w32, w64, Bor, MutBor}
+use Rattle.std.proofs.Common.{◌≡◌, ◌<◌, true, false, refl}
+use Rattle.std.specs.Prelude.{max}
+use Rattle.std.proofs.lemmas.Result.{IfOk-weaker}
 use Rattle.mh_least.specs.Orders.{cap}
-use Rattle.mh_search.specs.Numbering.{AreEmpty, AreMade, AreNumbered, AreToNumber, IsLast, IsMade, IsPlaced}
-use Rattle.mh_search.specs.Tales.{before_dot, listed}
+use Rattle.mh_search.proofs.Numbers.{numbered_higher, some_level, plain_numbered, between, made_known, made_even, made_numbered}
 use Rattle.mh_search.proofs.numbering.numbers_of.Goals as goal
 
--- src/numbering.rt:136:9
 pub returns-then-is_plain : goal.returns-then-is_plain
-returns-then-is_plain c = ?
+returns-then-is_plain c =
+    IfOk-weaker c.no_numbers.result _ _ (λ numbers h. plain_numbered c.args.table.now c.args.store.now c.args.numbering.now c.args.cost c.args.items.now numbers.items c.rising.ensures (c.if-is_plain.ensures.0 refl) h) c.no_numbers.ensures
 
--- src/numbering.rt:140:5
+apart : (c : goal.After-as_slice) → (0 < c.args.cost) × (c.args.cost < cap)
+apart c = between c.args.cost c.requires.most (λ plain. (let y : false ≡ true = c.if-is_plain.ensures.1 plain in cc))
+
 pub number_all-requires-clause-known : goal.number_all-requires-clause-known
-number_all-requires-clause-known c = ?
+number_all-requires-clause-known c =
+    rw c.as_slice.ensures.value (made_known c.args.table.now c.args.store.now c.args.numbering.now c.rising.ensures c.args.cost (apart c).1 c.args.items.now c.in_ok-made.made.items c.in_ok-made.ensures c.requires)
 
--- src/numbering.rt:140:5
 pub number_all-requires-clause-even : goal.number_all-requires-clause-even
-number_all-requires-clause-even c = ?
+number_all-requires-clause-even c =
+    rw c.as_slice.ensures.value (made_even c.args.table.now c.args.store.now c.args.numbering.now c.rising.ensures c.args.cost (apart c).1 c.args.items.now c.in_ok-made.made.items c.in_ok-made.ensures c.requires)
 
--- src/numbering.rt:124:1
+pub number_all-requires-clause-fresh : goal.number_all-requires-clause-fresh
+number_all-requires-clause-fresh c = (numbered_higher c.args.store.now c.requires.tale.words (max 1 c.args.cost) c.args.cost c.args.numbering.now (some_level c.args.cost (apart c).0) c.requires.numbered).below
+
 pub returns : goal.returns
-returns c = ?
+returns c =
+    let apart : (0 < c.args.cost) × (c.args.cost < cap) = between c.args.cost c.requires.most (λ plain. (let y : false ≡ true = c.if-is_plain.ensures.1 plain in cc)) in
+    IfOk-weaker c.number_all.result _ _ (λ numbers h. made_numbered c.args.table.now c.args.store.now c.args.numbering.now c.rising.ensures c.args.cost apart.1 c.args.items.now c.in_ok-made.made.items c.in_ok-made.ensures c.requires c.number_all.new.self numbers.items apart.0 (rw c.as_slice.ensures.value at h)) c.number_all.ensures.numbered

@@ -1,7 +1,10 @@
-use Rattle.std.proofs.Common.{rules, ◌≡◌, IfOk, length, ℕ, ◌+◌, ◌-◌, ◌*◌, ◌<◌, ◌≤◌, ◌/◌, ◌%◌, Bool, true, false, nat_eq, nat_lt, List, [], ◌∷◌, ◌++◌, slice_index_or, slice_set, bit_and, bit_or, Fits, w8, w32, w64, Bor, MutBor}
-use Rattle.mh_search.specs.Ranking.{ArePaired, IsRanked}
+use Rattle.std.proofs.Common.{rules}
+use Rattle.std.proofs.lemmas.List.Sorted.{IsNonDecreasingBy-from_sort_by_key}
+use Rattle.mh_search.specs.declared.ranking.Ranked.{Ranked}
+use Rattle.mh_search.proofs.Ranks.{pairs_ranked}
 use Rattle.mh_search.proofs.ranking.in_order.Goals as goal
 
--- src/ranking.rt:32:1
 pub returns : goal.returns
-returns c = ?
+returns c =
+    pairs_ranked c.args.items.now c.args.words.now c.in_ok-all.all.items c.sort_unstable_by_key.new.self.items c.in_ok-all.ensures c.sort_unstable_by_key.ensures.permutation
+        (IsNonDecreasingBy-from_sort_by_key (λ (r : Ranked). r.word) _ c.sort_unstable_by_key.ensures.sorted (λ a r q k. search rules))
