@@ -1,5 +1,5 @@
 -- The search between two of its turns.
-use Rattle.std.specs.Prelude.{◌≡◌, ℕ, List, [], ◌∷◌, ◌++◌, slice_get, Option, Some, None, ◌<◌, ◌≤◌, ◌⊎◌, length}
+use Rattle.std.specs.Prelude.{◌≡◌, ℕ, List, [], ◌∷◌, ◌++◌, slice_get, Option, Some, None, ◌<◌, ◌≤◌, ◌⊎◌, ◌+◌, length}
 use Rattle.std.specs.List.{Contains}
 use Rattle.mh_grammar.specs.declared.types.Symbol.TheVariants.{N}
 use Rattle.mh_grammar.specs.Plain.{rhs_of}
@@ -20,6 +20,7 @@ use Rattle.mh_search.specs.Rows.{Waits, IsOne, Beside}
 use Rattle.mh_search.specs.Classes.{rep_of, place_of}
 use Rattle.mh_search.specs.Rules.{InRange, path_of, way_of, queue_of, paths_at, wholes_at, Knows, IsReady}
 use Rattle.mh_search.specs.Tales.{NoLater, capped, WordBy, Tale}
+use Rattle.mh_search.specs.Numbering.{IsNumbered}
 
 -- some fact is stored for the key
 abbrev pub IsStored : Facts → FactKey → Type 0
@@ -136,3 +137,4 @@ pub record IsFound (t : TableData) (c : Classes) (found : Found) : Type 0 where
   pub closed : Closes t (rep_of c) (NoLater t) tale.words (WaysIn c tale.words found.work) (Holds (NoLater t) tale.words)
   pub complete : Complete t (rep_of c) (NoLater t) tale.words
   pub wholes : (n : ℕ) (w : Whole) → Contains (wholes_at found.work n) w → WholeOk t (rep_of c) tale.words cap w
+  pub numbered : IsNumbered found.store tale.words (cap + 1) found.numbering
