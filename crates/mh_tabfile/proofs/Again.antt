@@ -106,20 +106,24 @@ edges_again : (es : List RawEdge) → AllByRecursion IsRawEdge es → (b : Bool)
 unfolding early
 edges_again [] h b r left rest = (b, ap (λ es. run (record r { edges = es; place = early b left }) rest) (sym (append-nil r.edges)))
 edges_again (e ∷ es) (h, hs) b r left rest =
-    let (c, k) = edges_again es hs false (record r { edges = r.edges ++ e ∷ [] }) left rest in
-    (c, step (to r (early b left)) (record r { edges = r.edges ++ e ∷ []; place = places.Edges left }) (edge_line e) (map edge_line es ++ rest) (edge_step b r left e h)
-    ∙ k
-    ∙ ap (λ x. run (record r { edges = x; place = early c left }) rest) (append_assoc r.edges (e ∷ []) es))
+    let (c, k) = edges_again es hs false (record r { edges = r.edges ++ e ∷ [] }) left rest in (
+      c,
+      step (to r (early b left)) (record r { edges = r.edges ++ e ∷ []; place = places.Edges left }) (edge_line e) (map edge_line es ++ rest) (edge_step b r left e h)
+          ∙ k
+          ∙ ap (λ x. run (record r { edges = x; place = early c left }) rest) (append_assoc r.edges (e ∷ []) es),
+    )
 
 cells_again : (cs : List RawCell) → AllByRecursion IsRawCell cs → (o : Option Bool) (r : Reader) (left : ℕ) (rest : List Line) →
     (p : Option Bool) × (run (to r (late o left)) (map cell_line cs ++ rest) ≡ run (to (with_cells r cs) (late p left)) rest)
 unfolding late
 cells_again [] h o r left rest = (o, ap (λ x. run (record r { cells = x; place = late o left }) rest) (sym (append-nil r.cells)))
 cells_again (c ∷ cs) (h, hs) o r left rest =
-    let (p, k) = cells_again cs hs None (record r { cells = r.cells ++ c ∷ [] }) left rest in
-    (p, step (to r (late o left)) (record r { cells = r.cells ++ c ∷ []; place = places.Cells left }) (cell_line c) (map cell_line cs ++ rest) (cell_step o r left c h)
-    ∙ k
-    ∙ ap (λ x. run (record r { cells = x; place = late p left }) rest) (append_assoc r.cells (c ∷ []) cs))
+    let (p, k) = cells_again cs hs None (record r { cells = r.cells ++ c ∷ [] }) left rest in (
+      p,
+      step (to r (late o left)) (record r { cells = r.cells ++ c ∷ []; place = places.Cells left }) (cell_line c) (map cell_line cs ++ rest) (cell_step o r left c h)
+          ∙ k
+          ∙ ap (λ x. run (record r { cells = x; place = late p left }) rest) (append_assoc r.cells (c ∷ []) cs),
+    )
 
 -- a fresh reader with these states
 abbrev after : Reader → List RawState → Place → Reader
@@ -236,7 +240,7 @@ version_small : (costs : Option (List ℕ)) → IsNumber (version_of costs)
 version_small None = omega arith
 version_small (Some costs) = omega arith
 
-head_step : (r : Reader) (costs : Option (List ℕ)) (mode : Mode) → next (to r places.Head) (head_line costs mode) ≡ Some (record r { mode = mode; costs = blank costs; place = places.Tokens })
+head_step : (r : Reader) (costs : Option (List ℕ)) (mode : Mode) → next (to r places.Head) (head_line (version_of costs) mode) ≡ Some (record r { mode = mode; costs = blank costs; place = places.Tokens })
 unfolding next kind_of
 head_step r costs mode =
     ap (λ x. x >>= λ n. costs_for n >>= λ costs. mode_of (mode_name mode) >>= λ m. Some (record r { mode = m; costs = costs; place = places.Tokens })) (number_again (version_of costs) (version_small costs))
@@ -274,7 +278,7 @@ file_again raw h =
     let r4 = record r3 { starts = raw.starts; place = places.Productions } in
     let r5 = to r4 (places.Listing (length raw.productions)) in
     let r6 = record r4 { productions = raw.productions; place = places.Between count } in
-    step start r1 (head_line raw.costs raw.mode) ((codes "tokens" ∷ raw.tokens) ∷ costs_lines raw.costs ++ (grammar_lines raw ++ automaton)) (head_step start raw.costs raw.mode)
+    step start r1 (head_line (version_of raw.costs) raw.mode) ((codes "tokens" ∷ raw.tokens) ∷ costs_lines raw.costs ++ (grammar_lines raw ++ automaton)) (head_step start raw.costs raw.mode)
     ∙ step r1 r2 (codes "tokens" ∷ raw.tokens) (costs_lines raw.costs ++ (grammar_lines raw ++ automaton)) (tokens_step r1 raw.tokens h.tokens)
     ∙ costs_again raw.costs h.costs r3 (grammar_lines raw ++ automaton)
     ∙ step r3 r4 (codes "starts" ∷ raw.starts) (count_line (codes "productions") (length raw.productions) ∷ map production_line raw.productions ++ automaton) (starts_step r3 raw.starts h.starts)
@@ -319,12 +323,14 @@ live_late o r left small =
     let h = no_states_are left in
     let i = length (closed r).states in
     let tail = tail_of i (no_states left) in
-    let count : i ≡ length r.states + 1 = length-append r.states (record { items = r.items; edges = r.edges; cells = cells.Cells r.cells } ∷ []) in
-    (states_lines i (no_states left) ++ end_line ∷ [], _,
-    ap (λ ls. run (to r (late o left)) ls) tail.is
-    ∙ ap (λ o. go_on o tail.first tail.rest (λ u. run u tail.rest)) (ends_step o r left tail.first tail.ends)
-    ∙ ap (λ ls. run (to (closed r) (places.Between left)) ls) (sym tail.is)
-    ∙ states_again (no_states left) h.0 (closed r) i left refl h.1 (omega (arith, small, count)))
+    let count : i ≡ length r.states + 1 = length-append r.states (record { items = r.items; edges = r.edges; cells = cells.Cells r.cells } ∷ []) in (
+      states_lines i (no_states left) ++ end_line ∷ [],
+      _,
+      ap (λ ls. run (to r (late o left)) ls) tail.is
+          ∙ ap (λ o. go_on o tail.first tail.rest (λ u. run u tail.rest)) (ends_step o r left tail.first tail.ends)
+          ∙ ap (λ ls. run (to (closed r) (places.Between left)) ls) (sym tail.is)
+          ∙ states_again (no_states left) h.0 (closed r) i left refl h.1 (omega (arith, small, count)),
+    )
 
 pub live_items : (r : Reader) (left : ℕ) → IsNumber (length r.states + 1 + left) → Live (to r (places.Items left))
 unfolding late early
@@ -375,7 +381,7 @@ live_tokens r none =
 pub live_head : (r : Reader) → r.states ≡ [] → Live (to r places.Head)
 live_head r none =
     let l = live_tokens (record r { mode = Merged; costs = None }) none in
-    (head_line None Merged ∷ l.0, l.1, step (to r places.Head) (record r { mode = Merged; costs = None; place = places.Tokens }) (head_line None Merged) l.0 (head_step r None Merged) ∙ l.2)
+    (head_line 1 Merged ∷ l.0, l.1, step (to r places.Head) (record r { mode = Merged; costs = None; place = places.Tokens }) (head_line 1 Merged) l.0 (head_step r None Merged) ∙ l.2)
 
 pub live_ended : (r : Reader) → Live (to r places.Ended)
 live_ended r = ([], table_of r, done r)

@@ -73,8 +73,11 @@ all_front P (x ∷ xs) ys (h, hs) = let k = all_front P xs ys hs in ((h, k.0), k
 
 -- a part without LF is a line of words
 line_is : (part : List ℕ) → AllByRecursion (λ b. (b == 10) ≡ false) part → IsLine (words_of part)
-line_is part h = (split_some (λ b. b == 32) part, all_by (λ w k. all_by (λ b (l, m). (other_byte b 32 l, other_byte b 10 m)) w k) (words_of part)
-    (all_both2 (λ b. (b == 32) ≡ false) (λ b. (b == 10) ≡ false) (words_of part) (clean (λ b. b == 32) part) (keeps (λ b. (b == 10) ≡ false) (λ b. b == 32) part h)))
+line_is part h = (
+  split_some (λ b. b == 32) part,
+  all_by (λ w k. all_by (λ b (l, m). (other_byte b 32 l, other_byte b 10 m)) w k) (words_of part)
+      (all_both2 (λ b. (b == 32) ≡ false) (λ b. (b == 10) ≡ false) (words_of part) (clean (λ b. b == 32) part) (keeps (λ b. (b == 10) ≡ false) (λ b. b == 32) part h)),
+)
 
 pub not_equal : (n k : ℕ) → not (n == k) ≡ true → n ≢ k
 not_equal n k e f = true≢false (sym e ∙ ap not (eq-eqb n k f))
@@ -211,13 +214,19 @@ other_head [] e = absurd (true≢false (sym e))
 other_head (w ∷ []) e = absurd (true≢false (sym e))
 other_head (w ∷ v ∷ []) e = absurd (true≢false (sym e))
 other_head (w ∷ v ∷ m ∷ []) e = elim (chosen (same_word w (codes "menhir-tables")) (cond (is_other_number (number_of v)) (is_mode (mode_of m)) false) false true e) [
-  inl (b, f) ↦ elim (chosen (is_other_number (number_of v)) (is_mode (mode_of m)) false true f) [
-    inl (c, g) ↦
-      let (n, h, one, two) = other_by (number_of v) c in
-      let (mode, k) = mode_by (mode_of m) g in
-      let number = number_sound v n h in
-      record { version = n; mode = mode; number = number.0; not_one = one; not_two = two;
-        are = ap (λ x. x ∷ v ∷ m ∷ []) (same_text w (codes "menhir-tables") (sym b)) ∙ ap (λ x. codes "menhir-tables" ∷ x ∷ m ∷ []) number.1 ∙ ap (λ x. codes "menhir-tables" ∷ decimal n ∷ x ∷ []) (mode_sound m mode k) }
+  | inl (b, f) ↦ elim (chosen (is_other_number (number_of v)) (is_mode (mode_of m)) false true f) [
+    | inl (c, g) ↦
+        let (n, h, one, two) = other_by (number_of v) c in
+        let (mode, k) = mode_by (mode_of m) g in
+        let number = number_sound v n h in
+        record {
+          version = n;
+          mode = mode;
+          number = number.0;
+          not_one = one;
+          not_two = two;
+          are = ap (λ x. x ∷ v ∷ m ∷ []) (same_text w (codes "menhir-tables") (sym b)) ∙ ap (λ x. codes "menhir-tables" ∷ x ∷ m ∷ []) number.1 ∙ ap (λ x. codes "menhir-tables" ∷ decimal n ∷ x ∷ []) (mode_sound m mode k);
+        }
     | inr (c, g) ↦ absurd (true≢false (sym g))
   ]
   | inr (b, f) ↦ absurd (true≢false (sym f))

@@ -119,10 +119,7 @@ mode_plain : (m : Mode) → AllByRecursion IsInWord (mode_name m)
 mode_plain Merged = plain (codes "merged") refl
 mode_plain Canonical = plain (codes "canonical") refl
 
-abbrev other_head : ℕ → Mode → Line
-other_head n m = codes "menhir-tables" ∷ decimal n ∷ mode_name m ∷ []
-
-other_line : (n : ℕ) (m : Mode) → n < 2 ^ 32 → IsLine (other_head n m)
+other_line : (n : ℕ) (m : Mode) → n < 2 ^ 32 → IsLine (head_line n m)
 other_line n m small = ((λ e. cc), (plain (codes "menhir-tables") refl, (digits_in_word (decimal n) (decimal_digits n small), (mode_plain m, tt))))
 
 first_same : (x y : Line) (xs ys : List Line) → x ∷ xs ≡ y ∷ ys → x ≡ y
@@ -139,24 +136,24 @@ version_is : (n : ℕ) (costs : Option (List ℕ)) → n ≡ version_of costs �
 version_is n None e one two = one e
 version_is n (Some costs) e one two = two e
 
-clash : (raw : RawTable) (n : ℕ) (m : Mode) (more : List Line) → n < 2 ^ 32 → n ≢ 1 → n ≢ 2 → lines_of raw ++ ([] ∷ []) ∷ [] ≡ other_head n m ∷ more → ⊥
+clash : (raw : RawTable) (n : ℕ) (m : Mode) (more : List Line) → n < 2 ^ 32 → n ≢ 1 → n ≢ 2 → lines_of raw ++ ([] ∷ []) ∷ [] ≡ head_line n m ∷ more → ⊥
 clash raw n m more small one two e =
-    let head = first_same (head_line raw.costs raw.mode) (other_head n m) _ more e in
+    let head = first_same (head_line (version_of raw.costs) raw.mode) (head_line n m) _ more e in
     let number = second_same (codes "menhir-tables") (decimal (version_of raw.costs)) (codes "menhir-tables") (decimal n) (mode_name raw.mode ∷ []) (mode_name m ∷ []) head in
     version_is n raw.costs (sym (decimal_injective (version_of raw.costs) n (version_small raw.costs) (omega (arith, small)) number)) one two
 
 pub no_other : (bytes : List ℕ) (raw : RawTable) → IsFileOf bytes raw → IsOtherVersion bytes → ⊥
 no_other bytes raw f h =
     let is = other_line h.version h.mode h.number in
-    let ws = other_head h.version h.mode in
+    let ws = head_line h.version h.mode in
     let spelled : lines_of raw ++ ([] ∷ []) ∷ [] ≡ view bytes = sym (view_whole (lines_of raw) f.words) ∙ ap view (sym f.whole) in
     elim h.ends [
-      inl e ↦
-        let alone : view bytes ≡ ws ∷ [] = ap view (h.first ∙ ap (λ r. join_with_byte 32 ws ++ r) e ∙ append-nil (join_with_byte 32 ws)) ∙ ap (map words_of) (slice_split_none (λ b. b == 10) (join_with_byte 32 ws) (All-from_recursion (λ b. (b == 10) ≡ false) (join_with_byte 32 ws) (line_clean ws is.1))) ∙ ap (λ l. l ∷ []) (words_again ws is) in
-        clash raw h.version h.mode [] h.number h.not_one h.not_two (spelled ∙ alone)
+      | inl e ↦
+          let alone : view bytes ≡ ws ∷ [] = ap view (h.first ∙ ap (λ r. join_with_byte 32 ws ++ r) e ∙ append-nil (join_with_byte 32 ws)) ∙ ap (map words_of) (slice_split_none (λ b. b == 10) (join_with_byte 32 ws) (All-from_recursion (λ b. (b == 10) ≡ false) (join_with_byte 32 ws) (line_clean ws is.1))) ∙ ap (λ l. l ∷ []) (words_again ws is) in
+          clash raw h.version h.mode [] h.number h.not_one h.not_two (spelled ∙ alone)
       | inr (more, e) ↦
-        let cut : view bytes ≡ ws ∷ view more = ap view (h.first ∙ ap (λ r. join_with_byte 32 ws ++ r) e ∙ regroup (join_with_byte 32 ws) [] more) ∙ view_again (ws ∷ []) more (is, tt) in
-        clash raw h.version h.mode (view more) h.number h.not_one h.not_two (spelled ∙ cut)
+          let cut : view bytes ≡ ws ∷ view more = ap view (h.first ∙ ap (λ r. join_with_byte 32 ws ++ r) e ∙ regroup (join_with_byte 32 ws) [] more) ∙ view_again (ws ∷ []) more (is, tt) in
+          clash raw h.version h.mode (view more) h.number h.not_one h.not_two (spelled ∙ cut)
     ]
 
 -- whatever was read, a file's bytes are read as its table
@@ -169,19 +166,19 @@ only bytes (Err faults.Memory) h raw f = inr refl
 other_number : (n : ℕ) → n ≢ 1 → n ≢ 2 → is_other_number (Some n) ≡ true
 other_number n one two = ap (λ b. not b && not (nat_eq n 2)) (ne_eqb n 1 one) ∙ ap not (ne_eqb n 2 two)
 
-head_again : (n : ℕ) (m : Mode) → n < 2 ^ 32 → n ≢ 1 → n ≢ 2 → is_other_head (other_head n m) ≡ true
+head_again : (n : ℕ) (m : Mode) → n < 2 ^ 32 → n ≢ 1 → n ≢ 2 → is_other_head (head_line n m) ≡ true
 unfolding is_other_head
 head_again n m small one two =
     ap (λ o. cond (is_other_number o) (is_mode (mode_of (mode_name m))) false) (number_again n small)
     ∙ ap (λ b. cond b (is_mode (mode_of (mode_name m))) false) (other_number n one two)
     ∙ ap is_mode (mode_again m)
 
-view_other : (bytes : List ℕ) (h : IsOtherVersion bytes) → (more : List Line) × (view bytes ≡ other_head h.version h.mode ∷ more)
+view_other : (bytes : List ℕ) (h : IsOtherVersion bytes) → (more : List Line) × (view bytes ≡ head_line h.version h.mode ∷ more)
 view_other bytes h =
     let is = other_line h.version h.mode h.number in
-    let ws = other_head h.version h.mode in
+    let ws = head_line h.version h.mode in
     elim h.ends [
-      inl e ↦ ([], ap view (h.first ∙ ap (λ r. join_with_byte 32 ws ++ r) e ∙ append-nil (join_with_byte 32 ws)) ∙ ap (map words_of) (slice_split_none (λ b. b == 10) (join_with_byte 32 ws) (All-from_recursion (λ b. (b == 10) ≡ false) (join_with_byte 32 ws) (line_clean ws is.1))) ∙ ap (λ l. l ∷ []) (words_again ws is))
+      | inl e ↦ ([], ap view (h.first ∙ ap (λ r. join_with_byte 32 ws ++ r) e ∙ append-nil (join_with_byte 32 ws)) ∙ ap (map words_of) (slice_split_none (λ b. b == 10) (join_with_byte 32 ws) (All-from_recursion (λ b. (b == 10) ≡ false) (join_with_byte 32 ws) (line_clean ws is.1))) ∙ ap (λ l. l ∷ []) (words_again ws is))
       | inr (more, e) ↦ (view more, ap view (h.first ∙ ap (λ r. join_with_byte 32 ws ++ r) e ∙ regroup (join_with_byte 32 ws) [] more) ∙ view_again (ws ∷ []) more (is, tt))
     ]
 
@@ -189,5 +186,5 @@ pub never_other : (bytes : List ℕ) (parts : List (Bor (List ℕ))) (d : Bor (L
 never_other bytes [] d ws e some i f h = omega (arith, some)
 never_other bytes (p ∷ ps) d ws e some i f h =
     let (more, v) = view_other bytes h in
-    let first : words_of p.now ≡ other_head h.version h.mode = first_same (words_of p.now) (other_head h.version h.mode) (map words_of (seen ps)) more (ap (map words_of) e ∙ v) in
+    let first : words_of p.now ≡ head_line h.version h.mode = first_same (words_of p.now) (head_line h.version h.mode) (map words_of (seen ps)) more (ap (map words_of) e ∙ v) in
     true≢false (sym (ap is_other_head (i ∙ first) ∙ head_again h.version h.mode h.number h.not_one h.not_two) ∙ f)

@@ -44,8 +44,8 @@ in_state r left = heads r ++ (listed r (length r.productions) ++ (states_listed 
 -- the lines that led to a place
 abbrev pub written_at : Place → Reader → List Line
 written_at places.Head r = []
-written_at places.Tokens r = head_line r.costs r.mode ∷ []
-written_at places.Costs r = head_line r.costs r.mode ∷ (codes "tokens" ∷ r.tokens) ∷ []
+written_at places.Tokens r = head_line (version_of r.costs) r.mode ∷ []
+written_at places.Costs r = head_line (version_of r.costs) r.mode ∷ (codes "tokens" ∷ r.tokens) ∷ []
 written_at places.Starts r = heads r
 written_at places.Productions r = heads r ++ (codes "starts" ∷ r.starts) ∷ []
 written_at (places.Listing left) r = heads r ++ listed r (length r.productions + left)
@@ -119,9 +119,9 @@ at_place r place p = record { tokens = p.tokens; costs = p.costs; starts = p.sta
 
 costs_sound : (n : ℕ) (costs : Option (List ℕ)) → costs_for n ≡ Some costs → (n ≡ version_of costs) × AreCosts costs
 costs_sound n costs e = elim (chosen (nat_eq n 1) (Some None) (cond (nat_eq n 2) (Some (Some [])) None) (Some costs) e) [
-  inl (b, f) ↦ subst (λ c. (n ≡ version_of c) × AreCosts c) (same_some None costs f) (eqb-true n 1 b, tt)
+  | inl (b, f) ↦ subst (λ c. (n ≡ version_of c) × AreCosts c) (same_some None costs f) (eqb-true n 1 b, tt)
   | inr (b, f) ↦ elim (chosen (nat_eq n 2) (Some (Some [])) None (Some costs) f) [
-    inl (c, g) ↦ subst (λ c. (n ≡ version_of c) × AreCosts c) (same_some (Some []) costs g) (eqb-true n 2 c, tt)
+    | inl (c, g) ↦ subst (λ c. (n ≡ version_of c) × AreCosts c) (same_some (Some []) costs g) (eqb-true n 2 c, tt)
     | inr (c, g) ↦ absurd (none_some _ g)
   ]
 ]
@@ -143,7 +143,7 @@ head_case kinds.Head r t w (v ∷ m ∷ x ∷ ws) p h n e = absurd (none_some _ 
 head_case _ r t w ws p h n e = absurd (none_some _ e)
 
 with_tokens : (costs : Option (List ℕ)) (r : Reader) (names : Line) → Parts r → AreCosts costs → r.productions ≡ [] → r.states ≡ [] → AllByRecursion IsName names →
-    Goes (head_line costs r.mode ∷ []) (codes "tokens" ∷ names) (record r { tokens = names; costs = costs; place = place_behind_tokens costs })
+    Goes (head_line (version_of costs) r.mode ∷ []) (codes "tokens" ∷ names) (record r { tokens = names; costs = costs; place = place_behind_tokens costs })
 with_tokens None r names p c hp hs h = record {
   parts = record { tokens = h; costs = c; starts = p.starts; productions = p.productions; states = p.states; items = p.items; edges = p.edges; cells = p.cells };
   holds = (hp, hs);
@@ -170,7 +170,7 @@ costs_case kinds.Costs r t w ws p (hp, hs, old, o) n e =
     subst (Goes (written_at places.Costs r) (w ∷ ws)) (same_some (record r { costs = Some costs; place = places.Starts }) t g) (record {
       parts = record { tokens = p.tokens; costs = is.0; starts = p.starts; productions = p.productions; states = p.states; items = p.items; edges = p.edges; cells = p.cells };
       holds = (hp, hs);
-      written = sym (ap (λ c. head_line c r.mode ∷ (codes "tokens" ∷ r.tokens) ∷ (w ∷ ws) ∷ []) o ∙ ap (λ x. head_line (Some old) r.mode ∷ (codes "tokens" ∷ r.tokens) ∷ x ∷ []) (ap (λ x. x ∷ ws) n ∙ ap (λ x. codes "costs" ∷ x) is.1));
+      written = sym (ap (λ c. head_line (version_of c) r.mode ∷ (codes "tokens" ∷ r.tokens) ∷ (w ∷ ws) ∷ []) o ∙ ap (λ x. head_line 2 r.mode ∷ (codes "tokens" ∷ r.tokens) ∷ x ∷ []) (ap (λ x. x ∷ ws) n ∙ ap (λ x. codes "costs" ∷ x) is.1));
     })
 costs_case _ r t w ws p h n e = absurd (none_some _ e)
 
@@ -193,9 +193,9 @@ count_case kinds.Productions r t w ws p (hp, hs) n e =
       parts = at_place r (places.Listing m) p;
       holds = (subst (λ ps. IsNumber (length ps + m)) (sym hp) (subst IsNumber (sym (zero-add m)) is.0), hs);
       written = ap (λ ps. heads r ++ ((codes "starts" ∷ r.starts) ∷ count_line (codes "productions") (length ps + m) ∷ map production_line ps)) hp
-        ∙ ap (λ k. heads r ++ ((codes "starts" ∷ r.starts) ∷ count_line (codes "productions") k ∷ [])) (zero-add m)
-        ∙ ap (λ x. heads r ++ ((codes "starts" ∷ r.starts) ∷ x ∷ [])) (sym (ap (λ x. x ∷ ws) n ∙ ap (λ x. codes "productions" ∷ x) is.1))
-        ∙ snoc2 (heads r) ((codes "starts" ∷ r.starts) ∷ []) ((w ∷ ws) ∷ []);
+          ∙ ap (λ k. heads r ++ ((codes "starts" ∷ r.starts) ∷ count_line (codes "productions") k ∷ [])) (zero-add m)
+          ∙ ap (λ x. heads r ++ ((codes "starts" ∷ r.starts) ∷ x ∷ [])) (sym (ap (λ x. x ∷ ws) n ∙ ap (λ x. codes "productions" ∷ x) is.1))
+          ∙ snoc2 (heads r) ((codes "starts" ∷ r.starts) ∷ []) ((w ∷ ws) ∷ []);
     })
 count_case _ r t w ws p h n e = absurd (none_some _ e)
 
@@ -210,9 +210,9 @@ production_case r t left line p (small, hs) some e =
       parts = record { tokens = p.tokens; costs = p.costs; starts = p.starts; productions = all_snoc IsRawProduction r.productions q p.productions is.0; states = p.states; items = p.items; edges = p.edges; cells = p.cells };
       holds = (subst IsNumber (sym count) small, hs);
       written = ap (λ k. heads r ++ ((codes "starts" ∷ r.starts) ∷ count_line (codes "productions") k ∷ map production_line (r.productions ++ q ∷ []))) count
-        ∙ ap (λ ls. heads r ++ ((codes "starts" ∷ r.starts) ∷ count_line (codes "productions") (length r.productions + left) ∷ ls)) (map_snoc production_line r.productions q)
-        ∙ snoc2 (heads r) (listed r (length r.productions + left)) (production_line q ∷ [])
-        ∙ ap (λ x. (heads r ++ listed r (length r.productions + left)) ++ x ∷ []) (sym is.1);
+          ∙ ap (λ ls. heads r ++ ((codes "starts" ∷ r.starts) ∷ count_line (codes "productions") (length r.productions + left) ∷ ls)) (map_snoc production_line r.productions q)
+          ∙ snoc2 (heads r) (listed r (length r.productions + left)) (production_line q ∷ [])
+          ∙ ap (λ x. (heads r ++ listed r (length r.productions + left)) ++ x ∷ []) (sym is.1);
     })
 
 states_case : (k : Kind) (r t : Reader) (w : List ℕ) (ws : Line) → Parts r → Holds_at (places.Listing 0) r → Named k w → at_states r k ws ≡ Some t → Goes (written_at (places.Listing 0) r) (w ∷ ws) t
@@ -224,16 +224,16 @@ states_case kinds.States r t w ws p (small, hs) n e =
       parts = at_place r (places.Between m) p;
       holds = (subst IsNumber none small, subst (λ ss. IsNumber (length ss + m)) (sym hs) (subst IsNumber (sym (zero-add m)) is.0));
       written = ap (λ ss. heads r ++ (listed r (length r.productions) ++ (count_line (codes "states") (length ss + m) ∷ states_lines 0 ss))) hs
-        ∙ ap (λ k. heads r ++ (listed r (length r.productions) ++ (count_line (codes "states") k ∷ []))) (zero-add m)
-        ∙ snoc2 (heads r) (listed r (length r.productions)) (count_line (codes "states") m ∷ [])
-        ∙ ap (λ k. (heads r ++ listed r k) ++ count_line (codes "states") m ∷ []) (sym none)
-        ∙ ap (λ x. (heads r ++ listed r (length r.productions + 0)) ++ x ∷ []) (sym (ap (λ x. x ∷ ws) n ∙ ap (λ x. codes "states" ∷ x) is.1));
+          ∙ ap (λ k. heads r ++ (listed r (length r.productions) ++ (count_line (codes "states") k ∷ []))) (zero-add m)
+          ∙ snoc2 (heads r) (listed r (length r.productions)) (count_line (codes "states") m ∷ [])
+          ∙ ap (λ k. (heads r ++ listed r k) ++ count_line (codes "states") m ∷ []) (sym none)
+          ∙ ap (λ x. (heads r ++ listed r (length r.productions + 0)) ++ x ∷ []) (sym (ap (λ x. x ∷ ws) n ∙ ap (λ x. codes "states" ∷ x) is.1));
     })
 states_case _ r t w ws p h n e = absurd (none_some _ e)
 
 listing_case : (r t : Reader) (left : ℕ) (w : List ℕ) (ws : Line) → Parts r → Holds_at (places.Listing left) r → at_listing r left w ws ≡ Some t → Goes (written_at (places.Listing left) r) (w ∷ ws) t
 listing_case r t left w ws p h e = elim (chosen (nat_eq left 0) (at_states r (kind_of w) ws) (at_production r left (w ∷ ws)) (Some t) e) [
-  inl (b, f) ↦ subst (λ k. Goes (written_at (places.Listing k) r) (w ∷ ws) t) (sym (eqb-true left 0 b)) (states_case (kind_of w) r t w ws p (subst (λ k. Holds_at (places.Listing k) r) (eqb-true left 0 b) h) (kind_sound w) f)
+  | inl (b, f) ↦ subst (λ k. Goes (written_at (places.Listing k) r) (w ∷ ws) t) (sym (eqb-true left 0 b)) (states_case (kind_of w) r t w ws p (subst (λ k. Holds_at (places.Listing k) r) (eqb-true left 0 b) h) (kind_sound w) f)
   | inr (b, f) ↦ production_case r t left (w ∷ ws) p h (omega (arith, eqb-false left 0 b)) f
 ]
 
@@ -249,8 +249,8 @@ opened_case r t left m few small some p (inl (b, f)) x is =
       parts = record { tokens = p.tokens; costs = p.costs; starts = p.starts; productions = p.productions; states = p.states; items = tt; edges = tt; cells = tt };
       holds = (few, subst IsNumber (sym count) small, refl, refl);
       written = ap (λ k. heads r ++ (listed r (length r.productions) ++ (states_listed r k ++ count_line (codes "state") (length r.states) ∷ []))) count
-        ∙ snoc3 (heads r) (listed r (length r.productions)) (states_listed r (length r.states + left)) (count_line (codes "state") (length r.states) ∷ [])
-        ∙ ap (λ y. (heads r ++ (listed r (length r.productions) ++ states_listed r (length r.states + left))) ++ y ∷ []) (sym (is ∙ ap (count_line (codes "state")) (eqb-true m (length r.states) b)));
+          ∙ snoc3 (heads r) (listed r (length r.productions)) (states_listed r (length r.states + left)) (count_line (codes "state") (length r.states) ∷ [])
+          ∙ ap (λ y. (heads r ++ (listed r (length r.productions) ++ states_listed r (length r.states + left))) ++ y ∷ []) (sym (is ∙ ap (count_line (codes "state")) (eqb-true m (length r.states) b)));
     })
 
 state_case : (k : Kind) (r t : Reader) (left : ℕ) (w : List ℕ) (ws : Line) → Parts r → Holds_at (places.Between left) r → 0 < left → Named k w → at_state r left k ws ≡ Some t → Goes (written_at (places.Between left) r) (w ∷ ws) t
@@ -267,15 +267,15 @@ end_case kinds.End r t w [] p (few, small) n e =
       parts = at_place r places.Ended p;
       holds = (few, subst IsNumber none small);
       written = snoc3 (heads r) (listed r (length r.productions)) (states_listed r (length r.states)) (end_line ∷ [])
-        ∙ ap (λ k. (heads r ++ (listed r (length r.productions) ++ states_listed r k)) ++ end_line ∷ []) (sym none)
-        ∙ ap (λ v. (heads r ++ (listed r (length r.productions) ++ states_listed r (length r.states + 0))) ++ (v ∷ []) ∷ []) (sym n);
+          ∙ ap (λ k. (heads r ++ (listed r (length r.productions) ++ states_listed r k)) ++ end_line ∷ []) (sym none)
+          ∙ ap (λ v. (heads r ++ (listed r (length r.productions) ++ states_listed r (length r.states + 0))) ++ (v ∷ []) ∷ []) (sym n);
     })
 end_case kinds.End r t w (v ∷ ws) p h n e = absurd (none_some _ e)
 end_case _ r t w ws p h n e = absurd (none_some _ e)
 
 between_case : (k : Kind) (r t : Reader) (left : ℕ) (w : List ℕ) (ws : Line) → Parts r → Holds_at (places.Between left) r → Named k w → between r left k ws ≡ Some t → Goes (written_at (places.Between left) r) (w ∷ ws) t
 between_case k r t left w ws p h n e = elim (chosen (nat_eq left 0) (at_end r k ws) (at_state r left k ws) (Some t) e) [
-  inl (b, f) ↦ subst (λ m. Goes (written_at (places.Between m) r) (w ∷ ws) t) (sym (eqb-true left 0 b)) (end_case k r t w ws p (subst (λ m. Holds_at (places.Between m) r) (eqb-true left 0 b) h) n f)
+  | inl (b, f) ↦ subst (λ m. Goes (written_at (places.Between m) r) (w ∷ ws) t) (sym (eqb-true left 0 b)) (end_case k r t w ws p (subst (λ m. Holds_at (places.Between m) r) (eqb-true left 0 b) h) n f)
   | inr (b, f) ↦ state_case k r t left w ws p h (omega (arith, eqb-false left 0 b)) n f
 ]
 
@@ -320,8 +320,8 @@ cells_case kinds.Cell r t left w ws p few small n e =
       parts = record { tokens = p.tokens; costs = p.costs; starts = p.starts; productions = p.productions; states = p.states; items = p.items; edges = p.edges; cells = all_snoc IsRawCell r.cells c p.cells is.0 };
       holds = (few, small);
       written = grown r left (record { items = r.items; edges = r.edges; cells = cells.Cells (r.cells ++ c ∷ []) }) (w ∷ ws)
-        (ap (λ l. count_line (codes "state") i ∷ map item_line r.items ++ (map edge_line r.edges ++ l)) (map_snoc cell_line r.cells c ∙ ap (λ x. map cell_line r.cells ++ x ∷ []) (sym line))
-        ∙ snoc3 (count_line (codes "state") i ∷ map item_line r.items) (map edge_line r.edges) (map cell_line r.cells) ((w ∷ ws) ∷ []));
+          (ap (λ l. count_line (codes "state") i ∷ map item_line r.items ++ (map edge_line r.edges ++ l)) (map_snoc cell_line r.cells c ∙ ap (λ x. map cell_line r.cells ++ x ∷ []) (sym line))
+          ∙ snoc3 (count_line (codes "state") i ∷ map item_line r.items) (map edge_line r.edges) (map cell_line r.cells) ((w ∷ ws) ∷ []));
     })
 cells_case k r t left w ws p few small n e = ends_case k r t left w ws p few small n e
 
@@ -336,10 +336,10 @@ edges_case kinds.Edge r t left w ws p few small none n e =
       parts = record { tokens = p.tokens; costs = p.costs; starts = p.starts; productions = p.productions; states = p.states; items = p.items; edges = all_snoc IsRawEdge r.edges c p.edges is.0; cells = p.cells };
       holds = (few, small, none);
       written = grown r left (record { items = r.items; edges = r.edges ++ c ∷ []; cells = cells.Cells r.cells }) (w ∷ ws)
-        (ap (λ cs. front ++ (map edge_line (r.edges ++ c ∷ []) ++ map cell_line cs)) none
-        ∙ ap (λ l. front ++ l) (append-nil (map edge_line (r.edges ++ c ∷ [])) ∙ map_snoc edge_line r.edges c ∙ ap (λ x. map edge_line r.edges ++ x ∷ []) (sym line))
-        ∙ snoc2 front (map edge_line r.edges) ((w ∷ ws) ∷ [])
-        ∙ ap (λ l. (front ++ l) ++ (w ∷ ws) ∷ []) (sym (ap (λ cs. map edge_line r.edges ++ map cell_line cs) none ∙ append-nil (map edge_line r.edges))));
+          (ap (λ cs. front ++ (map edge_line (r.edges ++ c ∷ []) ++ map cell_line cs)) none
+          ∙ ap (λ l. front ++ l) (append-nil (map edge_line (r.edges ++ c ∷ [])) ∙ map_snoc edge_line r.edges c ∙ ap (λ x. map edge_line r.edges ++ x ∷ []) (sym line))
+          ∙ snoc2 front (map edge_line r.edges) ((w ∷ ws) ∷ [])
+          ∙ ap (λ l. (front ++ l) ++ (w ∷ ws) ∷ []) (sym (ap (λ cs. map edge_line r.edges ++ map cell_line cs) none ∙ append-nil (map edge_line r.edges))));
     })
 edges_case kinds.Default r t left w ws p few small none n e =
     let (c, f, g) = bind_some (fallback_of ws) (λ c. Some (ended_by r (cells.Fallback c) (places.Between left))) t e in
@@ -350,9 +350,9 @@ edges_case kinds.Default r t left w ws p few small none n e =
       parts = closed_parts r (cells.Fallback c) (places.Between left) p is.0;
       holds = closed_holds r (cells.Fallback c) left few small;
       written = closing r left (cells.Fallback c) ((w ∷ ws) ∷ [])
-        (ap (λ x. front ++ (map edge_line r.edges ++ x ∷ [])) (sym line)
-        ∙ snoc2 front (map edge_line r.edges) ((w ∷ ws) ∷ [])
-        ∙ ap (λ l. (front ++ l) ++ (w ∷ ws) ∷ []) (sym (ap (λ cs. map edge_line r.edges ++ map cell_line cs) none ∙ append-nil (map edge_line r.edges))));
+          (ap (λ x. front ++ (map edge_line r.edges ++ x ∷ [])) (sym line)
+          ∙ snoc2 front (map edge_line r.edges) ((w ∷ ws) ∷ [])
+          ∙ ap (λ l. (front ++ l) ++ (w ∷ ws) ∷ []) (sym (ap (λ cs. map edge_line r.edges ++ map cell_line cs) none ∙ append-nil (map edge_line r.edges))));
     })
 edges_case k r t left w ws p few small none n e = cells_case k r t left w ws p few small n e
 
@@ -367,9 +367,9 @@ items_case kinds.Item r t left w ws p few small bare none n e =
       parts = record { tokens = p.tokens; costs = p.costs; starts = p.starts; productions = p.productions; states = p.states; items = all_snoc IsRawItem r.items c p.items is.0; edges = p.edges; cells = p.cells };
       holds = (few, small, bare, none);
       written = grown r left (record { items = r.items ++ c ∷ []; edges = r.edges; cells = cells.Cells r.cells }) (w ∷ ws)
-        (ap (λ l. head ∷ map item_line (r.items ++ c ∷ []) ++ l) nothing
-        ∙ ap (λ l. head ∷ l) (append-nil (map item_line (r.items ++ c ∷ [])) ∙ map_snoc item_line r.items c ∙ ap (λ x. map item_line r.items ++ x ∷ []) (sym line) ∙ ap (λ l. l ++ (w ∷ ws) ∷ []) (sym (append-nil (map item_line r.items))))
-        ∙ ap (λ l. (head ∷ map item_line r.items ++ l) ++ (w ∷ ws) ∷ []) (sym nothing));
+          (ap (λ l. head ∷ map item_line (r.items ++ c ∷ []) ++ l) nothing
+          ∙ ap (λ l. head ∷ l) (append-nil (map item_line (r.items ++ c ∷ [])) ∙ map_snoc item_line r.items c ∙ ap (λ x. map item_line r.items ++ x ∷ []) (sym line) ∙ ap (λ l. l ++ (w ∷ ws) ∷ []) (sym (append-nil (map item_line r.items))))
+          ∙ ap (λ l. (head ∷ map item_line r.items ++ l) ++ (w ∷ ws) ∷ []) (sym nothing));
     })
 items_case k r t left w ws p few small bare none n e = edges_case k r t left w ws p few small none n e
 

@@ -80,11 +80,11 @@ small_sound w n e = elim (chosen (nat_lt (value_from 0 w) (2 ^ 32)) (Some (value
 pub number_sound : (word : List ℕ) (n : ℕ) → number_of word ≡ Some n → IsNumber n × (word ≡ decimal n)
 unfolding number_of
 number_sound word n e = elim (chosen (list_all is_digit word && not (has_zero_first word)) (small_value word) None (Some n) e) [
-  inl (b, f) ↦
-    let tests = both (list_all is_digit word) (not (has_zero_first word)) b in
-    let first = zero_alone word (not_true (has_zero_first word) tests.1) in
-    let small = small_sound word n f in
-    (subst (λ k. k < 2 ^ 32) small.1 small.0, (sym (decimal-digits_value own word tests.0 first.0 first.1 (omega (arith, small.0))) ∙ ap decimal small.1))
+  | inl (b, f) ↦
+      let tests = both (list_all is_digit word) (not (has_zero_first word)) b in
+      let first = zero_alone word (not_true (has_zero_first word) tests.1) in
+      let small = small_sound word n f in
+      (subst (λ k. k < 2 ^ 32) small.1 small.0, (sym (decimal-digits_value own word tests.0 first.0 first.1 (omega (arith, small.0))) ∙ ap decimal small.1))
   | inr (b, f) ↦ absurd (none_some _ f)
 ]
 
@@ -155,9 +155,9 @@ mode_again Canonical = refl
 pub mode_sound : (w : List ℕ) (m : Mode) → mode_of w ≡ Some m → w ≡ mode_name m
 unfolding mode_of
 mode_sound w m e = elim (chosen (same_word w (codes "merged")) (Some Merged) (cond (same_word w (codes "canonical")) (Some Canonical) None) (Some m) e) [
-  inl (b, f) ↦ word_is w (codes "merged") b ∙ ap mode_name (same_some Merged m f)
+  | inl (b, f) ↦ word_is w (codes "merged") b ∙ ap mode_name (same_some Merged m f)
   | inr (b, f) ↦ elim (chosen (same_word w (codes "canonical")) (Some Canonical) None (Some m) f) [
-    inl (c, h) ↦ word_is w (codes "canonical") c ∙ ap mode_name (same_some Canonical m h)
+    | inl (c, h) ↦ word_is w (codes "canonical") c ∙ ap mode_name (same_some Canonical m h)
     | inr (c, h) ↦ absurd (none_some _ h)
   ]
 ]
@@ -220,12 +220,12 @@ unfolding production_of
 production_sound [] p e = absurd (none_some _ e)
 production_sound (l ∷ []) p e = absurd (none_some _ e)
 production_sound (l ∷ a ∷ ws) p e = elim (chosen (is_name l && same_word a (codes "->")) (names_of ws >>= λ names. Some (record { lhs = l; rhs = names })) None (Some p) e) [
-  inl (b, f) ↦
-    let tests = both (is_name l) (same_word a (codes "->")) b in
-    let (names, g, h) = bind_some (names_of ws) (λ names. Some (record { lhs = l; rhs = names })) p f in
-    let rest = names_sound ws names g in
-    subst (λ q. IsRawProduction q × (l ∷ a ∷ ws ≡ production_line q)) (same_some (record { lhs = l; rhs = names }) p h)
-    ((name_sound l tests.0, rest.0), (ap (λ v. l ∷ v ∷ ws) (word_is a (codes "->") tests.1) ∙ ap (λ vs. l ∷ codes "->" ∷ vs) rest.1))
+  | inl (b, f) ↦
+      let tests = both (is_name l) (same_word a (codes "->")) b in
+      let (names, g, h) = bind_some (names_of ws) (λ names. Some (record { lhs = l; rhs = names })) p f in
+      let rest = names_sound ws names g in
+      subst (λ q. IsRawProduction q × (l ∷ a ∷ ws ≡ production_line q)) (same_some (record { lhs = l; rhs = names }) p h)
+      ((name_sound l tests.0, rest.0), (ap (λ v. l ∷ v ∷ ws) (word_is a (codes "->") tests.1) ∙ ap (λ vs. l ∷ codes "->" ∷ vs) rest.1))
   | inr (b, f) ↦ absurd (none_some _ f)
 ]
 
@@ -261,10 +261,10 @@ unfolding edge_of
 edge_sound [] i e = absurd (none_some _ e)
 edge_sound (x ∷ []) i e = absurd (none_some _ e)
 edge_sound (x ∷ t ∷ []) i e = elim (chosen (is_name x) (number_of t >>= λ target. Some (record { symbol = x; target = target })) None (Some i) e) [
-  inl (b, f) ↦
-    let (n, g, h) = bind_some (number_of t) (λ target. Some (record { symbol = x; target = target })) i f in
-    let one = number_sound t n g in
-    subst (λ j. IsRawEdge j × (codes "edge" ∷ x ∷ t ∷ [] ≡ edge_line j)) (same_some (record { symbol = x; target = n }) i h) ((name_sound x b, one.0), ap (λ v. codes "edge" ∷ x ∷ v ∷ []) one.1)
+  | inl (b, f) ↦
+      let (n, g, h) = bind_some (number_of t) (λ target. Some (record { symbol = x; target = target })) i f in
+      let one = number_sound t n g in
+      subst (λ j. IsRawEdge j × (codes "edge" ∷ x ∷ t ∷ [] ≡ edge_line j)) (same_some (record { symbol = x; target = n }) i h) ((name_sound x b, one.0), ap (λ v. codes "edge" ∷ x ∷ v ∷ []) one.1)
   | inr (b, f) ↦ absurd (none_some _ f)
 ]
 edge_sound (x ∷ t ∷ w ∷ ws) i e = absurd (none_some _ e)
@@ -289,15 +289,15 @@ cell_again z actions.Refuse s h = absurd h
 action_sound : (verb n : List ℕ) (a : Action) → action_of verb n ≡ Some a → IsRawAction a × (verb ∷ n ∷ [] ≡ action_words a)
 unfolding action_of
 action_sound verb n a e = elim (chosen (same_word verb (codes "shift")) (number_of n >>= λ j. Some (actions.Shift j)) (cond (same_word verb (codes "reduce")) (number_of n >>= λ p. Some (actions.Reduce p)) None) (Some a) e) [
-  inl (b, f) ↦
-    let (j, g, h) = bind_some (number_of n) (λ j. Some (actions.Shift j)) a f in
-    let one = number_sound n j g in
-    subst (λ x. IsRawAction x × (verb ∷ n ∷ [] ≡ action_words x)) (same_some (actions.Shift j) a h) (one.0, (ap (λ v. v ∷ n ∷ []) (word_is verb (codes "shift") b) ∙ ap (λ v. codes "shift" ∷ v ∷ []) one.1))
-  | inr (b, f) ↦ elim (chosen (same_word verb (codes "reduce")) (number_of n >>= λ p. Some (actions.Reduce p)) None (Some a) f) [
-    inl (c, k) ↦
-      let (j, g, h) = bind_some (number_of n) (λ j. Some (actions.Reduce j)) a k in
+  | inl (b, f) ↦
+      let (j, g, h) = bind_some (number_of n) (λ j. Some (actions.Shift j)) a f in
       let one = number_sound n j g in
-      subst (λ x. IsRawAction x × (verb ∷ n ∷ [] ≡ action_words x)) (same_some (actions.Reduce j) a h) (one.0, (ap (λ v. v ∷ n ∷ []) (word_is verb (codes "reduce") c) ∙ ap (λ v. codes "reduce" ∷ v ∷ []) one.1))
+      subst (λ x. IsRawAction x × (verb ∷ n ∷ [] ≡ action_words x)) (same_some (actions.Shift j) a h) (one.0, (ap (λ v. v ∷ n ∷ []) (word_is verb (codes "shift") b) ∙ ap (λ v. codes "shift" ∷ v ∷ []) one.1))
+  | inr (b, f) ↦ elim (chosen (same_word verb (codes "reduce")) (number_of n >>= λ p. Some (actions.Reduce p)) None (Some a) f) [
+    | inl (c, k) ↦
+        let (j, g, h) = bind_some (number_of n) (λ j. Some (actions.Reduce j)) a k in
+        let one = number_sound n j g in
+        subst (λ x. IsRawAction x × (verb ∷ n ∷ [] ≡ action_words x)) (same_some (actions.Reduce j) a h) (one.0, (ap (λ v. v ∷ n ∷ []) (word_is verb (codes "reduce") c) ∙ ap (λ v. codes "reduce" ∷ v ∷ []) one.1))
     | inr (c, k) ↦ absurd (none_some _ k)
   ]
 ]
@@ -308,10 +308,10 @@ cell_sound [] i e = absurd (none_some _ e)
 cell_sound (z ∷ []) i e = absurd (none_some _ e)
 cell_sound (z ∷ verb ∷ []) i e = absurd (none_some _ e)
 cell_sound (z ∷ verb ∷ n ∷ []) i e = elim (chosen (is_name z) (action_of verb n >>= λ a. Some (record { token = z; action = a })) None (Some i) e) [
-  inl (b, f) ↦
-    let (a, g, h) = bind_some (action_of verb n) (λ a. Some (record { token = z; action = a })) i f in
-    let one = action_sound verb n a g in
-    subst (λ j. IsRawCell j × (codes "cell" ∷ z ∷ verb ∷ n ∷ [] ≡ cell_line j)) (same_some (record { token = z; action = a }) i h) ((name_sound z b, one.0), ap (λ vs. codes "cell" ∷ z ∷ vs) one.1)
+  | inl (b, f) ↦
+      let (a, g, h) = bind_some (action_of verb n) (λ a. Some (record { token = z; action = a })) i f in
+      let one = action_sound verb n a g in
+      subst (λ j. IsRawCell j × (codes "cell" ∷ z ∷ verb ∷ n ∷ [] ≡ cell_line j)) (same_some (record { token = z; action = a }) i h) ((name_sound z b, one.0), ap (λ vs. codes "cell" ∷ z ∷ vs) one.1)
   | inr (b, f) ↦ absurd (none_some _ f)
 ]
 cell_sound (z ∷ verb ∷ n ∷ w ∷ ws) i e = absurd (none_some _ e)
@@ -328,14 +328,14 @@ pub fallback_sound : (ws : Line) (f : Fallback) → fallback_of ws ≡ Some f �
 unfolding fallback_of
 fallback_sound [] i e = absurd (none_some _ e)
 fallback_sound (verb ∷ []) i e = elim (chosen (same_word verb (codes "accept")) (Some fallbacks.Accept) None (Some i) e) [
-  inl (b, f) ↦ subst (λ j. IsRawFallback j × (codes "default" ∷ verb ∷ [] ≡ fallback_line j)) (same_some fallbacks.Accept i f) (tt, ap (λ v. codes "default" ∷ v ∷ []) (word_is verb (codes "accept") b))
+  | inl (b, f) ↦ subst (λ j. IsRawFallback j × (codes "default" ∷ verb ∷ [] ≡ fallback_line j)) (same_some fallbacks.Accept i f) (tt, ap (λ v. codes "default" ∷ v ∷ []) (word_is verb (codes "accept") b))
   | inr (b, f) ↦ absurd (none_some _ f)
 ]
 fallback_sound (verb ∷ n ∷ []) i e = elim (chosen (same_word verb (codes "reduce")) (number_of n >>= λ p. Some (fallbacks.Reduce p)) None (Some i) e) [
-  inl (b, f) ↦
-    let (j, g, h) = bind_some (number_of n) (λ j. Some (fallbacks.Reduce j)) i f in
-    let one = number_sound n j g in
-    subst (λ x. IsRawFallback x × (codes "default" ∷ verb ∷ n ∷ [] ≡ fallback_line x)) (same_some (fallbacks.Reduce j) i h) (one.0, (ap (λ v. codes "default" ∷ v ∷ n ∷ []) (word_is verb (codes "reduce") b) ∙ ap (λ v. codes "default" ∷ codes "reduce" ∷ v ∷ []) one.1))
+  | inl (b, f) ↦
+      let (j, g, h) = bind_some (number_of n) (λ j. Some (fallbacks.Reduce j)) i f in
+      let one = number_sound n j g in
+      subst (λ x. IsRawFallback x × (codes "default" ∷ verb ∷ n ∷ [] ≡ fallback_line x)) (same_some (fallbacks.Reduce j) i h) (one.0, (ap (λ v. codes "default" ∷ v ∷ n ∷ []) (word_is verb (codes "reduce") b) ∙ ap (λ v. codes "default" ∷ codes "reduce" ∷ v ∷ []) one.1))
   | inr (b, f) ↦ absurd (none_some _ f)
 ]
 fallback_sound (verb ∷ n ∷ w ∷ ws) i e = absurd (none_some _ e)

@@ -45,8 +45,8 @@ abbrev pub version_of : Option (List ℕ) → ℕ
 version_of None = 1
 version_of (Some costs) = 2
 
-abbrev pub head_line : Option (List ℕ) → Mode → Line
-head_line costs mode = codes "menhir-tables" ∷ decimal (version_of costs) ∷ mode_name mode ∷ []
+abbrev pub head_line : ℕ → Mode → Line
+head_line version mode = codes "menhir-tables" ∷ decimal version ∷ mode_name mode ∷ []
 
 abbrev pub costs_lines : Option (List ℕ) → List Line
 costs_lines None = []
@@ -141,7 +141,7 @@ end_line = codes "end" ∷ []
 
 -- the lines up to the costs, those of the productions, and those of the states
 abbrev pub head_lines : RawTable → List Line
-head_lines raw = head_line raw.costs raw.mode ∷ (codes "tokens" ∷ raw.tokens) ∷ costs_lines raw.costs
+head_lines raw = head_line (version_of raw.costs) raw.mode ∷ (codes "tokens" ∷ raw.tokens) ∷ costs_lines raw.costs
 
 abbrev pub grammar_lines : RawTable → List Line
 grammar_lines raw = (codes "starts" ∷ raw.starts) ∷ count_line (codes "productions") (length raw.productions) ∷ map production_line raw.productions

@@ -1,12 +1,11 @@
 -- What reading a table file answers: the table that it spells, that it is of another version, or its first line that is not of the form.
-use Rattle.std.specs.Prelude.{◌≡◌, ◌≢◌, ◌⊎◌, ◌+◌, ℕ, max, List, [], ◌∷◌, ◌++◌, length, codes, decimal, Result, Ok, Err}
+use Rattle.std.specs.Prelude.{◌≡◌, ◌≢◌, ◌⊎◌, ◌+◌, ℕ, max, List, [], ◌∷◌, ◌++◌, length, Result, Ok, Err}
 use Rattle.std.specs.List.{AllByRecursion, join_with_byte}
 use Rattle.mh_resolve.specs.declared.kinds.Mode.{Mode}
-use Rattle.mh_report.specs.Automata.{mode_name}
 use Rattle.mh_tabfile.specs.declared.types.RawTable.{RawTable}
 use Rattle.mh_tabfile.specs.declared.reading.TabFault.{TabFault}
 use Rattle.mh_tabfile.specs.declared.reading.TabFault.TheVariants as faults
-use Rattle.mh_tabfile.specs.Form.{Line, line_text, text, IsLine, IsNumber, Spells, Begins, IsFileOf}
+use Rattle.mh_tabfile.specs.Form.{Line, head_line, line_text, text, IsLine, IsNumber, Spells, Begins, IsFileOf}
 
 -- the first line is that of another version
 pub record IsOtherVersion (bytes : List ℕ) : Type 0 where
@@ -17,7 +16,7 @@ pub record IsOtherVersion (bytes : List ℕ) : Type 0 where
   pub not_two : version ≢ 2
   pub rest : List ℕ
   pub ends : (rest ≡ []) ⊎ ((more : List ℕ) × (rest ≡ 10 ∷ more))
-  pub first : bytes ≡ join_with_byte 32 (codes "menhir-tables" ∷ decimal version ∷ mode_name mode ∷ []) ++ rest
+  pub first : bytes ≡ join_with_byte 32 (head_line version mode) ++ rest
 
 -- The first line that is not of the form that its place demands: no file has it behind the lines before it; or it has no LF at its
 -- end; or the file ends too early.

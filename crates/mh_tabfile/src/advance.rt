@@ -4,8 +4,7 @@ ghost use Rattle.mh_tabfile.specs.code.Words.{Refers};
 ghost use Rattle.mh_tabfile.specs.code.Machine as machine;
 
 use crate::types::{
-    Kind, Place, RawCell, RawCells, RawEdge, RawItem, RawProduction, RawState,
-    Reader,
+    Kind, Place, RawCell, RawCells, RawEdge, RawItem, RawProduction, RawState, Reader,
 };
 use crate::words::{
     cell_of, count_of, edge_of, fallback_of, item_of, kind_of, mode_of, names_of, number,
@@ -241,12 +240,7 @@ fn between(
 }
 
 /// The open state ends here.
-fn ended_by(
-    alloc: Global,
-    reader: Reader,
-    cells: RawCells,
-    place: Place,
-) -> Result<Reader, Refusal>
+fn ended_by(alloc: Global, reader: Reader, cells: RawCells, place: Place) -> Result<Reader, Refusal>
     ensures { Refers (Some (machine.ended_by reader cells place)) result }
 {
     let mut states = reader.states;

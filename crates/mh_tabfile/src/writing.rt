@@ -4,22 +4,22 @@ ghost use Rattle.std.specs.Prelude.{◌≡◌, ◌∷◌, ◌++◌, ◌<◌, ◌
 ghost use Rattle.std.specs.List.{All};
 ghost use Rattle.mh_grammar.specs.Plain.{plain_of, IsInRange};
 ghost use Rattle.mh_grammar.specs.Costs.{costs_of};
-ghost use Rattle.mh_grammar.specs.Names.{nonterminal_name as name_of_nonterminal};
+ghost use Rattle.mh_grammar.specs.Names.{nonterminal_name as name_of_nonterminal, symbol_name as name_of_symbol};
 ghost use Rattle.mh_items.specs.Automaton.{IsAutomaton, kernel_at, edges_at};
 ghost use Rattle.mh_tables.specs.Table.{state_at};
 ghost use Rattle.mh_resolve.specs.States.{IsTableOf};
 ghost use Rattle.mh_report.specs.Automata.{mode_name as name_of_mode};
 ghost use Rattle.mh_report.specs.Items.{look_name as name_of_look};
-ghost use Rattle.mh_tabfile.specs.Form.{line_text, text as text_of, head_line, costs_lines, count_line, production_line, item_line, edge_line, cell_line, fallback_line, cells_lines, state_lines, states_lines, table_text};
+ghost use Rattle.mh_tabfile.specs.Form.{count_line, production_line, item_line, edge_line, cell_line, fallback_line, cells_lines, state_lines, states_lines, table_text};
 ghost use Rattle.mh_tabfile.specs.Written.{raw_production, raw_item, raw_edge, raw_cell, raw_row, raw_cells, raw_state_of, raw_states, raw_of};
-ghost use Rattle.mh_tabfile.specs.code.Texts.{words_after};
+ghost use Rattle.mh_tabfile.specs.code.Texts.{words_after, line_written, lines_written};
 
 use mh_grammar::{
-    Edge, Grammar, Look, Memory, Production, Token, TokenInfo, nonterminal_name, symbol_name,
-    token_name,
+    Edge, Grammar, Look, Memory, Production, Symbol, Token, TokenInfo, nonterminal_name,
+    symbol_name, token_name,
 };
 use mh_items::{Automaton, KernelItem};
-use mh_report::{write_names, write_number};
+use mh_report::write_number;
 use mh_resolve::Mode;
 use mh_sets::TokenSet;
 use mh_tables::{Action, Fallback, Table};
@@ -43,13 +43,8 @@ fn write_numeral(alloc: Global, text: &mut Vec<u8>, number: u32) -> Result<(), M
 }
 
 // A line of a word and a number.
-fn write_count(
-    alloc: Global,
-    text: &mut Vec<u8>,
-    key: &[u8],
-    count: u32,
-) -> Result<(), Memory>
-    ensures { OnOk result (text.new.items ≡ text.old.items ++ line_text (count_line key.now count)) }
+fn write_count(alloc: Global, text: &mut Vec<u8>, key: &[u8], count: u32) -> Result<(), Memory>
+    ensures { OnOk result (text.new.items ≡ text.old.items ++ line_written (count_line key.now count)) }
 {
     text.extend_from_slice(key)?;
     write_numeral(alloc, text, count)?;
@@ -66,6 +61,17 @@ fn mode_name(mode: Mode) -> &'static [u8]
     }
 }
 
+fn write_version(alloc: Global, text: &mut Vec<u8>, version: u32, mode: &[u8]) -> Result<(), Memory>
+    ensures { OnOk result (text.new.items ≡ text.old.items
+        ++ line_written (codes "menhir-tables" ∷ decimal version ∷ mode.now ∷ [])) }
+{
+    text.extend_from_slice(b"menhir-tables")?;
+    write_numeral(alloc, text, version)?;
+    write_word(text, mode)?;
+    text.push(b'\n')?;
+    Ok(())
+}
+
 fn write_token_names(text: &mut Vec<u8>, tokens: &[TokenInfo]) -> Result<(), Memory>
     ensures { OnOk result (text.new.items ≡ text.old.items
         ++ words_after (map (λ t. t.name) tokens.now)) }
@@ -76,11 +82,7 @@ fn write_token_names(text: &mut Vec<u8>, tokens: &[TokenInfo]) -> Result<(), Mem
     Ok(())
 }
 
-fn write_token_costs(
-    alloc: Global,
-    text: &mut Vec<u8>,
-    tokens: &[TokenInfo],
-) -> Result<(), Memory>
+fn write_token_costs(alloc: Global, text: &mut Vec<u8>, tokens: &[TokenInfo]) -> Result<(), Memory>
     ensures { OnOk result (text.new.items ≡ text.old.items
         ++ words_after (map decimal (costs_of tokens.now))) }
 {
@@ -90,16 +92,26 @@ fn write_token_costs(
     Ok(())
 }
 
-fn write_start_names(
-    text: &mut Vec<u8>,
-    grammar: &Grammar,
-    starts: &[u16],
-) -> Result<(), Memory>
+fn write_start_names(text: &mut Vec<u8>, grammar: &Grammar, starts: &[u16]) -> Result<(), Memory>
     ensures { OnOk result (text.new.items ≡ text.old.items
         ++ words_after (map (name_of_nonterminal grammar.now) starts.now)) }
 {
     for start in starts {
         write_word(text, nonterminal_name(grammar, *start))?;
+    }
+    Ok(())
+}
+
+fn write_symbol_names(
+    text: &mut Vec<u8>,
+    grammar: &Grammar,
+    symbols: &[Symbol],
+) -> Result<(), Memory>
+    ensures { OnOk result (text.new.items ≡ text.old.items
+        ++ words_after (map (name_of_symbol grammar.now) symbols.now)) }
+{
+    for symbol in symbols {
+        write_word(text, symbol_name(grammar, *symbol))?;
     }
     Ok(())
 }
@@ -130,7 +142,7 @@ fn write_looks<const W: usize>(
 
 fn write_tokens(text: &mut Vec<u8>, tokens: &[TokenInfo]) -> Result<(), Memory>
     ensures { OnOk result (text.new.items ≡ text.old.items
-        ++ line_text (codes "tokens" ∷ map (λ t. t.name) tokens.now)) }
+        ++ line_written (codes "tokens" ∷ map (λ t. t.name) tokens.now)) }
 {
     text.extend_from_slice(b"tokens")?;
     write_token_names(text, tokens)?;
@@ -140,7 +152,7 @@ fn write_tokens(text: &mut Vec<u8>, tokens: &[TokenInfo]) -> Result<(), Memory>
 
 fn write_costs(alloc: Global, text: &mut Vec<u8>, tokens: &[TokenInfo]) -> Result<(), Memory>
     ensures { OnOk result (text.new.items ≡ text.old.items
-        ++ line_text (codes "costs" ∷ map decimal (costs_of tokens.now))) }
+        ++ line_written (codes "costs" ∷ map decimal (costs_of tokens.now))) }
 {
     text.extend_from_slice(b"costs")?;
     write_token_costs(alloc, text, tokens)?;
@@ -148,28 +160,9 @@ fn write_costs(alloc: Global, text: &mut Vec<u8>, tokens: &[TokenInfo]) -> Resul
     Ok(())
 }
 
-// The lines up to the costs.
-fn write_head(
-    alloc: Global,
-    text: &mut Vec<u8>,
-    tokens: &[TokenInfo],
-    mode: Mode,
-) -> Result<(), Memory>
-    ensures { OnOk result (text.new.items ≡ text.old.items
-        ++ text_of (head_line (Some (costs_of tokens.now)) mode
-            ∷ (codes "tokens" ∷ map (λ t. t.name) tokens.now)
-            ∷ costs_lines (Some (costs_of tokens.now)))) }
-{
-    text.extend_from_slice(b"menhir-tables 2")?;
-    write_word(text, mode_name(mode))?;
-    text.push(b'\n')?;
-    write_tokens(text, tokens)?;
-    write_costs(alloc, text, tokens)
-}
-
 fn write_starts(text: &mut Vec<u8>, grammar: &Grammar) -> Result<(), Memory>
     ensures { OnOk result (text.new.items ≡ text.old.items
-        ++ line_text (codes "starts" ∷ map (name_of_nonterminal grammar.now) grammar.now.starts)) }
+        ++ line_written (codes "starts" ∷ map (name_of_nonterminal grammar.now) grammar.now.starts)) }
 {
     text.extend_from_slice(b"starts")?;
     write_start_names(text, grammar, grammar.starts.as_slice())?;
@@ -183,11 +176,11 @@ fn write_production(
     production: &Production,
 ) -> Result<(), Memory>
     ensures { OnOk result (text.new.items ≡ text.old.items
-        ++ line_text (production_line (raw_production grammar.now production.now))) }
+        ++ line_written (production_line (raw_production grammar.now production.now))) }
 {
     text.extend_from_slice(nonterminal_name(grammar, production.lhs))?;
     text.extend_from_slice(b" ->")?;
-    write_names(text, grammar, production.rhs.as_slice())?;
+    write_symbol_names(text, grammar, production.rhs.as_slice())?;
     text.push(b'\n')?;
     Ok(())
 }
@@ -198,7 +191,7 @@ fn write_productions(
     productions: &[Production],
 ) -> Result<(), Memory>
     ensures { OnOk result (text.new.items ≡ text.old.items
-        ++ text_of (map production_line (map (raw_production grammar.now) productions.now))) }
+        ++ lines_written (map production_line (map (raw_production grammar.now) productions.now))) }
 {
     for production in productions {
         write_production(text, grammar, production)?;
@@ -214,7 +207,7 @@ fn write_item<const W: usize>(
 ) -> Result<(), Memory>
     requires few { W ≤ 8 }
     ensures { OnOk result (text.new.items ≡ text.old.items
-        ++ line_text (item_line (raw_item grammar.now item.now))) }
+        ++ line_written (item_line (raw_item grammar.now item.now))) }
 {
     text.extend_from_slice(b"item")?;
     write_numeral(alloc, text, item.production)?;
@@ -232,7 +225,7 @@ fn write_items<const W: usize>(
 ) -> Result<(), Memory>
     requires few { W ≤ 8 }
     ensures { OnOk result (text.new.items ≡ text.old.items
-        ++ text_of (map item_line (map (raw_item grammar.now) items.now))) }
+        ++ lines_written (map item_line (map (raw_item grammar.now) items.now))) }
 {
     for item in items {
         write_item(alloc, text, grammar, item)?;
@@ -247,7 +240,7 @@ fn write_edge(
     edge: &Edge,
 ) -> Result<(), Memory>
     ensures { OnOk result (text.new.items ≡ text.old.items
-        ++ line_text (edge_line (raw_edge grammar.now edge.now))) }
+        ++ line_written (edge_line (raw_edge grammar.now edge.now))) }
 {
     text.extend_from_slice(b"edge")?;
     write_word(text, symbol_name(grammar, edge.symbol))?;
@@ -263,7 +256,7 @@ fn write_edges(
     edges: &[Edge],
 ) -> Result<(), Memory>
     ensures { OnOk result (text.new.items ≡ text.old.items
-        ++ text_of (map edge_line (map (raw_edge grammar.now) edges.now))) }
+        ++ lines_written (map edge_line (map (raw_edge grammar.now) edges.now))) }
 {
     for edge in edges {
         write_edge(alloc, text, grammar, edge)?;
@@ -280,7 +273,7 @@ fn write_acting(
     number: u32,
 ) -> Result<(), Memory>
     ensures { OnOk result (text.new.items ≡ text.old.items
-        ++ line_text (codes "cell" ∷ name.now ∷ verb.now ∷ decimal number ∷ [])) }
+        ++ line_written (codes "cell" ∷ name.now ∷ verb.now ∷ decimal number ∷ [])) }
 {
     text.extend_from_slice(b"cell")?;
     write_word(text, name)?;
@@ -298,7 +291,7 @@ fn write_cell(
     action: Action,
 ) -> Result<(), Memory>
     ensures { OnOk result (text.new.items ≡ text.old.items
-        ++ text_of (map cell_line (raw_cell grammar.now token action))) }
+        ++ lines_written (map cell_line (raw_cell grammar.now token action))) }
 {
     let name = token_name(grammar, token);
     match action {
@@ -317,8 +310,9 @@ fn write_cells(
 ) -> Result<(), Memory>
     requires state { state < length table.now.states }
     ensures { OnOk result (text.new.items ≡ text.old.items
-        ++ text_of (map cell_line (raw_row grammar.now 0 (state_at table.now state).cells))) }
+        ++ lines_written (map cell_line (raw_row grammar.now 0 (state_at table.now state).cells))) }
 {
+    table.facts();
     for token in 0..table.tokens() {
         write_cell(alloc, text, grammar, token, table.action(state, token))?;
     }
@@ -326,7 +320,7 @@ fn write_cells(
 }
 
 fn write_fallback(alloc: Global, text: &mut Vec<u8>, fallback: Fallback) -> Result<(), Memory>
-    ensures { OnOk result (text.new.items ≡ text.old.items ++ line_text (fallback_line fallback)) }
+    ensures { OnOk result (text.new.items ≡ text.old.items ++ line_written (fallback_line fallback)) }
 {
     match fallback {
         Fallback::Accept => {
@@ -348,7 +342,7 @@ fn write_actions(
 ) -> Result<(), Memory>
     requires state { state < length table.now.states }
     ensures { OnOk result (text.new.items ≡ text.old.items
-        ++ text_of (cells_lines (raw_cells grammar.now (state_at table.now state)))) }
+        ++ lines_written (cells_lines (raw_cells grammar.now (state_at table.now state)))) }
 {
     match table.fallback(state) {
         Some(fallback) => write_fallback(alloc, text, fallback),
@@ -369,15 +363,21 @@ fn write_state<const W: usize>(
     requires edges { state < length automaton.now.edges }
     requires state { state < length table.now.states }
     ensures { OnOk result (text.new.items ≡ text.old.items
-        ++ text_of (state_lines state (raw_state_of grammar.now
-            (kernel_at automaton.now state) (edges_at automaton.now state)
-            (state_at table.now state)))) }
+        ++ lines_written (state_lines state (raw_state_of grammar.now
+        (kernel_at automaton.now state) (edges_at automaton.now state)
+        (state_at table.now state)))) }
 {
     let place = state as usize;
     write_count(alloc, text, b"state", state)?;
-    write_items(alloc, text, grammar, automaton.kernels[place].items.as_slice())?;
+    write_items(
+        alloc,
+        text,
+        grammar,
+        automaton.kernels[place].items.as_slice(),
+    )?;
     write_edges(alloc, text, grammar, automaton.edges[place].as_slice())?;
-    write_actions(alloc, text, grammar, table, state)
+    write_actions(alloc, text, grammar, table, state)?;
+    Ok(())
 }
 
 fn write_states<const W: usize>(
@@ -391,8 +391,8 @@ fn write_states<const W: usize>(
     requires edges { length automaton.now.edges ≡ length automaton.now.kernels }
     requires states { length table.now.states ≡ length automaton.now.kernels }
     ensures { OnOk result (text.new.items ≡ text.old.items
-        ++ text_of (states_lines 0
-            (raw_states grammar.now automaton.now.kernels automaton.now.edges table.now.states))) }
+        ++ lines_written (states_lines 0
+        (raw_states grammar.now automaton.now.kernels automaton.now.edges table.now.states))) }
 {
     for state in 0..table.states() {
         write_state(alloc, text, grammar, automaton, table, state)?;
@@ -418,7 +418,10 @@ pub fn write_tables<const W: usize>(
 {
     let productions = grammar.productions.as_slice();
     let mut text = Vec::new(alloc);
-    write_head(alloc, &mut text, grammar.tokens.as_slice(), mode)?;
+    let tokens = grammar.tokens.as_slice();
+    write_version(alloc, &mut text, 2, mode_name(mode))?;
+    write_tokens(&mut text, tokens)?;
+    write_costs(alloc, &mut text, tokens)?;
     write_starts(&mut text, grammar)?;
     write_count(alloc, &mut text, b"productions", productions.len() as u32)?;
     write_productions(&mut text, grammar, productions)?;
