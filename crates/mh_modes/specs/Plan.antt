@@ -1,7 +1,7 @@
 -- Modes: which lines each asks for, how it answers them, and what it writes at its end. A mode is plain data.
-use Rattle.std.specs.Prelude.{◌≡◌, [], Option, None, Some}
+use Rattle.std.specs.Prelude.{◌≡◌, ℕ, [], Option, None, Some}
 use Rattle.mh_opts.specs.declared.jobs.Job.{Job}
-use Rattle.mh_opts.specs.declared.jobs.Job.TheVariants.{Interpret, InterpretError, Session, ShowAutomaton, ListErrors, CompileErrors, CompareErrors, EchoErrors, UpdateErrors}
+use Rattle.mh_opts.specs.declared.jobs.Job.TheVariants.{Interpret, InterpretError, Session, ShowAutomaton, ListErrors, CompileErrors, CompareErrors, EchoErrors, UpdateErrors, Sample}
 use Rattle.mh_outside.specs.Shelf.{Files}
 use Rattle.mh_report.specs.Automata.{IsAutomatonText}
 use Rattle.mh_grammar.specs.declared.types.Grammar.{Grammar}
@@ -26,6 +26,7 @@ use Rattle.mh_modes.specs.Compared.{compared}
 use Rattle.mh_modes.specs.Explained.{IsTold}
 use Rattle.mh_modes.specs.Told.{ending_of}
 use Rattle.mh_modes.specs.Listing.{ListsErrors}
+use Rattle.mh_modes.specs.Sampled.{CountsSample}
 use Rattle.mh_modes.specs.Verdicts.{Answering, AnswersOne}
 use Rattle.mh_modes.specs.declared.modes.at_end.Told.{Told}
 use Rattle.mh_modes.specs.declared.modes.at_end.Told.TheVariants.{Said}
@@ -38,12 +39,15 @@ pub data End : Type 0 where
   Automaton : Prepared → End
   -- the list of errors
   Errors : Prepared → End
+  -- the counts of the sample of this number
+  Sampled : ℕ → Prepared → End
 
 -- an end is of this kind
 abbrev pub EndsBy : End → Ending → Type 0
 EndsBy (Known end) e = e ≡ end
 EndsBy (Automaton p) e = (e.cause ≡ None) × IsAutomatonText p.grammar p.tabled.automaton (mode_of (source_of p.order)) p.tabled.halting e.out
 EndsBy (Errors p) e = ListsErrors p.grammar p.tabled.automaton p.tabled.halting e.cause e.out
+EndsBy (Sampled number p) e = CountsSample p.grammar p.tabled.halting number e.cause e.out
 
 -- a mode as it stands, between lines
 pub data Plan : Type 0 where
@@ -108,6 +112,7 @@ IsPlanOfJob InterpretError files p plan = plan ≡ Explains p []
 IsPlanOfJob Session files p plan = plan ≡ Serves p.grammar p.tabled.halting []
 IsPlanOfJob ShowAutomaton files p plan = plan ≡ Ends (Automaton p)
 IsPlanOfJob ListErrors files p plan = plan ≡ Ends (Errors p)
+IsPlanOfJob (Sample number) files p plan = plan ≡ Ends (Sampled number p)
 IsPlanOfJob (CompileErrors file) files p plan = (s : Staged Messages) × IsFile files (AreMessages p.grammar p.tabled.halting) file s × (plan ≡ plan_by (λ messages. tells (Said (compiled_text messages))) s)
 IsPlanOfJob (EchoErrors file) files p plan = (s : Staged MsgFile) × IsFile files (IsMessagesFile p.grammar) file s × (plan ≡ plan_by (λ spelled. tells (Said (echo_text p.grammar spelled))) s)
 IsPlanOfJob (UpdateErrors file) files p plan = (s : Staged Text) × IsUpdatedFile files p file s × (plan ≡ plan_by (λ text. tells (Said text)) s)

@@ -14,6 +14,7 @@ mod echoing;
 mod explaining;
 mod judging;
 mod listing;
+mod sampling;
 mod serving;
 mod showing;
 mod updating;
@@ -29,6 +30,7 @@ use mh_drive::{Stop, drive, drive_opened};
 use mh_opts::Job;
 use mh_outside::{Shelf, Sink, Source};
 use mh_prepare::Prepared;
+use sampling::Sampling;
 use serving::serve_on;
 use showing::Showing;
 use std::alloc::Global;
@@ -63,6 +65,13 @@ pub fn follow<F: Shelf, I: Source, O: Sink, const W: usize>(
         }
         Job::ListErrors => {
             let writer = Listing { prepared };
+            drive(alloc, AtEnd { writer }, input, out)
+        }
+        Job::Sample { number } => {
+            let writer = Sampling {
+                prepared,
+                number: *number,
+            };
             drive(alloc, AtEnd { writer }, input, out)
         }
         Job::CompileErrors { file } => {

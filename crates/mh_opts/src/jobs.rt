@@ -7,7 +7,7 @@ ghost use Rattle.mh_opts.specs.declared.jobs.Mode.TheVariants as mode;
 ghost use Rattle.mh_opts.specs.Orders as orders;
 ghost use Rattle.mh_opts.specs.Orders.{job_for, plain_needs};
 
-use crate::found::{both, file_of};
+use crate::found::{both, file_of, sample_number};
 use clap::{ArgAction, ArgMatches};
 use mh_grammar::{Memory, Name};
 use std::alloc::Global;
@@ -36,6 +36,8 @@ pub(crate) const ECHO_ERRORS: &str = "echo-errors";
 
 pub(crate) const UPDATE_ERRORS: &str = "update-errors";
 
+pub(crate) const SAMPLE: &str = "sample";
+
 pub(crate) const MESSAGES: &str = "messages";
 
 /// What is to be done.
@@ -59,6 +61,8 @@ pub enum Job {
     EchoErrors { file: Name },
     /// `--update-errors FILE`: a messages file with its comment lines made anew.
     UpdateErrors { file: Name },
+    /// `--sample N`: the counts of a generated grammar.
+    Sample { number: u32 },
 }
 
 /// What is to be done, without the values that stand behind its words: a constant holds nothing that owns memory.
@@ -73,6 +77,7 @@ pub enum Mode {
     CompareErrors,
     EchoErrors,
     UpdateErrors,
+    Sample,
 }
 
 /// The job that compares two files.
@@ -106,6 +111,9 @@ pub(crate) fn job_of(alloc: Global, matches: &ArgMatches<'_>, mode: Mode) -> Res
         Mode::UpdateErrors => Ok(Job::UpdateErrors {
             file: file_of(alloc, matches, UPDATE_ERRORS)?,
         }),
+        Mode::Sample => Ok(Job::Sample {
+            number: sample_number(matches),
+        }),
     }
 }
 
@@ -125,7 +133,7 @@ pub struct Need<T> {
     pub needs: T,
 }
 
-const OPTIONS: [Opt<&str>; 15] = [
+const OPTIONS: [Opt<&str>; 16] = [
     Opt {
         name: INTERPRET,
         action: ArgAction::SetTrue,
@@ -175,6 +183,11 @@ const OPTIONS: [Opt<&str>; 15] = [
         name: UPDATE_ERRORS,
         action: ArgAction::Set,
         mode: Some(Mode::UpdateErrors),
+    },
+    Opt {
+        name: SAMPLE,
+        action: ArgAction::Set,
+        mode: Some(Mode::Sample),
     },
     Opt {
         name: MESSAGES,

@@ -12,6 +12,8 @@ mod explained;
 #[cfg(test)]
 mod interpreting;
 #[cfg(test)]
+mod keeping;
+#[cfg(test)]
 mod limits;
 #[cfg(test)]
 mod many_tokens;
@@ -21,6 +23,8 @@ mod messages;
 mod refused;
 #[cfg(test)]
 mod runs;
+#[cfg(test)]
+mod samples;
 #[cfg(test)]
 mod sessions;
 #[cfg(test)]

@@ -58,3 +58,10 @@ returns-in-CompareErrors-clause-ran g c =
     opened_followed (g.F.Shelf.files c.args.shelf.now) c.args.prepared.now _ (CompareErrors c.as_slice-in-CompareErrors.result.now c.as_slice-in-CompareErrors-2.result.now)
     (c.in-CompareErrors.is ∙ ap₂ CompareErrors (sym c.as_slice-in-CompareErrors.ensures) (sym c.as_slice-in-CompareErrors-2.ensures)) _ _ _ _ c.drive_opened-in-CompareErrors.result c.compare_by-opened.result c.compare_by-opened.ensures.opens
     c.drive_opened-in-CompareErrors.ensures.ran
+
+pub returns-in-Sample-clause-ran : goal.returns-in-Sample-clause-ran
+returns-in-Sample-clause-ran g c =
+    job_followed (g.F.Shelf.files c.args.shelf.now) c.args.prepared.now _ _ _ _ _ _ c.drive-in-Sample.result c.in-Sample.is refl (c.drive-in-Sample.ensures.ran _ ((c.requires.few, c.requires.fit), refl))
+
+pub returns-in-Sample-clause-read : goal.returns-in-Sample-clause-read
+returns-in-Sample-clause-read g c = ran_read by_plan _ _ _ _ _ _ c.drive-in-Sample.result (c.drive-in-Sample.ensures.ran _ ((c.requires.few, c.requires.fit), refl))
