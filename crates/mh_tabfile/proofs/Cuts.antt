@@ -4,6 +4,7 @@ use Rattle.std.specs.List.{AllByRecursion, slice_split, onto_first, join_with_by
 use Rattle.std.proofs.lemmas.Grind.{flat_map-append}
 use Rattle.std.proofs.lemmas.List.{length-map}
 use Rattle.std.proofs.lemmas.List.Splits.{join_with_byte-slice_split}
+use Rattle.mh_grammar.proofs.Lists.{recursion-weaker}
 use Rattle.mh_resolve.specs.declared.kinds.Mode.{Mode}
 use Rattle.mh_tabfile.specs.declared.types.RawTable.{RawTable}
 use Rattle.mh_report.specs.Automata.{mode_name}
@@ -55,10 +56,6 @@ split_some p (x ∷ xs) e = some_by (p x) x (slice_split p xs) e
 other_byte : (b k : ℕ) → (b == k) ≡ false → b ≢ k
 other_byte b k e f = true≢false (sym (eq-eqb b k f) ∙ e)
 
-all_by : {X : Type 0} {P Q : X → Type 0} (f : (x : X) → P x → Q x) (xs : List X) → AllByRecursion P xs → AllByRecursion Q xs
-all_by f [] h = tt
-all_by f (x ∷ xs) (h, hs) = (f x h, all_by f xs hs)
-
 all_both : {X : Type 0} (P Q : X → Type 0) (xs : List X) → AllByRecursion P xs → AllByRecursion Q xs → AllByRecursion (λ x. P x × Q x) xs
 all_both P Q [] h k = tt
 all_both P Q (x ∷ xs) (h, hs) (k, ks) = ((h, k), all_both P Q xs hs ks)
@@ -71,11 +68,15 @@ all_front : {X : Type 0} (P : X → Type 0) (xs ys : List X) → AllByRecursion 
 all_front P [] ys h = (tt, h)
 all_front P (x ∷ xs) ys (h, hs) = let k = all_front P xs ys hs in ((h, k.0), k.1)
 
+-- a byte that is neither a space nor an LF, by the tests
+abbrev Clear : ℕ → Type 0
+Clear b = ((b == 32) ≡ false) × ((b == 10) ≡ false)
+
 -- a part without LF is a line of words
 line_is : (part : List ℕ) → AllByRecursion (λ b. (b == 10) ≡ false) part → IsLine (words_of part)
 line_is part h = (
   split_some (λ b. b == 32) part,
-  all_by (λ w k. all_by (λ b (l, m). (other_byte b 32 l, other_byte b 10 m)) w k) (words_of part)
+  recursion-weaker (AllByRecursion Clear) (AllByRecursion IsInWord) (recursion-weaker Clear IsInWord (λ b both. (other_byte b 32 both.0, other_byte b 10 both.1))) (words_of part)
       (all_both2 (λ b. (b == 32) ≡ false) (λ b. (b == 10) ≡ false) (words_of part) (clean (λ b. b == 32) part) (keeps (λ b. (b == 10) ≡ false) (λ b. b == 32) part h)),
 )
 
@@ -106,7 +107,7 @@ is_cut bytes parts last e =
     record {
       whole = sym (join_with_byte-slice_split 10 bytes) ∙ ap (join_with_byte 10) (sym e) ∙ joined parts last;
       are = lines_are parts all.0;
-      last = all_by (λ b k. other_byte b 10 k) last all.1.0;
+      last = recursion-weaker (λ b. (b == 10) ≡ false) (λ b. b ≢ 10) (λ b k. other_byte b 10 k) last all.1.0;
     }
 
 -- Answers.

@@ -3,6 +3,7 @@ use Rattle.std.proofs.Common.{inl, inr, ◌⊎◌, ◌≡◌, ◌≢◌, ◌+◌
 use Rattle.std.specs.List.{AllByRecursion, slice_split, join_with_byte, list_all}
 use Rattle.std.proofs.lemmas.List.Elements.{All-from_recursion}
 use Rattle.std.proofs.lemmas.List.Splits.{slice_split_at, slice_split_none, join_with_byte-slice_split}
+use Rattle.mh_grammar.proofs.Lists.{recursion-append}
 use Rattle.mh_tabfile.specs.declared.types.RawTable.{RawTable}
 use Rattle.mh_tabfile.specs.declared.reading.TabFault.{TabFault}
 use Rattle.mh_tabfile.specs.declared.reading.TabFault.TheVariants as faults
@@ -27,10 +28,6 @@ words_again [] (n, h) = absurd (n refl)
 words_again (w ∷ []) (n, (h, hs)) = slice_split_none (λ b. b == 32) w (All-from_recursion (λ b. (b == 32) ≡ false) w (clean_of w h))
 words_again (w ∷ v ∷ ws) (n, (h, hs)) = slice_split_at (λ b. b == 32) w 32 (join_with_byte 32 (v ∷ ws)) (All-from_recursion (λ b. (b == 32) ≡ false) w (clean_of w h)) refl ∙ ap (λ l. w ∷ l) (words_again (v ∷ ws) ((λ e. cc), hs))
 
-all_append : {X : Type 0} (P : X → Type 0) (xs ys : List X) → AllByRecursion P xs → AllByRecursion P ys → AllByRecursion P (xs ++ ys)
-all_append P [] ys h k = k
-all_append P (x ∷ xs) ys (h, hs) k = (h, all_append P xs ys hs k)
-
 no_end : (w : List ℕ) → AllByRecursion IsInWord w → AllByRecursion (λ b. (b == 10) ≡ false) w
 no_end [] h = tt
 no_end (b ∷ bs) ((n, m), hs) = (ne_eqb b 10 m, no_end bs hs)
@@ -38,7 +35,7 @@ no_end (b ∷ bs) ((n, m), hs) = (ne_eqb b 10 m, no_end bs hs)
 line_clean : (ws : Line) → AllByRecursion (AllByRecursion IsInWord) ws → AllByRecursion (λ b. (b == 10) ≡ false) (join_with_byte 32 ws)
 line_clean [] h = tt
 line_clean (w ∷ []) (h, hs) = no_end w h
-line_clean (w ∷ v ∷ ws) (h, hs) = all_append (λ b. (b == 10) ≡ false) w (32 ∷ join_with_byte 32 (v ∷ ws)) (no_end w h) (refl, line_clean (v ∷ ws) hs)
+line_clean (w ∷ v ∷ ws) (h, hs) = recursion-append (λ b. (b == 10) ≡ false) w (32 ∷ join_with_byte 32 (v ∷ ws)) (no_end w h) (refl, line_clean (v ∷ ws) hs)
 
 -- bytes as lines, with what stands behind the last LF
 abbrev view : List ℕ → List Line
@@ -104,18 +101,18 @@ no_bad bytes raw n f (IsBadLine.early lines e hl b never k) =
 digit_in_word : (b : ℕ) → is_digit b ≡ true → IsInWord b
 digit_in_word b e = let h = both (nat_le 48 b) (nat_le b 57) e in (λ f. omega (arith, f, leb-true 48 b h.0), λ f. omega (arith, f, leb-true 48 b h.0))
 
-digits_in_word : (w : List ℕ) → list_all is_digit w ≡ true → AllByRecursion IsInWord w
+pub digits_in_word : (w : List ℕ) → list_all is_digit w ≡ true → AllByRecursion IsInWord w
 digits_in_word [] e = tt
 digits_in_word (b ∷ bs) e = let h = both (is_digit b) (list_all is_digit bs) e in (digit_in_word b h.0, digits_in_word bs h.1)
 
-plain : (w : List ℕ) → list_all (λ b. not (nat_eq b 32) && not (nat_eq b 10)) w ≡ true → AllByRecursion IsInWord w
+pub plain : (w : List ℕ) → list_all (λ b. not (nat_eq b 32) && not (nat_eq b 10)) w ≡ true → AllByRecursion IsInWord w
 plain [] e = tt
 plain (b ∷ bs) e =
     let h = both (not (nat_eq b 32) && not (nat_eq b 10)) (list_all (λ b. not (nat_eq b 32) && not (nat_eq b 10)) bs) e in
     let k = both (not (nat_eq b 32)) (not (nat_eq b 10)) h.0 in
     ((not_equal b 32 k.0, not_equal b 10 k.1), plain bs h.1)
 
-mode_plain : (m : Mode) → AllByRecursion IsInWord (mode_name m)
+pub mode_plain : (m : Mode) → AllByRecursion IsInWord (mode_name m)
 mode_plain Merged = plain (codes "merged") refl
 mode_plain Canonical = plain (codes "canonical") refl
 
