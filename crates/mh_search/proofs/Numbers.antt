@@ -247,7 +247,8 @@ module _ (t : TableData) (facts : Facts) (numbering : Numbering) (book : IsBook 
 pub between : (cost : ℕ) → cost ≤ cap → ((cost ≡ 0) ⊎ (cost ≡ cap) → ⊥) → (0 < cost) × (cost < cap)
 between cost le apart = (
   elim (cases_lt 0 cost) [ inl lt ↦ lt | inr ge ↦ absurd (apart (inl (omega arith))) ],
-  elim (cases_lt cost cap) [ inl lt ↦ lt | inr ge ↦ absurd (apart (inr (omega arith))) ])
+  elim (cases_lt cost cap) [ inl lt ↦ lt | inr ge ↦ absurd (apart (inr (omega arith))) ],
+)
 
 -- what is free has the number of the empty word, and what is too dear has none
 pub plain_numbered : (t : TableData) (facts : Facts) (numbering : Numbering) (cost : ℕ) (items : List Item) (numbers : List ℕ) → IsBook numbering.book → (cost ≡ 0) ⊎ (cost ≡ cap) → AreEmpty (length items) numbers → AreNumbered t facts numbering numbering cost items numbers

@@ -52,17 +52,17 @@ paired_more items words count pairs i word h at num = record {
 pub pairs_ranked : (items : List Item) (words : List ℕ) (pairs rs : List Ranked) → ArePaired items words (length items) pairs → IsPermutation pairs rs → IsNonDecreasingBy (λ r. r.word) rs → IsRanked items words rs
 pairs_ranked items words pairs rs h same rises = record {
   kept = λ o there. (
-    let at = at_contains items o there in
-    let within = slice_get_within items at.0 o at.1 in
-    let long = h.long in
-    let r = has_place pairs at.0 (omega arith) in
-    let pair = h.each at.0 r.0 r.1 in
-    let is : r.0.item ≡ o = same_at items at.0 r.0.item o pair.item at.1 in
-    rw (← is) (contains_map (λ (r : Ranked). r.item) rs r.0 (Contains-permutation pairs rs r.0 same (contains_at pairs at.0 r.0 r.1))));
+      let at = at_contains items o there in
+      let within = slice_get_within items at.0 o at.1 in
+      let long = h.long in
+      let r = has_place pairs at.0 (omega arith) in
+      let pair = h.each at.0 r.0 r.1 in
+      let is : r.0.item ≡ o = same_at items at.0 r.0.item o pair.item at.1 in
+      rw (← is) (contains_map (λ (r : Ranked). r.item) rs r.0 (Contains-permutation pairs rs r.0 same (contains_at pairs at.0 r.0 r.1))));
   only = λ r there. (
-    let was = Contains-permutation rs pairs r (IsPermutation-sym pairs rs same) there in
-    let at = at_contains pairs r was in
-    (at.0, h.each at.0 r at.1));
+      let was = Contains-permutation rs pairs r (IsPermutation-sym pairs rs same) there in
+      let at = at_contains pairs r was in
+      (at.0, h.each at.0 r at.1));
   rises = rises;
 }
 

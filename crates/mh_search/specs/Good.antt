@@ -38,9 +38,10 @@ pub record NoneIsNext (facts : Facts) (old new : List (Rattle.std.specs.Global.V
   pub kept : (c : ℕ) (o : Item) → Waits old c o → Waits new c o ⊎ IsStored facts o.key
   pub only : (c : ℕ) (o : Item) → Waits new c o → Waits old c o
 
-abbrev pub NextNew : Facts → List (Rattle.std.specs.Global.Vec Item) → List (Rattle.std.specs.Global.Vec Item) → ℕ → Option Item → Type 0
-NextNew facts old new cost None = NoneIsNext facts old new cost
-NextNew facts old new cost (Some i) = NextIs facts old new cost i
+-- it is stored
+abbrev pub SettlesNext : Facts → Facts → List (Rattle.std.specs.Global.Vec Item) → List (Rattle.std.specs.Global.Vec Item) → ℕ → Option Item → Type 0
+SettlesNext facts more old new cost None = (more ≡ facts) × NoneIsNext facts old new cost
+SettlesNext facts more old new cost (Some i) = (more ≡ facts ++ (i.key, record { cost = cost; back = i.back }) ∷ []) × NextIs facts old new cost i
 
 -- the words that wait for a key
 abbrev pub InQueue : TableData → (FactKey → Option (List ℕ)) → (ℕ → Item → Type 0) → FactKey → List ℕ → Type 0

@@ -1,8 +1,9 @@
 //! Facts are settled in order of their costs.
 ghost use Rattle.std.specs.Prelude.{◌≡◌, ◌↔◌, IsTrue, ◌≤◌, ◌<◌, ◌+◌, [], OnOk, IfOk, Some, drop, length, slice_get};
+ghost use Rattle.mh_facts.specs.Stored.{last_of};
 ghost use Rattle.mh_least.specs.Orders.{cap};
 ghost use Rattle.mh_search.specs.Classes.{IsClasses};
-ghost use Rattle.mh_search.specs.Good.{NextNew, KeepsNew, AllTaken, IsFound};
+ghost use Rattle.mh_search.specs.Good.{SettlesNext, KeepsNew, AllTaken, IsFound};
 ghost use Rattle.mh_search.specs.Ranking.{BeforeLevel, InLevel};
 
 use crate::begins::begin;
@@ -26,16 +27,21 @@ pub struct Found {
     pub numbering: Numbering,
 }
 
-/// Takes the next item of a cost that is not stored; those that are stored are dropped.
-fn next_new(queue: &mut Queue<Item>, store: &FactStore, cost: u32) -> Option<Item>
-    ensures { NextNew store.now queue.old.buckets.items queue.new.buckets.items cost result }
+/// Takes the next item of a cost that is not stored, and stores it; those that are stored are dropped.
+fn settle_next(
+    queue: &mut Queue<Item>,
+    store: &mut FactStore,
+    cost: u32,
+) -> Result<Option<Item>, Memory>
+    requires { last_of store.old ≤ cost }
+    ensures { IfOk result (SettlesNext store.old store.new queue.old.buckets.items queue.new.buckets.items cost) }
 {
     'items: loop {
         match take(queue, cost) {
-            None => return None,
+            None => return Ok(None),
             Some(item) => {
-                if store.cost(&item.key).is_none() {
-                    return Some(item);
+                if store.settle(item.key, cost, item.back)? {
+                    return Ok(Some(item));
                 }
             }
         }
@@ -46,7 +52,7 @@ fn next_new(queue: &mut Queue<Item>, store: &FactStore, cost: u32) -> Option<Ite
 fn keep_new(all: &mut Vec<Item>, store: &FactStore, item: Item) -> Result<(), Memory>
     ensures { OnOk result (KeepsNew store.now item all.old.items all.new.items) }
 {
-    if store.cost(&item.key).is_none() {
+    if store.place(&item.key).is_none() {
         all.push(item)?;
     }
     Ok(())
@@ -104,10 +110,9 @@ fn settle_one(
     let ranked = ranked_at(level, place);
     push(alloc, &mut found.work.queue, level.cost, ranked.item)?;
     'turns: loop {
-        match next_new(&mut found.work.queue, &found.store, level.cost) {
+        match settle_next(&mut found.work.queue, &mut found.store, level.cost)? {
             None => return Ok(()),
             Some(item) => {
-                found.store.settle(item.key, level.cost, item.back)?;
                 found.numbering.numbers.push(ranked.word)?;
                 let path = Path {
                     key: item.key,

@@ -1,6 +1,6 @@
-use Rattle.std.proofs.Common.{sym, ◌≡◌, ◌<◌, ◌+◌, refl, ◌++◌, ◌∷◌, [], inl, drop}
+use Rattle.std.proofs.Common.{sym, ◌<◌, ◌+◌, refl, ◌++◌, ◌∷◌, [], None, Some, inl, drop}
 use Rattle.mh_search.specs.declared.work.Work.{Work}
-use Rattle.mh_search.specs.Good.{NextIs}
+use Rattle.mh_search.specs.Good.{SettlesNext}
 use Rattle.mh_search.specs.Ranking.{InLevel}
 use Rattle.mh_search.specs.Rules.{path_of, queue_of, InRange}
 use Rattle.mh_search.proofs.Counting.{unsettled}
@@ -20,29 +20,25 @@ turns-init c =
 
 pub returns-in-None : goal.returns-in-None
 returns-in-None c =
-    let mid : Work = record { queue = c.next_new.new.queue; paths = c.turns.found.work.paths; wholes = c.turns.found.work.wholes; known = c.turns.found.work.known } in
-    ranked_drained c.args.table.now c.facts.ensures c.args.classes.now c.requires.classes c.turns.found c.args.level.now.cost mid c.ranked_at-ranked.result.word (drop (c.args.place + 1) c.args.level.now.items.now) c.turns.invariant (record { paths = refl; wholes = refl; known = refl }) (rw c.in-None.is at c.next_new.ensures)
+    let mid : Work = record { queue = c.settle_next.new.queue; paths = c.turns.found.work.paths; wholes = c.turns.found.work.wholes; known = c.turns.found.work.known } in
+    let told : SettlesNext c.turns.found.store c.settle_next.new.store (queue_of c.turns.found.work) c.settle_next.new.queue.buckets.items c.args.level.now.cost None = rw c.in-None.is at c.in_ok-settle_next.ensures in
+    rw told.0 (ranked_drained c.args.table.now c.facts.ensures c.args.classes.now c.requires.classes c.turns.found c.args.level.now.cost mid c.ranked_at-ranked.result.word (drop (c.args.place + 1) c.args.level.now.items.now) c.turns.invariant (record { paths = refl; wholes = refl; known = refl }) told.1)
 
 pub expand-requires-clause-path : goal.expand-requires-clause-path
 expand-requires-clause-path c =
-    let next : NextIs c.turns.found.store (queue_of c.turns.found.work) c.next_new.new.queue.buckets.items c.args.level.now.cost c.in-Some.item = rw c.in-Some.is at c.next_new.ensures in
-    (c.turns.invariant.order.good.items c.args.level.now.cost c.in-Some.item (inl next.was)).range
-
-stored : (c : goal.In_ok-expand-in-Some) → c.settle.new.self ≡ c.turns.found.store ++ (c.in-Some.item.key, fact_of c.args.level.now.cost c.in-Some.item) ∷ []
-stored c =
-    let next : NextIs c.turns.found.store (queue_of c.turns.found.work) c.next_new.new.queue.buckets.items c.args.level.now.cost c.in-Some.item = rw c.in-Some.is at c.next_new.ensures in
-    c.in_ok-settle-in-Some.ensures.stored (c.in_ok-settle-in-Some.ensures.fresh.1 next.fresh)
+    let told : SettlesNext c.turns.found.store c.settle_next.new.store (queue_of c.turns.found.work) c.settle_next.new.queue.buckets.items c.args.level.now.cost (Some c.in-Some.item) = rw c.in-Some.is at c.in_ok-settle_next.ensures in
+    (c.turns.invariant.order.good.items c.args.level.now.cost c.in-Some.item (inl (told.1).was)).range
 
 pub turns-preserved : goal.turns-preserved
 turns-preserved c =
-    let next : NextIs c.turns.found.store (queue_of c.turns.found.work) c.next_new.new.queue.buckets.items c.args.level.now.cost c.in-Some.item = rw c.in-Some.is at c.next_new.ensures in
-    let mid : Work = record { queue = c.next_new.new.queue; paths = c.turns.found.work.paths; wholes = c.turns.found.work.wholes; known = c.turns.found.work.known } in
-    rw (stored c) (ranked_settles c.args.table.now c.facts.ensures c.args.classes.now c.requires.classes c.turns.found c.args.level.now.cost c.requires.cost c.ranked_at-ranked.result.word (drop (c.args.place + 1) c.args.level.now.items.now) c.turns.invariant mid c.expand.new.work c.in-Some.item (record { paths = refl; wholes = refl; known = refl }) next c.in_ok-expand-in-Some.ensures c.push-in-Some.new.self c.in_ok-push-in-Some.ensures.items)
+    let told : SettlesNext c.turns.found.store c.settle_next.new.store (queue_of c.turns.found.work) c.settle_next.new.queue.buckets.items c.args.level.now.cost (Some c.in-Some.item) = rw c.in-Some.is at c.in_ok-settle_next.ensures in
+    let mid : Work = record { queue = c.settle_next.new.queue; paths = c.turns.found.work.paths; wholes = c.turns.found.work.wholes; known = c.turns.found.work.known } in
+    rw told.0 (ranked_settles c.args.table.now c.facts.ensures c.args.classes.now c.requires.classes c.turns.found c.args.level.now.cost c.requires.cost c.ranked_at-ranked.result.word (drop (c.args.place + 1) c.args.level.now.items.now) c.turns.invariant mid c.expand.new.work c.in-Some.item (record { paths = refl; wholes = refl; known = refl }) told.1 c.in_ok-expand-in-Some.ensures c.push-in-Some.new.self c.in_ok-push-in-Some.ensures.items)
 
 pub turns-smaller : goal.turns-smaller
 turns-smaller c =
-    let next : NextIs c.turns.found.store (queue_of c.turns.found.work) c.next_new.new.queue.buckets.items c.args.level.now.cost c.in-Some.item = rw c.in-Some.is at c.next_new.ensures in
-    let range : InRange c.args.table.now (path_of c.args.level.now.cost c.in-Some.item) = (c.turns.invariant.order.good.items c.args.level.now.cost c.in-Some.item (inl next.was)).range in
-    let less : unsettled (c.turns.found.store ++ (c.in-Some.item.key, fact_of c.args.level.now.cost c.in-Some.item) ∷ []) < unsettled c.turns.found.store = settles_less c.args.table.now c.facts.ensures c.turns.found.store (path_of c.args.level.now.cost c.in-Some.item) (fact_of c.args.level.now.cost c.in-Some.item) range next.fresh in
-    let less' : unsettled c.settle.new.self < unsettled c.turns.found.store = rw (stored c) less in
+    let told : SettlesNext c.turns.found.store c.settle_next.new.store (queue_of c.turns.found.work) c.settle_next.new.queue.buckets.items c.args.level.now.cost (Some c.in-Some.item) = rw c.in-Some.is at c.in_ok-settle_next.ensures in
+    let range : InRange c.args.table.now (path_of c.args.level.now.cost c.in-Some.item) = (c.turns.invariant.order.good.items c.args.level.now.cost c.in-Some.item (inl (told.1).was)).range in
+    let less : unsettled (c.turns.found.store ++ (c.in-Some.item.key, fact_of c.args.level.now.cost c.in-Some.item) ∷ []) < unsettled c.turns.found.store = settles_less c.args.table.now c.facts.ensures c.turns.found.store (path_of c.args.level.now.cost c.in-Some.item) (fact_of c.args.level.now.cost c.in-Some.item) range (told.1).fresh in
+    let less' : unsettled c.settle_next.new.store < unsettled c.turns.found.store = rw told.0 less in
     less'
