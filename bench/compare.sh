@@ -2,6 +2,7 @@
 # Compares the built program with Menhir itself (Debian's package `menhir`): states, conflicts or none, verdicts, trees and lists of errors on real
 # grammars, which must be the same, and times, which are printed as ratios. It ends with 1 if anything is not the same.
 # The program's own samples have to come to the counts that their number gives.
+# At last it times shapes of grammars at the limits, of which none may take ten seconds.
 # Of each grammar file in FOLDER it compares how both automata are built (states, time, memory) and the list of errors, too.
 # Usage: bench/compare.sh PATH-OF-OUR-PROGRAM [FOLDER]   (after a run of the gate: crates/menhir/out/menhir)
 set -eu
@@ -165,6 +166,17 @@ compare_time() { # NAME INPUT WORD..
     echo "$name: $our_time s${their_time:+; Menhir takes $(ratio "$their_time" "$our_time") times as long}"
 }
 
+# Our time for a shape of grammar at half its size at a limit, and at all of it, which must be less than ten seconds.
+compare_shape() { # NAME SIZE
+    local name=$1 most=$2 half=$(($2 < 100 ? $2 - 1 : $2 / 2)) first measured
+    python3 "$bench/shapes.py" "$name" "$half" >shape.mly
+    first=$(resources "$ours" --interpret shape.mly)
+    python3 "$bench/shapes.py" "$name" "$most" >shape.mly
+    measured=$(resources "$ours" --interpret shape.mly)
+    echo "$name: ${measured% *} s and ${measured#* } MB at $most, $(ratio "${measured% *}" "${first% *}") times as long as at $half"
+    [ "$(ratio "${measured% *}" 10 | cut -d. -f1)" = 0 ] || differs "$name, less than ten seconds"
+}
+
 if menhir_there; then
     for name in json c lua sql; do compare_grammar "$name"; done
     for file in ${further:+"$further"/*.mly}; do
@@ -192,4 +204,6 @@ compare_time "5,000 unit rules, with 256 tokens" one.in --interpret units.mly
 compare_time "a file of 16 MiB of small rules" one.in --interpret rules.mly
 compare_time "1,000 files of 1,000 rules" one.in --interpret files/*.mly
 echo "262,144 cores, of which 200,000 are too many: $(seconds "$ours" --interpret many.mly <one.in) s"
+python3 "$bench/shapes.py" >shapes.txt
+while read -r name most; do compare_shape "$name" "$most"; done <shapes.txt
 exit $failed

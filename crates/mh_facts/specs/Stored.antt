@@ -1,5 +1,5 @@
 -- What a store of facts holds: this project's own.
-use Rattle.std.specs.Prelude.{◌≡◌, ℕ, List, [], ◌∷◌, Bool, nat_eq, ◌&&◌, Option, Some, None, max}
+use Rattle.std.specs.Prelude.{◌≡◌, ℕ, List, [], ◌∷◌, Bool, nat_eq, ◌&&◌, Option, Some, max, slice_get}
 use Rattle.std.specs.Map.{lookup}
 use Rattle.mh_facts.specs.declared.store.FactKey.{FactKey}
 use Rattle.mh_facts.specs.declared.store.Fact.{Fact}
@@ -14,6 +14,10 @@ same_fact x y = nat_eq x.from y.from && (nat_eq x.production y.production && (na
 -- what is stored of a key
 abbrev pub fact_at : Facts → FactKey → Option Fact
 fact_at facts k = lookup (same_fact k) facts
+
+-- the entry of the key stands there
+abbrev pub IsPlace : Facts → FactKey → ℕ → Type 0
+IsPlace facts k n = (f : Fact) × (slice_get facts n ≡ Some (k, f)) × (fact_at facts k ≡ Some f)
 
 -- the highest stored cost
 abbrev pub last_of : Facts → ℕ

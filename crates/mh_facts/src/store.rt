@@ -1,7 +1,7 @@
 //! The facts that a search settled, in order, each with its cost and what it came from.
-ghost use Rattle.std.specs.Prelude.{◌≡◌, ◌≤◌, ◌↔◌, [], ◌∷◌, ◌++◌, true, false, None, Some, IfOk, OnErr};
+ghost use Rattle.std.specs.Prelude.{◌≡◌, ◌≤◌, ◌↔◌, [], ◌∷◌, ◌++◌, true, false, None, Some, IfOk, IfSome, OnErr};
 ghost use Rattle.std.specs.Option.{option_map};
-ghost use Rattle.mh_facts.specs.Stored.{fact_at, last_of};
+ghost use Rattle.mh_facts.specs.Stored.{IsPlace, fact_at, last_of};
 
 use indexmap::IndexMap;
 use mh_grammar::{Memory, Token};
@@ -96,6 +96,14 @@ impl FactStore {
             Some(fact) => Some(fact.back),
             None => None,
         }
+    }
+
+    /// Where the entry of a key stands, the first at 0: entries stand in the order in which they were stored.
+    pub fn place(&self, key: &FactKey) -> Option<usize>
+        ensures none { (result ≡ None) ↔ (fact_at self.now key.now ≡ None) }
+        ensures place { IfSome result (IsPlace self.now key.now) }
+    {
+        self.facts.get_index_of(key)
     }
 
     /// The highest stored cost, 0 where none is stored.

@@ -14,13 +14,12 @@ use Rattle.mh_facts.specs.declared.store.Back.{Back}
 use Rattle.mh_facts.specs.declared.store.Back.TheVariants as backs
 use Rattle.mh_facts.specs.Stored.{Facts, fact_at}
 use Rattle.mh_tables.specs.Failing.{LexLe}
-use Rattle.mh_search.specs.declared.work.Item.{Item}
 use Rattle.mh_search.specs.declared.tails.Part.{Part}
 use Rattle.mh_search.specs.declared.tails.Part.TheVariants as parts
 use Rattle.mh_search.specs.declared.tails.Rests.{Rests}
 use Rattle.mh_search.specs.Tales.{WordBy, Tale, token_of, sizes_of, size_by}
-use Rattle.mh_search.specs.Tails.{IsWordOf, AreWordOf, tokens_of, parts_of, weight, Opens, Goes, Turns, IsAfter, AreShared, AreComparable, HaveWords, IsLater}
-use Rattle.mh_search.proofs.Wording.{some_is}
+use Rattle.mh_search.specs.Tails.{IsWordOf, AreWordOf, tokens_of, parts_of, weight, Opens, Goes, Turns, AreShared, AreComparable, IsLater}
+use Rattle.mh_search.proofs.Wording.{some_is, fact_of_word}
 
 -- NUMBERS OF TOKENS
 
@@ -97,16 +96,8 @@ some_size sizes k (backs.Shifted path) le = omega arith
 some_size sizes k (backs.Reduced path inner) le = omega arith
 
 module _ (t : TableData) (facts : Facts) (tale : Tale t facts) where
-  -- a fact with a word is stored
-  pub fact_of_word : (k : FactKey) (v : List ℕ) → tale.words k ≡ Some v → (f : Fact) × (fact_at facts k ≡ Some f)
-  fact_of_word k v e = by (fact_at facts k) refl
-    where
-      by : (o : Option Fact) → fact_at facts k ≡ o → (f : Fact) × (fact_at facts k ≡ Some f)
-      by None none = absurd (let n = tale.none k none in let y : None ≡ Some v = sym n ∙ e in cc)
-      by (Some f) is = (f, is)
-
   fact_size : (k : FactKey) (v : List ℕ) → tale.words k ≡ Some v → 0 < sizes_of facts k
-  fact_size k v e = let f = fact_of_word k v e in let told = tale.some k f.0 f.1 in some_size (sizes_of facts) k f.0.back told.size
+  fact_size k v e = let f = fact_of_word t facts tale k v e in let told = tale.some k f.0 f.1 in some_size (sizes_of facts) k f.0.back told.size
 
   -- a fact that is opened
   pub opened : (k : FactKey) (f : Fact) (v : List ℕ) (old new : List Part) → tale.words k ≡ Some v → fact_at facts k ≡ Some f → new ≡ old ++ parts_of t k f.back →
@@ -280,18 +271,3 @@ module _ (t : TableData) (facts : Facts) (all : Rests) where
         let l = ap (λ (ps : List Part). weight (sizes_of facts) ps) left_top ∙ weight_top (sizes_of facts) mid.left.items one in
         let r = ap (λ (ps : List Part). weight (sizes_of facts) ps) right_top ∙ weight_top (sizes_of facts) mid.right.items two in
         omega arith
-
--- two items by their parts
-module _ (t : TableData) (facts : Facts) (left right : Item) (rests : Rests) (left_parts : rests.left.items ≡ parts_of t left.key left.back) (right_parts : rests.right.items ≡ parts_of t right.key right.back) where
-  pub items_comparable : HaveWords t facts left right → AreComparable t facts rests.left.items rests.right.items
-  items_comparable h = record {
-    tale = h.tale;
-    left_word = h.left_word;
-    right_word = h.right_word;
-    left_is = rw left_parts (parts_word t h.tale.words left.key left.back h.left_word h.left_by);
-    right_is = rw right_parts (parts_word t h.tale.words right.key right.back h.right_word h.right_by);
-  }
-
-  pub items_after : (later : Bool) → IsLater t facts rests.left.items rests.right.items later → IsAfter t facts left right later
-  items_after true h = λ tale v u by' by. h tale v u (rw right_parts (parts_word t tale.words right.key right.back v by')) (rw left_parts (parts_word t tale.words left.key left.back u by))
-  items_after false h = λ tale u v by by'. h tale u v (rw left_parts (parts_word t tale.words left.key left.back u by)) (rw right_parts (parts_word t tale.words right.key right.back v by'))

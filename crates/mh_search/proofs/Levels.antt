@@ -1,17 +1,14 @@
 -- A level of the search, from its beginning to its end.
-use Rattle.std.proofs.Common.{◌≡◌, ℕ, zero, suc, drop, Some, None, ◌+◌, ◌<◌, ◌≤◌, ◌⊎◌, inl, inr, List, [], ◌∷◌, ◌++◌, Option, refl, ap, sym, arith, ◌∙◌}
+use Rattle.std.proofs.Common.{◌≡◌, ℕ, zero, suc, drop, Some, None, ◌+◌, ◌≤◌, ◌⊎◌, inl, inr, List, [], ◌∷◌, ◌++◌, Option, refl, ap, sym, arith, ◌∙◌}
 use Rattle.std.specs.Prelude.{slice_get}
 use Rattle.std.specs.List.{Contains}
 use Rattle.std.proofs.lemmas.Bool.{cases_lt}
-use Rattle.std.proofs.lemmas.Grind.{common_steps}
 use Rattle.mh_tables.specs.Table.{TableData}
 use Rattle.mh_tables.specs.Facts.{Facts}
-use Rattle.mh_tables.specs.Failing.{LexLe}
 use Rattle.mh_facts.specs.declared.store.FactKey.{FactKey}
 use Rattle.mh_facts.specs.Stored.{Facts as Stored}
 use Rattle.mh_least.specs.Least.{Pending}
 use Rattle.mh_least.specs.Orders.{cap}
-use Rattle.mh_least.specs.Orders as orders
 use Rattle.mh_search.specs.declared.work.Item.{Item}
 use Rattle.mh_search.specs.declared.work.Work.{Work}
 use Rattle.mh_search.specs.declared.classes.Classes.{Classes}
@@ -19,19 +16,13 @@ use Rattle.std.specs.Global.{Vec}
 use Rattle.mh_search.specs.Rows.{Waits, Gains, IsOne, Taken, NoneTaken}
 use Rattle.mh_search.specs.Classes.{IsClasses, rep_of}
 use Rattle.mh_search.specs.Rules.{queue_of}
-use Rattle.mh_search.specs.Tales.{NoLater, capped, WordBy}
+use Rattle.mh_search.specs.Tales.{NoLater, WordBy}
 use Rattle.mh_search.specs.Good.{IsStored, NoneIsNext, InQueue, Waiting, ItemOk, Good, IsRising, InOrder, LevelReady, KeepsNew, AllNew, AllTaken}
-use Rattle.mh_search.specs.Sorted.{RisesBy, Sorts, AreSorted, AreKnown}
 use Rattle.mh_search.proofs.Taking.{in_more, in_cons}
 use Rattle.mh_search.proofs.Wording.{word_one, order_laws, cheaper, over}
 use Rattle.mh_search.proofs.Turns.{SameBeside, good_moves}
-use Rattle.mh_search.proofs.Rising.{parts_of_word}
 
--- of one cost the words go by their numbers
-same_cost : (t : TableData) (u v : List ℕ) (level : ℕ) → level < cap → level ≡ capped t u → level ≡ capped t v → LexLe u v → NoLater t u v
-same_cost t u v level lt e g le = orders.FirstLe.Lower (grind (arith, common_steps, lt, e, g)) le
-
-none_in : {X : Type 0} (x : X) → Contains [] x → ⊥
+pub none_in : {X : Type 0} (x : X) → Contains [] x → ⊥
 none_in x h = let l = h.1 in omega arith
 
 in_front : {X : Type 0} (xs : List X) (y x : X) → Contains xs x → Contains (xs ++ y ∷ []) x
@@ -51,7 +42,7 @@ in_push (w ∷ xs) y x h = elim (in_cons w (xs ++ y ∷ []) x h) [
 
 module _ (t : TableData) (f : Facts t) (c : Classes) (cls : IsClasses t c) (facts : Stored) (old : Work) (level : ℕ) where
   -- what waited with the level's cost waits beside the queue
-  pub level_taken : (mid : Work) (all : List Item) → Good t c facts old level [] → SameBeside old mid → AllTaken facts (queue_of old) (queue_of mid) level all → Good t c facts mid level all
+  unfoldable pub level_taken : (mid : Work) (all : List Item) → Good t c facts old level [] → SameBeside old mid → AllTaken facts (queue_of old) (queue_of mid) level all → Good t c facts mid level all
   level_taken mid all good same taken = good_moves t f c cls facts old level [] good mid all same on back
     where
       on : (cost : ℕ) (i : Item) → Waiting old level [] cost i → Waiting mid level all cost i ⊎ IsStored facts i.key
@@ -63,29 +54,16 @@ module _ (t : TableData) (f : Facts t) (c : Classes) (cls : IsClasses t c) (fact
       back cost i (inr beside) = inl (rw beside.0 (taken.taken.each i beside.1))
 
   -- the same items beside it, in another order
-  pub level_sorted : (xs ys : List Item) (words : FactKey → Option (List ℕ)) → Good t c facts old level xs → Sorts t words xs ys → Good t c facts old level ys
-  level_sorted xs ys words good sorts = good_moves t f c cls facts old level xs good old ys (record { paths = refl; wholes = refl; known = refl }) on back
+  unfoldable pub level_sorted : (xs ys : List Item) → Good t c facts old level xs → ((o : Item) → Contains xs o → Contains ys o) → ((o : Item) → Contains ys o → Contains xs o) → Good t c facts old level ys
+  level_sorted xs ys good kept only = good_moves t f c cls facts old level xs good old ys (record { paths = refl; wholes = refl; known = refl }) on back
     where
       on : (cost : ℕ) (i : Item) → Waiting old level xs cost i → Waiting old level ys cost i ⊎ IsStored facts i.key
       on cost i (inl there) = inl (inl there)
-      on cost i (inr beside) = inl (inr (beside.0, sorts.kept i beside.1))
+      on cost i (inr beside) = inl (inr (beside.0, kept i beside.1))
 
       back : (cost : ℕ) (i : Item) → Waiting old level ys cost i → Waiting old level xs cost i
       back cost i (inl there) = inl there
-      back cost i (inr beside) = inr (beside.0, sorts.only i beside.1)
-
-  -- what rises by numbers rises
-  pub rises : (words : FactKey → Option (List ℕ)) → level < cap → (ys : List Item) → ((o : Item) → Contains ys o → ItemOk t (rep_of c) words level o) → RisesBy t words ys → IsRising t words ys
-  rises words lt [] each h = tt
-  rises words lt (y ∷ ys) each h = (
-    λ o u v there by by'.
-        let a = each y (0, omega arith, refl) in
-        let b = each o (in_more y ys o there) in
-        let e : u ≡ a.word = word_one t words y.key y.back u a.word by a.by in
-        let g : v ≡ b.word = word_one t words o.key o.back v b.word by' b.by in
-        rw (e, g) (same_cost t a.word b.word level lt a.cost_is b.cost_is (h.0 o there a.word b.word a.by b.by)),
-    rises words lt ys (λ o there. each o (in_more y ys o there)) h.1,
-  )
+      back cost i (inr beside) = inr (beside.0, only i beside.1)
 
   -- words that are too dear rise in any order
   pub rises_over : (words : FactKey → Option (List ℕ)) → level ≡ cap → (ys : List Item) → ((o : Item) → Contains ys o → ItemOk t (rep_of c) words level o) → IsRising t words ys
@@ -101,7 +79,7 @@ module _ (t : TableData) (f : Facts t) (c : Classes) (cls : IsClasses t c) (fact
   )
 
   -- the next item goes into the queue
-  pub level_pushed : (mid : Work) (x : Item) (xs : List Item) → LevelReady t c facts old level (x ∷ xs) → SameBeside old mid → Gains (IsOne level x) (queue_of old) (queue_of mid) → InOrder t c facts mid level xs
+  unfoldable pub level_pushed : (mid : Work) (x : Item) (xs : List Item) → LevelReady t c facts old level (x ∷ xs) → SameBeside old mid → Gains (IsOne level x) (queue_of old) (queue_of mid) → InOrder t c facts mid level xs
   unfolding good_moves
   level_pushed mid x xs ready same gains = record {
     good = good_moves t f c cls facts old level (x ∷ xs) ready.good mid xs same on back;
@@ -146,7 +124,7 @@ module _ (t : TableData) (f : Facts t) (c : Classes) (cls : IsClasses t c) (fact
       ]
 
   -- nothing of the level is left in the queue
-  pub level_drained : (mid : Work) (xs : List Item) → InOrder t c facts old level xs → SameBeside old mid → NoneIsNext facts (queue_of old) (queue_of mid) level → LevelReady t c facts mid level xs
+  unfoldable pub level_drained : (mid : Work) (xs : List Item) → InOrder t c facts old level xs → SameBeside old mid → NoneIsNext facts (queue_of old) (queue_of mid) level → LevelReady t c facts mid level xs
   unfolding good_moves
   level_drained mid xs order same next = record {
     good = good_moves t f c cls facts old level xs order.good mid xs same on back;
@@ -163,7 +141,7 @@ module _ (t : TableData) (f : Facts t) (c : Classes) (cls : IsClasses t c) (fact
       back cost i (inr beside) = inr beside
 
   -- the level is done
-  pub level_done : LevelReady t c facts old level [] → Good t c facts old (level + 1) []
+  unfoldable pub level_done : LevelReady t c facts old level [] → Good t c facts old (level + 1) []
   level_done ready =
       let good = ready.good in
       record {
@@ -206,28 +184,6 @@ module _ (t : TableData) (f : Facts t) (c : Classes) (cls : IsClasses t c) (fact
       next : {k : FactKey} {u : List ℕ} → Pending (NoLater t) ready.good.tale.words (InQueue t ready.good.tale.words (Waiting old level [])) k u → Pending (NoLater t) ready.good.tale.words (InQueue t ready.good.tale.words (Waiting old (level + 1) [])) k u
       next (inl held) = inl held
       next (inr w) = inr (w.0, ((w.1).0, (w.1).1, waits (w.1).0 (w.1).1 (w.1).2, (w.1).3, (w.1).4), w.2)
-
--- what is taken out has words
-pub level_known : (t : TableData) (f : Facts t) (c : Classes) (cls : IsClasses t c) (facts : Stored) (old mid : Work) (level : ℕ) (all : List Item) → Good t c facts old level [] → SameBeside old mid → AllTaken facts (queue_of old) (queue_of mid) level all → AreKnown t facts all
-level_known t f c cls facts old mid level all good same taken =
-    let g = level_taken t f c cls facts old level mid all good same taken in
-    record { tale = g.tale; each = λ o there. (let ok = g.items level o (inr (refl, there)) in parts_of_word t facts g.tale o.key o.back ok.word ok.by) }
-
--- what is ready where all words are too dear
-pub level_over : (t : TableData) (f : Facts t) (c : Classes) (cls : IsClasses t c) (facts : Stored) (old mid : Work) (level : ℕ) (all : List Item) → Good t c facts old level [] → SameBeside old mid → AllTaken facts (queue_of old) (queue_of mid) level all → level ≡ cap → LevelReady t c facts mid level all
-level_over t f c cls facts old mid level all good same taken top =
-    let g = level_taken t f c cls facts old level mid all good same taken in
-    record { good = g; none = taken.none; rising = rises_over t f c cls facts mid level g.tale.words top all (λ o there. g.items level o (inr (refl, there))) }
-
--- what is ready once it is sorted
-pub level_ready : (t : TableData) (f : Facts t) (c : Classes) (cls : IsClasses t c) (facts : Stored) (old mid : Work) (level : ℕ) (all ys : List Item) → Good t c facts old level [] → SameBeside old mid → AllTaken facts (queue_of old) (queue_of mid) level all → level < cap → AreSorted t facts all ys →
-    LevelReady t c facts mid level ys
-unfolding level_sorted good_moves
-level_ready t f c cls facts old mid level all ys good same taken lt sorted =
-    let g = level_taken t f c cls facts old level mid all good same taken in
-    let s = sorted g.tale in
-    let k = level_sorted t f c cls facts mid level all ys g.tale.words g s in
-    record { good = k; none = taken.none; rising = rises t f c cls facts mid level g.tale.words lt ys (λ o there. g.items level o (inr (refl, s.only o there))) s.rises }
 
 -- the front of a list is taken off
 pub drop_get : {X : Type 0} (xs : List X) (n : ℕ) (x : X) → slice_get xs n ≡ Some x → drop n xs ≡ x ∷ drop (n + 1) xs

@@ -12,8 +12,9 @@ mod Parting
 mod Pasting
 pub mod Putting
 mod Queueing
+mod Numbers
 mod Ranging
-mod Rising
+mod Ranks
 mod Rowed
 pub mod Rowing
 pub mod Shifting

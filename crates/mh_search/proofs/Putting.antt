@@ -1,36 +1,15 @@
 -- A value put at one key; what is stored, where one fact more is.
-use Rattle.std.proofs.Common.{◌≡◌, ℕ, ◌⊎◌, inl, inr, List, [], ◌∷◌, ◌++◌, Some, None, Option, Bool, true, false, cond, nat_eq, ◌&&◌, refl, sym, arith, ◌∙◌}
+use Rattle.std.proofs.Common.{◌≡◌, ℕ, ◌⊎◌, inl, inr, List, [], ◌∷◌, ◌++◌, Some, None, Option, Bool, true, false, cond, nat_eq, refl, sym, arith, ◌∙◌}
 use Rattle.std.specs.Prelude.{fold}
 use Rattle.std.proofs.lemmas.Grind.{common_steps}
 use Rattle.mh_facts.specs.declared.store.FactKey.{FactKey}
 use Rattle.mh_facts.specs.declared.store.Fact.{Fact}
 use Rattle.mh_facts.specs.Stored.{Facts, fact_at, same_fact}
-use Rattle.mh_least.specs.Least.{key}
+use Rattle.mh_facts.proofs.Storing.{same_fact_is}
 use Rattle.mh_search.specs.Tales.{put, with_size, sizes_of}
-
-both_true : (a b : Bool) → (a && b) ≡ true → (a ≡ true) × (b ≡ true)
-both_true true b e = (refl, e)
-both_true false b e = cc
-
-same_number : (a b : ℕ) → nat_eq a b ≡ true → a ≡ b
-same_number a b e = grind (arith, common_steps)
 
 number_same : (n : ℕ) → nat_eq n n ≡ true
 number_same n = grind (arith, common_steps)
-
-pub same_fact_is : (x y : FactKey) → same_fact x y ≡ true → x ≡ y
-same_fact_is x y e =
-    let a = both_true (nat_eq x.from y.from) _ e in
-    let b = both_true (nat_eq x.production y.production) _ a.1 in
-    let c = both_true (nat_eq x.dot y.dot) _ b.1 in
-    let d = both_true (nat_eq x.first y.first) (nat_eq x.next y.next) c.1 in
-    let e1 = same_number x.from y.from a.0 in
-    let e2 = same_number x.production y.production b.0 in
-    let e3 = same_number x.dot y.dot c.0 in
-    let e4 = same_number x.first y.first d.0 in
-    let e5 = same_number x.next y.next d.1 in
-    let whole : key x.from x.production x.dot x.first x.next ≡ key y.from y.production y.dot y.first y.next = rw (e1, e2, e3, e4, e5) refl in
-    whole
 
 pub fact_same : (k : FactKey) → same_fact k k ≡ true
 fact_same k = rw (number_same k.from, number_same k.production, number_same k.dot, number_same k.first, number_same k.next) refl

@@ -1,6 +1,5 @@
 -- How the next item is found.
-use Rattle.std.proofs.Common.{◌≡◌, ℕ, ◌⊎◌, inl, inr, List, true, false, None, Some, Option, refl}
-use Rattle.std.specs.Option.{option_map, is_some}
+use Rattle.std.proofs.Common.{◌≡◌, ℕ, ◌⊎◌, inl, inr, List, None, Some, Option, refl}
 use Rattle.std.specs.Global.{Vec}
 use Rattle.mh_facts.specs.declared.store.FactKey.{FactKey}
 use Rattle.mh_facts.specs.declared.store.Fact.{Fact}
@@ -50,11 +49,3 @@ next_is facts old mid new cost i h t fresh = record {
   ];
   only = λ c o w. h.only c o (t.only c o w);
 }
-
-pub no_cost : (o : Option Fact) {r : Option ℕ} → option_map (λ (f : Fact). f.cost) o ≡ r → is_some r ≡ false → o ≡ None
-no_cost None e h = refl
-no_cost (Some f) e h = absurd (let y : is_some (Some f.cost) ≡ false = rw (← e) at h in let z : true ≡ false = y in cc)
-
-pub some_cost : (o : Option Fact) {r : Option ℕ} → option_map (λ (f : Fact). f.cost) o ≡ r → is_some r ≡ true → (f : Fact) × (o ≡ Some f)
-some_cost None e h = absurd (let y : is_some {T = ℕ} None ≡ true = rw (← e) at h in let z : false ≡ true = y in cc)
-some_cost (Some f) e h = (f, refl)

@@ -1,6 +1,6 @@
 -- The turns of the search.
 use Rattle.std.proofs.Common.{◌≡◌, ℕ, zero, suc, ◌+◌, ◌-◌, ◌<◌, ◌≤◌, ◌⊎◌, inl, inr, List, [], ◌∷◌, ◌++◌, length, Some, None, Option, refl, ap, sym, subst, arith, ◌∙◌}
-use Rattle.std.specs.Prelude.{min, slice_get}
+use Rattle.std.specs.Prelude.{min, max, slice_get}
 use Rattle.std.specs.List.{Contains}
 use Rattle.std.specs.Global.{Vec}
 use Rattle.std.proofs.lemmas.Bool.{cases_lt}
@@ -37,6 +37,8 @@ use Rattle.mh_search.specs.Rules as rules
 use Rattle.mh_search.specs.Begins.{AllBegin, IsBegun, empty_item}
 use Rattle.mh_search.specs.Tales.{NoLater, capped, weigh, WordBy, before_dot}
 use Rattle.mh_search.specs.Good.{IsStored, NextIs, InQueue, Waiting, WaysIn, ItemOk, PathOk, WholeOk, Good, IsRising, InOrder, IsFound}
+use Rattle.mh_search.specs.Numbering.{IsNumbered}
+use Rattle.mh_search.specs.Ranking.{BeforeLevel}
 use Rattle.mh_search.proofs.Wording.{word_kept, word_one, some_is, order_laws, over, free_part, free_word, no_lower, no_lower_back, told_more, new_words, words_kept, words_here, words_only}
 use Rattle.mh_search.proofs.Following.{shift_ok, join_ok, way_ok}
 use Rattle.mh_search.proofs.Taking.{in_more}
@@ -150,10 +152,10 @@ module _ (t : TableData) (f : Facts t) (c : Classes) (cls : IsClasses t c) (fact
     abbrev fact : Fact
     fact = fact_of level i
 
-    abbrev later : FactKey → Option (List ℕ)
+    abbrev pub later : FactKey → Option (List ℕ)
     later = new_words t facts good.tale i.key fact w next.fresh item_ok.by item_ok.cost_is item_ok.short
 
-    kept : (o : FactKey) (u : List ℕ) → words o ≡ Some u → later o ≡ Some u
+    pub kept : (o : FactKey) (u : List ℕ) → words o ≡ Some u → later o ≡ Some u
     kept = words_kept t facts good.tale i.key fact w next.fresh item_ok.by item_ok.cost_is item_ok.short
 
     here : later i.key ≡ Some w
@@ -177,13 +179,13 @@ module _ (t : TableData) (f : Facts t) (c : Classes) (cls : IsClasses t c) (fact
     path_ok : PathOk t later (path_of level i)
     path_ok = record { range = item_ok.range; word = w; stored = here; cost_is = item_ok.cost_is; short = item_ok.short }
 
-    each_path : (n : ℕ) (p : Path) → Contains (paths_at new n) p → PathOk t later p
+    pub each_path : (n : ℕ) (p : Path) → Contains (paths_at new n) p → PathOk t later p
     each_path n p h = elim (more.path_only n p h) [
       | inl was ↦ old_path p (good.paths n p (rw (← beside.paths) was))
       | inr is ↦ rw is path_ok
     ]
 
-    each_whole : (n : ℕ) (v : Whole) → Contains (wholes_at new n) v → WholeOk t rep later level v
+    pub each_whole : (n : ℕ) (v : Whole) → Contains (wholes_at new n) v → WholeOk t rep later level v
     each_whole n v h = elim (more.way_only n v h) [
       | inl was ↦ old_whole v (good.wholes n v (rw (← beside.wholes) was))
       | inr is ↦ way_ok t f c cls later sound level (path_of level i) v path_ok (omega arith) is.0
@@ -199,7 +201,7 @@ module _ (t : TableData) (f : Facts t) (c : Classes) (cls : IsClasses t c) (fact
     came cost o (inl h) = elim (more.only cost o h) [ inl was ↦ inl (inl (next.only cost o was)) | inr add ↦ inr add ]
     came cost o (inr h) = inl (inr h)
 
-    each_item : (cost : ℕ) (o : Item) → Waiting new level aside cost o → ItemOk t rep later cost o
+    pub each_item : (cost : ℕ) (o : Item) → Waiting new level aside cost o → ItemOk t rep later cost o
     each_item cost o h = elim (came cost o h) [ inl was ↦ old_item cost o (good.items cost o was) | inr add ↦ each_follow cost o add ]
 
     low_follow : (cost : ℕ) (o : Item) → Follows t c mid new (path_of level i) cost o → level ≤ cost
@@ -209,7 +211,7 @@ module _ (t : TableData) (f : Facts t) (c : Classes) (cls : IsClasses t c) (fact
         let e : v.cost ≡ level = ap (λ (x : Whole). x.cost) way.is in
         rw (s.cost_is, e) (no_lower_back q.cost level le_cap)
 
-    low_all : (cost : ℕ) (o : Item) → Waiting new level aside cost o → level ≤ cost
+    pub low_all : (cost : ℕ) (o : Item) → Waiting new level aside cost o → level ≤ cost
     low_all cost o h = elim (came cost o h) [ inl was ↦ good.low cost o was | inr add ↦ low_follow cost o add ]
 
     -- what follows has the word that is settled in front or behind
@@ -245,13 +247,13 @@ module _ (t : TableData) (f : Facts t) (c : Classes) (cls : IsClasses t c) (fact
     no_sooner : (cost : ℕ) (o : Item) → Waiting new level aside cost o → (u : List ℕ) → WordBy t later o.key o.back u → NoLater t w u
     no_sooner cost o h u by = elim (came cost o h) [ inl was ↦ waited_later cost o was u by | inr add ↦ follow_later cost o add u by ]
 
-    filed : (k : Way) → Knows new k → (v : Whole) × Contains (wholes_at new (place_of c k.from k.first)) v × (way_of v ≡ k)
+    pub filed : (k : Way) → Knows new k → (v : Whole) × Contains (wholes_at new (place_of c k.from k.first)) v × (way_of v ≡ k)
     filed k h = elim (more.known_only k h) [
       | inl was ↦ (let found = good.filed k (rw (← beside.known) was) in (found.0, more.way_kept _ found.0 (rw beside.wholes found.1), found.2))
       | inr is ↦ is
     ]
 
-    all_paths : (k : FactKey) (u : List ℕ) (s n : ℕ) → later k ≡ Some u → IsEnd t k.from k.production k.dot s → slice_get (rhs_of t.grammar k.production) k.dot ≡ Some (N n) → (p : Path) × Contains (paths_at new (place_of c s k.next)) p × (p.key ≡ k)
+    pub all_paths : (k : FactKey) (u : List ℕ) (s n : ℕ) → later k ≡ Some u → IsEnd t k.from k.production k.dot s → slice_get (rhs_of t.grammar k.production) k.dot ≡ Some (N n) → (p : Path) × Contains (paths_at new (place_of c s k.next)) p × (p.key ≡ k)
     all_paths k u s n e end symbol = elim (only k u e) [
       | inl was ↦ (let found = good.all_paths k u s n was end symbol in (found.0, more.path_kept _ found.0 (rw beside.paths found.1), found.2))
       | inr is ↦ (
@@ -295,7 +297,7 @@ module _ (t : TableData) (f : Facts t) (c : Classes) (cls : IsClasses t c) (fact
         ] in
         (ok.word, (found.0, found.1, found.2, ok.stored), sooner)
 
-    turn : Turn t rep (NoLater t) words later (WaysIn c words old) (WaysIn c later new) (InQueue t words (Waiting old level aside)) (InQueue t later (Waiting new level aside)) i.key w
+    pub turn : Turn t rep (NoLater t) words later (WaysIn c words old) (WaysIn c later new) (InQueue t words (Waiting old level aside)) (InQueue t later (Waiting new level aside)) i.key w
     turn = record {
       only = only;
       kept = kept;
@@ -389,7 +391,7 @@ module _ (t : TableData) (f : Facts t) (c : Classes) (cls : IsClasses t c) (fact
       after = λ k u h. no_sooner h.0 h.1 h.2 u h.4;
     }
 
-    turn_good : Good t c (facts ++ (i.key, fact) ∷ []) new level aside
+    unfoldable pub turn_good : Good t c (facts ++ (i.key, fact) ∷ []) new level aside
     turn_good = record {
       tale = told_more t facts good.tale i.key fact w next.fresh item_ok.by item_ok.cost_is item_ok.short;
       ready = record {
@@ -406,23 +408,29 @@ module _ (t : TableData) (f : Facts t) (c : Classes) (cls : IsClasses t c) (fact
       filed = filed;
     }
 
-    -- what follows with the same cost has the same word, or is too dear
-    level_word : (cost : ℕ) (o : Item) → Follows t c mid new (path_of level i) cost o → cost ≡ level → (u : List ℕ) → WordBy t later o.key o.back u → (v : List ℕ) → NoLater t w v → NoLater t u v
-    level_word cost o add same u by v le =
-        let ok = each_follow cost o add in
+    -- what follows with the same cost has the same word, where that is not too dear
+    pub follow_same : (o : Item) → Follows t c mid new (path_of level i) level o → (u : List ℕ) → WordBy t later o.key o.back u → level < cap → u ≡ w
+    follow_same o add u by lt =
+        let ok = each_follow level o add in
         let one : u ≡ ok.word = word_one t later o.key o.back u ok.word by ok.by in
-        let cost_is : level ≡ capped t u = rw one (sym same ∙ ok.cost_is) in
-        elim (cases_lt level cap) [
-          | inl lt ↦ (elim (follow_parts cost o add u by) [
-            | inl p ↦ rw (p.1 ∙ same_front t w p.0 level lt item_ok.cost_is (rw p.1 at cost_is)) le
-            | inr p ↦ rw (p.1 ∙ same_back t p.0 w level lt item_ok.cost_is (rw p.1 at cost_is)) le
-          ])
-          | inr ge ↦ (
-              let top : level ≡ cap = omega arith in
-              over t u v (sym top ∙ cost_is) (over_up t w v (sym top ∙ item_ok.cost_is) le))
+        let cost_is : level ≡ capped t u = rw one ok.cost_is in
+        elim (follow_parts level o add u by) [
+          | inl p ↦ p.1 ∙ same_front t w p.0 level lt item_ok.cost_is (rw p.1 at cost_is)
+          | inr p ↦ p.1 ∙ same_back t p.0 w level lt item_ok.cost_is (rw p.1 at cost_is)
         ]
 
-    turn_flat : (o q : Item) (cost : ℕ) (u v : List ℕ) → Waits (queue_of new) level o → Waiting new level aside cost q → WordBy t later o.key o.back u → WordBy t later q.key q.back v → NoLater t u v
+    -- else it is too dear
+    level_word : (o : Item) → Follows t c mid new (path_of level i) level o → (u : List ℕ) → WordBy t later o.key o.back u → (v : List ℕ) → NoLater t w v → NoLater t u v
+    level_word o add u by v le = elim (cases_lt level cap) [
+      | inl lt ↦ rw (follow_same o add u by lt) le
+      | inr ge ↦ (
+          let ok = each_follow level o add in
+          let one : u ≡ ok.word = word_one t later o.key o.back u ok.word by ok.by in
+          let top : level ≡ cap = omega arith in
+          over t u v (sym top ∙ rw one ok.cost_is) (over_up t w v (sym top ∙ item_ok.cost_is) le))
+    ]
+
+    pub turn_flat : (o q : Item) (cost : ℕ) (u v : List ℕ) → Waits (queue_of new) level o → Waiting new level aside cost q → WordBy t later o.key o.back u → WordBy t later q.key q.back v → NoLater t u v
     turn_flat o q cost u v there waits by by' = elim (more.only level o there) [
       | inl was ↦ (
           let before = next.only level o was in
@@ -430,10 +438,10 @@ module _ (t : TableData) (f : Facts t) (c : Classes) (cls : IsClasses t c) (fact
           let one : u ≡ ok.word = word_one t later o.key o.back u ok.word by (word_kept t words later o.key o.back ok.word kept ok.by) in
           let first : NoLater t u w = rw one (flat o i level ok.word w before (inl next.was) ok.by item_ok.by) in
           laws.after u w v first (no_sooner cost q waits v by'))
-      | inr add ↦ level_word level o add refl u by v (no_sooner cost q waits v by')
+      | inr add ↦ level_word o add u by v (no_sooner cost q waits v by')
     ]
 
-    pub turn_settles : InOrder t c (facts ++ (i.key, fact) ∷ []) new level aside
+    unfoldable pub turn_settles : InOrder t c (facts ++ (i.key, fact) ∷ []) new level aside
     unfolding turn_good
     turn_settles = record {
       good = turn_good;
@@ -491,8 +499,8 @@ module _ (t : TableData) (f : Facts t) (c : Classes) (cls : IsClasses t c) (work
   }
 
 -- where it ends
-search_left : (t : TableData) (f : Facts t) (c : Classes) (found : Found) (level : ℕ) (good : Good t c found.store found.work level []) → ((k : FactKey) (u : List ℕ) → InQueue t good.tale.words (Waiting found.work level []) k u → ⊥) → IsFound t c found
-search_left t f c found level good none =
+search_left : (t : TableData) (f : Facts t) (c : Classes) (found : Found) (level : ℕ) (good : Good t c found.store found.work level []) → IsNumbered found.store good.tale.words (max 1 level) found.numbering → level ≤ cap + 1 → ((k : FactKey) (u : List ℕ) → InQueue t good.tale.words (Waiting found.work level []) k u → ⊥) → IsFound t c found
+search_left t f c found level good numbered le none =
     let waiting = Waiting found.work level [] in
     record {
       tale = good.tale;
@@ -501,10 +509,11 @@ search_left t f c found level good none =
       closed = empty_closed t f (rep_of c) (NoLater t) (order_laws t) good.tale.words (WaysIn c good.tale.words found.work) (InQueue t good.tale.words waiting) good.frontier none;
       complete = empty_complete t f (rep_of c) (NoLater t) (order_laws t) good.tale.words (WaysIn c good.tale.words found.work) (InQueue t good.tale.words waiting) good.frontier none;
       wholes = λ n w h. (let ok = good.wholes n w h in record { few = ok.few; low = ok.few; from = ok.from; edge = ok.edge; next = ok.next; word = ok.word; stored = ok.stored; cost_is = ok.cost_is; short = ok.short; sound = ok.sound });
+      numbered = record { long = numbered.long; each = numbered.each; below = λ n lt. (let less = numbered.below n lt in let high : max 1 level ≤ cap + 1 = grind (arith, common_steps, le) in omega arith) };
     }
 
-pub search_ends : (t : TableData) (f : Facts t) (c : Classes) (found : Found) → Good t c found.store found.work (cap + 1) [] → IsFound t c found
-search_ends t f c found good = search_left t f c found (cap + 1) good (λ k u h. (let low = good.low h.0 h.1 h.2 in let high = (good.items h.0 h.1 h.2).range.cost in omega arith))
+pub search_ends : (t : TableData) (f : Facts t) (c : Classes) (found : Found) → BeforeLevel t c found (cap + 1) → IsFound t c found
+search_ends t f c found before = let good = before.good in search_left t f c found (cap + 1) good before.numbered (omega arith) (λ k u h. (let low = good.low h.0 h.1 h.2 in let high = (good.items h.0 h.1 h.2).range.cost in omega arith))
 
 -- what waits has a row
 has_row : {X : Type 0} (rows : List (Vec X)) (n : ℕ) (x : X) → Waits rows n x → n < length rows
@@ -513,9 +522,9 @@ has_row (r ∷ rows) zero x h = omega arith
 has_row (r ∷ rows) (suc n) x h = let l = has_row rows n x h in omega arith
 
 -- the search is done where nothing waits
-pub search_done : (t : TableData) (f : Facts t) (c : Classes) (found : Found) (level : ℕ) → Good t c found.store found.work level [] → length (queue_of found.work) ≤ level → IsFound t c found
-search_done t f c found level good le = search_left t f c found level good (λ k u h. none h.0 h.1 h.2)
+pub search_done : (t : TableData) (f : Facts t) (c : Classes) (found : Found) (level : ℕ) → BeforeLevel t c found level → level ≤ cap + 1 → length (queue_of found.work) ≤ level → IsFound t c found
+search_done t f c found level before most le = search_left t f c found level before.good before.numbered most (λ k u h. none h.0 h.1 h.2)
   where
     none : (cost : ℕ) (i : Item) → Waiting found.work level [] cost i → ⊥
-    none cost i (inl there) = let lt = has_row (queue_of found.work) cost i there in let low = good.low cost i (inl there) in omega arith
+    none cost i (inl there) = let lt = has_row (queue_of found.work) cost i there in let low = before.good.low cost i (inl there) in omega arith
     none cost i (inr beside) = let l = (beside.1).1 in omega arith

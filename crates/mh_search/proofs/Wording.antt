@@ -122,6 +122,14 @@ last_high (x ∷ a) q g e = by (same_fact q x.0) e (last_high a q g)
     by true e go = let y : Some x.1 ≡ Some g = e in let z : x.1 ≡ g = cc in rw (← z) (first_than x.1.cost (last_of a))
     by false e go = more_than x.1.cost (last_of a) g.cost (go e)
 
+-- a fact with a word is stored
+pub fact_of_word : (t : TableData) (facts : Facts) (tale : Tale t facts) (k : FactKey) (v : List ℕ) → tale.words k ≡ Some v → (f : Fact) × (fact_at facts k ≡ Some f)
+fact_of_word t facts tale k v e = by (fact_at facts k) refl
+  where
+    by : (o : Option Fact) → fact_at facts k ≡ o → (f : Fact) × (fact_at facts k ≡ Some f)
+    by None none = absurd (let n = tale.none k none in let y : None ≡ Some v = sym n ∙ e in cc)
+    by (Some f) is = (f, is)
+
 -- one fact more
 module _ (t : TableData) (facts : Facts) (tale : Tale t facts) (k : FactKey) (f : Fact) (w : List ℕ) (fresh : fact_at facts k ≡ None) (by : WordBy t tale.words k f.back w) (cost_is : f.cost ≡ capped t w) (short : f.cost ≡ 0 → w ≡ []) where
   abbrev pub new_words : FactKey → Option (List ℕ)

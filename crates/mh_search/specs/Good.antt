@@ -1,5 +1,5 @@
 -- The search between two of its turns.
-use Rattle.std.specs.Prelude.{◌≡◌, ℕ, List, [], ◌∷◌, ◌++◌, slice_get, Option, Some, None, ◌<◌, ◌≤◌, ◌⊎◌, length}
+use Rattle.std.specs.Prelude.{◌≡◌, ℕ, List, [], ◌∷◌, ◌++◌, slice_get, Option, Some, None, ◌<◌, ◌≤◌, ◌⊎◌, ◌+◌, length}
 use Rattle.std.specs.List.{Contains}
 use Rattle.mh_grammar.specs.declared.types.Symbol.TheVariants.{N}
 use Rattle.mh_grammar.specs.Plain.{rhs_of}
@@ -20,6 +20,7 @@ use Rattle.mh_search.specs.Rows.{Waits, IsOne, Beside}
 use Rattle.mh_search.specs.Classes.{rep_of, place_of}
 use Rattle.mh_search.specs.Rules.{InRange, path_of, way_of, queue_of, paths_at, wholes_at, Knows, IsReady}
 use Rattle.mh_search.specs.Tales.{NoLater, capped, WordBy, Tale}
+use Rattle.mh_search.specs.Numbering.{IsNumbered}
 
 -- some fact is stored for the key
 abbrev pub IsStored : Facts → FactKey → Type 0
@@ -37,9 +38,10 @@ pub record NoneIsNext (facts : Facts) (old new : List (Rattle.std.specs.Global.V
   pub kept : (c : ℕ) (o : Item) → Waits old c o → Waits new c o ⊎ IsStored facts o.key
   pub only : (c : ℕ) (o : Item) → Waits new c o → Waits old c o
 
-abbrev pub NextNew : Facts → List (Rattle.std.specs.Global.Vec Item) → List (Rattle.std.specs.Global.Vec Item) → ℕ → Option Item → Type 0
-NextNew facts old new cost None = NoneIsNext facts old new cost
-NextNew facts old new cost (Some i) = NextIs facts old new cost i
+-- it is stored
+abbrev pub SettlesNext : Facts → Facts → List (Rattle.std.specs.Global.Vec Item) → List (Rattle.std.specs.Global.Vec Item) → ℕ → Option Item → Type 0
+SettlesNext facts more old new cost None = (more ≡ facts) × NoneIsNext facts old new cost
+SettlesNext facts more old new cost (Some i) = (more ≡ facts ++ (i.key, record { cost = cost; back = i.back }) ∷ []) × NextIs facts old new cost i
 
 -- the words that wait for a key
 abbrev pub InQueue : TableData → (FactKey → Option (List ℕ)) → (ℕ → Item → Type 0) → FactKey → List ℕ → Type 0
@@ -136,3 +138,4 @@ pub record IsFound (t : TableData) (c : Classes) (found : Found) : Type 0 where
   pub closed : Closes t (rep_of c) (NoLater t) tale.words (WaysIn c tale.words found.work) (Holds (NoLater t) tale.words)
   pub complete : Complete t (rep_of c) (NoLater t) tale.words
   pub wholes : (n : ℕ) (w : Whole) → Contains (wholes_at found.work n) w → WholeOk t (rep_of c) tale.words cap w
+  pub numbered : IsNumbered found.store tale.words (cap + 1) found.numbering

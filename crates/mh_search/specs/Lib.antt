@@ -4,9 +4,10 @@ pub mod Classes
 pub mod Classing
 pub mod Good
 pub mod Left
+pub mod Numbering
 pub mod Past
+pub mod Ranking
 pub mod Rows
 pub mod Rules
-pub mod Sorted
 pub mod Tails
 pub mod Tales

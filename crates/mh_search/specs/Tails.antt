@@ -6,14 +6,12 @@ use Rattle.mh_facts.specs.declared.store.Back.{Back}
 use Rattle.mh_facts.specs.declared.store.Back.TheVariants as backs
 use Rattle.mh_facts.specs.Stored.{Facts}
 use Rattle.mh_tables.specs.Failing.{LexLe}
-use Rattle.mh_search.specs.declared.work.Item.{Item}
 use Rattle.mh_search.specs.declared.tails.Part.{Part}
 use Rattle.mh_search.specs.declared.tails.Part.TheVariants as parts
 use Rattle.mh_search.specs.declared.tails.Rests.{Rests}
 use Rattle.mh_search.specs.declared.tails.Tops.{Tops}
 use Rattle.mh_search.specs.declared.tails.Tops.TheVariants as tops
-use Rattle.mh_search.specs.Tales.{WordBy, Tale, before_dot, sizes_of}
-use Rattle.mh_search.specs.Sorted.{IsNoHigher}
+use Rattle.mh_search.specs.Tales.{Tale, before_dot, sizes_of}
 
 -- the word of a part
 abbrev pub IsWordOf : (FactKey → Option (List ℕ)) → Part → List ℕ → Type 0
@@ -78,18 +76,6 @@ pub record AreComparable (t : TableData) (facts : Facts) (left right : List Part
   pub right_word : List ℕ
   pub left_is : AreWordOf tale.words left left_word
   pub right_is : AreWordOf tale.words right right_word
-
--- the same of two items
-abbrev pub IsAfter : TableData → Facts → Item → Item → Bool → Type 0
-IsAfter t facts left right true = (tale : Tale t facts) → IsNoHigher t tale.words right left
-IsAfter t facts left right false = (tale : Tale t facts) → IsNoHigher t tale.words left right
-
-pub record HaveWords (t : TableData) (facts : Facts) (left right : Item) : Type 0 where
-  pub tale : Tale t facts
-  pub left_word : List ℕ
-  pub right_word : List ℕ
-  pub left_by : WordBy t tale.words left.key left.back left_word
-  pub right_by : WordBy t tale.words right.key right.back right_word
 
 -- two words are a front and what is left of them
 pub record Shares (t : TableData) (facts : Facts) (tale : Tale t facts) (left right : List Part) (u v : List ℕ) : Type 0 where

@@ -1,37 +1,47 @@
 //! Facts are settled in order of their costs.
 ghost use Rattle.std.specs.Prelude.{◌≡◌, ◌↔◌, IsTrue, ◌≤◌, ◌<◌, ◌+◌, [], OnOk, IfOk, Some, drop, length, slice_get};
+ghost use Rattle.mh_facts.specs.Stored.{last_of};
 ghost use Rattle.mh_least.specs.Orders.{cap};
 ghost use Rattle.mh_search.specs.Classes.{IsClasses};
-ghost use Rattle.mh_search.specs.Good.{NextNew, KeepsNew, AllTaken, Good, LevelReady, IsFound};
+ghost use Rattle.mh_search.specs.Good.{SettlesNext, KeepsNew, AllTaken, IsFound};
+ghost use Rattle.mh_search.specs.Ranking.{BeforeLevel, InLevel};
 
 use crate::begins::begin;
 use crate::classes::Classes;
 use crate::joins::{CAP, expand};
+use crate::numbering::{Numbering, numbers_of};
 use crate::queue::{Queue, push, take};
-use crate::sorting::sorted;
+use crate::ranking::{Ranked, in_order};
 use crate::work::{Item, Path, Work};
 use mh_facts::FactStore;
 use mh_grammar::Memory;
 use mh_tables::Table;
+use mh_words::Book;
 use std::alloc::Global;
 
-/// The settled facts, and the ways over nonterminals.
+/// The settled facts, the ways over nonterminals, and the words of the facts.
 #[derive(Drop)]
 pub struct Found {
     pub store: FactStore,
     pub work: Work,
+    pub numbering: Numbering,
 }
 
-/// Takes the next item of a cost that is not stored; those that are stored are dropped.
-fn next_new(queue: &mut Queue<Item>, store: &FactStore, cost: u32) -> Option<Item>
-    ensures { NextNew store.now queue.old.buckets.items queue.new.buckets.items cost result }
+/// Takes the next item of a cost that is not stored, and stores it; those that are stored are dropped.
+fn settle_next(
+    queue: &mut Queue<Item>,
+    store: &mut FactStore,
+    cost: u32,
+) -> Result<Option<Item>, Memory>
+    requires { last_of store.old ≤ cost }
+    ensures { IfOk result (SettlesNext store.old store.new queue.old.buckets.items queue.new.buckets.items cost) }
 {
     'items: loop {
         match take(queue, cost) {
-            None => return None,
+            None => return Ok(None),
             Some(item) => {
-                if store.cost(&item.key).is_none() {
-                    return Some(item);
+                if store.settle(item.key, cost, item.back)? {
+                    return Ok(Some(item));
                 }
             }
         }
@@ -42,7 +52,7 @@ fn next_new(queue: &mut Queue<Item>, store: &FactStore, cost: u32) -> Option<Ite
 fn keep_new(all: &mut Vec<Item>, store: &FactStore, item: Item) -> Result<(), Memory>
     ensures { OnOk result (KeepsNew store.now item all.old.items all.new.items) }
 {
-    if store.cost(&item.key).is_none() {
+    if store.place(&item.key).is_none() {
         all.push(item)?;
     }
     Ok(())
@@ -70,18 +80,18 @@ fn all_new(
 #[derive(Clone, Copy, Debug, Drop)]
 struct Level<'a> {
     cost: u32,
-    items: &'a [Item],
+    items: &'a [Ranked],
 }
 
 /// An item of a level.
-fn item_at(level: &Level, place: usize) -> Item
+fn ranked_at(level: &Level, place: usize) -> Ranked
     requires { place < length level.now.items.now }
     ensures { slice_get level.now.items.now place ≡ Some result }
 {
     level.items[place]
 }
 
-/// Settles one item of a level, and what follows from it with the same cost.
+/// Settles one item of a level, and what follows from it with the same cost, which has the same word.
 fn settle_one(
     alloc: Global,
     table: &Table,
@@ -92,18 +102,18 @@ fn settle_one(
 ) -> Result<(), Memory>
     requires classes { IsClasses table.now classes.now }
     requires place { place < length level.now.items.now }
-    requires ready { LevelReady table.now classes.now found.old.store found.old.work level.now.cost (drop place level.now.items.now) }
+    requires ready { InLevel table.now classes.now found.old level.now.cost (drop place level.now.items.now) }
     requires cost { level.now.cost ≤ cap }
-    ensures { OnOk result (LevelReady table.now classes.now found.new.store found.new.work level.now.cost (drop (place + 1) level.now.items.now)) }
+    ensures { OnOk result (InLevel table.now classes.now found.new level.now.cost (drop (place + 1) level.now.items.now)) }
 {
     table.facts();
-    let item = item_at(level, place);
-    push(alloc, &mut found.work.queue, level.cost, item)?;
+    let ranked = ranked_at(level, place);
+    push(alloc, &mut found.work.queue, level.cost, ranked.item)?;
     'turns: loop {
-        match next_new(&mut found.work.queue, &found.store, level.cost) {
+        match settle_next(&mut found.work.queue, &mut found.store, level.cost)? {
             None => return Ok(()),
             Some(item) => {
-                found.store.settle(item.key, level.cost, item.back)?;
+                found.numbering.numbers.push(ranked.word)?;
                 let path = Path {
                     key: item.key,
                     end: item.end,
@@ -124,22 +134,15 @@ fn settle_each(
     level: &Level,
 ) -> Result<(), Memory>
     requires classes { IsClasses table.now classes.now }
-    requires ready { LevelReady table.now classes.now found.old.store found.old.work level.now.cost level.now.items.now }
+    requires ready { InLevel table.now classes.now found.old level.now.cost level.now.items.now }
     requires cost { level.now.cost ≤ cap }
-    ensures { OnOk result (Good table.now classes.now found.new.store found.new.work (level.now.cost + 1) []) }
+    ensures { OnOk result (BeforeLevel table.now classes.now found.new (level.now.cost + 1)) }
 {
     table.facts();
     for place in 0..level.items.len() {
         settle_one(alloc, table, classes, found, level, place)?;
     }
     Ok(())
-}
-
-/// Whether words of a cost are too dear to be put in order.
-fn is_over(cost: u32) -> bool
-    ensures { IsTrue result ↔ (cost ≡ cap) }
-{
-    cost == CAP
 }
 
 /// Settles all that waits with a cost, and what follows from it with the same cost.
@@ -151,17 +154,23 @@ fn settle_level(
     cost: u32,
 ) -> Result<(), Memory>
     requires classes { IsClasses table.now classes.now }
-    requires good { Good table.now classes.now found.old.store found.old.work cost [] }
+    requires before { BeforeLevel table.now classes.now found.old cost }
     requires cost { cost ≤ cap }
-    ensures { OnOk result (Good table.now classes.now found.new.store found.new.work (cost + 1) []) }
+    ensures { OnOk result (BeforeLevel table.now classes.now found.new (cost + 1)) }
 {
     table.facts();
     let all = all_new(alloc, &mut found.work.queue, &found.store, cost)?;
-    if is_over(cost) {
-        let items = all.as_slice();
-        return settle_each(alloc, table, classes, found, &Level { cost, items });
-    }
-    let ordered = sorted(alloc, table, &found.store, all.as_slice())?;
+    let items = all.as_slice();
+    let words = numbers_of(
+        alloc,
+        table,
+        &found.store,
+        &mut found.numbering,
+        cost,
+        items,
+    )?;
+    found.numbering.book.rising();
+    let ordered = in_order(alloc, items, words.as_slice())?;
     let items = ordered.as_slice();
     settle_each(alloc, table, classes, found, &Level { cost, items })
 }
@@ -182,7 +191,15 @@ pub fn search(alloc: Global, table: &Table, classes: &Classes) -> Result<Found, 
     table.facts();
     let store = FactStore::new(alloc);
     let work = begin(alloc, table, classes)?;
-    let mut found = Found { store, work };
+    let numbering = Numbering {
+        numbers: Vec::new(alloc),
+        book: Book::new(alloc),
+    };
+    let mut found = Found {
+        store,
+        work,
+        numbering,
+    };
     for cost in 0..CAP + 1 {
         if is_done(&found, cost) {
             return Ok(found);

@@ -1,14 +1,12 @@
 //! Words of settled facts, compared from their fronts through what the facts came from: no word is written out.
-ghost use Rattle.std.specs.Prelude.{◌≡◌, ◌++◌, [], IfOk, OnOk};
-ghost use Rattle.mh_search.specs.Tails.{Opens, TakesTops, Turns, AreComparable, HaveWords, IsAfter, IsLater, parts_of};
-ghost use Rattle.mh_search.specs.Tales.{before_dot, listed};
+ghost use Rattle.std.specs.Prelude.{◌≡◌, ◌++◌, IfOk, OnOk};
+ghost use Rattle.mh_search.specs.Tails.{Opens, TakesTops, Turns, AreComparable, IsLater, parts_of};
 ghost use Rattle.mh_search.specs.declared.tails.Part.TheVariants as TheParts;
 
-use crate::work::Item;
+use crate::numbering::token_before;
 use mh_facts::{Back, FactKey, FactStore};
-use mh_grammar::{Memory, Symbol, Token};
+use mh_grammar::{Memory, Token};
 use mh_tables::Table;
-use std::alloc::Global;
 
 /// A part of a word.
 #[derive(Clone, Copy, Debug, PartialEq, Eq, Drop)]
@@ -16,24 +14,6 @@ pub enum Part {
     Token(Token),
     /// The word of a settled fact.
     Fact(FactKey),
-}
-
-/// The token before the dot.
-#[tactic(auto, unfolding(mh_grammar::specs::Plain::rhs_of))]
-pub fn token_before(table: &Table, key: FactKey) -> Option<Token>
-    ensures { listed result ≡ before_dot table.now key }
-{
-    if key.production >= table.productions() {
-        return None;
-    }
-    let place = if key.dot == 0 { 0 } else { key.dot - 1 };
-    if place >= table.length_of(key.production) {
-        return None;
-    }
-    match table.symbol_of(key.production, place) {
-        Symbol::T(token) => Some(token),
-        Symbol::N(_) => None,
-    }
 }
 
 /// The parts that a word is made of by what its fact came from, the first on top.
@@ -165,40 +145,4 @@ pub fn is_later(table: &Table, store: &FactStore, rests: &mut Rests) -> Result<b
             },
         }
     }
-}
-
-/// Whether the first of two words comes later.
-fn compare(
-    table: &Table,
-    store: &FactStore,
-    rests: &mut Rests,
-    left: Item,
-    right: Item,
-) -> Result<bool, Memory>
-    requires left_empty { rests.old.left.items ≡ [] }
-    requires right_empty { rests.old.right.items ≡ [] }
-    requires known { HaveWords table.now store.now left right }
-    ensures { IfOk result (IsAfter table.now store.now left right) }
-{
-    put_parts(table, &mut rests.left, left.key, left.back)?;
-    put_parts(table, &mut rests.right, right.key, right.back)?;
-    is_later(table, store, rests)
-}
-
-/// Whether the first of two words comes later; false where they are equal.
-pub fn comes_later(
-    alloc: Global,
-    table: &Table,
-    store: &FactStore,
-    left: Item,
-    right: Item,
-) -> Result<bool, Memory>
-    requires { HaveWords table.now store.now left right }
-    ensures { IfOk result (IsAfter table.now store.now left right) }
-{
-    let mut rests = Rests {
-        left: Vec::new(alloc),
-        right: Vec::new(alloc),
-    };
-    compare(table, store, &mut rests, left, right)
 }

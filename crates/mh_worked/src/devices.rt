@@ -199,9 +199,18 @@ fn each_read_fails_in_turn(rt: HostRuntime) -> Result<(), Fail> {
 
 /// An input that counts its reads, and tells nothing.
 #[derive(Drop)]
-struct Counted {
+pub struct Counted {
     input: MemSource,
-    reads: u64,
+    pub reads: u64,
+}
+
+impl Counted {
+    pub fn new(bytes: Vec<u8>, fails: Vec<u64>) -> Counted {
+        Counted {
+            input: MemSource::new(bytes, fails),
+            reads: 0,
+        }
+    }
 }
 
 impl Source for Counted {
@@ -225,10 +234,7 @@ fn no_line_is_taken_after_a_fault(rt: HostRuntime) -> Result<(), Fail> {
         files.push((b"g.mly".to_vec(alloc)?, ONE_SENTENCE.to_vec(alloc)?))?;
         let mut shelf = shelf_of(&rt, files, Vec::new(alloc));
         let lines = b"A EOF\nA EOF\nA EOF\n".to_vec(alloc)?;
-        let mut input = Counted {
-            input: MemSource::new(lines, Vec::new(alloc)),
-            reads: 0,
-        };
+        let mut input = Counted::new(lines, Vec::new(alloc));
         let mut out = MemSink::new(alloc, [fail].to_vec(alloc)?);
         let mut err = MemSink::new(alloc, Vec::new(alloc));
         let words = words_of(alloc, "--interpret g.mly")?;

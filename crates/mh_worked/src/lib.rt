@@ -10,6 +10,8 @@ mod errors;
 #[cfg(test)]
 mod explained;
 #[cfg(test)]
+mod faults;
+#[cfg(test)]
 mod interpreting;
 #[cfg(test)]
 mod keeping;

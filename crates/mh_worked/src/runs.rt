@@ -44,7 +44,11 @@ impl Fails {
     /// Adds a line of a device and the number of a call.
     fn add(&mut self, line: &str) -> Result<(), Fail> {
         let (device, call) = line.split_once(' ').ok_or("a device without a call")?;
-        let call = call.parse()?;
+        self.push(device, call.parse()?)
+    }
+
+    /// Adds a call of a device.
+    pub fn push(&mut self, device: &str, call: u64) -> Result<(), Fail> {
         match device {
             "shelf" => self.shelf.push(call)?,
             "input" => self.input.push(call)?,
@@ -145,7 +149,7 @@ fn add_file(alloc: Global, files: &mut Vec<(Vec<u8>, Vec<u8>)>, file: &str) -> R
 }
 
 /// The shared file and those of a case.
-fn given_files(
+pub fn given_files(
     alloc: Global,
     shared: Option<&str>,
     named: &[&str],

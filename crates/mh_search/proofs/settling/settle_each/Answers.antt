@@ -1,10 +1,10 @@
 use Rattle.std.proofs.Common.{◌≤◌, arith, length}
 use Rattle.std.proofs.Math.ListN.{drop_of_length-le}
-use Rattle.mh_search.proofs.Levels.{level_done}
+use Rattle.mh_search.proofs.Ranks.{ranked_done}
 use Rattle.mh_search.proofs.settling.settle_each.Goals as goal
 
 pub returns : goal.returns
 returns c =
     let items = c.args.level.now.items.now in
     let le : length items ≤ c.loop-place.place = (let a = c.loop-place-test.false in omega arith) in
-    level_done c.args.table.now c.facts.ensures c.args.classes.now c.requires.classes c.loop-place.found.store c.loop-place.found.work c.args.level.now.cost (rw (drop_of_length-le items le) at c.loop-place.invariant)
+    ranked_done c.args.table.now c.facts.ensures c.args.classes.now c.requires.classes c.loop-place.found c.args.level.now.cost (rw (drop_of_length-le items le) at c.loop-place.invariant)

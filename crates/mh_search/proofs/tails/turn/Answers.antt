@@ -1,6 +1,6 @@
 use Rattle.std.proofs.Common.{refl, ap, sym, ◌∙◌}
 use Rattle.mh_search.specs.declared.tails.Part.TheVariants as parts
-use Rattle.mh_search.proofs.Putting.{same_fact_is}
+use Rattle.mh_facts.proofs.Storing.{same_fact_is}
 use Rattle.mh_search.proofs.Compared.{same_parts, right_opened, left_opened}
 use Rattle.mh_search.proofs.tails.turn.Goals as goal
 

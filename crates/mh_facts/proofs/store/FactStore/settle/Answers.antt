@@ -1,4 +1,4 @@
-use Rattle.std.proofs.Common.{◌≡◌, None, sym, ◌∙◌, refl, ap, ◌++◌, ◌∷◌, []}
+use Rattle.std.proofs.Common.{◌≡◌, None, sym, ◌∙◌, ap, ◌++◌, ◌∷◌, []}
 use Rattle.mh_facts.specs.Stored.{Facts, fact_at, last_of}
 use Rattle.mh_facts.proofs.Storing.{last_push, entries_push}
 use Rattle.mh_facts.proofs.store.FactStore.settle.Goals as goal

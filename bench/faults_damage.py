@@ -1,0 +1,151 @@
+"""Feeds damaged files: 10,000 grammar and messages files, 2,000 inputs, and, where the program knows them, 3,000 table files: cut, with
+bytes turned, lines doubled or swapped.
+
+No run ends by a signal, or with another status than 0 and 1, takes more than ten seconds of a processor, or more than 1 GB; where a
+file is refused, nothing is on out and the last line on err says why.
+"""
+import os
+import random
+import sys
+
+sys.path.insert(0, sys.argv[2])
+from hostile import BENCH, CALC, Part, each, put, run, with_messages
+
+COUNTS = {"grammar": 7_000, "messages": 3_000, "input": 2_000}
+SECONDS, MEGABYTES = 10, 1024
+# What a damaged file may get: the signs of all formats.
+SIGNS = rb"""%{ %} %% %token %start %inline %prec %left %public | : ; , = ? * + ( ) { } < > [ ] (* *) /* */ // " ' \ # ## @ error let _ $1 0 A""".split()
+
+GRAMMAR_WORDS = [
+    ["--interpret"],
+    ["--show-automaton"],
+    ["--canonical", "--show-automaton"],
+    ["--list-errors"],
+    ["--interpret", "--interpret-show-cst"],
+    ["--strict", "--no-stdlib", "--list-errors"],
+]
+MESSAGES_WORDS = [
+    lambda name: ["--compile-errors", name],
+    lambda name: ["--echo-errors", name],
+    lambda name: ["--update-errors", name],
+    lambda name: ["--interpret", "--messages", name],
+    lambda name: ["--compare-errors", name, "--compare-errors", "whole.messages"],
+    lambda name: ["--compare-errors", "whole.messages", "--compare-errors", name],
+]
+TABLE_WORDS = [["--interpret"], ["--list-errors"], ["--show-automaton"], ["--interpret", "--interpret-show-cst"]]
+SENTENCE = b"LBRACE STRING COLON LBRACKET NUMBER COMMA NULL RBRACKET RBRACE EOF\n"
+SESSION = b"begin a\noffer a NUMBER\nfork a b\nresume a\nresume a\nshow b\noffer a EOF\nresume a\nresume a\nresume a\ntree a\n"
+
+
+def cut(chance, text):
+    return text[: chance.randrange(len(text) + 1)]
+
+
+def turn_bytes(chance, text):
+    turned = bytearray(text)
+    for _ in range(chance.randint(1, 8)):
+        if turned:
+            turned[chance.randrange(len(turned))] = chance.choice([chance.randrange(256), chance.choice(b"{}()[]<>%|:;,\"'\\ \n#*/A0")])
+    return bytes(turned)
+
+
+def put_sign(chance, text):
+    at = chance.randrange(len(text) + 1)
+    return text[:at] + chance.choice([b"", b" "]) + chance.choice(SIGNS) * chance.choice([1, 1, 2, 50]) + text[at:]
+
+
+def double_line(chance, text):
+    lines = text.split(b"\n")
+    at = chance.randrange(len(lines))
+    return b"\n".join(lines[:at] + [lines[at]] * chance.choice([2, 2, 3, 100]) + lines[at + 1 :])
+
+
+def swap_lines(chance, text):
+    lines = text.split(b"\n")
+    one, other = chance.randrange(len(lines)), chance.randrange(len(lines))
+    lines[one], lines[other] = lines[other], lines[one]
+    return b"\n".join(lines)
+
+
+def drop_line(chance, text):
+    lines = text.split(b"\n")
+    del lines[chance.randrange(len(lines))]
+    return b"\n".join(lines)
+
+
+def swap_words(chance, text):
+    words = text.split(b" ")
+    one, other = chance.randrange(len(words)), chance.randrange(len(words))
+    words[one], words[other] = words[other], words[one]
+    return b" ".join(words)
+
+
+DAMAGES = [cut, turn_bytes, put_sign, double_line, swap_lines, drop_line, swap_words]
+
+
+def damaged(chance, text):
+    for _ in range(chance.choice([1, 1, 1, 2, 4])):
+        text = chance.choice(DAMAGES)(chance, text)
+    return text
+
+
+def grammars():
+    """Whole grammars: two small ones and a larger one."""
+    yield CALC.encode()
+    for name in ("json/json.mly", "lua/lua.mly"):
+        with open(os.path.join(BENCH, "grammars", name), "rb") as file:
+            yield file.read()
+
+
+def main():
+    part = Part("damaged files")
+    texts = list(grammars())
+    put("whole.mly", texts[1])
+    entries = run("made", ["--list-errors", "whole.mly"])
+    messages = with_messages(entries.out).encode()
+    put("whole.messages", messages)
+    table = run("made", ["--write-tables", "whole.mly"])
+    counts = {**COUNTS, "table": 3_000} if table.status == 0 else COUNTS
+    endings = {}
+
+    def work(place, pair):
+        kind, number = pair
+        chance = random.Random(f"{kind} {number}")
+        given = SENTENCE
+        if kind == "grammar":
+            name = f"{place}.mly"
+            put(name, damaged(chance, chance.choice(texts)))
+            words = [*chance.choice(GRAMMAR_WORDS), name]
+            given = b"INT PLUS INT EOF\n"
+        elif kind == "messages":
+            name = f"{place}.messages"
+            put(name, damaged(chance, messages))
+            words = [*chance.choice(MESSAGES_WORDS)(name), "whole.mly"]
+        elif kind == "table":
+            name = f"{place}.table"
+            put(name, damaged(chance, table.out))
+            words = ["--tables", name, *chance.choice(TABLE_WORDS), "whole.mly"]
+        else:
+            mode, text = chance.choice([("--session", SESSION), ("--interpret", SENTENCE), ("--interpret-error", b"COMMA\n")])
+            given = damaged(chance, text)
+            words = [mode, "whole.mly"]
+        ran = run(place, words, given, limit=2 * SECONDS)
+        what = f"{kind} {number}: {' '.join(words)}"
+        if ran.status not in (0, 1):
+            part.fail(f"{what}: its end", ran)
+        if ran.seconds > SECONDS or ran.megabytes > MEGABYTES:
+            part.fail(f"{what}: time or memory", ran)
+        if ran.status == 1 and (ran.out or not ran.err.startswith(b"menhir: ") or not ran.err.endswith(b"\n")):
+            part.fail(f"{what}: its texts", ran)
+        return kind, ran
+
+    pairs = [(kind, number) for kind, count in counts.items() for number in range(count)]
+    for kind, ran in each(pairs, work):
+        part.count(ran)
+        endings[kind, ran.status] = endings.get((kind, ran.status), 0) + 1
+    for (kind, status), count in sorted(endings.items()):
+        print(f"    {kind} files: {count} ended with status {status}")
+    part.end()
+
+
+main()

@@ -1,0 +1,141 @@
+//! The words of settled facts by numbers, so that no two words are compared that were compared before.
+ghost use Rattle.std.specs.Prelude.{◌≡◌, ◌↔◌, ◌⊎◌, IsTrue, IfOk, length};
+ghost use Rattle.mh_least.specs.Orders.{cap};
+ghost use Rattle.mh_search.specs.Numbering.{AreEmpty, AreMade, AreNumbered, AreToNumber, IsLast, IsMade, IsPlaced};
+ghost use Rattle.mh_search.specs.Tales.{before_dot, listed};
+
+use crate::joins::CAP;
+use crate::work::Item;
+use mh_facts::{Back, FactKey, FactStore};
+use mh_grammar::{Memory, Symbol, Token};
+use mh_tables::Table;
+use mh_words::{Book, Last, Made};
+use std::alloc::Global;
+
+/// The number of the empty word.
+const EMPTY: usize = 0;
+
+/// The words of the settled facts.
+#[derive(Drop)]
+pub struct Numbering {
+    /// For each settled fact, in their order, the number of its word. Words that are too dear have none.
+    pub numbers: Vec<usize>,
+    /// The words. Their groups are their costs.
+    pub book: Book,
+}
+
+/// The token before the dot.
+#[tactic(auto, unfolding(mh_grammar::specs::Plain::rhs_of))]
+pub fn token_before(table: &Table, key: FactKey) -> Option<Token>
+    ensures { listed result ≡ before_dot table.now key }
+{
+    if key.production >= table.productions() {
+        return None;
+    }
+    let place = if key.dot == 0 { 0 } else { key.dot - 1 };
+    if place >= table.length_of(key.production) {
+        return None;
+    }
+    match table.symbol_of(key.production, place) {
+        Symbol::T(token) => Some(token),
+        Symbol::N(_) => None,
+    }
+}
+
+/// The number of a settled fact's word.
+fn number_of(store: &FactStore, numbering: &Numbering, key: &FactKey) -> usize
+    ensures { IsPlaced store.now numbering.now key.now result }
+{
+    match store.place(key) {
+        None => EMPTY,
+        Some(place) => match numbering.numbers.get(place) {
+            None => EMPTY,
+            Some(number) => *number,
+        },
+    }
+}
+
+/// The token before the dot, with which a word ends; none stands for nothing.
+fn last_before(table: &Table, key: FactKey) -> Last
+    ensures { IsLast table.now key result }
+{
+    match token_before(table, key) {
+        None => Last::Word(EMPTY),
+        Some(token) => Last::Token(token),
+    }
+}
+
+/// What an item's word is made of.
+fn made_of(table: &Table, store: &FactStore, numbering: &Numbering, item: Item) -> Made
+    ensures { IsMade table.now store.now numbering.now item result }
+{
+    match item.back {
+        Back::Empty => Made {
+            front: EMPTY,
+            last: Last::Word(EMPTY),
+        },
+        Back::Shifted(path) => Made {
+            front: number_of(store, numbering, &path),
+            last: last_before(table, item.key),
+        },
+        Back::Reduced { path, inner } => Made {
+            front: number_of(store, numbering, &path),
+            last: Last::Word(number_of(store, numbering, &inner)),
+        },
+    }
+}
+
+/// What the words of items are made of.
+fn all_made(
+    alloc: Global,
+    table: &Table,
+    store: &FactStore,
+    numbering: &Numbering,
+    items: &[Item],
+) -> Result<Vec<Made>, Memory>
+    ensures { IfOk result (λ made. AreMade table.now store.now numbering.now items.now (length items.now) made.items) }
+{
+    let mut made = Vec::new(alloc);
+    for item in items {
+        made.push(made_of(table, store, numbering, *item))?;
+    }
+    Ok(made)
+}
+
+/// Whether words of a cost need no number: the empty one has one, and those that are too dear get none.
+fn is_plain(cost: u32) -> bool
+    ensures { IsTrue result ↔ ((cost ≡ 0) ⊎ (cost ≡ cap)) }
+{
+    cost == 0 || cost == CAP
+}
+
+/// The number of the empty word for each item.
+fn no_numbers(alloc: Global, items: &[Item]) -> Result<Vec<usize>, Memory>
+    ensures { IfOk result (λ numbers. AreEmpty (length items.now) numbers.items) }
+{
+    let mut numbers = Vec::new(alloc);
+    for _ in items {
+        numbers.push(EMPTY)?;
+    }
+    Ok(numbers)
+}
+
+/// The numbers of the words of items that have one cost.
+pub fn numbers_of(
+    alloc: Global,
+    table: &Table,
+    store: &FactStore,
+    numbering: &mut Numbering,
+    cost: u32,
+    items: &[Item],
+) -> Result<Vec<usize>, Memory>
+    requires { AreToNumber table.now store.now numbering.old cost items.now }
+    ensures { IfOk result (λ numbers. AreNumbered table.now store.now numbering.old numbering.new cost items.now numbers.items) }
+{
+    numbering.book.rising();
+    if is_plain(cost) {
+        return no_numbers(alloc, items);
+    }
+    let made = all_made(alloc, table, store, numbering, items)?;
+    numbering.book.number_all(alloc, cost, made.as_slice())
+}

@@ -1,0 +1,607 @@
+//! Each call of each device fails in turn, in each mode. The input gives one byte at a time, and the outputs take one, so each
+//! place of a text is one call.
+ghost use Rattle.std.specs.Prelude.{◌<◌, length, None, IfOk};
+ghost use Rattle.std.specs.Io.{WritesAtMost};
+ghost use Rattle.std.specs.Io.KnownBytes.{WriteAppends};
+ghost use Rattle.mh_outside.specs.Faults.{Counts};
+ghost use Rattle.mh_outside.specs.Fakes.{sink_calls};
+
+use crate::devices::Counted;
+use crate::runs::{Fails, given_files, shelf_of, words_of};
+use mh_outside::{Failed, MemShelf, MemSink, MemSource, Sink};
+use mh_top::menhir;
+use std::alloc::Global;
+use std::process::Abort;
+use std::test::Fail;
+
+/// An output that takes one byte at a time, and tells nothing.
+#[derive(Drop)]
+struct Narrow {
+    sink: MemSink,
+}
+
+impl Sink for Narrow {
+    ghost written = { λ s. None };
+
+    ghost faults = { λ s. (sink_calls s.sink).faults };
+
+    fn write(&mut self, piece: &[u8]) -> Result<usize, Failed> {
+        self.sink.write(&piece[..1])
+    }
+}
+
+/// The words and the input of a run, and the texts on out and err where no call fails.
+#[derive(Clone, Copy)]
+struct Case<'a> {
+    words: &'a str,
+    input: &'a str,
+    out: &'a str,
+    err: &'a str,
+}
+
+/// Which calls of a device fail, one a run, and what each of these runs comes to: its status, how much of the texts on out and
+/// err it leaves, how much of the input is read, and what is said behind that.
+#[derive(Clone, Copy)]
+struct Row<'a> {
+    status: &'a str,
+    device: &'a str,
+    calls: &'a str,
+    out: &'a str,
+    err: &'a str,
+    reads: &'a str,
+    said: &'a str,
+}
+
+/// The devices of a run.
+#[derive(Drop)]
+struct Devices {
+    shelf: MemShelf,
+    input: Counted,
+    out: Narrow,
+    err: Narrow,
+}
+
+/// How many bytes the first lines of a text have; each line behind its last has one.
+fn size_of(text: &str, lines: usize) -> usize {
+    let mut size = 0usize;
+    let mut left = lines;
+    for line in text.split_inclusive('\n').take(lines) {
+        size = size.saturating_add(line.len());
+        left = left.saturating_sub(1);
+    }
+    size.saturating_add(left)
+}
+
+/// The first and the last of the calls by which a device gives or takes a line of its text, or `all` of it.
+fn calls_of(text: &str, calls: &str) -> Result<(usize, usize), Fail> {
+    if calls == "all" {
+        return Ok((1, text.len()));
+    }
+    let line: usize = calls.parse()?;
+    let before = size_of(text, line.saturating_sub(1));
+    Ok((before.saturating_add(1), size_of(text, line)))
+}
+
+/// How many bytes of a text a run leaves, or reads, whose call of this number fails: `all`, those `before` that call, those `to`
+/// it, or so many lines.
+fn count_of(text: &str, much: &str, call: usize) -> Result<usize, Fail> {
+    Ok(match much {
+        "all" => text.len(),
+        "before" => call.saturating_sub(1),
+        "to" => call,
+        _ => size_of(text, much.parse()?),
+    })
+}
+
+/// The front of a text that a run leaves.
+fn front_of<'a>(text: &'a str, much: &str, call: usize) -> Result<&'a str, Fail> {
+    let count = count_of(text, much, call)?;
+    Ok(text.get(..count).ok_or("a text is too short")?)
+}
+
+fn read_row(alloc: Global, line: &str) -> Result<Row<'_>, Fail> {
+    let (marks, said) = line.split_once("; ").unwrap_or((line, ""));
+    let mut words = Vec::new(alloc);
+    for word in marks.split_ascii_whitespace() {
+        words.push(word)?;
+    }
+    match words.as_slice() {
+        [status, device, calls, out, err, reads] => Ok(Row {
+            status: *status,
+            device: *device,
+            calls: *calls,
+            out: *out,
+            err: *err,
+            reads: *reads,
+            said,
+        }),
+        _ => Err(Fail::from("a row has six words")),
+    }
+}
+
+/// The devices of a case, of which one fails at one call.
+fn devices_of(
+    rt: &impl Abort,
+    alloc: Global,
+    case: Case,
+    device: &str,
+    call: usize,
+) -> Result<Devices, Fail> {
+    let mut fails = Fails::none(alloc);
+    fails.push(device, call as u64)?;
+    let files = given_files(alloc, None, &FILES)?;
+    let input = case.input.as_bytes().to_vec(alloc)?;
+    Ok(Devices {
+        shelf: shelf_of(rt, files, fails.shelf),
+        input: Counted::new(input, fails.input),
+        out: Narrow {
+            sink: MemSink::new(alloc, fails.out),
+        },
+        err: Narrow {
+            sink: MemSink::new(alloc, fails.err),
+        },
+    })
+}
+
+/// Runs a case where one call of one device fails.
+fn check_call(
+    rt: &impl Abort,
+    alloc: Global,
+    case: Case,
+    row: Row,
+    call: usize,
+) -> Result<(), Fail> {
+    let out = front_of(case.out, row.out, call)?;
+    let err = front_of(case.err, row.err, call)?;
+    let reads = count_of(case.input, row.reads, call)?;
+    let status: u8 = row.status.parse()?;
+    let words = words_of(alloc, case.words)?;
+    let mut devices = devices_of(rt, alloc, case, row.device, call)?;
+    let got = menhir(
+        alloc,
+        &words,
+        &mut devices.shelf,
+        &mut devices.input,
+        &mut devices.out,
+        &mut devices.err,
+    );
+    assert_eq!(rt;
+        got,
+        status,
+        "call {} of {}, {}",
+        call, row.device, case.words
+    );
+    assert_eq!(rt; devices.out.sink.written(), out.as_bytes());
+    let said = devices.err.sink.written().strip_prefix(err.as_bytes());
+    assert_eq!(rt; said, Some(row.said.as_bytes()));
+    assert_eq!(rt; devices.input.reads, reads as u64);
+    Ok(())
+}
+
+/// Runs a case once for each of a row's calls.
+fn check_row(rt: &impl Abort, alloc: Global, case: Case, line: &str) -> Result<(), Fail> {
+    let row = read_row(alloc, line)?;
+    let text = match row.device {
+        "input" => case.input,
+        "out" => case.out,
+        "err" => case.err,
+        _ => "",
+    };
+    let (first, last) = calls_of(text, row.calls)?;
+    for call in first..=last {
+        check_call(rt, alloc, case, row, call)?;
+    }
+    Ok(())
+}
+
+/// Runs a case by its own rows and these.
+fn check_case(rt: &impl Abort, alloc: Global, case: &str, rows: &str) -> Result<(), Fail> {
+    let mut parts = Vec::new(alloc);
+    for part in case.split("~\n") {
+        parts.push(part)?;
+    }
+    let [words, input, out, err, own] = parts.as_slice() else {
+        return Err(Fail::from("a case has five parts"));
+    };
+    let case = Case {
+        words: *words,
+        input: *input,
+        out: *out,
+        err: *err,
+    };
+    for line in own.split_inclusive('\n') {
+        check_row(rt, alloc, case, line)?;
+    }
+    for line in rows.split_inclusive('\n') {
+        check_row(rt, alloc, case, line)?;
+    }
+    Ok(())
+}
+
+/// Runs each case of a text by its own rows and these. Lines `^` stand between cases, and lines `~` between their parts: the words;
+/// the input; what is written on out, and on err, where no call fails; and its own rows. A row is a status, a device, its calls, how
+/// much then stands on out and on err, how much of the input is read, and what is said behind that, each as `Row` has it.
+fn check_in_turn(rt: &impl Abort, alloc: Global, cases: &str, rows: &str) -> Result<(), Fail> {
+    for case in cases.split("^\n") {
+        check_case(rt, alloc, case, rows)?;
+    }
+    Ok(())
+}
+
+/// The files: a grammar with a conflict, of which is warned; messages for its states 0 and 1; and files that are refused.
+const FILES: [&str; 5] = [
+    "g.mly
+%token A EOF
+%start s
+%%
+s: A EOF {} | x EOF {}
+x: A {}
+",
+    "m
+EOF
+
+M
+",
+    "n
+A A
+
+N
+",
+    "early
+EOF A
+
+M
+",
+    "shape
+EOF
+",
+];
+
+// Two lines, each with one line of answer. Line 3 of the input is its end.
+const LINES: &str = "3 shelf 1 0 0 0; menhir: cannot read g.mly
+0 shelf 2 all all 3
+3 input 1 0 all to; menhir: cannot read the input
+3 input 2 1 all to; menhir: cannot read the input
+3 input 3 2 all to; menhir: cannot read the input
+0 input 4 all all 3
+4 out 1 before all 1
+4 out 2 before all 2
+0 out 3 all all 3
+4 err 1 0 before 0
+0 err 2 all all 3
+";
+
+const ANSWERED: &str = "--interpret g.mly
+~
+A EOF
+A
+~
+ACCEPT
+OVERSHOOT
+~
+menhir: warning: conflict in state 1 on EOF
+~
+^
+--session g.mly
+~
+begin a
+offer a A
+~
+a input-needed 0
+a shifting 0 A
+~
+menhir: warning: conflict in state 1 on EOF
+~
+";
+
+#[test]
+fn one_line_for_each(rt: HostRuntime) -> Result<(), Fail> {
+    check_in_turn(&rt, rt.alloc(), ANSWERED, LINES)
+}
+
+// Two lines, each with two lines of answer.
+const PAIRS: &str = "3 shelf 1 0 0 0; menhir: cannot read g.mly
+3 input 1 0 all to; menhir: cannot read the input
+3 input 2 2 all to; menhir: cannot read the input
+3 input 3 4 all to; menhir: cannot read the input
+0 input 4 all all 3
+4 out 1 before all 1
+4 out 2 before all 1
+4 out 3 before all 2
+4 out 4 before all 2
+0 out 5 all all 3
+4 err 1 0 before 0
+0 err 2 all all 3
+";
+
+const EXPLAINED: &str = "--interpret --interpret-show-cst g.mly
+~
+A EOF
+A EOF A
+~
+ACCEPT
+[s: A EOF]
+ACCEPT
+[s: A EOF]
+~
+menhir: warning: conflict in state 1 on EOF
+~
+0 shelf 2 all all 3
+^
+--interpret --messages m g.mly
+~
+EOF
+A A
+~
+REJECT
+M
+REJECT
+no message for state 1
+~
+menhir: warning: conflict in state 1 on EOF
+~
+3 shelf 2 0 all 0; menhir: cannot read m
+0 shelf 3 all all 3
+";
+
+#[test]
+fn two_lines_for_each(rt: HostRuntime) -> Result<(), Fail> {
+    check_in_turn(&rt, rt.alloc(), EXPLAINED, PAIRS)
+}
+
+// The first line alone is asked for.
+const FIRST: &str = "3 shelf 1 0 0 0; menhir: cannot read g.mly
+0 shelf 2 all all 1
+3 input 1 0 all to; menhir: cannot read the input
+0 input 2 all all 1
+4 out all before all 1
+4 err 1 0 before 0
+0 err 2 all all 1
+";
+
+const ENTRY: &str = "--interpret-error g.mly
+~
+A A
+EOF
+~
+s: A A
+##
+## Ends in an error in state: 1.
+##
+## s -> A . EOF [ # ]
+## x -> A . [ EOF ]
+##
+## The known suffix of the stack is as follows:
+## A
+##
+
+<YOUR SYNTAX ERROR MESSAGE HERE>
+
+~
+menhir: warning: conflict in state 1 on EOF
+~
+";
+
+#[test]
+fn the_first_line_alone(rt: HostRuntime) -> Result<(), Fail> {
+    check_in_turn(&rt, rt.alloc(), ENTRY, FIRST)
+}
+
+// No line is asked for.
+const NO_LINE: &str = "3 shelf 1 0 0 0; menhir: cannot read g.mly
+0 input 1 all all 0
+4 out all before all 0
+4 err 1 0 before 0
+0 err 2 all all 0
+";
+
+const WRITTEN: &str = "--show-automaton g.mly
+~
+A EOF
+~
+merged: 6 states
+state 0
+  s' -> . s [ # ]
+  A: shift 1
+  s: goto 2
+  x: goto 3
+state 1
+  s -> A . EOF [ # ]
+  x -> A . [ EOF ]
+  EOF: shift 4
+state 2
+  s' -> s . [ # ]
+  default: accept
+state 3
+  s -> x . EOF [ # ]
+  EOF: shift 5
+state 4
+  s -> A EOF . [ # ]
+  default: reduce s -> A EOF
+state 5
+  s -> x EOF . [ # ]
+  default: reduce s -> x EOF
+~
+menhir: warning: conflict in state 1 on EOF
+~
+0 shelf 2 all all 0
+^
+--list-errors g.mly
+~
+A EOF
+~
+s: EOF
+##
+## Ends in an error in state: 0.
+##
+## s' -> . s [ # ]
+##
+## The known suffix of the stack is as follows:
+##
+##
+
+<YOUR SYNTAX ERROR MESSAGE HERE>
+
+s: A A
+##
+## Ends in an error in state: 1.
+##
+## s -> A . EOF [ # ]
+## x -> A . [ EOF ]
+##
+## The known suffix of the stack is as follows:
+## A
+##
+
+<YOUR SYNTAX ERROR MESSAGE HERE>
+
+~
+menhir: warning: conflict in state 1 on EOF
+~
+0 shelf 2 all all 0
+^
+--compile-errors m g.mly
+~
+A EOF
+~
+state 0 2
+M
+~
+menhir: warning: conflict in state 1 on EOF
+~
+3 shelf 2 0 all 0; menhir: cannot read m
+0 shelf 3 all all 0
+^
+--compare-errors m --compare-errors m g.mly
+~
+A EOF
+~
+~
+menhir: warning: conflict in state 1 on EOF
+~
+3 shelf 2 0 all 0; menhir: cannot read m
+3 shelf 3 0 all 0; menhir: cannot read m
+0 shelf 4 all all 0
+^
+--update-errors m g.mly
+~
+A EOF
+~
+EOF
+##
+## Ends in an error in state: 0.
+##
+## s' -> . s [ # ]
+##
+## The known suffix of the stack is as follows:
+##
+##
+
+M
+~
+menhir: warning: conflict in state 1 on EOF
+~
+3 shelf 2 0 all 0; menhir: cannot read m
+0 shelf 3 all all 0
+^
+--echo-errors m g.mly
+~
+A EOF
+~
+s: EOF
+~
+menhir: warning: conflict in state 1 on EOF
+~
+3 shelf 2 0 all 0; menhir: cannot read m
+0 shelf 3 all all 0
+";
+
+#[test]
+fn no_line(rt: HostRuntime) -> Result<(), Fail> {
+    check_in_turn(&rt, rt.alloc(), WRITTEN, NO_LINE)
+}
+
+// Nothing is written on out, and the last line says why; where it cannot be written as a whole, the status is that of a fault.
+const REFUSED: &str = "1 shelf 4 all all 0
+1 input 1 all all 0
+1 out 1 all all 0
+4 err 1 0 before 0
+4 err 2 0 before 0
+1 err 3 all all 0
+";
+
+const REFUSALS: &str = "--compile-errors early g.mly
+~
+EOF
+~
+~
+menhir: warning: conflict in state 1 on EOF
+menhir: early:1: refused early at index 0
+~
+^
+--compare-errors m --compare-errors n g.mly
+~
+EOF
+~
+~
+menhir: warning: conflict in state 1 on EOF
+menhir: state 0 of m is missing in n
+~
+^
+--update-errors early g.mly
+~
+EOF
+~
+~
+menhir: warning: conflict in state 1 on EOF
+menhir: early:1: refused early at index 0
+~
+^
+--echo-errors shape g.mly
+~
+EOF
+~
+~
+menhir: warning: conflict in state 1 on EOF
+menhir: shape:1: shape
+~
+^
+--interpret --messages early g.mly
+~
+EOF
+~
+~
+menhir: warning: conflict in state 1 on EOF
+menhir: early:1: refused early at index 0
+~
+";
+
+#[test]
+fn refusals_of_modes(rt: HostRuntime) -> Result<(), Fail> {
+    check_in_turn(&rt, rt.alloc(), REFUSALS, REFUSED)
+}
+
+// The first line has no entry.
+const ONE_LINE: &str = "3 input 1 0 1 to; menhir: cannot read the input
+1 input 2 all all 1
+1 out 1 all all 1
+4 err 1 0 before 0
+4 err 2 0 before 1
+1 err 3 all all 1
+";
+
+const NO_ENTRY: &str = "--interpret-error g.mly
+~
+EOF A
+A A
+~
+~
+menhir: warning: conflict in state 1 on EOF
+menhir: input: refused early at index 0
+~
+";
+
+#[test]
+fn a_line_without_an_entry(rt: HostRuntime) -> Result<(), Fail> {
+    check_in_turn(&rt, rt.alloc(), NO_ENTRY, ONE_LINE)
+}
