@@ -9,14 +9,18 @@ use std::test::Fail;
 
 /// The grammar of one production, and its file.
 const SMALL: &str = "A EOF; s; s: A EOF";
-const SMALL_FILE: &str = "menhir-tables 2 merged\ntokens A EOF\ncosts 1 1\nstarts s\nproductions 1\n\
+
+const SMALL_FILE: &str =
+    "menhir-tables 2 merged\ntokens A EOF\ncosts 1 1\nstarts s\nproductions 1\n\
     s -> A EOF\nstates 4\nstate 0\nitem 0 0 #\nedge A 1\nedge s 2\ncell A shift 1\nstate 1\nitem 1 1 #\n\
     edge EOF 3\ncell EOF shift 3\nstate 2\nitem 0 1 #\ndefault accept\nstate 3\nitem 1 2 #\n\
     default reduce 1\nend\n";
 
 /// Two starts, an empty production, a cost, and looks with the end of the stream last.
 const LARGER: &str = "B$7 C; s t*; s: B t; t:; t: C";
-const LARGER_FILE: &str = "menhir-tables 2 canonical\ntokens B C\ncosts 7 1\nstarts s t\nproductions 3\n\
+
+const LARGER_FILE: &str =
+    "menhir-tables 2 canonical\ntokens B C\ncosts 7 1\nstarts s t\nproductions 3\n\
     s -> B t\nt ->\nt -> C\nstates 7\nstate 0\nitem 0 0 #\nedge B 2\nedge s 3\ncell B shift 2\n\
     state 1\nitem 1 0 #\nedge C 4\nedge t 5\ncell C shift 4\n\
     state 2\nitem 2 1 #\nedge C 4\nedge t 6\ncell C shift 4\nstate 3\nitem 0 1 #\ndefault accept\n\
@@ -30,7 +34,13 @@ fn file_of(alloc: Global, grammar: &str, mode: Mode) -> Result<Vec<u8>, Fail> {
     Ok(write_tables(alloc, &grammar, &automaton, &table, mode)?)
 }
 
-fn check_file(rt: &impl Abort, alloc: Global, grammar: &str, mode: Mode, wanted: &str) -> Result<(), Fail> {
+fn check_file(
+    rt: &impl Abort,
+    alloc: Global,
+    grammar: &str,
+    mode: Mode,
+    wanted: &str,
+) -> Result<(), Fail> {
     let file = file_of(alloc, grammar, mode)?;
     assert_eq!(rt; str::from_utf8(file.as_slice())?, wanted, "{grammar}");
     Ok(())
@@ -106,10 +116,19 @@ fn forms(rt: HostRuntime) -> Result<(), Fail> {
     for (head, wanted) in [
         ("1 merged\ntokens\nstarts\nproductions 0", "1 states"),
         ("2 merged\ntokens\ncosts\nstarts\nproductions 0", "1 states"),
-        ("2 merged\ntokens A\ncosts 1 2 3\nstarts\nproductions 0", "1 states"),
+        (
+            "2 merged\ntokens A\ncosts 1 2 3\nstarts\nproductions 0",
+            "1 states",
+        ),
         ("2 merged\ntokens A\tB \nstarts", "line 2"),
-        ("2 merged\ntokens\ncosts 4294967295\nstarts\nproductions 0", "1 states"),
-        ("2 merged\ntokens\ncosts 4294967296\nstarts\nproductions 0", "line 3"),
+        (
+            "2 merged\ntokens\ncosts 4294967295\nstarts\nproductions 0",
+            "1 states",
+        ),
+        (
+            "2 merged\ntokens\ncosts 4294967296\nstarts\nproductions 0",
+            "line 3",
+        ),
         ("2 merged\ntokens\ncosts x\nstarts\nproductions 0", "line 3"),
         ("1 merged\ntokens\ncosts\nstarts\nproductions 0", "line 3"),
         ("2 merged\ntokens\nstarts\nproductions 0", "line 3"),
@@ -117,15 +136,24 @@ fn forms(rt: HostRuntime) -> Result<(), Fail> {
         ("1 merged\nstarts\ntokens\nproductions 0", "line 2"),
         ("1 merged\ntokens\nstarts\nproductions 1", "line 5"),
         ("1 merged\ntokens\nstarts\nproductions 1\ns ->", "1 states"),
-        ("1 merged\ntokens\nstarts\nproductions 1\nend -> end ->", "1 states"),
-        ("1 merged\ntokens\nstarts\nproductions 1\ns ->\nt ->", "line 6"),
+        (
+            "1 merged\ntokens\nstarts\nproductions 1\nend -> end ->",
+            "1 states",
+        ),
+        (
+            "1 merged\ntokens\nstarts\nproductions 1\ns ->\nt ->",
+            "line 6",
+        ),
         ("1 merged\ntokens\nstarts\nproductions 01", "line 4"),
     ] {
         let file = format!(in alloc; "menhir-tables {head}\nstates 1\nstate 0\nend\n")?;
         check_answer(&rt, alloc, &file, wanted)?;
     }
     for (state, wanted) in [
-        ("state 0\nitem 0 0\nitem 9 9 x # y\nedge x 9\nedge # 4294967295\ncell x shift 1\ncell y reduce 0", "1 states"),
+        (
+            "state 0\nitem 0 0\nitem 9 9 x # y\nedge x 9\nedge # 4294967295\ncell x shift 1\ncell y reduce 0",
+            "1 states",
+        ),
         ("state 0\ndefault accept", "1 states"),
         ("state 0\nedge x 1\ndefault reduce 7", "1 states"),
         ("state 1", "line 6"),
