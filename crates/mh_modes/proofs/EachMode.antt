@@ -3,7 +3,7 @@ use Rattle.std.proofs.Common.{◌≡◌, ◌∷◌, List, Option, None, Some, []
 use Rattle.std.specs.Bool.{⊤}
 use Rattle.mh_grammar.specs.declared.types.Grammar.{Grammar}
 use Rattle.mh_opts.specs.declared.jobs.Job.{Job}
-use Rattle.mh_opts.specs.declared.jobs.Job.TheVariants.{Interpret, InterpretError, Session, ShowAutomaton, ListErrors, CompareErrors, CompileErrors, EchoErrors, UpdateErrors, Sample}
+use Rattle.mh_opts.specs.declared.jobs.Job.TheVariants.{Interpret, InterpretError, Session, ShowAutomaton, WriteTables, ListErrors, CompareErrors, CompileErrors, EchoErrors, UpdateErrors, Sample}
 use Rattle.mh_outside.specs.Shelf.{Files, Found}
 use Rattle.mh_report.proofs.OneText.{text_once}
 use Rattle.mh_replies.proofs.Once.{answer_once as line_once}
@@ -26,7 +26,7 @@ use Rattle.mh_modes.specs.Compared.{compared}
 use Rattle.mh_modes.specs.Files.{files_of_job, named}
 use Rattle.mh_modes.specs.Listing.{ListsErrors, Lists, TooLong, too_long}
 use Rattle.mh_modes.specs.MessagesStage.{AreBoth, AreMessages, IsMessagesFile, IsUpdatedFile, Messages}
-use Rattle.mh_modes.specs.Plan.{Answers, Automaton, End, Ends, EndsBy, EndsWith, Errors, Explains, IsPlanOfJob, Judges, Known, MessagesFor, Plan, Serves, halts, judges, plan_by, tells, Sampled}
+use Rattle.mh_modes.specs.Plan.{Answers, Automaton, End, Ends, EndsBy, EndsWith, Errors, Explains, IsPlanOfJob, Judges, Known, MessagesFor, Plan, Serves, halts, judges, plan_by, tables_of, tells, Sampled}
 use Rattle.mh_modes.specs.Verdicts.{Answering}
 use Rattle.mh_modes.specs.declared.modes.at_end.Told.{Told}
 use Rattle.mh_modes.specs.declared.modes.at_end.Told.TheVariants.{Said, Not}
@@ -131,6 +131,7 @@ facts_of Interpret p = judging p p.order.messages
 facts_of InterpretError p = fixed p (Explains p []) (λ by is. cc) (λ Right. tt)
 facts_of Session p = fixed p (Serves p.grammar p.tabled.halting []) (λ by is. cc) (λ Right. tt)
 facts_of ShowAutomaton p = fixed p (Ends (Automaton p)) (λ by is. cc) (λ Right. tt)
+facts_of WriteTables p = fixed p (tells (Said (tables_of p))) (λ by is. cc) (λ Right. tt)
 facts_of ListErrors p = fixed p (Ends (Errors p)) (λ by is. cc) (λ Right. tt)
 facts_of (Sample number) p = fixed p (Ends (Sampled number p)) (λ by is. cc) (λ Right. tt)
 facts_of (CompileErrors file) p = reading p (file ∷ []) (λ files. IsFile files (AreMessages p.grammar p.tabled.halting) file) (one_checked p file) (λ messages. tells (Said (compiled_text messages))) (λ messages by is. cc) (λ Right may messages. tt)

@@ -1,10 +1,12 @@
 -- Modes: which lines each asks for, how it answers them, and what it writes at its end. A mode is plain data.
 use Rattle.std.specs.Prelude.{◌≡◌, ℕ, [], Option, None, Some}
 use Rattle.mh_opts.specs.declared.jobs.Job.{Job}
-use Rattle.mh_opts.specs.declared.jobs.Job.TheVariants.{Interpret, InterpretError, Session, ShowAutomaton, ListErrors, CompileErrors, CompareErrors, EchoErrors, UpdateErrors, Sample}
+use Rattle.mh_opts.specs.declared.jobs.Job.TheVariants.{Interpret, InterpretError, Session, ShowAutomaton, WriteTables, ListErrors, CompileErrors, CompareErrors, EchoErrors, UpdateErrors, Sample}
 use Rattle.mh_outside.specs.Shelf.{Files}
 use Rattle.mh_report.specs.Automata.{IsAutomatonText}
 use Rattle.mh_grammar.specs.declared.types.Grammar.{Grammar}
+use Rattle.mh_tabfile.specs.Form.{table_text}
+use Rattle.mh_tabfile.specs.Written.{raw_of}
 use Rattle.mh_tables.specs.Table.{TableData}
 use Rattle.mh_session.specs.Answers.{Branches}
 use Rattle.mh_replies.specs.Replies.{AnswersLine}
@@ -96,6 +98,10 @@ plan_by plan (Halt cause) = halts cause
 abbrev pub tells : Told → Plan
 tells told = Ends (Known (ending_of told))
 
+-- the table file of what was prepared
+abbrev pub tables_of : Prepared → Text
+tables_of p = table_text (raw_of p.grammar p.tabled.automaton (mode_of (source_of p.order)) p.tabled.halting.states)
+
 -- the messages that an order names, where it names a file of them
 abbrev pub MessagesFor : Option Text → Option Files → Prepared → Staged (Option Messages) → Type 0
 MessagesFor None files p s = Gives None s
@@ -111,6 +117,7 @@ IsPlanOfJob Interpret files p plan = (s : Staged (Option Messages)) × MessagesF
 IsPlanOfJob InterpretError files p plan = plan ≡ Explains p []
 IsPlanOfJob Session files p plan = plan ≡ Serves p.grammar p.tabled.halting []
 IsPlanOfJob ShowAutomaton files p plan = plan ≡ Ends (Automaton p)
+IsPlanOfJob WriteTables files p plan = plan ≡ tells (Said (tables_of p))
 IsPlanOfJob ListErrors files p plan = plan ≡ Ends (Errors p)
 IsPlanOfJob (Sample number) files p plan = plan ≡ Ends (Sampled number p)
 IsPlanOfJob (CompileErrors file) files p plan = (s : Staged Messages) × IsFile files (AreMessages p.grammar p.tabled.halting) file s × (plan ≡ plan_by (λ messages. tells (Said (compiled_text messages))) s)

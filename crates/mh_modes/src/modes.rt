@@ -12,6 +12,7 @@ mod comparing;
 mod compiling;
 mod echoing;
 mod explaining;
+mod exporting;
 mod judging;
 mod listing;
 mod sampling;
@@ -24,6 +25,7 @@ use comparing::compare_by;
 use compiling::compile_by;
 use echoing::echo_by;
 use explaining::explain_by;
+use exporting::Exporting;
 use judging::judge_by;
 use listing::Listing;
 use mh_drive::{Stop, drive, drive_opened};
@@ -61,6 +63,10 @@ pub fn follow<F: Shelf, I: Source, O: Sink, const W: usize>(
         Job::Session => drive_opened(alloc, serve_on(alloc, prepared), input, out),
         Job::ShowAutomaton => {
             let writer = Showing { prepared };
+            drive(alloc, AtEnd { writer }, input, out)
+        }
+        Job::WriteTables => {
+            let writer = Exporting { prepared };
             drive(alloc, AtEnd { writer }, input, out)
         }
         Job::ListErrors => {

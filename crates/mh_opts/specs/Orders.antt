@@ -55,6 +55,7 @@ abbrev pub job_for : List Row → Mode → Job
 job_for rows mode.Interpret = job.Interpret
 job_for rows mode.Session = job.Session
 job_for rows mode.ShowAutomaton = job.ShowAutomaton
+job_for rows mode.WriteTables = job.WriteTables
 job_for rows mode.ListErrors = job.ListErrors
 job_for rows mode.InterpretError = job.InterpretError
 job_for rows mode.CompileErrors = job.CompileErrors (file_of rows COMPILE_ERRORS.now)

@@ -51,6 +51,8 @@ pub enum Job {
     Session,
     /// `--show-automaton`: the automaton as text.
     ShowAutomaton,
+    /// `--write-tables`: the table as a file of its own.
+    WriteTables,
     /// `--list-errors`: an entry for each state in which some sentence fails.
     ListErrors,
     /// `--compile-errors FILE`: the messages of a file, by state.
@@ -72,6 +74,7 @@ pub enum Mode {
     InterpretError,
     Session,
     ShowAutomaton,
+    WriteTables,
     ListErrors,
     CompileErrors,
     CompareErrors,
@@ -100,6 +103,7 @@ pub(crate) fn job_of(alloc: Global, matches: &ArgMatches<'_>, mode: Mode) -> Res
         Mode::InterpretError => Ok(Job::InterpretError),
         Mode::Session => Ok(Job::Session),
         Mode::ShowAutomaton => Ok(Job::ShowAutomaton),
+        Mode::WriteTables => Ok(Job::WriteTables),
         Mode::ListErrors => Ok(Job::ListErrors),
         Mode::CompileErrors => Ok(Job::CompileErrors {
             file: file_of(alloc, matches, COMPILE_ERRORS)?,
@@ -133,7 +137,7 @@ pub struct Need<T> {
     pub needs: T,
 }
 
-const OPTIONS: [Opt<&str>; 16] = [
+const OPTIONS: [Opt<&str>; 17] = [
     Opt {
         name: INTERPRET,
         action: ArgAction::SetTrue,
@@ -153,6 +157,11 @@ const OPTIONS: [Opt<&str>; 16] = [
         name: "show-automaton",
         action: ArgAction::SetTrue,
         mode: Some(Mode::ShowAutomaton),
+    },
+    Opt {
+        name: "write-tables",
+        action: ArgAction::SetTrue,
+        mode: Some(Mode::WriteTables),
     },
     Opt {
         name: "list-errors",

@@ -16,5 +16,6 @@ pub use conflicts::Conflict;
 pub use holes::holes_of;
 pub use kinds::{ConflictKind, Mode};
 pub use resolution::{
-    conflicts_are_one, conflicts_are_raw, conflicts_tell, resolve, table_acts, table_is_one,
+    conflicts_are_one, conflicts_are_raw, conflicts_tell, resolve, resolve_one, resolve_states,
+    table_acts, table_is_one,
 };

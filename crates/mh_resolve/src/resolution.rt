@@ -56,6 +56,29 @@ fn resolve_state<const W: usize>(
     resolve_listed(alloc, grammar, kernel, &closed, edges, mode)
 }
 
+/// The parts of the table of one state by itself, of its kernel and its edges. Fails for want of memory alone.
+pub fn resolve_one<const W: usize>(
+    alloc: Global,
+    grammar: &Grammar,
+    closer: &mut Closer<W>,
+    kernel: &Kernel<W>,
+    edges: &[Edge],
+    mode: Mode,
+) -> Result<StateParts, Memory>
+    requires few { W ≤ 8 }
+    requires width { length grammar.now.tokens ≤ 64 * W }
+    requires range { IsInRange (plain_of grammar.now) }
+    requires closer { IsCloser (plain_of grammar.now) closer.old }
+    requires kernel { IsKernel (plain_of grammar.now) kernel.now }
+    requires rising { IsRising IsEdgeBefore edges.now }
+    requires known { AreEdgesKnown (length grammar.now.tokens) edges.now }
+    ensures parts { IfOk result (IsResolved mode (closed_state grammar.now kernel.now edges.now) kernel.now) }
+    ensures closer { IfOk result (λ _. IsCloser (plain_of grammar.now) closer.new) }
+{
+    let resolved = resolve_state(alloc, grammar, closer, kernel, edges, mode)?;
+    Ok(resolved.parts)
+}
+
 // By a list with the complete items of the state's closure.
 fn resolve_listed<const W: usize>(
     alloc: Global,
@@ -78,8 +101,9 @@ fn resolve_listed<const W: usize>(
     Ok(Resolved { parts, row })
 }
 
-// The states of the table, and the conflicts.
-fn resolve_states<const W: usize>(
+/// The states of the table of an automaton, and the list of its conflicts, as `resolve` gives them. Fails for want of
+/// memory alone.
+pub fn resolve_states<const W: usize>(
     alloc: Global,
     grammar: &Grammar,
     automaton: &Automaton<W>,

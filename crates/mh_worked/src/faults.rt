@@ -605,3 +605,24 @@ menhir: input: refused early at index 0
 fn a_line_without_an_entry(rt: HostRuntime) -> Result<(), Fail> {
     check_in_turn(&rt, rt.alloc(), NO_ENTRY, ONE_LINE)
 }
+
+// Neither a file nor a line is asked for, and nothing is warned of.
+const NOTHING_READ: &str = "0 shelf 1 all all 0
+0 input 1 all all 0
+4 out all before all 0
+0 err 1 all all 0
+";
+
+const SAMPLED: &str = "--sample 0
+~
+A EOF
+~
+sample 0: tokens 6, productions 7, states 14, listed 8, accept 2059, overshoot 0, reject 941
+~
+~
+";
+
+#[test]
+fn a_sample(rt: HostRuntime) -> Result<(), Fail> {
+    check_in_turn(&rt, rt.alloc(), SAMPLED, NOTHING_READ)
+}

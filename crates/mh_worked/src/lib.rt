@@ -32,6 +32,8 @@ mod sessions;
 #[cfg(test)]
 mod several_files;
 #[cfg(test)]
+mod table_files;
+#[cfg(test)]
 mod trees;
 #[cfg(test)]
 mod usage;

@@ -12,6 +12,7 @@ fn shown(alloc: Global, order: &Order) -> Result<Vec<u8>, AllocError> {
         Job::Interpret => b"interpret",
         Job::Session => b"session",
         Job::ShowAutomaton => b"show",
+        Job::WriteTables => b"tables",
         Job::ListErrors => b"list",
         Job::InterpretError => b"explain",
         Job::CompileErrors { .. } => b"compile",
@@ -57,6 +58,9 @@ const CASES: &str = "--interpret g.mly~interpret :g.mly^\
     --interpret --strict --interpret-show-cst g.mly~interpret strict trees :g.mly^\
     --show-automaton --strict g.mly~show strict :g.mly^\
     --canonical --show-automaton g.mly~show canonical :g.mly^\
+    --canonical --write-tables g.mly~tables canonical :g.mly^\
+    --write-tables --show-automaton g.mly~two modes^\
+    --write-tables=t g.mly~bad words^\
     --canonical g.mly~no mode^\
     --canonical --interpret --canonical g.mly~bad words^\
     --interpret -~interpret :-^\

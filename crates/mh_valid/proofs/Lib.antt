@@ -1,0 +1,5 @@
+pub mod Giving
+pub mod Again
+pub mod OneKernel
+pub mod Edged
+pub mod Apart

@@ -1,0 +1,44 @@
+//! Laws of validity: each is an empty call that says it to contracts.
+ghost use Rattle.std.specs.Prelude.{◌≡◌, ◌<◌, ◌^◌, ℕ, List, Option, length};
+ghost use Rattle.mh_grammar.specs.Plain.{plain_of};
+ghost use Rattle.mh_items.specs.Shapes.{Automaton as AutomatonOf};
+ghost use Rattle.mh_items.specs.Automaton.{IsAutomaton};
+ghost use Rattle.mh_tables.specs.declared.parts.StateParts.{StateParts};
+ghost use Rattle.mh_resolve.specs.States.{AreResolved};
+ghost use Rattle.mh_tabfile.specs.Written.{raw_of};
+ghost use Rattle.mh_valid.specs.declared.reason.Reason.{Reason as ReasonOf};
+ghost use Rattle.mh_valid.specs.Valid.{IsValid, IsValidFor, IsInvalidAt, AreNamesApart};
+
+use mh_grammar::Grammar;
+use mh_items::Automaton;
+use mh_resolve::Mode;
+use mh_tabfile::RawTable;
+
+/// A valid file spells an automaton of the grammar, with what the resolution gives for its states.
+pub fn valid_is_automaton(grammar: &Grammar, raw: &RawTable)
+    requires { length raw.now.states < 2 ^ 32 }
+    ensures automaton { (a : AutomatonOf) (parts : List StateParts) → IsValidFor grammar.now raw.now a parts → IsAutomaton (plain_of grammar.now) a }
+    ensures resolved { (a : AutomatonOf) (parts : List StateParts) → IsValidFor grammar.now raw.now a parts → AreResolved grammar.now a raw.now.mode parts }
+{
+    let _grammar = grammar;
+    let _raw = raw;
+}
+
+/// What is written of an automaton with its table is valid.
+pub fn written_is_valid<const W: usize>(grammar: &Grammar, automaton: &Automaton<W>, mode: Mode)
+    requires { IsAutomaton (plain_of grammar.now) automaton.now }
+    ensures { (parts : List StateParts) → AreResolved grammar.now automaton.now mode parts → IsValidFor grammar.now (raw_of grammar.now automaton.now mode parts) automaton.now parts }
+{
+    let _grammar = grammar;
+    let _automaton = automaton;
+    let _mode = mode;
+}
+
+/// A file that passes all tests fails none.
+pub fn valid_or_invalid(grammar: &Grammar, raw: &RawTable)
+    requires { AreNamesApart grammar.now }
+    ensures { IsValid grammar.now raw.now → (state : Option ℕ) (reason : ReasonOf) → IsInvalidAt grammar.now raw.now state reason → ⊥ }
+{
+    let _grammar = grammar;
+    let _raw = raw;
+}

@@ -1,0 +1,8 @@
+//! When a table file is valid for a grammar, and laws of that.
+#![tactic(auto)]
+
+mod laws;
+mod reason;
+
+pub use laws::{valid_is_automaton, valid_or_invalid, written_is_valid};
+pub use reason::Reason;

@@ -1,0 +1,9 @@
+mod Within
+mod Rowing
+mod Reading
+mod Named
+mod Itemed
+mod Stating
+mod Edging
+mod Counting
+mod Judging

@@ -1,0 +1,4 @@
+pub mod Looking
+pub mod Leading
+pub mod Comparing
+pub mod Outcome

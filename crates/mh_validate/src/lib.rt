@@ -1,0 +1,17 @@
+//! Whether a table file is valid for a grammar, and what it gives.
+#![tactic(auto)]
+
+mod cells;
+mod edges;
+mod fault;
+mod header;
+mod items;
+mod kernels;
+mod looks;
+mod rows;
+mod targets;
+mod validation;
+
+pub use fault::ValidFault;
+pub use mh_valid::Reason;
+pub use validation::{Valid, validate};

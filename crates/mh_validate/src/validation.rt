@@ -1,0 +1,224 @@
+//! Whether a table file is valid.
+ghost use Rattle.std.specs.Prelude.{◌≡◌, ◌<◌, ◌≤◌, ◌*◌, ◌^◌, ℕ, Option, Some, Err, length, IfOk};
+ghost use Rattle.mh_grammar.specs.Costs.{HaveCosts};
+ghost use Rattle.mh_grammar.specs.Plain.{plain_of, IsInRange};
+ghost use Rattle.mh_items.specs.Automaton.{IsAutomaton};
+ghost use Rattle.mh_resolve.specs.States.{IsTableOf};
+ghost use Rattle.mh_resolve.specs.Conflicts.{AreConflicts};
+ghost use Rattle.mh_valid.specs.declared.reason.Reason.{Reason as ReasonOf};
+ghost use Rattle.mh_valid.specs.Valid.{AreKernels, AreNamesApart, HasHeader, HasStates, IsInvalidAt, IsValidFor, reason_of, raw_state};
+ghost use Rattle.mh_tabfile.specs.Written.{raw_cells};
+ghost use Rattle.mh_validate.specs.Comparing.{AreFirstRows, AreRows, AreResolvedRows};
+ghost use Rattle.mh_validate.specs.Outcome.{IsFault, IsOutcome};
+
+use crate::cells::{cells_at, count_told, reason};
+use crate::fault::ValidFault;
+use crate::header::has_header;
+use crate::kernels::first_kernels;
+use crate::rows::first_rows;
+use mh_grammar::{Edge, Grammar, Memory, Sequence};
+use mh_items::{Automaton, Closer, Kernel};
+use mh_resolve::{Conflict, Mode, resolve_one, resolve_states};
+use mh_tabfile::RawTable;
+use mh_tables::{StateParts, Table, table_of};
+use mh_valid::Reason;
+use std::alloc::Global;
+
+/// What a valid table file gives: the automaton that it names, the table of that in its mode, and its conflicts.
+#[derive(Drop)]
+pub struct Valid<const W: usize> {
+    pub automaton: Automaton<W>,
+    pub table: Table,
+    pub conflicts: Vec<Conflict>,
+    pub mode: Mode,
+}
+
+/// The parts of the first states, of so many as have edges here.
+fn resolve_rows<const W: usize>(
+    alloc: Global,
+    grammar: &Grammar,
+    raw: &RawTable,
+    kernels: &[Kernel<W>],
+    rows: &[Sequence<Edge>],
+) -> Result<Vec<StateParts>, Memory>
+    requires few { W ≤ 8 }
+    requires width { length grammar.now.tokens ≤ 64 * W }
+    requires range { IsInRange (plain_of grammar.now) }
+    requires kernels { AreKernels grammar.now raw.now kernels.now }
+    requires rows { AreFirstRows grammar.now raw.now kernels.now rows.now }
+    ensures { IfOk result (λ v. AreResolvedRows grammar.now raw.now kernels.now rows.now v.items) }
+{
+    let mut closer = Closer::new(alloc, grammar)?;
+    let mut states = Vec::with_capacity(alloc, rows.len())?;
+    for state in 0..rows.len() {
+        let edges = rows[state].as_slice();
+        let parts = resolve_one(
+            alloc,
+            grammar,
+            &mut closer,
+            &kernels[state],
+            edges,
+            raw.mode,
+        )?;
+        states.push(parts)?;
+    }
+    Ok(states)
+}
+
+/// The first state whose cells are wrong, or else the one behind them, whose edges are.
+fn fault_within<const W: usize>(
+    alloc: Global,
+    grammar: &Grammar,
+    raw: &RawTable,
+    kernels: &[Kernel<W>],
+    rows: &[Sequence<Edge>],
+) -> ValidFault
+    requires few { W ≤ 8 }
+    requires width { length grammar.now.tokens ≤ 64 * W }
+    requires range { IsInRange (plain_of grammar.now) }
+    requires header { HasHeader grammar.now raw.now }
+    requires states { HasStates grammar.now raw.now }
+    requires small { length raw.now.states < 2 ^ 32 }
+    requires kernels { AreKernels grammar.now raw.now kernels.now }
+    requires rows { AreFirstRows grammar.now raw.now kernels.now rows.now }
+    requires short { length rows.now < length kernels.now }
+    ensures { IsFault grammar.now raw.now result }
+{
+    let Ok(parts) = resolve_rows(alloc, grammar, raw, kernels, rows) else {
+        return ValidFault::Memory;
+    };
+    let told = count_told(grammar, raw, parts.as_slice());
+    if told < rows.len() {
+        return wrong_at(grammar, raw, told, &parts[told]);
+    }
+    ValidFault::Invalid {
+        state: Some(told as u32),
+        reason: Reason::Edge,
+    }
+}
+
+/// The fault of a state whose cells are wrong.
+fn wrong_at(grammar: &Grammar, raw: &RawTable, state: usize, parts: &StateParts) -> ValidFault
+    requires state { state < length raw.now.states }
+    requires small { length raw.now.states < 2 ^ 32 }
+    ensures { result ≡ ValidFault.Invalid (Some state) (reason_of (raw_cells grammar.now parts.now) (raw_state raw.now state).cells) }
+{
+    ValidFault::Invalid {
+        state: Some(state as u32),
+        reason: reason(grammar, cells_at(raw, state), parts),
+    }
+}
+
+/// An automaton whose kernels and edges are right, with its table, where the cells are right too.
+fn with_table<const W: usize>(
+    alloc: Global,
+    grammar: &Grammar,
+    raw: &RawTable,
+    automaton: Automaton<W>,
+) -> Result<Valid<W>, ValidFault>
+    requires few { W ≤ 8 }
+    requires width { length grammar.now.tokens ≤ 64 * W }
+    requires range { IsInRange (plain_of grammar.now) }
+    requires costs { HaveCosts grammar.now.tokens }
+    requires header { HasHeader grammar.now raw.now }
+    requires states { HasStates grammar.now raw.now }
+    requires small { length raw.now.states < 2 ^ 32 }
+    requires kernels { AreKernels grammar.now raw.now automaton.kernels }
+    requires rows { AreRows grammar.now raw.now automaton.kernels automaton.edges }
+    ensures { IsOutcome grammar.now raw.now result }
+{
+    let Ok((states, conflicts)) = resolve_states(alloc, grammar, &automaton, raw.mode) else {
+        return Err(ValidFault::Memory);
+    };
+    let told = count_told(grammar, raw, states.as_slice());
+    if told < states.len() {
+        return Err(wrong_at(grammar, raw, told, &states[told]));
+    }
+    let Ok(table) = table_of(alloc, grammar, states) else {
+        return Err(ValidFault::Memory);
+    };
+    Ok(Valid {
+        automaton,
+        table,
+        conflicts,
+        mode: raw.mode,
+    })
+}
+
+/// The same of a file whose header, count of states and kernels are right.
+fn with_kernels<const W: usize>(
+    alloc: Global,
+    grammar: &Grammar,
+    raw: &RawTable,
+    kernels: Vec<Kernel<W>>,
+) -> Result<Valid<W>, ValidFault>
+    requires few { W ≤ 8 }
+    requires width { length grammar.now.tokens ≤ 64 * W }
+    requires range { IsInRange (plain_of grammar.now) }
+    requires costs { HaveCosts grammar.now.tokens }
+    requires header { HasHeader grammar.now raw.now }
+    requires states { HasStates grammar.now raw.now }
+    requires small { length raw.now.states < 2 ^ 32 }
+    requires kernels { AreKernels grammar.now raw.now kernels.items }
+    ensures { IsOutcome grammar.now raw.now result }
+{
+    let Ok(rows) = first_rows(alloc, grammar, raw, kernels.as_slice()) else {
+        return Err(ValidFault::Memory);
+    };
+    if rows.len() < kernels.len() {
+        return Err(fault_within(alloc, grammar, raw, kernels.as_slice(), rows.as_slice()));
+    }
+    with_table(
+        alloc,
+        grammar,
+        raw,
+        Automaton {
+            kernels: Sequence::from_vec(kernels),
+            edges: Sequence::from_vec(rows),
+        },
+    )
+}
+
+/// The automaton of a table file, with its table and its conflicts, where the file is valid for the grammar; else the first test
+/// that it fails. `Memory` may come at any file.
+pub fn validate<const W: usize>(
+    alloc: Global,
+    grammar: &Grammar,
+    raw: &RawTable,
+) -> Result<Valid<W>, ValidFault>
+    requires few { W ≤ 8 }
+    requires width { length grammar.now.tokens ≤ 64 * W }
+    requires range { IsInRange (plain_of grammar.now) }
+    requires costs { HaveCosts grammar.now.tokens }
+    requires apart { AreNamesApart grammar.now }
+    requires small { length raw.now.states < 2 ^ 32 }
+    ensures valid { IfOk result (λ v. IsValidFor grammar.now raw.now v.automaton v.table.states) }
+    ensures automaton { IfOk result (λ v. IsAutomaton (plain_of grammar.now) v.automaton) }
+    ensures table { IfOk result (λ v. IsTableOf grammar.now v.automaton raw.now.mode v.table) }
+    ensures conflicts { IfOk result (λ v. AreConflicts grammar.now v.automaton v.conflicts.items) }
+    ensures mode { IfOk result (λ v. v.mode ≡ raw.now.mode) }
+    ensures invalid { (state : Option ℕ) (reason : ReasonOf) → result ≡ Err (ValidFault.Invalid state reason) → IsInvalidAt grammar.now raw.now state reason }
+{
+    if !has_header(grammar, raw) {
+        return Err(ValidFault::Invalid {
+            state: None,
+            reason: Reason::Header,
+        });
+    }
+    if raw.states.len() < grammar.starts.len() {
+        return Err(ValidFault::Invalid {
+            state: None,
+            reason: Reason::States,
+        });
+    }
+    let Ok(kernels) = first_kernels(alloc, grammar, raw) else {
+        return Err(ValidFault::Memory);
+    };
+    if kernels.len() < raw.states.len() {
+        return Err(ValidFault::Invalid {
+            state: Some(kernels.len() as u32),
+            reason: Reason::Kernel,
+        });
+    }
+    with_kernels(alloc, grammar, raw, kernels)
+}
