@@ -60,6 +60,17 @@ impl Fails {
     }
 }
 
+/// Lets a value go. Where its type is known, each way out that lets it go would be long to prove.
+fn release<T: Drop>(_value: T) {}
+
+/// A value that was filled, where filling it did not fail.
+fn filled<T: Drop>(value: T, filling: Result<(), Fail>) -> Result<T, Fail> {
+    match filling {
+        Ok(()) => Ok(value),
+        Err(fail) => Err(fail),
+    }
+}
+
 /// Whether a file has this name.
 fn is_there(files: &[(Vec<u8>, Vec<u8>)], name: &[u8]) -> bool
     ensures { IsFalse result → file_at (files_of files.now) name.now ≡ None }
@@ -86,13 +97,47 @@ pub fn shelf_of(rt: &impl Abort, files: Vec<(Vec<u8>, Vec<u8>)>, fails: Vec<u64>
     MemShelf::new(files, fails)
 }
 
+fn add_words(alloc: Global, words: &mut Vec<String>, text: &str) -> Result<(), Fail> {
+    for word in text.split_ascii_whitespace() {
+        let word = String::from_str(alloc, word)?;
+        words.push(word)?;
+    }
+    Ok(())
+}
+
 /// The words of a text.
 pub fn words_of(alloc: Global, text: &str) -> Result<Vec<String>, Fail> {
     let mut words = Vec::new(alloc);
-    for word in text.split_ascii_whitespace() {
-        words.push(String::from_str(alloc, word)?)?;
-    }
-    Ok(words)
+    let added = add_words(alloc, &mut words, text);
+    filled(words, added)
+}
+
+/// The status, and what was written.
+fn outcome_of(alloc: Global, status: u8, out: &[u8], err: &[u8]) -> Result<Outcome, Fail> {
+    let out = out.to_vec(alloc)?;
+    let err = err.to_vec(alloc)?;
+    Ok(Outcome { status, out, err })
+}
+
+fn run_given(
+    rt: &impl Abort,
+    alloc: Global,
+    given: &[String],
+    files: Vec<(Vec<u8>, Vec<u8>)>,
+    input: Vec<u8>,
+    fails: Fails,
+) -> Result<Outcome, Fail> {
+    let mut shelf = shelf_of(rt, files, fails.shelf);
+    let mut input = MemSource::new(input, fails.input);
+    let mut out = MemSink::new(alloc, fails.out);
+    let mut err = MemSink::new(alloc, fails.err);
+    let status = menhir(alloc, given, &mut shelf, &mut input, &mut out, &mut err);
+    let outcome = outcome_of(alloc, status, out.written(), err.written());
+    release(shelf);
+    release(input);
+    release(out);
+    release(err);
+    outcome
 }
 
 /// Runs the tool on the words of a text.
@@ -104,17 +149,19 @@ pub fn run(
     input: Vec<u8>,
     fails: Fails,
 ) -> Result<Outcome, Fail> {
-    let given = words_of(alloc, words)?;
-    let mut shelf = shelf_of(rt, files, fails.shelf);
-    let mut input = MemSource::new(input, fails.input);
-    let mut out = MemSink::new(alloc, fails.out);
-    let mut err = MemSink::new(alloc, fails.err);
-    let status = menhir(alloc, &given, &mut shelf, &mut input, &mut out, &mut err);
-    Ok(Outcome {
-        status,
-        out: out.written().to_vec(alloc)?,
-        err: err.written().to_vec(alloc)?,
-    })
+    match words_of(alloc, words) {
+        Ok(given) => {
+            let outcome = run_given(rt, alloc, &given, files, input, fails);
+            release(given);
+            outcome
+        }
+        Err(fail) => {
+            release(files);
+            release(input);
+            release(fails);
+            Err(fail)
+        }
+    }
 }
 
 /// Runs the tool on the file `g.mly` with this text.
@@ -148,6 +195,21 @@ fn add_file(alloc: Global, files: &mut Vec<(Vec<u8>, Vec<u8>)>, file: &str) -> R
     Ok(())
 }
 
+fn add_files(
+    alloc: Global,
+    files: &mut Vec<(Vec<u8>, Vec<u8>)>,
+    shared: Option<&str>,
+    named: &[&str],
+) -> Result<(), Fail> {
+    if let Some(file) = shared {
+        add_file(alloc, files, file)?;
+    }
+    for file in named {
+        add_file(alloc, files, *file)?;
+    }
+    Ok(())
+}
+
 /// The shared file and those of a case.
 pub fn given_files(
     alloc: Global,
@@ -155,13 +217,8 @@ pub fn given_files(
     named: &[&str],
 ) -> Result<Vec<(Vec<u8>, Vec<u8>)>, Fail> {
     let mut files = Vec::new(alloc);
-    if let Some(file) = shared {
-        add_file(alloc, &mut files, file)?;
-    }
-    for file in named {
-        add_file(alloc, &mut files, *file)?;
-    }
-    Ok(files)
+    let added = add_files(alloc, &mut files, shared, named);
+    filled(files, added)
 }
 
 /// Runs one case of a text.
