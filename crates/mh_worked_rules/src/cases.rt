@@ -1,9 +1,9 @@
 //! Cases as one text: `~` between the files and what they give, `#` between files and `^` between cases.
 ghost use Rattle.std.specs.Prelude.{IfOk};
-ghost use Rattle.mh_rules.specs.Ready.{AreModulesReady};
+ghost use Rattle.mh_rules.specs.Ready.{IsModuleReady, AreModulesReady, IsReady};
 
 use mh_grammar::{Level, Name};
-use mh_join::Prec;
+use mh_join::{Joined, Prec, join};
 use mh_reader::{Module, read_module};
 use std::alloc::{AllocError, Global};
 use std::test::Fail;
@@ -13,21 +13,41 @@ pub fn parts(case: &str) -> Result<(&str, &str), Fail> {
     Ok(case.split_once('~').ok_or("a case without a `~`")?)
 }
 
+/// Lets a value go. Where its type is known, each way out that lets it go would be long to prove.
+pub fn release<T: Drop>(_value: T) {}
+
+/// The module of a short file.
+fn module_of(alloc: Global, file: &str) -> Result<Module, Fail>
+    ensures { IfOk result IsModuleReady }
+{
+    if file.len() >= 10_000 {
+        return Err(Fail::from("a long file"));
+    }
+    match read_module(alloc, file.as_bytes()) {
+        Ok(module) => Ok(module),
+        Err(_) => Err(Fail::from("a file that spells nothing")),
+    }
+}
+
 /// The modules of short files, which all spell one.
 pub fn modules_of(alloc: Global, files: &str) -> Result<Vec<Module>, Fail>
     ensures { IfOk result (λ modules. AreModulesReady modules.items) }
 {
     let mut modules = Vec::new(alloc);
     for file in files.split('#') {
-        if file.len() >= 10_000 {
-            return Err(Fail::from("a long file"));
-        }
-        let Ok(module) = read_module(alloc, file.as_bytes()) else {
-            return Err(Fail::from("a file that spells nothing"));
-        };
-        modules.push(module)?;
+        modules.push(module_of(alloc, file)?)?;
     }
     Ok(modules)
+}
+
+/// The rules of files that have no fault so far.
+pub fn joined_of(alloc: Global, files: &str, prelude: bool) -> Result<Joined, Fail>
+    ensures { IfOk result IsReady }
+{
+    let modules = modules_of(alloc, files)?;
+    let joined = join(alloc, modules.as_slice(), prelude);
+    release(modules);
+    Ok(joined?)
 }
 
 /// A number below 10 as its digit, and a greater one as `?`.

@@ -2,21 +2,15 @@
 ghost use Rattle.std.specs.Prelude.{IfOk};
 ghost use Rattle.mh_expand.specs.Expansion.{IsFirstFault};
 
-use crate::cases::{modules_of, parts, push_digit, push_named, push_prec};
+use crate::cases::{joined_of, parts, push_digit, push_named, push_prec, release};
 use mh_expand::{
     ExpandFault, Expanded, Instance, InstanceProduction, Part, expand, is_one_expansion,
     is_one_fault,
 };
-use mh_join::{Joined, join};
+use mh_join::Joined;
 use std::alloc::{AllocError, Global};
 use std::process::Abort;
 use std::test::Fail;
-
-/// The rules of a file that is spelled and has no fault.
-fn joined_of(alloc: Global, text: &str) -> Result<Joined, Fail> {
-    let modules = modules_of(alloc, text)?;
-    Ok(join(alloc, modules.as_slice(), false)?)
-}
 
 fn push_part(out: &mut Vec<u8>, part: Part) -> Result<(), AllocError> {
     match part {
@@ -72,15 +66,33 @@ fn push_expanded(out: &mut Vec<u8>, expanded: &Expanded) -> Result<(), AllocErro
     Ok(())
 }
 
-/// The instances of the rules, or their fault.
+fn push_fault(out: &mut Vec<u8>, fault: &ExpandFault) -> Result<(), AllocError> {
+    match fault {
+        ExpandFault::Arity { instance } => push_named(out, b'A', instance),
+        ExpandFault::Expansion { name } => push_named(out, b'E', name),
+        ExpandFault::Memory => Err(AllocError),
+    }
+}
+
+/// Adds the instances of the rules, or their fault.
+fn push_answer(alloc: Global, out: &mut Vec<u8>, joined: &Joined) -> Result<(), AllocError> {
+    match expand(alloc, joined) {
+        Ok(expanded) => {
+            let result = push_expanded(out, &expanded);
+            release(expanded);
+            result
+        }
+        Err(fault) => {
+            let result = push_fault(out, &fault);
+            release(fault);
+            result
+        }
+    }
+}
+
 fn answer(alloc: Global, joined: &Joined) -> Result<Vec<u8>, AllocError> {
     let mut out = Vec::new(alloc);
-    match expand(alloc, joined) {
-        Ok(expanded) => push_expanded(&mut out, &expanded)?,
-        Err(ExpandFault::Arity { instance }) => push_named(&mut out, b'A', &instance)?,
-        Err(ExpandFault::Expansion { name }) => push_named(&mut out, b'E', &name)?,
-        Err(ExpandFault::Memory) => return Err(AllocError),
-    }
+    push_answer(alloc, &mut out, joined)?;
     Ok(out)
 }
 
@@ -121,8 +133,10 @@ fn cases() -> &'static str {
 
 /// The instances of the rules of a file, or their fault.
 fn found(alloc: Global, text: &str) -> Result<Vec<u8>, Fail> {
-    let joined = joined_of(alloc, text)?;
-    Ok(answer(alloc, &joined)?)
+    let joined = joined_of(alloc, text, false)?;
+    let text = answer(alloc, &joined);
+    release(joined);
+    Ok(text?)
 }
 
 fn check_case(rt: &impl Abort, alloc: Global, text: &str, expected: &str) -> Result<(), Fail> {
@@ -179,13 +193,19 @@ fn arity_before_expansion(rt: HostRuntime) -> Result<(), Fail> {
     Ok(())
 }
 
+fn check_expansion(alloc: Global, joined: &Joined) -> Result<(), Fail> {
+    let left = expand(alloc, joined)?;
+    let right = expand(alloc, joined)?;
+    is_one_expansion(joined, &left, &right);
+    Ok(())
+}
+
 #[test]
 fn one_expansion(rt: HostRuntime) -> Result<(), Fail> {
-    let joined = joined_of(rt.alloc(), "%token A %start s %% s: A {}")?;
-    let left = expand(rt.alloc(), &joined)?;
-    let right = expand(rt.alloc(), &joined)?;
-    is_one_expansion(&joined, &left, &right);
-    Ok(())
+    let joined = joined_of(rt.alloc(), "%token A %start s %% s: A {}", false)?;
+    let result = check_expansion(rt.alloc(), &joined);
+    release(joined);
+    result
 }
 
 /// The fault of rules that is an arity.
@@ -198,11 +218,17 @@ fn arity_of(alloc: Global, joined: &Joined) -> Result<ExpandFault, Fail>
     Ok(ExpandFault::Arity { instance })
 }
 
+fn check_fault(alloc: Global, joined: &Joined) -> Result<(), Fail> {
+    let left = arity_of(alloc, joined)?;
+    let right = arity_of(alloc, joined)?;
+    is_one_fault(joined, &left, &right);
+    Ok(())
+}
+
 #[test]
 fn one_fault(rt: HostRuntime) -> Result<(), Fail> {
-    let joined = joined_of(rt.alloc(), "%start s %% s(x): {}")?;
-    let left = arity_of(rt.alloc(), &joined)?;
-    let right = arity_of(rt.alloc(), &joined)?;
-    is_one_fault(&joined, &left, &right);
-    Ok(())
+    let joined = joined_of(rt.alloc(), "%start s %% s(x): {}", false)?;
+    let result = check_fault(rt.alloc(), &joined);
+    release(joined);
+    result
 }

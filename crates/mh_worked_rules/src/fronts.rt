@@ -1,7 +1,10 @@
 //! Files and their grammars or faults, worked out by hand.
-use crate::cases::{modules_of, parts, push_digit};
+ghost use Rattle.mh_rules.specs.Ready.{AreModulesReady};
+
+use crate::cases::{modules_of, parts, push_digit, release};
 use mh_front::{GrammarFault, fault_line, grammar_of};
 use mh_grammar::{Grammar, Symbol};
+use mh_reader::Module;
 use std::alloc::{AllocError, Global};
 use std::fmt::Write;
 use std::test::Fail;
@@ -46,13 +49,29 @@ fn summary(alloc: Global, grammar: &Grammar) -> Result<Vec<u8>, AllocError> {
     Ok(out)
 }
 
+fn answer_of(alloc: Global, modules: &[Module], prelude: bool) -> Result<Vec<u8>, Fail>
+    requires { AreModulesReady modules.now }
+{
+    match grammar_of(alloc, modules, prelude) {
+        Ok(grammar) => {
+            let text = summary(alloc, &grammar);
+            release(grammar);
+            Ok(text?)
+        }
+        Err(fault) => {
+            let line = fault_line(alloc, &fault);
+            release(fault);
+            Ok(line?)
+        }
+    }
+}
+
 /// The grammar of files in short, or what is told of its fault.
 fn answer(alloc: Global, files: &str, prelude: bool) -> Result<Vec<u8>, Fail> {
     let modules = modules_of(alloc, files)?;
-    match grammar_of(alloc, modules.as_slice(), prelude) {
-        Ok(grammar) => Ok(summary(alloc, &grammar)?),
-        Err(fault) => Ok(fault_line(alloc, &fault)?),
-    }
+    let text = answer_of(alloc, modules.as_slice(), prelude);
+    release(modules);
+    text
 }
 
 /// Files and what is told of them.

@@ -2,11 +2,10 @@
 ghost use Rattle.std.specs.Prelude.{IfOk};
 ghost use Rattle.mh_rules.specs.Ready.{IsExpandedReady};
 
-use crate::cases::{modules_of, parts, push_digit, push_level, push_named};
+use crate::cases::{joined_of, parts, push_digit, push_level, push_named, release};
 use mh_expand::{Expanded, expand};
 use mh_grammar::{Grammar, Production, Symbol};
 use mh_inline::{InlineFault, inline_rules, is_grammar_or_fault, is_one_fault, is_one_grammar};
-use mh_join::join;
 use std::alloc::{AllocError, Global};
 use std::test::Fail;
 
@@ -14,9 +13,10 @@ use std::test::Fail;
 fn expanded_of(alloc: Global, files: &str) -> Result<Expanded, Fail>
     ensures { IfOk result IsExpandedReady }
 {
-    let modules = modules_of(alloc, files)?;
-    let joined = join(alloc, modules.as_slice(), true)?;
-    Ok(expand(alloc, &joined)?)
+    let joined = joined_of(alloc, files, true)?;
+    let expanded = expand(alloc, &joined);
+    release(joined);
+    Ok(expanded?)
 }
 
 fn push_symbol(out: &mut Vec<u8>, symbol: Symbol) -> Result<(), AllocError> {
@@ -66,19 +66,39 @@ fn push_grammar(out: &mut Vec<u8>, grammar: &Grammar) -> Result<(), AllocError> 
     Ok(())
 }
 
-/// The grammar of the instances, or their fault.
+fn push_fault(out: &mut Vec<u8>, fault: &InlineFault) -> Result<(), AllocError> {
+    match fault {
+        InlineFault::InlineCycle { instance } => push_named(out, b'C', instance),
+        InlineFault::InlineStart { name } => push_named(out, b'S', name),
+        InlineFault::TooManyProductions => out.extend_from_slice(b"too many"),
+        InlineFault::EmptyLanguage { name } => push_named(out, b'E', name),
+        InlineFault::Memory => Err(AllocError),
+    }
+}
+
+/// Adds the grammar of the instances, or their fault.
+fn push_answer(alloc: Global, out: &mut Vec<u8>, expanded: &Expanded) -> Result<(), AllocError>
+    requires { IsExpandedReady expanded.now }
+{
+    match inline_rules(alloc, expanded) {
+        Ok(grammar) => {
+            let result = push_grammar(out, &grammar);
+            release(grammar);
+            result
+        }
+        Err(fault) => {
+            let result = push_fault(out, &fault);
+            release(fault);
+            result
+        }
+    }
+}
+
 fn answer(alloc: Global, expanded: &Expanded) -> Result<Vec<u8>, AllocError>
     requires { IsExpandedReady expanded.now }
 {
     let mut out = Vec::new(alloc);
-    match inline_rules(alloc, expanded) {
-        Ok(grammar) => push_grammar(&mut out, &grammar)?,
-        Err(InlineFault::InlineCycle { instance }) => push_named(&mut out, b'C', &instance)?,
-        Err(InlineFault::InlineStart { name }) => push_named(&mut out, b'S', &name)?,
-        Err(InlineFault::TooManyProductions) => out.extend_from_slice(b"too many")?,
-        Err(InlineFault::EmptyLanguage { name }) => push_named(&mut out, b'E', &name)?,
-        Err(InlineFault::Memory) => return Err(AllocError),
-    }
+    push_answer(alloc, &mut out, expanded)?;
     Ok(out)
 }
 
@@ -120,7 +140,9 @@ fn cases() -> &'static str {
 /// The grammar of files, or their fault.
 fn found(alloc: Global, texts: &str) -> Result<Vec<u8>, Fail> {
     let expanded = expanded_of(alloc, texts)?;
-    Ok(answer(alloc, &expanded)?)
+    let text = answer(alloc, &expanded);
+    release(expanded);
+    Ok(text?)
 }
 
 #[test]
@@ -133,23 +155,46 @@ fn files(rt: HostRuntime) -> Result<(), Fail> {
     Ok(())
 }
 
+fn check_grammar(alloc: Global, expanded: &Expanded) -> Result<(), Fail>
+    requires { IsExpandedReady expanded.now }
+{
+    let grammar = inline_rules(alloc, expanded)?;
+    is_one_grammar(expanded, &grammar, &grammar);
+    is_grammar_or_fault(expanded, &grammar, &InlineFault::Memory);
+    release(grammar);
+    Ok(())
+}
+
 #[test]
 fn one_grammar(rt: HostRuntime) -> Result<(), Fail> {
     let texts = "%token A %start s %% s: A {}";
     let expanded = expanded_of(rt.alloc(), texts)?;
-    let grammar = inline_rules(rt.alloc(), &expanded)?;
-    is_one_grammar(&expanded, &grammar, &grammar);
-    is_grammar_or_fault(&expanded, &grammar, &InlineFault::Memory);
-    Ok(())
+    let result = check_grammar(rt.alloc(), &expanded);
+    release(expanded);
+    result
+}
+
+fn check_fault(alloc: Global, expanded: &Expanded) -> Result<(), Fail>
+    requires { IsExpandedReady expanded.now }
+{
+    match inline_rules(alloc, expanded) {
+        Ok(grammar) => {
+            release(grammar);
+            Err("no fault".into())
+        }
+        Err(fault) => {
+            is_one_fault(expanded, &fault, &fault);
+            release(fault);
+            Ok(())
+        }
+    }
 }
 
 #[test]
 fn one_fault(rt: HostRuntime) -> Result<(), Fail> {
     let texts = "%start s %% s: s {}";
     let expanded = expanded_of(rt.alloc(), texts)?;
-    let Err(fault) = inline_rules(rt.alloc(), &expanded) else {
-        return Err("no fault".into());
-    };
-    is_one_fault(&expanded, &fault, &fault);
-    Ok(())
+    let result = check_fault(rt.alloc(), &expanded);
+    release(expanded);
+    result
 }

@@ -1,5 +1,7 @@
 //! Files and what they give together, worked out by hand.
-use crate::cases::{modules_of, parts, push_digit, push_level, push_named, push_number, push_prec};
+use crate::cases::{
+    modules_of, parts, push_digit, push_level, push_named, push_number, push_prec, release,
+};
 use mh_join::{
     Applied, Head, JoinFault, Joined, JoinedAlternative, JoinedRule, is_joined_or_fault,
     is_one_fault, is_one_joined, join, prelude_rules,
@@ -100,23 +102,48 @@ fn push_joined(out: &mut Vec<u8>, joined: &Joined) -> Result<(), AllocError> {
     Ok(())
 }
 
-/// What the files give, or their fault.
+fn push_count(out: &mut Vec<u8>, count: u64) -> Result<(), AllocError> {
+    out.extend_from_slice(b"too many ")?;
+    push_number(out, count / 100)?;
+    push_number(out, count % 100)
+}
+
+fn push_fault(out: &mut Vec<u8>, fault: &JoinFault) -> Result<(), AllocError> {
+    match fault {
+        JoinFault::Undefined { name } => push_named(out, b'U', name),
+        JoinFault::Duplicate { name } => push_named(out, b'D', name),
+        JoinFault::NoStart => out.extend_from_slice(b"no start"),
+        JoinFault::ErrorToken => out.extend_from_slice(b"error"),
+        JoinFault::UnknownLevel { name } => push_named(out, b'L', name),
+        JoinFault::TooManyTokens { count } => push_count(out, *count),
+        JoinFault::Memory => Err(AllocError),
+    }
+}
+
+/// Adds what the files give, or their fault.
+fn push_answer(
+    alloc: Global,
+    out: &mut Vec<u8>,
+    modules: &[Module],
+    prelude: bool,
+) -> Result<(), AllocError> {
+    match join(alloc, modules, prelude) {
+        Ok(joined) => {
+            let result = push_joined(out, &joined);
+            release(joined);
+            result
+        }
+        Err(fault) => {
+            let result = push_fault(out, &fault);
+            release(fault);
+            result
+        }
+    }
+}
+
 fn answer(alloc: Global, modules: &[Module], prelude: bool) -> Result<Vec<u8>, AllocError> {
     let mut out = Vec::new(alloc);
-    match join(alloc, modules, prelude) {
-        Ok(joined) => push_joined(&mut out, &joined)?,
-        Err(JoinFault::Undefined { name }) => push_named(&mut out, b'U', &name)?,
-        Err(JoinFault::Duplicate { name }) => push_named(&mut out, b'D', &name)?,
-        Err(JoinFault::NoStart) => out.extend_from_slice(b"no start")?,
-        Err(JoinFault::ErrorToken) => out.extend_from_slice(b"error")?,
-        Err(JoinFault::UnknownLevel { name }) => push_named(&mut out, b'L', &name)?,
-        Err(JoinFault::TooManyTokens { count }) => {
-            out.extend_from_slice(b"too many ")?;
-            push_number(&mut out, count / 100)?;
-            push_number(&mut out, count % 100)?;
-        }
-        Err(JoinFault::Memory) => return Err(AllocError),
-    }
+    push_answer(alloc, &mut out, modules, prelude)?;
     Ok(out)
 }
 
@@ -228,7 +255,9 @@ fn cases_with_prelude() -> &'static str {
 /// What the files of a case give.
 fn found(alloc: Global, texts: &str, prelude: bool) -> Result<Vec<u8>, Fail> {
     let modules = modules_of(alloc, texts)?;
-    Ok(answer(alloc, modules.as_slice(), prelude)?)
+    let text = answer(alloc, modules.as_slice(), prelude);
+    release(modules);
+    Ok(text?)
 }
 
 /// Compares what the files of each case give with what it says.
@@ -247,33 +276,41 @@ fn files(rt: HostRuntime) -> Result<(), Fail> {
     check_cases(&rt, rt.alloc(), cases_with_prelude(), true)
 }
 
+fn check_answer(alloc: Global, modules: &[Module]) -> Result<(), Fail> {
+    let left = join(alloc, modules, false)?;
+    let right = join(alloc, modules, false)?;
+    is_one_joined(false, modules, &left, &right);
+    is_joined_or_fault(false, modules, &left, &JoinFault::Memory);
+    Ok(())
+}
+
 #[test]
 fn one_answer(rt: HostRuntime) -> Result<(), Fail> {
     let modules = modules_of(rt.alloc(), "%start s %% s: {}")?;
-    let Ok(left) = join(rt.alloc(), modules.as_slice(), false) else {
-        return Err("a fault".into());
+    let result = check_answer(rt.alloc(), modules.as_slice());
+    release(modules);
+    result
+}
+
+fn check_fault(rt: &impl Abort, alloc: Global, modules: &[Module]) -> Result<(), Fail> {
+    let Err(left) = join(alloc, modules, false) else {
+        return Err("no fault".into());
     };
-    let Ok(right) = join(rt.alloc(), modules.as_slice(), false) else {
-        return Err("a fault".into());
+    let Err(right) = join(alloc, modules, false) else {
+        return Err("no fault".into());
     };
-    is_one_joined(false, modules.as_slice(), &left, &right);
-    is_joined_or_fault(false, modules.as_slice(), &left, &JoinFault::Memory);
+    is_one_fault(false, modules, &left, &right);
+    assert_eq!(rt; left, JoinFault::NoStart);
+    assert_eq!(rt; right, JoinFault::NoStart);
     Ok(())
 }
 
 #[test]
 fn one_fault(rt: HostRuntime) -> Result<(), Fail> {
     let modules = modules_of(rt.alloc(), "%% s: {}")?;
-    let Err(left) = join(rt.alloc(), modules.as_slice(), false) else {
-        return Err("no fault".into());
-    };
-    let Err(right) = join(rt.alloc(), modules.as_slice(), false) else {
-        return Err("no fault".into());
-    };
-    is_one_fault(false, modules.as_slice(), &left, &right);
-    assert_eq!(rt; left, JoinFault::NoStart);
-    assert_eq!(rt; right, JoinFault::NoStart);
-    Ok(())
+    let result = check_fault(&rt, rt.alloc(), modules.as_slice());
+    release(modules);
+    result
 }
 
 /// What a file with 512 tokens and this text gives, with the files behind it.
@@ -387,19 +424,28 @@ fn sources(alloc: Global, rules: &[Rule]) -> Result<Vec<u8>, AllocError> {
     Ok(out)
 }
 
+fn check_rules(rt: &impl Abort, alloc: Global, found: &[Rule], rules: &[Rule]) -> Result<(), Fail> {
+    assert_eq!(rt; rules.len(), 18);
+    assert_eq!(rt; sources(alloc, found)?, sources(alloc, rules)?);
+    Ok(())
+}
+
+fn check_prelude(rt: &impl Abort, alloc: Global, modules: &[Module]) -> Result<(), Fail> {
+    let [found] = modules else {
+        return Err("not one file".into());
+    };
+    assert!(rt; found.tokens.is_empty() && found.starts.is_empty());
+    assert!(rt; found.levels.is_empty() && found.on_error.is_empty());
+    let rules = prelude_rules(alloc, true)?;
+    let result = check_rules(rt, alloc, found.rules.as_slice(), rules.as_slice());
+    release(rules);
+    result
+}
+
 #[test]
 fn prelude_is_what_its_text_spells(rt: HostRuntime) -> Result<(), Fail> {
     let modules = modules_of(rt.alloc(), prelude_text())?;
-    let [found] = modules.as_slice() else {
-        return Err("not one file".into());
-    };
-    let rules = prelude_rules(rt.alloc(), true)?;
-    assert_eq!(rt; rules.len(), 18);
-    assert_eq!(rt;
-        sources(rt.alloc(), found.rules.as_slice())?,
-        sources(rt.alloc(), rules.as_slice())?
-    );
-    assert!(rt; found.tokens.is_empty() && found.starts.is_empty());
-    assert!(rt; found.levels.is_empty() && found.on_error.is_empty());
-    Ok(())
+    let result = check_prelude(&rt, rt.alloc(), modules.as_slice());
+    release(modules);
+    result
 }

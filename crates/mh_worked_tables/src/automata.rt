@@ -1,6 +1,7 @@
 //! Collections that were worked out by hand, by Knuth's construction.
+use crate::cases::release;
 use mh_canon::{canonical, is_one_automaton};
-use mh_grammar::{Edge, Symbol, is_in_range};
+use mh_grammar::{Edge, Grammar, Symbol, is_in_range};
 use mh_items::Automaton;
 use mh_made::{automaton_of, grammar_of};
 use std::alloc::{AllocError, Global};
@@ -41,13 +42,25 @@ fn push_edges(out: &mut Vec<u8>, automaton: &Automaton<1>) -> Result<(), AllocEr
     Ok(())
 }
 
+fn text_of(alloc: Global, automaton: &Automaton<1>) -> Result<Vec<u8>, AllocError> {
+    let mut out = Vec::new(alloc);
+    push_edges(&mut out, automaton)?;
+    Ok(out)
+}
+
 /// The edges of a grammar's automaton.
+fn edges_in(alloc: Global, grammar: &Grammar) -> Result<Vec<u8>, Fail> {
+    let automaton = automaton_of(alloc, grammar)?;
+    let text = text_of(alloc, &automaton);
+    release(automaton);
+    Ok(text?)
+}
+
 fn edges_of(alloc: Global, text: &str) -> Result<Vec<u8>, Fail> {
     let grammar = grammar_of(alloc, text)?;
-    let automaton = automaton_of(alloc, &grammar)?;
-    let mut out = Vec::new(alloc);
-    push_edges(&mut out, &automaton)?;
-    Ok(out)
+    let edges = edges_in(alloc, &grammar);
+    release(grammar);
+    edges
 }
 
 fn check(rt: &impl Abort, alloc: Global, text: &str, wanted: &str) -> Result<(), Fail> {
@@ -100,12 +113,18 @@ fn of_sums_and_products(rt: HostRuntime) -> Result<(), Fail> {
     )
 }
 
+fn check_one(rt: &impl Abort, alloc: Global, grammar: &Grammar) -> Result<(), Fail> {
+    assert!(rt; is_in_range(grammar));
+    assert!(rt; grammar.tokens.len() <= 64);
+    let automaton = canonical::<1>(alloc, grammar).map_err(|_| "no automaton")?;
+    is_one_automaton(grammar, &automaton, &automaton);
+    Ok(())
+}
+
 #[test]
 fn one_automaton(rt: HostRuntime) -> Result<(), Fail> {
     let grammar = grammar_of(rt.alloc(), "A; s; s: A")?;
-    assert!(rt; is_in_range(&grammar));
-    assert!(rt; grammar.tokens.len() <= 64);
-    let automaton = canonical::<1>(rt.alloc(), &grammar).map_err(|_| "no automaton")?;
-    is_one_automaton(&grammar, &automaton, &automaton);
-    Ok(())
+    let result = check_one(&rt, rt.alloc(), &grammar);
+    release(grammar);
+    result
 }

@@ -1,9 +1,15 @@
 //! Worked closures and moves, computed by hand.
+ghost use Rattle.std.specs.Prelude.{◌≤◌, ◌<◌, length, IfOk};
+ghost use Rattle.mh_grammar.specs.Plain.{plain_of, IsInRange};
+ghost use Rattle.mh_items.specs.Kernels.{IsKernel};
+
+use crate::cases::release;
 use mh_grammar::{Grammar, Look, Memory, Symbol, is_in_range};
 use mh_items::{Kernel, are_equal, closure, firsts, moved, one_list, start_kernel, symbol_at};
 use mh_made::grammar_of;
 use mh_sets::TokenSet;
 use std::alloc::Global;
+use std::process::Abort;
 use std::test::Fail;
 
 /// Whether a set has just these looks.
@@ -26,52 +32,113 @@ fn is_item(kernel: &Kernel<1>, at: usize, production: u32, dot: u32, looks: &[Lo
     }
 }
 
-/// The closure of the start kernel, and that of the move from it.
+fn closed_of(alloc: Global, grammar: &Grammar, kernel: &Kernel<1>) -> Result<Kernel<1>, Memory>
+    requires width { length grammar.now.tokens ≤ 64 }
+    requires range { IsInRange (plain_of grammar.now) }
+    requires kernel { IsKernel (plain_of grammar.now) kernel.now }
+    ensures { IfOk result (IsKernel (plain_of grammar.now)) }
+{
+    let sets = firsts(alloc, grammar)?;
+    let closed = closure(alloc, grammar, &sets, kernel);
+    release(sets);
+    closed
+}
+
+/// The closure of the start kernel.
+fn first_state(alloc: Global, grammar: &Grammar) -> Result<Kernel<1>, Memory>
+    requires width { length grammar.now.tokens ≤ 64 }
+    requires range { IsInRange (plain_of grammar.now) }
+    requires start { 0 < length grammar.now.starts }
+    ensures { IfOk result (IsKernel (plain_of grammar.now)) }
+{
+    let start = start_kernel(alloc, grammar, 0)?;
+    let closed = closed_of(alloc, grammar, &start);
+    release(start);
+    closed
+}
+
+/// The closure of what a closed kernel moves to.
+fn next_state(
+    alloc: Global,
+    grammar: &Grammar,
+    closed: &Kernel<1>,
+    symbol: Symbol,
+) -> Result<Kernel<1>, Memory>
+    requires width { length grammar.now.tokens ≤ 64 }
+    requires range { IsInRange (plain_of grammar.now) }
+    requires kernel { IsKernel (plain_of grammar.now) closed.now }
+{
+    let next = moved(alloc, grammar, closed, symbol)?;
+    let closed = closed_of(alloc, grammar, &next);
+    release(next);
+    closed
+}
+
+/// The first state of a grammar's automaton, and the one that it moves to.
 fn two_states(
     alloc: Global,
     grammar: &Grammar,
     symbol: Symbol,
-) -> Result<Option<(Kernel<1>, Kernel<1>)>, Memory> {
+) -> Result<(Kernel<1>, Kernel<1>), Fail> {
     if !is_in_range(grammar) || grammar.starts.is_empty() || grammar.tokens.len() > 64 {
-        return Ok(None);
+        return Err(Fail::from("out of range"));
     }
     if symbol_at(grammar, 0, 0).is_none() {
-        return Ok(None);
+        return Err(Fail::from("out of range"));
     }
     one_list(grammar);
-    let sets = firsts(alloc, grammar)?;
-    let start = start_kernel(alloc, grammar, 0)?;
-    let closed = closure(alloc, grammar, &sets, &start)?;
-    let next = moved(alloc, grammar, &closed, symbol)?;
-    let next = closure(alloc, grammar, &sets, &next)?;
-    Ok(Some((closed, next)))
+    let first = first_state(alloc, grammar)?;
+    match next_state(alloc, grammar, &first, symbol) {
+        Ok(next) => Ok((first, next)),
+        Err(memory) => {
+            release(first);
+            Err(Fail::from(memory))
+        }
+    }
+}
+
+fn states_of(alloc: Global, text: &str, symbol: Symbol) -> Result<(Kernel<1>, Kernel<1>), Fail> {
+    let grammar = grammar_of(alloc, text)?;
+    let states = two_states(alloc, &grammar, symbol);
+    release(grammar);
+    states
+}
+
+fn check_textbook(rt: &impl Abort, closed: &Kernel<1>, next: &Kernel<1>) {
+    let before = [Look::Token(0), Look::Token(1)];
+    assert_eq!(rt; closed.items.len(), 4);
+    assert!(rt; is_item(closed, 1, 1, 0, &[Look::End]));
+    assert!(rt; is_item(closed, 3, 3, 0, &before));
+    assert_eq!(rt; next.items.len(), 3);
+    assert!(rt; is_item(next, 0, 1, 1, &[Look::End]));
+    assert!(rt; is_item(next, 2, 3, 0, &[Look::End]));
+    assert!(rt; !are_equal(closed, next));
 }
 
 #[test]
 fn textbook_states(rt: HostRuntime) -> Result<(), Fail> {
-    let alloc = rt.alloc();
-    let grammar = grammar_of(alloc, "C D; s c; s: c c; c: C c; c: D")?;
-    let (closed, next) = two_states(alloc, &grammar, Symbol::N(1))?.ok_or("out of range")?;
-    let before = [Look::Token(0), Look::Token(1)];
-    assert_eq!(rt; closed.items.len(), 4);
-    assert!(rt; is_item(&closed, 1, 1, 0, &[Look::End]));
-    assert!(rt; is_item(&closed, 3, 3, 0, &before));
-    assert_eq!(rt; next.items.len(), 3);
-    assert!(rt; is_item(&next, 0, 1, 1, &[Look::End]));
-    assert!(rt; is_item(&next, 2, 3, 0, &[Look::End]));
-    assert!(rt; !are_equal(&closed, &next));
+    let text = "C D; s c; s: c c; c: C c; c: D";
+    let (closed, next) = states_of(rt.alloc(), text, Symbol::N(1))?;
+    check_textbook(&rt, &closed, &next);
+    release(closed);
+    release(next);
     Ok(())
+}
+
+fn check_nullable_rest(rt: &impl Abort, closed: &Kernel<1>) {
+    assert_eq!(rt; closed.items.len(), 3);
+    assert!(rt; is_item(closed, 1, 1, 0, &[Look::End]));
+    let looks = [Look::Token(0), Look::End];
+    assert!(rt; is_item(closed, 2, 4, 0, &looks));
 }
 
 /// The end of the stream comes to b through x, which may be empty.
 #[test]
 fn nullable_rest_states(rt: HostRuntime) -> Result<(), Fail> {
-    let alloc = rt.alloc();
-    let grammar = grammar_of(alloc, "B; s x b; s: b x; x:; x: B; b: B")?;
-    let (closed, _) = two_states(alloc, &grammar, Symbol::N(2))?.ok_or("out of range")?;
-    assert_eq!(rt; closed.items.len(), 3);
-    assert!(rt; is_item(&closed, 1, 1, 0, &[Look::End]));
-    let looks = [Look::Token(0), Look::End];
-    assert!(rt; is_item(&closed, 2, 4, 0, &looks));
+    let text = "B; s x b; s: b x; x:; x: B; b: B";
+    let (closed, next) = states_of(rt.alloc(), text, Symbol::N(2))?;
+    check_nullable_rest(&rt, &closed);
+    release(closed);
+    release(next);
     Ok(())
 }

@@ -5,6 +5,8 @@
 #[cfg(test)]
 mod automata;
 #[cfg(test)]
+mod cases;
+#[cfg(test)]
 mod closures;
 #[cfg(test)]
 mod resolving;

@@ -1,6 +1,7 @@
 //! Cells, defaults, actions on an error and conflicts that were worked out by hand. Each grammar begins with the token A,
 //! and state 1 is the one behind it.
-use mh_grammar::Look;
+use crate::cases::release;
+use mh_grammar::{Grammar, Look};
 use mh_made::{grammar_of, resolved};
 use mh_resolve::{Conflict, ConflictKind, Mode};
 use mh_tables::Table;
@@ -25,10 +26,19 @@ fn fallback_of(alloc: Global, table: &Table) -> Result<String, Fail> {
 }
 
 /// The default of state 1.
+fn fallback_in(alloc: Global, grammar: &Grammar, mode: Mode) -> Result<String, Fail> {
+    let (table, conflicts) = resolved(alloc, grammar, mode)?;
+    let text = fallback_of(alloc, &table);
+    release(table);
+    release(conflicts);
+    text
+}
+
 fn fallback(alloc: Global, grammar: &str, mode: Mode) -> Result<String, Fail> {
     let grammar = grammar_of(alloc, grammar)?;
-    let (table, _) = resolved(alloc, &grammar, mode)?;
-    fallback_of(alloc, &table)
+    let text = fallback_in(alloc, &grammar, mode);
+    release(grammar);
+    text
 }
 
 /// Adds the kind of each conflict to a text.
@@ -53,10 +63,19 @@ fn cell_of(
     Ok(text)
 }
 
+fn cell_in(alloc: Global, grammar: &Grammar, state: u32, token: u16) -> Result<String, Fail> {
+    let (table, conflicts) = resolved(alloc, grammar, Mode::Canonical)?;
+    let text = cell_of(alloc, &table, conflicts.as_slice(), state, token);
+    release(table);
+    release(conflicts);
+    text
+}
+
 fn cell(alloc: Global, grammar: &str, state: u32, token: u16) -> Result<String, Fail> {
     let grammar = grammar_of(alloc, grammar)?;
-    let (table, conflicts) = resolved(alloc, &grammar, Mode::Canonical)?;
-    cell_of(alloc, &table, conflicts.as_slice(), state, token)
+    let text = cell_in(alloc, &grammar, state, token);
+    release(grammar);
+    text
 }
 
 fn check_cells(
@@ -163,13 +182,27 @@ fn defaults(rt: HostRuntime) -> Result<(), Fail> {
     Ok(())
 }
 
+fn conflicts_in(alloc: Global, grammar: &Grammar) -> Result<Vec<Conflict>, Fail> {
+    let (table, conflicts) = resolved(alloc, grammar, Mode::Canonical)?;
+    release(table);
+    Ok(conflicts)
+}
+
+fn conflicts_of(alloc: Global, text: &str) -> Result<Vec<Conflict>, Fail> {
+    let grammar = grammar_of(alloc, text)?;
+    let conflicts = conflicts_in(alloc, &grammar);
+    release(grammar);
+    conflicts
+}
+
 /// Behind A, T is shifted or x is reduced, and at the end x or y is; so the end has an action and T another one. Behind x,
 /// state 3, T is shifted or s is reduced at the end.
 #[test]
 fn conflicts(rt: HostRuntime) -> Result<(), Fail> {
-    let alloc = rt.alloc();
-    let grammar = grammar_of(alloc, "A T; s x y; s: x; s: y; s: A T; s: x T; x: A; y: A")?;
-    let (_, conflicts) = resolved(alloc, &grammar, Mode::Canonical)?;
+    let conflicts = conflicts_of(
+        rt.alloc(),
+        "A T; s x y; s: x; s: y; s: A T; s: x T; x: A; y: A",
+    )?;
     let wanted = [
         (1, Look::Token(1), ConflictKind::Unsolved),
         (1, Look::End, ConflictKind::Unsolved),

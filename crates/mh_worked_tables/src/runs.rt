@@ -1,12 +1,13 @@
 //! Runs of sentences of whole grammars, worked out by hand, with their last reductions and their trees.
 ghost use Rattle.std.specs.Prelude.{◌<◌, length, IsTrue, All};
 
+use crate::cases::release;
 use mh_engine::{TreeOutcome, run_with_trees};
 use mh_grammar::{Grammar, Token};
 use mh_made::{grammar_of, halting_of};
 use mh_run::{Verdict, trace, verdict};
 use mh_tables::Halting;
-use mh_tree::{print_tree, yield_of};
+use mh_tree::{Tree, print_tree, yield_of};
 use std::alloc::Global;
 use std::process::Abort;
 use std::test::Fail;
@@ -27,7 +28,10 @@ const CHAIN: &str = "A B; s; s: A s; s: B";
 const SUMS: &str = "INT PLUS EOF; main e; main: e EOF; e: e PLUS INT; e: INT";
 
 fn table_of(alloc: Global, grammar: &str) -> Result<Halting, Fail> {
-    halting_of(alloc, &grammar_of(alloc, grammar)?)
+    let grammar = grammar_of(alloc, grammar)?;
+    let table = halting_of(alloc, &grammar);
+    release(grammar);
+    table
 }
 
 /// The tokens are the table's, and it has a start.
@@ -98,9 +102,7 @@ fn check_trace(
     Ok(())
 }
 
-#[test]
-fn the_reductions_since_the_last_shift(rt: HostRuntime) -> Result<(), Fail> {
-    let table = table_of(rt.alloc(), COMPARISONS)?;
+fn check_reductions(rt: &impl Abort, alloc: Global, table: &Halting) -> Result<(), Fail> {
     let rows: [(&[Token], (Verdict, &[u32])); 4] = [
         // INT EQ INT EQ INT: the first INT was reduced before EQ was shifted.
         (
@@ -114,9 +116,17 @@ fn the_reductions_since_the_last_shift(rt: HostRuntime) -> Result<(), Fail> {
         (&[0, 1, 0, 0], (Verdict::Reject { at: 3, state: 1 }, &[])),
     ];
     for (sentence, wanted) in rows {
-        check_trace(&rt, rt.alloc(), &table, sentence, wanted)?;
+        check_trace(rt, alloc, table, sentence, wanted)?;
     }
     Ok(())
+}
+
+#[test]
+fn the_reductions_since_the_last_shift(rt: HostRuntime) -> Result<(), Fail> {
+    let table = table_of(rt.alloc(), COMPARISONS)?;
+    let result = check_reductions(&rt, rt.alloc(), &table);
+    release(table);
+    result
 }
 
 /// A A B: s of B, and then twice s of A s.
@@ -124,43 +134,79 @@ fn the_reductions_since_the_last_shift(rt: HostRuntime) -> Result<(), Fail> {
 fn reductions_in_order(rt: HostRuntime) -> Result<(), Fail> {
     let table = table_of(rt.alloc(), CHAIN)?;
     let wanted = (Verdict::Accept { read: 3 }, [2, 1, 1].as_slice());
-    check_trace(&rt, rt.alloc(), &table, &[0, 0, 1], wanted)
+    let result = check_trace(&rt, rt.alloc(), &table, &[0, 0, 1], wanted);
+    release(table);
+    result
 }
 
-/// Compares the tree of an accepted sentence, whose tokens are all read, with its height and its text.
+/// Compares the tree of a sentence with its height and its text.
 fn check_tree(
     rt: &impl Abort,
     alloc: Global,
     grammar: &Grammar,
-    outcome: TreeOutcome,
+    tree: &Tree,
     sentence: &[Token],
     wanted: (u32, &[u8]),
 ) -> Result<(), Fail> {
-    let TreeOutcome::Accept { read, tree } = outcome else {
-        return Err(Fail::from("it accepts"));
-    };
-    assert_eq!(rt; read as usize, sentence.len());
     assert_eq!(rt; tree.height(), wanted.0);
-    assert_eq!(rt; yield_of(alloc, &tree)?.as_slice(), sentence);
-    assert_eq!(rt; print_tree(alloc, grammar, &tree)?.as_slice(), wanted.1);
+    assert_eq!(rt; yield_of(alloc, tree)?.as_slice(), sentence);
+    assert_eq!(rt; print_tree(alloc, grammar, tree)?.as_slice(), wanted.1);
     Ok(())
+}
+
+/// The tree of a sentence that is accepted, and whose tokens are all read.
+fn tree_of(
+    rt: &impl Abort,
+    alloc: Global,
+    table: &Halting,
+    sentence: &[Token],
+) -> Result<Tree, Fail> {
+    match with_trees(alloc, table, sentence)? {
+        TreeOutcome::Accept { read, tree } => {
+            assert_eq!(rt; read as usize, sentence.len());
+            Ok(tree)
+        }
+        outcome => {
+            release(outcome);
+            Err(Fail::from("it accepts"))
+        }
+    }
+}
+
+fn check_else(
+    rt: &impl Abort,
+    alloc: Global,
+    grammar: &Grammar,
+    table: &Halting,
+) -> Result<(), Fail> {
+    let sentence = [0, 0, 2, 1, 2, 3];
+    let tree = tree_of(rt, alloc, table, &sentence)?;
+    let wanted = (
+        5,
+        b"[main: [s: IF [s: IF [s: X] ELSE [s: X]]] EOF]".as_slice(),
+    );
+    let result = check_tree(rt, alloc, grammar, &tree, &sentence, wanted);
+    release(tree);
+    result
+}
+
+fn check_conditionals(rt: &impl Abort, alloc: Global, grammar: &Grammar) -> Result<(), Fail> {
+    let table = halting_of(alloc, grammar)?;
+    let result = check_else(rt, alloc, grammar, &table);
+    release(table);
+    result
 }
 
 #[test]
 fn the_inner_if_has_the_else(rt: HostRuntime) -> Result<(), Fail> {
     let grammar = grammar_of(rt.alloc(), CONDITIONALS)?;
-    let table = halting_of(rt.alloc(), &grammar)?;
-    let sentence = [0, 0, 2, 1, 2, 3];
-    let outcome = with_trees(rt.alloc(), &table, &sentence)?;
-    let wanted = (
-        5,
-        b"[main: [s: IF [s: IF [s: X] ELSE [s: X]]] EOF]".as_slice(),
-    );
-    check_tree(&rt, rt.alloc(), &grammar, outcome, &sentence, wanted)
+    let result = check_conditionals(&rt, rt.alloc(), &grammar);
+    release(grammar);
+    result
 }
 
 /// How a run with trees ends: `accept` and the height of the tree, or `reject` and where, or `overshoot`, or `too deep`.
-fn told(alloc: Global, outcome: TreeOutcome) -> Result<String, Fail> {
+fn told(alloc: Global, outcome: &TreeOutcome) -> Result<String, Fail> {
     Ok(match outcome {
         TreeOutcome::Accept { read, tree } => {
             format!(in alloc; "accept {read} {}", tree.height())?
@@ -178,16 +224,55 @@ fn check_end(
     sentence: &[Token],
     wanted: &str,
 ) -> Result<(), Fail> {
-    let found = told(alloc, with_trees(alloc, table, sentence)?)?;
-    assert_eq!(rt; found.as_str(), wanted);
+    let outcome = with_trees(alloc, table, sentence)?;
+    let found = told(alloc, &outcome);
+    release(outcome);
+    assert_eq!(rt; found?.as_str(), wanted);
     Ok(())
+}
+
+fn check_refused(rt: &impl Abort, alloc: Global, table: &Halting) -> Result<(), Fail> {
+    check_end(rt, alloc, table, &[0, 1, 0, 1, 0], "reject 3 6")?;
+    check_end(rt, alloc, table, &[0, 1], "overshoot 4")
 }
 
 #[test]
 fn no_tree_where_none_is_read(rt: HostRuntime) -> Result<(), Fail> {
     let table = table_of(rt.alloc(), COMPARISONS)?;
-    check_end(&rt, rt.alloc(), &table, &[0, 1, 0, 1, 0], "reject 3 6")?;
-    check_end(&rt, rt.alloc(), &table, &[0, 1], "overshoot 4")
+    let result = check_refused(&rt, rt.alloc(), &table);
+    release(table);
+    result
+}
+
+/// Compares the end of a sentence with trees, and that without, with what is wanted.
+fn check_both(
+    rt: &impl Abort,
+    alloc: Global,
+    table: &Halting,
+    sentence: &[Token],
+    wanted: (&str, Verdict),
+) -> Result<(), Fail> {
+    check_end(rt, alloc, table, sentence, wanted.0)?;
+    assert_eq!(rt; judged(alloc, table, sentence)?, wanted.1);
+    Ok(())
+}
+
+fn check_chain_on(
+    rt: &impl Abort,
+    alloc: Global,
+    table: &Halting,
+    count: usize,
+    wanted: &str,
+) -> Result<(), Fail>
+    requires { count < 1000000 }
+{
+    let sentence = chain_of(alloc, count)?;
+    let accepted = Verdict::Accept {
+        read: count as u32 + 1,
+    };
+    let result = check_both(rt, alloc, table, &sentence, (wanted, accepted));
+    release(sentence);
+    result
 }
 
 /// Compares the end of k times A and then B, whose tree has the height k + 2, with what is wanted. Without trees it is
@@ -196,13 +281,9 @@ fn check_chain(rt: &impl Abort, alloc: Global, count: usize, wanted: &str) -> Re
     requires { count < 1000000 }
 {
     let table = table_of(alloc, CHAIN)?;
-    let sentence = chain_of(alloc, count)?;
-    check_end(rt, alloc, &table, &sentence, wanted)?;
-    let accepted = Verdict::Accept {
-        read: count as u32 + 1,
-    };
-    assert_eq!(rt; judged(alloc, &table, &sentence)?, accepted);
-    Ok(())
+    let result = check_chain_on(rt, alloc, &table, count, wanted);
+    release(table);
+    result
 }
 
 #[test]
@@ -215,13 +296,19 @@ fn too_high_a_tree(rt: HostRuntime) -> Result<(), Fail> {
     check_chain(&rt, rt.alloc(), 3999, "too deep")
 }
 
+fn check_pairs(rt: &impl Abort, alloc: Global, table: &Halting) -> Result<(), Fail> {
+    let sentence = [0u16; 4001];
+    check_end(rt, alloc, table, &sentence[..4000], "overshoot 1")?;
+    check_end(rt, alloc, table, &sentence, "too deep")
+}
+
 /// 4,000 times A leave as many pairs, and one more is too many, though no tree is high.
 #[test]
 fn too_many_pairs(rt: HostRuntime) -> Result<(), Fail> {
     let table = table_of(rt.alloc(), CHAIN)?;
-    let sentence = vec![in rt.alloc(); 0u16; 4001]?;
-    check_end(&rt, rt.alloc(), &table, &sentence[..4000], "overshoot 1")?;
-    check_end(&rt, rt.alloc(), &table, &sentence, "too deep")
+    let result = check_pairs(&rt, rt.alloc(), &table);
+    release(table);
+    result
 }
 
 /// Compares the verdict on a sum of a million tokens with what is wanted.
@@ -238,11 +325,7 @@ fn check_sum(
     Ok(())
 }
 
-/// A left-recursive sentence of a million tokens, whose stack never holds more than four states. They are 0; 1 behind
-/// INT; 2 behind main; 3 behind e; 4 behind e PLUS; 5 behind e EOF; 6 behind e PLUS INT.
-#[test]
-fn a_long_sum(rt: HostRuntime) -> Result<(), Fail> {
-    let table = table_of(rt.alloc(), SUMS)?;
+fn check_sums(rt: &impl Abort, alloc: Global, table: &Halting) -> Result<(), Fail> {
     for (last, wanted) in [
         (2, Verdict::Accept { read: 1_000_000 }),
         (1, Verdict::Overshoot { state: 4 }),
@@ -254,27 +337,40 @@ fn a_long_sum(rt: HostRuntime) -> Result<(), Fail> {
             },
         ),
     ] {
-        check_sum(&rt, rt.alloc(), &table, last, wanted)?;
+        check_sum(rt, alloc, table, last, wanted)?;
     }
+    Ok(())
+}
+
+/// A left-recursive sentence of a million tokens, whose stack never holds more than four states. They are 0; 1 behind
+/// INT; 2 behind main; 3 behind e; 4 behind e PLUS; 5 behind e EOF; 6 behind e PLUS INT.
+#[test]
+fn a_long_sum(rt: HostRuntime) -> Result<(), Fail> {
+    let table = table_of(rt.alloc(), SUMS)?;
+    let result = check_sums(&rt, rt.alloc(), &table);
+    release(table);
+    result
+}
+
+fn check_long_chain(rt: &impl Abort, alloc: Global, table: &Halting) -> Result<(), Fail> {
+    let sentence = chain_of(alloc, 999_999)?;
+    assert_eq!(rt;
+        judged(alloc, table, &sentence)?,
+        Verdict::Accept { read: 1_000_000 }
+    );
     Ok(())
 }
 
 /// A right-recursive one, all of whose states are on the stack before the first reduction.
 #[test]
 fn a_long_chain(rt: HostRuntime) -> Result<(), Fail> {
-    let alloc = rt.alloc();
-    let table = table_of(alloc, CHAIN)?;
-    assert_eq!(rt;
-        judged(alloc, &table, &chain_of(alloc, 999_999)?)?,
-        Verdict::Accept { read: 1_000_000 }
-    );
-    Ok(())
+    let table = table_of(rt.alloc(), CHAIN)?;
+    let result = check_long_chain(&rt, rt.alloc(), &table);
+    release(table);
+    result
 }
 
-#[test]
-fn verdicts(rt: HostRuntime) -> Result<(), Fail> {
-    let alloc = rt.alloc();
-    let table = table_of(alloc, PAIR)?;
+fn check_verdicts(rt: &impl Abort, alloc: Global, table: &Halting) -> Result<(), Fail> {
     let rows: [(&[Token], Verdict); 6] = [
         (&[0, 1], Verdict::Accept { read: 2 }),
         (&[0, 1, 0], Verdict::Accept { read: 2 }),
@@ -284,7 +380,15 @@ fn verdicts(rt: HostRuntime) -> Result<(), Fail> {
         (&[0, 0], Verdict::Reject { at: 1, state: 1 }),
     ];
     for (sentence, wanted) in rows {
-        assert_eq!(rt; judged(alloc, &table, sentence)?, wanted, "{sentence:?}");
+        assert_eq!(rt; judged(alloc, table, sentence)?, wanted, "{sentence:?}");
     }
     Ok(())
+}
+
+#[test]
+fn verdicts(rt: HostRuntime) -> Result<(), Fail> {
+    let table = table_of(rt.alloc(), PAIR)?;
+    let result = check_verdicts(&rt, rt.alloc(), &table);
+    release(table);
+    result
 }

@@ -1,6 +1,7 @@
 //! What nonterminals derive and begin with, names and edges, computed by hand.
 ghost use Rattle.mh_grammar.specs.Plain.{plain_of, IsInRange};
 
+use crate::cases::release;
 use mh_grammar::{
     Edge, Grammar, Memory, NontermInfo, Production, Sequence, Symbol, TokenInfo, find_edge, first,
     from_bytes, is_in_range, left_side_name, nonterminal_name, nullable, productive, start_name,
@@ -36,13 +37,19 @@ fn check_firsts(rt: &impl Abort, alloc: Global, grammar: &Grammar) -> Result<(),
     Ok(())
 }
 
+fn check_sets(rt: &impl Abort, alloc: Global, grammar: &Grammar) -> Result<(), Fail> {
+    assert!(rt; is_in_range(grammar));
+    words_begin_with_first(grammar);
+    check_marks(rt, alloc, grammar)?;
+    check_firsts(rt, alloc, grammar)
+}
+
 #[test]
 fn sets_of_a_sample(rt: HostRuntime) -> Result<(), Fail> {
     let grammar = grammar_of(rt.alloc(), SAMPLE)?;
-    assert!(rt; is_in_range(&grammar));
-    words_begin_with_first(&grammar);
-    check_marks(&rt, rt.alloc(), &grammar)?;
-    check_firsts(&rt, rt.alloc(), &grammar)
+    let result = check_sets(&rt, rt.alloc(), &grammar);
+    release(grammar);
+    result
 }
 
 fn production(lhs: u16, rhs: Vec<Symbol>) -> Production {
@@ -81,23 +88,35 @@ fn numbers_that_name_nothing_are_out_of_range(rt: HostRuntime) -> Result<(), Fai
     Ok(())
 }
 
-/// n0: n1, n1: n2, .., and at last the last token of 256; the rules are written in this order or the other way round.
-fn chain(alloc: Global, bottom_up: bool) -> Result<Grammar, Memory> {
-    let mut tokens = Vec::new(alloc);
+fn add_tokens(alloc: Global, tokens: &mut Sequence<TokenInfo>) -> Result<(), Memory> {
     for _ in 0..256 {
+        let name = from_bytes(alloc, b"A")?;
         tokens.push(TokenInfo {
-            name: from_bytes(alloc, b"A")?,
+            name,
             level: None,
             cost: 1,
         })?;
     }
-    let mut nonterminals = Vec::new(alloc);
-    let mut productions = Vec::new(alloc);
-    for n in 0..20000u16 {
+    Ok(())
+}
+
+fn add_nonterminals(alloc: Global, nonterminals: &mut Sequence<NontermInfo>) -> Result<(), Memory> {
+    for _ in 0..20000 {
+        let name = from_bytes(alloc, b"n")?;
         nonterminals.push(NontermInfo {
-            name: from_bytes(alloc, b"n")?,
+            name,
             on_error: None,
         })?;
+    }
+    Ok(())
+}
+
+fn add_productions(
+    alloc: Global,
+    productions: &mut Sequence<Production>,
+    bottom_up: bool,
+) -> Result<(), Memory> {
+    for n in 0..20000u16 {
         let lhs = if bottom_up { 19999 - n } else { n };
         let symbol = if lhs < 19999 {
             Symbol::N(lhs + 1)
@@ -106,29 +125,65 @@ fn chain(alloc: Global, bottom_up: bool) -> Result<Grammar, Memory> {
         };
         productions.push(production(lhs, vec![in alloc; symbol]?))?;
     }
-    Ok(Grammar {
-        tokens: Sequence::from_vec(tokens),
-        nonterminals: Sequence::from_vec(nonterminals),
-        productions: Sequence::from_vec(productions),
-        starts: Sequence::from_vec(vec![in alloc; 0]?),
-    })
+    Ok(())
+}
+
+fn add_chain(alloc: Global, grammar: &mut Grammar, bottom_up: bool) -> Result<(), Memory> {
+    add_tokens(alloc, &mut grammar.tokens)?;
+    add_nonterminals(alloc, &mut grammar.nonterminals)?;
+    add_productions(alloc, &mut grammar.productions, bottom_up)?;
+    grammar.starts.push(0)?;
+    Ok(())
+}
+
+fn check_productive(rt: &impl Abort, alloc: Global, grammar: &Grammar) -> Result<(), Fail>
+    requires { IsInRange (plain_of grammar.now) }
+{
+    let trees = productive(alloc, grammar)?;
+    assert_eq!(rt; trees.len(), 20000);
+    assert!(rt; trees.iter().all(|mark| *mark));
+    Ok(())
+}
+
+fn check_rows(rt: &impl Abort, alloc: Global, grammar: &Grammar) -> Result<(), Fail>
+    requires { IsInRange (plain_of grammar.now) }
+{
+    let rows = first(alloc, grammar)?;
+    assert_eq!(rt; rows.len(), 20000);
+    assert!(rt; rows.iter().all(|row| row.as_slice() == [255].as_slice()));
+    Ok(())
+}
+
+/// n0: n1, n1: n2, .., and at last the last token of 256; the rules are written in this order or the other way round.
+fn check_passes(
+    rt: &impl Abort,
+    alloc: Global,
+    grammar: &mut Grammar,
+    bottom_up: bool,
+) -> Result<(), Fail> {
+    add_chain(alloc, grammar, bottom_up)?;
+    assert!(rt; is_in_range(grammar));
+    check_productive(rt, alloc, grammar)?;
+    check_rows(rt, alloc, grammar)
+}
+
+fn check_order(rt: &impl Abort, alloc: Global, bottom_up: bool) -> Result<(), Fail> {
+    let mut grammar = Grammar {
+        tokens: Sequence::new(alloc),
+        nonterminals: Sequence::new(alloc),
+        productions: Sequence::new(alloc),
+        starts: Sequence::new(alloc),
+    };
+    let result = check_passes(rt, alloc, &mut grammar, bottom_up);
+    release(grammar);
+    result
 }
 
 /// A pass for each rule would take far longer than a test may.
 #[test]
 fn rules_in_either_order_take_few_passes(rt: HostRuntime) -> Result<(), Fail> {
-    let alloc = rt.alloc();
-    for bottom_up in [false, true] {
-        let grammar = chain(alloc, bottom_up)?;
-        assert!(rt; is_in_range(&grammar));
-        let trees = productive(alloc, &grammar)?;
-        assert_eq!(rt; trees.len(), 20000);
-        assert!(rt; trees.iter().all(|mark| *mark));
-        let rows = first(alloc, &grammar)?;
-        assert_eq!(rt; rows.len(), 20000);
-        assert!(rt; rows.iter().all(|row| row.as_slice() == [255].as_slice()));
-    }
-    Ok(())
+    check_order(&rt, rt.alloc(), false)?;
+    check_order(&rt, rt.alloc(), true)
 }
 
 #[test]
@@ -167,5 +222,6 @@ fn names_of_a_sample(rt: HostRuntime) -> Result<(), Fail> {
     let grammar = grammar_of(rt.alloc(), SAMPLE)?;
     check_symbols(&rt, &grammar);
     check_places(&rt, &grammar);
+    release(grammar);
     Ok(())
 }

@@ -1,5 +1,6 @@
 //! Tables that were worked out by hand, and whether runs on them end.
-use mh_grammar::Symbol;
+use crate::cases::release;
+use mh_grammar::{Grammar, Symbol};
 use mh_made::{grammar_of, resolved};
 use mh_resolve::Mode;
 use mh_tables::{Action, Fallback, HaltFault, Table, check_halts};
@@ -7,10 +8,17 @@ use std::alloc::Global;
 use std::process::Abort;
 use std::test::Fail;
 
+fn table_in(alloc: Global, grammar: &Grammar) -> Result<Table, Fail> {
+    let (table, conflicts) = resolved(alloc, grammar, Mode::Canonical)?;
+    release(conflicts);
+    Ok(table)
+}
+
 fn table_of(alloc: Global, text: &str) -> Result<Table, Fail> {
     let grammar = grammar_of(alloc, text)?;
-    let (table, _) = resolved(alloc, &grammar, Mode::Canonical)?;
-    Ok(table)
+    let table = table_in(alloc, &grammar);
+    release(grammar);
+    table
 }
 
 /// Compares the numbers of a table's things, its states first.
@@ -56,6 +64,7 @@ fn a_table_is_read(rt: HostRuntime) -> Result<(), Fail> {
     check_defaults(&rt, &table);
     check_edges(&rt, &table);
     check_productions(&rt, &table);
+    release(table);
     Ok(())
 }
 
@@ -63,7 +72,10 @@ fn a_table_is_read(rt: HostRuntime) -> Result<(), Fail> {
 fn a_table_halts(rt: HostRuntime) -> Result<(), Fail> {
     let table = table_of(rt.alloc(), "A EOF; s; s: A EOF")?;
     match check_halts(rt.alloc(), table) {
-        Ok(halting) => assert_eq!(rt; halting.table().states(), 4),
+        Ok(halting) => {
+            assert_eq!(rt; halting.table().states(), 4);
+            release(halting);
+        }
         Err(_) => return Err("it halts".into()),
     }
     Ok(())
@@ -74,7 +86,10 @@ fn a_table_halts(rt: HostRuntime) -> Result<(), Fail> {
 fn a_table_loops(rt: HostRuntime) -> Result<(), Fail> {
     let table = table_of(rt.alloc(), "A; s b c; s: b s A; s: c; b:; c:")?;
     match check_halts(rt.alloc(), table) {
-        Ok(_) => return Err("it loops".into()),
+        Ok(halting) => {
+            release(halting);
+            return Err("it loops".into());
+        }
         Err(fault) => assert_eq!(rt;
             fault,
             HaltFault::Loops {

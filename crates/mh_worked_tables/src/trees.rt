@@ -2,7 +2,8 @@
 ghost use Rattle.std.specs.Prelude.{◌≡◌, ◌<◌, IfOk};
 ghost use Rattle.mh_tree.specs.Trees.{height_of, Node, Cons, Nil};
 
-use mh_grammar::Memory;
+use crate::cases::release;
+use mh_grammar::{Grammar, Memory};
 use mh_made::grammar_of;
 use mh_tree::{Tree, leaf, node, print_tree, yield_of};
 use std::alloc::Global;
@@ -23,6 +24,14 @@ fn pair(alloc: Global, production: u32, first: Tree, second: Tree) -> Result<Tre
     node(alloc, production, children)
 }
 
+/// The text of a tree of the sample.
+fn text_of(alloc: Global, tree: &Tree) -> Result<Vec<u8>, Fail> {
+    let grammar = grammar_of(alloc, SAMPLE)?;
+    let text = print_tree(alloc, &grammar, tree);
+    release(grammar);
+    Ok(text?)
+}
+
 /// Compares the height of a tree, its tokens and its text with what is wanted.
 fn check(
     rt: &impl Abort,
@@ -32,10 +41,9 @@ fn check(
     tokens: &[u16],
     text: &[u8],
 ) -> Result<(), Fail> {
-    let grammar = grammar_of(alloc, SAMPLE)?;
     assert_eq!(rt; tree.height(), height);
     assert_eq!(rt; yield_of(alloc, tree)?.as_slice(), tokens);
-    assert_eq!(rt; print_tree(alloc, &grammar, tree)?.as_slice(), text);
+    assert_eq!(rt; text_of(alloc, tree)?.as_slice(), text);
     Ok(())
 }
 
@@ -43,7 +51,9 @@ fn check(
 fn a_tree_of_two_leaves(rt: HostRuntime) -> Result<(), Fail> {
     let alloc = rt.alloc();
     let tree = pair(alloc, 1, leaf(alloc, 0)?, leaf(alloc, 1)?)?;
-    check(&rt, alloc, &tree, 2, &[0, 1], b"[s: A EOF]")
+    let result = check(&rt, alloc, &tree, 2, &[0, 1], b"[s: A EOF]");
+    release(tree);
+    result
 }
 
 #[test]
@@ -64,14 +74,17 @@ fn a_shared_tree_in_a_tree(rt: HostRuntime) -> Result<(), Fail> {
 
 #[test]
 fn a_chain_of_the_greatest_height(rt: HostRuntime) -> Result<(), Fail> {
-    let alloc = rt.alloc();
-    let grammar = grammar_of(alloc, SAMPLE)?;
-    let chain = highest_chain(alloc)?;
+    let chain = highest_chain(rt.alloc())?;
+    let result = check_chain(&rt, rt.alloc(), &chain);
+    release(chain);
+    result
+}
+
+fn check_chain(rt: &impl Abort, alloc: Global, chain: &Tree) -> Result<(), Fail> {
     assert_eq!(rt; chain.height(), 4000);
-    assert_eq!(rt; yield_of(alloc, &chain)?.as_slice(), [0].as_slice());
+    assert_eq!(rt; yield_of(alloc, chain)?.as_slice(), [0].as_slice());
     // Each of the 3,999 nodes adds `[s: ` and `]` to the `A`.
-    assert_eq!(rt; print_tree(alloc, &grammar, &chain)?.len(), 19_996);
-    drop(chain);
+    assert_eq!(rt; text_of(alloc, chain)?.len(), 19_996);
     Ok(())
 }
 

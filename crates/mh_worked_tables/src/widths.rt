@@ -3,6 +3,7 @@ ghost use Rattle.std.specs.Prelude.{◌≤◌, ◌*◌, length, IfOk};
 ghost use Rattle.mh_grammar.specs.Plain.{plain_of, IsInRange};
 ghost use Rattle.mh_canon.specs.Canonical.{IsCanonical};
 
+use crate::cases::release;
 use mh_canon::{canonical, is_one_automaton};
 use mh_grammar::{Grammar, Look, is_in_range};
 use mh_items::{Automaton, Kernel};
@@ -72,28 +73,39 @@ fn is_same_at<const V: usize, const W: usize>(
 {
     let right = canonical_at::<W>(alloc, grammar)?;
     is_one_automaton(grammar, left, &right);
-    are_same(alloc, left, &right)
+    let result = are_same(alloc, left, &right);
+    release(right);
+    result
 }
 
-/// How many states there are at the widths of one, four and eight words, which must be the same automaton.
-fn states_at_widths(alloc: Global, grammar: &Grammar) -> Result<usize, Fail>
+fn states_at_others(alloc: Global, grammar: &Grammar, one: &Automaton<1>) -> Result<usize, Fail>
     requires width { length grammar.now.tokens ≤ 64 }
     requires range { IsInRange (plain_of grammar.now) }
+    requires one { IsCanonical (plain_of grammar.now) one.now }
 {
-    let one = canonical_at::<1>(alloc, grammar)?;
-    if is_same_at::<1, 4>(alloc, grammar, &one)? && is_same_at::<1, 8>(alloc, grammar, &one)? {
+    if is_same_at::<1, 4>(alloc, grammar, one)? && is_same_at::<1, 8>(alloc, grammar, one)? {
         Ok(one.kernels.len())
     } else {
         Err(Fail::from("the automata differ"))
     }
 }
 
-fn states_of(alloc: Global, text: &str) -> Result<usize, Fail> {
-    let grammar = grammar_of(alloc, text)?;
-    if !is_in_range(&grammar) || grammar.tokens.len() > 64 {
+/// How many states there are at the widths of one, four and eight words, which must be the same automaton.
+fn states_at_widths(alloc: Global, grammar: &Grammar) -> Result<usize, Fail> {
+    if !is_in_range(grammar) || grammar.tokens.len() > 64 {
         return Err(Fail::from("out of range"));
     }
-    states_at_widths(alloc, &grammar)
+    let one = canonical_at::<1>(alloc, grammar)?;
+    let states = states_at_others(alloc, grammar, &one);
+    release(one);
+    states
+}
+
+fn states_of(alloc: Global, text: &str) -> Result<usize, Fail> {
+    let grammar = grammar_of(alloc, text)?;
+    let states = states_at_widths(alloc, &grammar);
+    release(grammar);
+    states
 }
 
 #[test]
