@@ -7,5 +7,6 @@ mod texts;
 mod updating;
 
 pub use laws::{updated_again, updated_or_unfit};
+pub use mh_msgfile::echo;
 pub use texts::missing_text;
 pub use updating::update;

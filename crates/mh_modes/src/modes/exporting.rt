@@ -1,5 +1,5 @@
 //! The table as a file of its own.
-ghost use Rattle.std.specs.Prelude.{◌≤◌, IfOk};
+ghost use Rattle.std.specs.Prelude.{◌≡◌, ◌≤◌, IfOk};
 ghost use Rattle.mh_prepare.specs.Prepared.{IsFit};
 ghost use Rattle.mh_modes.specs.Plan.{tables_of};
 
