@@ -1,0 +1,95 @@
+-- The order of words: by the numbers of their tokens, a front first.
+use Rattle.std.proofs.Common.{◌≡◌, ◌∙◌, ℕ, ◌⊎◌, inl, inr, List, [], ◌∷◌, ◌++◌, refl, sym, arith}
+use Rattle.std.specs.declared.cmp.Ordering.{Ordering}
+use Rattle.std.specs.declared.cmp.Ordering.TheVariants.{Less, Equal, Greater}
+use Rattle.mh_tables.specs.Failing.{LexLe}
+use Rattle.mh_words.specs.declared.made.Made.{Made}
+use Rattle.mh_words.specs.Words.{Words, Before, IsFront, spelled}
+use Rattle.mh_words.specs.Compared.{IsCompared}
+use Rattle.mh_words.specs.Numbered.{AreApart}
+use Rattle.mh_words.specs.Rising.{NoLater}
+
+lex_same : (u : List ℕ) → LexLe u u
+lex_same [] = tt
+lex_same (x ∷ u) = inr (refl, lex_same u)
+
+lex_after : (u v w : List ℕ) → LexLe u v → LexLe v w → LexLe u w
+lex_after [] v w a b = tt
+lex_after (x ∷ u) [] w a b = absurd a
+lex_after (x ∷ u) (y ∷ v) [] a b = absurd b
+lex_after (x ∷ u) (y ∷ v) (z ∷ w) (inl a) (inl b) = inl (omega arith)
+lex_after (x ∷ u) (y ∷ v) (z ∷ w) (inl a) (inr b) = inl (let e = b.0 in omega arith)
+lex_after (x ∷ u) (y ∷ v) (z ∷ w) (inr a) (inl b) = inl (let e = a.0 in omega arith)
+lex_after (x ∷ u) (y ∷ v) (z ∷ w) (inr a) (inr b) = inr (a.0 ∙ b.0, lex_after u v w a.1 b.1)
+
+front_lex : (u v : List ℕ) → LexLe u (u ++ v)
+front_lex [] v = tt
+front_lex (x ∷ u) v = inr (refl, front_lex u v)
+
+-- whatever stands behind two words that differ
+pub before_lex : (u v r s : List ℕ) → Before u v → LexLe (u ++ r) (v ++ s)
+before_lex [] v r s h = absurd h
+before_lex (x ∷ u) [] r s h = absurd h
+before_lex (x ∷ u) (y ∷ v) r s (inl lt) = inl lt
+before_lex (x ∷ u) (y ∷ v) r s (inr h) = inr (h.0, before_lex u v r s h.1)
+
+pub before_no_later : (u v : List ℕ) → Before u v → LexLe u v
+before_no_later [] v h = absurd h
+before_no_later (x ∷ u) [] h = absurd h
+before_no_later (x ∷ u) (y ∷ v) (inl lt) = inl lt
+before_no_later (x ∷ u) (y ∷ v) (inr h) = inr (h.0, before_no_later u v h.1)
+
+pub before_after : (u v w : List ℕ) → Before u v → Before v w → Before u w
+before_after [] v w a b = absurd a
+before_after (x ∷ u) [] w a b = absurd a
+before_after (x ∷ u) (y ∷ v) [] a b = absurd b
+before_after (x ∷ u) (y ∷ v) (z ∷ w) (inl a) (inl b) = inl (omega arith)
+before_after (x ∷ u) (y ∷ v) (z ∷ w) (inl a) (inr b) = inl (let e = b.0 in omega arith)
+before_after (x ∷ u) (y ∷ v) (z ∷ w) (inr a) (inl b) = inl (let e = a.0 in omega arith)
+before_after (x ∷ u) (y ∷ v) (z ∷ w) (inr a) (inr b) = inr (a.0 ∙ b.0, before_after u v w a.1 b.1)
+
+-- not both ways
+before_once : (u v : List ℕ) → Before v u → LexLe u v → ⊥
+before_once u [] h le = absurd h
+before_once [] (y ∷ v) h le = absurd h
+before_once (x ∷ u) (y ∷ v) (inl a) (inl b) = omega arith
+before_once (x ∷ u) (y ∷ v) (inl a) (inr b) = let e = b.0 in omega arith
+before_once (x ∷ u) (y ∷ v) (inr a) (inl b) = let e = a.0 in omega arith
+before_once (x ∷ u) (y ∷ v) (inr a) (inr b) = before_once u v a.1 b.1
+
+front_no_later : (u v : List ℕ) → IsFront u v → LexLe u v
+front_no_later u v h = rw h.2 (front_lex u (h.0 ∷ h.1))
+
+-- words that differ, of which the first comes no later, and none is a front
+pub apart_before : (u v : List ℕ) → AreApart u v → LexLe u v → (IsFront u v → ⊥) → (IsFront v u → ⊥) → Before u v
+apart_before u v (inl (inl h)) le alone none = h
+apart_before u v (inl (inr h)) le alone none = absurd (alone h)
+apart_before u v (inr (inl h)) le alone none = absurd (before_once u v h le)
+apart_before u v (inr (inr h)) le alone none = absurd (none h)
+
+-- what a comparison tells
+pub compared_left : (words : Words) (left right : Made) (o : Ordering) → IsCompared (spelled words left) (spelled words right) o → (o ≡ Greater → ⊥) → NoLater words left right
+compared_left words left right Less (inl h) other = before_no_later (spelled words left) (spelled words right) h
+compared_left words left right Less (inr h) other = front_no_later (spelled words left) (spelled words right) h
+compared_left words left right Equal h other = let e : spelled words left ≡ spelled words right = h in rw e (lex_same (spelled words right))
+compared_left words left right Greater h other = absurd (other refl)
+
+pub compared_no_later : (words : Words) (left right : Made) (o : Ordering) → IsCompared (spelled words left) (spelled words right) o → (o ≡ Less) ⊎ (o ≡ Equal) → NoLater words left right
+compared_no_later words left right o h (inl e) = compared_left words left right o h (λ f. (let y : Less ≡ Greater = sym e ∙ f in cc))
+compared_no_later words left right o h (inr e) = compared_left words left right o h (λ f. (let y : Equal ≡ Greater = sym e ∙ f in cc))
+
+pub compared_right : (words : Words) (left right : Made) → IsCompared (spelled words left) (spelled words right) Greater → NoLater words right left
+compared_right words left right (inl h) = before_no_later (spelled words right) (spelled words left) h
+compared_right words left right (inr h) = front_no_later (spelled words right) (spelled words left) h
+
+pub no_later_after : (words : Words) (x y z : Made) → NoLater words x y → NoLater words y z → NoLater words x z
+no_later_after words x y z = lex_after (spelled words x) (spelled words y) (spelled words z)
+
+pub compared_apart : (u v : List ℕ) (o : Ordering) → IsCompared u v o → (o ≡ Equal → ⊥) → AreApart u v
+compared_apart u v Less h other = inl h
+compared_apart u v Equal h other = absurd (other refl)
+compared_apart u v Greater h other = inr h
+
+pub compared_differs : (u v : List ℕ) (o : Ordering) → IsCompared u v o → (o ≡ Less) ⊎ (o ≡ Greater) → AreApart u v
+compared_differs u v o h (inl e) = compared_apart u v o h (λ f. (let y : Less ≡ Equal = sym e ∙ f in cc))
+compared_differs u v o h (inr e) = compared_apart u v o h (λ f. (let y : Greater ≡ Equal = sym e ∙ f in cc))
