@@ -1,5 +1,5 @@
 -- What sentences are made of, and what a comparison of their parts tells.
-use Rattle.std.proofs.Common.{◌≡◌, ℕ, ◌+◌, ◌<◌, ◌≤◌, List, [], ◌∷◌, ◌++◌, Some, None, Option, Bool, true, false, refl, ap, sym, arith, append_assoc, ◌∙◌}
+use Rattle.std.proofs.Common.{◌≡◌, ℕ, ◌+◌, ◌<◌, List, [], ◌∷◌, ◌++◌, Some, None, Option, Bool, true, false, refl, ap, sym, arith, append_assoc, ◌∙◌}
 use Rattle.std.proofs.lemmas.List.{append-nil}
 use Rattle.mh_tables.specs.Table.{TableData}
 use Rattle.mh_facts.specs.declared.store.FactKey.{FactKey}

@@ -1,4 +1,4 @@
-use Rattle.std.proofs.Common.{◌≡◌, ◌∙◌, List, ap, sym, drop, inl, inr, arith, None, Some}
+use Rattle.std.proofs.Common.{◌∙◌, List, ap, sym, drop, inl, inr, arith, None, Some}
 use Rattle.std.specs.Prelude.{slice_get}
 use Rattle.mh_reach.specs.declared.arrivals.Coming.{Coming}
 use Rattle.mh_reach.specs.Comparing.{IsKnown, InTurn}
