@@ -9,11 +9,11 @@ use Rattle.mh_words.specs.Compared.{IsCompared}
 use Rattle.mh_words.specs.Numbered.{AreApart}
 use Rattle.mh_words.specs.Rising.{NoLater}
 
-lex_same : (u : List ℕ) → LexLe u u
+pub lex_same : (u : List ℕ) → LexLe u u
 lex_same [] = tt
 lex_same (x ∷ u) = inr (refl, lex_same u)
 
-lex_after : (u v w : List ℕ) → LexLe u v → LexLe v w → LexLe u w
+pub lex_after : (u v w : List ℕ) → LexLe u v → LexLe v w → LexLe u w
 lex_after [] v w a b = tt
 lex_after (x ∷ u) [] w a b = absurd a
 lex_after (x ∷ u) (y ∷ v) [] a b = absurd b

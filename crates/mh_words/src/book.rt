@@ -1,15 +1,12 @@
 //! A book of words.
-ghost use Rattle.std.specs.Prelude.{◌≡◌, ◌<◌, ◌≤◌, [], ◌∷◌, IfOk, OnErr, length};
-ghost use Rattle.mh_words.specs.Compared.{IsCompared};
+ghost use Rattle.std.specs.Prelude.{◌≡◌, [], ◌∷◌, IfOk, OnErr};
 ghost use Rattle.mh_words.specs.Numbered.{AreBelowGroup, AreEven, AreKnown, Numbers};
-ghost use Rattle.mh_words.specs.Words.{IsBook, IsSound, Knows, empty_word, letters_of, spelled, words_of};
+ghost use Rattle.mh_words.specs.Words.{IsBook, empty_word};
 
-use crate::comparing::{Rests, compare, no_rests};
 use crate::made::{Entry, Made};
 use crate::numbering::number_words;
 use mh_grammar::Memory;
 use std::alloc::Global;
-use std::cmp::Ordering;
 use std::marker::Model;
 
 /// Distinct words in groups. The empty word has the number 0 and the group 0. Groups rise with the numbers; in a group the words
@@ -44,16 +41,6 @@ impl Book {
         ensures { IsBook self.now }
     {
         let _entries = &self.entries;
-    }
-
-    /// Which of two words comes first.
-    pub fn compare(&self, alloc: Global, left: Made, right: Made) -> Result<Ordering, Memory>
-        requires left { Knows self.now left }
-        requires right { Knows self.now right }
-        ensures { IfOk result (IsCompared (spelled self.now left) (spelled self.now right)) }
-    {
-        let mut rests = no_rests(alloc);
-        compare(self.entries.as_slice(), &mut rests, left, right)
     }
 
     /// Gives each word a number, equal ones the same. They make up a group above all others. Without memory the book stays as it was.
