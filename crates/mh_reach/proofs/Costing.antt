@@ -17,6 +17,7 @@ use Rattle.mh_least.proofs.Least.{fails_candidate, closed_reached, candidate_fai
 use Rattle.mh_least.proofs.Best.{closes_all_at}
 use Rattle.mh_search.specs.declared.classes.Classes.{Classes}
 use Rattle.mh_search.specs.declared.settling.Found.{Found}
+use Rattle.mh_search.proofs.Numbers.{all_numbered}
 use Rattle.mh_reach.specs.declared.arrivals.Spot.{Spot}
 use Rattle.mh_reach.specs.declared.arrivals.Arrival.{Arrival}
 use Rattle.mh_reach.specs.declared.sentences.Best.{Best}
@@ -122,8 +123,8 @@ module _ (t : TableData) (f : Facts t) (c : Classes) (found : Found) (spots : Sp
   pub are_cheap : AreCheap spots
   are_cheap k r e = let told = h.arrived.journey.some k r e in let m = min_cap (cost_by (weigh t) told.label.word) in let is = told.cost_is in omega (arith, is, m)
 
-  pub are_told : IsTold t found.store spots
-  are_told = record { tale = h.found_is.tale; journey = h.arrived.journey }
+  pub are_told : IsTold t found spots
+  are_told = record { tale = h.found_is.tale; journey = h.arrived.journey; numbered = all_numbered t found.store found.numbering h.found_is.tale h.found_is.numbered }
 
   -- a token that is refused behind an arrival
   pub record Candidate (s z : ℕ) : Type 0 where

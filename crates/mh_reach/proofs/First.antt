@@ -1,5 +1,5 @@
 -- The sentence that is answered comes first of all.
-use Rattle.std.proofs.Common.{◌≡◌, ℕ, zero, suc, ◌<◌, ◌≤◌, ◌⊎◌, inl, inr, List, [], ◌∷◌, ◌++◌, length, Some, Option, ap, sym, arith, slice_index_or}
+use Rattle.std.proofs.Common.{◌≡◌, ℕ, zero, suc, ◌<◌, ◌≤◌, inl, inr, List, [], ◌∷◌, ◌++◌, length, Some, Option, ap, sym, arith, slice_index_or}
 use Rattle.std.specs.Prelude.{slice_get}
 use Rattle.mh_tables.specs.Table.{TableData}
 use Rattle.mh_tables.specs.Failing.{Fails, FailsFirst, FailsCheaply, IsInOrder, cost_of_word, dearest}

@@ -1,7 +1,6 @@
 -- A level of the second search, from its beginning to its end.
-use Rattle.std.proofs.Common.{◌≡◌, ℕ, ◌+◌, ◌<◌, ◌≤◌, ◌⊎◌, inl, inr, List, [], ◌∷◌, ◌++◌, Some, None, Option, refl, ap, sym, arith, ◌∙◌}
+use Rattle.std.proofs.Common.{◌≡◌, ℕ, ◌+◌, ◌<◌, ◌≤◌, ◌⊎◌, inl, inr, List, [], ◌∷◌, ◌++◌, Option, refl, arith}
 use Rattle.std.specs.List.{Contains}
-use Rattle.std.specs.Global.{Vec}
 use Rattle.std.proofs.lemmas.Bool.{cases_lt}
 use Rattle.mh_tables.specs.Table.{TableData}
 use Rattle.mh_tables.specs.Facts.{Facts}
@@ -13,12 +12,13 @@ use Rattle.mh_search.specs.declared.work.Whole.{Whole}
 use Rattle.mh_search.specs.declared.work.Work.{Work}
 use Rattle.mh_search.specs.declared.classes.Classes.{Classes}
 use Rattle.mh_search.specs.declared.settling.Found.{Found}
-use Rattle.mh_search.specs.Rows.{Waits, Gains, IsOne, Taken, NoneTaken}
+use Rattle.mh_search.specs.Rows.{Gains, IsOne, Taken, NoneTaken}
 use Rattle.mh_search.specs.Classes.{IsClasses, rep_of}
 use Rattle.mh_search.specs.Rules.{wholes_at}
 use Rattle.mh_search.specs.Tales.{Tale, capped}
-use Rattle.mh_search.specs.Good.{IsFound, WholeOk}
-use Rattle.mh_search.proofs.Compared.{fact_of_word}
+use Rattle.mh_search.specs.Good.{WholeOk}
+use Rattle.mh_search.proofs.Wording.{fact_of_word}
+use Rattle.mh_search.proofs.Numbers.{all_numbered}
 use Rattle.mh_reach.specs.declared.arrivals.Spot.{Spot}
 use Rattle.mh_reach.specs.declared.arrivals.Step.{Step}
 use Rattle.mh_reach.specs.declared.arrivals.Step.TheVariants as steps
@@ -208,8 +208,8 @@ module _ (t : TableData) (f : Facts t) (c : Classes) (cls : IsClasses t c) (foun
   abbrev pub taken_good : GoodAt t c words found.work spots mid level all
   taken_good = level_taken t f c cls words found.work good.found_is.wholes spots old level mid all good.good takes
 
-  pub taken_told : IsTold t found.store spots
-  taken_told = record { tale = good.found_is.tale; journey = taken_good.journey }
+  pub taken_told : IsTold t found spots
+  taken_told = record { tale = good.found_is.tale; journey = taken_good.journey; numbered = all_numbered t found.store found.numbering good.found_is.tale good.found_is.numbered }
 
   pub taken_known : AreKnown found.store spots all
   taken_known o there = let ok = taken_good.items level o (inr (refl, there)) in step_known t found.store spots good.found_is.tale taken_good.journey o.step ok.label ok.by

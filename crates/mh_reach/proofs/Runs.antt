@@ -1,5 +1,5 @@
 -- Runs of arrivals that came by one step.
-use Rattle.std.proofs.Common.{◌≡◌, ℕ, ◌+◌, ◌<◌, inl, inr, List, [], ◌∷◌, ◌++◌, length, drop, Some, refl, ap, sym, subst, arith, append_assoc, length-append, ◌∙◌}
+use Rattle.std.proofs.Common.{◌≡◌, ℕ, ◌<◌, inl, inr, List, [], ◌∷◌, ◌++◌, length, drop, Some, refl, ap, sym, subst, arith, append_assoc, length-append, ◌∙◌}
 use Rattle.std.specs.Prelude.{slice_get}
 use Rattle.std.specs.List.{Contains}
 use Rattle.mh_facts.specs.declared.store.FactKey.{FactKey}

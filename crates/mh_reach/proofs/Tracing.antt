@@ -1,5 +1,5 @@
 -- What sentences are made of, and what a comparison of their parts tells.
-use Rattle.std.proofs.Common.{◌≡◌, ℕ, ◌+◌, ◌<◌, ◌≤◌, List, [], ◌∷◌, ◌++◌, Some, None, Option, Bool, true, false, refl, ap, sym, arith, append_assoc, ◌∙◌}
+use Rattle.std.proofs.Common.{◌≡◌, ℕ, ◌+◌, ◌<◌, List, [], ◌∷◌, ◌++◌, Some, None, Option, Bool, true, false, refl, ap, sym, arith, append_assoc, ◌∙◌}
 use Rattle.std.proofs.lemmas.List.{append-nil}
 use Rattle.mh_tables.specs.Table.{TableData}
 use Rattle.mh_facts.specs.declared.store.FactKey.{FactKey}
@@ -8,6 +8,7 @@ use Rattle.mh_least.specs.Least.{Label, longer}
 use Rattle.mh_search.specs.declared.tails.Part.{Part}
 use Rattle.mh_search.specs.Tails.{IsWordOf, AreWordOf, IsLater, AreComparable}
 use Rattle.mh_search.specs.Tales.{Tale}
+use Rattle.mh_search.specs.declared.settling.Found.{Found}
 use Rattle.mh_search.proofs.Compared.{parts_append, lex_after}
 use Rattle.mh_search.proofs.Wording.{some_is}
 use Rattle.mh_reach.specs.declared.arrivals.Spot.{Spot}
@@ -104,16 +105,16 @@ known_label t facts spots tale journey (steps.Way from inner) h =
     let way = tale.some inner (h.1).0 (h.1).1 in
     (longer told.label way.word, (told.label, way.word, told.is, way.is, refl))
 
-pub known_sentence : (t : TableData) (facts : Stored) (spots : Spots) (step : Step) → IsTold t facts spots → IsKnown facts spots step → HasSentence spots step
-known_sentence t facts spots step told known =
-    let l = known_label t facts spots told.tale told.journey step known in
+pub known_sentence : (t : TableData) (found : Found) (spots : Spots) (step : Step) → IsTold t found spots → IsKnown found.store spots step → HasSentence spots step
+known_sentence t found spots step told known =
+    let l = known_label t found.store spots told.tale told.journey step known in
     record { t = t; words = told.tale.words; journey = told.journey; label = l.0; by = l.1 }
 
-module _ (t : TableData) (facts : Stored) (spots : Spots) (left right : Step) (left_parts right_parts : List Part) (left_of : ArePartsOf spots left left_parts) (right_of : ArePartsOf spots right right_parts) where
-  pub steps_comparable : IsTold t facts spots → IsKnown facts spots left → IsKnown facts spots right → AreComparable t facts left_parts right_parts
+module _ (t : TableData) (found : Found) (spots : Spots) (left right : Step) (left_parts right_parts : List Part) (left_of : ArePartsOf spots left left_parts) (right_of : ArePartsOf spots right right_parts) where
+  pub steps_comparable : IsTold t found spots → IsKnown found.store spots left → IsKnown found.store spots right → AreComparable t found.store left_parts right_parts
   steps_comparable told one two =
-      let k = known_label t facts spots told.tale told.journey left one in
-      let l = known_label t facts spots told.tale told.journey right two in
+      let k = known_label t found.store spots told.tale told.journey left one in
+      let l = known_label t found.store spots told.tale told.journey right two in
       record {
         tale = told.tale;
         left_word = numbers_of k.0;
@@ -122,7 +123,7 @@ module _ (t : TableData) (facts : Stored) (spots : Spots) (left right : Step) (l
         right_is = right_of t told.tale.words told.journey l.0 l.1;
       }
 
-  pub steps_later : (later : Bool) → IsLater t facts left_parts right_parts later → ComesLater t facts spots left right later
+  pub steps_later : (later : Bool) → IsLater t found.store left_parts right_parts later → ComesLater t found.store spots left right later
   steps_later true h = λ tale journey k l by by'. h tale (numbers_of k) (numbers_of l) (right_of t tale.words journey k by) (left_of t tale.words journey l by')
   steps_later false h = λ tale journey k l by by'. h tale (numbers_of k) (numbers_of l) (left_of t tale.words journey k by) (right_of t tale.words journey l by')
 

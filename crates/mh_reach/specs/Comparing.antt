@@ -1,5 +1,5 @@
 -- Sentences that are not written out: what they are made of, and which of two comes first.
-use Rattle.std.specs.Prelude.{◌≡◌, ℕ, List, [], ◌∷◌, ◌++◌, Option, Some, None, Bool, true, false}
+use Rattle.std.specs.Prelude.{◌≡◌, ℕ, List, ◌∷◌, ◌++◌, Option, Some, None, Bool, true, false}
 use Rattle.std.specs.List.{Contains}
 use Rattle.mh_tables.specs.Table.{TableData}
 use Rattle.mh_tables.specs.Failing.{LexLe}
@@ -11,6 +11,8 @@ use Rattle.mh_search.specs.declared.tails.Part.TheVariants as parts
 use Rattle.mh_search.specs.Tails.{AreWordOf}
 use Rattle.mh_search.specs.Tales.{Tale}
 use Rattle.mh_search.specs.Good.{IsStored}
+use Rattle.mh_search.specs.Numbering.{AllNumbered}
+use Rattle.mh_search.specs.declared.settling.Found.{Found}
 use Rattle.mh_reach.specs.declared.arrivals.Spot.{Spot}
 use Rattle.mh_reach.specs.declared.arrivals.Step.{Step}
 use Rattle.mh_reach.specs.declared.arrivals.Step.TheVariants as steps
@@ -64,9 +66,10 @@ ComesLater t facts spots left right true = Precedes t facts spots right left
 ComesLater t facts spots left right false = Precedes t facts spots left right
 
 -- what is stored tells sentences
-pub record IsTold (t : TableData) (facts : Facts) (spots : Spots) : Type 0 where
-  pub tale : Tale t facts
+pub record IsTold (t : TableData) (found : Found) (spots : Spots) : Type 0 where
+  pub tale : Tale t found.store
   pub journey : Journey t tale.words spots
+  pub numbered : AllNumbered t found.store found.numbering
 
 abbrev pub AreKnown : Facts → Spots → List Coming → Type 0
 AreKnown facts spots xs = (o : Coming) → Contains xs o → IsKnown facts spots o.step

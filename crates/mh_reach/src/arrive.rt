@@ -14,7 +14,6 @@ ghost use Rattle.mh_reach.specs.Rising.{Rises, Same};
 
 use crate::arrivals::{Arrival, Arrivals, Coming, Spot, Step, arrival_of, arrive_at, no_arrivals};
 use crate::sorting::sorted;
-use mh_facts::FactStore;
 use mh_grammar::{Edge, Memory, Symbol, Token};
 use mh_search::queue::{Queue, empty_queue, push, take};
 use mh_search::{CAP, Classes, Found, Whole, add_costs, add_token, class_of, list_of};
@@ -273,20 +272,20 @@ fn take_all(
 fn ordered(
     alloc: Global,
     table: &Table,
-    store: &FactStore,
+    found: &Found,
     arrivals: &Arrivals,
     all: Vec<Coming>,
     cost: u32,
 ) -> Result<Vec<Coming>, Memory>
-    requires told { IsTold table.now store.now arrivals.now.spots.entries }
-    requires known { AreKnown store.now arrivals.now.spots.entries all.items }
+    requires told { IsTold table.now found.now arrivals.now.spots.entries }
+    requires known { AreKnown found.now.store arrivals.now.spots.entries all.items }
     ensures same { IfOk result (λ new. Same all.items new.items) }
-    ensures rises { cost < cap → IfOk result (λ new. Rises (InTurn table.now store.now arrivals.now.spots.entries) new.items) }
+    ensures rises { cost < cap → IfOk result (λ new. Rises (InTurn table.now found.now.store arrivals.now.spots.entries) new.items) }
 {
     if cost >= CAP {
         return Ok(all);
     }
-    sorted(alloc, table, store, arrivals, all.as_slice())
+    sorted(alloc, table, found, arrivals, all.as_slice())
 }
 
 /// Arrivals of one cost, in their order.
@@ -382,7 +381,7 @@ fn arrive_level(
 {
     table.facts();
     let all = take_all(alloc, &mut second.queue, &second.arrivals, cost)?;
-    let comings = ordered(alloc, table, &found.store, &second.arrivals, all, cost)?;
+    let comings = ordered(alloc, table, found, &second.arrivals, all, cost)?;
     let level = Level {
         cost,
         comings: comings.as_slice(),

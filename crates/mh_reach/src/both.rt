@@ -9,9 +9,8 @@ use crate::arrivals::{Arrivals, Spot, Step, arrival_of};
 use crate::arrive::arrive;
 use crate::comparing::comes_later;
 use crate::sentences::{Best, Reach};
-use mh_facts::FactStore;
 use mh_grammar::{Memory, Token};
-use mh_search::{Classes, add_token, class_of, classes_of, search};
+use mh_search::{Classes, Found, add_token, class_of, classes_of, search};
 use mh_tables::{Choice, Halting, Table, choose};
 use std::alloc::Global;
 
@@ -63,34 +62,34 @@ fn best_on(
 fn is_behind(
     alloc: Global,
     table: &Table,
-    store: &FactStore,
+    found: &Found,
     arrivals: &Arrivals,
     left: Best,
     right: Best,
 ) -> Result<bool, Memory>
-    requires told { IsTold table.now store.now arrivals.now.spots.entries }
+    requires told { IsTold table.now found.now arrivals.now.spots.entries }
     requires left { HasArrived arrivals.now.spots.entries left.spot }
     requires right { HasArrived arrivals.now.spots.entries right.spot }
-    ensures { IfOk result (ComesLater table.now store.now arrivals.now.spots.entries (step_of left) (step_of right)) }
+    ensures { IfOk result (ComesLater table.now found.now.store arrivals.now.spots.entries (step_of left) (step_of right)) }
 {
     let one = step_of(left);
     let two = step_of(right);
-    comes_later(alloc, table, store, arrivals, one, two)
+    comes_later(alloc, table, found, arrivals, one, two)
 }
 
 /// The one whose sentence comes first: the cheaper one; of one cost by their sentences.
 fn sooner_of(
     alloc: Global,
     table: &Table,
-    store: &FactStore,
+    found: &Found,
     arrivals: &Arrivals,
     left: Best,
     right: Best,
 ) -> Result<Best, Memory>
-    requires told { IsTold table.now store.now arrivals.now.spots.entries }
+    requires told { IsTold table.now found.now arrivals.now.spots.entries }
     requires left { HasArrived arrivals.now.spots.entries left.spot }
     requires right { HasArrived arrivals.now.spots.entries right.spot }
-    ensures { IfOk result (IsFirstOf table.now store.now arrivals.now.spots.entries left right) }
+    ensures { IfOk result (IsFirstOf table.now found.now.store arrivals.now.spots.entries left right) }
 {
     if left.cost < right.cost {
         return Ok(left);
@@ -98,7 +97,7 @@ fn sooner_of(
     if right.cost < left.cost {
         return Ok(right);
     }
-    let behind = is_behind(alloc, table, store, arrivals, left, right)?;
+    let behind = is_behind(alloc, table, found, arrivals, left, right)?;
     if behind { Ok(right) } else { Ok(left) }
 }
 
@@ -106,20 +105,20 @@ fn sooner_of(
 fn first_of(
     alloc: Global,
     table: &Table,
-    store: &FactStore,
+    found: &Found,
     arrivals: &Arrivals,
     best: Option<Best>,
     more: Option<Best>,
 ) -> Result<Option<Best>, Memory>
-    requires told { IsTold table.now store.now arrivals.now.spots.entries }
+    requires told { IsTold table.now found.now arrivals.now.spots.entries }
     requires best { IfSome best (λ b. HasArrived arrivals.now.spots.entries b.spot) }
     requires more { IfSome more (λ b. HasArrived arrivals.now.spots.entries b.spot) }
-    ensures { IfOk result (IsFirstOfBoth table.now store.now arrivals.now.spots.entries best more) }
+    ensures { IfOk result (IsFirstOfBoth table.now found.now.store arrivals.now.spots.entries best more) }
 {
     match (best, more) {
         (None, more) => Ok(more),
         (Some(best), None) => Ok(Some(best)),
-        (Some(best), Some(more)) => Ok(Some(sooner_of(alloc, table, store, arrivals, best, more)?)),
+        (Some(best), Some(more)) => Ok(Some(sooner_of(alloc, table, found, arrivals, best, more)?)),
     }
 }
 
@@ -128,20 +127,20 @@ fn best_of(
     alloc: Global,
     table: &Table,
     classes: &Classes,
-    store: &FactStore,
+    found: &Found,
     arrivals: &Arrivals,
     state: u32,
 ) -> Result<Option<Best>, Memory>
     requires classes { IsClasses table.now classes.now }
-    requires told { IsTold table.now store.now arrivals.now.spots.entries }
+    requires told { IsTold table.now found.now arrivals.now.spots.entries }
     requires arrivals { AreCheap arrivals.now.spots.entries }
     requires state { state < length table.now.states }
-    ensures { IfOk result (BestBelow table.now classes.now store.now arrivals.now.spots.entries state table.now.grammar.tokens) }
+    ensures { IfOk result (BestBelow table.now classes.now found.now.store arrivals.now.spots.entries state table.now.grammar.tokens) }
 {
     let mut best = None;
     for token in 0..table.tokens() {
         let more = best_on(table, classes, arrivals, state, token);
-        best = first_of(alloc, table, store, arrivals, best, more)?;
+        best = first_of(alloc, table, found, arrivals, best, more)?;
     }
     Ok(best)
 }
@@ -151,17 +150,17 @@ fn all_best(
     alloc: Global,
     table: &Table,
     classes: &Classes,
-    store: &FactStore,
+    found: &Found,
     arrivals: &Arrivals,
 ) -> Result<Vec<Option<Best>>, Memory>
     requires classes { IsClasses table.now classes.now }
-    requires told { IsTold table.now store.now arrivals.now.spots.entries }
+    requires told { IsTold table.now found.now arrivals.now.spots.entries }
     requires arrivals { AreCheap arrivals.now.spots.entries }
-    ensures { IfOk result (λ best. AreBest table.now classes.now store.now arrivals.now.spots.entries (length table.now.states) best.items) }
+    ensures { IfOk result (λ best. AreBest table.now classes.now found.now.store arrivals.now.spots.entries (length table.now.states) best.items) }
 {
     let mut all = Vec::new(alloc);
     for state in 0..table.states() {
-        let best = best_of(alloc, table, classes, store, arrivals, state)?;
+        let best = best_of(alloc, table, classes, found, arrivals, state)?;
         all.push(best)?;
     }
     Ok(all)
@@ -176,7 +175,7 @@ pub fn reach<'t>(alloc: Global, table: &'t Halting) -> Result<Reach<'t>, Memory>
     let classes = classes_of(alloc, inner)?;
     let found = search(alloc, inner, &classes)?;
     let arrivals = arrive(alloc, inner, &classes, &found)?;
-    let best = all_best(alloc, inner, &classes, &found.store, &arrivals)?;
+    let best = all_best(alloc, inner, &classes, &found, &arrivals)?;
     Ok(Reach {
         table,
         store: found.store,

@@ -4,9 +4,8 @@ ghost use Rattle.mh_reach.specs.Arriving.{HasArrived, arrival_at};
 ghost use Rattle.mh_reach.specs.Comparing.{ArePartsOf, ComesLater, HasSentence, IsKnown, IsTold, from_of, part_of};
 
 use crate::arrivals::{Arrivals, Spot, Step, arrival_of};
-use mh_facts::FactStore;
 use mh_grammar::Memory;
-use mh_search::{Part, Rests, is_later};
+use mh_search::{Found, Part, Rests, is_later};
 use mh_tables::Table;
 use std::alloc::Global;
 
@@ -55,15 +54,15 @@ fn put_parts(arrivals: &Arrivals, parts: &mut Vec<Part>, step: Step) -> Result<(
 pub fn comes_later(
     alloc: Global,
     table: &Table,
-    store: &FactStore,
+    found: &Found,
     arrivals: &Arrivals,
     left: Step,
     right: Step,
 ) -> Result<bool, Memory>
-    requires told { IsTold table.now store.now arrivals.now.spots.entries }
-    requires left { IsKnown store.now arrivals.now.spots.entries left }
-    requires right { IsKnown store.now arrivals.now.spots.entries right }
-    ensures { IfOk result (ComesLater table.now store.now arrivals.now.spots.entries left right) }
+    requires told { IsTold table.now found.now arrivals.now.spots.entries }
+    requires left { IsKnown found.now.store arrivals.now.spots.entries left }
+    requires right { IsKnown found.now.store arrivals.now.spots.entries right }
+    ensures { IfOk result (ComesLater table.now found.now.store arrivals.now.spots.entries left right) }
 {
     let mut rests = Rests {
         left: Vec::new(alloc),
@@ -71,5 +70,5 @@ pub fn comes_later(
     };
     put_parts(arrivals, &mut rests.left, left)?;
     put_parts(arrivals, &mut rests.right, right)?;
-    is_later(table, store, &mut rests)
+    is_later(table, &found.store, &found.numbering, &mut rests)
 }

@@ -5,8 +5,8 @@ ghost use Rattle.mh_reach.specs.Rising.{IsSooner, Merges, Rises, Sorts};
 
 use crate::arrivals::{Arrivals, Coming, Step};
 use crate::comparing::comes_later;
-use mh_facts::FactStore;
 use mh_grammar::Memory;
+use mh_search::Found;
 use mh_tables::Table;
 use std::alloc::Global;
 
@@ -41,20 +41,20 @@ fn behind(comings: &[Coming]) -> &[Coming]
 fn sooner(
     alloc: Global,
     table: &Table,
-    store: &FactStore,
+    found: &Found,
     arrivals: &Arrivals,
     coming: Coming,
     others: &[Coming],
 ) -> Result<Option<Coming>, Memory>
-    requires told { IsTold table.now store.now arrivals.now.spots.entries }
-    requires known { AreKnown store.now arrivals.now.spots.entries (coming ∷ others.now) }
-    requires rising { Rises (InTurn table.now store.now arrivals.now.spots.entries) others.now }
-    ensures { IfOk result (IsSooner (InTurn table.now store.now arrivals.now.spots.entries) coming others.now) }
+    requires told { IsTold table.now found.now arrivals.now.spots.entries }
+    requires known { AreKnown found.now.store arrivals.now.spots.entries (coming ∷ others.now) }
+    requires rising { Rises (InTurn table.now found.now.store arrivals.now.spots.entries) others.now }
+    ensures { IfOk result (IsSooner (InTurn table.now found.now.store arrivals.now.spots.entries) coming others.now) }
 {
     match first_of(others) {
         None => Ok(None),
         Some(other) => {
-            let later = comes_later(alloc, table, store, arrivals, coming.step, other.step)?;
+            let later = comes_later(alloc, table, found, arrivals, coming.step, other.step)?;
             if later { Ok(Some(other)) } else { Ok(None) }
         }
     }
@@ -137,17 +137,17 @@ fn push_all(all: &mut Vec<Coming>, comings: &[Coming]) -> Result<(), Memory>
 fn merged(
     alloc: Global,
     table: &Table,
-    store: &FactStore,
+    found: &Found,
     arrivals: &Arrivals,
     left: &[Coming],
     right: &[Coming],
 ) -> Result<Vec<Coming>, Memory>
-    requires told { IsTold table.now store.now arrivals.now.spots.entries }
-    requires left_known { AreKnown store.now arrivals.now.spots.entries left.now }
-    requires right_known { AreKnown store.now arrivals.now.spots.entries right.now }
-    requires left { Rises (InTurn table.now store.now arrivals.now.spots.entries) left.now }
-    requires right { Rises (InTurn table.now store.now arrivals.now.spots.entries) right.now }
-    ensures { IfOk result (λ all. Merges (InTurn table.now store.now arrivals.now.spots.entries) left.now right.now all.items) }
+    requires told { IsTold table.now found.now arrivals.now.spots.entries }
+    requires left_known { AreKnown found.now.store arrivals.now.spots.entries left.now }
+    requires right_known { AreKnown found.now.store arrivals.now.spots.entries right.now }
+    requires left { Rises (InTurn table.now found.now.store arrivals.now.spots.entries) left.now }
+    requires right { Rises (InTurn table.now found.now.store arrivals.now.spots.entries) right.now }
+    ensures { IfOk result (λ all. Merges (InTurn table.now found.now.store arrivals.now.spots.entries) left.now right.now all.items) }
 {
     let mut all = Vec::new(alloc);
     let mut rest = left;
@@ -158,7 +158,7 @@ fn merged(
                 push_all(&mut all, others)?;
                 return Ok(all);
             }
-            Some(coming) => match sooner(alloc, table, store, arrivals, coming, others)? {
+            Some(coming) => match sooner(alloc, table, found, arrivals, coming, others)? {
                 None => rest = push_run(&mut all, rest)?,
                 Some(_) => others = push_run(&mut all, others)?,
             },
@@ -170,13 +170,13 @@ fn merged(
 pub fn sorted(
     alloc: Global,
     table: &Table,
-    store: &FactStore,
+    found: &Found,
     arrivals: &Arrivals,
     comings: &[Coming],
 ) -> Result<Vec<Coming>, Memory>
-    requires told { IsTold table.now store.now arrivals.now.spots.entries }
-    requires known { AreKnown store.now arrivals.now.spots.entries comings.now }
-    ensures { IfOk result (λ all. Sorts (InTurn table.now store.now arrivals.now.spots.entries) comings.now all.items) }
+    requires told { IsTold table.now found.now arrivals.now.spots.entries }
+    requires known { AreKnown found.now.store arrivals.now.spots.entries comings.now }
+    ensures { IfOk result (λ all. Sorts (InTurn table.now found.now.store arrivals.now.spots.entries) comings.now all.items) }
 {
     if comings.len() < 2 {
         let mut same = Vec::new(alloc);
@@ -184,12 +184,12 @@ pub fn sorted(
         return Ok(same);
     }
     let middle = comings.len() / 2;
-    let left = sorted(alloc, table, store, arrivals, &comings[..middle])?;
-    let right = sorted(alloc, table, store, arrivals, &comings[middle..])?;
+    let left = sorted(alloc, table, found, arrivals, &comings[..middle])?;
+    let right = sorted(alloc, table, found, arrivals, &comings[middle..])?;
     merged(
         alloc,
         table,
-        store,
+        found,
         arrivals,
         left.as_slice(),
         right.as_slice(),

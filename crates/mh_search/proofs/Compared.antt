@@ -18,7 +18,14 @@ use Rattle.mh_search.specs.declared.tails.Part.{Part}
 use Rattle.mh_search.specs.declared.tails.Part.TheVariants as parts
 use Rattle.mh_search.specs.declared.tails.Rests.{Rests}
 use Rattle.mh_search.specs.Tales.{WordBy, Tale, token_of, sizes_of, size_by}
-use Rattle.mh_search.specs.Tails.{IsWordOf, AreWordOf, tokens_of, parts_of, weight, Opens, Goes, Turns, AreShared, AreComparable, IsLater}
+use Rattle.mh_least.specs.Orders.{cap}
+use Rattle.mh_words.specs.Words.{Words, IsBook, Before, letters_of}
+use Rattle.mh_words.proofs.Ordered.{before_lex}
+use Rattle.mh_search.specs.declared.numbering.Numbering.{Numbering}
+use Rattle.mh_search.specs.declared.tails.Told.{Told}
+use Rattle.mh_search.specs.declared.tails.Told.TheVariants as tolds
+use Rattle.mh_search.specs.Numbering.{StandsFor, IsNumbered, IsPlaced}
+use Rattle.mh_search.specs.Tails.{IsTurn, IsToldOf, Tells, IsWordOf, AreWordOf, tokens_of, parts_of, weight, Opens, Goes, Turns, AreShared, AreComparable, IsLater}
 use Rattle.mh_search.proofs.Wording.{some_is, fact_of_word}
 
 -- NUMBERS OF TOKENS
@@ -135,6 +142,21 @@ module _ (t : TableData) (facts : Facts) (tale : Tale t facts) where
     pub same_parts : (left right : Part) → left ≡ right → IsWordOf tale.words left a → IsWordOf tale.words right b → new ≡ old → Goes t facts old new left right None tale a b u v
     same_parts left right same h k is = rw same (one_dropped right (rw same at h) k is)
 
+    -- so are facts that have one word
+    pub same_words : (j k : FactKey) → tale.words j ≡ Some a → tale.words k ≡ Some b → a ≡ b → new ≡ old → Goes t facts old new (parts.Fact j) (parts.Fact k) None tale a b u v
+    same_words j k h g one is =
+        let some = fact_size j a h in
+        record {
+          told = tt;
+          rest = λ e. (a, u, v, rw is left_word, rw is right_word, refl, ap (λ (l : List ℕ). l ++ v) (sym one));
+          smaller = λ e. rw is (omega arith);
+        }
+
+    -- words that differ tell the order
+    pub words_told : (left right : Part) (later : Bool) → IsToldOf (tolds.Later later) a b → Goes t facts old new left right (Some later) tale a b u v
+    words_told left right true h = record { told = before_lex b a v u h; rest = λ e. absurd (let y : Some true ≡ None = e in cc); smaller = λ e. absurd (let y : Some true ≡ None = e in cc) }
+    words_told left right false h = record { told = before_lex a b u v h; rest = λ e. absurd (let y : Some false ≡ None = e in cc); smaller = λ e. absurd (let y : Some false ≡ None = e in cc) }
+
     -- the right one is opened
     pub right_opened : (left right : Part) (k : FactKey) → right ≡ parts.Fact k → IsWordOf tale.words left a → IsWordOf tale.words right b → new.left.items ≡ old.left.items ++ left ∷ [] → Opens t facts (parts.Fact k) old.right.items new.right.items →
         Goes t facts old new left right None tale a b u v
@@ -163,6 +185,30 @@ module _ (t : TableData) (facts : Facts) (tale : Tale t facts) where
           smaller = λ n. omega arith;
         }
 
+cost_some : (o : Option Fact) (c : ℕ) → Some c ≡ option_map (λ (f : Fact). f.cost) o → (f : Fact) × (o ≡ Some f) × (f.cost ≡ c)
+cost_some None c e = absurd (let y : Some c ≡ None = e in cc)
+cost_some (Some f) c e = (f, refl, (let y : Some c ≡ Some f.cost = e in cc))
+
+-- numbers of one group tell the order of their words
+turned : (book : Words) (c m n : ℕ) (a b : List ℕ) (told : Told) → IsBook book → StandsFor book m c a → StandsFor book n c b → IsTurn m n told → IsToldOf told a b
+turned book c m n a b tolds.Equal is x y e = sym x.letters ∙ ap (λ (i : ℕ). letters_of book i) e ∙ y.letters
+turned book c m n a b (tolds.Later true) is x y lt = let h : Before (letters_of book n) (letters_of book m) = (is.groups n m lt x.known).1 (y.group ∙ sym x.group) in rw (y.letters, x.letters) at h
+turned book c m n a b (tolds.Later false) is x y lt = let h : Before (letters_of book m) (letters_of book n) = (is.groups m n lt y.known).1 (x.group ∙ sym y.group) in rw (x.letters, y.letters) at h
+turned book c m n a b tolds.Cheaper is x y never = absurd never
+turned book c m n a b tolds.Dearer is x y never = absurd never
+
+-- what numbers and costs tell
+pub tells_by_numbers : (facts : Facts) (numbering : Numbering) (j k : FactKey) (c m n : ℕ) (told : Told) → IsBook numbering.book → Some c ≡ option_map (λ (f : Fact). f.cost) (fact_at facts j) → Some c ≡ option_map (λ (f : Fact). f.cost) (fact_at facts k) → c < cap → IsPlaced facts numbering j m → IsPlaced facts numbering k n → IsTurn m n told →
+    Tells facts numbering j k told
+tells_by_numbers facts numbering j k c m n told book left right lt one two turn words a b h e g =
+    let f = cost_some (fact_at facts j) c left in
+    let d = cost_some (fact_at facts k) c right in
+    let x = one f.0 f.1 h.long in
+    let y = two d.0 d.1 h.long in
+    let left_stands : StandsFor numbering.book m c a = rw f.2 at (h.each x.0 m j f.0 a x.1 x.2 e (rw f.2 lt)) in
+    let right_stands : StandsFor numbering.book n c b = rw d.2 at (h.each y.0 n k d.0 b y.1 y.2 g (rw d.2 lt)) in
+    turned numbering.book c m n a b told book left_stands right_stands turn
+
 -- what is free has no tokens
 pub free_opens : (t : TableData) (facts : Facts) (k : FactKey) (old : List Part) → option_map (λ (f : Fact). f.cost) (fact_at facts k) ≡ Some 0 → Opens t facts (parts.Fact k) old old
 free_opens t facts k old e tale v is =
@@ -179,6 +225,9 @@ is_some_zero (Some n) e = ap Some (none_equal n e)
   where
     none_equal : (n : ℕ) → true ≡ nat_eq n 0 → n ≡ 0
     none_equal n e = grind (arith, common_steps)
+
+pub same_cost : (o : Option Fact) (m n : ℕ) → m ≡ n → Some m ≡ option_map (λ (f : Fact). f.cost) o → Some n ≡ option_map (λ (f : Fact). f.cost) o
+same_cost o m n e h = rw (← e) h
 
 back_some : (o : Option Fact) (b : Back) → option_map (λ (f : Fact). f.back) o ≡ Some b → (f : Fact) × (o ≡ Some f) × (f.back ≡ b)
 back_some None b e = absurd (let y : None ≡ Some b = e in cc)

@@ -12,7 +12,7 @@ mod Parting
 mod Pasting
 pub mod Putting
 mod Queueing
-mod Numbers
+pub mod Numbers
 mod Ranging
 mod Ranks
 mod Rowed

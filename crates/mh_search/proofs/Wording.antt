@@ -1,5 +1,5 @@
 -- Words by what facts came from, and their costs.
-use Rattle.std.proofs.Common.{◌≡◌, ℕ, ◌+◌, ◌<◌, ◌≤◌, ◌⊎◌, inl, inr, List, [], ◌∷◌, ◌++◌, Some, None, Option, Bool, true, false, cond, refl, ap, sym, arith, ◌∙◌}
+use Rattle.std.proofs.Common.{◌≡◌, ℕ, zero, suc, ◌+◌, ◌<◌, ◌≤◌, ◌⊎◌, inl, inr, List, [], ◌∷◌, ◌++◌, Some, None, Option, Bool, true, false, cond, refl, ap, sym, arith, ◌∙◌}
 use Rattle.std.specs.Prelude.{min, max}
 use Rattle.std.proofs.lemmas.Grind.{common_steps}
 use Rattle.std.proofs.lemmas.Bool.{cases_lt}
@@ -203,3 +203,36 @@ both_free a b e = (grind (arith, common_steps, e), grind (arith, common_steps, e
 pub token_cheap : (t : TableData) (f : Tabled t) (x : ℕ) → x < t.grammar.tokens → cost_of_token t x ≤ cap
 unfolding cost_of_token
 token_cheap t f x lt = let long = f.ranges.each_cost in let c = (All-get_or (λ (n : ℕ). IsCost n) t.costs x 0 (omega arith) f.ranges.costs).1 in omega (arith, c)
+
+-- A store tells one tale.
+size_some : (sizes : FactKey → ℕ) (back : Back) → 1 ≤ size_by sizes back
+size_some sizes backs.Empty = omega arith
+size_some sizes (backs.Shifted path) = omega arith
+size_some sizes (backs.Reduced path inner) = omega arith
+
+same_by : (t : TableData) (words other : FactKey → Option (List ℕ)) (sizes : FactKey → ℕ) (n : ℕ) → ((k : FactKey) (u : List ℕ) → sizes k ≤ n → words k ≡ Some u → other k ≡ Some u) → (k : FactKey) (back : Back) (v w : List ℕ) → size_by sizes back ≤ suc n → WordBy t words k back v → WordBy t other k back w → w ≡ v
+same_by t words other sizes n more k backs.Empty v w le a b = b ∙ sym a
+same_by t words other sizes n more k (backs.Shifted path) v w le a b =
+    let one : b.0 ≡ a.0 = some_is (other path) b.0 a.0 b.1 (more path a.0 (omega arith) a.1) in
+    b.2 ∙ ap (λ (l : List ℕ). l ++ before_dot t k) one ∙ sym a.2
+same_by t words other sizes n more k (backs.Reduced path inner) v w le a b =
+    let one : b.0 ≡ a.0 = some_is (other path) b.0 a.0 b.2 (more path a.0 (omega arith) a.2) in
+    let two : b.1 ≡ a.1 = some_is (other inner) b.1 a.1 b.3 (more inner a.1 (omega arith) a.3) in
+    let whole : b.0 ++ b.1 ≡ a.0 ++ a.1 = rw (one, two) refl in
+    b.4 ∙ whole ∙ sym a.4
+
+one_word : (t : TableData) (facts : Facts) (a b : Tale t facts) (n : ℕ) (k : FactKey) (u : List ℕ) → sizes_of facts k ≤ n → a.words k ≡ Some u → b.words k ≡ Some u
+one_word t facts a b zero k u le e =
+    let f = fact_of_word t facts a k u e in
+    let told = a.some k f.0 f.1 in
+    absurd (let s = size_some (sizes_of facts) f.0.back in let h = told.size in omega arith)
+one_word t facts a b (suc n) k u le e =
+    let f = fact_of_word t facts a k u e in
+    let x = a.some k f.0 f.1 in
+    let y = b.some k f.0 f.1 in
+    let one : x.word ≡ u = some_is (a.words k) x.word u x.is e in
+    let same : y.word ≡ x.word = same_by t a.words b.words (sizes_of facts) n (one_word t facts a b n) k f.0.back x.word y.word (let s = x.size in omega arith) x.by y.by in
+    y.is ∙ ap (λ (w : List ℕ). Some w) (same ∙ one)
+
+pub one_tale : (t : TableData) (facts : Facts) (a b : Tale t facts) (k : FactKey) (u : List ℕ) → a.words k ≡ Some u → b.words k ≡ Some u
+one_tale t facts a b k u e = one_word t facts a b (sizes_of facts k) k u (omega arith) e

@@ -67,3 +67,7 @@ pub record AreNumbered (t : TableData) (facts : Facts) (old new : Numbering) (co
   pub grown : new.book ≡ old.book ++ added
   pub below : AreBelowGroup old.book (max 1 cost) → AreBelowGroup new.book (cost + 1)
   pub each : (tale : Tale t facts) (n m : ℕ) (i : Item) (w : List ℕ) → IsNumbered facts tale.words (max 1 cost) old → slice_get items n ≡ Some i → slice_get numbers n ≡ Some m → WordBy t tale.words i.key i.back w → cost ≡ capped t w → cost < cap → StandsFor new.book m cost w
+
+-- by each tale of the store the facts have the numbers of their words
+abbrev pub AllNumbered : TableData → Facts → Numbering → Type 0
+AllNumbered t facts numbering = (tale : Tale t facts) → IsNumbered facts tale.words (cap + 1) numbering

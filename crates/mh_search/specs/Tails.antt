@@ -6,9 +6,15 @@ use Rattle.mh_facts.specs.declared.store.Back.{Back}
 use Rattle.mh_facts.specs.declared.store.Back.TheVariants as backs
 use Rattle.mh_facts.specs.Stored.{Facts}
 use Rattle.mh_tables.specs.Failing.{LexLe}
+use Rattle.mh_least.specs.Orders.{cap}
+use Rattle.mh_words.specs.Words.{Before}
+use Rattle.mh_search.specs.Numbering.{IsNumbered}
 use Rattle.mh_search.specs.declared.tails.Part.{Part}
 use Rattle.mh_search.specs.declared.tails.Part.TheVariants as parts
 use Rattle.mh_search.specs.declared.tails.Rests.{Rests}
+use Rattle.mh_search.specs.declared.numbering.Numbering.{Numbering}
+use Rattle.mh_search.specs.declared.tails.Told.{Told}
+use Rattle.mh_search.specs.declared.tails.Told.TheVariants as tolds
 use Rattle.mh_search.specs.declared.tails.Tops.{Tops}
 use Rattle.mh_search.specs.declared.tails.Tops.TheVariants as tops
 use Rattle.mh_search.specs.Tales.{Tale, before_dot, sizes_of}
@@ -49,6 +55,25 @@ abbrev pub IsToldBy : Option Bool → List ℕ → List ℕ → Type 0
 IsToldBy None u v = Unit {0}
 IsToldBy (Some true) u v = LexLe v u
 IsToldBy (Some false) u v = LexLe u v
+
+-- the order of two numbers
+abbrev pub IsTurn : ℕ → ℕ → Told → Type 0
+IsTurn m n tolds.Equal = m ≡ n
+IsTurn m n (tolds.Later true) = n < m
+IsTurn m n (tolds.Later false) = m < n
+IsTurn m n tolds.Cheaper = ⊥
+IsTurn m n tolds.Dearer = ⊥
+
+-- what is told of two words
+abbrev pub IsToldOf : Told → List ℕ → List ℕ → Type 0
+IsToldOf tolds.Equal a b = a ≡ b
+IsToldOf (tolds.Later true) a b = Before b a
+IsToldOf (tolds.Later false) a b = Before a b
+IsToldOf tolds.Cheaper a b = Unit {0}
+IsToldOf tolds.Dearer a b = Unit {0}
+
+abbrev pub Tells : Facts → Numbering → FactKey → FactKey → Told → Type 0
+Tells facts numbering j k told = (words : FactKey → Option (List ℕ)) (a b : List ℕ) → IsNumbered facts words (cap + 1) numbering → words j ≡ Some a → words k ≡ Some b → IsToldOf told a b
 
 -- where the first parts tell nothing the rests go on behind one front
 pub record Goes (t : TableData) (facts : Facts) (old new : Rests) (left right : Part) (later : Option Bool) (tale : Tale t facts) (a b u v : List ℕ) : Type 0 where

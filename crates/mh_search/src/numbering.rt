@@ -43,7 +43,7 @@ pub fn token_before(table: &Table, key: FactKey) -> Option<Token>
 }
 
 /// The number of a settled fact's word.
-fn number_of(store: &FactStore, numbering: &Numbering, key: &FactKey) -> usize
+pub fn number_of(store: &FactStore, numbering: &Numbering, key: &FactKey) -> usize
     ensures { IsPlaced store.now numbering.now key.now result }
 {
     match store.place(key) {

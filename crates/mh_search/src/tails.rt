@@ -1,9 +1,11 @@
 //! Words of settled facts, compared from their fronts through what the facts came from: no word is written out.
 ghost use Rattle.std.specs.Prelude.{◌≡◌, ◌++◌, IfOk, OnOk};
-ghost use Rattle.mh_search.specs.Tails.{Opens, TakesTops, Turns, AreComparable, IsLater, parts_of};
+ghost use Rattle.mh_search.specs.Numbering.{AllNumbered};
+ghost use Rattle.mh_search.specs.Tails.{Opens, TakesTops, Turns, AreComparable, IsLater, IsTurn, Tells, parts_of};
 ghost use Rattle.mh_search.specs.declared.tails.Part.TheVariants as TheParts;
 
-use crate::numbering::token_before;
+use crate::joins::CAP;
+use crate::numbering::{Numbering, number_of, token_before};
 use mh_facts::{Back, FactKey, FactStore};
 use mh_grammar::{Memory, Token};
 use mh_tables::Table;
@@ -50,11 +52,46 @@ fn open(table: &Table, store: &FactStore, parts: &mut Vec<Part>, key: FactKey) -
     }
 }
 
-/// Whether the first fact is the cheaper. The dearer is opened, so that what two words share comes to stand on top of both.
-fn is_cheaper(store: &FactStore, one: FactKey, two: FactKey) -> bool {
+/// What the numbers and the costs of two words tell.
+#[derive(Clone, Copy, Debug, Drop)]
+pub enum Told {
+    Equal,
+    /// Whether the left one comes later; neither begins with the other.
+    Later(bool),
+    Cheaper,
+    Dearer,
+}
+
+/// The order of two words of one cost by their numbers.
+fn by_numbers(left: usize, right: usize) -> Told
+    ensures { IsTurn left right result }
+{
+    if left == right {
+        return Told::Equal;
+    }
+    Told::Later(right < left)
+}
+
+/// What is told of the words of two settled facts. Words of one cost stand in the order of their numbers, but for those that are
+/// too dear. Of two costs the lower is told, so that the dearer fact is opened and what two words share comes to stand on top of
+/// both.
+fn tell(store: &FactStore, numbering: &Numbering, one: FactKey, two: FactKey) -> Told
+    ensures { Tells store.now numbering.now one two result }
+{
+    numbering.book.rising();
     match (store.cost(&one), store.cost(&two)) {
-        (Some(one), Some(two)) => one < two,
-        _ => false,
+        (Some(left), Some(right)) => {
+            if left < right {
+                return Told::Cheaper;
+            }
+            if right < left || left >= CAP {
+                return Told::Dearer;
+            }
+            let left = number_of(store, numbering, &one);
+            let right = number_of(store, numbering, &two);
+            by_numbers(left, right)
+        }
+        _ => Told::Dearer,
     }
 }
 
@@ -65,14 +102,66 @@ pub struct Rests {
     pub right: Vec<Part>,
 }
 
-/// What the first parts tell of the order: whether the left comes later, where they differ.
-fn turn(
+/// Puts the left part back, and opens the right fact.
+fn open_right(
     table: &Table,
     store: &FactStore,
     rests: &mut Rests,
     left: Part,
+    right: FactKey,
+) -> Result<Option<bool>, Memory>
+    ensures { IfOk result (Turns table.now store.now rests.old rests.new left (TheParts.Fact right)) }
+{
+    rests.left.push(left)?;
+    open(table, store, &mut rests.right, right)?;
+    Ok(None)
+}
+
+/// Puts the right part back, and opens the left fact.
+fn open_left(
+    table: &Table,
+    store: &FactStore,
+    rests: &mut Rests,
+    left: FactKey,
     right: Part,
 ) -> Result<Option<bool>, Memory>
+    ensures { IfOk result (Turns table.now store.now rests.old rests.new (TheParts.Fact left) right) }
+{
+    open(table, store, &mut rests.left, left)?;
+    rests.right.push(right)?;
+    Ok(None)
+}
+
+/// What two facts tell of the order: whether the left comes later, where they differ.
+fn turn_facts(
+    table: &Table,
+    store: &FactStore,
+    numbering: &Numbering,
+    rests: &mut Rests,
+    left: FactKey,
+    right: FactKey,
+) -> Result<Option<bool>, Memory>
+    requires { AllNumbered table.now store.now numbering.now }
+    ensures { IfOk result (Turns table.now store.now rests.old rests.new (TheParts.Fact left) (TheParts.Fact right)) }
+{
+    match tell(store, numbering, left, right) {
+        Told::Equal => Ok(None),
+        Told::Later(later) => Ok(Some(later)),
+        Told::Cheaper => open_right(table, store, rests, Part::Fact(left), right),
+        Told::Dearer => open_left(table, store, rests, left, Part::Fact(right)),
+    }
+}
+
+/// What the first parts tell of the order: whether the left comes later, where they differ.
+fn turn(
+    table: &Table,
+    store: &FactStore,
+    numbering: &Numbering,
+    rests: &mut Rests,
+    left: Part,
+    right: Part,
+) -> Result<Option<bool>, Memory>
+    requires { AllNumbered table.now store.now numbering.now }
     ensures { IfOk result (Turns table.now store.now rests.old rests.new left right) }
 {
     match (left, right) {
@@ -83,28 +172,10 @@ fn turn(
                 Ok(Some(one > two))
             }
         }
-        (Part::Token(_), Part::Fact(two)) => {
-            rests.left.push(left)?;
-            open(table, store, &mut rests.right, two)?;
-            Ok(None)
-        }
-        (Part::Fact(one), Part::Token(_)) => {
-            open(table, store, &mut rests.left, one)?;
-            rests.right.push(right)?;
-            Ok(None)
-        }
+        (Part::Token(_), Part::Fact(two)) => open_right(table, store, rests, left, two),
+        (Part::Fact(one), Part::Token(_)) => open_left(table, store, rests, one, right),
         (Part::Fact(one), Part::Fact(two)) => {
-            if one == two {
-                Ok(None)
-            } else if is_cheaper(store, one, two) {
-                rests.left.push(left)?;
-                open(table, store, &mut rests.right, two)?;
-                Ok(None)
-            } else {
-                open(table, store, &mut rests.left, one)?;
-                rests.right.push(right)?;
-                Ok(None)
-            }
+            turn_facts(table, store, numbering, rests, one, two)
         }
     }
 }
@@ -131,15 +202,21 @@ fn take_tops(rests: &mut Rests) -> Tops
 }
 
 /// Whether the left word comes later: at the first place where the two differ it has the higher number.
-pub fn is_later(table: &Table, store: &FactStore, rests: &mut Rests) -> Result<bool, Memory>
-    requires { AreComparable table.now store.now rests.old.left.items rests.old.right.items }
+pub fn is_later(
+    table: &Table,
+    store: &FactStore,
+    numbering: &Numbering,
+    rests: &mut Rests,
+) -> Result<bool, Memory>
+    requires numbered { AllNumbered table.now store.now numbering.now }
+    requires comparable { AreComparable table.now store.now rests.old.left.items rests.old.right.items }
     ensures { IfOk result (IsLater table.now store.now rests.old.left.items rests.old.right.items) }
 {
     'parts: loop {
         match take_tops(rests) {
             Tops::LeftEnds => return Ok(false),
             Tops::RightEnds => return Ok(true),
-            Tops::Both(one, two) => match turn(table, store, rests, one, two)? {
+            Tops::Both(one, two) => match turn(table, store, numbering, rests, one, two)? {
                 None => {}
                 Some(later) => return Ok(later),
             },

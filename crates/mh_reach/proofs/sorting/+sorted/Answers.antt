@@ -9,7 +9,7 @@ use Rattle.mh_reach.proofs.sorting.+sorted.Goals as goal
 pub returns-then-comings-lt2 : goal.returns-then-comings-lt2
 returns-then-comings-lt2 t c =
     let e : c.push_all.new.all.items ≡ c.args.comings.now = c.in_ok-push_all.ensures ∙ ap (λ (l : List Coming). l ++ c.args.comings.now) c.new-same.ensures.items in
-    rw e (few_sorted (InTurn c.args.table.now c.args.store.now c.args.arrivals.now.spots.entries) c.args.comings.now (let lt = c.if-comings-lt2.true in omega (arith, lt)))
+    rw e (few_sorted (InTurn c.args.table.now c.args.found.now.store c.args.arrivals.now.spots.entries) c.args.comings.now (let lt = c.if-comings-lt2.true in omega (arith, lt)))
 
 pub sorted-requires : goal.sorted-requires
 sorted-requires t c =
@@ -39,5 +39,5 @@ pub returns : goal.returns
 returns t c =
     let xs = c.args.comings.now in
     let half = half_less (length xs) (let ge = c.if-comings-lt2.false in omega (arith, ge)) in
-    let right : Sorts (InTurn c.args.table.now c.args.store.now c.args.arrivals.now.spots.entries) (drop (length xs / 2) xs) c.in_ok-right.right.items = rw (drop_is xs (length xs / 2)) at c.in_ok-right.ensures in
-    IfOk-weaker c.merged.result _ _ (λ all h. halves_sorted (InTurn c.args.table.now c.args.store.now c.args.arrivals.now.spots.entries) xs c.in_ok-left.left.items c.in_ok-right.right.items all.items (length xs / 2) c.in_ok-left.ensures right (rw (c.as_slice.ensures.value, c.as_slice-2.ensures.value) at h)) c.merged.ensures
+    let right : Sorts (InTurn c.args.table.now c.args.found.now.store c.args.arrivals.now.spots.entries) (drop (length xs / 2) xs) c.in_ok-right.right.items = rw (drop_is xs (length xs / 2)) at c.in_ok-right.ensures in
+    IfOk-weaker c.merged.result _ _ (λ all h. halves_sorted (InTurn c.args.table.now c.args.found.now.store c.args.arrivals.now.spots.entries) xs c.in_ok-left.left.items c.in_ok-right.right.items all.items (length xs / 2) c.in_ok-left.ensures right (rw (c.as_slice.ensures.value, c.as_slice-2.ensures.value) at h)) c.merged.ensures

@@ -4,7 +4,7 @@ use Rattle.mh_reach.specs.Rising.{Merging}
 use Rattle.mh_reach.proofs.sorting.merged.Given as goal
 
 abbrev pub invariant-comings : goal.invariant-comings
-invariant-comings l = Merging (InTurn l.table l.store l.arrivals.spots.entries) l.fn.left l.fn.right l.rest l.others l.all.items
+invariant-comings l = Merging (InTurn l.table l.found.store l.arrivals.spots.entries) l.fn.left l.fn.right l.rest l.others l.all.items
 
 abbrev pub decreases-comings : goal.decreases-comings
 decreases-comings l = length l.rest + length l.others

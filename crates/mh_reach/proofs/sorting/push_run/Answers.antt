@@ -1,7 +1,5 @@
-use Rattle.std.proofs.Common.{◌≡◌, ◌∙◌, refl, ap, sym, drop, arith, length, List}
+use Rattle.std.proofs.Common.{◌∙◌, refl, ap, sym}
 use Rattle.mh_reach.specs.declared.arrivals.Coming.{Coming}
-use Rattle.mh_reach.specs.declared.arrivals.Step.{Step}
-use Rattle.mh_reach.proofs.Listing.{get_first, some_first}
 use Rattle.mh_reach.proofs.Runs.{run_begins, run_goes}
 use Rattle.mh_reach.proofs.sorting.push_run.Goals as goal
 

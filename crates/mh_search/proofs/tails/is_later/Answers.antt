@@ -13,7 +13,7 @@ returns-in-RightEnds c = ends_right c.args.table.now c.args.store.now c.args.res
 pub parts-smaller : goal.parts-smaller
 parts-smaller c =
     let tops = rw c.in-Both.is at c.take_tops.ensures in
-    goes_less c.args.table.now c.args.store.now c.args.rests.now c.parts.rests c.take_tops.new.rests c.turn.new.rests c.in-Both.one c.in-Both.two c.parts.invariant tops.0 tops.1 (rw c.in-None.is at c.in_ok-turn-in-Both.ensures) c.requires
+    goes_less c.args.table.now c.args.store.now c.args.rests.now c.parts.rests c.take_tops.new.rests c.turn.new.rests c.in-Both.one c.in-Both.two c.parts.invariant tops.0 tops.1 (rw c.in-None.is at c.in_ok-turn-in-Both.ensures) c.requires.comparable
 
 pub parts-preserved : goal.parts-preserved
 parts-preserved c =
