@@ -426,6 +426,49 @@ menhir: warning: conflict in state 1 on EOF
 ~
 0 shelf 2 all all 0
 ^
+--write-tables g.mly
+~
+A EOF
+~
+menhir-tables 2 merged
+tokens A EOF
+costs 1 1
+starts s
+productions 3
+s -> A EOF
+s -> x EOF
+x -> A
+states 6
+state 0
+item 0 0 #
+edge A 1
+edge s 2
+edge x 3
+cell A shift 1
+state 1
+item 1 1 #
+item 3 1 EOF
+edge EOF 4
+cell EOF shift 4
+state 2
+item 0 1 #
+default accept
+state 3
+item 2 1 #
+edge EOF 5
+cell EOF shift 5
+state 4
+item 1 2 #
+default reduce 1
+state 5
+item 2 2 #
+default reduce 2
+end
+~
+menhir: warning: conflict in state 1 on EOF
+~
+0 shelf 2 all all 0
+^
 --list-errors g.mly
 ~
 A EOF
