@@ -28,12 +28,12 @@ use Rattle.mh_search.specs.Rules.{wholes_at}
 use Rattle.mh_search.specs.Tales.{NoLater, capped}
 use Rattle.mh_search.specs.Good.{WaysIn, WholeOk}
 use Rattle.mh_reach.specs.Arriving.{NoLaterAt, NoLaterBy, Spots, spot, StepsAlong, StepsShift, StepsWay, GoesOn, Starts, Journey, LabelBy, ComingOk, Waiting, PendingAt, GoodAt, InOrderAt, HasArrived, ComesNext, Arrived, labels_at}
-use Rattle.mh_reach.specs.Rising.{Rises}
+use Rattle.mh_words.specs.Rising.{Rises}
 use Rattle.mh_search.proofs.Rowing.{none_in, row_past}
 use Rattle.mh_search.proofs.Wording.{some_is, capped_one, capped_both, min_cap, no_lower}
 use Rattle.mh_reach.proofs.Spots.{label_kept, label_one, journey_more, new_labels, labels_kept, labels_here, labels_only, spots_cases}
 use Rattle.mh_reach.proofs.Labelling.{label_laws, same_label, over_from}
-use Rattle.mh_reach.proofs.Listing.{rises_by}
+use Rattle.mh_words.proofs.Listing.{rises_by}
 
 abbrev pub Comings : Type 0
 Comings = List (Vec Coming)

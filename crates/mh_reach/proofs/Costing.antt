@@ -15,6 +15,7 @@ use Rattle.mh_least.specs.Orders.{cap}
 use Rattle.mh_least.specs.Orders as orders
 use Rattle.mh_least.proofs.Least.{fails_candidate, closed_reached, candidate_fails}
 use Rattle.mh_least.proofs.Best.{closes_all_at}
+use Rattle.mh_words.proofs.Ordered.{lex_same}
 use Rattle.mh_search.specs.declared.classes.Classes.{Classes}
 use Rattle.mh_search.specs.declared.settling.Found.{Found}
 use Rattle.mh_search.proofs.Numbers.{all_numbered}
@@ -38,10 +39,6 @@ below_next z n lt = elim (cases_lt z n) [ inl l ↦ inl l | inr le ↦ inr (omeg
 
 pub best_begins : (t : TableData) (c : Classes) (facts : Stored) (spots : Spots) (s : ℕ) → BestBelow t c facts spots s 0 None
 best_begins t c facts spots s z r lt refuses e = absurd (omega arith)
-
-lex_same : (u : List ℕ) → LexLe u u
-lex_same [] = tt
-lex_same (x ∷ u) = inr (refl, lex_same u)
 
 module _ (t : TableData) (facts : Stored) (spots : Spots) where
   leads_same : (a : Best) → Leads t facts spots a a

@@ -25,10 +25,10 @@ use Rattle.mh_reach.specs.declared.arrivals.Step.TheVariants as steps
 use Rattle.mh_reach.specs.declared.arrivals.Coming.{Coming}
 use Rattle.mh_reach.specs.Arriving.{NoLaterBy, Spots, Journey, LabelBy, Waiting, GoodAt, InOrderAt, ReadyAt, HasArrived, NoneComes, KeepsComing, TakesComings, TakesAll, GoodIn}
 use Rattle.mh_reach.specs.Comparing.{PrecedesBy, IsKnown, IsTold, AreKnown, InTurn}
-use Rattle.mh_reach.specs.Rising.{Rises, Same}
+use Rattle.mh_words.specs.Rising.{Rises, Same}
 use Rattle.mh_reach.proofs.Arriving.{Comings, good_moves}
 use Rattle.mh_reach.proofs.Labelling.{label_laws, both_over, cheaper_at, by_numbers}
-use Rattle.mh_reach.proofs.Listing.{here, in_more, in_cons, in_left, in_last, none_in, rises_by, rises_all}
+use Rattle.mh_words.proofs.Listing.{here, in_more, in_cons, in_left, in_last, none_in, rises_by, rises_all}
 use Rattle.mh_reach.proofs.Spots.{label_one}
 use Rattle.mh_reach.proofs.Walking.{arrived_at}
 

@@ -4,7 +4,6 @@ mod Costing
 mod First
 mod Labelling
 mod Levels
-mod Listing
 mod Runs
 mod Spelled
 mod Spots

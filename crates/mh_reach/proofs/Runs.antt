@@ -11,7 +11,7 @@ use Rattle.mh_reach.specs.declared.arrivals.Step.TheVariants as steps
 use Rattle.mh_reach.specs.declared.arrivals.Coming.{Coming}
 use Rattle.mh_reach.specs.Arriving.{Spots}
 use Rattle.mh_reach.specs.Comparing.{InTurn, Precedes, PutsRun}
-use Rattle.mh_reach.proofs.Listing.{get_first, in_last, none_in}
+use Rattle.mh_words.proofs.Listing.{get_first, in_last, none_in}
 
 abbrev pub run_begins : (xs rest old new : List Coming) (first : Coming) → xs ≡ first ∷ drop 1 xs → rest ≡ drop 1 xs → new ≡ old ++ first ∷ [] → PutsRun xs rest old new
 run_begins xs rest old new first e is put = record { first = first; run = []; is = e ∙ ap (λ (l : List Coming). first ∷ l) (sym is); put = put; same = λ y there. absurd (none_in y there) }

@@ -9,7 +9,8 @@ use Rattle.mh_search.specs.declared.tails.Part.{Part}
 use Rattle.mh_search.specs.Tails.{IsWordOf, AreWordOf, IsLater, AreComparable}
 use Rattle.mh_search.specs.Tales.{Tale}
 use Rattle.mh_search.specs.declared.settling.Found.{Found}
-use Rattle.mh_search.proofs.Compared.{parts_append, lex_after}
+use Rattle.mh_words.proofs.Ordered.{lex_after}
+use Rattle.mh_search.proofs.Compared.{parts_append}
 use Rattle.mh_search.proofs.Wording.{some_is}
 use Rattle.mh_reach.specs.declared.arrivals.Spot.{Spot}
 use Rattle.mh_reach.specs.declared.arrivals.Step.{Step}

@@ -23,7 +23,7 @@ use Rattle.mh_search.specs.Rules.{wholes_at}
 use Rattle.mh_search.specs.Tales.{weigh, capped}
 use Rattle.mh_search.specs.declared.settling.Found.{Found}
 use Rattle.mh_search.specs.Good.{WaysIn, IsFound}
-use Rattle.mh_reach.specs.Rising.{Rises}
+use Rattle.mh_words.specs.Rising.{Rises}
 
 -- sentences by cost, then by start, then by the numbers of their tokens
 abbrev pub NoLaterAt : TableData → Label → Label → Type 0

@@ -1,5 +1,4 @@
 pub mod Arriving
 pub mod Comparing
 pub mod Reaching
-pub mod Rising
 pub mod Spelling

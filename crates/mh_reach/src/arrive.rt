@@ -10,7 +10,7 @@ ghost use Rattle.mh_search.specs.Rules.{OnlyAt};
 ghost use Rattle.mh_search.specs.Good.{IsFound};
 ghost use Rattle.mh_reach.specs.Arriving.{NextComing, StepsOn, StepsAlong, StepsEdge, StepsShift, StepsWay, Starts, KeepsComing, TakesAll, GoodIn, ReadyIn, ArrivedIn};
 ghost use Rattle.mh_reach.specs.Comparing.{AreKnown, InTurn, IsTold};
-ghost use Rattle.mh_reach.specs.Rising.{Rises, Same};
+ghost use Rattle.mh_words.specs.Rising.{Rises, Same};
 
 use crate::arrivals::{Arrival, Arrivals, Coming, Spot, Step, arrival_of, arrive_at, no_arrivals};
 use crate::sorting::sorted;

@@ -1,7 +1,7 @@
 //! Arrivals of one cost, put in the order of their sentences.
 ghost use Rattle.std.specs.Prelude.{◌≡◌, ◌<◌, ◌∷◌, ◌++◌, IfOk, IsTrue, OnOk, drop, length, slice_get};
 ghost use Rattle.mh_reach.specs.Comparing.{AreKnown, InTurn, IsTold, PutsRun};
-ghost use Rattle.mh_reach.specs.Rising.{IsSooner, Merges, Rises, Sorts};
+ghost use Rattle.mh_words.specs.Rising.{IsSooner, Merges, Rises, Sorts};
 
 use crate::arrivals::{Arrivals, Coming, Step};
 use crate::comparing::comes_later;

@@ -30,25 +30,12 @@ use Rattle.mh_search.proofs.Wording.{some_is, fact_of_word}
 
 -- NUMBERS OF TOKENS
 
-lex_same : (u : List ℕ) → LexLe u u
-lex_same [] = tt
-lex_same (x ∷ u) = inr (refl, lex_same u)
-
 pub lex_behind : (p u v : List ℕ) → LexLe u v → LexLe (p ++ u) (p ++ v)
 lex_behind [] u v h = h
 lex_behind (x ∷ p) u v h = inr (refl, lex_behind p u v h)
 
 lex_is : (u v a b : List ℕ) → u ≡ a → v ≡ b → LexLe a b → LexLe u v
 lex_is u v a b e g h = rw (e, g) h
-
-pub lex_after : (u v w : List ℕ) → LexLe u v → LexLe v w → LexLe u w
-lex_after [] v w a b = tt
-lex_after (x ∷ u) [] w a b = absurd a
-lex_after (x ∷ u) (y ∷ v) [] a b = absurd b
-lex_after (x ∷ u) (y ∷ v) (z ∷ w) (inl a) (inl b) = inl (omega arith)
-lex_after (x ∷ u) (y ∷ v) (z ∷ w) (inl a) (inr b) = inl (let e = b.0 in omega arith)
-lex_after (x ∷ u) (y ∷ v) (z ∷ w) (inr a) (inl b) = inl (let e = a.0 in omega arith)
-lex_after (x ∷ u) (y ∷ v) (z ∷ w) (inr a) (inr b) = inr (a.0 ∙ b.0, lex_after u v w a.1 b.1)
 
 -- PARTS
 

@@ -3,7 +3,7 @@ use Rattle.std.proofs.Math.ListN.{drop_of_length-le}
 use Rattle.mh_reach.specs.declared.arrivals.Coming.{Coming}
 use Rattle.mh_reach.specs.Arriving.{ReadyIn}
 use Rattle.mh_reach.proofs.Levels.{level_done}
-use Rattle.mh_reach.proofs.Listing.{rest_after}
+use Rattle.mh_words.proofs.Listing.{rest_after}
 use Rattle.mh_reach.proofs.arrive.arrive_each.Goals as goal
 
 pub loop-place-preserved : goal.loop-place-preserved

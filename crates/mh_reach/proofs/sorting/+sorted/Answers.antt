@@ -2,8 +2,8 @@ use Rattle.std.proofs.Common.{◌≡◌, ◌∙◌, ◌++◌, ◌-◌, ◌/◌, 
 use Rattle.std.proofs.lemmas.Result.{IfOk-weaker}
 use Rattle.mh_reach.specs.declared.arrivals.Coming.{Coming}
 use Rattle.mh_reach.specs.Comparing.{InTurn}
-use Rattle.mh_reach.specs.Rising.{Sorts}
-use Rattle.mh_reach.proofs.Listing.{few_sorted, halves_sorted, half_less, in_take, in_drop, take_few, drop_is}
+use Rattle.mh_words.specs.Rising.{Sorts}
+use Rattle.mh_words.proofs.Listing.{few_sorted, halves_sorted, half_less, in_take, in_drop, take_few, drop_is}
 use Rattle.mh_reach.proofs.sorting.+sorted.Goals as goal
 
 pub returns-then-comings-lt2 : goal.returns-then-comings-lt2

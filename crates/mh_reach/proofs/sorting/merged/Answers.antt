@@ -2,8 +2,8 @@ use Rattle.std.proofs.Common.{◌∙◌, List, ap, sym, drop, inl, inr, arith, N
 use Rattle.std.specs.Prelude.{slice_get}
 use Rattle.mh_reach.specs.declared.arrivals.Coming.{Coming}
 use Rattle.mh_reach.specs.Comparing.{IsKnown, InTurn}
-use Rattle.mh_reach.specs.Rising.{IsSooner}
-use Rattle.mh_reach.proofs.Listing.{here, in_cons, get_first, some_first, merge_begins, merge_ends, merges_left, merges_right}
+use Rattle.mh_words.specs.Rising.{IsSooner}
+use Rattle.mh_words.proofs.Listing.{here, in_cons, get_first, some_first, merge_begins, merge_ends, merges_left, merges_right}
 use Rattle.mh_reach.proofs.Runs.{run_alike, run_first, run_less}
 use Rattle.mh_reach.proofs.Tracing.{precedes_after}
 use Rattle.mh_reach.proofs.sorting.merged.Goals as goal

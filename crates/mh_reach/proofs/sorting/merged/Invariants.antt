@@ -1,6 +1,6 @@
 use Rattle.std.proofs.Common.{◌+◌, length}
 use Rattle.mh_reach.specs.Comparing.{InTurn}
-use Rattle.mh_reach.specs.Rising.{Merging}
+use Rattle.mh_words.specs.Rising.{Merging}
 use Rattle.mh_reach.proofs.sorting.merged.Given as goal
 
 abbrev pub invariant-comings : goal.invariant-comings

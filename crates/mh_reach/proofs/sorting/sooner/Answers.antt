@@ -1,7 +1,7 @@
 use Rattle.std.proofs.Common.{◌∙◌, sym}
 use Rattle.mh_reach.specs.declared.arrivals.Coming.{Coming}
 use Rattle.mh_reach.specs.Comparing.{IsKnown, InTurn}
-use Rattle.mh_reach.proofs.Listing.{here, in_more, get_first, none_sooner, one_sooner, all_later}
+use Rattle.mh_words.proofs.Listing.{here, in_more, get_first, none_sooner, one_sooner, all_later}
 use Rattle.mh_reach.proofs.Tracing.{precedes_after}
 use Rattle.mh_reach.proofs.sorting.sooner.Goals as goal
 
