@@ -1,6 +1,7 @@
 #!/usr/bin/env bash
 # Compares the built program with Menhir itself (Debian's package `menhir`): states, conflicts or none, verdicts, trees and lists of errors on real
 # grammars, which must be the same, and times, which are printed as ratios. It ends with 1 if anything is not the same.
+# The program's own samples have to come to the counts that their number gives.
 # Of each grammar file in FOLDER it compares how both automata are built (states, time, memory) and the list of errors, too.
 # Usage: bench/compare.sh PATH-OF-OUR-PROGRAM [FOLDER]   (after a run of the gate: crates/menhir/out/menhir)
 set -eu
@@ -139,6 +140,18 @@ compare_build() { # FILE MODE
     fi
 }
 
+# The program's own sample of a number: a grammar of k levels of operators, its list of errors, and 3,000 sentences. The counts follow from
+# k: a level has its token, its two productions and three states (six in the canonical automaton), of which one (two) is listed.
+compare_sample() { # NUMBER MODE
+    local number=$1 mode=$2 k=$((2 + $1 % 30)) states listed taken
+    states=$((3 * k + 8)) listed=$((k + 6))
+    [ -z "$mode" ] || states=$((6 * k + 12)) listed=$((2 * k + 7))
+    taken=$(seconds "$ours" --sample "$number" $mode)
+    echo "sample of $k levels, $(called "$mode"): $taken s"
+    [ "$(cat out.txt)" = "sample $number: tokens $((k + 4)), productions $((2 * k + 3)), states $states, listed $listed, accept 2059, overshoot 0, reject 941" ] ||
+        differs "sample $number, $(called "$mode")"
+}
+
 # Our time for a command, and Menhir's as a ratio.
 compare_time() { # NAME INPUT WORD..
     local name=$1 input=$2 our_time their_time=
@@ -166,6 +179,10 @@ if [ -n "$further" ]; then
         compare_build "$file" --canonical
     done
 fi
+for number in 0 14 29; do
+    compare_sample "$number" ""
+    compare_sample "$number" --canonical
+done
 python3 "$bench/inputs.py"
 compare_time "1,002,000 tokens of sums" sums.in --interpret sums.mly
 compare_time "the same, with trees" sums.in --interpret --interpret-show-cst sums.mly

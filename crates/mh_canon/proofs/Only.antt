@@ -231,7 +231,8 @@ module _ (g : PlainGrammar) (a : Automaton) (h : IsCanonical g a) where
       order = rw len h.breadth;
     }
 
-edges_same : (e f : List Edge) → map (λ (x : Edge). x.symbol) e ≡ map (λ (x : Edge). x.symbol) f → targets_of e ≡ targets_of f → e ≡ f
+-- edges are one list where their symbols and their targets are
+pub edges_same : (e f : List Edge) → map (λ (x : Edge). x.symbol) e ≡ map (λ (x : Edge). x.symbol) f → targets_of e ≡ targets_of f → e ≡ f
 edges_same [] [] s t = refl
 edges_same [] (y ∷ f) s t = cc
 edges_same (x ∷ e) [] s t = cc

@@ -1,5 +1,5 @@
 -- Until when unfoldings are needed, and what is forgotten.
-use Rattle.std.proofs.Common.{◌≡◌, ℕ, ◌+◌, ◌<◌, ◌≤◌, ◌↔◌, false, List, ◌∷◌, ◌++◌, Some, take, set, length, get_or, sym, ap, ◌∙◌, arith, inl, inr, length-set, subst}
+use Rattle.std.proofs.Common.{◌≡◌, ℕ, ◌+◌, ◌<◌, ◌≤◌, false, List, Some, take, set, length, get_or, sym, ap, ◌∙◌, arith, inl, inr, length-set, subst}
 use Rattle.std.specs.List.{slice_get}
 use Rattle.std.proofs.lemmas.Bool.{cases_eq}
 use Rattle.std.proofs.lemmas.List.{take_more, take_all}

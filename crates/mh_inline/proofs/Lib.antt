@@ -13,3 +13,6 @@ pub mod Same
 pub mod Sentences
 pub mod OriginOrder
 pub mod Lasting
+pub mod Listed
+pub mod Ranked
+pub mod Moved

@@ -1,17 +1,13 @@
 -- Origins in their order, as they are put among others.
-use Rattle.std.proofs.Common.{◌≡◌, ℕ, zero, suc, ◌+◌, ◌<◌, ◌≤◌, ◌⊎◌, ◌↔◌, true, false, List, [], ◌∷◌, Some, length, get_or, refl, sym, ap, ◌∙◌, arith, inl, inr, subst}
-use Rattle.std.specs.List.{slice_get, Contains}
+use Rattle.std.proofs.Common.{◌≡◌, ℕ, ◌+◌, ◌<◌, ◌≤◌, ◌⊎◌, true, false, List, [], Some, length, refl, sym, ap, ◌∙◌, arith, inl, inr, subst}
+use Rattle.std.specs.List.{slice_get}
 use Rattle.std.specs.declared.cmp.Ordering.{Ordering}
 use Rattle.std.specs.declared.cmp.Ordering.TheVariants.{Less, Equal, Greater}
-use Rattle.std.specs.Ordering.{match_ordering, nat_cmp, ordering_then}
+use Rattle.std.specs.Ordering.{nat_cmp, ordering_then}
 use Rattle.std.specs.BTreeSet.{BTreeSet, IsOrdered, insert_key}
-use Rattle.std.specs.List.Sorted.{IsStrictlySortedBy}
 use Rattle.std.proofs.lemmas.Bool.{false≢true, cases_eq}
 use Rattle.std.proofs.lemmas.Bool.Decides.{nat_tests}
 use Rattle.std.proofs.lemmas.Option.{same_Some, slice_get_within}
-use Rattle.std.proofs.lemmas.Map.Keys.{sorted_tail}
-use Rattle.std.proofs.lemmas.Map.Views.{All-after_first}
-use Rattle.std.proofs.lemmas.List.Elements.{All-weaker, recursion_from_All}
 use Rattle.mh_grammar.specs.Edges.{IsRising}
 use Rattle.mh_grammar.proofs.Lists as lists
 use Rattle.mh_grammar.proofs.Lists.{contains_none, inserted_contains}

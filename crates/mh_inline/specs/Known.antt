@@ -1,6 +1,5 @@
 -- Unfoldings that are known, by the numbers of their instances.
-use Rattle.std.specs.Prelude.{◌≡◌, ℕ, true, List, Option, Some, length, slice_get}
-use Rattle.std.specs.List.{Contains}
+use Rattle.std.specs.Prelude.{◌≡◌, ℕ, true, List, Option, Some, slice_get}
 use Rattle.mh_rules.specs.declared.instances.Part.{Part}
 use Rattle.mh_rules.specs.declared.instances.Part.TheVariants.{Instance as Applied}
 use Rattle.mh_rules.specs.declared.instances.InstanceProduction.{InstanceProduction}

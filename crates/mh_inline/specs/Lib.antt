@@ -1,6 +1,7 @@
 pub mod Faults
 pub mod Found
 pub mod Inlined
+pub mod Passing
 pub mod Instances
 pub mod Known
 pub mod Making
@@ -8,3 +9,5 @@ pub mod Sentences
 pub mod Sizes
 pub mod Unfoldings
 pub mod Uses
+pub mod Searching
+pub mod Ranks

@@ -4,9 +4,11 @@ ghost use Rattle.mh_inline.specs.Instances.{is_inlined, Reaches};
 ghost use Rattle.mh_rules.specs.Ready.{IsExpandedReady};
 ghost use Rattle.mh_inline.specs.Faults.{HasNoCycle, IsFirstCyclicAt};
 ghost use Rattle.mh_inline.specs.Found.{Adds, AreQueued, IsAmong, IsIn, IsMadeOf, IsSame, IsTable};
+ghost use Rattle.mh_inline.specs.Ranks.{AreRanked};
 ghost use Rattle.mh_inline.specs.Sizes.{AreAllSized, AreSettled, IsSizing};
 
 use crate::instances::{inline_part, is_inline};
+use crate::ranks::{are_ranked, is_on_no_cycle};
 use crate::sizes::Sizing;
 use mh_grammar::Memory;
 use mh_rules::{Expanded, InstanceProduction, Part};
@@ -108,38 +110,64 @@ fn is_cyclic(alloc: Global, expanded: &Expanded, number: usize) -> Result<bool, 
     Ok(found.flags[number])
 }
 
-/// Whether an instance reaches itself. One that is not inline or has a size does not.
+/// Whether an instance reaches itself. One that is not inline or has a size does not, nor one of which the ranks tell so.
 fn reaches_itself(
     alloc: Global,
     expanded: &Expanded,
     sizing: &Sizing,
+    ranks: &[usize],
     number: usize,
 ) -> Result<bool, Memory>
     requires sizing { IsSizing expanded.now.instances sizing.now }
+    requires ranks { AreRanked expanded.now.instances ranks.now }
     requires number { number < length expanded.now.instances }
     ensures { IfOk result (λ cyclic. IsTrue cyclic ↔ Reaches expanded.now.instances number number) }
 {
     if !is_inline(expanded, number) || sizing.sizes[number].is_some() {
         return Ok(false);
     }
+    if is_on_no_cycle(alloc, expanded, ranks, number)? {
+        return Ok(false);
+    }
     is_cyclic(alloc, expanded, number)
 }
 
-/// The first inline instance that reaches itself.
+/// The first inline instance that reaches itself. Where the ranks are those of components, the first that is searched from is it.
+fn first_cyclic_by(
+    alloc: Global,
+    expanded: &Expanded,
+    sizing: &Sizing,
+    ranks: &[usize],
+) -> Result<Option<usize>, Memory>
+    requires sizing { IsSizing expanded.now.instances sizing.now }
+    requires settled { AreSettled expanded.now.instances sizing.now.sizes.items }
+    requires ranks { AreRanked expanded.now.instances ranks.now }
+    ensures first { IfOk result (λ found. MatchOption found (HasNoCycle expanded.now) (IsFirstCyclicAt expanded.now)) }
+    ensures sized { IfOk result (λ found. IfNone found (AreAllSized expanded.now.instances sizing.now.sizes.items)) }
+{
+    for number in 0..expanded.instances.len() {
+        if reaches_itself(alloc, expanded, sizing, ranks, number)? {
+            return Ok(Some(number));
+        }
+    }
+    Ok(None)
+}
+
+/// The same with any numbers for ranks: where they are none, each instance counts as of one rank.
 pub(crate) fn first_cyclic(
     alloc: Global,
     expanded: &Expanded,
     sizing: &Sizing,
+    ranks: &[usize],
 ) -> Result<Option<usize>, Memory>
     requires sizing { IsSizing expanded.now.instances sizing.now }
     requires settled { AreSettled expanded.now.instances sizing.now.sizes.items }
     ensures first { IfOk result (λ found. MatchOption found (HasNoCycle expanded.now) (IsFirstCyclicAt expanded.now)) }
     ensures sized { IfOk result (λ found. IfNone found (AreAllSized expanded.now.instances sizing.now.sizes.items)) }
 {
-    for number in 0..expanded.instances.len() {
-        if reaches_itself(alloc, expanded, sizing, number)? {
-            return Ok(Some(number));
-        }
+    if are_ranked(alloc, expanded, ranks)? {
+        first_cyclic_by(alloc, expanded, sizing, ranks)
+    } else {
+        first_cyclic_by(alloc, expanded, sizing, &[])
     }
-    Ok(None)
 }

@@ -8,9 +8,11 @@ ghost use Rattle.mh_inline.specs.Sizes.{AreAllSized, IsSizing};
 ghost use Rattle.mh_inline.specs.Inlined.{AreOrigins, IsInlined};
 ghost use Rattle.mh_inline.specs.Making.{AreOriginsSmall};
 ghost use Rattle.mh_inline.specs.Faults.{HasEmptyStart, HasNoCycle, HasNoInlineStart, IsFault, IsFirstCyclicAt, IsFirstInlineStartAt, IsFirstUnmarked, IsGrammarOf, IsNamed, IsSmall};
+ghost use Rattle.mh_inline.specs.Searching.{IsSearch};
 ghost use Rattle.mh_inline.specs.Sentences.{KeepsSentences};
 
 use crate::cycles::first_cyclic;
+use crate::depth::{Search, depth_first};
 use crate::fault::InlineFault;
 use crate::instances::is_inline;
 use crate::nonterminals::{nonterminals_of, numbers_of, starts_of};
@@ -176,6 +178,24 @@ fn inline_acyclic(
     }
 }
 
+/// The grammar, or the first fault, behind a search.
+fn inline_searched(
+    alloc: Global,
+    expanded: &Expanded,
+    search: &Search,
+) -> Result<Grammar, InlineFault>
+    requires ready { IsExpandedReady expanded.now }
+    requires search { IsSearch (length expanded.now.instances) search.now }
+    ensures grammar { IfOk result (IsGrammarOf expanded.now) }
+    ensures fault { IfErr result (IsFault expanded.now) }
+{
+    let sizing = inline_sizes(alloc, expanded, search.left.as_slice())?;
+    match first_cyclic(alloc, expanded, &sizing, search.ranks.as_slice())? {
+        Some(number) => Err(cycle_fault(expanded, number)),
+        None => inline_acyclic(alloc, expanded, &sizing),
+    }
+}
+
 /// The grammar that the instances give when each inline producer is replaced by each of its own alternatives, in turn fully
 /// inlined (Menhir manual, `%inline`), or the first fault. Each start has the same sentences as before.
 ///
@@ -197,9 +217,6 @@ pub fn inline_rules(alloc: Global, expanded: &Expanded) -> Result<Grammar, Inlin
     ensures distinct { IfOk result (λ g. AreDistinct g.starts) }
     ensures sentences { IfOk result (KeepsSentences expanded.now) }
 {
-    let sizing = inline_sizes(alloc, expanded)?;
-    match first_cyclic(alloc, expanded, &sizing)? {
-        Some(number) => Err(cycle_fault(expanded, number)),
-        None => inline_acyclic(alloc, expanded, &sizing),
-    }
+    let search = depth_first(alloc, expanded)?;
+    inline_searched(alloc, expanded, &search)
 }

@@ -3,13 +3,16 @@
 #![tactic(auto)]
 
 mod cycles;
+mod depth;
 mod fault;
 mod inlining;
 mod instances;
 mod laws;
 mod nonterminals;
 mod origins;
+mod passing;
 mod productions;
+mod ranks;
 mod sizes;
 mod unfoldings;
 mod uses;

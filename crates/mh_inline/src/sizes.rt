@@ -1,5 +1,6 @@
 //! How many unfoldings there are, and how long they are, without making them: there may be exponentially many.
 ghost use Rattle.std.specs.Prelude.{◌≡◌, ◌+◌, ◌*◌, ◌<◌, ◌↔◌, [], ◌∷◌, false, min, max, length, IfOk, OnOk, OnSome, IsTrue, MatchOption};
+ghost use Rattle.std.specs.List.{All};
 ghost use Rattle.mh_rules.specs.Ready.{IsExpandedReady};
 ghost use Rattle.mh_inline.specs.Sizes.{AreEachSized, AreSettled, AreSized, AreSizes, IsBlocked, IsEachBlocked, IsEachSize, IsPartSize, IsSettled, IsSideSize, IsSizing, IsWithin, unsized_count};
 
@@ -162,9 +163,28 @@ fn size_once(expanded: &Expanded, sizing: &mut Sizing) -> Result<bool, Memory>
     Ok(changed)
 }
 
-/// The sizes of the inline instances; those that reach a cycle have none.
-pub(crate) fn inline_sizes(alloc: Global, expanded: &Expanded) -> Result<Sizing, Memory>
-    requires { IsExpandedReady expanded.now }
+/// Sizes the instances of an order one after the other, where the sizes of what they are made of are known.
+fn size_in_order(expanded: &Expanded, sizing: &mut Sizing, order: &[usize]) -> Result<(), Memory>
+    requires ready { IsExpandedReady expanded.now }
+    requires sizing { IsSizing expanded.now.instances sizing.old }
+    requires order { All (λ n. n < length expanded.now.instances) order.now }
+    ensures { OnOk result (IsSizing expanded.now.instances sizing.new) }
+{
+    for number in order {
+        size_one(expanded, sizing, *number)?;
+    }
+    Ok(())
+}
+
+/// The sizes of the inline instances; those that reach a cycle have none. Where each stands in the order behind those that it is
+/// made of, the passes behind it find nothing left to size, so there is one.
+pub(crate) fn inline_sizes(
+    alloc: Global,
+    expanded: &Expanded,
+    order: &[usize],
+) -> Result<Sizing, Memory>
+    requires ready { IsExpandedReady expanded.now }
+    requires order { All (λ n. n < length expanded.now.instances) order.now }
     ensures sizing { IfOk result (IsSizing expanded.now.instances) }
     ensures settled { IfOk result (λ s. AreSettled expanded.now.instances s.sizes.items) }
 {
@@ -172,6 +192,7 @@ pub(crate) fn inline_sizes(alloc: Global, expanded: &Expanded) -> Result<Sizing,
         sizes: vec![in alloc; None; expanded.instances.len()]?,
         order: Vec::new(alloc),
     };
+    size_in_order(expanded, &mut sizing, order)?;
     let mut changed = true;
     while changed {
         changed = size_once(expanded, &mut sizing)?;

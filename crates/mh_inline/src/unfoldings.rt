@@ -1,18 +1,21 @@
 //! What producers become when each inline one is replaced by one of its own alternatives.
-ghost use Rattle.std.specs.Prelude.{◌≡◌, ◌++◌, ◌∷◌, [], List, map, IfOk, OnOk, length};
+ghost use Rattle.std.specs.Prelude.{◌≡◌, ◌++◌, ◌∷◌, [], List, map, IfOk, OnOk, IfSome, length};
 ghost use Rattle.mh_inline.specs.declared.unfoldings.Unfolding.{Unfolding as Unfolded};
 ghost use Rattle.mh_rules.specs.Ready.{IsExpandedReady};
 ghost use Rattle.mh_inline.specs.Unfoldings.{choices, joined, nothing, only, own, rightmost, Unfolds, UnfoldsEach, UnfoldsPart};
 ghost use Rattle.mh_inline.specs.Known.{AreKnown, AreEachKnown, Extends, IsNext};
+ghost use Rattle.mh_inline.specs.Passing.{PassesOn, without};
 ghost use Rattle.mh_inline.specs.Uses.{KnowsUsed};
 ghost use Rattle.mh_inline.specs.Sizes.{AreSmall, IsSizing};
 
 use crate::instances::inline_part;
+use crate::passing::{Passed, pass_on, passed_last};
 use crate::sizes::{Sizing, is_small};
 use crate::uses::{forget, inlined_in, last_uses};
 use mh_grammar::{Memory, Sequence};
 use mh_rules::{Expanded, InstanceProduction, Part, Prec};
 use std::alloc::Global;
+use std::mem;
 
 /// Producers none of which is inline, and the `%prec` that came with what was inlined.
 #[derive(Debug, Drop)]
@@ -133,7 +136,11 @@ fn just_nothing(alloc: Global) -> Result<Vec<Unfolding>, Memory>
     Ok(all)
 }
 
-fn add_own(all: &mut Vec<Unfolding>, prec: Prec, unfoldings: Vec<Unfolding>) -> Result<(), Memory>
+pub(crate) fn add_own(
+    all: &mut Vec<Unfolding>,
+    prec: Prec,
+    unfoldings: Vec<Unfolding>,
+) -> Result<(), Memory>
     ensures { OnOk result (all.new.items ≡ all.old.items ++ map (own prec) unfoldings.items) }
 {
     for choice in unfoldings {
@@ -194,9 +201,34 @@ fn unfold_one(
     Ok(Sequence::from_vec(all))
 }
 
+/// The same, where those that are passed on are moved.
+fn unfold_next(
+    alloc: Global,
+    expanded: &Expanded,
+    sizing: &Sizing,
+    known: &mut Vec<Sequence<Unfolding>>,
+    number: usize,
+    passed: Option<Passed>,
+) -> Result<Sequence<Unfolding>, Memory>
+    requires ready { IsExpandedReady expanded.now }
+    requires next { IsNext expanded.now.instances sizing.now.sizes.items known.old.items number }
+    requires known { length known.old.items ≡ length expanded.now.instances }
+    requires passed { IfSome passed (PassesOn expanded.now.instances number) }
+    ensures unfoldings { IfOk result (λ all. (us : List Unfolded) → UnfoldsPart expanded.now.instances (Part.Instance number) us → AreSmall us → all ≡ us) }
+    ensures known { known.new.items ≡ without passed known.old.items }
+{
+    match passed {
+        Some(passed) => {
+            let list = mem::replace(&mut known[passed.from], Sequence::new(alloc));
+            pass_on(alloc, passed.prec, list)
+        }
+        None => unfold_one(alloc, expanded, sizing, known, number),
+    }
+}
+
 /// The unfoldings of each inline instance that an instance which is not inline is made of, where it has no more and no longer
 /// ones than a grammar may have. Others are let go once they have gone into all that is made of them, so that a chain of
-/// inline instances holds two lists at a time.
+/// inline instances holds two lists at a time, and one where each passes on those of the next.
 pub(crate) fn unfold_inline(
     alloc: Global,
     expanded: &Expanded,
@@ -208,19 +240,15 @@ pub(crate) fn unfold_inline(
 {
     let order = sizing.order.as_slice();
     let last = last_uses(alloc, expanded, order)?;
+    let until = last.as_slice();
     let mut known = no_unfoldings(alloc, expanded.instances.len())?;
     for (place, number) in order.iter().enumerate() {
         let at = *number as usize;
-        let all = unfold_one(alloc, expanded, sizing, &known, at)?;
+        let passed = passed_last(expanded, until, at, place);
+        let all = unfold_next(alloc, expanded, sizing, &mut known, at, passed)?;
         known[at] = all;
         let numbers = inlined_in(alloc, expanded, at)?;
-        forget(
-            alloc,
-            &mut known,
-            last.as_slice(),
-            numbers.as_slice(),
-            place,
-        );
+        forget(alloc, &mut known, until, numbers.as_slice(), place);
     }
     Ok(known)
 }

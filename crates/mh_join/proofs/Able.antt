@@ -13,17 +13,17 @@ use Rattle.mh_rules.specs.declared.modules.Rule.{Rule}
 use Rattle.mh_rules.specs.declared.modules.Module.{Module}
 use Rattle.mh_rules.specs.declared.joined.Head.{Head}
 use Rattle.mh_rules.specs.declared.joined.Joined.{Joined}
-use Rattle.mh_join.specs.declared.fault.JoinFault.{JoinFault}
-use Rattle.mh_join.specs.declared.fault.JoinFault.TheVariants as faults
-use Rattle.mh_join.specs.declared.names.Names.{Names}
-use Rattle.mh_join.specs.declared.numbering.Outline.{Outline}
-use Rattle.mh_join.specs.Prelude.{prelude_rules}
-use Rattle.mh_join.specs.Names.{Text, same, files, formal_number, start_names, definitions, definitions_in, library_definitions, is_elsewhere, rules}
-use Rattle.mh_join.specs.Faults.{Meanings, meant_by, refs, is_error, text_of, unless, undefined, undefined_in_actual, undefined_in_alternative, undefined_prec, undefined_in_rule, undefined_start, undefined_in_level, undefined_in_on_error, undefined_in_declarations, undefined_in_file, duplicates, has_some, error_token, errors_in_actual, errors_in_alternative, errors_in_rule, errors_in_file, unlevelled_in_file, many_tokens, other_faults, faults_by}
-use Rattle.mh_join.specs.Joining.{IsJoinedBy, IsJoined}
-use Rattle.mh_join.specs.Maps.{meanings_in, elsewhere_in, HasMeanings}
-use Rattle.mh_join.specs.Standing.{unresolved, unresolved_in_rule, unresolved_in_rules, unresolved_in_file, unresolved_on_error, CanJoin, definitions_by}
-use Rattle.mh_join.proofs.Resolving.{front_nil, back_nil}
+use Rattle.mh_meanings.specs.declared.fault.JoinFault.{JoinFault}
+use Rattle.mh_meanings.specs.declared.fault.JoinFault.TheVariants as faults
+use Rattle.mh_meanings.specs.declared.names.Names.{Names}
+use Rattle.mh_meanings.specs.declared.outlines.Outline.{Outline}
+use Rattle.mh_meanings.specs.Prelude.{prelude_rules}
+use Rattle.mh_meanings.specs.Names.{Text, same, files, formal_number, start_names, definitions, definitions_in, library_definitions, is_elsewhere, rules}
+use Rattle.mh_meanings.specs.Faults.{Meanings, meant_by, refs, is_error, text_of, unless, undefined, undefined_in_actual, undefined_in_alternative, undefined_prec, undefined_in_rule, undefined_start, undefined_in_level, undefined_in_on_error, undefined_in_declarations, undefined_in_file, duplicates, has_some, error_token, errors_in_actual, errors_in_alternative, errors_in_rule, errors_in_file, unlevelled_in_file, many_tokens, other_faults, faults_by}
+use Rattle.mh_meanings.specs.Joining.{IsJoinedBy, IsJoined}
+use Rattle.mh_meanings.specs.Maps.{meanings_in, elsewhere_in, HasMeanings}
+use Rattle.mh_building.specs.Standing.{unresolved, unresolved_in_rule, unresolved_in_rules, unresolved_in_file, unresolved_on_error, CanJoin, definitions_by}
+use Rattle.mh_meanings.proofs.Resolving.{front_nil, back_nil}
 use Rattle.mh_join.proofs.Library.{number_known, prelude_stands}
 
 -- where one thing finds nothing at each item, another does not

@@ -10,9 +10,9 @@ use Rattle.mh_rules.specs.declared.modules.TokenDecl.{TokenDecl}
 use Rattle.mh_rules.specs.declared.modules.Module.{Module}
 use Rattle.mh_rules.specs.declared.joined.Joined.{Joined}
 use Rattle.mh_rules.specs.Ready.{IsTokenReady, IsModuleReady, AreModulesReady}
-use Rattle.mh_join.specs.Names.{Text, same, given_cost, cost_by, costs, cost_of}
-use Rattle.mh_join.specs.Faults.{meanings}
-use Rattle.mh_join.specs.Joining.{token_info, IsJoined}
+use Rattle.mh_meanings.specs.Names.{Text, same, given_cost, cost_by, costs, cost_of}
+use Rattle.mh_meanings.specs.Faults.{meanings}
+use Rattle.mh_meanings.specs.Joining.{token_info, IsJoined}
 
 abbrev IsPriced : Text × ℕ → Type 0
 IsPriced e = IsCost e.1

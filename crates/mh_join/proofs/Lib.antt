@@ -1,12 +1,3 @@
-pub mod Lists
-pub mod Finding
-pub mod Actuals
-pub mod Defining
-pub mod Numbers
-pub mod Meaning
-pub mod Seeing
-pub mod Resolving
-pub mod Adding
 pub mod Library
 pub mod Able
 pub mod Costing

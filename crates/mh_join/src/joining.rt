@@ -1,43 +1,17 @@
 //! Several files as one list of rules.
 ghost use Rattle.std.specs.Prelude.{◌≡◌, IfOk};
-ghost use Rattle.mh_join.specs.Joining.{IsJoinedBy, Joins};
-ghost use Rattle.mh_join.specs.Maps.{meanings_in, elsewhere_in, HasMeanings};
-ghost use Rattle.mh_join.specs.Prelude as spec;
+ghost use Rattle.mh_meanings.specs.Joining.{Joins};
+ghost use Rattle.mh_meanings.specs.Maps.{HasMeanings};
+ghost use Rattle.mh_meanings.specs.Prelude as spec;
 ghost use Rattle.mh_rules.specs.Ready.{AreModulesReady, IsReady};
-ghost use Rattle.mh_join.specs.Standing.{CanJoin, definitions_by};
 
-use crate::building::{joined_on_error, joined_rules, joined_starts, joined_tokens};
-use crate::errors::check;
-use crate::fault::JoinFault;
-use crate::names::Names;
-use crate::prelude::prelude_rules;
-use mh_grammar::Memory;
+use crate::checking::check;
+use mh_building::joined;
+use mh_meanings::{JoinFault, Names};
+use mh_naming::names_of;
+use mh_prelude::prelude_rules;
 use mh_rules::{Joined, Module, Rule};
 use std::alloc::Global;
-
-/// The files joined, where nothing is in the way.
-fn joined(
-    alloc: Global,
-    names: &Names,
-    modules: &[Module],
-    library: &[Rule],
-) -> Result<Joined, Memory>
-    requires { CanJoin names.now modules.now library.now }
-    ensures { IfOk result
-        (IsJoinedBy (meanings_in names.now) (elsewhere_in names.now) names.now.numbering.rules.items
-        (definitions_by names.now modules.now library.now) modules.now) }
-{
-    let tokens = joined_tokens(alloc, names)?;
-    let starts = joined_starts(alloc, names)?;
-    let on_error = joined_on_error(alloc, names, modules)?;
-    let rules = joined_rules(alloc, names, modules, library)?;
-    Ok(Joined {
-        tokens,
-        starts,
-        on_error,
-        rules,
-    })
-}
 
 /// Joins files whose names are known.
 fn join_named(
@@ -70,7 +44,7 @@ fn join_with(
     requires { library.now ≡ spec.prelude_rules prelude }
     ensures { Joins prelude modules.now result }
 {
-    match Names::of(alloc, modules, prelude, library) {
+    match names_of(alloc, modules, prelude, library) {
         Ok(names) => join_named(alloc, &names, modules, prelude, library),
         Err(_) => Err(JoinFault::Memory),
     }

@@ -3,7 +3,7 @@ use Rattle.std.proofs.Common.{◌≡◌, ◌∷◌, List, Option, None, Some, []
 use Rattle.std.specs.Bool.{⊤}
 use Rattle.mh_grammar.specs.declared.types.Grammar.{Grammar}
 use Rattle.mh_opts.specs.declared.jobs.Job.{Job}
-use Rattle.mh_opts.specs.declared.jobs.Job.TheVariants.{Interpret, InterpretError, Session, ShowAutomaton, ListErrors, CompareErrors, CompileErrors, EchoErrors, UpdateErrors}
+use Rattle.mh_opts.specs.declared.jobs.Job.TheVariants.{Interpret, InterpretError, Session, ShowAutomaton, WriteTables, ListErrors, CompareErrors, CompileErrors, EchoErrors, UpdateErrors, Sample}
 use Rattle.mh_outside.specs.Shelf.{Files, Found}
 use Rattle.mh_report.proofs.OneText.{text_once}
 use Rattle.mh_replies.proofs.Once.{answer_once as line_once}
@@ -26,7 +26,7 @@ use Rattle.mh_modes.specs.Compared.{compared}
 use Rattle.mh_modes.specs.Files.{files_of_job, named}
 use Rattle.mh_modes.specs.Listing.{ListsErrors, Lists, TooLong, too_long}
 use Rattle.mh_modes.specs.MessagesStage.{AreBoth, AreMessages, IsMessagesFile, IsUpdatedFile, Messages}
-use Rattle.mh_modes.specs.Plan.{Answers, Automaton, End, Ends, EndsBy, EndsWith, Errors, Explains, IsPlanOfJob, Judges, Known, MessagesFor, Plan, Serves, halts, judges, plan_by, tells}
+use Rattle.mh_modes.specs.Plan.{Answers, Automaton, End, Ends, EndsBy, EndsWith, Errors, Explains, IsPlanOfJob, Judges, Known, MessagesFor, Plan, Serves, halts, judges, plan_by, tables_of, tells, Sampled}
 use Rattle.mh_modes.specs.Verdicts.{Answering}
 use Rattle.mh_modes.specs.declared.modes.at_end.Told.{Told}
 use Rattle.mh_modes.specs.declared.modes.at_end.Told.TheVariants.{Said, Not}
@@ -38,6 +38,7 @@ use Rattle.mh_modes.proofs.Reading.{IsRead, Runs, StagedRight, one_file}
 use Rattle.mh_modes.proofs.Turning.{Turn, no_turn, turn_of_named}
 use Rattle.mh_modes.proofs.Refusals.{list_cause_once, list_out_once}
 use Rattle.mh_modes.proofs.Telling.{told_once}
+use Rattle.mh_modes.proofs.Sampling.{counts_cause_once, counts_out_once, counts_right}
 
 -- ---- for which causes a mode may end
 
@@ -130,7 +131,9 @@ facts_of Interpret p = judging p p.order.messages
 facts_of InterpretError p = fixed p (Explains p []) (λ by is. cc) (λ Right. tt)
 facts_of Session p = fixed p (Serves p.grammar p.tabled.halting []) (λ by is. cc) (λ Right. tt)
 facts_of ShowAutomaton p = fixed p (Ends (Automaton p)) (λ by is. cc) (λ Right. tt)
+facts_of WriteTables p = fixed p (tells (Said (tables_of p))) (λ by is. cc) (λ Right. tt)
 facts_of ListErrors p = fixed p (Ends (Errors p)) (λ by is. cc) (λ Right. tt)
+facts_of (Sample number) p = fixed p (Ends (Sampled number p)) (λ by is. cc) (λ Right. tt)
 facts_of (CompileErrors file) p = reading p (file ∷ []) (λ files. IsFile files (AreMessages p.grammar p.tabled.halting) file) (one_checked p file) (λ messages. tells (Said (compiled_text messages))) (λ messages by is. cc) (λ Right may messages. tt)
 facts_of (EchoErrors file) p =
     reading p (file ∷ []) (λ files. IsFile files (IsMessagesFile p.grammar) file) (one_file p file (IsMessagesFile p.grammar) (spelling p.grammar) (λ runs name bytes short. some_spelled p.grammar name bytes)) (λ spelled. tells (Said (echo_text p.grammar spelled))) (λ spelled by is. cc)
@@ -165,6 +168,11 @@ end_facts (Errors p) = record {
   cause = λ x y is so. list_cause_once p.grammar p.tabled.automaton p.tabled.halting x.cause y.cause x.out y.out is so;
   out = λ x y is so. list_out_once p.grammar p.tabled.automaton p.tabled.halting x.cause y.cause x.out y.out is so;
   right = λ Right may e right is. list_right p Right may e is;
+}
+end_facts (Sampled number p) = record {
+  cause = λ x y is so. counts_cause_once p.grammar p.tabled.halting number x.cause y.cause x.out y.out is so;
+  out = λ x y is so. counts_out_once p.grammar p.tabled.halting number x.cause y.cause x.out y.out is so;
+  right = λ Right may e right is. counts_right p.grammar p.tabled.halting number (IsRight Right) may tt e.cause e.out is;
 }
 
 -- ---- a line has one answer, and a mode one end

@@ -6,6 +6,7 @@ pub mod Telling
 pub mod Refusals
 pub mod Both
 pub mod Updating
+pub mod Sampling
 pub mod EachMode
 pub mod Following
 pub mod Listed

@@ -21,7 +21,7 @@ not_below t s r long other lt =
     let le = cheap.3 in
     omega arith
 
-too_long_once : (t : TableData) (s r : ℕ) → TooLongAt t s → TooLongAt t r → s ≡ r
+pub too_long_once : (t : TableData) (s r : ℕ) → TooLongAt t s → TooLongAt t r → s ≡ r
 too_long_once t s r long other = elim (cases_lt s r) [
   | inl lt ↦ absurd (not_below t s r long other lt)
   | inr le ↦ elim (cases_lt r s) [ inl lt ↦ absurd (not_below t r s other long lt) | inr ge ↦ omega arith ]

@@ -4,6 +4,8 @@ pub mod Compared
 pub mod Explained
 pub mod MessagesStage
 pub mod Listing
+pub mod Sampled
+pub mod Counted
 pub mod Plan
 pub mod Files
 pub mod Modes

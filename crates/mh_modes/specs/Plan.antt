@@ -1,10 +1,12 @@
 -- Modes: which lines each asks for, how it answers them, and what it writes at its end. A mode is plain data.
-use Rattle.std.specs.Prelude.{◌≡◌, [], Option, None, Some}
+use Rattle.std.specs.Prelude.{◌≡◌, ℕ, [], Option, None, Some}
 use Rattle.mh_opts.specs.declared.jobs.Job.{Job}
-use Rattle.mh_opts.specs.declared.jobs.Job.TheVariants.{Interpret, InterpretError, Session, ShowAutomaton, ListErrors, CompileErrors, CompareErrors, EchoErrors, UpdateErrors}
+use Rattle.mh_opts.specs.declared.jobs.Job.TheVariants.{Interpret, InterpretError, Session, ShowAutomaton, WriteTables, ListErrors, CompileErrors, CompareErrors, EchoErrors, UpdateErrors, Sample}
 use Rattle.mh_outside.specs.Shelf.{Files}
 use Rattle.mh_report.specs.Automata.{IsAutomatonText}
 use Rattle.mh_grammar.specs.declared.types.Grammar.{Grammar}
+use Rattle.mh_tabfile.specs.Form.{table_text}
+use Rattle.mh_tabfile.specs.Written.{raw_of}
 use Rattle.mh_tables.specs.Table.{TableData}
 use Rattle.mh_session.specs.Answers.{Branches}
 use Rattle.mh_replies.specs.Replies.{AnswersLine}
@@ -26,6 +28,7 @@ use Rattle.mh_modes.specs.Compared.{compared}
 use Rattle.mh_modes.specs.Explained.{IsTold}
 use Rattle.mh_modes.specs.Told.{ending_of}
 use Rattle.mh_modes.specs.Listing.{ListsErrors}
+use Rattle.mh_modes.specs.Sampled.{CountsSample}
 use Rattle.mh_modes.specs.Verdicts.{Answering, AnswersOne}
 use Rattle.mh_modes.specs.declared.modes.at_end.Told.{Told}
 use Rattle.mh_modes.specs.declared.modes.at_end.Told.TheVariants.{Said}
@@ -38,12 +41,15 @@ pub data End : Type 0 where
   Automaton : Prepared → End
   -- the list of errors
   Errors : Prepared → End
+  -- the counts of the sample of this number
+  Sampled : ℕ → Prepared → End
 
 -- an end is of this kind
 abbrev pub EndsBy : End → Ending → Type 0
 EndsBy (Known end) e = e ≡ end
 EndsBy (Automaton p) e = (e.cause ≡ None) × IsAutomatonText p.grammar p.tabled.automaton (mode_of (source_of p.order)) p.tabled.halting e.out
 EndsBy (Errors p) e = ListsErrors p.grammar p.tabled.automaton p.tabled.halting e.cause e.out
+EndsBy (Sampled number p) e = CountsSample p.grammar p.tabled.halting number e.cause e.out
 
 -- a mode as it stands, between lines
 pub data Plan : Type 0 where
@@ -92,6 +98,10 @@ plan_by plan (Halt cause) = halts cause
 abbrev pub tells : Told → Plan
 tells told = Ends (Known (ending_of told))
 
+-- the table file of what was prepared
+abbrev pub tables_of : Prepared → Text
+tables_of p = table_text (raw_of p.grammar p.tabled.automaton (mode_of (source_of p.order)) p.tabled.halting.states)
+
 -- the messages that an order names, where it names a file of them
 abbrev pub MessagesFor : Option Text → Option Files → Prepared → Staged (Option Messages) → Type 0
 MessagesFor None files p s = Gives None s
@@ -107,7 +117,9 @@ IsPlanOfJob Interpret files p plan = (s : Staged (Option Messages)) × MessagesF
 IsPlanOfJob InterpretError files p plan = plan ≡ Explains p []
 IsPlanOfJob Session files p plan = plan ≡ Serves p.grammar p.tabled.halting []
 IsPlanOfJob ShowAutomaton files p plan = plan ≡ Ends (Automaton p)
+IsPlanOfJob WriteTables files p plan = plan ≡ tells (Said (tables_of p))
 IsPlanOfJob ListErrors files p plan = plan ≡ Ends (Errors p)
+IsPlanOfJob (Sample number) files p plan = plan ≡ Ends (Sampled number p)
 IsPlanOfJob (CompileErrors file) files p plan = (s : Staged Messages) × IsFile files (AreMessages p.grammar p.tabled.halting) file s × (plan ≡ plan_by (λ messages. tells (Said (compiled_text messages))) s)
 IsPlanOfJob (EchoErrors file) files p plan = (s : Staged MsgFile) × IsFile files (IsMessagesFile p.grammar) file s × (plan ≡ plan_by (λ spelled. tells (Said (echo_text p.grammar spelled))) s)
 IsPlanOfJob (UpdateErrors file) files p plan = (s : Staged Text) × IsUpdatedFile files p file s × (plan ≡ plan_by (λ text. tells (Said text)) s)

@@ -12,8 +12,10 @@ mod comparing;
 mod compiling;
 mod echoing;
 mod explaining;
+mod exporting;
 mod judging;
 mod listing;
+mod sampling;
 mod serving;
 mod showing;
 mod updating;
@@ -23,12 +25,14 @@ use comparing::compare_by;
 use compiling::compile_by;
 use echoing::echo_by;
 use explaining::explain_by;
+use exporting::Exporting;
 use judging::judge_by;
 use listing::Listing;
 use mh_drive::{Stop, drive, drive_opened};
 use mh_opts::Job;
 use mh_outside::{Shelf, Sink, Source};
 use mh_prepare::Prepared;
+use sampling::Sampling;
 use serving::serve_on;
 use showing::Showing;
 use std::alloc::Global;
@@ -61,8 +65,19 @@ pub fn follow<F: Shelf, I: Source, O: Sink, const W: usize>(
             let writer = Showing { prepared };
             drive(alloc, AtEnd { writer }, input, out)
         }
+        Job::WriteTables => {
+            let writer = Exporting { prepared };
+            drive(alloc, AtEnd { writer }, input, out)
+        }
         Job::ListErrors => {
             let writer = Listing { prepared };
+            drive(alloc, AtEnd { writer }, input, out)
+        }
+        Job::Sample { number } => {
+            let writer = Sampling {
+                prepared,
+                number: *number,
+            };
             drive(alloc, AtEnd { writer }, input, out)
         }
         Job::CompileErrors { file } => {

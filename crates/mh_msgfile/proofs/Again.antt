@@ -1,26 +1,24 @@
 -- What `print_messages` writes is read again with the same sentences and messages.
-use Rattle.std.proofs.Common.{◌≡◌, ◌≢◌, ◌⊎◌, ◌<◌, ◌≤◌, ◌+◌, ◌-◌, ◌==◌, ◌&&◌, ℕ, zero, suc, Bool, true, false, not, cond, List, [], ◌∷◌, ◌++◌, length, map, take, drop, filter, flat_map, Option, None, Some, refl, sym, ◌∙◌, ap, subst, if◌then◌else◌, arith, nat_lt, inl, inr, append_assoc, append-nil, add-one, get_or, get_or-take, slice_index}
+use Rattle.std.proofs.Common.{◌≡◌, ◌≢◌, ◌<◌, ◌≤◌, ◌+◌, ◌-◌, ◌==◌, ◌&&◌, ℕ, zero, suc, Bool, true, false, not, cond, List, [], ◌∷◌, ◌++◌, length, map, take, drop, filter, flat_map, refl, sym, ◌∙◌, ap, subst, if◌then◌else◌, arith, nat_lt, append_assoc, add-one, get_or-take, slice_index}
 use Rattle.std.specs.Prelude.{slice_index_or}
-use Rattle.std.specs.List.{list_all, AllByRecursion, Contains, All}
-use Rattle.std.proofs.lemmas.Bool.{cases_Bool, eqb-true, cond-true, cond-false}
+use Rattle.std.specs.List.{list_all, AllByRecursion, Contains}
+use Rattle.std.proofs.lemmas.Bool.{eqb-true, cond-false}
 use Rattle.std.proofs.lemmas.List.{map-append, length-take-le, take_all}
 use Rattle.std.proofs.Math.Seq.{take-suc}
 use Rattle.std.proofs.lemmas.Bool.Decides.{nat_tests}
 use Rattle.std.proofs.lemmas.Grind.{flat_map-append}
 use Rattle.bstr.specs.Text.{no_cr}
 use Rattle.mh_grammar.specs.declared.types.Grammar.{Grammar}
-use Rattle.mh_grammar.specs.declared.types.Sentence.{Sentence}
 use Rattle.mh_grammar.proofs.Lists.{contains_here, contains_there}
-use Rattle.mh_lex.specs.Words.{is_word}
-use Rattle.mh_msgfile.specs.Sentences.{Text, Vocabulary, vocabulary_of, put_first, fields, has_items, runs, is_blank, LineFound, IsSentence, IsUnreadable, NamesNoStart, LacksStart, NamesUnknown, sentence_in}
-use Rattle.mh_msgfile.specs.Messages.{HasNoEnd, AreLines, NoLine, LastLine, EndedLine, line_at, numbers_from, is_taken_out, is_kept, kept_lines, is_blank_line, blocks, message_of, FaultFound, BadShape, fault_at, sentence_at, faults_of, sentences_of, first_number, faults_in, entries_in, MsgSpells}
-use Rattle.mh_msgfile.specs.Printed.{names_after, sentence_text, sentence_line, sentence_lines, entry_text, file_text, HasNames, content_of, entry_content, HaveSameContent, HasNoCr}
+use Rattle.mh_msgfile.specs.Sentences.{Text, vocabulary_of, put_first, fields, has_items, runs, is_blank, LineFound, IsSentence, IsUnreadable, NamesNoStart, LacksStart, NamesUnknown, sentence_in}
+use Rattle.mh_msgfile.specs.Messages.{HasNoEnd, AreLines, NoLine, LastLine, EndedLine, line_at, numbers_from, is_taken_out, is_kept, kept_lines, blocks, message_of, FaultFound, BadShape, fault_at, sentence_at, faults_of, sentences_of, first_number, faults_in, entries_in, MsgSpells}
+use Rattle.mh_msgfile.specs.Printed.{sentence_text, sentence_line, sentence_lines, entry_text, file_text, HasNames, content_of, entry_content, HaveSameContent, HasNoCr}
 use Rattle.mh_msgfile.specs.declared.messages.MsgSentence.{MsgSentence}
 use Rattle.mh_msgfile.specs.declared.messages.Entry.{Entry}
 use Rattle.mh_msgfile.specs.declared.messages.MsgFile.{MsgFile}
 use Rattle.mh_msgfile.proofs.Below.{sentence_start, sentence_tokens}
 use Rattle.mh_msgfile.proofs.Fields.{run_none}
-use Rattle.mh_msgfile.proofs.Canonical.{and_left, and_right, Plain, Starts, run_plain, canonical_line, line_begins}
+use Rattle.mh_msgfile.proofs.Canonical.{and_left, and_right, Plain, run_plain, canonical_line, line_begins}
 
 -- ---- texts in place of numbers
 

@@ -1,6 +1,6 @@
 -- The canonical line of a sentence is read as that sentence.
-use Rattle.std.proofs.Common.{◌≡◌, ◌≢◌, ◌<◌, ◌≤◌, ◌+◌, ◌==◌, ◌&&◌, ℕ, zero, suc, Bool, true, false, List, [], ◌∷◌, ◌++◌, length, map, take, drop, filter, flat_map, Option, None, Some, refl, sym, ◌∙◌, ap, subst, if◌then◌else◌, arith, nat_lt, inl, inr, length-append, append_assoc, append-nil, get_or, add-one, unwrap_or, option_map, slice_index, ◌-◌}
-use Rattle.std.specs.Prelude.{slice_index_or, slice_get}
+use Rattle.std.proofs.Common.{◌≡◌, ◌≢◌, ◌<◌, ◌+◌, ◌==◌, ◌&&◌, ℕ, zero, suc, Bool, true, false, List, [], ◌∷◌, ◌++◌, length, map, take, drop, filter, Option, None, Some, refl, sym, ◌∙◌, ap, subst, arith, nat_lt, inl, inr, length-append, append-nil, get_or, add-one, unwrap_or, option_map, slice_index, ◌-◌}
+use Rattle.std.specs.Prelude.{slice_get}
 use Rattle.std.specs.List.{list_all, AllByRecursion, position_from}
 use Rattle.std.specs.Str.{bytes_eq}
 use Rattle.std.proofs.lemmas.Bool.{cases_Bool, eqb-true, eq-eqb, ne_eqb, cond-false}
@@ -9,14 +9,14 @@ use Rattle.std.proofs.lemmas.List.{length-map}
 use Rattle.std.proofs.lemmas.List.Elements.{All-from_recursion}
 use Rattle.std.proofs.lemmas.Option.{slice_get-map, slice_get-get_or, slice_get_within, unwrap_or-slice_get}
 use Rattle.std.proofs.lemmas.Slice.Eq.{bytes_eq-Decides}
-use Rattle.std.proofs.Math.Seq.{take-append_seam, drop-append_seam}
+use Rattle.std.proofs.Math.Seq.{take-append_seam}
 use Rattle.mh_lex.specs.Bytes.{is_word_start, is_word_byte}
 use Rattle.mh_lex.specs.Words.{is_word}
 use Rattle.mh_grammar.specs.declared.types.Grammar.{Grammar}
 use Rattle.mh_grammar.specs.declared.types.TokenInfo.{TokenInfo}
 use Rattle.mh_grammar.specs.declared.types.NontermInfo.{NontermInfo}
 use Rattle.mh_grammar.specs.Names.{token_name, start_name, nonterminal_name}
-use Rattle.mh_msgfile.specs.Sentences.{Text, Vocabulary, vocabulary_of, token_names, start_names, start_name as name_of_start, number_of, put_first, fields, has_items, runs, pieces, is_blank, Tokens, StartIs, put_token, start_or, tokens_of, start_by, with_start, IsSentence, IsUnreadable, sole, colon_place, sentence_from, sentence_behind, sentence_in}
+use Rattle.mh_msgfile.specs.Sentences.{Text, vocabulary_of, token_names, start_names, start_name as name_of_start, number_of, put_first, fields, has_items, runs, pieces, is_blank, Tokens, tokens_of, IsSentence, sole, colon_place, sentence_from, sentence_in}
 use Rattle.bstr.specs.Text.{no_cr}
 use Rattle.mh_msgfile.specs.Messages.{HasNoEnd, is_taken_out}
 use Rattle.mh_msgfile.specs.Printed.{names_after, sentence_text, HasNames}
@@ -62,7 +62,7 @@ not_byte b k is none = elim (cases_Bool (b == k)) [
 word_byte_plain : (b : ℕ) → is_word_byte b ≡ true → is_blank b ≡ false
 word_byte_plain b is = rw (not_byte b 32 is refl, not_byte b 9 is refl, not_byte b 13 is refl) refl
 
-word_byte_no_colon : (b : ℕ) → is_word_byte b ≡ true → (b == 58) ≡ false
+pub word_byte_no_colon : (b : ℕ) → is_word_byte b ≡ true → (b == 58) ≡ false
 word_byte_no_colon b is = not_byte b 58 is refl
 
 start_is_byte : (b : ℕ) → is_word_start b ≡ true → is_word_byte b ≡ true
@@ -86,7 +86,7 @@ no_colon (b ∷ w) rest is =
     rw (word_byte_no_colon b (and_left (is_word_byte b) (list_all is_word_byte w) is)) (ap (λ (n : ℕ). n + 1) (no_colon w rest (and_right (is_word_byte b) (list_all is_word_byte w) is)) ∙ add-one (length w))
 
 -- a word's bytes
-word_bytes : (w : Text) → is_word w ≡ true → list_all is_word_byte w ≡ true
+pub word_bytes : (w : Text) → is_word w ≡ true → list_all is_word_byte w ≡ true
 word_bytes [] is = refl
 word_bytes (b ∷ w) is =
     let first = start_is_byte b (and_left (is_word_start b) (list_all is_word_byte w) is) in
@@ -95,6 +95,10 @@ word_bytes (b ∷ w) is =
 pub word_piece : (w rest : Text) → is_word w ≡ true → Starts is_blank rest → pieces (w ++ rest) ≡ w ∷ pieces rest
 word_piece [] rest is starts = absurd (cc)
 word_piece (b ∷ w) rest is starts = run_plain is_blank b w rest (bytes_plain (b ∷ w) (word_bytes (b ∷ w) is)) starts
+
+pub behind : (w rest : Text) → drop (length w + 1) (w ++ 58 ∷ rest) ≡ rest
+behind [] rest = refl
+behind (b ∷ w) rest = ap (λ (k : ℕ). drop k (b ∷ (w ++ 58 ∷ rest))) (add-one (suc (length w))) ∙ sym (ap (λ (k : ℕ). drop k (w ++ 58 ∷ rest)) (add-one (length w))) ∙ behind w rest
 
 -- ---- numbers of names
 
@@ -144,7 +148,7 @@ module _ (g : Grammar) where
         let count : length (token_names g) ≡ length g.tokens = length-map g.tokens (λ (t : TokenInfo). t.name) in
         number_is (token_names g) (token_name g) token_at (λ y x a b. has.tokens_differ y x (omega arith) (omega arith)) z (omega arith)
 
-    start_found : (i : ℕ) → i < length g.starts → number_of (start_names g) (start_name g i) ≡ Some i
+    pub start_found : (i : ℕ) → i < length g.starts → number_of (start_names g) (start_name g i) ≡ Some i
     start_found i lt =
         let count : length (start_names g) ≡ length g.starts = length-map g.starts (name_of_start g) in
         number_is (start_names g) (start_name g) start_at (λ y x a b. has.starts_differ y x (omega arith) (omega arith)) i (omega arith)
@@ -166,11 +170,11 @@ module _ (g : Grammar) where
     names_pieces (z ∷ tokens) are =
         word_piece (token_name g z) (names_after g tokens) (has.token_words z are.0) (names_start tokens) ∙ ap (λ (l : List Text). token_name g z ∷ l) (names_pieces tokens are.1)
 
-    all_words : (tokens : List ℕ) → AreTokens tokens → list_all is_word (named tokens) ≡ true
+    pub all_words : (tokens : List ℕ) → AreTokens tokens → list_all is_word (named tokens) ≡ true
     all_words [] are = refl
     all_words (z ∷ tokens) are = rw (has.token_words z are.0) (all_words tokens are.1)
 
-    tokens_found : (tokens : List ℕ) → AreTokens tokens → tokens_of (vocabulary_of g) (named tokens) ≡ Tokens tokens
+    pub tokens_found : (tokens : List ℕ) → AreTokens tokens → tokens_of (vocabulary_of g) (named tokens) ≡ Tokens tokens
     tokens_found [] are = refl
     tokens_found (z ∷ tokens) are = rw (token_found z are.0, tokens_found tokens are.1) refl
 
@@ -194,10 +198,6 @@ module _ (g : Grammar) where
         let back : drop (colon_place line + 1) line ≡ names_after g tokens = ap (λ (k : ℕ). drop (k + 1) line) colon ∙ behind name (names_after g tokens) in
         let start : sole (pieces (take (colon_place line) line)) ≡ Some name = ap (λ (t : Text). sole (pieces t)) front ∙ word_alone name word in
         rw (within, start, back) (named_from i tokens lt are)
-      where
-        behind : (w rest : Text) → drop (length w + 1) (w ++ 58 ∷ rest) ≡ rest
-        behind [] rest = refl
-        behind (b ∷ w) rest = ap (λ (k : ℕ). drop k (b ∷ (w ++ 58 ∷ rest))) (add-one (suc (length w))) ∙ sym (ap (λ (k : ℕ). drop k (w ++ 58 ∷ rest)) (add-one (length w))) ∙ behind w rest
 
     -- ---- what a canonical line looks like
 

@@ -1,13 +1,12 @@
 -- The sentences of a file are sentences of the grammar, and no longer than the file.
-use Rattle.std.proofs.Common.{◌≡◌, ◌<◌, ◌≤◌, ◌+◌, ◌-◌, ◌^◌, ℕ, zero, suc, Bool, true, false, cond, List, [], ◌∷◌, ◌++◌, length, map, take, drop, filter, flat_map, Option, None, Some, refl, sym, ◌∙◌, ap, subst, if◌then◌else◌, arith, nat_lt, length-drop, length-append, slice_index, ◌&&◌, ◌==◌}
+use Rattle.std.proofs.Common.{◌≡◌, ◌<◌, ◌≤◌, ◌+◌, ◌-◌, ◌^◌, ℕ, zero, suc, Bool, true, false, cond, List, [], ◌∷◌, ◌++◌, length, take, drop, filter, Option, None, Some, refl, sym, subst, if◌then◌else◌, arith, nat_lt, length-drop, length-append, slice_index, ◌&&◌, ◌==◌}
 use Rattle.std.specs.Prelude.{slice_index_or}
-use Rattle.std.specs.List.{list_all, All, AllByRecursion}
-use Rattle.std.proofs.lemmas.List.{length-map, length-take-le}
+use Rattle.std.specs.List.{list_all, AllByRecursion}
+use Rattle.std.proofs.lemmas.List.{length-take-le}
 use Rattle.mh_lex.specs.Words.{is_word}
 use Rattle.mh_grammar.specs.declared.types.Sentence.{Sentence}
 use Rattle.mh_grammar.specs.declared.types.Grammar.{Grammar}
 use Rattle.mh_grammar.specs.Plain.{plain_of}
-use Rattle.bstr.specs.Text.{no_cr}
 use Rattle.mh_msgfile.specs.Sentences.{Text, Vocabulary, vocabulary_of, is_blank, put_first, fields, has_items, runs, pieces, TokensFound, Tokens, Unknown, StartFound, StartIs, NoSuchStart, NoStart, LineFound, IsSentence, IsUnreadable, NamesNoStart, LacksStart, NamesUnknown, put_token, tokens_of, start_by, with_start, sole, colon_place, sentence_from, sentence_behind, sentence_in}
 use Rattle.mh_msgfile.specs.Messages.{AreLines, NoLine, LastLine, EndedLine, line_at, sentence_at, sentences_of, entries_in, blocks, MsgSpells, IsOf, AreOf}
 use Rattle.mh_msgfile.specs.declared.messages.MsgSentence.{MsgSentence}

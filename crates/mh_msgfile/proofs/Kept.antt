@@ -1,7 +1,7 @@
 -- The numbers of the lines that are kept, one after another.
-use Rattle.std.proofs.Common.{◌≡◌, ◌+◌, ◌-◌, ◌<◌, ◌≤◌, ℕ, zero, suc, Bool, true, false, List, [], ◌∷◌, ◌++◌, filter, not, length, refl, sym, ap, ◌∙◌, if◌then◌else◌, arith, append_assoc, append-nil}
+use Rattle.std.proofs.Common.{◌≡◌, ◌+◌, ◌-◌, ◌<◌, ◌≤◌, ℕ, suc, Bool, true, false, List, [], ◌∷◌, ◌++◌, filter, length, refl, sym, ap, ◌∙◌, arith, append_assoc, append-nil}
 use Rattle.mh_msgfile.specs.Sentences.{Text}
-use Rattle.mh_msgfile.specs.Messages.{numbers_from, is_kept, is_taken_out, line_at, kept_lines}
+use Rattle.mh_msgfile.specs.Messages.{numbers_from, is_kept, kept_lines}
 
 numbers_step : (n p : ℕ) → p < n → numbers_from (p + 1) (n - p) ≡ (p + 1) ∷ numbers_from (p + 1 + 1) (n - (p + 1))
 numbers_step n p lt = let e : n - p ≡ suc (n - (p + 1)) = omega arith in ap (numbers_from (p + 1)) e

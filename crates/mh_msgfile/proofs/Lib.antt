@@ -8,3 +8,4 @@ pub mod Fitting
 pub mod Canonical
 pub mod Spelled
 pub mod Again
+pub mod Spacing

@@ -1,12 +1,12 @@
 -- Bytes have one list of lines, which `bstr` gives.
-use Rattle.std.proofs.Common.{◌≡◌, ◌≢◌, ◌⊎◌, ◌+◌, ◌-◌, ◌<◌, ◌≤◌, ◌==◌, ◌&&◌, ℕ, zero, suc, Bool, true, false, cond, nat_lt, List, [], ◌∷◌, ◌++◌, length, map, take, drop, get_or, slice_index, refl, sym, ap, subst, ◌∙◌, arith, inl, inr, append_assoc, length-append}
+use Rattle.std.proofs.Common.{◌≡◌, ◌≢◌, ◌+◌, ◌-◌, ◌<◌, ◌≤◌, ◌==◌, ◌&&◌, ℕ, zero, suc, true, false, nat_lt, List, [], ◌∷◌, ◌++◌, length, map, take, slice_index, refl, sym, ap, subst, ◌∙◌, arith, inl, inr, append_assoc, length-append}
 use Rattle.std.proofs.lemmas.Bool.{cases_eq, cond-true, cond-false, eq-eqb, ne_eqb}
 use Rattle.std.proofs.lemmas.Bool.Decides.{nat_tests}
 use Rattle.std.proofs.lemmas.List.{get_or_append_left}
 use Rattle.std.proofs.Math.Seq.{get_or-append_seam, take-append_seam}
 use Rattle.bstr.specs.Text.{lines_of, without_terminator, no_cr}
 use Rattle.bstr.proofs.lemmas.LengthLemmas.{length-lines}
-use Rattle.bstr.proofs.lemmas.LineLemmas.{lines-nil, lines-append, lines-one, EndsLine}
+use Rattle.bstr.proofs.lemmas.LineLemmas.{lines-nil, lines-append, lines-one}
 use Rattle.mh_msgfile.specs.Sentences.{Text}
 use Rattle.mh_msgfile.specs.Messages.{HasNoEnd, AreLines, NoLine, LastLine, EndedLine}
 

@@ -1,6 +1,6 @@
 -- What the loops over a file leave: its first fault, or what it spells.
-use Rattle.std.proofs.Common.{◌≡◌, ◌+◌, ◌<◌, ◌≤◌, ℕ, suc, List, [], ◌∷◌, ◌++◌, length, drop, get_or, sym, ap, ◌∙◌}
-use Rattle.std.specs.Prelude.{Result, Ok, Err}
+use Rattle.std.proofs.Common.{◌≡◌, ◌<◌, ℕ, suc, List, [], ◌∷◌, ◌++◌, length, drop, get_or, sym, ap, ◌∙◌}
+use Rattle.std.specs.Prelude.{Ok, Err}
 use Rattle.mh_grammar.specs.declared.types.Grammar.{Grammar}
 use Rattle.mh_msgfile.specs.Sentences.{Text, Vocabulary, vocabulary_of, sentence_in}
 use Rattle.mh_msgfile.specs.Messages.{AreLines, line_at, FaultFound, fault_at, faults_of, faults_in, entries_in, blocks, MsgSpells, HasFault, Tells, Begins, ReadsEntries, TellsLine}

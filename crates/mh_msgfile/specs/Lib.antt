@@ -1,3 +1,4 @@
 pub mod Sentences
 pub mod Messages
 pub mod Printed
+pub mod Spaced

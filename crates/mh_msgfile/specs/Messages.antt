@@ -1,6 +1,6 @@
 -- Messages files: blocks of sentence lines, and behind each the block that is its message. Source: the Menhir manual
 -- (messages files), and this project's profile.
-use Rattle.std.specs.Prelude.{◌≡◌, ◌≢◌, ℕ, zero, suc, ◌+◌, ◌-◌, ◌^◌, ◌<◌, ◌==◌, not, Bool, false, List, [], ◌∷◌, ◌++◌, All, filter, flat_map, length, Option, None, Some, slice_index_or, Result, Ok, Err, ⊤}
+use Rattle.std.specs.Prelude.{◌≡◌, ◌≢◌, ℕ, zero, suc, ◌+◌, ◌-◌, ◌^◌, ◌<◌, ◌==◌, not, Bool, false, List, [], ◌∷◌, ◌++◌, All, filter, flat_map, length, slice_index_or, Result, Ok, Err, ⊤}
 use Rattle.std.specs.List.{list_all, AllByRecursion}
 use Rattle.bstr.specs.Text.{no_cr}
 use Rattle.mh_grammar.specs.declared.types.Grammar.{Grammar}

@@ -4,6 +4,7 @@ ghost use Rattle.std.specs.List.{AllByRecursion};
 ghost use Rattle.mh_msgfile.specs.Sentences.{IsSentence, sentence_in, vocabulary_of};
 ghost use Rattle.mh_msgfile.specs.Messages.{FaultFound, MsgSpells, HasFault};
 ghost use Rattle.mh_msgfile.specs.Printed.{HasNames, HasNoCr, HaveSameContent, file_text, sentence_text};
+ghost use Rattle.mh_msgfile.specs.Spaced.{IsLineOf};
 ghost use Rattle.mh_msgfile.specs.declared.messages.MsgFile.{MsgFile};
 
 use mh_grammar::Grammar;
@@ -21,6 +22,13 @@ pub fn spelled_once(grammar: &Grammar)
 /// Where names are words and differ, the canonical line of a sentence is read as that sentence.
 pub fn canonical_is_read(grammar: &Grammar)
     ensures { HasNames grammar.now → (start : ℕ) (tokens : List ℕ) → start < length grammar.now.starts → AllByRecursion (λ z. z < length grammar.now.tokens) tokens → sentence_in (vocabulary_of grammar.now) (sentence_text grammar.now start tokens) ≡ IsSentence (record { start = start; tokens = tokens }) }
+{
+    let _grammar = grammar;
+}
+
+/// Where names are words and differ, a line made of a start, a colon and names of tokens, with blanks between, is read as that sentence.
+pub fn spaced_is_read(grammar: &Grammar)
+    ensures { HasNames grammar.now → (start : ℕ) (tokens : List ℕ) (line : List ℕ) → start < length grammar.now.starts → AllByRecursion (λ z. z < length grammar.now.tokens) tokens → IsLineOf grammar.now start tokens line → sentence_in (vocabulary_of grammar.now) line ≡ IsSentence (record { start = start; tokens = tokens }) }
 {
     let _grammar = grammar;
 }

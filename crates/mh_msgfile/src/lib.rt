@@ -8,7 +8,7 @@ mod pieces;
 mod printing;
 mod sentence;
 
-pub use laws::{canonical_is_read, printed_again, spelled_once};
+pub use laws::{canonical_is_read, printed_again, spaced_is_read, spelled_once};
 pub use lexicon::Lexicon;
 pub use messages::{Entry, MsgFault, MsgFile, MsgSentence, read_messages};
 pub use pieces::first_piece;

@@ -1,3 +1,4 @@
 pub mod App
+pub mod Numbers
 pub mod Orders
 pub mod Twice

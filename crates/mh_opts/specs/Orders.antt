@@ -1,6 +1,6 @@
 -- What the words of the command line ask for, by the code's rows of options. Source: this project's profile; which words a
 -- command takes, and what they match, is clap's own definition.
-use Rattle.std.specs.Prelude.{◌≡◌, ◌++◌, Bool, not, ◌&&◌, List, [], ◌∷◌, Option, Some, None, Result, Ok, Err, codes, map, unwrap_or, if◌then◌else◌}
+use Rattle.std.specs.Prelude.{◌≡◌, ℕ, ◌++◌, is_none, Bool, true, false, not, ◌&&◌, List, [], ◌∷◌, Option, Some, None, Result, Ok, Err, codes, map, unwrap_or, if◌then◌else◌}
 use Rattle.clap.specs.Words.{Row, Text, all_of, first_of, fault_of, matches_of}
 use Rattle.clap.specs.Walk.{is_empty}
 use Rattle.clap.specs.Takes.{is_given}
@@ -8,13 +8,14 @@ use Rattle.mh_opts.specs.declared.jobs.Mode.{Mode}
 use Rattle.mh_opts.specs.declared.jobs.Mode.TheVariants as mode
 use Rattle.mh_opts.specs.declared.jobs.Need.{Need}
 use Rattle.mh_opts.specs.declared.jobs.Opt.{Opt}
-use Rattle.mh_opts.specs.declared.jobs.TheConstants.{CANONICAL, COMPARE_ERRORS, COMPARE_ERRORS_2, COMPILE_ERRORS, ECHO_ERRORS, GRAMMARS, INTERPRET_SHOW_CST, MESSAGES, NEEDS, NO_STDLIB, STRICT, UPDATE_ERRORS}
+use Rattle.mh_opts.specs.declared.jobs.TheConstants.{CANONICAL, COMPARE_ERRORS, COMPARE_ERRORS_2, COMPILE_ERRORS, ECHO_ERRORS, GRAMMARS, INTERPRET_SHOW_CST, MESSAGES, NEEDS, NO_STDLIB, SAMPLE, STRICT, UPDATE_ERRORS}
 use Rattle.mh_opts.specs.declared.jobs.Job.{Job}
 use Rattle.mh_opts.specs.declared.jobs.Job.TheVariants as job
 use Rattle.mh_opts.specs.declared.order.Order.{Order}
 use Rattle.mh_opts.specs.declared.order.UsageFault.{UsageFault}
-use Rattle.mh_opts.specs.declared.order.UsageFault.TheVariants.{Parse, NoMode, TwoModes, Misplaced, NoGrammar, Memory}
+use Rattle.mh_opts.specs.declared.order.UsageFault.TheVariants.{Parse, Number, NoMode, TwoModes, Misplaced, NoGrammar, Memory}
 use Rattle.mh_opts.specs.App.{menhir_app, options}
+use Rattle.mh_opts.specs.Numbers.{number_in}
 use Rattle.mh_opts.specs.Twice.{is_reserved, renamed}
 
 -- the mode of an option that stands among the words
@@ -41,14 +42,24 @@ mode_in rows options = only (given (map (mode_at rows) options))
 abbrev pub file_of : List Row → Text → Text
 file_of rows option = unwrap_or (first_of option rows) []
 
+-- the number that stands behind the option of samples
+abbrev pub number_of : List Row → Option ℕ
+number_of rows = number_in (file_of rows SAMPLE.now)
+
+-- that option stands there without a number
+abbrev pub lacks_number : List Row → Bool
+lacks_number rows = is_given SAMPLE.now rows && is_none (number_of rows)
+
 -- a row for each mode: the job that it asks for
 abbrev pub job_for : List Row → Mode → Job
 job_for rows mode.Interpret = job.Interpret
 job_for rows mode.Session = job.Session
 job_for rows mode.ShowAutomaton = job.ShowAutomaton
+job_for rows mode.WriteTables = job.WriteTables
 job_for rows mode.ListErrors = job.ListErrors
 job_for rows mode.InterpretError = job.InterpretError
 job_for rows mode.CompileErrors = job.CompileErrors (file_of rows COMPILE_ERRORS.now)
+job_for rows mode.Sample = job.Sample (unwrap_or (number_of rows) 0)
 job_for rows mode.UpdateErrors = job.UpdateErrors (file_of rows UPDATE_ERRORS.now)
 job_for rows mode.EchoErrors = job.EchoErrors (file_of rows ECHO_ERRORS.now)
 job_for rows mode.CompareErrors = job.CompareErrors (file_of rows COMPARE_ERRORS.now) (file_of rows COMPARE_ERRORS_2.now)
@@ -91,17 +102,23 @@ order_for rows mode = record {
   messages = first_of MESSAGES.now rows;
 }
 
+abbrev pub is_sample : Mode → Bool
+is_sample mode.Sample = true
+is_sample mode = false
+
+-- A sample has its own grammar; each other mode needs a grammar file.
 abbrev pub order_with : List Row → Mode → Option Text → Result Order UsageFault
 order_with rows mode (Some option) = Err (Misplaced (written option))
-order_with rows mode None = if is_empty (grammars_of rows) then Err NoGrammar else Ok (order_for rows mode)
+order_with rows mode None =
+    if is_sample mode && not (is_empty (grammars_of rows)) then Err (Misplaced (written SAMPLE.now)) else (if not (is_sample mode) && is_empty (grammars_of rows) then Err NoGrammar else Ok (order_for rows mode))
 
 abbrev pub order_by : List Row → Result Mode UsageFault → Result Order UsageFault
 order_by rows (Err fault) = Err fault
 order_by rows (Ok mode) = order_with rows mode (misplaced_in rows needs)
 
--- what the matches ask for, or the first fault: no mode, two modes, a misplaced option, no grammar
+-- what the matches ask for, or the first fault: no number, no mode, two modes, a misplaced option, no grammar
 abbrev pub order_in : List Row → Result Order UsageFault
-order_in rows = order_by rows (mode_in rows options)
+order_in rows = if lacks_number rows then Err Number else order_by rows (mode_in rows options)
 
 -- the order that words spell as clap reads them; words that the command does not take are Parse
 abbrev pub order_renamed : List Text → Result Order UsageFault
@@ -115,6 +132,7 @@ order_of words = if is_reserved words then Err Parse else order_renamed (renamed
 abbrev pub Answers : {X : Type 0} → Result X UsageFault → Result X UsageFault → Type 0
 Answers wanted (Err Memory) = Unit {0}
 Answers wanted (Err Parse) = wanted ≡ Err Parse
+Answers wanted (Err Number) = wanted ≡ Err Number
 Answers wanted (Err NoMode) = wanted ≡ Err NoMode
 Answers wanted (Err TwoModes) = wanted ≡ Err TwoModes
 Answers wanted (Err (Misplaced option)) = wanted ≡ Err (Misplaced option)

@@ -1,9 +1,11 @@
 //! What clap found among the words.
-ghost use Rattle.std.specs.Prelude.{◌≡◌, IfOk, Ok};
+ghost use Rattle.std.specs.Prelude.{◌≡◌, IfOk, Ok, unwrap_or};
 ghost use Rattle.clap.specs.Takes as clap;
 ghost use Rattle.clap.specs.Words.{first_of, found_of, rows_of};
 ghost use Rattle.mh_opts.specs.Orders as orders;
 
+use crate::jobs::SAMPLE;
+use crate::numbers::number_in;
 use clap::ArgMatches;
 use clap::parser::ValueSource;
 use mh_grammar::{Memory, Name, from_bytes};
@@ -42,6 +44,30 @@ pub(crate) fn file_of(alloc: Global, matches: &ArgMatches<'_>, name: &str) -> Re
         Some(value) => from_bytes(alloc, value.as_bytes()),
         None => from_bytes(alloc, b""),
     }
+}
+
+/// The text that stands behind an option; where it has none, the empty one.
+fn text_of<'a>(matches: &ArgMatches<'a>, name: &str) -> &'a str
+    ensures { result.now ≡ orders.file_of (rows_of (found_of matches.now)) name.now }
+{
+    match matches.get_str(name) {
+        Some(value) => value,
+        None => "",
+    }
+}
+
+/// The number that stands behind the option of samples.
+pub(crate) fn number_of(matches: &ArgMatches<'_>) -> Option<u32>
+    ensures { result ≡ orders.number_of (rows_of (found_of matches.now)) }
+{
+    number_in(text_of(matches, SAMPLE))
+}
+
+/// That number; where there is none, the order is refused before this is asked for.
+pub(crate) fn sample_number(matches: &ArgMatches<'_>) -> u32
+    ensures { result ≡ unwrap_or (orders.number_of (rows_of (found_of matches.now))) 0 }
+{
+    number_of(matches).unwrap_or(0)
 }
 
 /// Both, or want of memory. What it lets go is let go in one call: where the types are known, each way out would be long to prove.

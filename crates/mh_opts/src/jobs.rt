@@ -7,7 +7,7 @@ ghost use Rattle.mh_opts.specs.declared.jobs.Mode.TheVariants as mode;
 ghost use Rattle.mh_opts.specs.Orders as orders;
 ghost use Rattle.mh_opts.specs.Orders.{job_for, plain_needs};
 
-use crate::found::{both, file_of};
+use crate::found::{both, file_of, sample_number};
 use clap::{ArgAction, ArgMatches};
 use mh_grammar::{Memory, Name};
 use std::alloc::Global;
@@ -36,6 +36,8 @@ pub(crate) const ECHO_ERRORS: &str = "echo-errors";
 
 pub(crate) const UPDATE_ERRORS: &str = "update-errors";
 
+pub(crate) const SAMPLE: &str = "sample";
+
 pub(crate) const MESSAGES: &str = "messages";
 
 /// What is to be done.
@@ -49,6 +51,8 @@ pub enum Job {
     Session,
     /// `--show-automaton`: the automaton as text.
     ShowAutomaton,
+    /// `--write-tables`: the table as a file of its own.
+    WriteTables,
     /// `--list-errors`: an entry for each state in which some sentence fails.
     ListErrors,
     /// `--compile-errors FILE`: the messages of a file, by state.
@@ -59,6 +63,8 @@ pub enum Job {
     EchoErrors { file: Name },
     /// `--update-errors FILE`: a messages file with its comment lines made anew.
     UpdateErrors { file: Name },
+    /// `--sample N`: the counts of a generated grammar.
+    Sample { number: u32 },
 }
 
 /// What is to be done, without the values that stand behind its words: a constant holds nothing that owns memory.
@@ -68,11 +74,13 @@ pub enum Mode {
     InterpretError,
     Session,
     ShowAutomaton,
+    WriteTables,
     ListErrors,
     CompileErrors,
     CompareErrors,
     EchoErrors,
     UpdateErrors,
+    Sample,
 }
 
 /// The job that compares two files.
@@ -95,6 +103,7 @@ pub(crate) fn job_of(alloc: Global, matches: &ArgMatches<'_>, mode: Mode) -> Res
         Mode::InterpretError => Ok(Job::InterpretError),
         Mode::Session => Ok(Job::Session),
         Mode::ShowAutomaton => Ok(Job::ShowAutomaton),
+        Mode::WriteTables => Ok(Job::WriteTables),
         Mode::ListErrors => Ok(Job::ListErrors),
         Mode::CompileErrors => Ok(Job::CompileErrors {
             file: file_of(alloc, matches, COMPILE_ERRORS)?,
@@ -105,6 +114,9 @@ pub(crate) fn job_of(alloc: Global, matches: &ArgMatches<'_>, mode: Mode) -> Res
         }),
         Mode::UpdateErrors => Ok(Job::UpdateErrors {
             file: file_of(alloc, matches, UPDATE_ERRORS)?,
+        }),
+        Mode::Sample => Ok(Job::Sample {
+            number: sample_number(matches),
         }),
     }
 }
@@ -125,7 +137,7 @@ pub struct Need<T> {
     pub needs: T,
 }
 
-const OPTIONS: [Opt<&str>; 15] = [
+const OPTIONS: [Opt<&str>; 17] = [
     Opt {
         name: INTERPRET,
         action: ArgAction::SetTrue,
@@ -145,6 +157,11 @@ const OPTIONS: [Opt<&str>; 15] = [
         name: "show-automaton",
         action: ArgAction::SetTrue,
         mode: Some(Mode::ShowAutomaton),
+    },
+    Opt {
+        name: "write-tables",
+        action: ArgAction::SetTrue,
+        mode: Some(Mode::WriteTables),
     },
     Opt {
         name: "list-errors",
@@ -175,6 +192,11 @@ const OPTIONS: [Opt<&str>; 15] = [
         name: UPDATE_ERRORS,
         action: ArgAction::Set,
         mode: Some(Mode::UpdateErrors),
+    },
+    Opt {
+        name: SAMPLE,
+        action: ArgAction::Set,
+        mode: Some(Mode::Sample),
     },
     Opt {
         name: MESSAGES,

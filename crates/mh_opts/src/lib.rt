@@ -4,6 +4,7 @@
 mod command;
 mod found;
 mod jobs;
+mod numbers;
 mod order;
 mod twice;
 mod words;

@@ -31,6 +31,9 @@ pub enum UsageFault {
     /// The command does not take the words.
     #[error("bad words")]
     Parse,
+    /// The value of `--sample` is no number of one to four digits.
+    #[error("bad number")]
+    Number,
     /// No word says what is to be done.
     #[error("no mode")]
     NoMode,

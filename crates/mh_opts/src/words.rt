@@ -7,10 +7,10 @@ ghost use Rattle.mh_opts.specs.Orders.{Answers, grammars_of, lacks, misplaced_in
 ghost use Rattle.mh_opts.specs.App.{options, plain};
 
 use crate::command::menhir_command;
-use crate::found::{both, is_given, value_of};
+use crate::found::{both, is_given, number_of, value_of};
 use crate::jobs::{
-    CANONICAL, GRAMMARS, INTERPRET_SHOW_CST, MESSAGES, Mode, NO_STDLIB, Need, Opt, STRICT, job_of,
-    needs, options,
+    CANONICAL, GRAMMARS, INTERPRET_SHOW_CST, MESSAGES, Mode, NO_STDLIB, Need, Opt, SAMPLE, STRICT,
+    job_of, needs, options,
 };
 use crate::order::{Order, UsageFault};
 use crate::twice::{is_reserved, renamed};
@@ -124,6 +124,20 @@ fn order_for(alloc: Global, matches: &ArgMatches<'_>, mode: Mode) -> Result<Orde
     })
 }
 
+/// Whether the option of samples stands without a number.
+fn lacks_number(matches: &ArgMatches<'_>) -> bool
+    ensures { result ≡ orders.lacks_number (rows_of (found_of matches.now)) }
+{
+    is_given(matches, SAMPLE) && number_of(matches).is_none()
+}
+
+/// Whether a mode has its own grammar.
+fn is_sample(mode: Mode) -> bool
+    ensures { result ≡ orders.is_sample mode }
+{
+    matches!(mode, Mode::Sample)
+}
+
 /// The order for a mode, where each option has a meaning and there is a grammar.
 fn order_with(alloc: Global, matches: &ArgMatches<'_>, mode: Mode) -> Result<Order, UsageFault>
     ensures { let rows = rows_of (found_of matches.now) in Answers (orders.order_with rows mode (misplaced_in rows needs)) result }
@@ -133,7 +147,12 @@ fn order_with(alloc: Global, matches: &ArgMatches<'_>, mode: Mode) -> Result<Ord
             option: written_name(alloc, option)?,
         });
     }
-    if !has_grammar(matches) {
+    if is_sample(mode) && has_grammar(matches) {
+        return Err(UsageFault::Misplaced {
+            option: written_name(alloc, SAMPLE)?,
+        });
+    }
+    if !is_sample(mode) && !has_grammar(matches) {
         return Err(UsageFault::NoGrammar);
     }
     Ok(order_for(alloc, matches, mode)?)
@@ -143,6 +162,9 @@ fn order_with(alloc: Global, matches: &ArgMatches<'_>, mode: Mode) -> Result<Ord
 fn matched_order(alloc: Global, matches: &ArgMatches<'_>) -> Result<Order, UsageFault>
     ensures { Answers (order_in (rows_of (found_of matches.now))) result }
 {
+    if lacks_number(matches) {
+        return Err(UsageFault::Number);
+    }
     match only_mode(matches) {
         Ok(mode) => order_with(alloc, matches, mode),
         Err(fault) => Err(fault),
@@ -150,7 +172,7 @@ fn matched_order(alloc: Global, matches: &ArgMatches<'_>) -> Result<Order, Usage
 }
 
 /// The order that the words spell. Answers `Parse` exactly where clap's definition of what the command takes does not take
-/// them, so also for `--help`; else the first of `NoMode`, `TwoModes`, `Misplaced` with the option, and `NoGrammar`, each
+/// them, so also for `--help`; else the first of `Number`, `NoMode`, `TwoModes`, `Misplaced` with the option, and `NoGrammar`, each
 /// exactly where it holds; and `Memory` only where memory runs out.
 pub fn read_words(alloc: Global, words: &[String]) -> Result<Order, UsageFault>
     ensures { Answers (order_of (map string_bytes words.now)) result }

@@ -1,4 +1,5 @@
 pub mod Agreeing
+pub mod Candidates
 pub mod Combining
 pub mod Covering
 pub mod Finishing

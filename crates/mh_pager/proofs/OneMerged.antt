@@ -9,7 +9,8 @@ use Rattle.mh_items.specs.Shapes.{Kernel}
 use Rattle.mh_items.specs.Shapes.{Automaton}
 use Rattle.mh_canon.specs.Canonical.{targets_of}
 use Rattle.mh_pager.specs.Steps.{Work, symbols_of, Steps, Leads, IsOnSymbolsOf, IsMerged, start_numbers}
-use Rattle.mh_pager.proofs.Only.{begun_one, end_one, row_one}
+use Rattle.mh_canon.proofs.Only.{edges_same}
+use Rattle.mh_pager.proofs.Only.{begun_one, end_one}
 
 leads_one : (rows : List (List Edge)) (n : ℕ) (a b : List ℕ) → Leads rows n a → Leads rows n b → a ≡ b
 leads_one rows n a b p q =
@@ -40,7 +41,7 @@ rows_one rows (n ∷ states) (x ∷ xs) (y ∷ ys) a b t =
     let same : a.0.row ≡ b.0.row = cc in
     let here : targets_of x ≡ targets_of y = cc in
     let others : map targets_of xs ≡ map targets_of ys = cc in
-    let first = row_one x y (a.0.same ∙ ap symbols_of same ∙ sym b.0.same) here in
+    let first = edges_same x y (a.0.same ∙ ap symbols_of same ∙ sym b.0.same) here in
     let rest = rows_one rows states xs ys a.1 b.1 others in
     λ i. first i ∷ rest i
 

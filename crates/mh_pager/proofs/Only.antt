@@ -14,6 +14,7 @@ use Rattle.mh_grammar.proofs.OneNumbering.{same_places}
 use Rattle.mh_items.specs.Shapes.{Kernel}
 use Rattle.mh_items.specs.Kernels.{Holds, IsKernel}
 use Rattle.mh_items.proofs.OneList.{kernel_same}
+use Rattle.mh_canon.proofs.Only.{edges_same}
 use Rattle.mh_canon.specs.Canonical.{targets_of}
 use Rattle.mh_canon.proofs.Sets.{same_sym, same_trans}
 use Rattle.mh_pager.specs.Weak.{IsJoin}
@@ -121,18 +122,6 @@ symbol_asymmetric (N a) (N b) r s = omega arith
 symbols_one : (g : PlainGrammar) (k : Kernel) (xs ys : List Symbol) → AreMoving g k xs → AreMoving g k ys → xs ≡ ys
 symbols_one g k xs ys a b = rising_same IsSymbolBefore symbol_asymmetric xs ys a.rising b.rising (λ X. ((λ c. (b.exact X).1 ((a.exact X).0 c)), (λ c. (a.exact X).1 ((b.exact X).0 c))))
 
-pub row_one : (xs ys : List Edge) → symbols_of xs ≡ symbols_of ys → targets_of xs ≡ targets_of ys → xs ≡ ys
-row_one [] [] e f = refl
-row_one [] (d ∷ ys) e f = cc
-row_one (d ∷ xs) [] e f = cc
-row_one (d ∷ xs) (b ∷ ys) e f =
-    let symbol : d.symbol ≡ b.symbol = cc in
-    let target : d.target ≡ b.target = cc in
-    let symbols : symbols_of xs ≡ symbols_of ys = cc in
-    let targets : targets_of xs ≡ targets_of ys = cc in
-    let rest = row_one xs ys symbols targets in
-    λ i. (record { symbol = symbol i; target = target i }) ∷ rest i
-
 module _ (g : PlainGrammar) (old : Work) (state other : ℕ) (waiting others : List ℕ) (k j : Kernel) where
   -- the state whose turn it is
   turn_one : old.queue ≡ state ∷ waiting → slice_get old.kernels state ≡ Some k → old.queue ≡ other ∷ others → slice_get old.kernels other ≡ Some j → (state ≡ other) × (waiting ≡ others) × (k ≡ j)
@@ -155,7 +144,7 @@ module _ (g : PlainGrammar) where
       let symbols : symbols_of a.row ≡ symbols_of b.row = symbols_one g a.kernel (symbols_of a.row) (symbols_of b.row) a.moving moving in
       let put : AllPut g a.kernel (symbols_of a.row) (targets_of b.row) (with_queue old a.waiting) b.placed = rw (t.2, t.1, symbols) b.put in
       let one = all_put_one g a.kernel (symbols_of a.row) (targets_of a.row) (targets_of b.row) (with_queue old a.waiting) a.placed b.placed a.put put in
-      let row = row_one a.row b.row symbols one.1 in
+      let row = edges_same a.row b.row symbols one.1 in
       a.after ∙ (λ i. record { kernels = (one.0 i).kernels; rows = set (one.0 i).rows (t.0 i) (row i); queue = (one.0 i).queue }) ∙ sym b.after
 
   -- the first of some steps

@@ -13,7 +13,8 @@ use Rattle.mh_drive.specs.declared.stop.Stop.{Stop}
 use Rattle.mh_drive.specs.declared.stop.Stop.TheVariants.{Halted, ShelfFailed, InputFailed, WriteFailed, OutOfMemory}
 use Rattle.mh_drive.proofs.Binding.{names_wider, no_names, then_on, then_stops}
 use Rattle.mh_prepare.specs.Order.{order_of}
-use Rattle.mh_prepare.specs.FileStage.{AreFiles, IsModule}
+use Rattle.mh_prepare.specs.FileStage.{IsModule}
+use Rattle.mh_prepare.specs.Modules.{AreModules, grammar_files}
 use Rattle.mh_prepare.specs.Turns.{IsGrammarTurn, IsTurn}
 use Rattle.mh_prepare.specs.GrammarStage.{IsGrammarStage}
 use Rattle.mh_prepare.specs.TableStage.{IsTableStage, source_of}
@@ -31,7 +32,7 @@ module _ (words : List Text) (files : Option Files) where
   AfterModules order modules = Then (IsGrammarStage order.stdlib modules) (λ grammar. Gives (record { order = order; grammar = grammar }))
 
   abbrev AfterOrder : Order → Staged Front → Type 0
-  AfterOrder order = Then (AreFiles files IsModule order.grammars) (AfterModules order)
+  AfterOrder order = Then (AreModules files order) (AfterModules order)
 
   -- behind the order
   behind : (order : Order) (r : Result Front Stop) → order_of words ≡ Go order → FilesGive (AfterOrder order) Due r → FilesGive (IsFront words files) Due r
@@ -47,18 +48,18 @@ module _ (words : List Text) (files : Option Files) where
   order_stops InputFailed has = absurd has
   order_stops WriteFailed has = absurd has
 
-  pub files_stop : (order : Order) (stop : Stop) → order_of words ≡ Go order → FilesGive {A = List Module} (AreFiles files IsModule order.grammars) (IsTurn files IsModule order.grammars) (Err stop) → FilesGive {A = Front} (IsFront words files) Due (Err stop)
+  pub files_stop : (order : Order) (stop : Stop) → order_of words ≡ Go order → FilesGive {A = List Module} (AreModules files order) (IsTurn files IsModule (grammar_files order)) (Err stop) → FilesGive {A = Front} (IsFront words files) Due (Err stop)
   files_stop order stop on has =
       behind order (Err stop) on
-      (then_stops (AreFiles files IsModule order.grammars) (AfterModules order) Due stop (names_wider (AreFiles files IsModule order.grammars) (IsTurn files IsModule order.grammars) Due (Err stop) (λ name turn. (order, on, turn)) has))
+      (then_stops (AreModules files order) (AfterModules order) Due stop (names_wider (AreModules files order) (IsTurn files IsModule (grammar_files order)) Due (Err stop) (λ name turn. (order, on, turn)) has))
 
-  pub grammar_stops : (order : Order) (modules : List Module) (stop : Stop) → order_of words ≡ Go order → AreFiles files IsModule order.grammars (Go modules) → StageHas (IsGrammarStage order.stdlib modules) (Err stop) → FilesGive {A = Front} (IsFront words files) Due (Err stop)
+  pub grammar_stops : (order : Order) (modules : List Module) (stop : Stop) → order_of words ≡ Go order → AreModules files order (Go modules) → StageHas (IsGrammarStage order.stdlib modules) (Err stop) → FilesGive {A = Front} (IsFront words files) Due (Err stop)
   grammar_stops order modules stop on are has =
       behind order (Err stop) on
-      (then_on (AreFiles files IsModule order.grammars) (AfterModules order) Due modules (Err stop) are
+      (then_on (AreModules files order) (AfterModules order) Due modules (Err stop) are
       (then_stops (IsGrammarStage order.stdlib modules) (λ grammar. Gives (record { order = order; grammar = grammar })) Due stop (no_names (IsGrammarStage order.stdlib modules) Due (Err stop) has)))
 
-  pub front_made : (order : Order) (modules : List Module) (grammar : Grammar) → order_of words ≡ Go order → AreFiles files IsModule order.grammars (Go modules) → IsGrammarStage order.stdlib modules (Go grammar) → IsFront words files (Go (record { order = order; grammar = grammar }))
+  pub front_made : (order : Order) (modules : List Module) (grammar : Grammar) → order_of words ≡ Go order → AreModules files order (Go modules) → IsGrammarStage order.stdlib modules (Go grammar) → IsFront words files (Go (record { order = order; grammar = grammar }))
   front_made order modules grammar on are is = behind order (Ok (record { order = order; grammar = grammar })) on (Go modules, are, (Go grammar, is, refl))
 
 -- ---- the table

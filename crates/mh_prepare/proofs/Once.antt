@@ -1,5 +1,5 @@
 -- What the words ask for up to the table is one, as each of its stages gives one thing.
-use Rattle.std.proofs.Common.{◌≡◌, ◌≤◌, ℕ, Bool, List, [], ◌∷◌, Option, Some, sym, ◌∙◌, ap, subst, arith}
+use Rattle.std.proofs.Common.{◌≡◌, ◌≤◌, ℕ, Bool, List, [], ◌∷◌, Option, None, Some, sym, ◌∙◌, ap, subst, arith}
 use Rattle.mh_grammar.specs.declared.types.Grammar.{Grammar}
 use Rattle.mh_grammar.specs.Plain.{plain_of}
 use Rattle.mh_items.specs.Shapes.{Automaton}
@@ -14,6 +14,7 @@ use Rattle.mh_outside.specs.Shelf.{Files}
 use Rattle.mh_msgfile.specs.Sentences.{token_names}
 use Rattle.mh_front.proofs.OneGrammar.{one_grammar, one_fault, grammar_or_fault}
 use Rattle.mh_rules.specs.declared.modules.Module.{Module}
+use Rattle.mh_sample.specs.Texts.{grammar_text}
 use Rattle.mh_reader.proofs.Lines.{line_once, one_module}
 use Rattle.mh_drive.specs.Text.{Text}
 use Rattle.mh_drive.specs.Causes.{Staged, Go, Halt, Then, Gives}
@@ -22,6 +23,7 @@ use Rattle.mh_drive.specs.declared.stop.Cause.TheVariants.{Refused}
 use Rattle.mh_drive.proofs.Binding.{IsOne, on_once, then_once}
 use Rattle.mh_prepare.specs.Order.{order_of}
 use Rattle.mh_prepare.specs.FileStage.{AreFiles, IsFile, IsLoaded, IsModule, loaded}
+use Rattle.mh_prepare.specs.Modules.{AreModules, AreModulesBy, sample_file, sample_of}
 use Rattle.mh_prepare.specs.GrammarStage.{IsGrammarStage}
 use Rattle.mh_prepare.specs.Texts.{refusal, syntax_error, loops_line}
 use Rattle.mh_prepare.specs.TableStage.{AreTabled, IsAutomatonStage, IsResolvedStage, IsTableStage, LoopsFirst, mode_of, source_of}
@@ -55,6 +57,10 @@ files_once files [] = gives_once []
 files_once files (name ∷ names) =
     then_once (IsFile (Some files) IsModule name) (λ x. Then (AreFiles (Some files) IsModule names) (λ xs. Gives (x ∷ xs))) (file_once files name)
     (λ x. then_once (AreFiles (Some files) IsModule names) (λ xs. Gives (x ∷ xs)) (files_once files names) (λ xs. gives_once (x ∷ xs)))
+
+modules_once : (files : Files) (sample : Option ℕ) (names : List Text) → IsOne (AreModulesBy sample (Some files) names)
+modules_once files None names = files_once files names
+modules_once files (Some number) names = then_once (IsModule sample_file (grammar_text number)) (λ m. Gives (m ∷ [])) (module_once sample_file (grammar_text number)) (λ m. gives_once (m ∷ []))
 
 -- ---- a grammar
 
@@ -113,8 +119,8 @@ table_once source g = then_once (IsAutomatonStage source g) (IsResolvedStage (mo
 
 front_once : (words : List Text) (files : Files) → IsOne (IsFront words (Some files))
 front_once words files =
-    on_once (order_of words) (λ order. Then (AreFiles (Some files) IsModule order.grammars) (λ modules. Then (IsGrammarStage order.stdlib modules) (λ grammar. Gives (record { order = order; grammar = grammar }))))
-    (λ order. then_once (AreFiles (Some files) IsModule order.grammars) (λ modules. Then (IsGrammarStage order.stdlib modules) (λ grammar. Gives (record { order = order; grammar = grammar }))) (files_once files order.grammars)
+    on_once (order_of words) (λ order. Then (AreModules (Some files) order) (λ modules. Then (IsGrammarStage order.stdlib modules) (λ grammar. Gives (record { order = order; grammar = grammar }))))
+    (λ order. then_once (AreModules (Some files) order) (λ modules. Then (IsGrammarStage order.stdlib modules) (λ grammar. Gives (record { order = order; grammar = grammar }))) (modules_once files (sample_of order.job) order.grammars)
     (λ modules. then_once (IsGrammarStage order.stdlib modules) (λ grammar. Gives (record { order = order; grammar = grammar })) (grammar_once order.stdlib modules) (λ grammar. gives_once (record { order = order; grammar = grammar }))))
 
 tabled_front_once : (front : Front) → IsOne (IsTabledFront front)

@@ -1,6 +1,7 @@
 pub mod Texts
 pub mod Order
 pub mod FileStage
+pub mod Modules
 pub mod GrammarStage
 pub mod TableStage
 pub mod Shapes

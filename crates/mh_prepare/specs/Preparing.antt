@@ -4,15 +4,15 @@ use Rattle.mh_outside.specs.Shelf.{Files}
 use Rattle.mh_drive.specs.Text.{Text}
 use Rattle.mh_drive.specs.Causes.{Staged, On, Then, Gives}
 use Rattle.mh_prepare.specs.Order.{order_of}
-use Rattle.mh_prepare.specs.FileStage.{AreFiles, IsModule}
+use Rattle.mh_prepare.specs.Modules.{AreModules}
 use Rattle.mh_prepare.specs.GrammarStage.{IsGrammarStage}
 use Rattle.mh_prepare.specs.TableStage.{IsTableStage, source_of}
 use Rattle.mh_prepare.specs.Shapes.{Prepared}
 use Rattle.mh_prepare.specs.declared.prepared.Front.{Front}
 
--- the order that the words spell, and the grammar of its files
+-- the order that the words spell, and the grammar of its modules
 abbrev pub IsFront : List Text → Option Files → Staged Front → Type 0
-IsFront words files s = On (order_of words) (λ order. Then (AreFiles files IsModule order.grammars) (λ modules. Then (IsGrammarStage order.stdlib modules) (λ grammar. Gives (record { order = order; grammar = grammar })))) s
+IsFront words files s = On (order_of words) (λ order. Then (AreModules files order) (λ modules. Then (IsGrammarStage order.stdlib modules) (λ grammar. Gives (record { order = order; grammar = grammar })))) s
 
 -- and its table
 abbrev pub IsTabledFront : Front → Staged Prepared → Type 0

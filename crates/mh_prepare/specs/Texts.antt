@@ -4,10 +4,13 @@ use Rattle.mh_front.specs.declared.fault.GrammarFault.{GrammarFault}
 use Rattle.mh_front.specs.Texts.{fault_text}
 use Rattle.mh_drive.specs.Text.{Text, out_of_memory}
 use Rattle.mh_opts.specs.declared.order.UsageFault.{UsageFault}
-use Rattle.mh_opts.specs.declared.order.UsageFault.TheVariants.{Parse, NoMode, TwoModes, Misplaced, NoGrammar, Memory}
+use Rattle.mh_opts.specs.declared.order.UsageFault.TheVariants.{Parse, Number, NoMode, TwoModes, Misplaced, NoGrammar, Memory}
 
 abbrev pub bad_words : Text
 bad_words = codes "menhir: usage: bad words\n"
+
+abbrev pub bad_number : Text
+bad_number = codes "menhir: usage: bad number\n"
 
 abbrev pub no_mode : Text
 no_mode = codes "menhir: usage: no mode\n"
@@ -27,6 +30,7 @@ too_many_states = codes "menhir: too many states\n"
 -- the line for a usage fault; no words spell want of memory
 abbrev pub usage_line : UsageFault → Text
 usage_line Parse = bad_words
+usage_line Number = bad_number
 usage_line NoMode = no_mode
 usage_line TwoModes = two_modes
 usage_line (Misplaced option) = misplaced option

@@ -6,6 +6,7 @@ use Rattle.mh_opts.specs.declared.order.Order.{Order}
 use Rattle.mh_drive.specs.Text.{Text}
 use Rattle.mh_drive.specs.Causes.{Staged, Go}
 use Rattle.mh_prepare.specs.FileStage.{IsFile, IsModule}
+use Rattle.mh_prepare.specs.Modules.{grammar_files}
 use Rattle.mh_prepare.specs.Order.{order_of}
 
 -- the file spells something
@@ -21,8 +22,8 @@ pub record IsTurn {A : Type 0} (files : Option Files) (Spelled : Text → Text �
 
 -- the turn of one of the grammar files that the words name has come
 abbrev pub IsGrammarTurn : List Text → Option Files → Text → Type 0
-IsGrammarTurn words files name = (order : Order) × (order_of words ≡ Go order) × IsTurn files IsModule order.grammars name
+IsGrammarTurn words files name = (order : Order) × (order_of words ≡ Go order) × IsTurn files IsModule (grammar_files order) name
 
 -- the shelf may be asked for the grammar files that the words name
 abbrev pub AsksForGrammars : List Text → (Text → Type 0) → Type 0
-AsksForGrammars words May = (order : Order) → order_of words ≡ Go order → All May order.grammars
+AsksForGrammars words May = (order : Order) → order_of words ≡ Go order → All May (grammar_files order)

@@ -143,7 +143,7 @@ fn no_module(alloc: Global, name: &[u8], line: u32) -> Stop
 }
 
 /// The module that the bytes of the named file spell.
-fn module_in(alloc: Global, name: &[u8], bytes: &[u8]) -> Result<Module, Stop>
+pub(crate) fn module_in(alloc: Global, name: &[u8], bytes: &[u8]) -> Result<Module, Stop>
     requires { length bytes.now < 2 ^ 31 }
     ensures { StageHas (IsModule name.now bytes.now) result }
 {

@@ -3,6 +3,7 @@
 
 mod files;
 mod grammar;
+mod modules;
 mod order;
 mod prepared;
 mod tabled;

@@ -27,6 +27,7 @@ fn usage(alloc: Global, fault: &UsageFault) -> Stop
 {
     match fault {
         UsageFault::Parse => misused(alloc, b"menhir: usage: bad words\n", b"", b""),
+        UsageFault::Number => misused(alloc, b"menhir: usage: bad number\n", b"", b""),
         UsageFault::NoMode => misused(alloc, b"menhir: usage: no mode\n", b"", b""),
         UsageFault::TwoModes => misused(alloc, b"menhir: usage: two modes\n", b"", b""),
         UsageFault::Misplaced { option } => misused(

@@ -10,8 +10,8 @@ ghost use Rattle.mh_drive.specs.Stages.{FilesGive, ShelfCounts, StageHas};
 ghost use Rattle.mh_prepare.specs.TableStage.{source_of as source_in};
 ghost use Rattle.mh_prepare.specs.Preparing.{IsFront, IsTabledFront};
 
-use crate::files::{GrammarFiles, read_files};
 use crate::grammar::grammar_in;
+use crate::modules::modules_of;
 use crate::order::order_in;
 use crate::tabled::{Source, TabledWith, table_of};
 use mh_drive::Stop;
@@ -21,7 +21,7 @@ use mh_outside::Shelf;
 use mh_sets::TokenSet;
 use std::alloc::Global;
 
-/// The order that the words spell, and the grammar of its files.
+/// The order that the words spell, and the grammar of its modules.
 #[derive(Drop)]
 pub struct Front {
     pub order: Order,
@@ -39,7 +39,7 @@ pub struct PreparedWith<L> {
 /// One whose sets of tokens have a width.
 pub type Prepared<const W: usize> = PreparedWith<TokenSet<W>>;
 
-/// The order and the grammar of its files: the words, the files, and the grammar that their modules give.
+/// The order and its grammar: the words, the modules, and the grammar that they give.
 pub fn front_of<F: Shelf>(alloc: Global, words: &[String], shelf: &mut F) -> Result<Front, Stop>
     requires asked { AsksForGrammars (map string_bytes words.now) (F.MayAsk shelf.old) }
     ensures front { FilesGive (IsFront (map string_bytes words.now) (F.files shelf.old))
@@ -56,7 +56,7 @@ pub fn front_of<F: Shelf>(alloc: Global, words: &[String], shelf: &mut F) -> Res
         Ok(order) => order,
         Err(stop) => return Err(stop),
     };
-    let modules = match read_files(alloc, shelf, &GrammarFiles, order.grammars.as_slice()) {
+    let modules = match modules_of(alloc, shelf, &order) {
         Ok(modules) => modules,
         Err(stop) => return Err(stop),
     };

@@ -22,6 +22,13 @@ use std::alloc::Global;
 /// The greatest depth of an actual.
 const DEPTH: usize = 1000;
 
+/// An actual with all its arguments, and its depth.
+#[derive(Drop)]
+pub(crate) struct Measured {
+    pub actual: Actual,
+    pub depth: usize,
+}
+
 /// Whether one more than a depth within so many brackets is not too deep.
 fn has_room(depth: usize, brackets: usize) -> bool
     ensures { result ≡ nat_le (suc depth + brackets) 1000 }
@@ -53,13 +60,13 @@ fn add_producer(draft: Draft, actual: Actual) -> Result<Draft, Memory>
     Ok(draft)
 }
 
-/// Adds an argument of this depth.
-fn add_argument(inner: Pending, actual: Actual, depth: usize) -> Result<Pending, Memory>
-    ensures { IfOk result (λ p. p ≡ with_argument inner actual depth) }
+/// Adds an argument.
+fn add_argument(inner: Pending, argument: Measured) -> Result<Pending, Memory>
+    ensures { IfOk result (λ p. p ≡ with_argument inner argument.actual argument.depth) }
 {
     let mut inner = inner;
-    inner.args.push(actual)?;
-    inner.depth = deeper_of(inner.depth, depth);
+    inner.args.push(argument.actual)?;
+    inner.depth = deeper_of(inner.depth, argument.depth);
     Ok(inner)
 }
 
@@ -129,15 +136,14 @@ fn behind_argument(
     purpose: Purpose,
     rest: Stack<Pending>,
     inner: Pending,
-    actual: Actual,
-    depth: usize,
+    argument: Measured,
     sign: Sign,
 ) -> Result<Reader, Refusal>
     requires inner { inner.depth ≤ 1000 }
-    requires outer { depth ≤ 1000 }
-    ensures { Refers (machine.within made purpose inner rest actual depth sign) result }
+    requires outer { argument.depth ≤ 1000 }
+    ensures { Refers (machine.within made purpose inner rest argument.actual argument.depth sign) result }
 {
-    match add_argument(inner, actual, depth) {
+    match add_argument(inner, argument) {
         Ok(inner) => match sign {
             Sign::Comma => next_argument(made, purpose, rest, inner),
             Sign::Close => {
@@ -160,19 +166,18 @@ fn above(
     made: Module,
     purpose: Purpose,
     pending: Stack<Pending>,
-    actual: Actual,
-    depth: usize,
+    read: Measured,
     sign: Sign,
     text: &[u8],
 ) -> Result<Reader, Refusal>
-    requires within { depth + length pending ≤ 1000 }
+    requires within { read.depth + length pending ≤ 1000 }
     requires deep { Deep pending }
-    ensures { Refers (machine.above made purpose pending actual depth sign text.now) result }
+    ensures { Refers (machine.above made purpose pending read.actual read.depth sign text.now) result }
 {
     let mut rest = pending;
     match rest.pop() {
-        None => whole(alloc, made, purpose, actual, sign, text),
-        Some(inner) => behind_argument(made, purpose, rest, inner, actual, depth, sign),
+        None => whole(alloc, made, purpose, read.actual, sign, text),
+        Some(inner) => behind_argument(made, purpose, rest, inner, read, sign),
     }
 }
 
@@ -182,12 +187,12 @@ fn suffix(
     made: Module,
     purpose: Purpose,
     pending: Stack<Pending>,
-    actual: Actual,
-    depth: usize,
+    read: Measured,
     name: &[u8],
 ) -> Result<Reader, Refusal>
-    ensures { Refers (machine.deeper made purpose pending actual depth (machine.fits (suc depth) pending) name.now) result }
+    ensures { Refers (machine.deeper made purpose pending read.actual read.depth (machine.fits (suc read.depth) pending) name.now) result }
 {
+    let Measured { actual, depth } = read;
     if has_room(depth, pending.len()) {
         match wrapped(alloc, name, actual) {
             Ok(actual) => go_to(made, Place::After(purpose, pending, actual, depth + 1)),
@@ -204,28 +209,19 @@ pub(crate) fn after(
     made: Module,
     purpose: Purpose,
     pending: Stack<Pending>,
-    actual: Actual,
-    depth: usize,
+    read: Measured,
     sign: Sign,
     text: &[u8],
 ) -> Result<Reader, Refusal>
-    requires within { depth + length pending ≤ 1000 }
+    requires within { read.depth + length pending ≤ 1000 }
     requires deep { Deep pending }
-    ensures { Refers (machine.after made purpose pending actual depth sign text.now) result }
+    ensures { Refers (machine.after made purpose pending read.actual read.depth sign text.now) result }
 {
     match sign {
-        Sign::Question => suffix(alloc, made, purpose, pending, actual, depth, b"option"),
-        Sign::Star => suffix(alloc, made, purpose, pending, actual, depth, b"list"),
-        Sign::Plus => suffix(
-            alloc,
-            made,
-            purpose,
-            pending,
-            actual,
-            depth,
-            b"nonempty_list",
-        ),
-        _ => above(alloc, made, purpose, pending, actual, depth, sign, text),
+        Sign::Question => suffix(alloc, made, purpose, pending, read, b"option"),
+        Sign::Star => suffix(alloc, made, purpose, pending, read, b"list"),
+        Sign::Plus => suffix(alloc, made, purpose, pending, read, b"nonempty_list"),
+        _ => above(alloc, made, purpose, pending, read, sign, text),
     }
 }
 
@@ -272,7 +268,8 @@ pub(crate) fn at_head(
                 head,
                 args: Sequence::new(alloc),
             };
-            after(alloc, made, purpose, pending, actual, 1, sign, text)
+            let read = Measured { actual, depth: 1 };
+            after(alloc, made, purpose, pending, read, sign, text)
         }
     }
 }

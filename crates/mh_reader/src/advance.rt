@@ -3,7 +3,7 @@ ghost use Rattle.mh_reader.specs.Machine as machine;
 ghost use Rattle.mh_reader.specs.Machine.{Refers};
 ghost use Rattle.mh_reader.specs.Limits.{IsShallow};
 
-use crate::actuals::{after, at_argument, at_head, at_named};
+use crate::actuals::{Measured, after, at_argument, at_head, at_named};
 use crate::declarations::{
     at_aliased, at_comma, at_items, at_opening, at_parameter, at_token, at_type, declare,
 };
@@ -57,7 +57,8 @@ pub(crate) fn advance(
             at_head(alloc, made, purpose, pending, head, sign, text)
         }
         Place::After(purpose, pending, actual, depth) => {
-            after(alloc, made, purpose, pending, actual, depth, sign, text)
+            let read = Measured { actual, depth };
+            after(alloc, made, purpose, pending, read, sign, text)
         }
         Place::Prec(draft) => at_prec(alloc, made, draft, sign, text),
         Place::Closed(draft) => at_closed(alloc, made, draft, sign),

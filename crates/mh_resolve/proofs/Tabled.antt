@@ -21,6 +21,7 @@ use Rattle.mh_items.specs.Shapes.{KernelItem}
 use Rattle.mh_items.specs.Shapes.{Automaton}
 use Rattle.mh_items.specs.Kernels.{IsKernelItem, HasPlace}
 use Rattle.mh_items.specs.Automaton.{IsAutomaton, IsTarget, Moves, kernel_at, edges_at, leads_to, closure_of, start_kernel}
+use Rattle.mh_tables.proofs.Known.{symbol_below}
 use Rattle.mh_tables.specs.declared.parts.Place.{Place}
 use Rattle.mh_tables.specs.declared.parts.Action.{Action}
 use Rattle.mh_tables.specs.declared.parts.Action.TheVariants.{Shift, Reduce, Refuse}
@@ -258,24 +259,6 @@ filled {a = a} m s lt =
     let core = (m.resolved.each s in').core in
     let some = m.automaton.filled s in' in
     rw core (rw length-map some)
-
-symbol_below : (g : PlainGrammar) → IsInRange g → (p k : ℕ) (X : Symbol) → slice_get (rhs_of g p) k ≡ Some X → IsSymbolBelow g.tokens g.nonterminals X
-unfolding rhs_of
-symbol_below g h p k X e =
-    elim (cases_lt p (length g.starts)) [
-      | inl lt ↦ (let f = rw (lt-ltb p (length g.starts) lt) at e in of_start k f lt)
-      | inr ge ↦ (let f = rw (le-ltb p (length g.starts) ge) at e in of_production (slice_get g.productions (p - length g.starts)) refl f)
-    ]
-  where
-    of_start : (k : ℕ) → slice_get (N (slice_index g.starts p) ∷ []) k ≡ Some X → p < length g.starts → IsSymbolBelow g.tokens g.nonterminals X
-    of_start zero f lt = let same : N (slice_index g.starts p) ≡ X = cc in rw (← same) (All-get_or (λ s. s < g.nonterminals) g.starts p 0 lt h.starts)
-    of_start (suc k) f lt = cc
-
-    of_production : (o : Option Production) → slice_get g.productions (p - length g.starts) ≡ o → slice_get (unwrap_or (option_map (λ (p : Production). p.rhs) o) []) k ≡ Some X → IsSymbolBelow g.tokens g.nonterminals X
-    of_production None at f = cc
-    of_production (Some q) at f =
-        let below = All-contains (IsProductionBelow g.tokens g.nonterminals) g.productions q h.productions (contains_at g.productions (p - length g.starts) q at) in
-        All-contains (IsSymbolBelow g.tokens g.nonterminals) q.rhs X below.rhs (contains_at q.rhs k X f)
 
 -- a symbol that moves an item is the grammar's
 pub moving_symbol : (g : PlainGrammar) (a : Automaton) → IsInRange g → (s : ℕ) (X : Symbol) → Moves g a s X → IsSymbolBelow g.tokens g.nonterminals X

@@ -1,1 +1,4 @@
+pub mod Form
+pub mod Reading
 pub mod Written
+pub mod code

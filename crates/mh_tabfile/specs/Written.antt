@@ -1,9 +1,9 @@
--- What a table file says of an automaton with its table: what a grammar numbers, by names. The form is this project's own.
-use Rattle.std.specs.Prelude.{◌+◌, ◌++◌, ℕ, List, [], ◌∷◌, map, Option, Some, None, codes}
-use Rattle.mh_grammar.specs.declared.types.Look.{Look}
-use Rattle.mh_grammar.specs.declared.types.Look.TheVariants.{Token, End}
+-- What a table file says of a grammar's automaton with its table: what the grammar numbers, by names.
+use Rattle.std.specs.Prelude.{◌+◌, ◌++◌, ℕ, List, [], ◌∷◌, map, Option, Some, None}
+use Rattle.std.specs.List.{All}
 use Rattle.mh_grammar.specs.declared.types.Grammar.{Grammar}
 use Rattle.mh_grammar.specs.declared.types.TokenInfo.{TokenInfo}
+use Rattle.mh_grammar.specs.declared.types.NontermInfo.{NontermInfo}
 use Rattle.mh_grammar.specs.declared.types.Production.{Production}
 use Rattle.mh_grammar.specs.declared.edges.Edge.{Edge}
 use Rattle.mh_grammar.specs.Costs.{costs_of}
@@ -13,6 +13,7 @@ use Rattle.mh_tables.specs.declared.parts.Action.{Action}
 use Rattle.mh_tables.specs.declared.parts.Action.TheVariants.{Shift, Reduce, Refuse}
 use Rattle.mh_tables.specs.declared.parts.StateParts.{StateParts}
 use Rattle.mh_resolve.specs.declared.kinds.Mode.{Mode}
+use Rattle.mh_report.specs.Items.{look_name}
 use Rattle.mh_tabfile.specs.declared.types.RawProduction.{RawProduction}
 use Rattle.mh_tabfile.specs.declared.types.RawItem.{RawItem}
 use Rattle.mh_tabfile.specs.declared.types.RawEdge.{RawEdge}
@@ -21,10 +22,7 @@ use Rattle.mh_tabfile.specs.declared.types.RawCells.{RawCells}
 use Rattle.mh_tabfile.specs.declared.types.RawCells.TheVariants as cells
 use Rattle.mh_tabfile.specs.declared.types.RawState.{RawState}
 use Rattle.mh_tabfile.specs.declared.types.RawTable.{RawTable}
-
-abbrev pub look_name : Grammar → Look → List ℕ
-look_name g (Token z) = token_name g z
-look_name g End = codes "#"
+use Rattle.mh_tabfile.specs.Form.{IsWord}
 
 abbrev pub raw_production : Grammar → Production → RawProduction
 raw_production g p = record { lhs = nonterminal_name g p.lhs; rhs = map (symbol_name g) p.rhs }
@@ -53,6 +51,7 @@ raw_cells g parts = elim parts.fallback [ None ↦ cells.Cells (raw_row g 0 part
 abbrev pub raw_state_of : Grammar → Kernel → List Edge → StateParts → RawState
 raw_state_of g k edges parts = record { items = map (raw_item g) k.items; edges = map (raw_edge g) edges; cells = raw_cells g parts }
 
+-- the states, by their kernels, their edges and their parts of the table
 abbrev pub raw_states : Grammar → List Kernel → List (List Edge) → List StateParts → List RawState
 raw_states g [] rows parts = []
 raw_states g (k ∷ ks) [] parts = []
@@ -69,3 +68,8 @@ raw_of g a mode parts = record {
   productions = map (raw_production g) g.productions;
   states = raw_states g a.kernels a.edges parts;
 }
+
+-- the names of tokens and nonterminals are words: what is written of them is read
+pub record HasWordNames (g : Grammar) : Type 0 where
+  pub tokens : All (λ (t : TokenInfo). IsWord t.name) g.tokens
+  pub nonterminals : All (λ (n : NontermInfo). IsWord n.name) g.nonterminals

@@ -1,10 +1,11 @@
 -- How the work that the words ask for ends, by its cause.
-use Rattle.std.proofs.Common.{◌≡◌, Bool, true, false, ◌&&◌, List, [], ◌∷◌, ◌++◌, Option, None, Some, refl, sym, ◌∙◌, ap, subst}
+use Rattle.std.proofs.Common.{◌≡◌, ℕ, Bool, true, false, ◌&&◌, List, [], ◌∷◌, ◌++◌, Option, None, Some, refl, sym, ◌∙◌, ap, subst}
 use Rattle.std.specs.Bool.{⊤}
 use Rattle.std.specs.List.{All}
 use Rattle.std.proofs.lemmas.List.Elements.{All-head, All-tail}
 use Rattle.mh_outside.specs.Shelf.{Files, Found, NoFile, Long, Bytes}
 use Rattle.mh_rules.specs.declared.modules.Module.{Module}
+use Rattle.mh_sample.specs.Texts.{grammar_text}
 use Rattle.mh_opts.specs.Orders as spelled
 use Rattle.mh_opts.specs.declared.order.Order.{Order}
 use Rattle.mh_opts.specs.declared.order.UsageFault.{UsageFault}
@@ -15,6 +16,7 @@ use Rattle.mh_drive.specs.Causes.{Staged, Go, Halt, On, Then, Gives}
 use Rattle.mh_drive.specs.Statuses.{said}
 use Rattle.mh_prepare.specs.Order.{order_of, staged}
 use Rattle.mh_prepare.specs.FileStage.{AreFiles, IsFile, IsFound, IsLoaded, IsModule, loaded}
+use Rattle.mh_prepare.specs.Modules.{AreModules, AreModulesBy, grammar_files, names_by, sample_file, sample_of}
 use Rattle.mh_prepare.specs.Turns.{IsSpelled, IsTurn}
 use Rattle.mh_prepare.specs.GrammarStage.{IsGrammarStage}
 use Rattle.mh_prepare.specs.TableStage.{IsAutomatonStage, IsResolvedStage, IsTableStage, mode_of, source_of}
@@ -34,6 +36,7 @@ use Rattle.mh_prepare.specs.declared.tabled.Source.{Source}
 use Rattle.mh_prepare.specs.declared.tabled.Source.TheVariants.{Canonical, Merged}
 use Rattle.mh_prepare.proofs.Turns.{turn_first, turn_later}
 use Rattle.mh_prepare.proofs.Once.{prepared_once}
+use Rattle.mh_modes.proofs.Turning.{nil_not}
 use Rattle.mh_modes.proofs.EachMode.{EndsRight, IsRight, answer_right, ends_right, facts_of}
 
 -- a cause that no words, no file and no input have to account for
@@ -69,27 +72,27 @@ module _ (words : List Text) (files : Option Files) where
       subst Accounts same (on ∙ ap Halt (sym same))
 
   module _ (order : Order) (on : order_of words ≡ Go order) where
-    of_found : (name : Text) → IsTurn files IsModule order.grammars name → (what : Found) → IsFound files name what → (cause : Cause) → Halt cause ≡ loaded name what → Accounts cause
+    of_found : (name : Text) → IsTurn files IsModule (grammar_files order) name → (what : Found) → IsFound files name what → (cause : Cause) → Halt cause ≡ loaded name what → Accounts cause
     of_found name turn NoFile is cause from = let same : Missing name ≡ cause = cc in subst Accounts same ([], name, OfGrammar order on turn refl, is)
     of_found name turn Long is cause from = let same : LongFile name ≡ cause = cc in subst Accounts same ([], name, OfGrammar order on turn refl, is)
     of_found name turn (Bytes bytes) is cause from = absurd (cc)
 
-    of_read : (name : Text) → IsTurn files IsModule order.grammars name → (read : Staged Text) → IsLoaded files name read → (cause : Cause) → On read (IsModule name) (Halt cause) → Accounts cause
+    of_read : (name : Text) → IsTurn files IsModule (grammar_files order) name → (read : Staged Text) → IsLoaded files name read → (cause : Cause) → On read (IsModule name) (Halt cause) → Accounts cause
     of_read name turn (Go bytes) told cause fault = refused_so cause _ fault.cause_is
     of_read name turn (Halt cause') told cause is =
         let same : cause' ≡ cause = cc in subst Accounts same (of_found name turn told.0 told.1 cause' told.2)
 
-    of_files : (names : List Text) → ((name : Text) → IsTurn files IsModule names name → IsTurn files IsModule order.grammars name) → (cause : Cause) → AreFiles files IsModule names (Halt cause) → Accounts cause
+    of_files : (names : List Text) → ((name : Text) → IsTurn files IsModule names name → IsTurn files IsModule (grammar_files order) name) → (cause : Cause) → AreFiles files IsModule names (Halt cause) → Accounts cause
     of_files [] turn cause is = absurd (cc)
     of_files (name ∷ names) turn cause is = at (λ inner halt are. of_files names inner halt are) is.0 is.1 is.2
       where
-        behind : (((next : Text) → IsTurn files IsModule names next → IsTurn files IsModule order.grammars next) → (halt : Cause) → AreFiles files IsModule names (Halt halt) → Accounts halt) → (m : Module) → IsFile files IsModule name (Go m) → (rest : Staged (List Module)) → AreFiles files IsModule names rest → On rest (λ xs. Gives (m ∷ xs)) (Halt cause) → Accounts cause
+        behind : (((next : Text) → IsTurn files IsModule names next → IsTurn files IsModule (grammar_files order) next) → (halt : Cause) → AreFiles files IsModule names (Halt halt) → Accounts halt) → (m : Module) → IsFile files IsModule name (Go m) → (rest : Staged (List Module)) → AreFiles files IsModule names rest → On rest (λ xs. Gives (m ∷ xs)) (Halt cause) → Accounts cause
         behind again m spelled (Go xs) are same = absurd (cc)
         behind again m spelled (Halt cause') are same =
             let one : cause' ≡ cause = cc in
             subst Accounts one (again (λ next later. turn next (turn_later files IsModule name names next (m, spelled) later)) cause' are)
 
-        at : (((next : Text) → IsTurn files IsModule names next → IsTurn files IsModule order.grammars next) → (halt : Cause) → AreFiles files IsModule names (Halt halt) → Accounts halt) → (first : Staged Module) → IsFile files IsModule name first → On first (λ x. Then (AreFiles files IsModule names) (λ xs. Gives (x ∷ xs))) (Halt cause) → Accounts cause
+        at : (((next : Text) → IsTurn files IsModule names next → IsTurn files IsModule (grammar_files order) next) → (halt : Cause) → AreFiles files IsModule names (Halt halt) → Accounts halt) → (first : Staged Module) → IsFile files IsModule name first → On first (λ x. Then (AreFiles files IsModule names) (λ xs. Gives (x ∷ xs))) (Halt cause) → Accounts cause
         at again (Go m) spelled rest = behind again m spelled rest.0 rest.1 rest.2
         at again (Halt cause') stage same =
             let one : cause' ≡ cause = cc in
@@ -99,14 +102,23 @@ module _ (words : List Text) (files : Option Files) where
     of_grammar modules (Go g) stage cause same = absurd (cc)
     of_grammar modules (Halt cause') stage cause same = let one : cause' ≡ cause = cc in subst Accounts one (refused_so cause' _ stage.2)
 
-    of_modules : (s : Staged (List Module)) → AreFiles files IsModule order.grammars s → (cause : Cause) → On {B = Front} s (λ modules. Then (IsGrammarStage order.stdlib modules) (λ grammar. Gives (record { order = order; grammar = grammar }))) (Halt cause) → Accounts cause
+    -- of its modules, by its sample or its files
+    by_sample : (sample : Option ℕ) → ((name : Text) → IsTurn files IsModule (names_by sample order.grammars) name → IsTurn files IsModule (grammar_files order) name) → (cause : Cause) → AreModulesBy sample files order.grammars (Halt cause) → Accounts cause
+    by_sample None turn cause are = of_files order.grammars turn cause are
+    by_sample (Some number) turn cause are = at are.0 are.1 are.2
+      where
+        at : (first : Staged Module) → IsModule sample_file (grammar_text number) first → On first (λ m. Gives (m ∷ [])) (Halt cause) → Accounts cause
+        at (Go m) spells same = absurd (cc)
+        at (Halt cause') fault same = let one : cause' ≡ cause = cc in subst Accounts one (refused_so cause' _ fault.cause_is)
+
+    of_modules : (s : Staged (List Module)) → AreModules files order s → (cause : Cause) → On {B = Front} s (λ modules. Then (IsGrammarStage order.stdlib modules) (λ grammar. Gives (record { order = order; grammar = grammar }))) (Halt cause) → Accounts cause
     of_modules (Go modules) are cause rest = of_grammar modules rest.0 rest.1 cause rest.2
-    of_modules (Halt cause') are cause same = let one : cause' ≡ cause = cc in subst Accounts one (of_files order.grammars (λ name turn. turn) cause' are)
+    of_modules (Halt cause') are cause same = let one : cause' ≡ cause = cc in subst Accounts one (by_sample (sample_of order.job) (λ name turn. turn) cause' are)
 
   of_front : (cause : Cause) → IsFront words files (Halt cause) → Accounts cause
   of_front cause is = at (order_of words) refl is
     where
-      at : (s : Staged Order) → order_of words ≡ s → On {B = Front} s (λ order. Then (AreFiles files IsModule order.grammars) (λ modules. Then (IsGrammarStage order.stdlib modules) (λ grammar. Gives (record { order = order; grammar = grammar })))) (Halt cause) → Accounts cause
+      at : (s : Staged Order) → order_of words ≡ s → On {B = Front} s (λ order. Then (AreModules files order) (λ modules. Then (IsGrammarStage order.stdlib modules) (λ grammar. Gives (record { order = order; grammar = grammar })))) (Halt cause) → Accounts cause
       at (Go order) on rest = of_modules order on rest.0 rest.1 cause rest.2
       at (Halt cause') on same = let one : cause' ≡ cause = cc in subst Accounts one (usage_so (spelled.order_of words) cause' on on)
 
@@ -184,7 +196,7 @@ module _ (words : List Text) (files : Option Files) where
   misused_work line on (Halt cause) prepared w is = ap (λ (x : Work). x.warnings) is
   misused_work line on (Go p) prepared w is = absurd (no_front prepared.0 prepared.1 prepared.2)
     where
-      no_order : (s : Staged Order) → order_of words ≡ s → (front : Front) → On {B = Front} s (λ order. Then (AreFiles files IsModule order.grammars) (λ modules. Then (IsGrammarStage order.stdlib modules) (λ grammar. Gives (record { order = order; grammar = grammar })))) (Go front) → ⊥
+      no_order : (s : Staged Order) → order_of words ≡ s → (front : Front) → On {B = Front} s (λ order. Then (AreModules files order) (λ modules. Then (IsGrammarStage order.stdlib modules) (λ grammar. Gives (record { order = order; grammar = grammar })))) (Go front) → ⊥
       no_order (Go order) at front rest = let same : Halt (Misused line) ≡ Go order = sym on ∙ at in absurd (cc)
       no_order (Halt cause) at front rest = absurd (cc)
 
@@ -219,10 +231,15 @@ module _ (words : List Text) (files : Files) where
       let here : IsSpelled (Some files) IsModule first = All-head (IsSpelled (Some files) IsModule) first before spelled in
       (Go here.0, here.1, (Halt cause, files_halt name after cause is before (All-tail (IsSpelled (Some files) IsModule) first before spelled), refl))
 
-  prepared_halts : (order : Order) → order_of words ≡ Go order → (name : Text) → IsTurn (Some files) IsModule order.grammars name → (cause : Cause) → IsFile (Some files) IsModule name (Halt cause) → IsPrepared words (Some files) (Halt cause)
+  -- where one of the grammar files halts, so do the modules
+  modules_halt : (sample : Option ℕ) (names : List Text) (name : Text) → IsTurn (Some files) IsModule (names_by sample names) name → (cause : Cause) → IsFile (Some files) IsModule name (Halt cause) → AreModulesBy sample (Some files) names (Halt cause)
+  modules_halt None names name turn cause is = subst (λ (l : List Text). AreFiles (Some files) IsModule l (Halt cause)) (sym turn.names_are) (files_halt name turn.after cause is turn.before turn.spelled)
+  modules_halt (Some number) names name turn cause is = absurd (nil_not turn.before turn.after name turn.names_are)
+
+  prepared_halts : (order : Order) → order_of words ≡ Go order → (name : Text) → IsTurn (Some files) IsModule (grammar_files order) name → (cause : Cause) → IsFile (Some files) IsModule name (Halt cause) → IsPrepared words (Some files) (Halt cause)
   prepared_halts order on name turn cause is =
-      let are : AreFiles (Some files) IsModule order.grammars (Halt cause) = subst (λ (l : List Text). AreFiles (Some files) IsModule l (Halt cause)) (sym turn.names_are) (files_halt name turn.after cause is turn.before turn.spelled) in
-      let front : IsFront words (Some files) (Halt cause) = subst (λ (o : Staged Order). On {B = Front} o (λ x. Then (AreFiles (Some files) IsModule x.grammars) (λ modules. Then (IsGrammarStage x.stdlib modules) (λ grammar. Gives (record { order = x; grammar = grammar })))) (Halt cause)) (sym on) (Halt cause, are, refl) in
+      let are : AreModules (Some files) order (Halt cause) = modules_halt (sample_of order.job) order.grammars name turn cause is in
+      let front : IsFront words (Some files) (Halt cause) = subst (λ (o : Staged Order). On {B = Front} o (λ x. Then (AreModules (Some files) x) (λ modules. Then (IsGrammarStage x.stdlib modules) (λ grammar. Gives (record { order = x; grammar = grammar })))) (Halt cause)) (sym on) (Halt cause, are, refl) in
       (Halt cause, front, refl)
 
   halted_work : (cause : Cause) (w : Work) (input : Option Text) (o : Outcome) → IsPrepared words (Some files) (Halt cause) → IsWork words (Some files) w → Yields by_plan w.plan input o → o.cause ≡ Some cause

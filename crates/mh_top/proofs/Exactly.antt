@@ -41,7 +41,7 @@ use Rattle.std.proofs.lemmas.List.Elements.{All-cons, All-head, All-nil}
 use Rattle.mh_drive.specs.Text.{Text}
 use Rattle.mh_drive.specs.Causes.{Staged, Go, Halt, On, Then, Gives}
 use Rattle.mh_prepare.specs.Order.{order_of}
-use Rattle.mh_prepare.specs.FileStage.{AreFiles, IsFile, IsModule}
+use Rattle.mh_prepare.specs.Modules.{AreModules, sample_of}
 use Rattle.mh_prepare.specs.GrammarStage.{IsGrammarStage}
 use Rattle.mh_prepare.specs.TableStage.{IsAutomatonStage, IsResolvedStage, IsTableStage, mode_of, source_of}
 use Rattle.mh_msgfile.specs.Sentences.{LineFound}
@@ -59,7 +59,7 @@ use Rattle.mh_drive.specs.declared.stop.Cause.{Cause}
 use Rattle.mh_prepare.specs.declared.tabled.Source.{Source}
 use Rattle.mh_prepare.specs.declared.tabled.Source.TheVariants.{Canonical, Merged}
 use Rattle.mh_tables.specs.Halting.{Halts}
-use Rattle.mh_prepare.proofs.Ready.{have_alternatives}
+use Rattle.mh_prepare.proofs.Ready.{modules_ready}
 use Rattle.mh_modes.proofs.Reading.{Runs}
 use Rattle.mh_modes.proofs.EachMode.{facts_of as job_facts}
 
@@ -94,11 +94,11 @@ module _ (words : List Text) (files : Option Files) where
           let one : front ≡ record { order = order; grammar = g } = cc in
           subst (λ (f : Front). IsInRange (plain_of f.grammar) × HaveCosts f.grammar.tokens) (sym one) (in_range order.stdlib modules g some stage, have_costs order.stdlib modules g some stage)
 
-      of_modules : (order : Order) (s : Staged (List Module)) → AreFiles files IsModule order.grammars s → On s (λ modules. Then (IsGrammarStage order.stdlib modules) (λ grammar. Gives (record { order = order; grammar = grammar }))) (Go front) → IsInRange (plain_of front.grammar) × HaveCosts front.grammar.tokens
-      of_modules order (Go modules) are rest = of_grammar order modules (have_alternatives files order.grammars modules are) rest.0 rest.1 rest.2
+      of_modules : (order : Order) (s : Staged (List Module)) → AreModules files order s → On s (λ modules. Then (IsGrammarStage order.stdlib modules) (λ grammar. Gives (record { order = order; grammar = grammar }))) (Go front) → IsInRange (plain_of front.grammar) × HaveCosts front.grammar.tokens
+      of_modules order (Go modules) are rest = of_grammar order modules (modules_ready files (sample_of order.job) order.grammars modules are) rest.0 rest.1 rest.2
       of_modules order (Halt cause) are same = absurd (cc)
 
-      at : (s : Staged Order) → order_of words ≡ s → On s (λ order. Then (AreFiles files IsModule order.grammars) (λ modules. Then (IsGrammarStage order.stdlib modules) (λ grammar. Gives (record { order = order; grammar = grammar })))) (Go front) → IsInRange (plain_of front.grammar) × HaveCosts front.grammar.tokens
+      at : (s : Staged Order) → order_of words ≡ s → On s (λ order. Then (AreModules files order) (λ modules. Then (IsGrammarStage order.stdlib modules) (λ grammar. Gives (record { order = order; grammar = grammar })))) (Go front) → IsInRange (plain_of front.grammar) × HaveCosts front.grammar.tokens
       at (Go order) on rest = of_modules order rest.0 rest.1 rest.2
       at (Halt cause) on same = absurd (cc)
 

@@ -10,6 +10,7 @@ use Rattle.mh_drive.specs.Causes.{Go}
 use Rattle.mh_drive.specs.Statuses.{status_of, line_of, said}
 use Rattle.mh_prepare.specs.Order.{order_of}
 use Rattle.mh_prepare.specs.FileStage.{IsModule}
+use Rattle.mh_prepare.specs.Modules.{grammar_files}
 use Rattle.mh_prepare.specs.Turns.{IsTurn}
 use Rattle.mh_drive.specs.Ways.{Outcome, Yields}
 use Rattle.mh_top.specs.Work.{Work, IsWork, has_warning, warnings_of}
@@ -56,7 +57,7 @@ IsTurnBehind files p name = IsTurnUnless (p.order.strict && has_warning p.tabled
 
 -- the turn of the file of this name has come: of the order's grammar files, or, behind the warnings, of those that the mode reads
 pub data IsDue (words : List Text) (files : Option Files) (front name : Text) : Type 0 where
-  OfGrammar : (order : Order) → order_of words ≡ Go order → IsTurn files IsModule order.grammars name → front ≡ [] → IsDue words files front name
+  OfGrammar : (order : Order) → order_of words ≡ Go order → IsTurn files IsModule (grammar_files order) name → front ≡ [] → IsDue words files front name
   OfMode : (p : Prepared) → IsPrepared words files (Go p) → IsTurnBehind files p name → front ≡ warnings_of p → IsDue words files front name
 
 -- out and the input are as they were

@@ -11,7 +11,8 @@ use Rattle.mh_items.specs.Kernels.{IsKernelItem}
 use Rattle.mh_tabfile.specs.declared.types.RawItem.{RawItem}
 use Rattle.mh_tabfile.specs.declared.types.RawTable.{RawTable}
 use Rattle.mh_valid.specs.Valid.{HasKernel, AreNamesApart}
-use Rattle.mh_tabfile.specs.Written.{look_name, raw_item}
+use Rattle.mh_report.specs.Items.{look_name}
+use Rattle.mh_tabfile.specs.Written.{raw_item}
 
 pub same_look : (g : Grammar) → AreNamesApart g → (l m : Look) → IsLookBelow (length g.tokens) l → IsLookBelow (length g.tokens) m → look_name g l ≡ look_name g m → l ≡ m
 same_look g n (Token y) (Token z) h k e = ap Token (n.apart y z h k e)

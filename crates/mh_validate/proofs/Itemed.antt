@@ -20,7 +20,8 @@ use Rattle.mh_items.specs.Shapes.{KernelItem}
 use Rattle.mh_items.specs.Kernels.{IsKernelItem, IsItemBefore}
 use Rattle.mh_items.proofs.OneList.{item_along}
 use Rattle.mh_tabfile.specs.declared.types.RawItem.{RawItem}
-use Rattle.mh_tabfile.specs.Written.{look_name, raw_item}
+use Rattle.mh_report.specs.Items.{look_name}
+use Rattle.mh_tabfile.specs.Written.{raw_item}
 use Rattle.mh_valid.specs.Valid.{AreNamesApart}
 use Rattle.mh_valid.proofs.OneKernel.{same_look, same_item}
 use Rattle.mh_validate.specs.Looking.{IsLookOf, AreLooksOf, IsItemOf, AreItemsOf, IsLast, Behind, AreRead}

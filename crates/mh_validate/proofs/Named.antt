@@ -15,7 +15,7 @@ use Rattle.mh_msgfile.proofs.Canonical.{number_is}
 use Rattle.std.specs.Option.{unwrap_or}
 use Rattle.std.proofs.lemmas.Option.{slice_get_within, slice_get-map}
 use Rattle.std.proofs.lemmas.Slice.Eq.{bytes_eq-Decides}
-use Rattle.mh_tabfile.specs.Written.{look_name}
+use Rattle.mh_report.specs.Items.{look_name}
 use Rattle.mh_valid.specs.Valid.{AreNamesApart}
 use Rattle.mh_validate.specs.Looking.{IsLookOf}
 

@@ -9,7 +9,8 @@ use Rattle.mh_items.specs.Shapes.{KernelItem}
 use Rattle.mh_items.specs.Kernels.{IsKernelItem, IsItemBefore}
 use Rattle.mh_items.specs.Automaton.{start_kernel}
 use Rattle.mh_tabfile.specs.declared.types.RawItem.{RawItem}
-use Rattle.mh_tabfile.specs.Written.{look_name, raw_item}
+use Rattle.mh_report.specs.Items.{look_name}
+use Rattle.mh_tabfile.specs.Written.{raw_item}
 use Rattle.mh_valid.specs.Valid.{IsAtEnd}
 
 -- what is found is such a thing, and where nothing is found there is none

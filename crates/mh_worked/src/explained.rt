@@ -1,13 +1,6 @@
 //! What the sentence on the first line of the input is told.
-use crate::runs::{check_cases, check_cases_with};
+use crate::runs::{ONE_SENTENCE_FILE, check_cases, check_cases_with};
 use std::test::Fail;
-
-const SHARED: &str = "g.mly
-%token A EOF
-%start s
-%%
-s: A EOF {}
-";
 
 // The first line alone counts, and the empty sentence where there is none; why a sentence has no entry.
 const CASES: &str = "0 --interpret-error g.mly
@@ -132,7 +125,7 @@ menhir: input: missing start
 
 #[test]
 fn first_lines(rt: HostRuntime) -> Result<(), Fail> {
-    check_cases_with(&rt, rt.alloc(), SHARED, CASES)
+    check_cases_with(&rt, rt.alloc(), ONE_SENTENCE_FILE, CASES)
 }
 
 #[test]

@@ -12,6 +12,8 @@ mod explained;
 #[cfg(test)]
 mod interpreting;
 #[cfg(test)]
+mod keeping;
+#[cfg(test)]
 mod limits;
 #[cfg(test)]
 mod many_tokens;
@@ -22,9 +24,13 @@ mod refused;
 #[cfg(test)]
 mod runs;
 #[cfg(test)]
+mod samples;
+#[cfg(test)]
 mod sessions;
 #[cfg(test)]
 mod several_files;
+#[cfg(test)]
+mod table_files;
 #[cfg(test)]
 mod trees;
 #[cfg(test)]

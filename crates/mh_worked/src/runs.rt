@@ -11,6 +11,9 @@ use std::test::Fail;
 /// A grammar of one sentence, `A EOF`.
 pub const ONE_SENTENCE: &[u8] = b"%token A EOF\n%start s\n%%\ns: A EOF {}\n";
 
+/// It again, as the file `g.mly` that stands beside those of each case.
+pub const ONE_SENTENCE_FILE: &str = "g.mly\n%token A EOF\n%start s\n%%\ns: A EOF {}\n";
+
 /// The status, and the texts on out and err.
 #[derive(Drop)]
 pub struct Outcome {

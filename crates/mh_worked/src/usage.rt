@@ -2,7 +2,7 @@
 use crate::runs::check_cases;
 use std::test::Fail;
 
-// The first fault of: bad words, no mode, two modes, misplaced words, no grammar. No file is read.
+// The first fault of: bad words, bad number, no mode, two modes, misplaced words, no grammar. No file is read.
 const MISUSES: &str = "2
 ~
 ~
@@ -74,6 +74,12 @@ menhir: usage: bad words
 ~
 ~
 menhir: usage: bad words
+^
+2 --list-errors --messages m g.mly
+~
+~
+~
+menhir: usage: misplaced --messages
 ^
 2 --help
 ~

@@ -5,20 +5,26 @@ use std::alloc::{AllocError, Global};
 use std::process::Abort;
 use std::test::Fail;
 
-/// The job, what is on, and each file behind a colon.
+/// The job with its number, what is on, and each file behind a colon.
 fn shown(alloc: Global, order: &Order) -> Result<Vec<u8>, AllocError> {
     let mut text = Vec::new(alloc);
     text.extend_from_slice(match &order.job {
         Job::Interpret => b"interpret",
         Job::Session => b"session",
         Job::ShowAutomaton => b"show",
+        Job::WriteTables => b"tables",
         Job::ListErrors => b"list",
         Job::InterpretError => b"explain",
         Job::CompileErrors { .. } => b"compile",
         Job::CompareErrors { .. } => b"compare",
         Job::EchoErrors { .. } => b"echo",
         Job::UpdateErrors { .. } => b"update",
+        Job::Sample { .. } => b"sample",
     })?;
+    if let Job::Sample { number } = order.job {
+        let digits = format!(in alloc; " {number}")?;
+        text.extend_from_slice(digits.as_bytes())?;
+    }
     text.extend_from_slice(if order.canonical { b" canonical" } else { b"" })?;
     text.extend_from_slice(if order.strict { b" strict" } else { b"" })?;
     text.extend_from_slice(if order.stdlib { b"" } else { b" bare" })?;
@@ -35,6 +41,7 @@ fn answer(alloc: Global, words: &[String]) -> Result<Vec<u8>, AllocError> {
     match read_words(alloc, words) {
         Ok(order) => shown(alloc, &order),
         Err(UsageFault::Parse) => b"bad words".to_vec(alloc),
+        Err(UsageFault::Number) => b"bad number".to_vec(alloc),
         Err(UsageFault::NoMode) => b"no mode".to_vec(alloc),
         Err(UsageFault::TwoModes) => b"two modes".to_vec(alloc),
         Err(UsageFault::Misplaced { option }) => option.as_slice().to_vec(alloc),
@@ -51,6 +58,9 @@ const CASES: &str = "--interpret g.mly~interpret :g.mly^\
     --interpret --strict --interpret-show-cst g.mly~interpret strict trees :g.mly^\
     --show-automaton --strict g.mly~show strict :g.mly^\
     --canonical --show-automaton g.mly~show canonical :g.mly^\
+    --canonical --write-tables g.mly~tables canonical :g.mly^\
+    --write-tables --show-automaton g.mly~two modes^\
+    --write-tables=t g.mly~bad words^\
     --canonical g.mly~no mode^\
     --canonical --interpret --canonical g.mly~bad words^\
     --interpret -~interpret :-^\
@@ -59,6 +69,13 @@ const CASES: &str = "--interpret g.mly~interpret :g.mly^\
     --echo-errors m --compile-errors m g.mly~two modes^\
     --update-errors m g.mly~update :g.mly^\
     --update-errors m --echo-errors m g.mly~two modes^\
+    --sample 7~sample 7^\
+    --sample=9999 --canonical~sample 9999 canonical^\
+    --sample=0070 --strict~sample 70 strict^\
+    --sample=12345~bad number^\
+    --sample=~bad number^\
+    --sample 1x --interpret g.mly~bad number^\
+    --sample 7 -- g.mly~--sample^\
     --compare-errors a --compare-errors b g.mly~compare :g.mly^\
     --compare-errors=a g.mly --compare-errors=b~compare :g.mly^\
     --compare-errors a g.mly~--compare-errors^\

@@ -13,6 +13,8 @@ mod runs;
 #[cfg(test)]
 mod sets;
 #[cfg(test)]
+mod table_files;
+#[cfg(test)]
 mod tables;
 #[cfg(test)]
 mod token_sets;

@@ -74,7 +74,7 @@ fn too_long(alloc: Global, state: u32) -> Stop
 }
 
 /// Why there is no catalogue.
-fn stop_of(alloc: Global, fault: CatalogueFault) -> Stop
+pub(crate) fn stop_of(alloc: Global, fault: CatalogueFault) -> Stop
     ensures { FaultStops fault result }
 {
     match fault {

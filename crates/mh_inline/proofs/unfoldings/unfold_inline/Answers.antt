@@ -1,56 +1,63 @@
-use Rattle.std.proofs.Common.{◌≡◌, ◌<◌, length, get_or, refl, sym, ap, ◌∙◌, arith, subst, length-set}
-use Rattle.std.specs.List.{slice_get, Contains}
-use Rattle.std.proofs.lemmas.List.Elements.{Contains-get_or}
+use Rattle.std.proofs.Common.{◌<◌, length, get_or, refl, sym, ap, ◌∙◌, arith, subst, length-set}
+use Rattle.std.specs.List.{slice_get}
 use Rattle.std.proofs.lemmas.Option.{slice_get-get_or}
 use Rattle.mh_inline.specs.Uses.{AreLast, KnowsNeeded, KnowsUsed}
-use Rattle.mh_inline.proofs.Knowing.{inline_instance}
 use Rattle.mh_inline.proofs.Building.{next_from}
 use Rattle.mh_inline.proofs.Lasting.{order_within, KnowsNeeded-start, KnowsNeeded-more, KnowsNeeded-all}
+use Rattle.mh_inline.proofs.Moved.{passed_alone, passed_unneeded, without-kept, without-length}
 use Rattle.mh_inline.proofs.unfoldings.unfold_inline.Goals as goal
 
 pub last_uses-requires : goal.last_uses-requires
 last_uses-requires c = order_within c.args.expanded.now.instances c.args.sizing.now c.as_slice-order.result.now c.as_slice-order.ensures.value c.requires.sizing
 
 pub loop-place-init : goal.loop-place-init
-loop-place-init c = KnowsNeeded-start c.args.expanded.now.instances c.as_slice-order.result.now c.in_ok-last.last.items c.in_ok-known.known.items (c.in_ok-known.ensures ∙ c.len.ensures)
+loop-place-init c = KnowsNeeded-start c.args.expanded.now.instances c.as_slice-order.result.now c.as_slice-until.result.now c.in_ok-known.known.items (c.in_ok-known.ensures ∙ c.len.ensures)
 
-pub unfold_one-requires-clause-next : goal.unfold_one-requires-clause-next
-unfold_one-requires-clause-next c =
+pub passed_last-passed-requires-clause-number : goal.passed_last-passed-requires-clause-number
+passed_last-passed-requires-clause-number c = order_within c.args.expanded.now.instances c.args.sizing.now c.as_slice-order.result.now c.as_slice-order.ensures.value c.requires.sizing c.loop-place.place 0 c.loop-place-test.true
+
+pub passed_last-passed-requires-clause-last : goal.passed_last-passed-requires-clause-last
+passed_last-passed-requires-clause-last c = ap length c.as_slice-until.ensures.value ∙ c.in_ok-last.ensures.len
+
+pub unfold_next-requires-clause-next : goal.unfold_next-requires-clause-next
+unfold_next-requires-clause-next c =
     let is = c.args.expanded.now.instances in
     let order = c.as_slice-order.result.now in
     let same = c.as_slice-order.ensures.value in
     let i = c.loop-place.place in
-    let last = c.in_ok-last.last.items in
-    rw (c.deref.ensures.value) (next_from is c.args.sizing.now last c.loop-place.known.items i (get_or order i 0) c.requires.sizing
-    (subst (λ o. AreLast is o last) same c.in_ok-last.ensures)
+    let last = c.as_slice-until.result.now in
+    next_from is c.args.sizing.now last c.loop-place.known.items i (get_or order i 0) c.requires.sizing
+    (subst (λ o. AreLast is o last) same (rw c.as_slice-until.ensures.value c.in_ok-last.ensures))
     (subst (λ o. KnowsNeeded is o last i c.loop-place.known.items) same c.loop-place.invariant)
-    (ap (λ l. slice_get l i) (sym same) ∙ slice_get-get_or order i 0 c.loop-place-test.true))
+    (ap (λ l. slice_get l i) (sym same) ∙ slice_get-get_or order i 0 c.loop-place-test.true)
+
+pub unfold_next-requires-clause-known : goal.unfold_next-requires-clause-known
+unfold_next-requires-clause-known c = c.loop-place.invariant.len
+
+pub unfold_next-requires-clause-passed : goal.unfold_next-requires-clause-passed
+unfold_next-requires-clause-passed c = passed_alone c.args.expanded.now.instances _ _ _ c.passed_last-passed.result c.passed_last-passed.ensures
 
 pub index_mut-requires : goal.index_mut-requires
 index_mut-requires c =
     let w = order_within c.args.expanded.now.instances c.args.sizing.now c.as_slice-order.result.now c.as_slice-order.ensures.value c.requires.sizing c.loop-place.place 0 c.loop-place-test.true in
     let len = c.loop-place.invariant.len in
+    let same = ap length c.unfold_next.ensures.known ∙ without-length c.passed_last-passed.result c.loop-place.known.items in
     omega arith
 
 pub inlined_in-requires : goal.inlined_in-requires
 inlined_in-requires c = order_within c.args.expanded.now.instances c.args.sizing.now c.as_slice-order.result.now c.as_slice-order.ensures.value c.requires.sizing c.loop-place.place 0 c.loop-place-test.true
 
 pub forget-requires-clause-known : goal.forget-requires-clause-known
-forget-requires-clause-known c = λ k d l.
-    let is = c.args.expanded.now.instances in
+forget-requires-clause-known c =
     let n = get_or c.as_slice-order.result.now c.loop-place.place 0 in
-    let xs = c.as_slice-in-loop-place.result.now in
-    let m = get_or xs k d in
-    let made = (c.in_ok-numbers.ensures m).0 (subst (λ ys. Contains ys m) c.as_slice-in-loop-place.ensures.value (Contains-get_or xs k d l)) in
-    let w = (inline_instance is m made.among.used).within in
-    let e = length-set c.loop-place.known.items n c.in_ok-all.all in
-    let len = c.loop-place.invariant.len in
-    omega arith
+    let len = length-set c.unfold_next.new.known.items n c.in_ok-all.all ∙ ap length c.unfold_next.ensures.known ∙ without-length c.passed_last-passed.result c.loop-place.known.items ∙ c.loop-place.invariant.len in
+    rw (c.as_slice.ensures.value, len) c.in_ok-numbers.ensures.within
 
 pub forget-requires-clause-last : goal.forget-requires-clause-last
 forget-requires-clause-last c =
     let n = get_or c.as_slice-order.result.now c.loop-place.place 0 in
-    ap length c.as_slice.ensures.value ∙ c.in_ok-last.ensures.len ∙ sym c.loop-place.invariant.len ∙ sym (length-set c.loop-place.known.items n c.in_ok-all.all)
+    let len = length-set c.unfold_next.new.known.items n c.in_ok-all.all ∙ ap length c.unfold_next.ensures.known ∙ without-length c.passed_last-passed.result c.loop-place.known.items ∙ c.loop-place.invariant.len in
+    ap length c.as_slice-until.ensures.value ∙ c.in_ok-last.ensures.len ∙ sym len
 
 pub loop-place-preserved : goal.loop-place-preserved
 loop-place-preserved c =
@@ -59,14 +66,17 @@ loop-place-preserved c =
     let i = c.loop-place.place in
     let n = get_or order i 0 in
     let known = c.loop-place.known.items in
-    let last = c.in_ok-last.last.items in
+    let last = c.as_slice-until.result.now in
     let w = order_within is c.args.sizing.now order c.as_slice-order.ensures.value c.requires.sizing i 0 c.loop-place-test.true in
     let len = c.loop-place.invariant.len in
     let within : n < length known = omega arith in
-    KnowsNeeded-more is order last known c.forget.new.known.items i n c.in_ok-all.all c.loop-place-test.true refl within c.in_ok-all.ensures (rw c.as_slice.ensures.value at c.forget.ensures) c.loop-place.invariant
+    let q = c.passed_last-passed.result in
+    let unneeded = passed_unneeded is _ i n q c.passed_last-passed.ensures in
+    let forgets = without-kept last i n c.in_ok-all.all known c.forget.new.known.items q within unneeded (rw c.unfold_next.ensures.known at c.forget.ensures) in
+    KnowsNeeded-more is order last known c.forget.new.known.items i n c.in_ok-all.all c.loop-place-test.true refl within c.in_ok-all.ensures.unfoldings forgets c.loop-place.invariant
 
 pub returns : goal.returns
 returns c =
     let is = c.args.expanded.now.instances in
     let known = c.loop-place.known.items in
-    subst (λ o. KnowsUsed is o known) c.as_slice-order.ensures.value (KnowsNeeded-all is c.as_slice-order.result.now c.in_ok-last.last.items known c.loop-place.place (omega (arith, c.loop-place-test.false, c.loop-place.auto.place-end)) c.in_ok-last.ensures c.loop-place.invariant)
+    subst (λ o. KnowsUsed is o known) c.as_slice-order.ensures.value (KnowsNeeded-all is c.as_slice-order.result.now c.as_slice-until.result.now known c.loop-place.place (omega (arith, c.loop-place-test.false, c.loop-place.auto.place-end)) (rw c.as_slice-until.ensures.value c.in_ok-last.ensures) c.loop-place.invariant)

@@ -1,5 +1,5 @@
 use Rattle.std.proofs.Common.{refl, sym, ap, ap₂, ◌∙◌}
-use Rattle.mh_opts.specs.declared.jobs.Job.TheVariants.{Interpret, InterpretError, Session, ShowAutomaton, ListErrors, CompileErrors, CompareErrors, EchoErrors, UpdateErrors}
+use Rattle.mh_opts.specs.declared.jobs.Job.TheVariants.{Interpret, InterpretError, Session, ShowAutomaton, WriteTables, ListErrors, CompileErrors, CompareErrors, EchoErrors, UpdateErrors}
 use Rattle.mh_drive.proofs.Opening.{ran_read}
 use Rattle.mh_modes.specs.Plan.{by_plan}
 use Rattle.mh_modes.proofs.Following.{job_followed, opened_calm, opened_followed, opened_read, opened_still}
@@ -31,6 +31,13 @@ returns-in-ShowAutomaton-clause-ran g c =
 pub returns-in-ShowAutomaton-clause-read : goal.returns-in-ShowAutomaton-clause-read
 returns-in-ShowAutomaton-clause-read g c = ran_read by_plan _ _ _ _ _ _ c.drive-in-ShowAutomaton.result (c.drive-in-ShowAutomaton.ensures.ran _ ((c.requires.few, c.requires.fit), refl))
 
+pub returns-in-WriteTables-clause-ran : goal.returns-in-WriteTables-clause-ran
+returns-in-WriteTables-clause-ran g c =
+    job_followed (g.F.Shelf.files c.args.shelf.now) c.args.prepared.now _ WriteTables _ _ _ _ c.drive-in-WriteTables.result c.in-WriteTables.is refl (c.drive-in-WriteTables.ensures.ran _ ((c.requires.few, c.requires.fit), refl))
+
+pub returns-in-WriteTables-clause-read : goal.returns-in-WriteTables-clause-read
+returns-in-WriteTables-clause-read g c = ran_read by_plan _ _ _ _ _ _ c.drive-in-WriteTables.result (c.drive-in-WriteTables.ensures.ran _ ((c.requires.few, c.requires.fit), refl))
+
 pub returns-in-ListErrors-clause-ran : goal.returns-in-ListErrors-clause-ran
 returns-in-ListErrors-clause-ran g c =
     job_followed (g.F.Shelf.files c.args.shelf.now) c.args.prepared.now _ ListErrors _ _ _ _ c.drive-in-ListErrors.result c.in-ListErrors.is refl (c.drive-in-ListErrors.ensures.ran _ ((c.requires.few, c.requires.fit), refl))
@@ -58,3 +65,10 @@ returns-in-CompareErrors-clause-ran g c =
     opened_followed (g.F.Shelf.files c.args.shelf.now) c.args.prepared.now _ (CompareErrors c.as_slice-in-CompareErrors.result.now c.as_slice-in-CompareErrors-2.result.now)
     (c.in-CompareErrors.is ∙ ap₂ CompareErrors (sym c.as_slice-in-CompareErrors.ensures) (sym c.as_slice-in-CompareErrors-2.ensures)) _ _ _ _ c.drive_opened-in-CompareErrors.result c.compare_by-opened.result c.compare_by-opened.ensures.opens
     c.drive_opened-in-CompareErrors.ensures.ran
+
+pub returns-in-Sample-clause-ran : goal.returns-in-Sample-clause-ran
+returns-in-Sample-clause-ran g c =
+    job_followed (g.F.Shelf.files c.args.shelf.now) c.args.prepared.now _ _ _ _ _ _ c.drive-in-Sample.result c.in-Sample.is refl (c.drive-in-Sample.ensures.ran _ ((c.requires.few, c.requires.fit), refl))
+
+pub returns-in-Sample-clause-read : goal.returns-in-Sample-clause-read
+returns-in-Sample-clause-read g c = ran_read by_plan _ _ _ _ _ _ c.drive-in-Sample.result (c.drive-in-Sample.ensures.ran _ ((c.requires.few, c.requires.fit), refl))

@@ -1,61 +1,30 @@
-use Rattle.std.proofs.Common.{◌≡◌, Some, length, get_or, refl, sym, ap, ◌∙◌, arith, inl, inr, true, false, rules}
-use Rattle.std.specs.List.{slice_get}
-use Rattle.std.proofs.lemmas.Bool.{cases_eq}
-use Rattle.std.proofs.lemmas.Option.{slice_get_read, slice_get-get_or, slice_get_within}
+use Rattle.std.proofs.Common.{◌≡◌, sym, ◌∙◌, arith, true, false, rules}
 use Rattle.mh_grammar.specs.Plain.{plain_of}
-use Rattle.mh_grammar.proofs.Lists.{contains_at}
-use Rattle.mh_items.specs.Kernels.{Holds, IsKernel}
-use Rattle.mh_pager.specs.Weak.{OneCore}
 use Rattle.mh_pager.specs.Steps.{Takes}
-use Rattle.mh_pager.proofs.Indexing.{first_of, none_of, one_core}
+use Rattle.mh_pager.proofs.Candidates.{Search, Seen, seen, found, passed, all_passed}
 use Rattle.mh_pager.proofs.finding.first_taking.Goals as goal
 
 pub weakly_compatible-requires : goal.weakly_compatible-requires
 weakly_compatible-requires g c =
-    let kernels = c.args.kernels.now in
-    let states = c.args.states.now in
-    let i = c.loop-candidate.candidate-index in
-    let n = get_or states i 0 in
-    let k = c.index-kernels-candidate.result in
-    let here : slice_get states i ≡ Some n = slice_get-get_or states i 0 c.loop-candidate-test.true in
-    let at : slice_get kernels n ≡ Some k = slice_get_read kernels (length kernels) n k refl (c.requires.states.within i 0 c.loop-candidate-test.true) c.index-kernels-candidate.is in
-    let valid : IsKernel (plain_of c.args.grammar.now) k = c.requires.kernels n k at in
-    let core : OneCore (Holds k) (Holds c.args.kernel.now) = one_core (plain_of c.args.grammar.now) k c.args.kernel.now valid c.requires.kernel (c.requires.states.only n k (contains_at states i n here) at) in
-    (search rules, (c.requires.few, ((plain_of c.args.grammar.now, valid, c.requires.kernel), core)))
+    let s : Search = record { g = plain_of c.args.grammar.now; kernels = c.args.kernels.now; move = c.args.kernel.now; states = c.args.states.now; each = c.requires.kernels; valid = c.requires.kernel; candidates = c.requires.states } in
+    let it = seen s c.loop-candidate.candidate-index c.index-kernels-candidate.result c.loop-candidate-test.true c.index-kernels-candidate.is in
+    (search rules, (c.requires.few, ((plain_of c.args.grammar.now, it.valid, c.requires.kernel), it.core)))
 
 pub returns-then-weakly_compatible : goal.returns-then-weakly_compatible
 returns-then-weakly_compatible g c =
-    let kernels = c.args.kernels.now in
-    let states = c.args.states.now in
-    let i = c.loop-candidate.candidate-index in
-    let n = get_or states i 0 in
+    let s : Search = record { g = plain_of c.args.grammar.now; kernels = c.args.kernels.now; move = c.args.kernel.now; states = c.args.states.now; each = c.requires.kernels; valid = c.requires.kernel; candidates = c.requires.states } in
     let k = c.index-kernels-candidate.result in
-    let here : slice_get states i ≡ Some n = slice_get-get_or states i 0 c.loop-candidate-test.true in
-    let at : slice_get kernels n ≡ Some k = slice_get_read kernels (length kernels) n k refl (c.requires.states.within i 0 c.loop-candidate-test.true) c.index-kernels-candidate.is in
-    let valid : IsKernel (plain_of c.args.grammar.now) k = c.requires.kernels n k at in
-    let core : OneCore (Holds k) (Holds c.args.kernel.now) = one_core (plain_of c.args.grammar.now) k c.args.kernel.now valid c.requires.kernel (c.requires.states.only n k (contains_at states i n here) at) in
-    let has : Takes c.args.kernel.now k = (core, c.weakly_compatible.ensures.0 c.if-weakly_compatible.true) in
-    (k, first_of (plain_of c.args.grammar.now) kernels c.args.kernel.now states c.requires.kernels c.requires.kernel c.requires.states (Takes c.args.kernel.now) (λ j p. p.0) i n k here at has c.loop-candidate.invariant)
+    let it = seen s c.loop-candidate.candidate-index k c.loop-candidate-test.true c.index-kernels-candidate.is in
+    (k, found s (Takes c.args.kernel.now) (λ j p. p.0) c.loop-candidate.candidate-index k it (it.core, c.weakly_compatible.ensures.0 c.if-weakly_compatible.true) c.loop-candidate.invariant)
 
 pub loop-candidate-preserved : goal.loop-candidate-preserved
 loop-candidate-preserved g c =
-    let kernels = c.args.kernels.now in
-    let states = c.args.states.now in
-    let i = c.loop-candidate.candidate-index in
-    let n = get_or states i 0 in
+    let s : Search = record { g = plain_of c.args.grammar.now; kernels = c.args.kernels.now; move = c.args.kernel.now; states = c.args.states.now; each = c.requires.kernels; valid = c.requires.kernel; candidates = c.requires.states } in
     let k = c.index-kernels-candidate.result in
-    let here : slice_get states i ≡ Some n = slice_get-get_or states i 0 c.loop-candidate-test.true in
-    let at : slice_get kernels n ≡ Some k = slice_get_read kernels (length kernels) n k refl (c.requires.states.within i 0 c.loop-candidate-test.true) c.index-kernels-candidate.is in
-    λ j m h l e f p. elim (cases_eq j i) [
-      | inl s ↦ (
-          let one : Some n ≡ Some m = sym here ∙ ap (slice_get states) (sym s) ∙ e in
-          let number : n ≡ m = cc in
-          let two : Some k ≡ Some h = sym at ∙ ap (slice_get kernels) number ∙ f in
-          let same : h ≡ k = cc in
-          let u : true ≡ false = sym (c.weakly_compatible.ensures.1 (rw same at p).1) ∙ c.if-weakly_compatible.false in
-          cc)
-      | inr s ↦ c.loop-candidate.invariant j m h (omega arith) e f p
-    ]
+    let it = seen s c.loop-candidate.candidate-index k c.loop-candidate-test.true c.index-kernels-candidate.is in
+    passed s (Takes c.args.kernel.now) (λ j p. p.0) c.loop-candidate.candidate-index k it (λ p. (let u : true ≡ false = sym (c.weakly_compatible.ensures.1 p.1) ∙ c.if-weakly_compatible.false in cc)) c.loop-candidate.invariant
 
 pub returns : goal.returns
-returns g c = none_of (plain_of c.args.grammar.now) c.args.kernels.now c.args.kernel.now c.args.states.now c.requires.kernels c.requires.kernel c.requires.states (Takes c.args.kernel.now) (λ j p. p.0) (λ j m h e f p. c.loop-candidate.invariant j m h (omega (arith, slice_get_within c.args.states.now j m e, c.loop-candidate-test.false)) e f p)
+returns g c =
+    let s : Search = record { g = plain_of c.args.grammar.now; kernels = c.args.kernels.now; move = c.args.kernel.now; states = c.args.states.now; each = c.requires.kernels; valid = c.requires.kernel; candidates = c.requires.states } in
+    all_passed s (Takes c.args.kernel.now) (λ j p. p.0) c.loop-candidate.candidate-index (omega (arith, c.loop-candidate-test.false)) c.loop-candidate.invariant

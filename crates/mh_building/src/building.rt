@@ -1,0 +1,411 @@
+//! The parts of joined files.
+ghost use Rattle.std.specs.Prelude.{◌≡◌, ◌++◌, ◌∷◌, ◌≤◌, ◌<◌, ◌+◌, ◌^◌, [], None, false, length, map, option_and_then, unwrap_or, IfOk, OnOk};
+ghost use Rattle.std.specs.List.{flat_map, enumerate_from};
+ghost use Rattle.mh_meanings.specs.Names as names_spec;
+ghost use Rattle.mh_meanings.specs.Names.{files, formal_number, definitions_from, definitions_in};
+ghost use Rattle.mh_meanings.specs.Faults.{meant_by, undefined_in_actual, undefined_in_on_error, undefined_start};
+ghost use Rattle.mh_meanings.specs.Joining.{resolved, all_resolved, prec_by, alternative_by, token_info, on_error_in, rule_without, AreRules};
+ghost use Rattle.mh_meanings.specs.Maps.{meanings_in, elsewhere_in, formals_in};
+ghost use Rattle.mh_building.specs.Standing.{unresolved, unresolved_in_rule, unresolved_in_rules, unresolved_in_file, unresolved_on_error, definitions_by, Adds};
+
+use crate::printing::printed;
+use mh_grammar::{Level, Memory, Name, Sequence, TokenInfo};
+use mh_meanings::{Formals, Names, formals_of, marked_public, name_by, owner_in};
+use mh_rules::{
+    Actual, Alternative, Applied, JoinedAlternative, JoinedRule, MAX_TOKENS, Module, Prec, Ref,
+    Rule,
+};
+use std::alloc::Global;
+
+/// An actual with its names resolved.
+#[cycle(actuals)]
+fn joined_actual(
+    alloc: Global,
+    names: &Names,
+    file: u64,
+    formals: &Formals,
+    actual: &Actual,
+) -> Result<Applied, Memory>
+    requires few { length names.now.tokens.keys ≤ MAX_TOKENS }
+    requires stand { undefined_in_actual false
+        (meant_by (meanings_in names.now) file (formals_in formals.now)) actual.now
+        ≡ [] }
+    ensures { IfOk result (λ a.
+        Some a
+        ≡ resolved (meant_by (meanings_in names.now) file (formals_in formals.now)) actual.now) }
+{
+    let head = names.head_of(file, formals, &actual.head).unwrap();
+    let args = joined_actuals(alloc, names, file, formals, actual.args.as_slice())?;
+    Ok(Applied { head, args })
+}
+
+#[cycle(actuals)]
+fn joined_actuals(
+    alloc: Global,
+    names: &Names,
+    file: u64,
+    formals: &Formals,
+    actuals: &[Actual],
+) -> Result<Sequence<Applied>, Memory>
+    requires few { length names.now.tokens.keys ≤ MAX_TOKENS }
+    requires stand { flat_map
+        (undefined_in_actual false (meant_by (meanings_in names.now) file (formals_in formals.now)))
+        actuals.now
+        ≡ [] }
+    ensures { IfOk result (λ ks. map Some ks
+        ≡ map (resolved (meant_by (meanings_in names.now) file (formals_in formals.now))) actuals.now) }
+{
+    let mut joined = Sequence::new(alloc);
+    for actual in actuals {
+        joined.push(joined_actual(alloc, names, file, formals, actual)?)?;
+    }
+    Ok(joined)
+}
+
+/// The level of a name or string.
+fn level_of(names: &Names, reference: &Ref) -> Option<Level>
+    ensures { result
+        ≡ option_and_then (meanings_in names.now).level
+        (names_spec.name_by (meanings_in names.now).aliased reference.now) }
+{
+    names
+        .levels
+        .get(name_by(&names.aliases, reference)?)
+        .copied()
+}
+
+/// What a `%prec` gives.
+fn joined_prec(names: &Names, prec: &Option<Ref>) -> Prec
+    ensures { result ≡ prec_by (meanings_in names.now).aliased (meanings_in names.now).level prec.now }
+{
+    match prec {
+        None => Prec::Absent,
+        Some(reference) => Prec::Given(level_of(names, reference)),
+    }
+}
+
+/// The cost that a token is given first, else 1.
+fn cost_of(names: &Names, name: &Name) -> u32
+    ensures { result ≡ unwrap_or ((meanings_in names.now).cost name.now) 1 }
+{
+    match names.costs.get(name) {
+        Some(cost) => *cost,
+        None => 1,
+    }
+}
+
+pub(crate) fn joined_tokens(alloc: Global, names: &Names) -> Result<Sequence<TokenInfo>, Memory>
+    ensures { IfOk result (λ tokens. tokens ≡ map (token_info (meanings_in names.now)) (meanings_in names.now).tokens) }
+{
+    let mut tokens = Sequence::new(alloc);
+    for name in names.tokens.as_slice() {
+        tokens.push(TokenInfo {
+            name: name.clone()?,
+            level: names.levels.get(name).copied(),
+            cost: cost_of(names, name),
+        })?;
+    }
+    Ok(tokens)
+}
+
+fn start_number(names: &Names, name: &Name) -> u64
+    requires { undefined_start (meanings_in names.now) name.now ≡ [] }
+    ensures { Some result ≡ (meanings_in names.now).numbers.rule None name.now }
+{
+    names.numbering.public.get(name).copied().unwrap()
+}
+
+pub(crate) fn joined_starts(alloc: Global, names: &Names) -> Result<Sequence<u64>, Memory>
+    requires { flat_map (undefined_start (meanings_in names.now)) (meanings_in names.now).starts ≡ [] }
+    ensures { IfOk result (λ starts.
+        map Some starts
+        ≡ map ((meanings_in names.now).numbers.rule None) (meanings_in names.now).starts) }
+{
+    let mut starts = Sequence::new(alloc);
+    for name in names.starts.as_slice() {
+        starts.push(start_number(names, name))?;
+    }
+    Ok(starts)
+}
+
+fn add_on_error(
+    alloc: Global,
+    names: &Names,
+    file: u64,
+    none: &Formals,
+    declared: &[Sequence<Actual>],
+    joined: &mut Sequence<Sequence<Applied>>,
+) -> Result<(), Memory>
+    requires few { length names.now.tokens.keys ≤ MAX_TOKENS }
+    requires stand { flat_map
+        (undefined_in_on_error (meant_by (meanings_in names.now) file (formals_in none.now)))
+        declared.now
+        ≡ [] }
+    ensures { OnOk result (map Some joined.new
+        ≡ map Some joined.old
+        ++ map (all_resolved (meant_by (meanings_in names.now) file (formals_in none.now))) declared.now) }
+{
+    for actuals in declared {
+        joined.push(joined_actuals(alloc, names, file, none, actuals.as_slice())?)?;
+    }
+    Ok(())
+}
+
+/// The on-error declarations of all files.
+pub(crate) fn joined_on_error(
+    alloc: Global,
+    names: &Names,
+    modules: &[Module],
+) -> Result<Sequence<Sequence<Applied>>, Memory>
+    requires few { length names.now.tokens.keys ≤ MAX_TOKENS }
+    requires stand { flat_map (unresolved_on_error (meanings_in names.now)) (files modules.now) ≡ [] }
+    ensures { IfOk result
+        (λ joined. map Some joined ≡ flat_map (on_error_in (meanings_in names.now)) (files modules.now)) }
+{
+    let none = formals_of(alloc, &[])?;
+    let mut joined = Sequence::new(alloc);
+    for (at, file) in modules.iter().enumerate() {
+        let declared = file.on_error.as_slice();
+        add_on_error(alloc, names, at as u64 + 1, &none, declared, &mut joined)?;
+    }
+    Ok(joined)
+}
+
+fn joined_alternative(
+    alloc: Global,
+    names: &Names,
+    file: u64,
+    formals: &Formals,
+    place: u64,
+    alternative: &Alternative,
+) -> Result<JoinedAlternative, Memory>
+    requires few { length names.now.tokens.keys ≤ MAX_TOKENS }
+    requires stand { unresolved (meant_by (meanings_in names.now) file (formals_in formals.now)) alternative.now ≡ [] }
+    ensures { IfOk result (λ a. Some a
+        ≡ alternative_by (meanings_in names.now) file
+        (meant_by (meanings_in names.now) file (formals_in formals.now)) (place, alternative.now)) }
+{
+    Ok(JoinedAlternative {
+        file,
+        place,
+        producers: joined_actuals(
+            alloc,
+            names,
+            file,
+            formals,
+            alternative.producers.as_slice(),
+        )?,
+        prec: joined_prec(names, &alternative.prec),
+    })
+}
+
+fn add_alternatives(
+    alloc: Global,
+    names: &Names,
+    file: u64,
+    formals: &Formals,
+    place: u64,
+    alternatives: &[Alternative],
+    joined: &mut Sequence<JoinedAlternative>,
+) -> Result<(), Memory>
+    requires few { length names.now.tokens.keys ≤ MAX_TOKENS }
+    requires fits { place + length alternatives.now < 2 ^ 64 }
+    requires stand { flat_map
+        (unresolved (meant_by (meanings_in names.now) file (formals_in formals.now))) alternatives.now
+        ≡ [] }
+    ensures { OnOk result (map Some joined.new
+        ≡ map Some joined.old
+        ++ map
+        (alternative_by (meanings_in names.now) file
+        (meant_by (meanings_in names.now) file (formals_in formals.now)))
+        (enumerate_from place alternatives.now)) }
+{
+    for (at, alternative) in alternatives.iter().enumerate() {
+        let place = place + at as u64;
+        joined.push(joined_alternative(alloc, names, file, formals, place, alternative)?)?;
+    }
+    Ok(())
+}
+
+/// Puts the alternatives of a definition behind those of its rule. `place` is that of the first of them.
+fn add_definition(
+    alloc: Global,
+    names: &Names,
+    file: u64,
+    place: u64,
+    rule: &Rule,
+    joined: &mut Sequence<JoinedAlternative>,
+) -> Result<(), Memory>
+    requires few { length names.now.tokens.keys ≤ MAX_TOKENS }
+    requires fits { place + length rule.now.alternatives < 2 ^ 64 }
+    requires stand { unresolved_in_rule (meanings_in names.now) file rule.now ≡ [] }
+    ensures { OnOk result (map Some joined.new
+        ≡ map Some joined.old
+        ++ map
+        (alternative_by (meanings_in names.now) file
+        (meant_by (meanings_in names.now) file (formal_number rule.now.formals)))
+        (enumerate_from place rule.now.alternatives)) }
+{
+    let formals = formals_of(alloc, rule.formals.as_slice())?;
+    let alternatives = rule.alternatives.as_slice();
+    add_alternatives(alloc, names, file, &formals, place, alternatives, joined)
+}
+
+/// Puts the alternatives of a definition with this owner behind those of its rule.
+fn add_rule(
+    alloc: Global,
+    names: &Names,
+    file: u64,
+    owner: Option<u64>,
+    place: u64,
+    rule: &Rule,
+    joined: &mut [JoinedRule],
+) -> Result<(), Memory>
+    requires few { length names.now.tokens.keys ≤ MAX_TOKENS }
+    requires fits { place + length rule.now.alternatives < 2 ^ 64 }
+    requires stand { unresolved_in_rule (meanings_in names.now) file rule.now ≡ [] }
+    ensures { OnOk result (Adds (meanings_in names.now)
+        (record { file = file; owner = owner; place = place; rule = rule.now } ∷ []) joined.old
+        joined.new) }
+{
+    // In joined files each definition has a number, and its rule stands there. `Adds` holds without: it speaks of the rules
+    // that are there.
+    if let Some(number) = names.numbering.number_of(owner, &rule.name) {
+        if (number as usize) < joined.len() {
+            let target = &mut joined[number as usize].alternatives;
+            add_definition(alloc, names, file, place, rule, target)?;
+        }
+    }
+    Ok(())
+}
+
+/// The place behind the alternatives of a rule. No file within memory has so many that it does not fit.
+fn place_behind(place: u64, rule: &Rule) -> Result<u64, Memory>
+    ensures next { IfOk result (λ n. n ≡ place + length rule.now.alternatives) }
+    ensures fits { IfOk result (λ n. n < 2 ^ 64) }
+{
+    match place.checked_add(rule.alternatives.len() as u64) {
+        Some(next) => Ok(next),
+        None => Err(Memory),
+    }
+}
+
+/// Puts the alternatives of a file behind those of its rules.
+fn add_file(
+    alloc: Global,
+    names: &Names,
+    file: u64,
+    rules: &[Rule],
+    joined: &mut [JoinedRule],
+) -> Result<(), Memory>
+    requires few { length names.now.tokens.keys ≤ MAX_TOKENS }
+    requires stand { unresolved_in_rules (meanings_in names.now) file rules.now ≡ [] }
+    ensures { OnOk result (Adds (meanings_in names.now)
+        (definitions_from (names_spec.owner_in names.now.starts.keys file rules.now) file 0
+        rules.now)
+        joined.old joined.new) }
+{
+    let marked = marked_public(alloc, rules)?;
+    let mut place = 0u64;
+    for rule in rules {
+        let next = place_behind(place, rule)?;
+        let owner = owner_in(&names.starts, &marked, file, &rule.name);
+        add_rule(alloc, names, file, owner, place, rule, joined)?;
+        place = next;
+    }
+    Ok(())
+}
+
+/// Puts the alternatives of the prelude behind those of its rules.
+fn add_prelude(
+    alloc: Global,
+    names: &Names,
+    rules: &[Rule],
+    joined: &mut [JoinedRule],
+) -> Result<(), Memory>
+    requires few { length names.now.tokens.keys ≤ MAX_TOKENS }
+    requires stand { unresolved_in_rules (meanings_in names.now) 0 rules.now ≡ [] }
+    ensures { OnOk result
+        (Adds (meanings_in names.now) (names_spec.library_definitions rules.now) joined.old joined.new) }
+{
+    let mut place = 0u64;
+    for rule in rules {
+        let next = place_behind(place, rule)?;
+        add_rule(alloc, names, 0, Some(0), place, rule, joined)?;
+        place = next;
+    }
+    Ok(())
+}
+
+/// The rules before their alternatives.
+fn rules_without(alloc: Global, names: &Names) -> Result<Vec<JoinedRule>, Memory>
+    ensures { IfOk result (λ rules.
+        rules.items ≡ map (rule_without (elsewhere_in names.now)) names.now.numbering.rules.items) }
+{
+    let mut rules = Vec::new(alloc);
+    for outline in names.numbering.rules.iter() {
+        rules.push(JoinedRule {
+            name: printed(alloc, names, outline)?,
+            inlined: outline.inlined,
+            formals: outline.formals,
+            alternatives: Sequence::new(alloc),
+        })?;
+    }
+    Ok(rules)
+}
+
+fn add_files(
+    alloc: Global,
+    names: &Names,
+    modules: &[Module],
+    joined: &mut [JoinedRule],
+) -> Result<(), Memory>
+    requires few { length names.now.tokens.keys ≤ MAX_TOKENS }
+    requires stand { flat_map (unresolved_in_file (meanings_in names.now)) (files modules.now) ≡ [] }
+    ensures { OnOk result (Adds (meanings_in names.now)
+        (flat_map (definitions_in names.now.starts.keys) (files modules.now)) joined.old joined.new) }
+{
+    for (at, file) in modules.iter().enumerate() {
+        add_file(alloc, names, at as u64 + 1, file.rules.as_slice(), joined)?;
+    }
+    Ok(())
+}
+
+/// Puts in the alternatives of the files in order, and then those of the prelude.
+fn add_all(
+    alloc: Global,
+    names: &Names,
+    modules: &[Module],
+    library: &[Rule],
+    joined: &mut [JoinedRule],
+) -> Result<(), Memory>
+    requires few { length names.now.tokens.keys ≤ MAX_TOKENS }
+    requires stand { flat_map (unresolved_in_file (meanings_in names.now)) (files modules.now) ≡ [] }
+    requires library_stands { unresolved_in_rules (meanings_in names.now) 0 library.now ≡ [] }
+    ensures { OnOk result
+        (Adds (meanings_in names.now) (definitions_by names.now modules.now library.now) joined.old
+        joined.new) }
+{
+    add_files(alloc, names, modules, joined)?;
+    add_prelude(alloc, names, library, joined)?;
+    Ok(())
+}
+
+/// The rules of the files in order, and then those of the prelude.
+pub(crate) fn joined_rules(
+    alloc: Global,
+    names: &Names,
+    modules: &[Module],
+    library: &[Rule],
+) -> Result<Sequence<JoinedRule>, Memory>
+    requires few { length names.now.tokens.keys ≤ MAX_TOKENS }
+    requires stand { flat_map (unresolved_in_file (meanings_in names.now)) (files modules.now) ≡ [] }
+    requires library_stands { unresolved_in_rules (meanings_in names.now) 0 library.now ≡ [] }
+    ensures { IfOk result
+        (AreRules (meanings_in names.now) (elsewhere_in names.now) names.now.numbering.rules.items
+        (definitions_by names.now modules.now library.now)) }
+{
+    let mut rules = rules_without(alloc, names)?;
+    add_all(alloc, names, modules, library, rules.as_mut_slice())?;
+    Ok(Sequence::from_vec(rules))
+}

@@ -1,8 +1,0 @@
-use Rattle.std.specs.List.{flat_map}
-use Rattle.mh_join.specs.Names.{files, definitions_in, library_definitions}
-use Rattle.mh_join.specs.Maps.{meanings_in}
-use Rattle.mh_join.proofs.Adding.{Adds-append}
-use Rattle.mh_join.proofs.building.add_all.Goals as goal
-
-pub returns : goal.returns
-returns c = Adds-append (meanings_in c.args.names.now) (flat_map (definitions_in c.args.names.now.starts.keys) (files c.args.modules.now)) (library_definitions c.args.library.now) c.args.joined.now c.add_files.new.joined c.add_prelude.new.joined c.in_ok-add_files.ensures c.in_ok-add_prelude.ensures

@@ -1,7 +1,0 @@
-use Rattle.std.proofs.Common.{◌≡◌, take}
-use Rattle.indexmap.specs.IndexSet.{contains}
-use Rattle.mh_join.specs.Names.{Text, same, marks_public}
-use Rattle.mh_join.proofs.numbering.marked_public.Given as goal
-
-abbrev pub invariant-loop-rule : goal.invariant-loop-rule
-invariant-loop-rule l = (x : Text) → contains same l.marked x ≡ marks_public (take l.rule-index l.rules) x

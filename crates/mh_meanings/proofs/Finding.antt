@@ -1,0 +1,44 @@
+-- Faults that are sought one after the other.
+use Rattle.std.proofs.Common.{◌≡◌, ℕ, suc, ◌+◌, ◌<◌, List, [], ◌∷◌, ◌++◌, Some, None, Result, length, get_or, drop, sym, ap, subst, ◌∙◌, ◌⊎◌, inl, inr, arith, add-one, drop-cons}
+use Rattle.std.specs.List.{flat_map, enumerate_from}
+use Rattle.mh_meanings.specs.declared.fault.JoinFault.{JoinFault}
+use Rattle.mh_meanings.specs.declared.fault.JoinFault.TheVariants as faults
+use Rattle.mh_meanings.specs.Faults.{Finds, first}
+
+-- the first of these faults, or want of memory
+abbrev pub IsFirst : List JoinFault → JoinFault → Type 0
+IsFirst es e = (e ≡ faults.Memory) ⊎ (first es ≡ Some e)
+
+pub first_then : (es fs : List JoinFault) (e : JoinFault) → IsFirst es e → IsFirst (es ++ fs) e
+first_then es fs e (inl m) = inl m
+first_then [] fs e (inr p) = let bad : None ≡ Some e = p in cc
+first_then (x ∷ es) fs e (inr p) = inr p
+
+pub finds_then : {X : Type 0} (es fs : List JoinFault) (r : Result X JoinFault) → es ≡ [] → Finds fs r → Finds (es ++ fs) r
+finds_then es fs r e h = subst (λ k. Finds (k ++ fs) r) (sym e) h
+
+pub drop_item : {A : Type 0} (xs : List A) (i : ℕ) (x : A) → i < length xs → x ≡ get_or xs i x → drop i xs ≡ x ∷ drop (i + 1) xs
+drop_item xs i x h e = rw (add-one, drop-cons xs i x) (ap (λ k. k ∷ drop (suc i) xs) (sym e))
+
+module _ {A : Type 0} (f : A → List JoinFault) (xs : List A) (i : ℕ) (x : A) (h : i < length xs) (at : x ≡ get_or xs i x) (so_far : flat_map f (drop i xs) ≡ flat_map f xs) where
+  here : f x ++ flat_map f (drop (i + 1) xs) ≡ flat_map f xs
+  here = ap (flat_map f) (sym (drop_item xs i x h at)) ∙ so_far
+
+  pub finds_more : f x ≡ [] → flat_map f (drop (i + 1) xs) ≡ flat_map f xs
+  finds_more e = ap (λ k. k ++ flat_map f (drop (i + 1) xs)) (sym e) ∙ here
+
+  pub finds_err : (e : JoinFault) → IsFirst (f x) e → IsFirst (flat_map f xs) e
+  finds_err e p = subst (λ k. IsFirst k e) here (first_then (f x) (flat_map f (drop (i + 1) xs)) e p)
+
+module _ {A : Type 0} (f : ℕ × A → List JoinFault) (xs : List A) (n i j : ℕ) (x : A) (h : i < length xs) (at : x ≡ get_or xs i x) (place : n + i ≡ j) (so_far : flat_map f (enumerate_from (n + i) (drop i xs)) ≡ flat_map f (enumerate_from n xs)) where
+  here_at : f (j, x) ++ flat_map f (enumerate_from (n + (i + 1)) (drop (i + 1) xs)) ≡ flat_map f (enumerate_from n xs)
+  here_at =
+      ap (λ k. f (k, x) ++ flat_map f (enumerate_from (n + (i + 1)) (drop (i + 1) xs))) (sym place)
+      ∙ ap (λ k. f (n + i, x) ++ flat_map f (enumerate_from k (drop (i + 1) xs))) (let e : n + (i + 1) ≡ n + i + 1 = omega arith in e)
+      ∙ ap (λ k. flat_map f (enumerate_from (n + i) k)) (sym (drop_item xs i x h at)) ∙ so_far
+
+  pub finds_more_at : f (j, x) ≡ [] → flat_map f (enumerate_from (n + (i + 1)) (drop (i + 1) xs)) ≡ flat_map f (enumerate_from n xs)
+  finds_more_at e = ap (λ k. k ++ flat_map f (enumerate_from (n + (i + 1)) (drop (i + 1) xs))) (sym e) ∙ here_at
+
+  pub finds_err_at : (e : JoinFault) → IsFirst (f (j, x)) e → IsFirst (flat_map f (enumerate_from n xs)) e
+  finds_err_at e p = subst (λ k. IsFirst k e) here_at (first_then (f (j, x)) (flat_map f (enumerate_from (n + (i + 1)) (drop (i + 1) xs))) e p)

@@ -1,0 +1,4 @@
+pub mod Lists
+pub mod Finding
+pub mod Actuals
+pub mod Resolving

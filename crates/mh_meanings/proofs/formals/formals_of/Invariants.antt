@@ -1,0 +1,7 @@
+use Rattle.std.proofs.Common.{◌≡◌, take}
+use Rattle.indexmap.specs.IndexMap.{get}
+use Rattle.mh_meanings.specs.Names.{Text, same, formal_number}
+use Rattle.mh_meanings.proofs.formals.formals_of.Given as goal
+
+abbrev pub invariant-loop-at : goal.invariant-loop-at
+invariant-loop-at l = (x : Text) → get same l.numbers x ≡ formal_number (take l.at l.formals) x

@@ -1,0 +1,59 @@
+//! Which rules of a file are public.
+ghost use Rattle.std.specs.Prelude.{◌≡◌, ◌||◌, ◌&&◌, if◌then◌else◌, IfOk, OnOk};
+ghost use Rattle.std.specs.List.{list_any};
+ghost use Rattle.indexmap.specs.IndexSet.{contains};
+ghost use Rattle.mh_meanings.specs.Names.{Text, same, marks_public};
+
+use crate::maps::put_name;
+use indexmap::IndexSet;
+use mh_grammar::{Memory, Name};
+use mh_rules::Rule;
+use std::alloc::Global;
+
+fn mark_public(marked: &mut IndexSet<Name>, rule: &Rule) -> Result<(), Memory>
+    ensures { OnOk result ((x : Text) →
+        contains same marked.new x
+        ≡ (contains same marked.old x || (rule.now.public && same x rule.now.name))) }
+{
+    if !rule.public {
+        return Ok(());
+    }
+    put_name(marked, &rule.name)?;
+    Ok(())
+}
+
+/// The names of rules that a file marks public.
+pub fn marked_public(alloc: Global, rules: &[Rule]) -> Result<IndexSet<Name>, Memory>
+    ensures { IfOk result (λ marked. (x : Text) → contains same marked x ≡ marks_public rules.now x) }
+{
+    let mut marked = IndexSet::new(alloc);
+    for rule in rules {
+        mark_public(&mut marked, rule)?;
+    }
+    Ok(marked)
+}
+
+/// Whether the rules of a name are public in a file that marks these names.
+pub fn is_public(starts: &IndexSet<Name>, marked: &IndexSet<Name>, name: &Name) -> bool
+    ensures { result ≡ (contains same starts.now name.now || contains same marked.now name.now) }
+{
+    starts.contains(name) || marked.contains(name)
+}
+
+/// Who owns the rules of a name in a file.
+pub fn owner_in(
+    starts: &IndexSet<Name>,
+    marked: &IndexSet<Name>,
+    file: u64,
+    name: &Name,
+) -> Option<u64>
+    ensures { result
+        ≡ (if list_any (same name.now) starts.now.keys || contains same marked.now name.now then None else
+        Some file) }
+{
+    if is_public(starts, marked, name) {
+        None
+    } else {
+        Some(file)
+    }
+}

@@ -1,0 +1,3 @@
+pub mod Defining
+pub mod Numbers
+pub mod Meaning

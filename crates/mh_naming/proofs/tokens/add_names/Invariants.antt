@@ -1,0 +1,7 @@
+use Rattle.std.proofs.Common.{◌≡◌, drop}
+use Rattle.indexmap.specs.IndexSet.{insert_all}
+use Rattle.mh_meanings.specs.Names.{same}
+use Rattle.mh_naming.proofs.tokens.add_names.Given as goal
+
+abbrev pub invariant-loop-name : goal.invariant-loop-name
+invariant-loop-name l = insert_all same l.names.keys (drop l.name-index l.more) ≡ insert_all same l.initial.names.keys l.more

@@ -1,0 +1,40 @@
+//! The costs of the tokens of all files.
+ghost use Rattle.std.specs.Prelude.{◌≡◌, IfOk, OnOk};
+ghost use Rattle.std.specs.List.{flat_map};
+ghost use Rattle.indexmap.specs.IndexMap.{get};
+ghost use Rattle.mh_meanings.specs.Names.{Text, same, cost_of, given_cost};
+ghost use Rattle.mh_meanings.specs.Puts.{Puts};
+
+use indexmap::IndexMap;
+use mh_grammar::Memory;
+use mh_meanings::{Costs, put_first};
+use mh_rules::{Module, TokenDecl};
+use std::alloc::Global;
+
+fn add_cost(costs: &mut Costs, token: &TokenDecl) -> Result<(), Memory>
+    ensures { OnOk result (Puts costs.old (given_cost token.now) costs.new) }
+{
+    if let Some(cost) = token.cost {
+        put_first(costs, &token.name, cost)?;
+    }
+    Ok(())
+}
+
+fn add_costs(costs: &mut Costs, tokens: &[TokenDecl]) -> Result<(), Memory>
+    ensures { OnOk result (Puts costs.old (flat_map given_cost tokens.now) costs.new) }
+{
+    for token in tokens {
+        add_cost(costs, token)?;
+    }
+    Ok(())
+}
+
+pub(crate) fn costs_of(alloc: Global, files: &[Module]) -> Result<Costs, Memory>
+    ensures { IfOk result (λ costs. (x : Text) → get same costs x ≡ cost_of files.now x) }
+{
+    let mut costs = IndexMap::new(alloc);
+    for file in files {
+        add_costs(&mut costs, file.tokens.as_slice())?;
+    }
+    Ok(costs)
+}

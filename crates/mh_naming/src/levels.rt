@@ -1,0 +1,79 @@
+//! The levels of names.
+ghost use Rattle.std.specs.Prelude.{◌≡◌, IfOk, OnOk};
+ghost use Rattle.std.specs.List.{flat_map, enumerate_from};
+ghost use Rattle.std.specs.Map.{lookup};
+ghost use Rattle.indexmap.specs.IndexMap.{get};
+ghost use Rattle.mh_meanings.specs.Names as spec;
+ghost use Rattle.mh_meanings.specs.Names.{Text, same, with_level, levels_by, levels_in};
+ghost use Rattle.mh_meanings.specs.Puts.{Puts};
+
+use indexmap::IndexMap;
+use mh_grammar::{Level, Memory};
+use mh_meanings::{Aliases, Levels, name_by, put_first};
+use mh_rules::{LevelDecl, Module, Ref};
+use std::alloc::Global;
+
+fn add_level(
+    levels: &mut Levels,
+    aliases: &Aliases,
+    level: Level,
+    reference: &Ref,
+) -> Result<(), Memory>
+    ensures { OnOk result (Puts levels.old
+        (with_level level (spec.name_by (λ a. get same aliases.now a) reference.now)) levels.new) }
+{
+    if let Some(name) = name_by(aliases, reference) {
+        put_first(levels, name, level)?;
+    }
+    Ok(())
+}
+
+fn add_declaration(
+    levels: &mut Levels,
+    aliases: &Aliases,
+    file: u64,
+    rank: u64,
+    declared: &LevelDecl,
+) -> Result<(), Memory>
+    ensures { OnOk result
+        (Puts levels.old (levels_by (λ a. get same aliases.now a) file (rank, declared.now)) levels.new) }
+{
+    let assoc = declared.assoc;
+    let level = Level { file, rank, assoc };
+    for reference in declared.names.as_slice() {
+        add_level(levels, aliases, level, reference)?;
+    }
+    Ok(())
+}
+
+fn add_declarations(
+    levels: &mut Levels,
+    aliases: &Aliases,
+    file: u64,
+    declared: &[LevelDecl],
+) -> Result<(), Memory>
+    ensures { OnOk result (Puts levels.old
+        (flat_map (levels_by (λ a. get same aliases.now a) file) (enumerate_from 0 declared.now))
+        levels.new) }
+{
+    for (rank, declaration) in declared.iter().enumerate() {
+        add_declaration(levels, aliases, file, rank as u64, declaration)?;
+    }
+    Ok(())
+}
+
+pub(crate) fn levels_of(
+    alloc: Global,
+    aliases: &Aliases,
+    files: &[Module],
+) -> Result<Levels, Memory>
+    ensures { IfOk result (λ levels. (x : Text) →
+        get same levels x
+        ≡ lookup (same x) (flat_map (levels_in (λ a. get same aliases.now a)) (spec.files files.now))) }
+{
+    let mut levels = IndexMap::new(alloc);
+    for (at, file) in files.iter().enumerate() {
+        add_declarations(&mut levels, aliases, at as u64 + 1, file.levels.as_slice())?;
+    }
+    Ok(levels)
+}

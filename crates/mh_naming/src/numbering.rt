@@ -1,0 +1,149 @@
+//! The rules of all files and of the prelude, by numbers in order of their first definitions.
+ghost use Rattle.std.specs.Prelude.{◌≡◌, ◌∷◌, [], ◌+◌, length, map, IfOk, OnOk};
+ghost use Rattle.std.specs.List.{All};
+ghost use Rattle.indexmap.specs.IndexMap.{IsEmpty};
+ghost use Rattle.mh_meanings.specs.Numbering.{outline_by, outline_in, outlines_of, IsNumbered, IsOwner, AddsNumber, Numbers};
+
+use indexmap::{IndexMap, IndexSet};
+use mh_grammar::{Memory, Name};
+use mh_meanings::{Numbering, Outline, marked_public, owner_in, put_first};
+use mh_rules::{Module, Rule};
+use std::alloc::Global;
+
+/// So many maps without names, and one more.
+fn empty_maps(alloc: Global, count: usize) -> Result<Vec<IndexMap<Name, u64>>, Memory>
+    ensures len { IfOk result (λ maps. length maps.items ≡ count + 1) }
+    ensures empty { IfOk result (λ maps. All IsEmpty maps.items) }
+{
+    let mut maps = Vec::new(alloc);
+    for _at in 0..count {
+        maps.push(IndexMap::new(alloc))?;
+    }
+    maps.push(IndexMap::new(alloc))?;
+    Ok(maps)
+}
+
+/// No rules yet, and room for those of so many files beside the prelude.
+pub(crate) fn no_rules(alloc: Global, files: usize) -> Result<Numbering, Memory>
+    ensures numbered { IfOk result IsNumbered }
+    ensures none { IfOk result (λ n. n.rules.items ≡ []) }
+    ensures owners { IfOk result (λ n. length n.own.items ≡ files + 1) }
+{
+    Ok(Numbering {
+        public: IndexMap::new(alloc),
+        own: empty_maps(alloc, files)?,
+        rules: Vec::new(alloc),
+    })
+}
+
+fn rule_count(numbering: &Numbering) -> u64
+    ensures { result ≡ length numbering.now.rules.items }
+{
+    numbering.rules.len() as u64
+}
+
+fn add_public(numbering: &mut Numbering, name: &Name, number: u64) -> Result<(), Memory>
+    ensures { OnOk result (AddsNumber numbering.old None name.now number numbering.new) }
+{
+    put_first(&mut numbering.public, name, number)?;
+    Ok(())
+}
+
+fn add_own(numbering: &mut Numbering, file: u64, name: &Name, number: u64) -> Result<(), Memory>
+    requires { IsOwner numbering.old (Some file) }
+    ensures { OnOk result (AddsNumber numbering.old (Some file) name.now number numbering.new) }
+{
+    put_first(&mut numbering.own[file as usize], name, number)?;
+    Ok(())
+}
+
+/// Gives a rule a number.
+fn add_number(
+    numbering: &mut Numbering,
+    owner: Option<u64>,
+    name: &Name,
+    number: u64,
+) -> Result<(), Memory>
+    requires { IsOwner numbering.old owner }
+    ensures { OnOk result (AddsNumber numbering.old owner name.now number numbering.new) }
+{
+    match owner {
+        None => add_public(numbering, name, number),
+        Some(file) => add_own(numbering, file, name, number),
+    }
+}
+
+/// Puts in the rule of a definition, where it is new.
+fn add_rule(numbering: &mut Numbering, owner: Option<u64>, rule: &Rule) -> Result<(), Memory>
+    requires numbered { IsNumbered numbering.old }
+    requires owner { IsOwner numbering.old owner }
+    ensures { OnOk result (Numbers numbering.old numbering.new (outline_by owner rule.now ∷ [])) }
+{
+    if numbering.number_of(owner, &rule.name).is_none() {
+        let outline = Outline {
+            name: rule.name.clone()?,
+            owner,
+            inlined: rule.inlined,
+            formals: rule.formals.len() as u64,
+        };
+        let number = rule_count(numbering);
+        add_number(numbering, owner, &rule.name, number)?;
+        numbering.rules.push(outline)?;
+    }
+    Ok(())
+}
+
+/// Puts in the rules of a file.
+fn add_rules(
+    numbering: &mut Numbering,
+    alloc: Global,
+    starts: &IndexSet<Name>,
+    file: u64,
+    rules: &[Rule],
+) -> Result<(), Memory>
+    requires numbered { IsNumbered numbering.old }
+    requires owner { IsOwner numbering.old (Some file) }
+    ensures { OnOk result (Numbers numbering.old numbering.new (map (outline_in starts.now.keys file rules.now) rules.now)) }
+{
+    let marked = marked_public(alloc, rules)?;
+    for rule in rules {
+        add_rule(numbering, owner_in(starts, &marked, file, &rule.name), rule)?;
+    }
+    Ok(())
+}
+
+/// Puts in the rules of the prelude.
+fn add_prelude(numbering: &mut Numbering, rules: &[Rule]) -> Result<(), Memory>
+    requires numbered { IsNumbered numbering.old }
+    requires owner { IsOwner numbering.old (Some 0) }
+    ensures { OnOk result (Numbers numbering.old numbering.new (map (outline_by (Some 0)) rules.now)) }
+{
+    for rule in rules {
+        add_rule(numbering, Some(0), rule)?;
+    }
+    Ok(())
+}
+
+/// The rules of these files, and of the prelude behind them.
+pub(crate) fn numbering_of(
+    alloc: Global,
+    starts: &IndexSet<Name>,
+    files: &[Module],
+    prelude: &[Rule],
+) -> Result<Numbering, Memory>
+    ensures numbered { IfOk result IsNumbered }
+    ensures rules { IfOk result (λ n. n.rules.items ≡ outlines_of starts.now.keys files.now prelude.now) }
+{
+    let mut numbering = no_rules(alloc, files.len())?;
+    for (at, file) in files.iter().enumerate() {
+        add_rules(
+            &mut numbering,
+            alloc,
+            starts,
+            at as u64 + 1,
+            file.rules.as_slice(),
+        )?;
+    }
+    add_prelude(&mut numbering, prelude)?;
+    Ok(numbering)
+}

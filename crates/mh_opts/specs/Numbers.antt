@@ -1,0 +1,20 @@
+-- Numbers among the words: one to four decimal digits. Source: this project's profile.
+use Rattle.std.specs.Prelude.{ℕ, ◌+◌, ◌-◌, ◌*◌, ◌&&◌, Bool, not, nat_le, List, [], ◌∷◌, length, Option, None, Some, if◌then◌else◌}
+use Rattle.std.specs.Char.{is_ascii_digit}
+use Rattle.std.specs.List.{list_all}
+use Rattle.clap.specs.Walk.{is_empty}
+use Rattle.clap.specs.Words.{Text}
+
+-- digits behind a number
+abbrev pub value_behind : ℕ → Text → ℕ
+value_behind n [] = n
+value_behind n (digit ∷ digits) = value_behind (10 * n + (digit - 48)) digits
+
+abbrev pub value : Text → ℕ
+value digits = value_behind 0 digits
+
+abbrev pub is_short : Text → Bool
+is_short text = not (is_empty text) && nat_le (length text) 4
+
+abbrev pub number_in : Text → Option ℕ
+number_in text = if is_short text && list_all is_ascii_digit text then Some (value text) else None

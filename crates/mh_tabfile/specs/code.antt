@@ -1,0 +1,4 @@
+pub mod Lines
+pub mod Machine
+pub mod Texts
+pub mod Words

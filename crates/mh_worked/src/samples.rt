@@ -1,0 +1,114 @@
+//! Samples: the counts of generated grammars, and words around them. No file is read.
+use crate::runs::check_cases;
+use std::test::Fail;
+
+// By levels k of operators, 2 and 3 here: k + 4 tokens, 2k + 3 productions; merged 3k + 8 states, of which k + 6 are listed, and canonical 6k + 12 and
+// 2k + 7. Of 3,000 sentences 1,000 lack a parenthesis, but for the 59 of these that open none.
+const MERGED: &str = "0 --sample 0
+~
+~
+sample 0: tokens 6, productions 7, states 14, listed 8, accept 2059, overshoot 0, reject 941
+~
+";
+
+const CANONICAL: &str = "0 --sample 0 --canonical
+~
+~
+sample 0: tokens 6, productions 7, states 24, listed 11, accept 2059, overshoot 0, reject 941
+~
+";
+
+const MORE_LEVELS: &str = "0 --sample=0031 --strict --no-stdlib
+~
+~
+sample 31: tokens 7, productions 9, states 17, listed 9, accept 2059, overshoot 0, reject 941
+~
+";
+
+const UNWRITTEN: &str = "4 --sample 0
+out 1
+~
+~
+~
+";
+
+// What is no number of one to four digits, and words that a sample does not go with.
+const WORDS: &str = "2 --sample x
+~
+~
+~
+menhir: usage: bad number
+^
+2 --sample 12345
+~
+~
+~
+menhir: usage: bad number
+^
+2 --sample=
+~
+~
+~
+menhir: usage: bad number
+^
+2 --sample +1
+~
+~
+~
+menhir: usage: bad number
+^
+2 --sample x --interpret g.mly
+~
+~
+~
+menhir: usage: bad number
+^
+2 --sample 1 --interpret g.mly
+~
+~
+~
+menhir: usage: two modes
+^
+2 --sample 1 --messages m g.mly
+~
+~
+~
+menhir: usage: misplaced --messages
+^
+2 --sample 1 g.mly
+~
+~
+~
+menhir: usage: misplaced --sample
+^
+2 --sample
+~
+~
+~
+menhir: usage: bad words
+";
+
+#[test]
+fn merged(rt: HostRuntime) -> Result<(), Fail> {
+    check_cases(&rt, rt.alloc(), MERGED)
+}
+
+#[test]
+fn canonical(rt: HostRuntime) -> Result<(), Fail> {
+    check_cases(&rt, rt.alloc(), CANONICAL)
+}
+
+#[test]
+fn more_levels(rt: HostRuntime) -> Result<(), Fail> {
+    check_cases(&rt, rt.alloc(), MORE_LEVELS)
+}
+
+#[test]
+fn unwritten(rt: HostRuntime) -> Result<(), Fail> {
+    check_cases(&rt, rt.alloc(), UNWRITTEN)
+}
+
+#[test]
+fn words(rt: HostRuntime) -> Result<(), Fail> {
+    check_cases(&rt, rt.alloc(), WORDS)
+}

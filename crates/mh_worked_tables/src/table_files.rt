@@ -1,0 +1,220 @@
+//! Table files that were written out by hand: what is written for a grammar, what is read of it, and the line at which a
+//! file is not of the form.
+use mh_made::{automaton_of, grammar_of, resolved};
+use mh_resolve::Mode;
+use mh_tabfile::{RawCells, RawTable, TabFault, read_tables, write_tables};
+use std::alloc::Global;
+use std::process::Abort;
+use std::test::Fail;
+
+/// The grammar of one production, and its file.
+const SMALL: &str = "A EOF; s; s: A EOF";
+
+const SMALL_FILE: &str =
+    "menhir-tables 2 merged\ntokens A EOF\ncosts 1 1\nstarts s\nproductions 1\n\
+    s -> A EOF\nstates 4\nstate 0\nitem 0 0 #\nedge A 1\nedge s 2\ncell A shift 1\nstate 1\nitem 1 1 #\n\
+    edge EOF 3\ncell EOF shift 3\nstate 2\nitem 0 1 #\ndefault accept\nstate 3\nitem 1 2 #\n\
+    default reduce 1\nend\n";
+
+/// Two starts, an empty production, a cost, and looks with the end of the stream last.
+const LARGER: &str = "B$7 C; s t*; s: B t; t:; t: C";
+
+const LARGER_FILE: &str =
+    "menhir-tables 2 canonical\ntokens B C\ncosts 7 1\nstarts s t\nproductions 3\n\
+    s -> B t\nt ->\nt -> C\nstates 7\nstate 0\nitem 0 0 #\nedge B 2\nedge s 3\ncell B shift 2\n\
+    state 1\nitem 1 0 #\nedge C 4\nedge t 5\ncell C shift 4\n\
+    state 2\nitem 2 1 #\nedge C 4\nedge t 6\ncell C shift 4\nstate 3\nitem 0 1 #\ndefault accept\n\
+    state 4\nitem 4 1 #\ndefault reduce 4\nstate 5\nitem 1 1 #\ndefault accept\n\
+    state 6\nitem 2 2 #\ndefault reduce 2\nend\n";
+
+fn file_of(alloc: Global, grammar: &str, mode: Mode) -> Result<Vec<u8>, Fail> {
+    let grammar = grammar_of(alloc, grammar)?;
+    let automaton = automaton_of(alloc, &grammar)?;
+    let (table, _) = resolved(alloc, &grammar, mode)?;
+    Ok(write_tables(alloc, &grammar, &automaton, &table, mode)?)
+}
+
+fn check_file(
+    rt: &impl Abort,
+    alloc: Global,
+    grammar: &str,
+    mode: Mode,
+    wanted: &str,
+) -> Result<(), Fail> {
+    let file = file_of(alloc, grammar, mode)?;
+    assert_eq!(rt; str::from_utf8(file.as_slice())?, wanted, "{grammar}");
+    Ok(())
+}
+
+#[test]
+fn written(rt: HostRuntime) -> Result<(), Fail> {
+    let alloc = rt.alloc();
+    check_file(&rt, alloc, SMALL, Mode::Merged, SMALL_FILE)
+}
+
+#[test]
+fn written_with_costs(rt: HostRuntime) -> Result<(), Fail> {
+    let alloc = rt.alloc();
+    check_file(&rt, alloc, LARGER, Mode::Canonical, LARGER_FILE)
+}
+
+/// What reading answers: how many states, the version, or the line.
+fn answer(alloc: Global, file: &[u8]) -> Result<String, Fail> {
+    let text = match read_tables(alloc, file) {
+        Ok(table) => format!(in alloc; "{} states", table.states.len())?,
+        Err(TabFault::Version) => format!(in alloc; "version")?,
+        Err(TabFault::TabShape { line }) => format!(in alloc; "line {line}")?,
+        Err(TabFault::Memory) => format!(in alloc; "memory")?,
+    };
+    Ok(text)
+}
+
+fn check_answer(rt: &impl Abort, alloc: Global, file: &str, wanted: &str) -> Result<(), Fail> {
+    let got = answer(alloc, file.as_bytes())?;
+    assert_eq!(rt; got.as_str(), wanted, "{file}");
+    Ok(())
+}
+
+#[test]
+fn ends(rt: HostRuntime) -> Result<(), Fail> {
+    let alloc = rt.alloc();
+    check_answer(&rt, alloc, "", "line 1")?;
+    check_answer(&rt, alloc, SMALL_FILE, "4 states")?;
+    let (front, _) = SMALL_FILE.split_at(SMALL_FILE.len() - 1);
+    check_answer(&rt, alloc, front, "line 23")?;
+    let (front, _) = SMALL_FILE.split_at(SMALL_FILE.len() - 4);
+    check_answer(&rt, alloc, front, "line 22")?;
+    let longer = format!(in alloc; "{SMALL_FILE}\n")?;
+    check_answer(&rt, alloc, &longer, "line 24")
+}
+
+/// First lines, the first of a file with no other line but a second of another form.
+#[test]
+fn versions(rt: HostRuntime) -> Result<(), Fail> {
+    for (head, wanted) in [
+        ("menhir-tables 9 merged", "version"),
+        ("menhir-tables 9 merged\nno table", "version"),
+        ("menhir-tables 0 canonical\n", "version"),
+        ("menhir-tables 4294967295 merged\n", "version"),
+        ("menhir-tables 4294967296 merged\n", "line 1"),
+        ("menhir-tables 02 merged\n", "line 1"),
+        ("menhir-tables 9 pager\n", "line 1"),
+        ("menhir-tables 9 merged \n", "line 1"),
+        ("menhir-tables 2 merged", "line 1"),
+        ("menhir-tables 2 merged\n", "line 1"),
+        ("menhir-tables 2 merged\nno table\n", "line 2"),
+    ] {
+        check_answer(&rt, rt.alloc(), head, wanted)?;
+    }
+    Ok(())
+}
+
+/// Lines of the head, and then those of one state, each with what the whole answers.
+#[test]
+fn forms(rt: HostRuntime) -> Result<(), Fail> {
+    let alloc = rt.alloc();
+    for (head, wanted) in [
+        ("1 merged\ntokens\nstarts\nproductions 0", "1 states"),
+        ("2 merged\ntokens\ncosts\nstarts\nproductions 0", "1 states"),
+        (
+            "2 merged\ntokens A\ncosts 1 2 3\nstarts\nproductions 0",
+            "1 states",
+        ),
+        ("2 merged\ntokens A\tB \nstarts", "line 2"),
+        (
+            "2 merged\ntokens\ncosts 4294967295\nstarts\nproductions 0",
+            "1 states",
+        ),
+        (
+            "2 merged\ntokens\ncosts 4294967296\nstarts\nproductions 0",
+            "line 3",
+        ),
+        ("2 merged\ntokens\ncosts x\nstarts\nproductions 0", "line 3"),
+        ("1 merged\ntokens\ncosts\nstarts\nproductions 0", "line 3"),
+        ("2 merged\ntokens\nstarts\nproductions 0", "line 3"),
+        ("1 merged\ntokens A  B\nstarts\nproductions 0", "line 2"),
+        ("1 merged\nstarts\ntokens\nproductions 0", "line 2"),
+        ("1 merged\ntokens\nstarts\nproductions 1", "line 5"),
+        ("1 merged\ntokens\nstarts\nproductions 1\ns ->", "1 states"),
+        (
+            "1 merged\ntokens\nstarts\nproductions 1\nend -> end ->",
+            "1 states",
+        ),
+        (
+            "1 merged\ntokens\nstarts\nproductions 1\ns ->\nt ->",
+            "line 6",
+        ),
+        ("1 merged\ntokens\nstarts\nproductions 01", "line 4"),
+    ] {
+        let file = format!(in alloc; "menhir-tables {head}\nstates 1\nstate 0\nend\n")?;
+        check_answer(&rt, alloc, &file, wanted)?;
+    }
+    for (state, wanted) in [
+        (
+            "state 0\nitem 0 0\nitem 9 9 x # y\nedge x 9\nedge # 4294967295\ncell x shift 1\ncell y reduce 0",
+            "1 states",
+        ),
+        ("state 0\ndefault accept", "1 states"),
+        ("state 0\nedge x 1\ndefault reduce 7", "1 states"),
+        ("state 1", "line 6"),
+        ("item 0 0 #", "line 6"),
+        ("state 0\nstate 1", "line 7"),
+        ("state 0\nitem 0", "line 7"),
+        ("state 0\nitem 0 4294967296", "line 7"),
+        ("state 0\nedge x 1\nitem 0 0 #", "line 8"),
+        ("state 0\ncell x shift 1\nedge x 1", "line 8"),
+        ("state 0\ncell x shift 1\ndefault accept", "line 8"),
+        ("state 0\ndefault accept\ndefault accept", "line 8"),
+        ("state 0\ncell x accept", "line 7"),
+        ("state 0\nedge x", "line 7"),
+        ("state 0\n", "line 7"),
+    ] {
+        let front = "menhir-tables 1 merged\ntokens\nstarts\nproductions 0\nstates 1";
+        let file = format!(in alloc; "{front}\n{state}\nend\n")?;
+        check_answer(&rt, alloc, &file, wanted)?;
+    }
+    Ok(())
+}
+
+fn has_default(table: &RawTable, state: usize) -> bool {
+    match table.states.get(state) {
+        Some(state) => matches!(state.cells, RawCells::Fallback(_)),
+        None => false,
+    }
+}
+
+/// What is read of the small file, in both versions.
+#[test]
+fn contents(rt: HostRuntime) -> Result<(), Fail> {
+    let alloc = rt.alloc();
+    let table = read_tables(alloc, SMALL_FILE.as_bytes()).map_err(|_| "no table")?;
+    assert!(&rt; table.mode == Mode::Merged);
+    assert!(&rt; table.costs.is_some());
+    assert_eq!(&rt; table.tokens.len(), 2usize);
+    assert_eq!(&rt; table.productions.len(), 1usize);
+    assert!(&rt; !has_default(&table, 0) && has_default(&table, 3));
+    let (head, rest) = SMALL_FILE.split_once("costs 1 1\n").ok_or("no costs")?;
+    let (_, head) = head.split_once(" 2 ").ok_or("no version")?;
+    let older = format!(in alloc; "menhir-tables 1 {head}{rest}")?;
+    let table = read_tables(alloc, older.as_bytes()).map_err(|_| "no table")?;
+    assert!(&rt; table.costs.is_none());
+    assert_eq!(&rt; table.states.len(), 4usize);
+    Ok(())
+}
+
+/// A line of a hundred thousand words, and as many states.
+#[test]
+fn large(rt: HostRuntime) -> Result<(), Fail> {
+    let alloc = rt.alloc();
+    let mut file = format!(in alloc; "menhir-tables 1 merged\ntokens")?;
+    for _ in 0..100_000 {
+        file.push_str(" A")?;
+    }
+    file.push_str("\nstarts\nproductions 0\nstates 100000\n")?;
+    for state in 0..100_000 {
+        let lines = format!(in alloc; "state {state}\nedge A 1\n")?;
+        file.push_str(&lines)?;
+    }
+    file.push_str("end\n")?;
+    check_answer(&rt, alloc, &file, "100000 states")
+}
