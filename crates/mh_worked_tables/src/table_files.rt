@@ -1,7 +1,9 @@
 //! Table files that were written out by hand: what is written for a grammar, what is read of it, and the line at which a
 //! file is not of the form.
-use mh_made::{automaton_of, grammar_of, resolved};
-use mh_resolve::Mode;
+use mh_canon::canonical;
+use mh_grammar::{Grammar, has_costs_in_range, is_in_range};
+use mh_made::grammar_of;
+use mh_resolve::{Mode, resolve};
 use mh_tabfile::{RawCells, RawTable, TabFault, read_tables, write_tables};
 use std::alloc::Global;
 use std::process::Abort;
@@ -27,11 +29,14 @@ const LARGER_FILE: &str =
     state 4\nitem 4 1 #\ndefault reduce 4\nstate 5\nitem 1 1 #\ndefault accept\n\
     state 6\nitem 2 2 #\ndefault reduce 2\nend\n";
 
-fn file_of(alloc: Global, grammar: &str, mode: Mode) -> Result<Vec<u8>, Fail> {
-    let grammar = grammar_of(alloc, grammar)?;
-    let automaton = automaton_of(alloc, &grammar)?;
-    let (table, _) = resolved(alloc, &grammar, mode)?;
-    Ok(write_tables(alloc, &grammar, &automaton, &table, mode)?)
+/// The file of a grammar's table, by its canonical automaton.
+fn written_of(alloc: Global, grammar: &Grammar, mode: Mode) -> Result<Vec<u8>, Fail> {
+    if !is_in_range(grammar) || !has_costs_in_range(grammar) || grammar.tokens.len() > 64 {
+        return Err(Fail::from("out of range"));
+    }
+    let automaton = canonical::<1>(alloc, grammar).map_err(|_| "no automaton")?;
+    let (table, _) = resolve(alloc, grammar, &automaton, mode)?;
+    Ok(write_tables(alloc, grammar, &automaton, &table, mode)?)
 }
 
 fn check_file(
@@ -41,7 +46,7 @@ fn check_file(
     mode: Mode,
     wanted: &str,
 ) -> Result<(), Fail> {
-    let file = file_of(alloc, grammar, mode)?;
+    let file = written_of(alloc, &grammar_of(alloc, grammar)?, mode)?;
     assert_eq!(rt; str::from_utf8(file.as_slice())?, wanted, "{grammar}");
     Ok(())
 }
@@ -60,6 +65,9 @@ fn written_with_costs(rt: HostRuntime) -> Result<(), Fail> {
 
 /// What reading answers: how many states, the version, or the line.
 fn answer(alloc: Global, file: &[u8]) -> Result<String, Fail> {
+    if file.len() > 1_000_000 {
+        return Err(Fail::from("a file is too long"));
+    }
     let text = match read_tables(alloc, file) {
         Ok(table) => format!(in alloc; "{} states", table.states.len())?,
         Err(TabFault::Version) => format!(in alloc; "version")?,
