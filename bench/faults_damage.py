@@ -105,7 +105,10 @@ def main():
     messages = with_messages(entries.out).encode()
     put("whole.messages", messages)
     table = run("made", ["--write-tables", "whole.mly"])
-    counts = {**COUNTS, "table": 3_000} if table.status == 0 else COUNTS
+    put("whole.table", table.out)
+    # Table files are damaged where the program reads any.
+    reads = run("made", ["--tables", "whole.table", "--interpret", "whole.mly"], SENTENCE)
+    counts = {**COUNTS, "table": 3_000} if reads.status == 0 else COUNTS
     endings = {}
 
     def work(place, pair):

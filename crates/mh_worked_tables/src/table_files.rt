@@ -65,7 +65,7 @@ fn written_with_costs(rt: HostRuntime) -> Result<(), Fail> {
 
 /// What reading answers: how many states, the version, or the line.
 fn answer(alloc: Global, file: &[u8]) -> Result<String, Fail> {
-    if file.len() > 1_000_000 {
+    if file.len() > 100_000_000 {
         return Err(Fail::from("a file is too long"));
     }
     let text = match read_tables(alloc, file) {
