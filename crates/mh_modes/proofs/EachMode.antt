@@ -20,7 +20,6 @@ use Rattle.mh_drive.specs.declared.stop.Cause.TheVariants.{Refused}
 use Rattle.mh_drive.proofs.Binding.{IsOne}
 use Rattle.mh_prepare.specs.FileStage.{IsFile, IsFound, loaded}
 use Rattle.mh_prepare.specs.Shapes.{Prepared}
-use Rattle.mh_prepare.specs.TableStage.{mode_of, source_of}
 use Rattle.mh_modes.specs.Told.{ending_of}
 use Rattle.mh_modes.specs.Compared.{compared}
 use Rattle.mh_modes.specs.Files.{files_of_job, named}
@@ -161,7 +160,7 @@ end_facts (Known end) = record {
 }
 end_facts (Automaton p) = record {
   cause = λ x y is so. is.0 ∙ sym so.0;
-  out = λ x y is so. text_once p.grammar p.tabled.automaton (mode_of (source_of p.order)) p.tabled.halting x.out y.out is.1 so.1;
+  out = λ x y is so. text_once p.grammar p.tabled.automaton p.tabled.mode p.tabled.halting x.out y.out is.1 so.1;
   right = λ Right may e right is. subst (IsRight Right) (sym is.0) tt;
 }
 end_facts (Errors p) = record {

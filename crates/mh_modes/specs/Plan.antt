@@ -22,7 +22,6 @@ use Rattle.mh_drive.specs.declared.driving.Asks.TheVariants.{NoLine, FirstLine, 
 use Rattle.mh_drive.specs.declared.stop.Cause.{Cause}
 use Rattle.mh_prepare.specs.FileStage.{IsFile}
 use Rattle.mh_prepare.specs.Shapes.{Prepared}
-use Rattle.mh_prepare.specs.TableStage.{mode_of, source_of}
 use Rattle.mh_modes.specs.MessagesStage.{Messages, AreBoth, AreMessages, IsMessagesFile, IsUpdatedFile}
 use Rattle.mh_modes.specs.Compared.{compared}
 use Rattle.mh_modes.specs.Explained.{IsTold}
@@ -47,7 +46,7 @@ pub data End : Type 0 where
 -- an end is of this kind
 abbrev pub EndsBy : End → Ending → Type 0
 EndsBy (Known end) e = e ≡ end
-EndsBy (Automaton p) e = (e.cause ≡ None) × IsAutomatonText p.grammar p.tabled.automaton (mode_of (source_of p.order)) p.tabled.halting e.out
+EndsBy (Automaton p) e = (e.cause ≡ None) × IsAutomatonText p.grammar p.tabled.automaton p.tabled.mode p.tabled.halting e.out
 EndsBy (Errors p) e = ListsErrors p.grammar p.tabled.automaton p.tabled.halting e.cause e.out
 EndsBy (Sampled number p) e = CountsSample p.grammar p.tabled.halting number e.cause e.out
 
@@ -100,7 +99,7 @@ tells told = Ends (Known (ending_of told))
 
 -- the table file of what was prepared
 abbrev pub tables_of : Prepared → Text
-tables_of p = table_text (raw_of p.grammar p.tabled.automaton (mode_of (source_of p.order)) p.tabled.halting.states)
+tables_of p = table_text (raw_of p.grammar p.tabled.automaton p.tabled.mode p.tabled.halting.states)
 
 -- the messages that an order names, where it names a file of them
 abbrev pub MessagesFor : Option Text → Option Files → Prepared → Staged (Option Messages) → Type 0

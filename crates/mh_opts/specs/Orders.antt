@@ -1,6 +1,6 @@
 -- What the words of the command line ask for, by the code's rows of options. Source: this project's profile; which words a
 -- command takes, and what they match, is clap's own definition.
-use Rattle.std.specs.Prelude.{◌≡◌, ℕ, ◌++◌, is_none, Bool, true, false, not, ◌&&◌, List, [], ◌∷◌, Option, Some, None, Result, Ok, Err, codes, map, unwrap_or, if◌then◌else◌}
+use Rattle.std.specs.Prelude.{◌≡◌, ℕ, ◌++◌, is_none, Bool, true, false, not, ◌&&◌, ◌||◌, List, [], ◌∷◌, Option, Some, None, Result, Ok, Err, codes, map, unwrap_or, if◌then◌else◌}
 use Rattle.clap.specs.Words.{Row, Text, all_of, first_of, fault_of, matches_of}
 use Rattle.clap.specs.Walk.{is_empty}
 use Rattle.clap.specs.Takes.{is_given}
@@ -8,7 +8,7 @@ use Rattle.mh_opts.specs.declared.jobs.Mode.{Mode}
 use Rattle.mh_opts.specs.declared.jobs.Mode.TheVariants as mode
 use Rattle.mh_opts.specs.declared.jobs.Need.{Need}
 use Rattle.mh_opts.specs.declared.jobs.Opt.{Opt}
-use Rattle.mh_opts.specs.declared.jobs.TheConstants.{CANONICAL, COMPARE_ERRORS, COMPARE_ERRORS_2, COMPILE_ERRORS, ECHO_ERRORS, GRAMMARS, INTERPRET_SHOW_CST, MESSAGES, NEEDS, NO_STDLIB, SAMPLE, STRICT, UPDATE_ERRORS}
+use Rattle.mh_opts.specs.declared.jobs.TheConstants.{CANONICAL, COMPARE_ERRORS, COMPARE_ERRORS_2, COMPILE_ERRORS, ECHO_ERRORS, GRAMMARS, INTERPRET_SHOW_CST, MESSAGES, NEEDS, NO_STDLIB, SAMPLE, STRICT, TABLES, UPDATE_ERRORS}
 use Rattle.mh_opts.specs.declared.jobs.Job.{Job}
 use Rattle.mh_opts.specs.declared.jobs.Job.TheVariants as job
 use Rattle.mh_opts.specs.declared.order.Order.{Order}
@@ -100,17 +100,22 @@ order_for rows mode = record {
   stdlib = not (is_given NO_STDLIB.now rows);
   show_cst = is_given INTERPRET_SHOW_CST.now rows;
   messages = first_of MESSAGES.now rows;
+  tables = first_of TABLES.now rows;
 }
 
 abbrev pub is_sample : Mode → Bool
 is_sample mode.Sample = true
 is_sample mode = false
 
+-- A table file is named beside the mode of a table that is to be built, or beside a sample.
+abbrev pub clashes : List Row → Mode → Bool
+clashes rows mode = is_given TABLES.now rows && (is_given CANONICAL.now rows || is_sample mode)
+
 -- A sample has its own grammar; each other mode needs a grammar file.
 abbrev pub order_with : List Row → Mode → Option Text → Result Order UsageFault
 order_with rows mode (Some option) = Err (Misplaced (written option))
 order_with rows mode None =
-    if is_sample mode && not (is_empty (grammars_of rows)) then Err (Misplaced (written SAMPLE.now)) else (if not (is_sample mode) && is_empty (grammars_of rows) then Err NoGrammar else Ok (order_for rows mode))
+    if clashes rows mode then Err (Misplaced (written TABLES.now)) else (if is_sample mode && not (is_empty (grammars_of rows)) then Err (Misplaced (written SAMPLE.now)) else (if not (is_sample mode) && is_empty (grammars_of rows) then Err NoGrammar else Ok (order_for rows mode)))
 
 abbrev pub order_by : List Row → Result Mode UsageFault → Result Order UsageFault
 order_by rows (Err fault) = Err fault

@@ -40,6 +40,8 @@ pub(crate) const SAMPLE: &str = "sample";
 
 pub(crate) const MESSAGES: &str = "messages";
 
+pub(crate) const TABLES: &str = "tables";
+
 /// What is to be done.
 #[derive(Debug, Drop, PartialEq, Eq)]
 pub enum Job {
@@ -137,7 +139,7 @@ pub struct Need<T> {
     pub needs: T,
 }
 
-const OPTIONS: [Opt<&str>; 17] = [
+const OPTIONS: [Opt<&str>; 18] = [
     Opt {
         name: INTERPRET,
         action: ArgAction::SetTrue,
@@ -200,6 +202,11 @@ const OPTIONS: [Opt<&str>; 17] = [
     },
     Opt {
         name: MESSAGES,
+        action: ArgAction::Set,
+        mode: None,
+    },
+    Opt {
+        name: TABLES,
         action: ArgAction::Set,
         mode: None,
     },

@@ -23,6 +23,8 @@ pub struct Order {
     pub show_cst: bool,
     /// `--messages FILE`: the messages of what is refused.
     pub messages: Option<Name>,
+    /// `--tables FILE`: the table that is worked with, in place of one that is built.
+    pub tables: Option<Name>,
 }
 
 /// Why words are no order: the first of these faults, in the order of the variants.

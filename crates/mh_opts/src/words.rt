@@ -1,16 +1,17 @@
 //! The order that words spell.
 ghost use Rattle.std.specs.Prelude.{◌≡◌, IfOk, Ok, not, option_map, map, string_bytes};
 ghost use Rattle.clap.specs.Walk.{is_empty};
-ghost use Rattle.clap.specs.Words.{found_of, rows_of};
+ghost use Rattle.clap.specs.Words.{first_of, found_of, rows_of};
 ghost use Rattle.mh_opts.specs.Orders as orders;
 ghost use Rattle.mh_opts.specs.Orders.{Answers, grammars_of, lacks, misplaced_in, mode_at, mode_in, needs, order_in, order_of, order_renamed, plain_need, written};
 ghost use Rattle.mh_opts.specs.App.{options, plain};
+ghost use Rattle.mh_opts.specs.declared.jobs.TheConstants as constants;
 
 use crate::command::menhir_command;
 use crate::found::{both, is_given, number_of, value_of};
 use crate::jobs::{
     CANONICAL, GRAMMARS, INTERPRET_SHOW_CST, MESSAGES, Mode, NO_STDLIB, Need, Opt, SAMPLE, STRICT,
-    job_of, needs, options,
+    TABLES, job_of, needs, options,
 };
 use crate::order::{Order, UsageFault};
 use crate::twice::{is_reserved, renamed};
@@ -105,13 +106,27 @@ fn written_name(alloc: Global, option: &str) -> Result<Name, Memory>
     from_bytes(alloc, text.as_bytes())
 }
 
+/// The files that are named beside the job: of messages, and of tables.
+fn files_beside(
+    alloc: Global,
+    matches: &ArgMatches<'_>,
+) -> Result<(Option<Name>, Option<Name>), Memory>
+    ensures { IfOk result (λ files.
+        (files.0 ≡ first_of constants.MESSAGES.now (rows_of (found_of matches.now))) × (files.1 ≡ first_of constants.TABLES.now (rows_of (found_of matches.now)))) }
+{
+    both(
+        value_of(alloc, matches, MESSAGES),
+        value_of(alloc, matches, TABLES),
+    )
+}
+
 /// The order for a mode, with what else the words say.
 fn order_for(alloc: Global, matches: &ArgMatches<'_>, mode: Mode) -> Result<Order, Memory>
     ensures { IfOk result (λ order. order ≡ orders.order_for (rows_of (found_of matches.now)) mode) }
 {
-    let (job, (grammars, messages)) = both(
+    let (job, (grammars, (messages, tables))) = both(
         job_of(alloc, matches, mode),
-        both(grammars(alloc, matches), value_of(alloc, matches, MESSAGES)),
+        both(grammars(alloc, matches), files_beside(alloc, matches)),
     )?;
     Ok(Order {
         job,
@@ -121,6 +136,7 @@ fn order_for(alloc: Global, matches: &ArgMatches<'_>, mode: Mode) -> Result<Orde
         stdlib: !is_given(matches, NO_STDLIB),
         show_cst: is_given(matches, INTERPRET_SHOW_CST),
         messages,
+        tables,
     })
 }
 
@@ -138,6 +154,13 @@ fn is_sample(mode: Mode) -> bool
     matches!(mode, Mode::Sample)
 }
 
+/// Whether a table file is named where its table would not be used: it has a mode of its own, and is for a grammar that files spell.
+fn clashes(matches: &ArgMatches<'_>, mode: Mode) -> bool
+    ensures { result ≡ orders.clashes (rows_of (found_of matches.now)) mode }
+{
+    is_given(matches, TABLES) && (is_given(matches, CANONICAL) || is_sample(mode))
+}
+
 /// The order for a mode, where each option has a meaning and there is a grammar.
 fn order_with(alloc: Global, matches: &ArgMatches<'_>, mode: Mode) -> Result<Order, UsageFault>
     ensures { let rows = rows_of (found_of matches.now) in Answers (orders.order_with rows mode (misplaced_in rows needs)) result }
@@ -145,6 +168,11 @@ fn order_with(alloc: Global, matches: &ArgMatches<'_>, mode: Mode) -> Result<Ord
     if let Some(option) = misplaced(matches) {
         return Err(UsageFault::Misplaced {
             option: written_name(alloc, option)?,
+        });
+    }
+    if clashes(matches, mode) {
+        return Err(UsageFault::Misplaced {
+            option: written_name(alloc, TABLES)?,
         });
     }
     if is_sample(mode) && has_grammar(matches) {

@@ -1,25 +1,41 @@
 -- How the work goes on up to the table.
-use Rattle.std.proofs.Common.{◌≡◌, List, Option, refl, subst, sym}
-use Rattle.std.specs.Prelude.{Result, Ok, Err}
+use Rattle.std.proofs.Common.{◌≡◌, ◌≤◌, ◌<◌, ◌^◌, ℕ, Bool, true, false, List, length, Option, Some, None, refl, subst, sym, ap, ◌∙◌, arith}
+use Rattle.std.specs.Prelude.{Result, Ok, Err, IfOk}
 use Rattle.mh_grammar.specs.declared.types.Grammar.{Grammar}
 use Rattle.mh_opts.specs.declared.order.Order.{Order}
 use Rattle.mh_outside.specs.Shelf.{Files}
 use Rattle.mh_rules.specs.declared.modules.Module.{Module}
 use Rattle.mh_drive.specs.Text.{Text}
 use Rattle.mh_drive.specs.Causes.{Staged, Go, Halt, On, Then, Gives}
-use Rattle.mh_drive.specs.Stages.{FilesGive, StageHas}
+use Rattle.mh_drive.specs.Stages.{FilesGive, Halts, ShelfCounts, StageHas}
+use Rattle.mh_drive.specs.declared.stop.Cause.TheVariants.{Refused}
 use Rattle.mh_drive.specs.declared.stop.Cause.{Cause}
 use Rattle.mh_drive.specs.declared.stop.Stop.{Stop}
 use Rattle.mh_drive.specs.declared.stop.Stop.TheVariants.{Halted, ShelfFailed, InputFailed, WriteFailed, OutOfMemory}
 use Rattle.mh_drive.proofs.Binding.{names_wider, no_names, then_on, then_stops}
 use Rattle.mh_prepare.specs.Order.{order_of}
-use Rattle.mh_prepare.specs.FileStage.{IsModule}
 use Rattle.mh_prepare.specs.Modules.{AreModules, grammar_files}
 use Rattle.mh_prepare.specs.Turns.{IsGrammarTurn, IsTurn}
 use Rattle.mh_prepare.specs.GrammarStage.{IsGrammarStage}
-use Rattle.mh_prepare.specs.TableStage.{IsTableStage, source_of}
-use Rattle.mh_prepare.specs.Preparing.{IsFront, IsTabledFront}
-use Rattle.mh_prepare.specs.Shapes.{Prepared}
+use Rattle.mh_grammar.specs.Plain.{plain_of}
+use Rattle.mh_items.specs.Automaton.{IsAutomaton}
+use Rattle.mh_items.specs.Shapes.{Automaton}
+use Rattle.mh_resolve.specs.declared.kinds.Mode.{Mode}
+use Rattle.mh_tables.specs.declared.parts.StateParts.{StateParts}
+use Rattle.mh_tabfile.specs.declared.types.RawTable.{RawTable}
+use Rattle.mh_valid.specs.declared.reason.Reason.{Reason}
+use Rattle.mh_valid.specs.Valid.{IsInvalidAt, IsValidFor}
+use Rattle.mh_validate.specs.declared.fault.ValidFault.{ValidFault}
+use Rattle.mh_validate.specs.declared.fault.ValidFault.TheVariants as tables
+use Rattle.mh_prepare.specs.Faults.{RejectsBy}
+use Rattle.mh_prepare.specs.FileStage.{IsFile, IsModule}
+use Rattle.mh_prepare.specs.TableFile.{IsBuilt, IsNumbered, IsTableFile}
+use Rattle.mh_prepare.specs.TableStage.{IsAutomatonStage, IsResolvedStage, IsSource, IsSourceBy, IsTableStage, built_by, mode_of}
+use Rattle.mh_prepare.specs.Texts.{invalid_line}
+use Rattle.mh_prepare.specs.Preparing.{IsFront, IsTabledFrom, IsTabledFront}
+use Rattle.mh_prepare.specs.Shapes.{Prepared, Tabled}
+use Rattle.mh_prepare.specs.declared.tabled.Source.{Source}
+use Rattle.mh_prepare.specs.declared.tabled.Source.TheVariants.{File}
 use Rattle.mh_prepare.specs.declared.prepared.Front.{Front}
 
 -- ---- up to the grammar
@@ -64,5 +80,96 @@ module _ (words : List Text) (files : Option Files) where
 
 -- ---- the table
 
-pub table_stops : (front : Front) (stop : Stop) → StageHas (IsTableStage (source_of front.order) front.grammar) (Err stop) → StageHas {A = Prepared} (IsTabledFront front) (Err stop)
-table_stops front stop has = then_stops (IsTableStage (source_of front.order) front.grammar) (λ tabled. Gives (record { order = front.order; grammar = front.grammar; tabled = tabled })) (λ name. ⊥) stop has
+-- the automaton of the named file
+pub file_source : (files : Option Files) (name : Text) (canonical : Bool) (raw : RawTable) → IsFile files IsTableFile name (Go raw) → IsSourceBy (Some name) canonical files (Go (File name raw))
+file_source files name canonical raw is = (Go raw, is, refl)
+
+pub file_stops : (files : Option Files) (name : Text) (canonical : Bool) (stop : Stop) → FilesGive {A = RawTable} (IsFile files IsTableFile name) (λ other. other ≡ name) (Err stop) → FilesGive {A = Source} (IsSourceBy (Some name) canonical files) (λ other. other ≡ name) (Err stop)
+file_stops files name canonical stop has = then_stops (IsFile files IsTableFile name) (λ raw. Gives (File name raw)) (λ other. other ≡ name) stop has
+
+-- what is read numbers its states
+pub read_numbered : (files : Option Files) (name : Text) (raw : RawTable) → IsFile files IsTableFile name (Go raw) → length raw.states < 2 ^ 32
+read_numbered files name raw is = at is.0 is.2
+  where
+    at : (read : Staged Text) → On read (IsTableFile name) (Go raw) → length raw.states < 2 ^ 32
+    at (Go bytes) file = file.spelled.few_states
+    at (Halt cause) same = absurd (cc)
+
+-- that of the order
+pub order_source : (files : Option Files) (order : Order) (name : Text) (r : Result Source Stop) → order.tables ≡ Some name → FilesGive (IsSourceBy (Some name) order.canonical files) (λ other. other ≡ name) r → FilesGive (IsSource files order) (λ other. order.tables ≡ Some other) r
+order_source files order name r is has =
+    names_wider (IsSource files order) (λ other. other ≡ name) (λ other. order.tables ≡ Some other) r (λ other same. is ∙ ap Some (sym same)) (subst (λ (t : Option Text). FilesGive (IsSourceBy t order.canonical files) (λ other. other ≡ name) r) (sym is) has)
+
+pub built_source : (files : Option Files) (order : Order) (source : Source) → order.tables ≡ None → source ≡ built_by order.canonical → IsSource files order (Go source)
+built_source files order source is same = subst (λ (t : Option Text). IsSourceBy t order.canonical files (Go source)) (sym is) (ap Go same)
+
+pub built_numbered : (canonical : Bool) (source : Source) → source ≡ built_by canonical → IsNumbered source
+built_numbered true source is = subst IsNumbered (sym is) tt
+built_numbered false source is = subst IsNumbered (sym is) tt
+
+-- in short
+pub source_numbered : (files : Option Files) (tables : Option Text) (canonical : Bool) (source : Source) → IsSourceBy tables canonical files (Go source) → IsNumbered source
+source_numbered files None canonical source is = let one : source ≡ built_by canonical = cc in built_numbered canonical source one
+source_numbered files (Some name) canonical source is = at is.0 is.1 is.2
+  where
+    at : (s : Staged RawTable) → IsFile files IsTableFile name s → On s (λ raw. Gives (File name raw)) (Go source) → IsNumbered source
+    at (Go raw) file same = let one : source ≡ File name raw = cc in subst IsNumbered (sym one) (read_numbered files name raw file)
+    at (Halt cause) file same = absurd (cc)
+
+pub source_built : (files : Option Files) (tables : Option Text) (canonical : Bool) (source : Source) → tables ≡ None → IsSourceBy tables canonical files (Go source) → IsBuilt source
+source_built files None canonical source none is = let one : source ≡ built_by canonical = cc in by canonical one
+  where
+    by : (b : Bool) → source ≡ built_by b → IsBuilt source
+    by true same = subst IsBuilt (sym same) tt
+    by false same = subst IsBuilt (sym same) tt
+source_built files (Some name) canonical source none is = absurd (cc)
+
+-- an automaton with its table
+pub automaton_goes : (source : Source) (g : Grammar) (a : Automaton) (r : Result Tabled Stop) → IsAutomatonStage source g (Go a) → StageHas (IsResolvedStage (mode_of source) g a) r → StageHas (IsTableStage source g) r
+automaton_goes source g a r is has = then_on (IsAutomatonStage source g) (IsResolvedStage (mode_of source) g) (λ other. ⊥) a r is has
+
+pub automaton_stops : (source : Source) (g : Grammar) (stop : Stop) → StageHas {A = Automaton} (IsAutomatonStage source g) (Err stop) → StageHas {A = Tabled} (IsTableStage source g) (Err stop)
+automaton_stops source g stop has = then_stops (IsAutomatonStage source g) (IsResolvedStage (mode_of source) g) (λ other. ⊥) stop has
+
+-- the table of a valid file
+pub valid_table : (name : Text) (raw : RawTable) (g : Grammar) (a : Automaton) (parts : List StateParts) (r : Result Tabled Stop) → IsValidFor g raw a parts → StageHas (IsResolvedStage raw.mode g a) r → StageHas (IsTableStage (File name raw) g) r
+valid_table name raw g a parts r valid has = automaton_goes (File name raw) g a r (parts, valid) has
+
+-- a file that is not valid
+invalid_stops : (name : Text) (raw : RawTable) (g : Grammar) (state : Option ℕ) (reason : Reason) (stop : Stop) → IsInvalidAt g raw state reason → Halts (Refused (invalid_line name state reason)) stop → StageHas {A = Tabled} (IsTableStage (File name raw) g) (Err stop)
+invalid_stops name raw g state reason (Halted cause) first halts = (Halt cause, record { state = state; reason = reason; first = first; cause_is = halts }, refl)
+invalid_stops name raw g state reason OutOfMemory first halts = tt
+invalid_stops name raw g state reason (ShelfFailed other) first halts = absurd halts
+invalid_stops name raw g state reason InputFailed first halts = absurd halts
+invalid_stops name raw g state reason WriteFailed first halts = absurd halts
+
+-- the automaton with its table is the one that there was
+pub automaton_kept : (mode : Mode) (g : Grammar) (a : Automaton) (r : Result Tabled Stop) → IsAutomaton (plain_of g) a → StageHas (IsResolvedStage mode g a) r → IfOk r (λ (tabled : Tabled). IsAutomaton (plain_of g) tabled.automaton)
+automaton_kept mode g a (Ok tabled) is has = subst (IsAutomaton (plain_of g)) (sym has.automaton) is
+automaton_kept mode g a (Err stop) is has = tt
+
+pub not_valid_stops : (name : Text) (raw : RawTable) (g : Grammar) (fault : ValidFault) (stop : Stop) → ((state : Option ℕ) (reason : Reason) → fault ≡ tables.Invalid state reason → IsInvalidAt g raw state reason) → RejectsBy name fault stop → StageHas {A = Tabled} (IsTableStage (File name raw) g) (Err stop)
+not_valid_stops name raw g (tables.Invalid state reason) stop first halts = invalid_stops name raw g state reason stop (first state reason refl) halts
+not_valid_stops name raw g tables.Memory stop first halts = subst (λ (s : Stop). StageHas {A = Tabled} (IsTableStage (File name raw) g) (Err s)) (sym halts) tt
+
+pub table_stops : (front : Front) (source : Source) (stop : Stop) → StageHas (IsTableStage source front.grammar) (Err stop) → StageHas {A = Prepared} (IsTabledFrom front source) (Err stop)
+table_stops front source stop has = then_stops (IsTableStage source front.grammar) (λ tabled. Gives (record { order = front.order; grammar = front.grammar; tabled = tabled })) (λ name. ⊥) stop has
+
+module _ (files : Option Files) (front : Front) where
+  pub source_stops : (stop : Stop) → FilesGive {A = Source} (IsSource files front.order) (λ name. front.order.tables ≡ Some name) (Err stop) → FilesGive {A = Prepared} (IsTabledFront files front) (λ name. front.order.tables ≡ Some name) (Err stop)
+  source_stops stop has = then_stops (IsSource files front.order) (IsTabledFrom front) (λ name. front.order.tables ≡ Some name) stop has
+
+  pub from_source : (source : Source) (r : Result Prepared Stop) → IsSource files front.order (Go source) → StageHas (IsTabledFrom front source) r → FilesGive (IsTabledFront files front) (λ name. front.order.tables ≡ Some name) r
+  from_source source r is has = then_on (IsSource files front.order) (IsTabledFrom front) (λ name. front.order.tables ≡ Some name) source r is (no_names (IsTabledFrom front source) (λ name. front.order.tables ≡ Some name) r has)
+
+  -- the shelf's count where its table's stage ended, which reads no file
+  pub counts_still : (n : ℕ) (r : Result Prepared Stop) → (source : Source) → StageHas (IsTabledFrom front source) r → ShelfCounts n n r
+  counts_still n (Ok p) source has = refl
+  counts_still n (Err (Halted cause)) source has = refl
+  counts_still n (Err OutOfMemory) source has = le_same n
+    where
+      le_same : (m : ℕ) → m ≤ m
+      le_same m = omega arith
+  counts_still n (Err (ShelfFailed name)) source has = absurd has
+  counts_still n (Err InputFailed) source has = absurd has
+  counts_still n (Err WriteFailed) source has = absurd has

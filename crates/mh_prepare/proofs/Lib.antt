@@ -5,4 +5,6 @@ pub mod Refusing
 pub mod Sampling
 pub mod Going
 pub mod Ready
+pub mod Apart
+pub mod Fronts
 pub mod Once

@@ -19,12 +19,13 @@ use Rattle.mh_drive.specs.declared.stop.Stop.TheVariants.{Halted, ShelfFailed, I
 use Rattle.mh_prepare.specs.Shapes.{Tabled}
 
 module _ (mode : Mode) (g : Grammar) (a : Automaton) (t : TableData) (table : IsTableOf g a mode t) where
-  pub halts_too : (h : TableData) (found conflicts : List Conflict) → h ≡ t → conflicts ≡ found → AreConflicts g a found → Halts t → AreTabled mode g a (record { automaton = a; halting = h; conflicts = conflicts })
+  pub halts_too : (h : TableData) (found conflicts : List Conflict) → h ≡ t → conflicts ≡ found → AreConflicts g a found → Halts t → AreTabled mode g a (record { automaton = a; halting = h; conflicts = conflicts; mode = mode })
   halts_too h found conflicts same_table same are halts = record {
     automaton = refl;
     table = subst (IsTableOf g a mode) (sym same_table) table;
     conflicts = subst (AreConflicts g a) (sym same) are;
     halts = subst Halts (sym same_table) halts;
+    resolved_in = refl;
   }
 
   pub loops_there : (below : Option ℕ) (state : ℕ) (look : Option ℕ) (stop : Stop) → LoopsAt t below state look → HaltsWith (Refused (loops_line (token_names g) below state look)) stop → StageHas {A = Tabled} (IsResolvedStage mode g a) (Err stop)

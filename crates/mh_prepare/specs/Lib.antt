@@ -3,6 +3,7 @@ pub mod Order
 pub mod FileStage
 pub mod Modules
 pub mod GrammarStage
+pub mod TableFile
 pub mod TableStage
 pub mod Shapes
 pub mod Prepared

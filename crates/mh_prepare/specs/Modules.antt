@@ -1,6 +1,9 @@
 -- The modules of an order: those of its grammar files, or that of the sample, which is read as a file with a name of its own.
-use Rattle.std.specs.Prelude.{ℕ, List, [], ◌∷◌, Option, None, Some, codes}
+use Rattle.std.specs.Prelude.{◌≡◌, ℕ, true, List, [], ◌∷◌, Option, None, Some, codes}
+use Rattle.std.specs.List.{All}
+use Rattle.mh_rules.specs.declared.modules.TokenDecl.{TokenDecl}
 use Rattle.mh_rules.specs.declared.modules.Module.{Module}
+use Rattle.mh_reader.specs.Signs.{is_capital}
 use Rattle.mh_outside.specs.Shelf.{Files}
 use Rattle.mh_opts.specs.declared.jobs.Job.{Job}
 use Rattle.mh_opts.specs.declared.jobs.Job.TheVariants.{Sample}
@@ -33,6 +36,10 @@ names_by (Some number) names = []
 
 abbrev pub AreModules : Option Files → Order → Staged (List Module) → Type 0
 AreModules files order s = AreModulesBy (sample_of order.job) files order.grammars s
+
+-- each token has a name that begins with a capital letter
+abbrev pub HasCapitals : Module → Type 0
+HasCapitals m = All (λ (t : TokenDecl). is_capital t.name ≡ true) m.tokens
 
 -- the grammar files that are read
 abbrev pub grammar_files : Order → List Text

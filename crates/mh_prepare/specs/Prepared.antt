@@ -2,10 +2,9 @@
 use Rattle.mh_grammar.specs.Plain.{plain_of, IsInRange}
 use Rattle.mh_items.specs.Automaton.{IsAutomaton}
 use Rattle.mh_resolve.specs.States.{IsTableOf}
-use Rattle.mh_prepare.specs.TableStage.{mode_of, source_of}
 use Rattle.mh_prepare.specs.Shapes.{Prepared}
 
 pub record IsFit (p : Prepared) : Type 0 where
   pub range : IsInRange (plain_of p.grammar)
   pub automaton : IsAutomaton (plain_of p.grammar) p.tabled.automaton
-  pub table : IsTableOf p.grammar p.tabled.automaton (mode_of (source_of p.order)) p.tabled.halting
+  pub table : IsTableOf p.grammar p.tabled.automaton p.tabled.mode p.tabled.halting

@@ -1,5 +1,5 @@
--- The automaton of a grammar with its table, where every run on it ends, and the list of its conflicts.
-use Rattle.std.specs.Prelude.{if◌then◌else◌, ◌≡◌, ℕ, Option}
+-- The automaton of a grammar, built or from a table file, with its table, where every run on it ends, and the list of its conflicts.
+use Rattle.std.specs.Prelude.{if◌then◌else◌, ◌≡◌, ℕ, Bool, List, Option, None, Some}
 use Rattle.mh_grammar.specs.declared.types.Grammar.{Grammar}
 use Rattle.mh_grammar.specs.Plain.{plain_of}
 use Rattle.mh_items.specs.Shapes.{Automaton}
@@ -11,31 +11,50 @@ use Rattle.mh_resolve.specs.Conflicts.{AreConflicts}
 use Rattle.mh_resolve.specs.declared.kinds.Mode.{Mode}
 use Rattle.mh_resolve.specs.declared.kinds.Mode.TheVariants as modes
 use Rattle.mh_tables.specs.Table.{TableData}
+use Rattle.mh_tables.specs.declared.parts.StateParts.{StateParts}
 use Rattle.mh_tables.specs.Halting.{Halts, LoopsAt}
 use Rattle.mh_prepare.specs.Texts.{loops_line, too_many_states}
-use Rattle.mh_drive.specs.Causes.{Staged, Go, Halt, Then}
+use Rattle.mh_valid.specs.Valid.{IsValidFor}
+use Rattle.mh_outside.specs.Shelf.{Files}
+use Rattle.mh_drive.specs.Text.{Text}
+use Rattle.mh_drive.specs.Causes.{Staged, Go, Halt, Then, Gives}
 use Rattle.mh_msgfile.specs.Sentences.{token_names}
 use Rattle.mh_opts.specs.declared.order.Order.{Order}
 use Rattle.mh_drive.specs.declared.stop.Cause.{Cause}
 use Rattle.mh_drive.specs.declared.stop.Cause.TheVariants.{Refused}
 use Rattle.mh_prepare.specs.declared.tabled.Source.{Source}
-use Rattle.mh_prepare.specs.declared.tabled.Source.TheVariants.{Canonical, Merged}
+use Rattle.mh_prepare.specs.declared.tabled.Source.TheVariants.{Canonical, Merged, File}
+use Rattle.mh_prepare.specs.FileStage.{IsFile}
+use Rattle.mh_prepare.specs.TableFile.{IsInvalid, IsTableFile}
 use Rattle.mh_prepare.specs.Shapes.{Tabled}
 
--- ---- the automaton, by where it comes from
+-- ---- where the automaton comes from
 
-abbrev pub source_of : Order → Source
-source_of order = if order.canonical then Canonical else Merged
+abbrev pub built_by : Bool → Source
+built_by canonical = if canonical then Canonical else Merged
+
+-- from the table file that is named, where one is
+abbrev pub IsSourceBy : Option Text → Bool → Option Files → Staged Source → Type 0
+IsSourceBy None canonical files s = Gives (built_by canonical) s
+IsSourceBy (Some name) canonical files s = Then (IsFile files IsTableFile name) (λ raw. Gives (File name raw)) s
+
+abbrev pub IsSource : Option Files → Order → Staged Source → Type 0
+IsSource files order s = IsSourceBy order.tables order.canonical files s
+
+-- ---- the automaton
 
 abbrev pub mode_of : Source → Mode
 mode_of Merged = modes.Merged
 mode_of Canonical = modes.Canonical
+mode_of (File name raw) = raw.mode
 
 abbrev pub IsAutomatonStage : Source → Grammar → Staged Automaton → Type 0
 IsAutomatonStage Merged g (Go a) = (IsSwollen (plain_of g) MAX_STATES → ⊥) × IsMerged (plain_of g) a
 IsAutomatonStage Merged g (Halt cause) = IsSwollen (plain_of g) MAX_STATES × (cause ≡ Refused too_many_states)
 IsAutomatonStage Canonical g (Go a) = (IsOver (plain_of g) MAX_STATES → ⊥) × IsCanonical (plain_of g) a
 IsAutomatonStage Canonical g (Halt cause) = IsOver (plain_of g) MAX_STATES × (cause ≡ Refused too_many_states)
+IsAutomatonStage (File name raw) g (Go a) = (parts : List StateParts) × IsValidFor g raw a parts
+IsAutomatonStage (File name raw) g (Halt cause) = IsInvalid name g raw cause
 
 -- ---- its table
 
@@ -55,6 +74,7 @@ pub record AreTabled (mode : Mode) (g : Grammar) (a : Automaton) (tabled : Table
   pub table : IsTableOf g a mode tabled.halting
   pub conflicts : AreConflicts g a tabled.conflicts
   pub halts : Halts tabled.halting
+  pub resolved_in : tabled.mode ≡ mode
 
 abbrev pub IsResolvedStage : Mode → Grammar → Automaton → Staged Tabled → Type 0
 IsResolvedStage mode g a (Go tabled) = AreTabled mode g a tabled

@@ -4,6 +4,10 @@ use Rattle.mh_front.specs.declared.fault.GrammarFault.{GrammarFault}
 use Rattle.mh_front.specs.Texts.{fault_text}
 use Rattle.mh_drive.specs.Text.{Text, out_of_memory}
 use Rattle.mh_opts.specs.declared.order.UsageFault.{UsageFault}
+use Rattle.mh_tabfile.specs.declared.reading.TabFault.{TabFault}
+use Rattle.mh_tabfile.specs.declared.reading.TabFault.TheVariants as tables
+use Rattle.mh_valid.specs.declared.reason.Reason.{Reason}
+use Rattle.mh_valid.specs.declared.reason.Reason.TheVariants.{Header, States, Kernel, Edge, Cell, Fallback}
 use Rattle.mh_opts.specs.declared.order.UsageFault.TheVariants.{Parse, Number, NoMode, TwoModes, Misplaced, NoGrammar, Memory}
 
 abbrev pub bad_words : Text
@@ -55,3 +59,25 @@ look_text names (Some token) = slice_index_or names token []
 
 abbrev pub loops_line : List Text → Option ℕ → ℕ → Option ℕ → Text
 loops_line names below s look = loop_place below s ++ (look_text names look ++ codes "\n")
+
+-- the line for a table file that is of another version, or not of the form; no bytes spell want of memory
+abbrev pub table_line : Text → TabFault → Text
+table_line name tables.Version = codes "menhir: " ++ (name ++ codes ": version\n")
+table_line name (tables.TabShape line) = codes "menhir: " ++ (name ++ (codes ":" ++ (decimal line ++ codes ": shape\n")))
+table_line name tables.Memory = out_of_memory
+
+abbrev pub reason_name : Reason → Text
+reason_name Header = codes "header"
+reason_name States = codes "states"
+reason_name Kernel = codes "kernel"
+reason_name Edge = codes "edge"
+reason_name Cell = codes "cell"
+reason_name Fallback = codes "fallback"
+
+-- what stands behind the name of a table file that is not valid: the test, and the state, where it is that of a state
+abbrev pub test_text : Option ℕ → Text → Text
+test_text None reason = codes ": invalid: " ++ (reason ++ codes "\n")
+test_text (Some s) reason = codes ": invalid: state " ++ (decimal s ++ (codes ": " ++ (reason ++ codes "\n")))
+
+abbrev pub invalid_line : Text → Option ℕ → Reason → Text
+invalid_line name state reason = codes "menhir: " ++ (name ++ test_text state (reason_name reason))

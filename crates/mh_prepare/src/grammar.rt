@@ -2,8 +2,11 @@
 ghost use Rattle.std.specs.Prelude.{◌≤◌, length, IfOk};
 ghost use Rattle.mh_grammar.specs.Costs.{HaveCosts};
 ghost use Rattle.mh_grammar.specs.Plain.{plain_of, IsInRange};
+ghost use Rattle.std.specs.List.{All};
 ghost use Rattle.mh_rules.specs.Ready.{AreModulesReady};
+ghost use Rattle.mh_valid.specs.Valid.{AreNamesApart};
 ghost use Rattle.mh_prepare.specs.GrammarStage.{IsGrammarStage};
+ghost use Rattle.mh_prepare.specs.Modules.{HasCapitals};
 ghost use Rattle.mh_prepare.specs.Texts.{refusal};
 ghost use Rattle.mh_prepare.specs.Faults.{RefusesBy};
 ghost use Rattle.mh_drive.specs.Stages.{StageHas, Halts};
@@ -39,11 +42,13 @@ pub(crate) fn grammar_in(
     modules: Vec<Module>,
     prelude: bool,
 ) -> Result<Grammar, Stop>
-    requires { AreModulesReady modules.items }
+    requires ready { AreModulesReady modules.items }
+    requires capitals { All HasCapitals modules.items }
     ensures grammar { StageHas (IsGrammarStage prelude modules.items) result }
     ensures range { IfOk result (λ grammar. IsInRange (plain_of grammar)) }
     ensures costs { IfOk result (λ grammar. HaveCosts grammar.tokens) }
     ensures tokens { IfOk result (λ grammar. length grammar.tokens ≤ 512) }
+    ensures apart { IfOk result AreNamesApart }
 {
     match grammar_of(alloc, &modules, prelude) {
         Ok(grammar) => Ok(grammar),

@@ -6,8 +6,9 @@ mod grammar;
 mod modules;
 mod order;
 mod prepared;
+mod table_file;
 mod tabled;
 
 pub use files::{FILE_LIMIT, Spelling, read_file};
-pub use prepared::{Front, Prepared, PreparedWith, front_of, prepare, source_of};
+pub use prepared::{Front, Prepared, PreparedWith, front_of, prepare};
 pub use tabled::{Source, Tabled, TabledWith};

@@ -1,44 +1,41 @@
-//! The automaton of a grammar with its table, where every run on it ends, and the list of its conflicts.
-ghost use Rattle.std.specs.Prelude.{◌≡◌, ◌<◌, ◌≤◌, ◌*◌, length, IfOk, string_bytes, MatchOption, ⊤};
+//! The automaton of a grammar, built or from a table file, with its table, where every run on it ends, and the list of its conflicts.
+ghost use Rattle.std.specs.Prelude.{◌≡◌, ◌<◌, ◌≤◌, ◌*◌, ◌^◌, length, IfOk, string_bytes, MatchOption, ⊤};
 ghost use Rattle.mh_grammar.specs.Costs.{HaveCosts};
 ghost use Rattle.mh_grammar.specs.Plain.{plain_of, IsInRange};
 ghost use Rattle.mh_items.specs.Automaton.{IsAutomaton};
-ghost use Rattle.mh_prepare.specs.TableStage.{IsAutomatonStage, IsResolvedStage, IsTableStage, mode_of};
+ghost use Rattle.mh_prepare.specs.TableStage.{IsAutomatonStage, IsResolvedStage, IsTableStage};
 ghost use Rattle.mh_prepare.specs.Texts.{loop_place, look_text, loops_line, too_many_states as too_many_states_line};
 ghost use Rattle.mh_drive.specs.Stages.{Halts, StageHas};
 ghost use Rattle.mh_msgfile.specs.Sentences.{token_names};
-ghost use Rattle.mh_prepare.specs.declared.tabled.Source.TheVariants.{Canonical, Merged};
+ghost use Rattle.mh_prepare.specs.declared.tabled.Source.TheVariants.{Canonical, File, Merged};
+ghost use Rattle.mh_prepare.specs.TableFile.{IsNumbered};
+ghost use Rattle.mh_resolve.specs.States.{IsTableOf};
+ghost use Rattle.mh_resolve.specs.Conflicts.{AreConflicts};
+ghost use Rattle.mh_valid.specs.Valid.{AreNamesApart};
 ghost use Rattle.mh_drive.specs.declared.stop.Cause.TheVariants.{Refused};
 
+use crate::table_file::not_valid;
 use mh_canon::canonical;
 use mh_drive::{Stop, refused};
-use mh_grammar::{Grammar, Sequence, Token};
+use mh_grammar::{Grammar, Name, Sequence, Token};
 use mh_items::{Automaton, AutomatonWith, StatesFault};
 use mh_pager::merged;
 use mh_resolve::{Conflict, Mode, resolve};
 use mh_sets::TokenSet;
-use mh_tables::{HaltFault, Halting, check_halts};
+use mh_tabfile::RawTable;
+use mh_tables::{HaltFault, Halting, Table, check_halts};
+use mh_validate::{Valid, validate};
 use std::alloc::{AllocError, Global};
 
 /// Where the automaton comes from.
-#[derive(Clone, Copy, Debug, PartialEq, Eq)]
+#[derive(Debug, Drop)]
 pub enum Source {
     /// It is the merged one of the grammar.
     Merged,
     /// It is the canonical one of the grammar.
     Canonical,
-}
-
-impl Source {
-    /// The mode of its table.
-    pub fn mode(self) -> Mode
-        ensures { result ≡ mode_of self }
-    {
-        match self {
-            Source::Merged => Mode::Merged,
-            Source::Canonical => Mode::Canonical,
-        }
-    }
+    /// It is that of the named file, which says this.
+    File { name: Name, raw: RawTable },
 }
 
 /// The automaton of a grammar, its table, and the list of its conflicts.
@@ -47,6 +44,8 @@ pub struct TabledWith<L> {
     pub automaton: AutomatonWith<L>,
     pub halting: Halting,
     pub conflicts: Sequence<Conflict>,
+    /// The one that its table was resolved in.
+    pub mode: Mode,
 }
 
 /// One whose sets of tokens have a width.
@@ -88,24 +87,6 @@ fn merged_of<const W: usize>(alloc: Global, grammar: &Grammar) -> Result<Automat
     }
 }
 
-/// The automaton of a grammar.
-fn automaton_of<const W: usize>(
-    alloc: Global,
-    source: Source,
-    grammar: &Grammar,
-) -> Result<Automaton<W>, Stop>
-    requires few { W ≤ 8 }
-    requires width { length grammar.now.tokens ≤ 64 * W }
-    requires range { IsInRange (plain_of grammar.now) }
-    ensures stage { StageHas (IsAutomatonStage source grammar.now) result }
-    ensures automaton { IfOk result (λ automaton. IsAutomaton (plain_of grammar.now) automaton) }
-{
-    match source {
-        Source::Merged => merged_of(alloc, grammar),
-        Source::Canonical => canonical_of(alloc, grammar),
-    }
-}
-
 /// The name of the next token, where there is one.
 fn look_name(grammar: &Grammar, token: Option<Token>) -> &[u8]
     requires { MatchOption token ⊤ (λ token. token < length grammar.now.tokens) }
@@ -143,7 +124,40 @@ fn loops(
     }
 }
 
-/// The automaton with its table, where every run on it ends.
+/// The automaton with its table, where every run on that ends.
+fn where_halting<const W: usize>(
+    alloc: Global,
+    grammar: &Grammar,
+    automaton: Automaton<W>,
+    table: Table,
+    conflicts: Vec<Conflict>,
+    mode: Mode,
+) -> Result<Tabled<W>, Stop>
+    requires few { W ≤ 8 }
+    requires width { length grammar.now.tokens ≤ 64 * W }
+    requires table { IsTableOf grammar.now automaton mode table }
+    requires conflicts { AreConflicts grammar.now automaton conflicts.items }
+    ensures { StageHas (IsResolvedStage mode grammar.now automaton.entry) result }
+{
+    match check_halts(alloc, table) {
+        Ok(halting) => Ok(TabledWith {
+            automaton,
+            halting,
+            conflicts: Sequence::from_vec(conflicts),
+            mode,
+        }),
+        Err(
+            HaltFault::Loops {
+                below,
+                state,
+                token,
+            },
+        ) => Err(loops(alloc, grammar, below, state, token)),
+        Err(HaltFault::Memory) => Err(Stop::OutOfMemory),
+    }
+}
+
+/// The automaton with the table that the resolution gives.
 fn with_table<const W: usize>(
     alloc: Global,
     mode: Mode,
@@ -158,40 +172,102 @@ fn with_table<const W: usize>(
     ensures { StageHas (IsResolvedStage mode grammar.now automaton.entry) result }
 {
     let (table, conflicts) = resolve(alloc, grammar, &automaton, mode)?;
-    match check_halts(alloc, table) {
-        Ok(halting) => Ok(TabledWith {
-            automaton,
-            halting,
-            conflicts: Sequence::from_vec(conflicts),
-        }),
-        Err(
-            HaltFault::Loops {
-                below,
-                state,
-                token,
-            },
-        ) => Err(loops(alloc, grammar, below, state, token)),
-        Err(HaltFault::Memory) => Err(Stop::OutOfMemory),
+    where_halting(alloc, grammar, automaton, table, conflicts, mode)
+}
+
+/// The merged automaton with its table.
+fn merged_table<const W: usize>(alloc: Global, grammar: &Grammar) -> Result<Tabled<W>, Stop>
+    requires few { W ≤ 8 }
+    requires width { length grammar.now.tokens ≤ 64 * W }
+    requires range { IsInRange (plain_of grammar.now) }
+    requires costs { HaveCosts grammar.now.tokens }
+    ensures stage { StageHas (IsTableStage Merged grammar.now) result }
+    ensures automaton { IfOk result (λ tabled. IsAutomaton (plain_of grammar.now) tabled.automaton) }
+{
+    match merged_of(alloc, grammar) {
+        Ok(automaton) => with_table(alloc, Mode::Merged, grammar, automaton),
+        Err(stop) => Err(stop),
     }
 }
 
-/// The automaton of a grammar with its table and its conflicts. It halts with the first of these: the automaton has too
-/// many states; a run on the table never ends.
+/// The canonical automaton with its table.
+fn canonical_table<const W: usize>(alloc: Global, grammar: &Grammar) -> Result<Tabled<W>, Stop>
+    requires few { W ≤ 8 }
+    requires width { length grammar.now.tokens ≤ 64 * W }
+    requires range { IsInRange (plain_of grammar.now) }
+    requires costs { HaveCosts grammar.now.tokens }
+    ensures stage { StageHas (IsTableStage Canonical grammar.now) result }
+    ensures automaton { IfOk result (λ tabled. IsAutomaton (plain_of grammar.now) tabled.automaton) }
+{
+    match canonical_of(alloc, grammar) {
+        Ok(automaton) => with_table(alloc, Mode::Canonical, grammar, automaton),
+        Err(stop) => Err(stop),
+    }
+}
+
+/// The automaton that a table file names with its table.
+fn with_valid<const W: usize>(
+    alloc: Global,
+    grammar: &Grammar,
+    valid: Valid<W>,
+    mode: Mode,
+) -> Result<Tabled<W>, Stop>
+    requires few { W ≤ 8 }
+    requires width { length grammar.now.tokens ≤ 64 * W }
+    requires table { IsTableOf grammar.now valid.automaton mode valid.table }
+    requires conflicts { AreConflicts grammar.now valid.automaton valid.conflicts.items }
+    ensures { StageHas (IsResolvedStage mode grammar.now valid.entry.automaton) result }
+{
+    let Valid {
+        automaton,
+        table,
+        conflicts,
+        ..
+    } = valid;
+    where_halting(alloc, grammar, automaton, table, conflicts, mode)
+}
+
+/// The automaton of a table file with its table, where the file is valid for the grammar. None is built.
+fn table_in<const W: usize>(
+    alloc: Global,
+    grammar: &Grammar,
+    name: &[u8],
+    raw: &RawTable,
+) -> Result<Tabled<W>, Stop>
+    requires few { W ≤ 8 }
+    requires width { length grammar.now.tokens ≤ 64 * W }
+    requires range { IsInRange (plain_of grammar.now) }
+    requires costs { HaveCosts grammar.now.tokens }
+    requires apart { AreNamesApart grammar.now }
+    requires numbered { length raw.now.states < 2 ^ 32 }
+    ensures stage { StageHas (IsTableStage (File name.now raw.now) grammar.now) result }
+    ensures automaton { IfOk result (λ tabled. IsAutomaton (plain_of grammar.now) tabled.automaton) }
+{
+    match validate::<W>(alloc, grammar, raw) {
+        Ok(valid) => with_valid(alloc, grammar, valid, raw.mode),
+        Err(fault) => Err(not_valid(alloc, name, fault)),
+    }
+}
+
+/// The automaton of a grammar with its table and its conflicts, by where it comes from. It halts with the first of these: the
+/// automaton has too many states, or its file is not valid for the grammar; a run on the table never ends.
 pub(crate) fn table_of<const W: usize>(
     alloc: Global,
-    source: Source,
+    source: &Source,
     grammar: &Grammar,
 ) -> Result<Tabled<W>, Stop>
     requires few { W ≤ 8 }
     requires width { length grammar.now.tokens ≤ 64 * W }
     requires range { IsInRange (plain_of grammar.now) }
     requires costs { HaveCosts grammar.now.tokens }
-    ensures stage { StageHas (IsTableStage source grammar.now) result }
-    ensures automaton { IfOk result (λ tabled.
-        IsAutomaton (plain_of grammar.now) tabled.automaton) }
+    requires apart { AreNamesApart grammar.now }
+    requires numbered { IsNumbered source.now }
+    ensures stage { StageHas (IsTableStage source.now grammar.now) result }
+    ensures automaton { IfOk result (λ tabled. IsAutomaton (plain_of grammar.now) tabled.automaton) }
 {
-    match automaton_of(alloc, source, grammar) {
-        Ok(automaton) => with_table(alloc, source.mode(), grammar, automaton),
-        Err(stop) => Err(stop),
+    match source {
+        Source::Merged => merged_table(alloc, grammar),
+        Source::Canonical => canonical_table(alloc, grammar),
+        Source::File { name, raw } => table_in(alloc, grammar, name.as_slice(), raw),
     }
 }

@@ -38,10 +38,10 @@ line_clean (w ∷ []) (h, hs) = no_end w h
 line_clean (w ∷ v ∷ ws) (h, hs) = recursion-append (λ b. (b == 10) ≡ false) w (32 ∷ join_with_byte 32 (v ∷ ws)) (no_end w h) (refl, line_clean (v ∷ ws) hs)
 
 -- bytes as lines, with what stands behind the last LF
-abbrev view : List ℕ → List Line
+abbrev pub view : List ℕ → List Line
 view bytes = map words_of (slice_split (λ b. b == 10) bytes)
 
-view_again : (ls : List Line) (last : List ℕ) → AllByRecursion IsLine ls → view (text ls ++ last) ≡ ls ++ view last
+pub view_again : (ls : List Line) (last : List ℕ) → AllByRecursion IsLine ls → view (text ls ++ last) ≡ ls ++ view last
 view_again [] last h = refl
 view_again (l ∷ ls) last (h, hs) =
     ap view (sym (regroup (join_with_byte 32 l) (text ls) last))
@@ -49,10 +49,10 @@ view_again (l ∷ ls) last (h, hs) =
     ∙ ap (λ w. w ∷ view (text ls ++ last)) (words_again l h)
     ∙ ap (λ k. l ∷ k) (view_again ls last hs)
 
-view_whole : (ls : List Line) → AllByRecursion IsLine ls → view (text ls) ≡ ls ++ ([] ∷ []) ∷ []
+pub view_whole : (ls : List Line) → AllByRecursion IsLine ls → view (text ls) ≡ ls ++ ([] ∷ []) ∷ []
 view_whole ls h = ap view (sym (append-nil (text ls))) ∙ view_again ls [] h
 
-snoc_same : {X : Type 0} (xs ys : List X) (x y : X) → xs ++ x ∷ [] ≡ ys ++ y ∷ [] → (xs ≡ ys) × (x ≡ y)
+pub snoc_same : {X : Type 0} (xs ys : List X) (x y : X) → xs ++ x ∷ [] ≡ ys ++ y ∷ [] → (xs ≡ ys) × (x ≡ y)
 snoc_same [] [] x y e = (refl, cc)
 snoc_same [] (b ∷ bs) x y e = absurd (omega (arith, ap length e, length-append bs (y ∷ [])))
 snoc_same (a ∷ aa) [] x y e = absurd (omega (arith, ap length e, length-append aa (x ∷ [])))
@@ -72,11 +72,11 @@ front_of (a ∷ aa) (y ∷ ys) zs e x h n =
     let k = front_of aa ys zs e x rest n in
     (k.0, ap (λ l. l ∷ aa) same ∙ ap (λ l. y ∷ l) k.1)
 
-map_some : {X Y : Type 0} (f : X → Y) (xs : List X) → xs ≢ [] → map f xs ≢ []
+pub map_some : {X Y : Type 0} (f : X → Y) (xs : List X) → xs ≢ [] → map f xs ≢ []
 map_some f [] n e = n refl
 map_some f (x ∷ xs) n e = cc
 
-not_line : (last : List ℕ) → AllByRecursion (λ b. b ≢ 10) last → AllByRecursion (λ b. (b == 10) ≡ false) last
+pub not_line : (last : List ℕ) → AllByRecursion (λ b. b ≢ 10) last → AllByRecursion (λ b. (b == 10) ≡ false) last
 not_line [] h = tt
 not_line (b ∷ bs) (h, hs) = (ne_eqb b 10 h, not_line bs hs)
 

@@ -8,7 +8,7 @@ mod types;
 mod words;
 mod writing;
 
-pub use laws::{content_is_one, written_is_file};
+pub use laws::{content_is_one, fault_is_one, written_is_file};
 pub use reading::{TabFault, read_tables};
 pub use types::{RawCell, RawCells, RawEdge, RawItem, RawProduction, RawState, RawTable};
 pub use writing::write_tables;

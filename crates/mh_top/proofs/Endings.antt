@@ -17,14 +17,16 @@ use Rattle.mh_drive.specs.Statuses.{said}
 use Rattle.mh_prepare.specs.Order.{order_of, staged}
 use Rattle.mh_prepare.specs.FileStage.{AreFiles, IsFile, IsFound, IsLoaded, IsModule, loaded}
 use Rattle.mh_prepare.specs.Modules.{AreModules, AreModulesBy, grammar_files, names_by, sample_file, sample_of}
-use Rattle.mh_prepare.specs.Turns.{IsSpelled, IsTurn}
+use Rattle.mh_prepare.specs.Turns.{IsSpelled, IsTablesTurn, IsTurn}
 use Rattle.mh_prepare.specs.GrammarStage.{IsGrammarStage}
-use Rattle.mh_prepare.specs.TableStage.{IsAutomatonStage, IsResolvedStage, IsTableStage, mode_of, source_of}
+use Rattle.mh_tabfile.specs.declared.types.RawTable.{RawTable}
+use Rattle.mh_prepare.specs.TableFile.{IsTableFile}
+use Rattle.mh_prepare.specs.TableStage.{IsAutomatonStage, IsResolvedStage, IsSource, IsSourceBy, IsTableStage, mode_of}
 use Rattle.mh_drive.specs.Ways.{Ending, AnswersAll, AsksFor, EndsBehind, Outcome, Yields}
 use Rattle.mh_modes.specs.Plan.{Plan, EndsWith, asks_of, halts, by_plan}
 use Rattle.mh_top.specs.Work.{Work, IsPlanUnless, IsWork, IsWorkOf, has_warning, warnings_of}
-use Rattle.mh_prepare.specs.Preparing.{IsFront, IsPrepared, IsTabledFront}
-use Rattle.mh_top.specs.Run.{err_of, IsDue, OfGrammar, OfMode, IsTurnBehind, IsTurnUnless}
+use Rattle.mh_prepare.specs.Preparing.{IsFront, IsPrepared, IsTabledFrom, IsTabledFront}
+use Rattle.mh_top.specs.Run.{err_of, IsDue, OfGrammar, OfTables, OfMode, IsTurnBehind, IsTurnUnless}
 use Rattle.mh_top.specs.Claims.{AsksLines, HoldsFile, IsPast}
 use Rattle.mh_drive.specs.declared.driving.Asks.{Asks}
 use Rattle.mh_drive.specs.declared.driving.Asks.TheVariants.{NoLine, FirstLine, EachLine}
@@ -33,7 +35,7 @@ use Rattle.mh_prepare.specs.Shapes.{Prepared, Tabled}
 use Rattle.mh_drive.specs.declared.stop.Cause.{Cause}
 use Rattle.mh_drive.specs.declared.stop.Cause.TheVariants.{Refused, Misused, Missing, LongFile, LongInput}
 use Rattle.mh_prepare.specs.declared.tabled.Source.{Source}
-use Rattle.mh_prepare.specs.declared.tabled.Source.TheVariants.{Canonical, Merged}
+use Rattle.mh_prepare.specs.declared.tabled.Source.TheVariants.{Canonical, File, Merged}
 use Rattle.mh_prepare.proofs.Turns.{turn_first, turn_later}
 use Rattle.mh_prepare.proofs.Once.{prepared_once}
 use Rattle.mh_modes.proofs.Turning.{nil_not}
@@ -126,16 +128,42 @@ module _ (words : List Text) (files : Option Files) where
   of_automaton source g (Go a) stage cause first = refused_so cause _ first.cause_is
   of_automaton Merged g (Halt cause') stage cause same = let one : cause' ≡ cause = cc in subst Accounts one (refused_so cause' _ stage.1)
   of_automaton Canonical g (Halt cause') stage cause same = let one : cause' ≡ cause = cc in subst Accounts one (refused_so cause' _ stage.1)
+  of_automaton (File name raw) g (Halt cause') stage cause same = let one : cause' ≡ cause = cc in subst Accounts one (refused_so cause' _ stage.cause_is)
 
-  of_table : (front : Front) (s : Staged Tabled) → IsTableStage (source_of front.order) front.grammar s → (cause : Cause) → On {B = Prepared} s (λ tabled. Gives (record { order = front.order; grammar = front.grammar; tabled = tabled })) (Halt cause) → Accounts cause
-  of_table front (Go tabled) stage cause same = absurd (cc)
-  of_table front (Halt cause') stage cause same = let one : cause' ≡ cause = cc in subst Accounts one (of_automaton (source_of front.order) front.grammar stage.0 stage.1 cause' stage.2)
+  of_table : (front : Front) (source : Source) (s : Staged Tabled) → IsTableStage source front.grammar s → (cause : Cause) → On {B = Prepared} s (λ tabled. Gives (record { order = front.order; grammar = front.grammar; tabled = tabled })) (Halt cause) → Accounts cause
+  of_table front source (Go tabled) stage cause same = absurd (cc)
+  of_table front source (Halt cause') stage cause same = let one : cause' ≡ cause = cc in subst Accounts one (of_automaton source front.grammar stage.0 stage.1 cause' stage.2)
+
+  -- of the table file
+  of_tables_found : (name : Text) → IsTablesTurn words files name → (what : Found) → IsFound files name what → (cause : Cause) → Halt cause ≡ loaded name what → Accounts cause
+  of_tables_found name turn NoFile is cause from = let same : Missing name ≡ cause = cc in subst Accounts same ([], name, OfTables turn refl, is)
+  of_tables_found name turn Long is cause from = let same : LongFile name ≡ cause = cc in subst Accounts same ([], name, OfTables turn refl, is)
+  of_tables_found name turn (Bytes bytes) is cause from = absurd (cc)
+
+  of_tables_read : (name : Text) → IsTablesTurn words files name → (read : Staged Text) → IsLoaded files name read → (cause : Cause) → On read (IsTableFile name) (Halt cause) → Accounts cause
+  of_tables_read name turn (Go bytes) told cause fault = refused_so cause _ fault.cause_is
+  of_tables_read name turn (Halt cause') told cause is =
+      let same : cause' ≡ cause = cc in subst Accounts same (of_tables_found name turn told.0 told.1 cause' told.2)
+
+  of_source_by : (tables : Option Text) (canonical : Bool) → ((name : Text) → tables ≡ Some name → IsTablesTurn words files name) → (cause : Cause) → IsSourceBy tables canonical files (Halt cause) → Accounts cause
+  of_source_by None canonical turn cause is = absurd (cc)
+  of_source_by (Some name) canonical turn cause is = at is.0 is.1 is.2
+    where
+      at : (s : Staged RawTable) → IsFile files IsTableFile name s → On s (λ raw. Gives (File name raw)) (Halt cause) → Accounts cause
+      at (Go raw) file same = absurd (cc)
+      at (Halt cause') file same = let one : cause' ≡ cause = cc in subst Accounts one (of_tables_read name (turn name refl) file.0 file.1 cause' file.2)
+
+  of_source : (front : Front) → IsFront words files (Go front) → (s : Staged Source) → IsSource files front.order s → (cause : Cause) → On s (IsTabledFrom front) (Halt cause) → Accounts cause
+  of_source front here (Go source) from cause rest = of_table front source rest.0 rest.1 cause rest.2
+  of_source front here (Halt cause') from cause same =
+      let one : cause' ≡ cause = cc in
+      subst Accounts one (of_source_by front.order.tables front.order.canonical (λ name named. (front, here, named)) cause' from)
 
   of_prepared : (cause : Cause) → IsPrepared words files (Halt cause) → Accounts cause
   of_prepared cause is = at is.0 is.1 is.2
     where
-      at : (s : Staged Front) → IsFront words files s → On s IsTabledFront (Halt cause) → Accounts cause
-      at (Go front) here rest = of_table front rest.0 rest.1 cause rest.2
+      at : (s : Staged Front) → IsFront words files s → On s (IsTabledFront files) (Halt cause) → Accounts cause
+      at (Go front) here rest = of_source front here rest.0 rest.1 cause rest.2
       at (Halt cause') here same = let one : cause' ≡ cause = cc in subst Accounts one (of_front cause' here)
 
   -- ---- behind the warnings
@@ -200,7 +228,7 @@ module _ (words : List Text) (files : Option Files) where
       no_order (Go order) at front rest = let same : Halt (Misused line) ≡ Go order = sym on ∙ at in absurd (cc)
       no_order (Halt cause) at front rest = absurd (cc)
 
-      no_front : (s : Staged Front) → IsFront words files s → On s IsTabledFront (Go p) → ⊥
+      no_front : (s : Staged Front) → IsFront words files s → On s (IsTabledFront files) (Go p) → ⊥
       no_front (Go front) is rest = no_order (order_of words) refl front is
       no_front (Halt cause) is rest = absurd (cc)
 
@@ -242,6 +270,12 @@ module _ (words : List Text) (files : Files) where
       let front : IsFront words (Some files) (Halt cause) = subst (λ (o : Staged Order). On {B = Front} o (λ x. Then (AreModules (Some files) x) (λ modules. Then (IsGrammarStage x.stdlib modules) (λ grammar. Gives (record { order = x; grammar = grammar })))) (Halt cause)) (sym on) (Halt cause, are, refl) in
       (Halt cause, front, refl)
 
+  -- and where the table file halts, so does what is prepared
+  tables_halt : (name : Text) → IsTablesTurn words (Some files) name → (cause : Cause) → IsFile (Some files) IsTableFile name (Halt cause) → IsPrepared words (Some files) (Halt cause)
+  tables_halt name (front, here, named) cause is =
+      let source : IsSource (Some files) front.order (Halt cause) = subst (λ (t : Option Text). IsSourceBy t front.order.canonical (Some files) (Halt cause)) (sym named) (Halt cause, is, refl) in
+      (Go front, here, (Halt cause, source, refl))
+
   halted_work : (cause : Cause) (w : Work) (input : Option Text) (o : Outcome) → IsPrepared words (Some files) (Halt cause) → IsWork words (Some files) w → Yields by_plan w.plan input o → o.cause ≡ Some cause
   halted_work cause w input o prepared asked yields =
       let same : asked.0 ≡ Halt cause = prepared_once words files asked.0 (Halt cause) asked.1 prepared in
@@ -256,6 +290,8 @@ module _ (words : List Text) (files : Files) where
   due_gives : (w : Work) (input : Option Text) (o : Outcome) (front name : Text) (what : Found) (cause : Cause) → Yields by_plan w.plan input o → IsWork words (Some files) w → IsDue words (Some files) front name → IsFound (Some files) name what → loaded name what ≡ Halt cause → o.cause ≡ Some cause
   due_gives w input o front name what cause yields asked (OfGrammar order on turn front_is) found halt =
       halted_work cause w input o (prepared_halts order on name turn cause (Halt cause, (what, found, sym halt), refl)) asked yields
+  due_gives w input o front name what cause yields asked (OfTables turn front_is) found halt =
+      halted_work cause w input o (tables_halt name turn cause (Halt cause, (what, found, sym halt), refl)) asked yields
   due_gives w input o front name what cause yields asked (OfMode p prepared turn front_is) found halt =
       let same : asked.0 ≡ Go p = prepared_once words files asked.0 (Go p) asked.1 prepared in
       let of : IsWorkOf (Some files) (Go p) w = subst (λ (s : Staged Prepared). IsWorkOf (Some files) s w) same asked.2 in

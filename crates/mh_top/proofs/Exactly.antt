@@ -33,87 +33,55 @@ use Rattle.mh_tree.specs.Trees.{SyntaxTree, IsTreeFor, text_of}
 use Rattle.mh_exact.proofs.AcceptedSentence.{accepted_sentence}
 use Rattle.mh_exact.proofs.Telling.{overshoots, tells_prefix, tells_refused}
 use Rattle.mh_outside.specs.Shelf.{Files}
-use Rattle.mh_rules.specs.declared.modules.Module.{Module}
-use Rattle.mh_rules.specs.Ready.{AreModulesReady}
-use Rattle.mh_front.proofs.OneGrammar.{have_costs, in_range}
-use Rattle.mh_opts.specs.declared.order.Order.{Order}
 use Rattle.std.proofs.lemmas.List.Elements.{All-cons, All-head, All-nil}
 use Rattle.mh_drive.specs.Text.{Text}
 use Rattle.mh_drive.specs.Causes.{Staged, Go, Halt, On, Then, Gives}
-use Rattle.mh_prepare.specs.Order.{order_of}
-use Rattle.mh_prepare.specs.Modules.{AreModules, sample_of}
-use Rattle.mh_prepare.specs.GrammarStage.{IsGrammarStage}
-use Rattle.mh_prepare.specs.TableStage.{IsAutomatonStage, IsResolvedStage, IsTableStage, mode_of, source_of}
+use Rattle.mh_prepare.specs.TableStage.{IsAutomatonStage, IsResolvedStage, mode_of}
+use Rattle.mh_prepare.specs.TableFile.{IsBuilt, IsNumbered}
+use Rattle.mh_prepare.proofs.Fronts.{IsMade, made}
+use Rattle.mh_valid.proofs.Giving.{automaton_of}
+use Rattle.mh_resolve.specs.declared.kinds.Mode.{Mode}
 use Rattle.mh_msgfile.specs.Sentences.{LineFound}
 use Rattle.mh_msgfile.proofs.Below.{sentence_start}
 use Rattle.mh_modes.specs.Verdicts.{Answering, FoundBy, SentenceText, behind_refusal, verdict_text, outcome_text}
 use Rattle.mh_modes.specs.MessagesStage.{Messages}
 use Rattle.mh_modes.specs.Plan.{Judges, halts}
 use Rattle.mh_top.specs.Work.{Work, IsPlanUnless, IsWork, IsWorkOf, has_warning}
-use Rattle.mh_prepare.specs.Preparing.{IsFront, IsPrepared, IsTabledFront}
-use Rattle.mh_top.specs.Exact.{IsLR1, AnswersSentence, Accepts, Rejects, IsTooDeepText, ShowsTree, AcceptsExactly, RejectsRightly, OvershootsRightly, AcceptsRightly, TooDeepExactly}
-use Rattle.mh_prepare.specs.declared.prepared.Front.{Front}
+use Rattle.mh_prepare.specs.Preparing.{IsPrepared}
+use Rattle.mh_top.specs.Exact.{IsClear, IsClearTable, IsLR1, NameNoTables, AnswersSentence, Accepts, Rejects, IsTooDeepText, ShowsTree, AcceptsExactly, RejectsRightly, OvershootsRightly, AcceptsRightly, TooDeepExactly}
 use Rattle.mh_prepare.specs.Prepared.{IsFit}
-use Rattle.mh_prepare.specs.Shapes.{Prepared, Tabled}
+use Rattle.mh_prepare.specs.Shapes.{Prepared}
 use Rattle.mh_drive.specs.declared.stop.Cause.{Cause}
 use Rattle.mh_prepare.specs.declared.tabled.Source.{Source}
-use Rattle.mh_prepare.specs.declared.tabled.Source.TheVariants.{Canonical, Merged}
+use Rattle.mh_prepare.specs.declared.tabled.Source.TheVariants.{Canonical, File, Merged}
 use Rattle.mh_tables.specs.Halting.{Halts}
-use Rattle.mh_prepare.proofs.Ready.{modules_ready}
 use Rattle.mh_modes.proofs.Reading.{Runs}
 use Rattle.mh_modes.proofs.EachMode.{facts_of as job_facts}
 
 -- ---- the grammar and the table that verdicts go by
 
--- the table of the grammar's merged automaton, or of its canonical one
-pub record HasTable (g : Grammar) (t : TableData) : Type 0 where
+-- the table of the grammar's merged automaton, of its canonical one, or of one that a table file names
+pub record HasTable (words : List Text) (g : Grammar) (t : TableData) : Type 0 where
   pub source : Source
+  pub numbered : IsNumbered source
+  pub built : NameNoTables words → IsBuilt source
   pub automaton : Automaton
   pub stage : IsAutomatonStage source g (Go automaton)
   pub table : IsTableOf g automaton (mode_of source) t
 
-pub record IsTabled (g : Grammar) (t : TableData) : Type 0 where
+pub record IsTabled (words : List Text) (g : Grammar) (t : TableData) : Type 0 where
   range : IsInRange (plain_of g)
   costs : HaveCosts g.tokens
-  table : HasTable g t
+  table : HasTable words g t
   halts : Halts t
 
-tabled_so : (source : Source) (g : Grammar) → IsInRange (plain_of g) × HaveCosts g.tokens → (s : Staged Automaton) → IsAutomatonStage source g s → (x : Tabled) → On s (IsResolvedStage (mode_of source) g) (Go x) → IsTabled g x.halting
-tabled_so source g range (Go a) stage x is = record { range = range.0; costs = range.1; table = record { source = source; automaton = a; stage = stage; table = is.table }; halts = is.halts }
-tabled_so source g range (Halt cause) stage x is = absurd (cc)
-
--- ---- up to the table
-
-module _ (words : List Text) (files : Option Files) where
-  front_range : (front : Front) → IsFront words files (Go front) → IsInRange (plain_of front.grammar) × HaveCosts front.grammar.tokens
-  front_range front is = at (order_of words) refl is
-    where
-      of_grammar : (order : Order) (modules : List Module) → AreModulesReady modules → (s : Staged Grammar) → IsGrammarStage order.stdlib modules s → On s (λ grammar. Gives (record { order = order; grammar = grammar })) (Go front) → IsInRange (plain_of front.grammar) × HaveCosts front.grammar.tokens
-      of_grammar order modules some (Halt cause) stage same = absurd (cc)
-      of_grammar order modules some (Go g) stage same =
-          let one : front ≡ record { order = order; grammar = g } = cc in
-          subst (λ (f : Front). IsInRange (plain_of f.grammar) × HaveCosts f.grammar.tokens) (sym one) (in_range order.stdlib modules g some stage, have_costs order.stdlib modules g some stage)
-
-      of_modules : (order : Order) (s : Staged (List Module)) → AreModules files order s → On s (λ modules. Then (IsGrammarStage order.stdlib modules) (λ grammar. Gives (record { order = order; grammar = grammar }))) (Go front) → IsInRange (plain_of front.grammar) × HaveCosts front.grammar.tokens
-      of_modules order (Go modules) are rest = of_grammar order modules (modules_ready files (sample_of order.job) order.grammars modules are) rest.0 rest.1 rest.2
-      of_modules order (Halt cause) are same = absurd (cc)
-
-      at : (s : Staged Order) → order_of words ≡ s → On s (λ order. Then (AreModules files order) (λ modules. Then (IsGrammarStage order.stdlib modules) (λ grammar. Gives (record { order = order; grammar = grammar })))) (Go front) → IsInRange (plain_of front.grammar) × HaveCosts front.grammar.tokens
-      at (Go order) on rest = of_modules order rest.0 rest.1 rest.2
-      at (Halt cause) on same = absurd (cc)
-
-  prepared_tabled : (p : Prepared) → IsPrepared words files (Go p) → IsTabled p.grammar p.tabled.halting
-  prepared_tabled p is = at is.0 is.1 is.2
-    where
-      of_table : (front : Front) → IsInRange (plain_of front.grammar) × HaveCosts front.grammar.tokens → (s : Staged Tabled) → IsTableStage (source_of front.order) front.grammar s → On s (λ tabled. Gives (record { order = front.order; grammar = front.grammar; tabled = tabled })) (Go p) → IsTabled p.grammar p.tabled.halting
-      of_table front range (Halt cause) stage same = absurd (cc)
-      of_table front range (Go x) stage same =
-          let one : p ≡ record { order = front.order; grammar = front.grammar; tabled = x } = cc in
-          subst (λ (q : Prepared). IsTabled q.grammar q.tabled.halting) (sym one) (tabled_so (source_of front.order) front.grammar range stage.0 stage.1 x stage.2)
-
-      at : (s : Staged Front) → IsFront words files s → On s IsTabledFront (Go p) → IsTabled p.grammar p.tabled.halting
-      at (Go front) here rest = of_table front (front_range front here) rest.0 rest.1 rest.2
-      at (Halt cause) here same = absurd (cc)
+prepared_tabled : (words : List Text) (files : Option Files) (p : Prepared) → IsPrepared words files (Go p) → IsTabled words p.grammar p.tabled.halting
+prepared_tabled words files p is = let m = made words files p is in at m m.stage.0 m.stage.1 m.stage.2
+  where
+    at : (m : IsMade words files p) → (s : Staged Automaton) → IsAutomatonStage m.source p.grammar s → On s (IsResolvedStage (mode_of m.source) p.grammar) (Go p.tabled) → IsTabled words p.grammar p.tabled.halting
+    at m (Go a) stage is =
+        record { range = m.ready.range; costs = m.ready.costs; table = record { source = m.source; numbered = m.numbered; built = m.built; automaton = a; stage = stage; table = is.table }; halts = is.halts }
+    at m (Halt cause) stage is = absurd (cc)
 
 abbrev by : Bool → Grammar → TableData → Option Messages → Answering
 by trees g t messages = record { trees = trees; grammar = g; table = t; messages = messages }
@@ -122,18 +90,18 @@ module _ (warnings : Text) (trees : Bool) (g : Grammar) (t : TableData) (message
   abbrev work : Work
   work = record { warnings = warnings; plan = Judges (by trees g t messages) }
 
-  of_plan : (refused : Bool) (files : Option Files) (p : Prepared) → IsTabled p.grammar p.tabled.halting → IsPlanUnless refused files p (Judges (by trees g t messages)) → IsTabled g t
-  of_plan true files p has is = absurd (cc)
-  of_plan false files p has is = (job_facts p.order.job p).judged IsTabled files (by trees g t messages) has is
+  of_plan : (words : List Text) (refused : Bool) (files : Option Files) (p : Prepared) → IsTabled words p.grammar p.tabled.halting → IsPlanUnless refused files p (Judges (by trees g t messages)) → IsTabled words g t
+  of_plan words true files p has is = absurd (cc)
+  of_plan words false files p has is = (job_facts p.order.job p).judged (IsTabled words) files (by trees g t messages) has is
 
-  pub asked_tabled : (words : List Text) (files : Option Files) → IsWork words files work → IsTabled g t
+  pub asked_tabled : (words : List Text) (files : Option Files) → IsWork words files work → IsTabled words g t
   asked_tabled words files asked = at asked.0 asked.1 asked.2
     where
       no_halt : (cause : Cause) → work ≡ record { warnings = []; plan = halts cause } → ⊥
       no_halt cause e = let same : Judges (by trees g t messages) ≡ halts cause = ap (λ (w : Work). w.plan) e in absurd (cc)
 
-      at : (s : Staged Prepared) → IsPrepared words files s → IsWorkOf files s work → IsTabled g t
-      at (Go p) prepared is = of_plan (p.order.strict && has_warning p.tabled.conflicts) files p (prepared_tabled words files p prepared) is.1
+      at : (s : Staged Prepared) → IsPrepared words files s → IsWorkOf files s work → IsTabled words g t
+      at (Go p) prepared is = of_plan words (p.order.strict && has_warning p.tabled.conflicts) files p (prepared_tabled words files p prepared) is.1
       at (Halt cause) prepared is = absurd (no_halt cause is)
 
 -- ---- the automaton of the table
@@ -160,18 +128,20 @@ few_canonical g a canonical few = elim (cases_lt MAX_STATES (length a.kernels)) 
   | inr within ↦ within
 ]
 
-automaton_so : (source : Source) (g : Grammar) (a : Automaton) → IsInRange (plain_of g) → IsAutomatonStage source g (Go a) → IsAutomaton (plain_of g) a
-automaton_so Merged g a range stage = merged_automaton (plain_of g) a stage.1 (merged_few (plain_of g) a range stage.1 stage.0)
-automaton_so Canonical g a range stage = IsAutomaton-canonical (plain_of g) a stage.1 (few_canonical (plain_of g) a stage.1 stage.0)
+automaton_so : (source : Source) (g : Grammar) (a : Automaton) → IsInRange (plain_of g) → IsNumbered source → IsAutomatonStage source g (Go a) → IsAutomaton (plain_of g) a
+automaton_so (File name raw) g a range numbered stage = automaton_of g raw numbered a stage.0 stage.1
+automaton_so Merged g a range numbered stage = merged_automaton (plain_of g) a stage.1 (merged_few (plain_of g) a range stage.1 stage.0)
+automaton_so Canonical g a range numbered stage = IsAutomaton-canonical (plain_of g) a stage.1 (few_canonical (plain_of g) a stage.1 stage.0)
 
 -- merging brings no conflict
-clear_so : (source : Source) (g : Grammar) (a : Automaton) → IsInRange (plain_of g) → IsAutomatonStage source g (Go a) → IsLR1 g → HasNoConflicts g a
-clear_so Merged g a range stage lr1 = merged_clear g a lr1.automaton stage.1 (merged_few (plain_of g) a range stage.1 stage.0) lr1.canonical lr1.clear
-clear_so Canonical g a range stage lr1 = subst (HasNoConflicts g) (one_canonical (plain_of g) lr1.automaton a lr1.canonical stage.1) lr1.clear
+clear_so : (source : Source) (g : Grammar) (a : Automaton) → IsInRange (plain_of g) → IsBuilt source → IsAutomatonStage source g (Go a) → IsLR1 g → HasNoConflicts g a
+clear_so (File name raw) g a range built stage lr1 = absurd built
+clear_so Merged g a range built stage lr1 = merged_clear g a lr1.automaton stage.1 (merged_few (plain_of g) a range stage.1 stage.0) lr1.canonical lr1.clear
+clear_so Canonical g a range built stage lr1 = subst (HasNoConflicts g) (one_canonical (plain_of g) lr1.automaton a lr1.canonical stage.1) lr1.clear
 
-module _ (g : Grammar) (t : TableData) (is : IsTabled g t) where
+module _ (words : List Text) (g : Grammar) (t : TableData) (is : IsTabled words g t) where
   automaton : IsAutomaton (plain_of g) is.table.automaton
-  automaton = automaton_so is.table.source g is.table.automaton is.range is.table.stage
+  automaton = automaton_so is.table.source g is.table.automaton is.range is.table.numbered is.table.stage
 
   facts : Facts t
   facts =
@@ -180,12 +150,20 @@ module _ (g : Grammar) (t : TableData) (is : IsTabled g t) where
       let whole : table_data g t.states ≡ t = (λ i. record { grammar = sym grammar i; costs = sym table.costs i; states = t.states }) in
       subst Facts whole (facts_of g is.table.automaton (mode_of is.table.source) t.states is.range is.costs automaton table.states)
 
-  clear : IsLR1 g → HasNoConflicts g is.table.automaton
-  clear lr1 = clear_so is.table.source g is.table.automaton is.range is.table.stage lr1
+  -- it is the table of an automaton without conflicts
+  clear : IsClear words g t → IsClearTable g t
+  clear (inl lr1) = record {
+    automaton = is.table.automaton;
+    mode = mode_of is.table.source;
+    is_automaton = automaton;
+    table = is.table.table;
+    clear = clear_so is.table.source g is.table.automaton is.range (is.table.built lr1.0) is.table.stage lr1.1;
+  }
+  clear (inr table) = table
 
   module _ (start : ℕ) (known : start < length g.starts) where
-    accepts : IsLR1 g → (w : List ℕ) (read : ℕ) → VerdictOf t start w (Accepted read) ↔ IsPrefixSentence (plain_of g) start w read
-    accepts lr1 w read = tells_prefix g is.table.automaton (mode_of is.table.source) t facts automaton is.table.table (clear lr1) start w read known
+    accepts : IsClear words g t → (w : List ℕ) (read : ℕ) → VerdictOf t start w (Accepted read) ↔ IsPrefixSentence (plain_of g) start w read
+    accepts lr1 w read = let c = clear lr1 in tells_prefix g c.automaton c.mode t facts c.is_automaton c.table c.clear start w read known
 
     accepts_rightly : (w : List ℕ) (read : ℕ) → VerdictOf t start w (Accepted read) → IsPrefixSentence (plain_of g) start w read
     accepts_rightly w read v =
@@ -193,36 +171,28 @@ module _ (g : Grammar) (t : TableData) (is : IsTabled g t) where
         let some : start < length t.grammar.starts = subst (λ (p : PlainGrammar). start < length p.starts) (sym grammar) known in
         subst (λ (p : PlainGrammar). IsPrefixSentence p start w read) grammar (accepted_sentence t facts start w read some v)
 
-    rejects : IsLR1 g → (w : List ℕ) (at s : ℕ) → VerdictOf t start w (Rejected at s) → BeginsSentence (plain_of g) start (take (at + 1) w) → ⊥
-    rejects lr1 w at s v = tells_refused g is.table.automaton (mode_of is.table.source) t facts automaton is.table.table (clear lr1) start w at s known v
+    rejects : IsClear words g t → (w : List ℕ) (at s : ℕ) → VerdictOf t start w (Rejected at s) → BeginsSentence (plain_of g) start (take (at + 1) w) → ⊥
+    rejects lr1 w at s v = let c = clear lr1 in tells_refused g c.automaton c.mode t facts c.is_automaton c.table c.clear start w at s known v
 
     overshot : AllProductive (plain_of g) → (w : List ℕ) (s : ℕ) → VerdictOf t start w (Overshot s) → BeginsSentence (plain_of g) start w
     overshot productive w s v = overshoots g is.table.automaton (mode_of is.table.source) t facts automaton is.table.table productive start w s known v
 
 -- what is prepared fits together
-tabled_fit : (source : Source) (g : Grammar) → IsInRange (plain_of g) → (s : Staged Automaton) → IsAutomatonStage source g s → (x : Tabled) → On s (IsResolvedStage (mode_of source) g) (Go x) → IsAutomaton (plain_of g) x.automaton × IsTableOf g x.automaton (mode_of source) x.halting
-tabled_fit source g range (Go a) stage x is =
-    (subst (IsAutomaton (plain_of g)) (sym is.automaton) (automaton_so source g a range stage), subst (λ (b : Automaton). IsTableOf g b (mode_of source) x.halting) (sym is.automaton) is.table)
-tabled_fit source g range (Halt cause) stage x is = absurd (cc)
-
 prepared_fit : (words : List Text) (files : Option Files) (p : Prepared) → IsPrepared words files (Go p) → IsFit p
-prepared_fit words files p is = at is.0 is.1 is.2
+prepared_fit words files p is = let m = made words files p is in at m m.stage.0 m.stage.1 m.stage.2
   where
-    of_table : (front : Front) → IsInRange (plain_of front.grammar) → (s : Staged Tabled) → IsTableStage (source_of front.order) front.grammar s → On s (λ tabled. Gives (record { order = front.order; grammar = front.grammar; tabled = tabled })) (Go p) → IsFit p
-    of_table front range (Halt cause) stage same = absurd (cc)
-    of_table front range (Go x) stage same =
-        let one : p ≡ record { order = front.order; grammar = front.grammar; tabled = x } = cc in
-        let fit = tabled_fit (source_of front.order) front.grammar range stage.0 stage.1 x stage.2 in
-        subst IsFit (sym one) (record { range = range; automaton = fit.0; table = fit.1 })
-
-    at : (s : Staged Front) → IsFront words files s → On s IsTabledFront (Go p) → IsFit p
-    at (Go front) here rest = of_table front (front_range words files front here).0 rest.0 rest.1 rest.2
-    at (Halt cause) here same = absurd (cc)
+    at : (m : IsMade words files p) → (s : Staged Automaton) → IsAutomatonStage m.source p.grammar s → On s (IsResolvedStage (mode_of m.source) p.grammar) (Go p.tabled) → IsFit p
+    at m (Go a) stage is = record {
+      range = m.ready.range;
+      automaton = subst (IsAutomaton (plain_of p.grammar)) (sym is.automaton) (automaton_so m.source p.grammar a m.ready.range m.numbered stage);
+      table = subst (λ (b : Automaton). IsTableOf p.grammar b p.tabled.mode p.tabled.halting) (sym is.automaton) (subst (λ (mode : Mode). IsTableOf p.grammar a mode p.tabled.halting) (sym is.resolved_in) is.table);
+    }
+    at m (Halt cause) stage is = absurd (cc)
 
 -- and every run on the table ends
 pub prepared_runs : (words : List Text) (files : Option Files) (p : Prepared) → IsPrepared words files (Go p) → Runs p
 prepared_runs words files p is =
-    let tabled = prepared_tabled words files p is in record { halts = record { facts = facts p.grammar p.tabled.halting tabled; halts = tabled.halts }; fit = prepared_fit words files p is }
+    let tabled = prepared_tabled words files p is in record { halts = record { facts = facts words p.grammar p.tabled.halting tabled; halts = tabled.halts }; fit = prepared_fit words files p is }
 
 -- ---- the texts
 
@@ -301,15 +271,15 @@ module _ (g : Grammar) (t : TableData) (s : Sentence) (text : Text) where
     accepts_or_deep read is (TooDeep deep) = inr deep
 
 -- the tree of the run is one of the grammar
-shows_tree : (g : Grammar) (t : TableData) → IsTabled g t → (s : Sentence) (text : Text) (trees : Bool) (read : ℕ) → Leaves trees g t s read text → ShowsTree trees g s read text
-shows_tree g t is s text false read leaves = tt
-shows_tree g t is s text true read leaves =
+shows_tree : (words : List Text) (g : Grammar) (t : TableData) → IsTabled words g t → (s : Sentence) (text : Text) (trees : Bool) (read : ℕ) → Leaves trees g t s read text → ShowsTree trees g s read text
+shows_tree words g t is s text false read leaves = tt
+shows_tree words g t is s text true read leaves =
     (leaves.0, leaves.1, subst (λ (p : PlainGrammar). IsTreeFor p (start_symbol p s.start) leaves.0) is.table.table.grammar leaves.2.is, leaves.2.spells)
 
 -- ---- the laws
 
 module _ (words : List Text) (files : Option Files) (trees : Bool) (g : Grammar) (s : Sentence) (text : Text) (by : AnswersSentence words files trees g s text) where
-  is : IsTabled g by.table
+  is : IsTabled words g by.table
   is = asked_tabled by.warnings trees g by.table by.messages words files by.asked
 
   known : s.start < length g.starts
@@ -321,24 +291,24 @@ module _ (words : List Text) (files : Option Files) (trees : Bool) (g : Grammar)
   how : Shown trees g by.table s text
   how = shown g by.table s text trees by.messages said
 
-  accepts_read : IsLR1 g → Accepts trees g text → (read : ℕ) × IsPrefixSentence (plain_of g) s.start s.tokens read
-  accepts_read lr1 e = let p = accepted g by.table s text trees how e in (p.0, (accepts g by.table is s.start known lr1 s.tokens p.0).0 p.1)
+  accepts_read : IsClear words g by.table → Accepts trees g text → (read : ℕ) × IsPrefixSentence (plain_of g) s.start s.tokens read
+  accepts_read lr1 e = let p = accepted g by.table s text trees how e in (p.0, (accepts words g by.table is s.start known lr1 s.tokens p.0).0 p.1)
 
-  sentence_accepts : IsLR1 g → (read : ℕ) → IsPrefixSentence (plain_of g) s.start s.tokens read → Accepts trees g text ⊎ IsTooDeepText trees text
-  sentence_accepts lr1 read p = accepts_or_deep g by.table s text trees read ((accepts g by.table is s.start known lr1 s.tokens read).1 p) how
+  sentence_accepts : IsClear words g by.table → (read : ℕ) → IsPrefixSentence (plain_of g) s.start s.tokens read → Accepts trees g text ⊎ IsTooDeepText trees text
+  sentence_accepts lr1 read p = accepts_or_deep g by.table s text trees read ((accepts words g by.table is s.start known lr1 s.tokens read).1 p) how
 
   rightly : Accepts trees g text → (read : ℕ) × IsPrefixSentence (plain_of g) s.start s.tokens read × ShowsTree trees g s read text
   rightly e =
       let p = accepted g by.table s text trees how e in
-      (p.0, accepts_rightly g by.table is s.start known s.tokens p.0 p.1, shows_tree g by.table is s text trees p.0 p.2)
+      (p.0, accepts_rightly words g by.table is s.start known s.tokens p.0 p.1, shows_tree words g by.table is s text trees p.0 p.2)
 
-  refused : IsLR1 g → Rejects text → (at : ℕ) × (at < length s.tokens) × (BeginsSentence (plain_of g) s.start (take (at + 1) s.tokens) → ⊥)
+  refused : IsClear words g by.table → Rejects text → (at : ℕ) × (at < length s.tokens) × (BeginsSentence (plain_of g) s.start (take (at + 1) s.tokens) → ⊥)
   refused lr1 e =
       let p = rejected_at g by.table s text trees how e in
-      (p.0, (verdict_cut by.table s.start s.tokens p.0 p.1 p.2).0, λ b. rejects g by.table is s.start known lr1 s.tokens p.0 p.1 p.2 b)
+      (p.0, (verdict_cut by.table s.start s.tokens p.0 p.1 p.2).0, λ b. rejects words g by.table is s.start known lr1 s.tokens p.0 p.1 p.2 b)
 
   begun : AllProductive (plain_of g) → text ≡ codes "OVERSHOOT\n" → BeginsSentence (plain_of g) s.start s.tokens
-  begun productive e = let p = overshot_at g by.table s text trees how e in overshot g by.table is s.start known productive s.tokens p.0 p.1
+  begun productive e = let p = overshot_at g by.table s text trees how e in overshot words g by.table is s.start known productive s.tokens p.0 p.1
 
 module _ (words : List Text) (files : Option Files) where
   pub accepts_exactly : AcceptsExactly words files

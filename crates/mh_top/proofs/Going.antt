@@ -19,20 +19,20 @@ use Rattle.mh_drive.specs.Drive.{Ended, LeftIs, Ran}
 use Rattle.mh_drive.specs.Steps.{Counts, FileCounts, OutCounts}
 use Rattle.mh_modes.specs.Modes.{Followed, IsUnopened}
 use Rattle.mh_top.specs.Saying.{Warned, Worked}
-use Rattle.mh_top.specs.Run.{World, Behind, Nothing, Warned as Said, Begun, IsDue, OfGrammar, OfMode, IsStill, IsTurnBehind, IsTurnUnless}
+use Rattle.mh_top.specs.Run.{World, Behind, Nothing, Warned as Said, Begun, IsDue, OfGrammar, OfTables, OfMode, IsStill, IsTurnBehind, IsTurnUnless}
 use Rattle.mh_prepare.specs.declared.prepared.Front.{Front}
 use Rattle.mh_prepare.specs.Shapes.{Prepared}
 use Rattle.mh_drive.specs.declared.stop.Cause.{Cause}
 use Rattle.mh_drive.specs.declared.stop.Cause.TheVariants.{Refused}
 use Rattle.mh_drive.specs.declared.stop.Stop.{Stop}
 use Rattle.mh_drive.specs.declared.stop.Stop.TheVariants.{Halted, ShelfFailed, InputFailed, WriteFailed, OutOfMemory}
-use Rattle.mh_drive.proofs.Binding.{names_wider, no_names, then_on, then_stops}
+use Rattle.mh_drive.proofs.Binding.{names_wider, then_on, then_stops}
 
 Appends-nil : (out : Option Text) → Appends out out []
 Appends-nil None = tt
 Appends-nil (Some out) = sym (append-nil out)
 
-pub prepared_so : (words : List Text) (files : Option Files) (front : Front) (p : Prepared) → IsFront words files (Go front) → IsTabledFront front (Go p) → IsPrepared words files (Go p)
+pub prepared_so : (words : List Text) (files : Option Files) (front : Front) (p : Prepared) → IsFront words files (Go front) → IsTabledFront files front (Go p) → IsPrepared words files (Go p)
 prepared_so words files front p is has = (Go front, is, has)
 
 -- ---- nothing was written yet
@@ -78,7 +78,7 @@ module _ (words : List Text) (b a : World) (same : IsUntouched b a) where
 
   pub front_stops : (stop : Stop) → ShelfCounts {A = Front} b.shelf_faults a.shelf_faults (Err stop) → FilesGive {A = Front} (IsFront words b.files) (IsGrammarTurn words b.files) (Err stop) → Worked words b a (Err stop)
   front_stops stop counts has =
-      stops_before stop (counts_of stop counts) (then_stops (IsFront words b.files) IsTabledFront (IsDue words b.files []) stop
+      stops_before stop (counts_of stop counts) (then_stops (IsFront words b.files) (IsTabledFront b.files) (IsDue words b.files []) stop
       (names_wider (IsFront words b.files) (IsGrammarTurn words b.files) (IsDue words b.files []) (Err stop) (λ name turn. OfGrammar turn.0 turn.1 turn.2 refl) has))
     where
       counts_of : (s : Stop) → ShelfCounts {A = Front} b.shelf_faults a.shelf_faults (Err s) → ShelfCounts {A = Prepared} b.shelf_faults a.shelf_faults (Err s)
@@ -88,21 +88,11 @@ module _ (words : List Text) (b a : World) (same : IsUntouched b a) where
       counts_of InputFailed h = h
       counts_of WriteFailed h = h
 
--- the table's stage stops, and the shelf is as it was
-pub prepare_stops : (words : List Text) (b : World) (front : Front) (stop : Stop) → IsFront words b.files (Go front) → StageHas {A = Prepared} (IsTabledFront front) (Err stop) → Worked words b b (Err stop)
-prepare_stops words b front stop is has =
-    stops_before words b b (record { out = refl; err = refl; left = refl; input_faults = refl; out_faults = refl; err_faults = refl }) stop (calm stop has)
-    (then_on (IsFront words b.files) IsTabledFront (IsDue words b.files []) front (Err stop) is (no_names (IsTabledFront front) (IsDue words b.files []) (Err stop) has))
-  where
-    le_same : (n : ℕ) → n ≤ n
-    le_same n = omega arith
-
-    calm : (s : Stop) → StageHas {A = Prepared} (IsTabledFront front) (Err s) → ShelfCounts {A = Prepared} b.shelf_faults b.shelf_faults (Err s)
-    calm (Halted cause) h = refl
-    calm (ShelfFailed name) h = absurd h
-    calm OutOfMemory h = le_same b.shelf_faults
-    calm InputFailed h = absurd h
-    calm WriteFailed h = absurd h
+  -- the table's stage stops
+  pub prepare_stops : (front : Front) (stop : Stop) → IsFront words b.files (Go front) → ShelfCounts {A = Prepared} b.shelf_faults a.shelf_faults (Err stop) → FilesGive {A = Prepared} (IsTabledFront b.files front) (λ name. front.order.tables ≡ Some name) (Err stop) → Worked words b a (Err stop)
+  prepare_stops front stop is counts has =
+      stops_before stop counts (then_on (IsFront words b.files) (IsTabledFront b.files) (IsDue words b.files []) front (Err stop) is
+      (names_wider (IsTabledFront b.files front) (λ name. front.order.tables ≡ Some name) (IsDue words b.files []) (Err stop) (λ name named. OfTables (front, is, named) refl) has))
 
 -- ---- the warnings
 

@@ -6,8 +6,9 @@ use Rattle.mh_drive.specs.Text.{Text}
 use Rattle.mh_drive.specs.Causes.{Go}
 use Rattle.mh_prepare.specs.Modules.{grammar_files}
 use Rattle.mh_prepare.specs.Order.{order_of}
+use Rattle.mh_prepare.specs.Turns.{AsksForTables}
 use Rattle.mh_modes.specs.Files.{files_of_mode}
 
--- the files that the words ask for: the order's grammar files, and those that its mode reads
+-- the files that the words ask for: the order's grammar files, its table file, and those that its mode reads
 abbrev pub AsksFor : List Text → (Text → Type 0) → Type 0
-AsksFor given May = (order : Order) → order_of given ≡ Go order → All May (grammar_files order) × All May (files_of_mode order)
+AsksFor given May = (order : Order) → order_of given ≡ Go order → All May (grammar_files order) × AsksForTables order May × All May (files_of_mode order)

@@ -1,16 +1,22 @@
 -- What the answers to sentence lines say of the sentences of the grammar, with trees or without.
-use Rattle.std.specs.Prelude.{◌≡◌, ◌<◌, ◌+◌, ◌↔◌, ◌⊎◌, ◌++◌, ℕ, Bool, true, false, List, length, take, Option, codes, ⊤}
+use Rattle.std.specs.Prelude.{◌≡◌, ◌<◌, ◌+◌, ◌↔◌, ◌⊎◌, ◌++◌, ℕ, Bool, true, false, List, length, take, Option, None, codes, ⊤}
 use Rattle.mh_grammar.specs.declared.types.Grammar.{Grammar}
 use Rattle.mh_grammar.specs.declared.types.Sentence.{Sentence}
 use Rattle.mh_grammar.specs.Plain.{plain_of, start_symbol, BeginsSentence}
 use Rattle.mh_items.specs.Shapes.{Automaton}
+use Rattle.mh_items.specs.Automaton.{IsAutomaton}
 use Rattle.mh_canon.specs.Canonical.{IsCanonical}
+use Rattle.mh_resolve.specs.States.{IsTableOf}
+use Rattle.mh_resolve.specs.declared.kinds.Mode.{Mode}
 use Rattle.mh_resolve.specs.Clear.{HasNoConflicts}
 use Rattle.mh_tables.specs.Table.{TableData}
 use Rattle.mh_tree.specs.Trees.{SyntaxTree, IsTreeFor, text_of, yield_of}
 use Rattle.mh_exact.specs.Exactness.{IsPrefixSentence, AllProductive}
 use Rattle.mh_tables.specs.TreeRuns.{IsTooDeep}
+use Rattle.mh_opts.specs.declared.order.Order.{Order}
 use Rattle.mh_outside.specs.Shelf.{Files}
+use Rattle.mh_drive.specs.Causes.{Go}
+use Rattle.mh_prepare.specs.Order.{order_of}
 use Rattle.mh_drive.specs.Text.{Text}
 use Rattle.mh_msgfile.specs.Sentences.{IsSentence, sentence_in, vocabulary_of}
 use Rattle.mh_modes.specs.MessagesStage.{Messages}
@@ -23,6 +29,22 @@ pub record IsLR1 (g : Grammar) : Type 0 where
   pub automaton : Automaton
   pub canonical : IsCanonical (plain_of g) automaton
   pub clear : HasNoConflicts g automaton
+
+-- The table is that of some automaton of the grammar without a conflict, that with the end of the stream included.
+pub record IsClearTable (g : Grammar) (t : TableData) : Type 0 where
+  pub automaton : Automaton
+  pub mode : Mode
+  pub is_automaton : IsAutomaton (plain_of g) automaton
+  pub table : IsTableOf g automaton mode t
+  pub clear : HasNoConflicts g automaton
+
+-- the words name no table file
+abbrev pub NameNoTables : List Text → Type 0
+NameNoTables words = (order : Order) → order_of words ≡ Go order → order.tables ≡ None
+
+-- Verdicts go by no conflict: the table is built, and the grammar is LR(1); or the table, which may be that of a file, is clear.
+abbrev pub IsClear : List Text → Grammar → TableData → Type 0
+IsClear words g t = (NameNoTables words × IsLR1 g) ⊎ IsClearTable g t
 
 -- The words ask for verdicts by a table of the grammar, with trees or without, with messages or without, and the text answers a line that is this
 -- sentence.
@@ -55,16 +77,16 @@ ShowsTree false g s read text = ⊤
 ShowsTree true g s read text =
     (tree : SyntaxTree) × (text ≡ codes "ACCEPT\n" ++ text_of g tree ++ codes "\n") × IsTreeFor (plain_of g) (start_symbol (plain_of g) s.start) tree × (yield_of tree ≡ take read s.tokens)
 
--- By a grammar that is LR(1), a line is accepted only where its tokens, or the first of them, are a sentence; and each such
+-- By a table without conflicts, a line is accepted only where its tokens, or the first of them, are a sentence; and each such
 -- line is, but where its trees are too deep.
 abbrev pub AcceptsExactly : List Text → Option Files → Type 0
-AcceptsExactly words files = (trees : Bool) (g : Grammar) (s : Sentence) (text : Text) → AnswersSentence words files trees g s text → IsLR1 g →
+AcceptsExactly words files = (trees : Bool) (g : Grammar) (s : Sentence) (text : Text) → (answers : AnswersSentence words files trees g s text) → IsClear words g answers.table →
     (Accepts trees g text → (read : ℕ) × IsPrefixSentence (plain_of g) s.start s.tokens read)
     × ((read : ℕ) → IsPrefixSentence (plain_of g) s.start s.tokens read → Accepts trees g text ⊎ IsTooDeepText trees text)
 
 -- And REJECT answers a line only where no sentence begins with its tokens up to one of them.
 abbrev pub RejectsRightly : List Text → Option Files → Type 0
-RejectsRightly words files = (trees : Bool) (g : Grammar) (s : Sentence) (text : Text) → AnswersSentence words files trees g s text → IsLR1 g →
+RejectsRightly words files = (trees : Bool) (g : Grammar) (s : Sentence) (text : Text) → (answers : AnswersSentence words files trees g s text) → IsClear words g answers.table →
     Rejects text → (at : ℕ) × (at < length s.tokens) × (BeginsSentence (plain_of g) s.start (take (at + 1) s.tokens) → ⊥)
 
 -- By any grammar each of whose nonterminals derives some word, OVERSHOOT answers a line only where some sentence begins

@@ -11,7 +11,7 @@ use Rattle.mh_drive.specs.Statuses.{status_of, line_of, said}
 use Rattle.mh_prepare.specs.Order.{order_of}
 use Rattle.mh_prepare.specs.FileStage.{IsModule}
 use Rattle.mh_prepare.specs.Modules.{grammar_files}
-use Rattle.mh_prepare.specs.Turns.{IsTurn}
+use Rattle.mh_prepare.specs.Turns.{IsTablesTurn, IsTurn}
 use Rattle.mh_drive.specs.Ways.{Outcome, Yields}
 use Rattle.mh_top.specs.Work.{Work, IsWork, has_warning, warnings_of}
 use Rattle.mh_prepare.specs.Preparing.{IsPrepared}
@@ -55,9 +55,10 @@ IsTurnUnless false files p name = IsTurnOfJob p.order.job files p name
 abbrev pub IsTurnBehind : Option Files → Prepared → Text → Type 0
 IsTurnBehind files p name = IsTurnUnless (p.order.strict && has_warning p.tabled.conflicts) files p name
 
--- the turn of the file of this name has come: of the order's grammar files, or, behind the warnings, of those that the mode reads
+-- the turn of the file of this name has come: of the order's grammar files; of its table file; or, behind the warnings, of those that the mode reads
 pub data IsDue (words : List Text) (files : Option Files) (front name : Text) : Type 0 where
   OfGrammar : (order : Order) → order_of words ≡ Go order → IsTurn files IsModule (grammar_files order) name → front ≡ [] → IsDue words files front name
+  OfTables : IsTablesTurn words files name → front ≡ [] → IsDue words files front name
   OfMode : (p : Prepared) → IsPrepared words files (Go p) → IsTurnBehind files p name → front ≡ warnings_of p → IsDue words files front name
 
 -- out and the input are as they were

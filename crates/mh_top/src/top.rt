@@ -3,6 +3,7 @@ ghost use Rattle.std.specs.Prelude.{◌≡◌, ◌≤◌, ◌*◌, ◌++◌, Lis
 ghost use Rattle.std.specs.List.{All};
 ghost use Rattle.mh_grammar.specs.Costs.{HaveCosts};
 ghost use Rattle.mh_grammar.specs.Plain.{plain_of, IsInRange};
+ghost use Rattle.mh_valid.specs.Valid.{AreNamesApart};
 ghost use Rattle.mh_drive.specs.Text.{Text};
 ghost use Rattle.mh_outside.specs.Faults.{Counts};
 ghost use Rattle.mh_outside.specs.Sink.{WritesWhole};
@@ -12,17 +13,45 @@ ghost use Rattle.mh_top.specs.Claims.{Keeps};
 ghost use Rattle.mh_top.specs.ErrorLists.{ListsErrorsExactly};
 ghost use Rattle.mh_top.specs.Exact.{AcceptsExactly, RejectsRightly, OvershootsRightly, AcceptsRightly, TooDeepExactly};
 ghost use Rattle.mh_modes.specs.Files.{files_of_mode};
+ghost use Rattle.mh_prepare.specs.Turns.{AsksForTables};
 ghost use Rattle.mh_top.specs.Asking.{AsksFor};
 ghost use Rattle.mh_top.specs.Run.{world, Ran};
 ghost use Rattle.mh_top.specs.Saying.{Worked, Reported, SaysLine};
-ghost use Rattle.mh_prepare.specs.Preparing.{IsFront};
+ghost use Rattle.mh_prepare.specs.Prepared.{IsFit};
+ghost use Rattle.mh_prepare.specs.Preparing.{IsFront, IsPrepared};
 
 use crate::warning::{go_on, warn};
 use mh_drive::{Cause, Stop, status};
 use mh_outside::{Shelf, Sink, Source, WriteFault, write_whole};
-use mh_prepare::{Front, front_of, prepare};
+use mh_prepare::{Front, Prepared, front_of, prepare};
 use mh_sets::with_width;
 use std::alloc::Global;
+
+/// The work behind the table: the warnings, and the mode.
+fn work_with<F: Shelf, I: Source, O: Sink, E: Sink, const W: usize>(
+    alloc: Global,
+    prepared: &Prepared<W>,
+    shelf: &mut F,
+    input: &mut I,
+    out: &mut O,
+    err: &mut E,
+) -> Result<(), Stop>
+    requires few { W ≤ 8 }
+    requires fit { IsFit prepared.now }
+    requires asked { All (F.MayAsk shelf.old) (files_of_mode prepared.now.order) }
+    ensures kept { F.files shelf.new ≡ F.files shelf.old }
+    ensures ran { (words : List Text) → IsPrepared words (F.files shelf.old) (Go prepared.now) → Worked words
+        (world F.files F.faults I.left I.faults O.written O.faults E.written E.faults
+        shelf.old input.old out.old err.old)
+        (world F.files F.faults I.left I.faults O.written O.faults E.written E.faults
+        shelf.new input.new out.new err.new)
+        result }
+{
+    match warn(alloc, prepared, err) {
+        Ok(()) => go_on(alloc, prepared, shelf, input, out),
+        Err(stop) => Err(stop),
+    }
+}
 
 /// The work behind the grammar: its table, the warnings, and the mode.
 fn work_on<F: Shelf, I: Source, O: Sink, E: Sink, const W: usize>(
@@ -37,6 +66,8 @@ fn work_on<F: Shelf, I: Source, O: Sink, E: Sink, const W: usize>(
     requires width { length front.grammar.tokens ≤ 64 * W }
     requires range { IsInRange (plain_of front.grammar) }
     requires costs { HaveCosts front.grammar.tokens }
+    requires apart { AreNamesApart front.grammar }
+    requires tables { AsksForTables front.order (F.MayAsk shelf.old) }
     requires asked { All (F.MayAsk shelf.old) (files_of_mode front.order) }
     ensures kept { F.files shelf.new ≡ F.files shelf.old }
     ensures ran { (words : List Text) → IsFront words (F.files shelf.old) (Go front) → Worked words
@@ -46,12 +77,8 @@ fn work_on<F: Shelf, I: Source, O: Sink, E: Sink, const W: usize>(
         shelf.new input.new out.new err.new)
         result }
 {
-    let prepared = match prepare::<W>(alloc, front) {
-        Ok(prepared) => prepared,
-        Err(stop) => return Err(stop),
-    };
-    match warn(alloc, &prepared, err) {
-        Ok(()) => go_on(alloc, &prepared, shelf, input, out),
+    match prepare::<F, W>(alloc, front, shelf) {
+        Ok(prepared) => work_with(alloc, &prepared, shelf, input, out, err),
         Err(stop) => Err(stop),
     }
 }
@@ -68,6 +95,8 @@ fn work_at_width<F: Shelf, I: Source, O: Sink, E: Sink>(
     requires tokens { length front.grammar.tokens ≤ 512 }
     requires range { IsInRange (plain_of front.grammar) }
     requires costs { HaveCosts front.grammar.tokens }
+    requires apart { AreNamesApart front.grammar }
+    requires tables { AsksForTables front.order (F.MayAsk shelf.old) }
     requires asked { All (F.MayAsk shelf.old) (files_of_mode front.order) }
     ensures kept { F.files shelf.new ≡ F.files shelf.old }
     ensures ran { (words : List Text) → IsFront words (F.files shelf.old) (Go front) → Worked words

@@ -22,7 +22,7 @@ use Rattle.mh_tables.specs.Table.{no_state}
 use Rattle.mh_resolve.proofs.Once.{resolved_once}
 
 -- kernels that the states of a file spell are one list
-same_kernels : (g : Grammar) → AreNamesApart g → (raw : RawTable) (ks ls : List Kernel) → AreKernels g raw ks → AreKernels g raw ls → ks ≡ ls
+pub same_kernels : (g : Grammar) → AreNamesApart g → (raw : RawTable) (ks ls : List Kernel) → AreKernels g raw ks → AreKernels g raw ls → ks ≡ ls
 same_kernels g n raw ks ls h k = same_lists ks ls (h.count ∙ sym k.count) (λ s d lt.
     let inside : s < length raw.states = (let c = h.count in omega (arith, c, lt)) in
     let other : s < length ls = (let c = k.count in omega (arith, c, inside)) in
@@ -51,10 +51,10 @@ same_edges g raw ks s es fs h k =
         has_symbol ys x v there
 
 -- the edges and the parts of a state of a valid file
-right_at : (g : Grammar) (n : AreNamesApart g) (raw : RawTable) (a : Automaton) (parts : List StateParts) → IsValidFor g raw a parts → (ks : List Kernel) → AreKernels g raw ks → (s : ℕ) → s < length raw.states → IsRight g raw ks s (slice_index_or a.edges s []) (slice_index_or parts s no_state)
+pub right_at : (g : Grammar) (n : AreNamesApart g) (raw : RawTable) (a : Automaton) (parts : List StateParts) → IsValidFor g raw a parts → (ks : List Kernel) → AreKernels g raw ks → (s : ℕ) → s < length raw.states → IsRight g raw ks s (slice_index_or a.edges s []) (slice_index_or parts s no_state)
 right_at g n raw a parts v ks are s known = let same = same_kernels g n raw a.kernels ks v.kernels are in rw (← same) (v.right s known)
 
-never_wrong : (g : Grammar) (raw : RawTable) (ks : List Kernel) (s : ℕ) (edges : List Edge) (parts : StateParts) (reason : Reason) → IsRight g raw ks s edges parts → IsWrong g raw ks s reason → ⊥
+pub never_wrong : (g : Grammar) (raw : RawTable) (ks : List Kernel) (s : ℕ) (edges : List Edge) (parts : StateParts) (reason : Reason) → IsRight g raw ks s edges parts → IsWrong g raw ks s reason → ⊥
 never_wrong g raw ks s edges parts reason r w =
     let same : w.edges ≡ edges = same_edges g raw ks s w.edges edges w.has_edges r.has_edges in
     let resolved = rw same at w.resolved in

@@ -3,3 +3,4 @@ pub mod Again
 pub mod OneKernel
 pub mod Edged
 pub mod Apart
+pub mod Once

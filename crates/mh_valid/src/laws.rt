@@ -42,3 +42,13 @@ pub fn valid_or_invalid(grammar: &Grammar, raw: &RawTable)
     let _grammar = grammar;
     let _raw = raw;
 }
+
+/// A valid file names one automaton, and one that is not valid has one first test that fails.
+pub fn validity_is_one(grammar: &Grammar, raw: &RawTable)
+    requires { AreNamesApart grammar.now }
+    ensures automaton { (a b : AutomatonOf) (ps qs : List StateParts) → IsValidFor grammar.now raw.now a ps → IsValidFor grammar.now raw.now b qs → a ≡ b }
+    ensures test { (s t : Option ℕ) (r q : ReasonOf) → IsInvalidAt grammar.now raw.now s r → IsInvalidAt grammar.now raw.now t q → (s ≡ t) × (r ≡ q) }
+{
+    let _grammar = grammar;
+    let _raw = raw;
+}

@@ -4,5 +4,5 @@
 mod laws;
 mod reason;
 
-pub use laws::{valid_is_automaton, valid_or_invalid, written_is_valid};
+pub use laws::{valid_is_automaton, valid_or_invalid, validity_is_one, written_is_valid};
 pub use reason::Reason;

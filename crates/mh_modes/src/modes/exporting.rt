@@ -7,7 +7,7 @@ use crate::modes::at_end::Writer;
 use mh_drive::{Stop, write_text};
 use mh_grammar::{Memory, Sequence};
 use mh_outside::Sink;
-use mh_prepare::{Prepared, source_of as source_in};
+use mh_prepare::Prepared;
 use mh_tabfile::write_tables;
 use std::alloc::Global;
 
@@ -28,7 +28,7 @@ fn exported<const W: usize>(alloc: Global, prepared: &Prepared<W>) -> Result<Seq
         &prepared.grammar,
         &prepared.tabled.automaton,
         prepared.tabled.halting.table(),
-        source_in(&prepared.order).mode(),
+        prepared.tabled.mode,
     )?;
     Ok(Sequence::from_vec(text))
 }

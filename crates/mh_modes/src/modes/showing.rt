@@ -2,13 +2,12 @@
 ghost use Rattle.std.specs.Prelude.{◌≤◌, IfOk};
 ghost use Rattle.mh_report.specs.Automata.{IsAutomatonText};
 ghost use Rattle.mh_prepare.specs.Prepared.{IsFit};
-ghost use Rattle.mh_prepare.specs.TableStage.{mode_of, source_of};
 
 use crate::modes::at_end::Writer;
 use mh_drive::{Stop, write_text};
 use mh_grammar::{Memory, Sequence};
 use mh_outside::Sink;
-use mh_prepare::{Prepared, source_of as source_in};
+use mh_prepare::Prepared;
 use mh_report::automaton_text;
 use std::alloc::Global;
 
@@ -23,14 +22,14 @@ fn shown<const W: usize>(alloc: Global, prepared: &Prepared<W>) -> Result<Sequen
     requires few { W ≤ 8 }
     requires fit { IsFit prepared.now }
     ensures { IfOk result (λ text. IsAutomatonText prepared.now.grammar prepared.now.tabled.automaton
-        (mode_of (source_of prepared.now.order)) prepared.now.tabled.halting text) }
+        prepared.now.tabled.mode prepared.now.tabled.halting text) }
 {
     let text = automaton_text(
         alloc,
         &prepared.grammar,
         &prepared.tabled.automaton,
         &prepared.tabled.halting,
-        source_in(&prepared.order).mode(),
+        prepared.tabled.mode,
     )?;
     Ok(Sequence::from_vec(text))
 }

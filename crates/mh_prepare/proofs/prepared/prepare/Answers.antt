@@ -1,10 +1,8 @@
-use Rattle.std.proofs.Common.{subst}
-use Rattle.std.specs.Prelude.{Err}
-use Rattle.mh_prepare.specs.Shapes.{Tabled}
-use Rattle.mh_drive.specs.Stages.{StageHas}
-use Rattle.mh_prepare.specs.TableStage.{IsTableStage}
-use Rattle.mh_prepare.proofs.Going.{table_stops}
+use Rattle.mh_prepare.proofs.Going.{from_source, source_stops}
 use Rattle.mh_prepare.proofs.prepared.prepare.Goals as goal
 
+pub returns-in-Ok-clause-prepared : goal.returns-in-Ok-clause-prepared
+returns-in-Ok-clause-prepared g c = from_source (g.F.Shelf.files c.args.shelf.now) c.args.front c.in-Ok.source c.prepare_from.result c.in-Ok.ensures.source c.prepare_from.ensures.prepared
+
 pub returns-in-Err-clause-prepared : goal.returns-in-Err-clause-prepared
-returns-in-Err-clause-prepared g c = table_stops c.args.front c.in-Err.stop (subst (λ source. StageHas {A = Tabled} (IsTableStage source c.args.front.grammar) (Err c.in-Err.stop)) c.source_of.ensures c.in-Err.ensures.stage)
+returns-in-Err-clause-prepared g c = source_stops (g.F.Shelf.files c.args.shelf.now) c.args.front c.in-Err.stop c.in-Err.ensures.source

@@ -10,7 +10,10 @@ pub front_of-requires : goal.front_of-requires
 front_of-requires g c = record { asked = λ order on. (c.requires.asked order on).0 }
 
 pub work_at_width-requires-clause-asked : goal.work_at_width-requires-clause-asked
-work_at_width-requires-clause-asked g c = λ k d lt. c.in-Ok.ensures.may_still _ ((c.requires.asked c.in-Ok.front.order c.in-Ok.ensures.order).1 k d lt)
+work_at_width-requires-clause-asked g c = λ k d lt. c.in-Ok.ensures.may_still _ ((c.requires.asked c.in-Ok.front.order c.in-Ok.ensures.order).2 k d lt)
+
+pub work_at_width-requires-clause-tables : goal.work_at_width-requires-clause-tables
+work_at_width-requires-clause-tables g c = λ name named. c.in-Ok.ensures.may_still _ ((c.requires.asked c.in-Ok.front.order c.in-Ok.ensures.order).1 name named)
 
 pub returns-in-Err-clause-ran : goal.returns-in-Err-clause-ran
 returns-in-Err-clause-ran g c =

@@ -1,13 +1,20 @@
-use Rattle.mh_top.proofs.Going.{followed, prepare_stops, prepared_so, warning_stops}
+use Rattle.std.proofs.Common.{refl, rules, subst, sym}
+use Rattle.mh_drive.specs.Causes.{Go}
+use Rattle.mh_prepare.specs.Preparing.{IsPrepared}
+use Rattle.mh_top.proofs.Going.{prepare_stops, prepared_so, worked_same}
 use Rattle.mh_top.proofs.top.work_on.Goals as goal
 
+pub work_with-requires : goal.work_with-requires
+work_with-requires g c = (
+  search rules,
+  (c.requires.few, (c.in-Ok.ensures.fit, rw c.in-Ok.ensures.order (λ k d lt. c.in-Ok.ensures.may_still _ (c.requires.asked k d lt)))),
+)
+
 pub returns-in-Err-clause-ran : goal.returns-in-Err-clause-ran
-returns-in-Err-clause-ran g c = λ words is. prepare_stops words _ c.args.front c.in-Err.stop is c.in-Err.ensures.prepared
+returns-in-Err-clause-ran g c = λ words is.
+    prepare_stops words _ _ (record { out = refl; err = refl; left = refl; input_faults = refl; out_faults = refl; err_faults = refl }) c.args.front c.in-Err.stop is c.in-Err.ensures.counts c.in-Err.ensures.prepared
 
-pub returns-in-Ok-warn-clause-ran : goal.returns-in-Ok-warn-clause-ran
-returns-in-Ok-warn-clause-ran g c = λ words is.
-    followed words _ _ _ (prepared_so words _ c.args.front _ is c.in-Ok.ensures.prepared) c.in-Ok-warn.ensures.text c.in-Ok-warn.ensures.counts c.go_on.result c.go_on.ensures.ran c.go_on.ensures.counts c.go_on.ensures.read
-
-pub returns-clause-ran : goal.returns-clause-ran
-returns-clause-ran g c = λ words is.
-    warning_stops words _ _ (prepared_so words _ c.args.front _ is c.in-Ok.ensures.prepared) _ _ c.in-Err-warn.stop c.in-Err-warn.ensures.text c.in-Err-warn.ensures.counts
+pub returns-in-Ok-clause-ran : goal.returns-in-Ok-clause-ran
+returns-in-Ok-clause-ran g c = λ words is.
+    worked_same words _ _ _ _ c.work_with.result c.in-Ok.ensures.kept c.in-Ok.ensures.counts
+    (c.work_with.ensures.ran words (subst (λ f. IsPrepared words f (Go c.in-Ok.prepared)) (sym c.in-Ok.ensures.kept) (prepared_so words _ c.args.front _ is c.in-Ok.ensures.prepared)))
