@@ -87,13 +87,13 @@ nil_right : (xs ys : Text) → xs ++ ys ≡ [] → ys ≡ []
 nil_right [] ys e = e
 nil_right (x ∷ xs) ys e = absurd (cc)
 
+place_said : (s : ℕ) → conflict_place s ≡ [] → ⊥
+unfolding conflict_place
+place_said s e = cc
+
 silent : (g : Grammar) (s : ℕ) (look : Look) (kind : ConflictKind) → warning_line g s look kind ≡ [] → kind ≡ Solved
 silent g s look Solved e = refl
-silent g s look Unsolved e = absurd (never (nil_left (conflict_place s) _ e))
-  where
-    unfolding conflict_place
-    never : conflict_place s ≡ [] → ⊥
-    never e = cc
+silent g s look Unsolved e = absurd (place_said s (nil_left (conflict_place s) _ e))
 silent g s look Stream e = absurd (cc)
 
 all_silent : (g : Grammar) (cs : List Conflict) → warning_lines g cs ≡ [] → (n : ℕ) (c : Conflict) → slice_get cs n ≡ Some c → c.kind ≡ Solved
