@@ -16,8 +16,6 @@ use Rattle.mh_report.specs.Warnings.{conflict_place, unsolved_line, warning_line
 use Rattle.mh_tables.specs.declared.parts.Action.{Action}
 use Rattle.mh_tables.specs.declared.parts.Action.TheVariants.{Shift, Reduce, Refuse}
 use Rattle.mh_resolve.specs.declared.conflicts.Conflict.{Conflict}
-use Rattle.mh_resolve.specs.declared.kinds.Comparison.{Comparison}
-use Rattle.mh_resolve.specs.declared.kinds.Comparison.TheVariants.{Unknown}
 use Rattle.mh_resolve.specs.declared.kinds.ConflictKind.{ConflictKind}
 use Rattle.mh_resolve.specs.declared.kinds.ConflictKind.TheVariants.{Solved, Unsolved, Stream}
 use Rattle.mh_resolve.specs.Cells.{HasTwo, IsConflict, IsUnsolved}
@@ -40,32 +38,36 @@ no_look_level g none (Token z) =
     (λ t at. subst (λ (x : TokenInfo). x.level ≡ None) (get_or_from_slice_get g.tokens z t t at) (none z t (slice_get_within g.tokens z t at)))
 no_look_level g none End = refl
 
-comparison_unknown : (p t : Option Level) → t ≡ None → comparison p t ≡ Unknown
+-- a comparison that lacks a level is as one that lacks both
+comparison_unknown : (p t : Option Level) → t ≡ None → comparison p t ≡ comparison None None
 comparison_unknown None t e = refl
 comparison_unknown (Some p) None e = refl
 comparison_unknown (Some p) (Some t) e = absurd (cc)
 
-unknown : (g : Grammar) → HasNoLevels g → (look : Look) (p : ℕ) → compared g look p ≡ Unknown
+unknown : (g : Grammar) → HasNoLevels g → (look : Look) (p : ℕ) → compared g look p ≡ comparison None None
 unknown g none look p = comparison_unknown (production_level g p) (look_level g look) (no_look_level g none look)
 
 -- ---- so no conflict is solved
 
-module _ (g : Grammar) (items : ItemSet) (look : Look) (by : ℕ → Comparison) (unknown_by : (p : ℕ) → by p ≡ Unknown) where
-  two : (p q : ℕ) → RawOf g items look None (Reduce p) → RawOf g items look None (Reduce q) → p < q → HasTwo by (RawOf g items look None)
+module _ (g : Grammar) (none : HasNoLevels g) (items : ItemSet) (look : Look) where
+  no_shift : (j : ℕ) → RawOf g items look None (Shift j) → ⊥
+  no_shift j e = let f : None ≡ Some j = e in cc
+
+  two : (p q : ℕ) → RawOf g items look None (Reduce p) → RawOf g items look None (Reduce q) → p < q → HasTwo (compared g look) (RawOf g items look None)
   two p q r h lt = record {
     one = p;
     other = q;
-    stays_one = (r, λ j e. absurd (cc));
-    stays_other = (h, λ j e. absurd (cc));
+    stays_one = (r, λ j e. absurd (no_shift j e));
+    stays_other = (h, λ j e. absurd (no_shift j e));
     below = lt;
   }
 
-  unsolved_pair : (shift : Option ℕ) (x y : Action) → RawOf g items look shift x → RawOf g items look shift y → (x ≡ y → ⊥) → IsUnsolved by (RawOf g items look shift)
+  unsolved_pair : (shift : Option ℕ) (x y : Action) → RawOf g items look shift x → RawOf g items look shift y → (x ≡ y → ⊥) → IsUnsolved (compared g look) (RawOf g items look shift)
   unsolved_pair shift (Shift i) (Shift j) e f n = absurd (n (let one : Some i ≡ Some j = sym e ∙ f in let same : i ≡ j = cc in ap Shift same))
-  unsolved_pair shift (Shift i) (Reduce p) e r n = inl (record { target = i; production = p; shift = e; reduce = r; unknown = unknown_by p })
+  unsolved_pair shift (Shift i) (Reduce p) e r n = inl (record { target = i; production = p; shift = e; reduce = r; unknown = unknown g none look p })
   unsolved_pair shift (Shift i) Refuse e r n = absurd r
-  unsolved_pair shift (Reduce p) (Shift i) r e n = inl (record { target = i; production = p; shift = e; reduce = r; unknown = unknown_by p })
-  unsolved_pair (Some j) (Reduce p) (Reduce q) r h n = inl (record { target = j; production = p; shift = refl; reduce = r; unknown = unknown_by p })
+  unsolved_pair shift (Reduce p) (Shift i) r e n = inl (record { target = i; production = p; shift = e; reduce = r; unknown = unknown g none look p })
+  unsolved_pair (Some j) (Reduce p) (Reduce q) r h n = inl (record { target = j; production = p; shift = refl; reduce = r; unknown = unknown g none look p })
   unsolved_pair None (Reduce p) (Reduce q) r h n =
       elim (cases_lt p q) [
         | inl lt ↦ inr (two p q r h lt)
@@ -112,4 +114,4 @@ unwarned_clear g a cs are none e s lt = record { one = one; stream = λ x. not_s
     one : (look : Look) → IsConflict (Raw (state_of g a s) look) → ⊥
     one look x =
         not_solved (record { state = s; look = look; kind = Unsolved }) (λ same. cc)
-        (lt, unsolved_pair g (state_of g a s).items look (compared g look) (unknown g none look) (shift_on (state_of g a s).edges look) x.one x.other x.raw_one x.raw_other x.two)
+        (lt, unsolved_pair g none (state_of g a s).items look (shift_on (state_of g a s).edges look) x.one x.other x.raw_one x.raw_other x.two)
