@@ -11,7 +11,7 @@ use Rattle.mh_grammar.specs.declared.types.Look.{Look}
 use Rattle.mh_grammar.specs.declared.types.Look.TheVariants.{Token, End}
 use Rattle.mh_grammar.specs.ItemSets.{ItemSet}
 use Rattle.mh_items.specs.Shapes.{Automaton}
-use Rattle.mh_report.specs.Items.{Text}
+use Rattle.mh_report.specs.Items.{Text, look_name}
 use Rattle.mh_report.specs.Warnings.{conflict_place, unsolved_line, warning_line, warning_lines}
 use Rattle.mh_tables.specs.declared.parts.Action.{Action}
 use Rattle.mh_tables.specs.declared.parts.Action.TheVariants.{Shift, Reduce, Refuse}
@@ -95,7 +95,7 @@ place_said s e = cc
 
 silent : (g : Grammar) (s : ℕ) (look : Look) (kind : ConflictKind) → warning_line g s look kind ≡ [] → kind ≡ Solved
 silent g s look Solved e = refl
-silent g s look Unsolved e = absurd (place_said s (nil_left (conflict_place s) _ e))
+silent g s look Unsolved e = absurd (place_said s (nil_left (conflict_place s) (look_name g look) (nil_left (conflict_place s ++ look_name g look) _ e)))
 silent g s look Stream e = absurd (cc)
 
 all_silent : (g : Grammar) (cs : List Conflict) → warning_lines g cs ≡ [] → (n : ℕ) (c : Conflict) → slice_get cs n ≡ Some c → c.kind ≡ Solved
