@@ -14,6 +14,7 @@ use Rattle.mh_tables.specs.Table.{TableData}
 use Rattle.mh_tables.specs.declared.parts.StateParts.{StateParts}
 use Rattle.mh_tables.specs.Halting.{Halts, LoopsAt}
 use Rattle.mh_prepare.specs.Texts.{loops_line, too_many_states}
+use Rattle.mh_tabfile.specs.declared.types.RawTable.{RawTable}
 use Rattle.mh_valid.specs.Valid.{IsValidFor}
 use Rattle.mh_validate.specs.Outcome.{Gives as IsValidGiven}
 use Rattle.mh_validate.specs.declared.validation.Valid.{Valid}

@@ -1,12 +1,10 @@
+use Rattle.std.proofs.Common.{rules}
 use Rattle.mh_prepare.specs.declared.tabled.Source.TheVariants.{File}
 use Rattle.mh_prepare.proofs.Going.{automaton_kept, automaton_stops, valid_table}
 use Rattle.mh_prepare.proofs.tabled.table_in.Goals as goal
 
-pub with_valid-requires-clause-table : goal.with_valid-requires-clause-table
-with_valid-requires-clause-table g c = c.in-Ok.ensures.stage.table
-
-pub with_valid-requires-clause-conflicts : goal.with_valid-requires-clause-conflicts
-with_valid-requires-clause-conflicts g c = c.in-Ok.ensures.stage.conflicts
+pub with_valid-requires : goal.with_valid-requires
+with_valid-requires g c = (search rules, (search rules, (c.requires.few, (c.requires.width, (c.in-Ok.ensures.stage.table, c.in-Ok.ensures.stage.conflicts)))))
 
 pub returns-in-Ok-clause-stage : goal.returns-in-Ok-clause-stage
 returns-in-Ok-clause-stage g c =
