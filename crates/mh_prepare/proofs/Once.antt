@@ -196,4 +196,4 @@ prepared_once words files s r p q = at p.0 q.0 (front_once words files p.0 q.0 p
         tabled_front_once files front (front_ready words (Some files) front is).apart s r x (subst (λ (k : Front). IsTabledFront (Some files) k r) (sym one) y)
     at (Go front) (Halt cause) same is x y = absurd (cc)
     at (Halt cause) (Go front) same is x y = absurd (cc)
-    at (Halt cause) (Halt other) same is x y = x ∙ same ∙ sym y
+    at (Halt cause) (Halt other) same is x y = let one : cause ≡ other = cc in x ∙ ap Halt one ∙ sym y
