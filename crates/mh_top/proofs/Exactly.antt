@@ -19,6 +19,7 @@ use Rattle.mh_canon.proofs.States.{IsOver-states}
 use Rattle.mh_pager.proofs.Finishing.{merged_automaton}
 use Rattle.mh_pager.proofs.Limits.{merged_few}
 use Rattle.mh_top.proofs.Merging.{merged_clear}
+use Rattle.mh_top.proofs.Unwarned.{unwarned_clear}
 use Rattle.mh_resolve.specs.Clear.{HasNoConflicts}
 use Rattle.mh_resolve.specs.States.{IsTableOf}
 use Rattle.mh_resolve.proofs.Resolving.{facts_of}
@@ -46,9 +47,9 @@ use Rattle.mh_msgfile.proofs.Below.{sentence_start}
 use Rattle.mh_modes.specs.Verdicts.{Answering, FoundBy, SentenceText, behind_refusal, verdict_text, outcome_text}
 use Rattle.mh_modes.specs.MessagesStage.{Messages}
 use Rattle.mh_modes.specs.Plan.{Judges, halts}
-use Rattle.mh_top.specs.Work.{Work, IsPlanUnless, IsWork, IsWorkOf, has_warning}
+use Rattle.mh_top.specs.Work.{Work, IsPlanUnless, IsWork, IsWorkOf, has_warning, warnings_of}
 use Rattle.mh_prepare.specs.Preparing.{IsPrepared}
-use Rattle.mh_top.specs.Exact.{IsClear, IsClearTable, IsLR1, NameNoTables, AnswersSentence, Accepts, Rejects, IsTooDeepText, ShowsTree, AcceptsExactly, RejectsRightly, OvershootsRightly, AcceptsRightly, TooDeepExactly}
+use Rattle.mh_top.specs.Exact.{IsClear, IsClearTable, IsLR1, NameNoTables, AnswersSentence, Accepts, Rejects, IsTooDeepText, ShowsTree, AcceptsExactly, RejectsRightly, OvershootsRightly, AcceptsRightly, TooDeepExactly, HasNoLevels, ClearWhereUnwarned}
 use Rattle.mh_prepare.specs.Prepared.{IsFit}
 use Rattle.mh_prepare.specs.Shapes.{Prepared}
 use Rattle.mh_drive.specs.declared.stop.Cause.{Cause}
@@ -325,3 +326,41 @@ module _ (words : List Text) (files : Option Files) where
 
   pub deep_exactly : TooDeepExactly words files
   deep_exactly g s text by = let text_is = said words files true g s text by in deep_so g by.table s text by.messages text_is.0 text_is.1 text_is.2
+
+-- ---- where nothing is warned of
+
+prepared_clear : (words : List Text) (files : Option Files) (p : Prepared) → IsPrepared words files (Go p) → HasNoLevels p.grammar → warnings_of p ≡ [] → IsClearTable p.grammar p.tabled.halting
+prepared_clear words files p is none silent = let m = made words files p is in at m m.stage.0 m.stage.1 m.stage.2
+  where
+    at : (m : IsMade words files p) → (s : Staged Automaton) → IsAutomatonStage m.source p.grammar s → On s (IsResolvedStage (mode_of m.source) p.grammar) (Go p.tabled) → IsClearTable p.grammar p.tabled.halting
+    at m (Go a) stage is = record {
+      automaton = a;
+      mode = mode_of m.source;
+      is_automaton = automaton_so m.source p.grammar a m.ready.range m.numbered stage;
+      table = is.table;
+      clear = unwarned_clear p.grammar a p.tabled.conflicts is.conflicts none silent;
+    }
+    at m (Halt cause) stage is = absurd (cc)
+
+module _ (warnings : Text) (trees : Bool) (g : Grammar) (t : TableData) (messages : Option Messages) (silent : warnings ≡ []) where
+  -- what is without levels is clear
+  abbrev IsClearUnleveled : Grammar → TableData → Type 0
+  IsClearUnleveled h u = HasNoLevels h → IsClearTable h u
+
+  unwarned_plan : (refused : Bool) (files : Option Files) (p : Prepared) → IsClearUnleveled p.grammar p.tabled.halting → IsPlanUnless refused files p (Judges (by trees g t messages)) → IsClearUnleveled g t
+  unwarned_plan true files p has is = absurd (cc)
+  unwarned_plan false files p has is = (job_facts p.order.job p).judged IsClearUnleveled files (by trees g t messages) has is
+
+  unwarned_work : (words : List Text) (files : Option Files) → IsWork words files (work warnings trees g t messages) → IsClearUnleveled g t
+  unwarned_work words files asked = at asked.0 asked.1 asked.2
+    where
+      no_halt : (cause : Cause) → work warnings trees g t messages ≡ record { warnings = []; plan = halts cause } → ⊥
+      no_halt cause e = let same : Judges (by trees g t messages) ≡ halts cause = ap (λ (w : Work). w.plan) e in absurd (cc)
+
+      at : (s : Staged Prepared) → IsPrepared words files s → IsWorkOf files s (work warnings trees g t messages) → IsClearUnleveled g t
+      at (Go p) prepared is = unwarned_plan (p.order.strict && has_warning p.tabled.conflicts) files p (λ none. prepared_clear words files p prepared none (sym is.0 ∙ silent)) is.1
+      at (Halt cause) prepared is = absurd (no_halt cause is)
+
+pub clear_where_unwarned : (words : List Text) (files : Option Files) → ClearWhereUnwarned words files
+clear_where_unwarned words files trees g s text answers none silent =
+    inr (unwarned_work answers.warnings trees g answers.table answers.messages silent words files answers.asked none)

@@ -1,5 +1,6 @@
 -- What the answers to sentence lines say of the sentences of the grammar, with trees or without.
-use Rattle.std.specs.Prelude.{◌≡◌, ◌<◌, ◌+◌, ◌↔◌, ◌⊎◌, ◌++◌, ℕ, Bool, true, false, List, length, take, Option, None, codes, ⊤}
+use Rattle.std.specs.Prelude.{◌≡◌, ◌<◌, ◌+◌, ◌↔◌, ◌⊎◌, ◌++◌, ℕ, Bool, true, false, List, [], length, take, Option, None, codes, ⊤}
+use Rattle.std.specs.List.{All}
 use Rattle.mh_grammar.specs.declared.types.Grammar.{Grammar}
 use Rattle.mh_grammar.specs.declared.types.Sentence.{Sentence}
 use Rattle.mh_grammar.specs.Plain.{plain_of, start_symbol, BeginsSentence}
@@ -45,6 +46,10 @@ NameNoTables words = (order : Order) → order_of words ≡ Go order → order.t
 -- Verdicts go by no conflict: the table is built, and the grammar is LR(1); or the table, which may be that of a file, is clear.
 abbrev pub IsClear : List Text → Grammar → TableData → Type 0
 IsClear words g t = (NameNoTables words × IsLR1 g) ⊎ IsClearTable g t
+
+-- no token has a level of precedence
+abbrev pub HasNoLevels : Grammar → Type 0
+HasNoLevels g = All (λ t. t.level ≡ None) g.tokens
 
 -- The words ask for verdicts by a table of the grammar, with trees or without, with messages or without, and the text answers a line that is this
 -- sentence.
@@ -106,3 +111,9 @@ AcceptsRightly words files = (trees : Bool) (g : Grammar) (s : Sentence) (text :
 abbrev pub TooDeepExactly : List Text → Option Files → Type 0
 TooDeepExactly words files = (g : Grammar) (s : Sentence) (text : Text) → (answers : AnswersSentence words files true g s text) →
     (text ≡ codes "TOODEEP\n") ↔ IsTooDeep answers.table s.start s.tokens
+
+-- By a grammar without levels, no warning on err tells that verdicts go by no conflict, be the table built or that of a file. (A conflict
+-- that levels solve is not warned of.)
+abbrev pub ClearWhereUnwarned : List Text → Option Files → Type 0
+ClearWhereUnwarned words files = (trees : Bool) (g : Grammar) (s : Sentence) (text : Text) → (answers : AnswersSentence words files trees g s text) → HasNoLevels g →
+    answers.warnings ≡ [] → IsClear words g answers.table

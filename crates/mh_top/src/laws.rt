@@ -2,6 +2,7 @@
 ghost use Rattle.std.specs.Prelude.{◌≡◌, ◌∷◌, ◌++◌, List, Option, Some};
 ghost use Rattle.mh_outside.specs.Shelf.{Files};
 ghost use Rattle.mh_top.specs.AtLine.{IsAnsweredAt, HasVerdictAt};
+ghost use Rattle.mh_top.specs.Exact.{ClearWhereUnwarned};
 ghost use Rattle.mh_drive.specs.Causes.{Staged};
 ghost use Rattle.mh_modes.specs.Plan.{Plan, Judges, by_plan};
 ghost use Rattle.mh_drive.specs.Ways.{AnswersAll, Outcome, Yields};
@@ -41,4 +42,10 @@ pub fn lines_are_answered()
         AnswersAll by_plan plan (before ++ line ∷ after) text last → IsAnsweredAt plan before line after text last }
     ensures verdict { (by : Answering) (last : Plan) (before after : List Text) (line text : Text) →
         AnswersAll by_plan (Judges by) (before ++ line ∷ after) text last → HasVerdictAt by before line after text }
+{}
+
+/// By a grammar without levels, verdicts go by no conflict wherever nothing is warned of, also where a table file is named: whether the
+/// premise of the claims on acceptance and rejection holds can be seen on err.
+pub fn unwarned_is_clear()
+    ensures { (words : List Text) (files : Option Files) → ClearWhereUnwarned words files }
 {}

@@ -5,6 +5,8 @@ mod laws;
 mod top;
 mod warning;
 
-pub use laws::{lines_are_answered, runs_are_one, some_work_is_asked, work_is_one};
+pub use laws::{
+    lines_are_answered, runs_are_one, some_work_is_asked, unwarned_is_clear, work_is_one,
+};
 pub use mh_drive::{Cause, status};
 pub use top::menhir;
