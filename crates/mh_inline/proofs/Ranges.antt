@@ -81,8 +81,12 @@ pub record IsGood (t : ℕ) (is : List Instance) (X : Part) : Type 0 where
   pub kept : IsKept is X
   pub below : IsPartBelow t (length is) X
 
-pub side_good : (t : ℕ) (is : List Instance) → AreBelow t is → (Xs : List Part) (us : List Unfolding) → Unfolds is Xs us → All (IsPartBelow t (length is)) Xs → All (λ u. All (IsGood t is) u.rhs) us
-side_good t is b = each_of_side t is b (IsGood t is) (λ X k p. record { kept = k; below = p })
+module _ (t : ℕ) (is : List Instance) (b : AreBelow t is) where
+  abbrev Good : Unfolding → Type 0
+  Good u = All (IsGood t is) u.rhs
+
+  pub side_good : (Xs : List Part) (us : List Unfolding) → Unfolds is Xs us → All (IsPartBelow t (length is)) Xs → All Good us
+  side_good = each_of_side t is b (IsGood t is) (λ X k p. record { kept = k; below = p })
 
   abbrev Count : ℕ
   Count = length (map nonterminal_of (filter is_kept is))
