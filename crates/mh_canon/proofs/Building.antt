@@ -14,7 +14,7 @@ use Rattle.mh_grammar.specs.Edges.{IsRising, IsSymbolBefore}
 use Rattle.mh_grammar.specs.ItemSets.{AreSame, Close}
 use Rattle.mh_grammar.specs.Numbering.{InOrder}
 use Rattle.mh_grammar.specs.Placed.{Placed}
-use Rattle.mh_grammar.proofs.Placing.{contains_at, get_cases, get_left, get_last, AllPlaced-kept, AllPlaced-grows, AllPlaced-order, InOrder-append}
+use Rattle.mh_grammar.proofs.Placing.{contains_at, get_left, get_last, rows_pushed, AllPlaced-kept, AllPlaced-grows, AllPlaced-order, InOrder-append}
 use Rattle.mh_items.specs.Shapes.{Kernel}
 use Rattle.mh_items.specs.Shapes.{KernelItem}
 use Rattle.mh_items.specs.Kernels.{Holds, IsKernel}
@@ -116,17 +116,6 @@ Building-step g kernels new edges k closed symbols row w at of_closed same risin
       begins = λ i l. kept i (start_kernel i) (w.begins i l);
       states = AreStates-edges g closed symbols kernels new row source behind w.states e;
       short = omega (arith, length_push edges row, within, ap length grows.1, length-append kernels grows.0);
-      rows = λ s m r f h. elim (get_cases edges row s r h) [
-        | inl before ↦ (let l = slice_get_within edges s r before in
-            let n : s < length kernels = omega (arith, w.short) in
-            let old = slice_get-get_or kernels s m n in
-            let both = kept s (get_or kernels s m) old in
-            let one : get_or kernels s m ≡ m = cc in
-            IsRow-kept g kernels new m r kept (w.rows s m r (old ∙ ap Some one) before))
-        | inr last ↦ (let both = kept (length edges) k at in
-            let again = rw last.0 at f in
-            let one : m ≡ k = cc in
-            rw (last.1, one) (IsRow-new g k closed symbols kernels new row same rising exact e))
-      ];
+      rows = rows_pushed (IsRow g kernels) (IsRow g new) kernels new edges k row w.short kept at (λ m r. IsRow-kept g kernels new m r kept) (IsRow-new g k closed symbols kernels new row same rising exact e) w.rows;
       order = rw (map-append targets_of edges (row ∷ []), concat-append, append-nil (targets_of row)) (InOrder-append (length g.starts) (concat (map targets_of edges)) (targets_of row) (length kernels) (length new) w.order (AllPlaced-order kernels new e.moves (targets_of row) e.placed));
     }

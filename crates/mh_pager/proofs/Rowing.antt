@@ -77,10 +77,10 @@ module _ (g : PlainGrammar) (k closed : Kernel) (is : IsKernel g closed) (same :
       oldest = oldest;
       kernel = k;
       at = at;
-      row = row;
       moving = rw r.on are_moving;
-      placed = placed;
       put = rw r.on (r.put k same);
+      row = row;
+      placed = placed;
       after = refl;
     }
 
