@@ -1,4 +1,4 @@
--- How the flags of FIRST grow.
+-- The flags of FIRST: what a pass adds is right, and flags to which no pass adds any are all of FIRST; then its rows.
 use Rattle.std.proofs.Common.{◌≡◌, ℕ, ◌+◌, ◌*◌, ◌<◌, ◌≤◌, ◌||◌, ◌↔◌, Bool, true, false, List, [], ◌∷◌, ◌++◌, Some, length, get_or, set, drop, refl, sym, ap, ◌∙◌, arith, inl, inr, add-one, drop-cons, take, ◌-◌}
 use Rattle.std.specs.List.{slice_get}
 use Rattle.std.proofs.lemmas.Bool.{cases_eq, cases_lt, false≢true}

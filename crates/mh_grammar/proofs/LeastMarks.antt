@@ -1,5 +1,5 @@
--- Marks and what they mark.
-use Rattle.std.proofs.Common.{◌≡◌, ℕ, ◌+◌, ◌<◌, Bool, true, false, not, List, [], ◌∷◌, ◌++◌, Some, ◌&&◌, length, get_or, set, count_by, refl, sym, ap, ◌∙◌, arith, ◌↔◌, cond, inl, inr, get_or-set_other, ◌||◌}
+-- Marks that are sound and closed are the least, and these mark what derives the empty word, or any word.
+use Rattle.std.proofs.Common.{◌≡◌, ℕ, ◌+◌, ◌<◌, Bool, true, false, not, List, [], ◌∷◌, ◌++◌, Some, length, get_or, set, count_by, refl, sym, ap, ◌∙◌, arith, ◌↔◌, cond, inl, inr, get_or-set_other}
 use Rattle.std.specs.List.{slice_get}
 use Rattle.std.proofs.lemmas.Bool.{cases_eq}
 use Rattle.std.proofs.lemmas.List.Sums.{sum_by-set}
@@ -9,9 +9,7 @@ use Rattle.mh_grammar.specs.declared.types.Production.{Production}
 use Rattle.mh_grammar.specs.Derivations as trees
 use Rattle.mh_grammar.specs.Derivations.{Derivation, Derivations}
 use Rattle.mh_grammar.specs.Plain.{PlainGrammar, IsToken, Produces, Derives, DerivesAll, IsNullable, IsProductive}
-use Rattle.mh_grammar.specs.Grid.{Grows}
-use Rattle.std.proofs.lemmas.Bool.{and_from, and_parts, or_parts}
-use Rattle.mh_grammar.proofs.Flags.{Grows-refl, Grows-trans}
+use Rattle.std.proofs.lemmas.Bool.{and_from, and_parts}
 use Rattle.mh_grammar.proofs.Lists.{nil_parts}
 use Rattle.mh_grammar.proofs.Numbered.{produces_at, listed_from_for}
 use Rattle.mh_grammar.specs.Marked.{Marked, AllMarked, mark_of, all_marked, AreSound, AreClosed, AreMarks}

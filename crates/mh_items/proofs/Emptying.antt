@@ -1,18 +1,16 @@
 -- A closure adds no complete item where nothing that is asked for may bring an empty production.
-use Rattle.std.proofs.Common.{◌≡◌, ℕ, ◌+◌, ◌<◌, ◌⊎◌, ◌↔◌, Bool, true, false, not, ◌||◌, List, [], ◌∷◌, Some, length, drop, get_or, set, count_by, cond, refl, sym, ap, ◌∙◌, arith, inl, inr, get_or-set_same}
-use Rattle.std.specs.List.{slice_get, Contains}
-use Rattle.std.proofs.lemmas.Bool.{cases_eq, or_parts}
+use Rattle.std.proofs.Common.{◌≡◌, ℕ, ◌<◌, ◌⊎◌, Bool, true, false, not, List, [], ◌∷◌, Some, length, get_or, set, cond, refl, arith, inl, inr}
+use Rattle.std.specs.List.{slice_get}
 use Rattle.std.proofs.lemmas.List.{length-set}
 use Rattle.std.proofs.lemmas.List.Sums.{sum_by-set}
 use Rattle.mh_grammar.specs.declared.types.Symbol.{Symbol}
-use Rattle.mh_grammar.specs.declared.types.Symbol.TheVariants.{T, N}
+use Rattle.mh_grammar.specs.declared.types.Symbol.TheVariants.{N}
 use Rattle.mh_grammar.specs.declared.types.Production.{Production}
 use Rattle.mh_grammar.specs.declared.types.Look.{Look}
 use Rattle.mh_grammar.specs.Grid.{Grows}
 use Rattle.mh_grammar.specs.Plain.{PlainGrammar, IsProductionFor, rhs_of}
 use Rattle.mh_grammar.specs.ItemSets as sets
 use Rattle.mh_grammar.specs.ItemSets.{Close}
-use Rattle.mh_grammar.proofs.Flags.{Grows-refl, Grows-trans}
 use Rattle.mh_grammar.proofs.Lists.{at_drop}
 use Rattle.mh_grammar.proofs.Numbered.{listed_from_for}
 use Rattle.mh_items.specs.Shapes.{Kernel}

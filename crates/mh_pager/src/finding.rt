@@ -45,12 +45,7 @@ fn covers<const W: usize>(grammar: &Grammar, state: &Kernel<W>, kernel: &Kernel<
 }
 
 /// Whether a state of the move's core fits it.
-fn fits<const W: usize>(
-    grammar: &Grammar,
-    fit: Fit,
-    state: &Kernel<W>,
-    kernel: &Kernel<W>,
-) -> bool
+fn fits<const W: usize>(grammar: &Grammar, fit: Fit, state: &Kernel<W>, kernel: &Kernel<W>) -> bool
     requires few { W ≤ 8 }
     requires state { IsKernel (plain_of grammar.now) state.now }
     requires kernel { IsKernel (plain_of grammar.now) kernel.now }

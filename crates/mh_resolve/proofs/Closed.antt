@@ -1,6 +1,5 @@
 -- What the closure of a kernel of an automaton holds.
-use Rattle.std.proofs.Common.{◌≡◌, ℕ, zero, suc, ◌<◌, ◌≤◌, ◌⊎◌, List, [], ◌∷◌, length, drop, Some, refl, ap, arith, inl, inr}
-use Rattle.std.specs.List.{slice_get, Contains}
+use Rattle.std.proofs.Common.{◌≡◌, ℕ, suc, ◌<◌, ◌≤◌, ◌⊎◌, List, ◌∷◌, length, drop, Some, refl, arith, inl, inr}
 use Rattle.std.proofs.lemmas.Bool.{cases_lt}
 use Rattle.std.proofs.lemmas.List.{get_or_past}
 use Rattle.mh_grammar.specs.declared.types.Symbol.{Symbol}
@@ -14,7 +13,7 @@ use Rattle.mh_items.specs.Shapes.{Automaton}
 use Rattle.mh_items.specs.Kernels.{Holds, HasPlace, IsKernelItem, IsKernel}
 use Rattle.mh_items.specs.Collection.{HasItem}
 use Rattle.mh_items.specs.Automaton.{IsAutomaton, no_kernel, kernel_at, kernel_of, closure_of, leads_to}
-use Rattle.mh_grammar.proofs.Lists.{at_contains, recursion_contains}
+use Rattle.mh_grammar.proofs.Lists.{recursion_contains}
 
 -- what is so of each item of a closure
 pub record IsItem (g : PlainGrammar) (p d : ℕ) (look : Look) : Type 0 where

@@ -1,4 +1,4 @@
-//! Relative runs, tried one after another.
+//! The test that every run on a table ends: relative runs are tried one after another, but for those that bounds tell to end.
 ghost use Rattle.std.specs.Prelude.{◌≡◌, ◌<◌, ◌≤◌, length, All, IfOk, OnOk, Some, None, false};
 ghost use Rattle.std.specs.Option.{ForSome};
 ghost use Rattle.std.specs.List.Sorted.{IsPermutation};
@@ -85,11 +85,7 @@ fn stack_reduced(table: &Table, stack: &[u32], production: u32) -> Option<(usize
 }
 
 // Makes the reduction that comes next, or answers that none does.
-fn reduce_once(
-    table: &Table,
-    stack: &mut Vec<u32>,
-    look: Option<Token>,
-) -> Result<bool, AllocError>
+fn reduce_once(table: &Table, stack: &mut Vec<u32>, look: Option<Token>) -> Result<bool, AllocError>
     requires begun { 0 < length stack.old.items }
     requires known { All (λ s. s < length table.now.states) stack.old.items }
     requires look { IsLook table.now look }

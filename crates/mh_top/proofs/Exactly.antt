@@ -58,7 +58,7 @@ use Rattle.mh_prepare.specs.Shapes.{Prepared, Tabled}
 use Rattle.mh_drive.specs.declared.stop.Cause.{Cause}
 use Rattle.mh_prepare.specs.declared.tabled.Source.{Source}
 use Rattle.mh_prepare.specs.declared.tabled.Source.TheVariants.{Canonical, Merged}
-use Rattle.mh_tables.specs.Halting.{Halts}
+use Rattle.mh_tables.specs.Halting.{AlwaysHalts}
 use Rattle.mh_prepare.proofs.Ready.{modules_ready}
 use Rattle.mh_modes.proofs.Reading.{Runs}
 use Rattle.mh_modes.proofs.EachMode.{facts_of as job_facts}
@@ -76,7 +76,7 @@ pub record IsTabled (g : Grammar) (t : TableData) : Type 0 where
   range : IsInRange (plain_of g)
   costs : HaveCosts g.tokens
   table : HasTable g t
-  halts : Halts t
+  halts : AlwaysHalts t
 
 tabled_so : (source : Source) (g : Grammar) → IsInRange (plain_of g) × HaveCosts g.tokens → (s : Staged Automaton) → IsAutomatonStage source g s → (x : Tabled) → On s (IsResolvedStage (mode_of source) g) (Go x) → IsTabled g x.halting
 tabled_so source g range (Go a) stage x is = record { range = range.0; costs = range.1; table = record { source = source; automaton = a; stage = stage; table = is.table }; halts = is.halts }

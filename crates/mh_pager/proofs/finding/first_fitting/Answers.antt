@@ -1,7 +1,7 @@
 use Rattle.std.proofs.Common.{◌≡◌, sym, ◌∙◌, arith, true, false, rules}
 use Rattle.mh_grammar.specs.Plain.{plain_of}
 use Rattle.mh_pager.specs.Fits.{HasFit}
-use Rattle.mh_pager.proofs.Candidates.{Search, Seen, seen, found, passed, all_passed}
+use Rattle.mh_pager.proofs.Candidates.{Search, seen, found, passed, all_passed}
 use Rattle.mh_pager.proofs.finding.first_fitting.Goals as goal
 
 pub fits-requires : goal.fits-requires

@@ -1,4 +1,4 @@
-use Rattle.std.proofs.Common.{◌≡◌, ◌+◌, suc, sym, ◌∙◌, ap, Some, List, ℕ, arith}
+use Rattle.std.proofs.Common.{◌≡◌, ◌≤◌, ◌+◌, suc, sym, ◌∙◌, ap, Some, List, ℕ, arith}
 use Rattle.mh_tables.specs.Halting.{look_list, beginning}
 use Rattle.mh_tables.proofs.Reductions.{reductions_none, reductions_more}
 use Rattle.mh_tables.proofs.relative.reduced_within.Goals as goal
@@ -27,4 +27,7 @@ returns-then-not-branch-clause-made c =
     record { few = omega (arith, few); made = rw made.1 c.tries.invariant.made; over = rw made.1 made.0 }
 
 pub returns-clause-made : goal.returns-clause-made
-returns-clause-made c = ?
+returns-clause-made c =
+    let end : c.tries.count ≤ c.args.most + 1 = c.tries.auto.count-end in
+    let e : suc c.args.most ≡ c.tries.count = omega (arith, c.tries-test.false, end) in
+    rw e c.tries.invariant.made
