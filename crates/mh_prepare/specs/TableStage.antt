@@ -12,7 +12,7 @@ use Rattle.mh_resolve.specs.declared.kinds.Mode.{Mode}
 use Rattle.mh_resolve.specs.declared.kinds.Mode.TheVariants as modes
 use Rattle.mh_tables.specs.Table.{TableData}
 use Rattle.mh_tables.specs.declared.parts.StateParts.{StateParts}
-use Rattle.mh_tables.specs.Halting.{Halts, LoopsAt}
+use Rattle.mh_tables.specs.Halting.{AlwaysHalts, LoopsAt}
 use Rattle.mh_prepare.specs.Texts.{loops_line, too_many_states}
 use Rattle.mh_tabfile.specs.declared.types.RawTable.{RawTable}
 use Rattle.mh_valid.specs.Valid.{IsValidFor}
@@ -83,7 +83,7 @@ pub record AreTabled (mode : Mode) (g : Grammar) (a : Automaton) (tabled : Table
   pub automaton : tabled.automaton ≡ a
   pub table : IsTableOf g a mode tabled.halting
   pub conflicts : AreConflicts g a tabled.conflicts
-  pub halts : Halts tabled.halting
+  pub halts : AlwaysHalts tabled.halting
   pub resolved_in : tabled.mode ≡ mode
 
 abbrev pub IsResolvedStage : Mode → Grammar → Automaton → Staged Tabled → Type 0
