@@ -139,6 +139,16 @@ compare_build() { # FILE MODE
         theirs=$(resources menhir --base g $mode --interpret "$file")
         echo "    Menhir takes $(ratio "${theirs% *}" "${measured% *}") times as long and $(ratio "${theirs#* }" "${measured#* }") times the memory"
     fi
+    compare_table "$file" "$mode" "${measured% *}"
+}
+
+# The table file of a grammar is read and found valid: beside building the automaton, grammar files read in both.
+compare_table() { # FILE MODE SECONDS
+    local file=$1 mode=$2 measured
+    "$ours" $mode --write-tables "$file" >g.tables 2>err.txt
+    measured=$(resources "$ours" --tables g.tables --interpret "$file")
+    echo "    its table file has $(wc -c <g.tables) bytes: ${measured% *} s and ${measured#* } MB; to build takes $(ratio "$3" "${measured% *}") times as long"
+    "$ours" --tables g.tables --write-tables "$file" 2>err.txt | cmp -s - g.tables || differs "$file, its table read and written again"
 }
 
 # The program's own sample of a number: a grammar of k levels of operators, its list of errors, and 3,000 sentences. The counts follow from

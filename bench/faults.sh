@@ -1,7 +1,8 @@
 #!/usr/bin/env bash
-# Hostile use of the built program: each allocation, open, read and write is refused in turn, files are damaged, and inputs are deep.
+# Hostile use of the built program: each allocation, open, read and write is refused in turn, files are damaged (table files among them, whose
+# verdicts are compared with what the file says), and inputs are deep.
 # It says what it tried, how many, and what it found, and ends with 1 where anything is wrong.
-# Usage: bench/faults.sh PATH-OF-OUR-PROGRAM [devices|refuse|damage|deep]..   (after a run of the gate: crates/menhir/out/menhir)
+# Usage: bench/faults.sh PATH-OF-OUR-PROGRAM [devices|refuse|damage|tables|deep]..   (after a run of the gate: crates/menhir/out/menhir)
 # WORKERS=N makes so many runs at a time; if it is left out, as many as there are processors.
 set -eu
 export PYTHONDONTWRITEBYTECODE=1
@@ -38,7 +39,7 @@ devices() {
     ended 0 '"$ours" --show-automaton g.mly <&-'
     echo "closed, full and endless devices: 13 runs"
 }
-for part in "${@:-devices refuse damage deep}"; do
+for part in "${@:-devices refuse damage tables deep}"; do
     for name in $part; do
         if [ "$name" = devices ]; then
             devices

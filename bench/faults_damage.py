@@ -1,5 +1,4 @@
-"""Feeds damaged files: 10,000 grammar and messages files, 2,000 inputs, and, where the program knows them, 3,000 table files: cut, with
-bytes turned, lines doubled or swapped.
+"""Feeds damaged files: 10,000 grammar and messages files, and 2,000 inputs: cut, with bytes turned, lines doubled or swapped.
 
 No run ends by a signal, or with another status than 0 and 1, takes more than ten seconds of a processor, or more than 1 GB; where a
 file is refused, nothing is on out and the last line on err says why.
@@ -32,7 +31,6 @@ MESSAGES_WORDS = [
     lambda name: ["--compare-errors", name, "--compare-errors", "whole.messages"],
     lambda name: ["--compare-errors", "whole.messages", "--compare-errors", name],
 ]
-TABLE_WORDS = [["--interpret"], ["--list-errors"], ["--show-automaton"], ["--interpret", "--interpret-show-cst"]]
 SENTENCE = b"LBRACE STRING COLON LBRACKET NUMBER COMMA NULL RBRACKET RBRACE EOF\n"
 SESSION = b"begin a\noffer a NUMBER\nfork a b\nresume a\nresume a\nshow b\noffer a EOF\nresume a\nresume a\nresume a\ntree a\n"
 
@@ -104,11 +102,6 @@ def main():
     entries = run("made", ["--list-errors", "whole.mly"])
     messages = with_messages(entries.out).encode()
     put("whole.messages", messages)
-    table = run("made", ["--write-tables", "whole.mly"])
-    put("whole.table", table.out)
-    # Table files are damaged where the program reads any.
-    reads = run("made", ["--tables", "whole.table", "--interpret", "whole.mly"], SENTENCE)
-    counts = {**COUNTS, "table": 3_000} if reads.status == 0 else COUNTS
     endings = {}
 
     def work(place, pair):
@@ -124,10 +117,6 @@ def main():
             name = f"{place}.messages"
             put(name, damaged(chance, messages))
             words = [*chance.choice(MESSAGES_WORDS)(name), "whole.mly"]
-        elif kind == "table":
-            name = f"{place}.table"
-            put(name, damaged(chance, table.out))
-            words = ["--tables", name, *chance.choice(TABLE_WORDS), "whole.mly"]
         else:
             mode, text = chance.choice([("--session", SESSION), ("--interpret", SENTENCE), ("--interpret-error", b"COMMA\n")])
             given = damaged(chance, text)
@@ -142,7 +131,7 @@ def main():
             part.fail(f"{what}: its texts", ran)
         return kind, ran
 
-    pairs = [(kind, number) for kind, count in counts.items() for number in range(count)]
+    pairs = [(kind, number) for kind, count in COUNTS.items() for number in range(count)]
     for kind, ran in each(pairs, work):
         part.count(ran)
         endings[kind, ran.status] = endings.get((kind, ran.status), 0) + 1

@@ -1,6 +1,6 @@
 -- What is asked before files are put together: that everything in their rules stands for something, `error` too.
 use Rattle.std.specs.Prelude.{◌≡◌, ◌≤◌, ◌++◌, [], ℕ, length, false, List, map, Option, Some, slice_get}
-use Rattle.std.specs.List.{flat_map}
+use Rattle.std.specs.List.{All, flat_map}
 use Rattle.mh_rules.specs.declared.joined.TheConstants.{MAX_TOKENS}
 use Rattle.mh_rules.specs.declared.modules.Ref.{Ref}
 use Rattle.mh_rules.specs.declared.modules.Alternative.{Alternative}
@@ -8,6 +8,8 @@ use Rattle.mh_rules.specs.declared.modules.Rule.{Rule}
 use Rattle.mh_rules.specs.declared.modules.Module.{Module}
 use Rattle.mh_rules.specs.declared.joined.Head.{Head}
 use Rattle.mh_rules.specs.declared.joined.JoinedRule.{JoinedRule}
+use Rattle.mh_rules.specs.Depth.{AreProducersShallow}
+use Rattle.mh_rules.specs.Ready.{AreModulesReady}
 use Rattle.mh_meanings.specs.declared.fault.JoinFault.{JoinFault}
 use Rattle.mh_meanings.specs.Names.{Definition, files, formal_number, definitions_in, library_definitions}
 use Rattle.mh_meanings.specs.Faults.{Meanings, meant_by, undefined_in_actual, undefined_in_on_error, undefined_start}
@@ -35,13 +37,15 @@ pub record Adds (w : Meanings) (ds : List Definition) (old new : List JoinedRule
 abbrev pub unresolved_on_error : Meanings → ℕ × Module → List JoinFault
 unresolved_on_error w f = flat_map (undefined_in_on_error (meant_by w f.0 (formal_number []))) f.1.on_error
 
--- nothing is in the way of joining these files
+-- nothing is in the way of joining these files, and nothing in them or the prelude is too deep
 pub record CanJoin (n : Names) (ms : List Module) (library : List Rule) : Type 0 where
   pub few : length n.tokens.keys ≤ MAX_TOKENS
   pub starts : flat_map (undefined_start (meanings_in n)) (meanings_in n).starts ≡ []
   pub on_error : flat_map (unresolved_on_error (meanings_in n)) (files ms) ≡ []
   pub rules : flat_map (unresolved_in_file (meanings_in n)) (files ms) ≡ []
   pub prelude : unresolved_in_rules (meanings_in n) 0 library ≡ []
+  pub files_ready : AreModulesReady ms
+  pub prelude_shallow : All AreProducersShallow library
 
 -- the definitions in these files and this prelude
 abbrev pub definitions_by : Names → List Module → List Rule → List Definition

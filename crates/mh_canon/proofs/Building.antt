@@ -1,11 +1,11 @@
 -- What is kept while the collection is made: the states whose closures were taken have their edges.
-use Rattle.std.proofs.Common.{◌≡◌, ℕ, ◌+◌, ◌<◌, ◌≤◌, List, [], ◌∷◌, ◌++◌, Some, length, map, get_or, refl, sym, ap, ◌∙◌, ◌↔◌, arith, inl, inr}
+use Rattle.std.proofs.Common.{◌≡◌, ℕ, ◌+◌, ◌<◌, ◌≤◌, List, [], ◌∷◌, ◌++◌, Some, length, map, refl, sym, ap, ◌∙◌, ◌↔◌, arith, inl, inr}
 use Rattle.std.specs.List.{slice_get, Contains, concat}
 use Rattle.std.proofs.lemmas.Bool.{cases_lt}
 use Rattle.std.proofs.lemmas.List.{map-append, length_push, append-nil, length-append}
 use Rattle.std.proofs.lemmas.List.Elements.{All-contains, All-weaker, All-contains_itself}
 use Rattle.std.proofs.lemmas.List.Folds.{concat-append}
-use Rattle.std.proofs.lemmas.Option.{slice_get-get_or, get_or_from_slice_get, slice_get_within}
+use Rattle.std.proofs.lemmas.Option.{get_or_from_slice_get, slice_get_within}
 use Rattle.mh_grammar.specs.declared.types.Symbol.{Symbol}
 use Rattle.mh_grammar.specs.declared.types.Look.TheVariants.{End}
 use Rattle.mh_grammar.specs.declared.edges.Edge.{Edge}
@@ -14,8 +14,8 @@ use Rattle.mh_grammar.specs.Edges.{IsRising, IsSymbolBefore}
 use Rattle.mh_grammar.specs.ItemSets.{AreSame, Close}
 use Rattle.mh_grammar.specs.Numbering.{InOrder}
 use Rattle.mh_grammar.specs.Placed.{Placed}
-use Rattle.mh_grammar.proofs.Placing.{contains_at, get_cases, get_left, get_last, AllPlaced-kept, AllPlaced-grows, AllPlaced-order, InOrder-append}
-use Rattle.mh_items.specs.Shapes.{Kernel}
+use Rattle.mh_grammar.proofs.Placing.{contains_at, get_left, get_last, rows_pushed, AllPlaced-kept, AllPlaced-grows, AllPlaced-order, InOrder-append}
+use Rattle.mh_items.specs.Shapes.{Items, Kernel}
 use Rattle.mh_items.specs.Shapes.{KernelItem}
 use Rattle.mh_items.specs.Kernels.{Holds, IsKernel}
 use Rattle.mh_items.specs.Automaton.{start_kernel}
@@ -101,11 +101,11 @@ Building-start g kernels s = record {
 }
 
 -- the closure of a kernel that was found
-pub Building-source : (g : PlainGrammar) (kernels : List Kernel) (edges : List (List Edge)) (i : ℕ) (k closed : Kernel) → Building g kernels edges → slice_get kernels i ≡ Some k → IsKernel g closed → AreSame (Holds closed) (Close g (Holds k)) → IsSource g closed
+pub Building-source : (g : PlainGrammar) (kernels : List Kernel) (edges : List (List Edge)) (i : ℕ) (k : Kernel) (closed : Items) → Building g kernels edges → slice_get kernels i ≡ Some k → IsKernel g closed → AreSame (Holds closed) (Close g (Holds k)) → IsSource g closed
 Building-source g kernels edges i k closed w at of_closed same =
     IsSource-close g k closed (All-contains (IsState g) kernels k w.states.each (contains_at kernels i k at)) of_closed same
 
-pub Building-step : (g : PlainGrammar) (kernels new : List Kernel) (edges : List (List Edge)) (k closed : Kernel) (symbols : List Symbol) (row : List Edge) → Building g kernels edges → slice_get kernels (length edges) ≡ Some k → IsKernel g closed → AreSame (Holds closed) (Close g (Holds k)) → IsRising IsSymbolBefore symbols → ((X : Symbol) → Contains symbols X ↔ IsBehindDot g closed X) → AreEdges g closed symbols kernels new row → Building g new (edges ++ row ∷ [])
+pub Building-step : (g : PlainGrammar) (kernels new : List Kernel) (edges : List (List Edge)) (k : Kernel) (closed : Items) (symbols : List Symbol) (row : List Edge) → Building g kernels edges → slice_get kernels (length edges) ≡ Some k → IsKernel g closed → AreSame (Holds closed) (Close g (Holds k)) → IsRising IsSymbolBefore symbols → ((X : Symbol) → Contains symbols X ↔ IsBehindDot g closed X) → AreEdges g closed symbols kernels new row → Building g new (edges ++ row ∷ [])
 Building-step g kernels new edges k closed symbols row w at of_closed same rising exact e =
     let source = Building-source g kernels edges (length edges) k closed w at of_closed same in
     let behind = All-weaker (Contains symbols) (IsBehindDot g closed) (λ X c. (exact X).0 c) symbols (All-contains_itself symbols) in
@@ -116,17 +116,6 @@ Building-step g kernels new edges k closed symbols row w at of_closed same risin
       begins = λ i l. kept i (start_kernel i) (w.begins i l);
       states = AreStates-edges g closed symbols kernels new row source behind w.states e;
       short = omega (arith, length_push edges row, within, ap length grows.1, length-append kernels grows.0);
-      rows = λ s m r f h. elim (get_cases edges row s r h) [
-        | inl before ↦ (let l = slice_get_within edges s r before in
-            let n : s < length kernels = omega (arith, w.short) in
-            let old = slice_get-get_or kernels s m n in
-            let both = kept s (get_or kernels s m) old in
-            let one : get_or kernels s m ≡ m = cc in
-            IsRow-kept g kernels new m r kept (w.rows s m r (old ∙ ap Some one) before))
-        | inr last ↦ (let both = kept (length edges) k at in
-            let again = rw last.0 at f in
-            let one : m ≡ k = cc in
-            rw (last.1, one) (IsRow-new g k closed symbols kernels new row same rising exact e))
-      ];
+      rows = rows_pushed (IsRow g kernels) (IsRow g new) kernels new edges k row w.short kept at (λ m r. IsRow-kept g kernels new m r kept) (IsRow-new g k closed symbols kernels new row same rising exact e) w.rows;
       order = rw (map-append targets_of edges (row ∷ []), concat-append, append-nil (targets_of row)) (InOrder-append (length g.starts) (concat (map targets_of edges)) (targets_of row) (length kernels) (length new) w.order (AllPlaced-order kernels new e.moves (targets_of row) e.placed));
     }

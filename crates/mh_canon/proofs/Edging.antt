@@ -9,10 +9,10 @@ use Rattle.mh_grammar.specs.declared.edges.Edge.{Edge}
 use Rattle.mh_grammar.specs.Plain.{PlainGrammar, rhs_of}
 use Rattle.mh_grammar.specs.Edges.{IsRising, IsSymbolBefore, IsEdgeBefore, same_symbol, find_edge}
 use Rattle.mh_grammar.specs.ItemSets as items
-use Rattle.mh_grammar.specs.ItemSets.{ItemSet, AreSame, Close, Moved}
+use Rattle.mh_grammar.specs.ItemSets.{AreSame, Close, Moved}
 use Rattle.mh_grammar.specs.Numbering.{Names}
 use Rattle.mh_grammar.proofs.Placing.{AllPlaced-names}
-use Rattle.mh_items.specs.Shapes.{Kernel}
+use Rattle.mh_items.specs.Shapes.{Items, Kernel}
 use Rattle.mh_items.specs.Kernels.{Holds}
 use Rattle.mh_canon.specs.Canonical.{HasItem, targets_of}
 use Rattle.mh_canon.specs.Moves.{AreEdges}
@@ -42,7 +42,7 @@ rising_edges (e ∷ row) r = (below row r.0, rising_edges row r.1)
     below (f ∷ row) a = (a.0, below row a.1)
 
 -- an edge that is found leads to the move on its symbol
-found_move : (g : PlainGrammar) (closed : Kernel) (kernels : List Kernel) (row : List Edge) (moves : List Kernel) → AllZip (IsMove g closed) (map (λ (e : Edge). e.symbol) row) moves → Names kernels (targets_of row) moves → (X : Symbol) (u : ℕ) → find_edge row X ≡ Some u → (k : Kernel) × (slice_get kernels u ≡ Some k) × IsMove g closed X k
+found_move : (g : PlainGrammar) (closed : Items) (kernels : List Kernel) (row : List Edge) (moves : List Kernel) → AllZip (IsMove g closed) (map (λ (e : Edge). e.symbol) row) moves → Names kernels (targets_of row) moves → (X : Symbol) (u : ℕ) → find_edge row X ≡ Some u → (k : Kernel) × (slice_get kernels u ≡ Some k) × IsMove g closed X k
 found_move g closed kernels [] moves each names X u e = cc
 found_move g closed kernels (f ∷ row) [] each names X u e = absurd each
 found_move g closed kernels (f ∷ row) (k ∷ moves) each names X u e = go (same_symbol f.symbol X) refl e (found_move g closed kernels row moves each.1 names.1 X u)
@@ -80,7 +80,7 @@ IsRow-kept g old new k row kept r = record {
 }
 
 -- where an item of a closure moves past a symbol, that stands behind a dot
-behind_moved : (g : PlainGrammar) (closed : Kernel) (X : Symbol) (p d : ℕ) (a : Look) → Moved g (Holds closed) X p d a → IsBehindDot g closed X
+behind_moved : (g : PlainGrammar) (closed : Items) (X : Symbol) (p d : ℕ) (a : Look) → Moved g (Holds closed) X p d a → IsBehindDot g closed X
 behind_moved g closed X p d a (items.Moved.moved {d = d'} {y} h e) = record {
   production = p;
   dot = d';
@@ -88,7 +88,7 @@ behind_moved g closed X p d a (items.Moved.moved {d = d'} {y} h e) = record {
   behind = get_from_drop (rhs_of g p) d' X y e;
 }
 
-pub IsRow-new : (g : PlainGrammar) (k closed : Kernel) (symbols : List Symbol) (old new : List Kernel) (row : List Edge) → AreSame (Holds closed) (Close g (Holds k)) → IsRising IsSymbolBefore symbols → ((X : Symbol) → Contains symbols X ↔ IsBehindDot g closed X) → AreEdges g closed symbols old new row → IsRow g new k row
+pub IsRow-new : (g : PlainGrammar) (k : Kernel) (closed : Items) (symbols : List Symbol) (old new : List Kernel) (row : List Edge) → AreSame (Holds closed) (Close g (Holds k)) → IsRising IsSymbolBefore symbols → ((X : Symbol) → Contains symbols X ↔ IsBehindDot g closed X) → AreEdges g closed symbols old new row → IsRow g new k row
 IsRow-new g k closed symbols old new row same rising exact e = record {
   rising = rising_edges row (rw (← e.on) at rising);
   leads = λ X u f.

@@ -11,7 +11,7 @@ use Rattle.mh_grammar.specs.Plain.{PlainGrammar}
 use Rattle.mh_grammar.specs.Edges.{IsRising, IsSymbolBefore, IsEdgeBefore, same_symbol, find_edge}
 use Rattle.mh_grammar.specs.ItemSets.{AreSame, Close, Moved, StartItems, Reach}
 use Rattle.mh_grammar.specs.Numbering as numbering
-use Rattle.mh_grammar.specs.Numbering.{Reached, AreDistinct, InOrder, Names, IsRowOf, IsNumbering}
+use Rattle.mh_grammar.specs.Numbering.{Reached, Names, IsRowOf, IsNumbering}
 use Rattle.mh_grammar.proofs.Placing.{contains_at, at_contains}
 use Rattle.mh_grammar.proofs.OneNumbering.{one_numbering, same_places, take_place}
 use Rattle.mh_items.specs.Shapes.{Kernel}
@@ -22,7 +22,7 @@ use Rattle.mh_canon.specs.Canonical.{HasItem, IsCanonical, targets_of}
 use Rattle.mh_canon.proofs.Edging.{symbol_true, symbol_itself, found_edge}
 use Rattle.mh_canon.proofs.Finished.{kernel_get, kernel_got, edges_get}
 use Rattle.mh_items.proofs.OneList.{kernel_same}
-use Rattle.mh_grammar.proofs.Lists.{contains_here, contains_there, contains_cases, contains_none, recursion_contains, rising_same}
+use Rattle.mh_grammar.proofs.Lists.{contains_here, contains_there, contains_cases, contains_none, recursion_contains, rising_same, zip_one}
 use Rattle.mh_canon.proofs.Sets.{same_sym, same_trans, has_same, moved_same, close_same, reach_has}
 
 symbols_of : List Edge → List Symbol
@@ -86,21 +86,13 @@ record Next (g : PlainGrammar) (k : Kernel) (ks : List Kernel) : Type 0 where
 one_move : (g : PlainGrammar) (k m n : Kernel) (X : Symbol) → IsMoveOf g k X m → IsMoveOf g k X n → m ≡ n
 one_move g k m n X a b = kernel_same g m n a.kernel b.kernel (same_trans (Holds m) (Moved g (Close g (Holds k)) X) (Holds n) a.same (same_sym (Holds n) (Moved g (Close g (Holds k)) X) b.same))
 
-zip_same : (g : PlainGrammar) (k : Kernel) (symbols : List Symbol) (a b : List Kernel) → AllZip (IsMoveOf g k) symbols a → AllZip (IsMoveOf g k) symbols b → a ≡ b
-zip_same g k [] [] [] p q = refl
-zip_same g k [] (m ∷ a) b p q = absurd p
-zip_same g k [] [] (n ∷ b) p q = absurd q
-zip_same g k (X ∷ symbols) [] b p q = absurd p
-zip_same g k (X ∷ symbols) (m ∷ a) [] p q = absurd q
-zip_same g k (X ∷ symbols) (m ∷ a) (n ∷ b) p q = let first = one_move g k m n X p.0 q.0 in let rest = zip_same g k symbols a b p.1 q.1 in λ i. first i ∷ rest i
-
 symbols_same : (P : Symbol → Type 0) (xs ys : List Symbol) → IsRising IsSymbolBefore xs → IsRising IsSymbolBefore ys → ((X : Symbol) → Contains xs X ↔ P X) → ((X : Symbol) → Contains ys X ↔ P X) → xs ≡ ys
 symbols_same P xs ys r s p q = rising_same IsSymbolBefore symbol_asymmetric xs ys r s (λ X. ((λ c. (q X).1 ((p X).0 c)), (λ c. (p X).1 ((q X).0 c))))
 
 one_next : (g : PlainGrammar) (k : Kernel) (a b : List Kernel) → Next g k a → Next g k b → a ≡ b
 one_next g k a b p q =
     let symbols : q.symbols ≡ p.symbols = symbols_same (λ X. HasItem (Moved g (Close g (Holds k)) X)) q.symbols p.symbols q.rising p.rising q.exact p.exact in
-    zip_same g k p.symbols a b p.each (rw symbols at q.each)
+    zip_one (IsMoveOf g k) (λ X m n. one_move g k m n X) p.symbols a b p.each (rw symbols at q.each)
 
 -- the move on a symbol, and the symbol of a move
 move_on : (g : PlainGrammar) (k : Kernel) (symbols : List Symbol) (ks : List Kernel) → AllZip (IsMoveOf g k) symbols ks → (X : Symbol) → Contains symbols X → (m : Kernel) × Contains ks m × IsMoveOf g k X m

@@ -7,7 +7,7 @@ use Rattle.mh_grammar.specs.declared.edges.Edge.{Edge}
 use Rattle.mh_grammar.specs.Plain.{PlainGrammar}
 use Rattle.mh_grammar.specs.Placed.{Placed}
 use Rattle.mh_grammar.proofs.Lists.{all_at, contains_map}
-use Rattle.mh_items.specs.Shapes.{Kernel}
+use Rattle.mh_items.specs.Shapes.{Items, Kernel}
 use Rattle.mh_items.specs.Collection.{IsBehindDot, IsMove}
 use Rattle.mh_moves.specs.Moves.{Move, AreMoves, symbols_of}
 use Rattle.mh_canon.specs.Canonical.{IsOver}
@@ -15,17 +15,17 @@ use Rattle.mh_canon.specs.Moves.{IsSource, AreStates, AreEdges}
 use Rattle.mh_canon.proofs.States.{AreEdges-none, AreEdges-push, IsOver-placed}
 
 pub record PlacedSoFar (g : PlainGrammar) (moves front : List Move) (old new : List Kernel) (row : List Edge) : Type 0 where
-  pub edges : (closed : Kernel) → AreMoves g closed moves → AreEdges g closed (symbols_of front) old new row
-  pub behind : (closed : Kernel) → AreMoves g closed moves → All (IsBehindDot g closed) (symbols_of front)
+  pub edges : (closed : Items) → AreMoves g closed moves → AreEdges g closed (symbols_of front) old new row
+  pub behind : (closed : Items) → AreMoves g closed moves → All (IsBehindDot g closed) (symbols_of front)
 
 pub placed-start : (g : PlainGrammar) (moves : List Move) (kernels : List Kernel) → PlacedSoFar g moves [] kernels kernels []
 placed-start g moves kernels = record { edges = λ closed are. AreEdges-none g closed kernels; behind = λ closed are. All-nil (IsBehindDot g closed) }
 
 module _ (g : PlainGrammar) (moves front : List Move) (old mid new : List Kernel) (row : List Edge) (found : Move) (n : ℕ) (h : PlacedSoFar g moves front old mid row) (turn : (length front < length moves) × (found ≡ get_or moves (length front) found)) (placed : Placed mid new found.kernel n) where
-  move : (closed : Kernel) → AreMoves g closed moves → IsMove g closed found.symbol found.kernel
+  move : (closed : Items) → AreMoves g closed moves → IsMove g closed found.symbol found.kernel
   move closed are = all_at (λ (m : Move). IsMove g closed m.symbol m.kernel) moves (length front) found are.each turn.0 turn.1
 
-  there : (closed : Kernel) → AreMoves g closed moves → IsBehindDot g closed found.symbol
+  there : (closed : Items) → AreMoves g closed moves → IsBehindDot g closed found.symbol
   there closed are = (are.exact found.symbol).0 (contains_map (λ (m : Move). m.symbol) moves found (length front, turn.0, sym turn.1))
 
   more : symbols_of (front ++ found ∷ []) ≡ symbols_of front ++ found.symbol ∷ []
@@ -37,6 +37,6 @@ module _ (g : PlainGrammar) (moves front : List Move) (old mid new : List Kernel
     behind = λ closed are. rw more (All-push (IsBehindDot g closed) (symbols_of front) found.symbol (h.behind closed are) (there closed are));
   }
 
-  pub placed-over : (limit : ℕ) → AreStates g old → limit ≤ n → (closed : Kernel) → IsSource g closed → AreMoves g closed moves → IsOver g limit
+  pub placed-over : (limit : ℕ) → AreStates g old → limit ≤ n → (closed : Items) → IsSource g closed → AreMoves g closed moves → IsOver g limit
   placed-over limit states past closed source are =
       IsOver-placed g closed (symbols_of front) old mid new row found.symbol found.kernel n limit source (All-push (IsBehindDot g closed) (symbols_of front) found.symbol (h.behind closed are) (there closed are)) states (h.edges closed are) (move closed are) placed past

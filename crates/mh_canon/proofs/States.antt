@@ -8,10 +8,10 @@ use Rattle.mh_grammar.specs.declared.types.Symbol.{Symbol}
 use Rattle.mh_grammar.specs.declared.edges.Edge.{Edge}
 use Rattle.mh_grammar.specs.Plain.{PlainGrammar, rhs_of}
 use Rattle.mh_grammar.specs.ItemSets as items
-use Rattle.mh_grammar.specs.ItemSets.{ItemSet, AreSame, Close, Moved, Reach}
+use Rattle.mh_grammar.specs.ItemSets.{AreSame, Close, Moved, Reach}
 use Rattle.mh_grammar.specs.Placed.{Placed}
 use Rattle.mh_grammar.proofs.Placing.{AllPlaced-push, AllPlaced-each, AllPlaced-distinct}
-use Rattle.mh_items.specs.Shapes.{Kernel}
+use Rattle.mh_items.specs.Shapes.{Items, Kernel}
 use Rattle.mh_items.specs.Kernels.{Holds, IsKernel}
 use Rattle.mh_canon.specs.Canonical.{Walk, walk_of, IsWalk, IsOver, targets_of}
 use Rattle.mh_canon.specs.Moves.{IsState, AreStates, IsSource, AreEdges}
@@ -20,7 +20,7 @@ use Rattle.mh_items.proofs.OneList.{kernel_same}
 use Rattle.mh_canon.proofs.Sets.{same_sym, same_trans, moved_same, close_same, place_holds, drop_from_get}
 
 -- the closure of a state
-pub IsSource-close : (g : PlainGrammar) (k closed : Kernel) → IsState g k → IsKernel g closed → AreSame (Holds closed) (Close g (Holds k)) → IsSource g closed
+pub IsSource-close : (g : PlainGrammar) (k : Kernel) (closed : Items) → IsState g k → IsKernel g closed → AreSame (Holds closed) (Close g (Holds k)) → IsSource g closed
 IsSource-close g k closed s of_closed same = record {
   start = s.reach.start;
   path = s.reach.path;
@@ -30,7 +30,7 @@ IsSource-close g k closed s of_closed same = record {
 }
 
 -- what moves leads to a state
-pub IsState-move : (g : PlainGrammar) (closed k : Kernel) (X : Symbol) → IsSource g closed → IsBehindDot g closed X → IsMove g closed X k → IsState g k
+pub IsState-move : (g : PlainGrammar) (closed : Items) (k : Kernel) (X : Symbol) → IsSource g closed → IsBehindDot g closed X → IsMove g closed X k → IsState g k
 IsState-move g closed k X source behind move =
     let look = place_holds g closed source.kernel behind.production behind.dot behind.place in
     let next : Moved g (Holds closed) X behind.production (suc behind.dot) look.0 = items.Moved.moved look.1 (drop_from_get (rhs_of g behind.production) behind.dot X behind.behind) in
@@ -45,14 +45,14 @@ IsState-move g closed k X source behind move =
       };
     }
 
-moves_states : (g : PlainGrammar) (closed : Kernel) → IsSource g closed → (symbols : List Symbol) (moves : List Kernel) → AllByRecursion (IsBehindDot g closed) symbols → AllZip (IsMove g closed) symbols moves → AllByRecursion (IsState g) moves
+moves_states : (g : PlainGrammar) (closed : Items) → IsSource g closed → (symbols : List Symbol) (moves : List Kernel) → AllByRecursion (IsBehindDot g closed) symbols → AllZip (IsMove g closed) symbols moves → AllByRecursion (IsState g) moves
 moves_states g closed source [] [] behind each = tt
 moves_states g closed source [] (k ∷ moves) behind each = absurd each
 moves_states g closed source (X ∷ symbols) [] behind each = absurd each
 moves_states g closed source (X ∷ symbols) (k ∷ moves) behind each = (IsState-move g closed k X source behind.0 each.0, moves_states g closed source symbols moves behind.1 each.1)
 
 -- placed moves are states too
-pub AreStates-edges : (g : PlainGrammar) (closed : Kernel) (symbols : List Symbol) (old new : List Kernel) (row : List Edge) → IsSource g closed → All (IsBehindDot g closed) symbols → AreStates g old → AreEdges g closed symbols old new row → AreStates g new
+pub AreStates-edges : (g : PlainGrammar) (closed : Items) (symbols : List Symbol) (old new : List Kernel) (row : List Edge) → IsSource g closed → All (IsBehindDot g closed) symbols → AreStates g old → AreEdges g closed symbols old new row → AreStates g new
 AreStates-edges g closed symbols old new row source behind s e = record {
   each = AllPlaced-each (IsState g) old new e.moves (targets_of row) e.placed s.each (λ k c. All-contains (IsState g) e.moves k (All-from_recursion (IsState g) e.moves (moves_states g closed source symbols e.moves (recursion_from_All (IsBehindDot g closed) symbols behind) e.each)) c);
   distinct = AllPlaced-distinct old new e.moves (targets_of row) e.placed s.distinct;
@@ -64,10 +64,10 @@ zip_push R [] (w ∷ ys) x y a r = absurd a
 zip_push R (v ∷ xs) [] x y a r = absurd a
 zip_push R (v ∷ xs) (w ∷ ys) x y a r = (a.0, zip_push R xs ys x y a.1 r)
 
-pub AreEdges-none : (g : PlainGrammar) (closed : Kernel) (kernels : List Kernel) → AreEdges g closed [] kernels kernels []
+pub AreEdges-none : (g : PlainGrammar) (closed : Items) (kernels : List Kernel) → AreEdges g closed [] kernels kernels []
 AreEdges-none g closed kernels = record { moves = []; each = tt; on = refl; placed = refl }
 
-pub AreEdges-push : (g : PlainGrammar) (closed : Kernel) (symbols : List Symbol) (old mid new : List Kernel) (row : List Edge) (X : Symbol) (k : Kernel) (n : ℕ) → AreEdges g closed symbols old mid row → IsMove g closed X k → Placed mid new k n → AreEdges g closed (symbols ++ X ∷ []) old new (row ++ record { symbol = X; target = n } ∷ [])
+pub AreEdges-push : (g : PlainGrammar) (closed : Items) (symbols : List Symbol) (old mid new : List Kernel) (row : List Edge) (X : Symbol) (k : Kernel) (n : ℕ) → AreEdges g closed symbols old mid row → IsMove g closed X k → Placed mid new k n → AreEdges g closed (symbols ++ X ∷ []) old new (row ++ record { symbol = X; target = n } ∷ [])
 AreEdges-push g closed symbols old mid new row X k n e m p = record {
   moves = e.moves ++ k ∷ [];
   each = zip_push (IsMove g closed) symbols e.moves X k e.each m;
@@ -128,7 +128,7 @@ IsOver-states g kernels limit s o =
     }
 
 -- so a kernel that was placed past the limit
-pub IsOver-placed : (g : PlainGrammar) (closed : Kernel) (symbols : List Symbol) (old mid new : List Kernel) (row : List Edge) (X : Symbol) (k : Kernel) (n limit : ℕ) → IsSource g closed → All (IsBehindDot g closed) (symbols ++ X ∷ []) → AreStates g old → AreEdges g closed symbols old mid row → IsMove g closed X k → Placed mid new k n → limit ≤ n → IsOver g limit
+pub IsOver-placed : (g : PlainGrammar) (closed : Items) (symbols : List Symbol) (old mid new : List Kernel) (row : List Edge) (X : Symbol) (k : Kernel) (n limit : ℕ) → IsSource g closed → All (IsBehindDot g closed) (symbols ++ X ∷ []) → AreStates g old → AreEdges g closed symbols old mid row → IsMove g closed X k → Placed mid new k n → limit ≤ n → IsOver g limit
 IsOver-placed g closed symbols old mid new row X k n limit source behind s e m p o =
     IsOver-states g new limit (AreStates-edges g closed (symbols ++ X ∷ []) old new (row ++ record { symbol = X; target = n } ∷ []) source behind s (AreEdges-push g closed symbols old mid new row X k n e m p)) (omega (arith, slice_get_within new n k p.at))
 

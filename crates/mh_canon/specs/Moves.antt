@@ -7,7 +7,7 @@ use Rattle.mh_grammar.specs.Plain.{PlainGrammar}
 use Rattle.mh_grammar.specs.ItemSets.{AreSame, Close, Reach}
 use Rattle.mh_grammar.specs.Numbering.{AreDistinct}
 use Rattle.mh_grammar.specs.Placed.{AllPlaced}
-use Rattle.mh_items.specs.Shapes.{Kernel}
+use Rattle.mh_items.specs.Shapes.{Items, Kernel}
 use Rattle.mh_items.specs.Kernels.{Holds, IsKernel}
 pub use Rattle.mh_items.specs.Collection.{AreStarts}
 use Rattle.mh_items.specs.Collection.{IsMove}
@@ -26,7 +26,7 @@ pub record AreStates (g : PlainGrammar) (kernels : List Kernel) : Type 0 where
   pub distinct : AreDistinct kernels
 
 -- the closure of a state
-pub record IsSource (g : PlainGrammar) (closed : Kernel) : Type 0 where
+pub record IsSource (g : PlainGrammar) (closed : Items) : Type 0 where
   pub start : ℕ
   pub path : List Symbol
   pub known : start < length g.starts
@@ -34,7 +34,7 @@ pub record IsSource (g : PlainGrammar) (closed : Kernel) : Type 0 where
   pub same : AreSame (Holds closed) (Close g (Reach g start path))
 
 -- the edges on the symbols lead to the moves, which were placed in their order
-pub record AreEdges (g : PlainGrammar) (closed : Kernel) (symbols : List Symbol) (old new : List Kernel) (row : List Edge) : Type 0 where
+pub record AreEdges (g : PlainGrammar) (closed : Items) (symbols : List Symbol) (old new : List Kernel) (row : List Edge) : Type 0 where
   pub moves : List Kernel
   pub each : AllZip (IsMove g closed) symbols moves
   pub on : map (λ e. e.symbol) row ≡ symbols
@@ -42,7 +42,7 @@ pub record AreEdges (g : PlainGrammar) (closed : Kernel) (symbols : List Symbol)
 
 -- all moves were placed, whatever closure they are of
 abbrev pub PlacesAll : PlainGrammar → List Move → List Kernel → List Kernel → List Edge → Type 0
-PlacesAll g moves old new row = (closed : Kernel) → AreMoves g closed moves → AreEdges g closed (symbols_of moves) old new row
+PlacesAll g moves old new row = (closed : Items) → AreMoves g closed moves → AreEdges g closed (symbols_of moves) old new row
 
 -- a state has these edges
 pub record HasEdges (g : PlainGrammar) (state : ℕ) (old new : List Kernel) (row : List Edge) : Type 0 where

@@ -1,4 +1,4 @@
-//! The canonical collection.
+//! How the canonical collection is made: the moves of each state in turn, whose new kernels are put behind the others.
 ghost use Rattle.std.specs.Prelude.{◌≡◌, ◌<◌, ◌≤◌, ◌*◌, ℕ, [], length, Err, IfOk, OnOk};
 ghost use Rattle.mh_grammar.specs.Plain.{plain_of, IsInRange};
 ghost use Rattle.mh_grammar.specs.Placed.{Placed};

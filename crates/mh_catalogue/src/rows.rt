@@ -18,9 +18,3 @@ pub enum CatalogueFault {
     /// Memory ran out.
     Memory,
 }
-
-impl From<mh_grammar::Memory> for CatalogueFault {
-    fn from(_: mh_grammar::Memory) -> CatalogueFault {
-        CatalogueFault::Memory
-    }
-}

@@ -7,8 +7,6 @@ mod phase;
 mod reductions;
 mod sentence;
 mod stack;
-#[cfg(test)]
-mod tests;
 
 pub use checkpoint::{Checkpoint, begin};
 pub use fault::ResumeFault;

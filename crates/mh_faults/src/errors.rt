@@ -1,6 +1,7 @@
 //! The other faults: no start, the token `error`, unknown levels, too many tokens.
 ghost use Rattle.std.specs.Prelude.{◌≡◌, ◌++◌, length};
 ghost use Rattle.std.specs.List.{flat_map};
+ghost use Rattle.mh_rules.specs.Ready.{AreModulesReady};
 ghost use Rattle.mh_meanings.specs.Faults.{Finds, unless, has_some, errors_in_actual, errors_in_rule, errors_in_file, unlevelled, unlevelled_in_rule, unlevelled_in_file, many_tokens, other_faults};
 ghost use Rattle.mh_meanings.specs.Maps.{meanings_in};
 
@@ -159,6 +160,7 @@ fn check_last(names: &Names, modules: &[Module]) -> Result<(), JoinFault>
 
 /// What comes behind names that stand for nothing and names with two meanings.
 pub fn check_others(names: &Names, modules: &[Module]) -> Result<(), JoinFault>
+    requires { AreModulesReady modules.now }
     ensures { Finds (other_faults (meanings_in names.now) modules.now) result }
 {
     if let Err(fault) = check_start(names) {

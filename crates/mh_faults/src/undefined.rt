@@ -1,6 +1,7 @@
 //! Names and strings that stand for nothing.
 ghost use Rattle.std.specs.Prelude.{◌≡◌, [], false};
 ghost use Rattle.std.specs.List.{flat_map};
+ghost use Rattle.mh_rules.specs.Ready.{AreModulesReady};
 ghost use Rattle.mh_meanings.specs.Names.{files, formal_number};
 ghost use Rattle.mh_meanings.specs.Faults as spec;
 ghost use Rattle.mh_meanings.specs.Faults.{Finds, meant_by, unless, undefined_in_actual, undefined_prec, undefined_in_alternative, undefined_in_rule, undefined_start, undefined_in_level, undefined_in_on_error, undefined_in_declarations, undefined_in_file};
@@ -278,6 +279,7 @@ fn check_file(alloc: Global, names: &Names, number: u64, file: &Module) -> Resul
 
 /// Everything in the files stands for something.
 pub fn check_undefined(alloc: Global, names: &Names, modules: &[Module]) -> Result<(), JoinFault>
+    requires { AreModulesReady modules.now }
     ensures { Finds (flat_map (undefined_in_file (meanings_in names.now)) (files modules.now)) result }
 {
     for (at, file) in modules.iter().enumerate() {

@@ -1,5 +1,5 @@
 -- The costs of tokens, from their list and from what makes them.
-use Rattle.std.proofs.Common.{ℕ, List, map}
+use Rattle.std.proofs.Common.{List, map}
 use Rattle.std.specs.List.{All}
 use Rattle.std.proofs.lemmas.List.Elements.{All-map}
 use Rattle.mh_grammar.specs.declared.types.TokenInfo.{TokenInfo}

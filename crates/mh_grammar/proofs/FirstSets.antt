@@ -1,10 +1,10 @@
--- How the flags of FIRST grow.
+-- The flags of FIRST: what a pass adds is right, and flags to which no pass adds any are all of FIRST; then its rows.
 use Rattle.std.proofs.Common.{◌≡◌, ℕ, ◌+◌, ◌*◌, ◌<◌, ◌≤◌, ◌||◌, ◌↔◌, Bool, true, false, List, [], ◌∷◌, ◌++◌, Some, length, get_or, set, drop, refl, sym, ap, ◌∙◌, arith, inl, inr, add-one, drop-cons, take, ◌-◌}
 use Rattle.std.specs.List.{slice_get}
 use Rattle.std.proofs.lemmas.Bool.{cases_eq, cases_lt, false≢true}
 use Rattle.std.proofs.lemmas.List.Elements.{All-head, All-tail, All-push, All-weaker, Contains-push, Contains-push_cases, Contains-append_left}
 use Rattle.std.proofs.lemmas.List.{get_or_append_left, get_or_push, get_or_past, get_or-take, get_or-drop, length_push, length-take}
-use Rattle.std.proofs.lemmas.Option.{slice_get-get_or, get_or_from_slice_get, slice_get_within}
+use Rattle.std.proofs.lemmas.Option.{slice_get-get_or, get_or_from_slice_get, slice_get_read, slice_get_within}
 use Rattle.std.proofs.lemmas.Nat.{same_from_place}
 use Rattle.mh_grammar.specs.declared.types.Symbol.{Symbol}
 use Rattle.mh_grammar.specs.declared.types.Symbol.TheVariants.{T, N}
@@ -73,37 +73,19 @@ pub symbol_fits : (width n len : ℕ) (X : Symbol) → IsSymbolBelow width n X �
 symbol_fits width n len (T a) h e = h
 symbol_fits width n len (N m) h e = let k : m + 1 ≤ n = omega arith in omega (arith, mul-le-mul_left width k)
 
--- the productions were added up to a place
-pub record OnceSoFar (ps : List Production) (nullable : List Bool) (width : ℕ) (old new : List Bool) (grown : Bool) (upto : ℕ) : Type 0 where
-  pub grows : Grows old new grown
-  pub sound : (g : PlainGrammar) → g.productions ≡ ps → NullableSound g nullable → AreFirst g width old → AreFirst g width new
-  pub added : grown ≡ false → (k : ℕ) (p : Production) → k < upto → slice_get ps k ≡ Some p → IsSideAdded nullable width new p.lhs p.rhs
+-- a production adds nothing to its left side
+abbrev pub Gives : List Bool → ℕ → List Bool → Production → Type 0
+Gives nullable width flags p = IsSideAdded nullable width flags p.lhs p.rhs
 
-pub OnceSoFar-start : (ps : List Production) (nullable : List Bool) (width : ℕ) (old : List Bool) → OnceSoFar ps nullable width old old false 0
-OnceSoFar-start ps nullable width old = record { grows = Grows-refl old; sound = λ g e n s. s; added = λ e k p l. absurd (omega arith) }
+-- flags stay right in any grammar of these productions
+abbrev pub KeepFirst : List Production → List Bool → ℕ → List Bool → List Bool → Type 0
+KeepFirst ps nullable width old new = (g : PlainGrammar) → g.productions ≡ ps → NullableSound g nullable → AreFirst g width old → AreFirst g width new
 
--- one production more: in a pass backward, which says nothing of what was added, and in one forward
-module _ (ps : List Production) (nullable : List Bool) (width : ℕ) (old new newer : List Bool) (grown more : Bool) (i : ℕ) (p : Production) (at : slice_get ps i ≡ Some p) (g : Grows new newer more)
-    (s : (k : PlainGrammar) → NullableSound k nullable → ((a : ℕ) → FirstOf k p.rhs a → First k (N p.lhs) a) → AreFirst k width new → AreFirst k width newer) where
-  production_sound : (k : PlainGrammar) → k.productions ≡ ps → NullableSound k nullable → AreFirst k width new → AreFirst k width newer
-  production_sound k same n = s k n (λ a f. first.First.nonterminal (Produces-ordinary k i p (rw same at)) f)
-
-  pub OnceSoFar-back : OnceSoFar ps nullable width old new grown 0 → OnceSoFar ps nullable width old newer (grown || more) 0
-  OnceSoFar-back h = record {
-    grows = Grows-trans old new newer grown more h.grows g;
-    sound = λ k same n o. production_sound k same n (h.sound k same n o);
-    added = λ e k q l. absurd (omega arith);
-  }
-
-  pub OnceSoFar-step : OnceSoFar ps nullable width old new grown i → (more ≡ false → IsSideAdded nullable width newer p.lhs p.rhs) → OnceSoFar ps nullable width old newer (grown || more) (i + 1)
-  OnceSoFar-step h d = record {
-    grows = Grows-trans old new newer grown more h.grows g;
-    sound = λ k same n o. production_sound k same n (h.sound k same n o);
-    added = λ e k q l read. let both = or_parts grown more e in elim (cases_eq k i) [
-      | inl same ↦ (let one : q ≡ p = cc in rw one (d both.1))
-      | inr other ↦ rw (g.same both.1) (h.added both.0 k q (omega arith) read)
-    ];
-  }
+pub production_sound : (ps : List Production) (nullable : List Bool) (width : ℕ) (flags new : List Bool) (i : ℕ) (p : Production) → i < length ps → p ≡ get_or ps i p
+    → ((g : PlainGrammar) → NullableSound g nullable → ((a : ℕ) → FirstOf g p.rhs a → First g (N p.lhs) a) → AreFirst g width flags → AreFirst g width new) → KeepFirst ps nullable width flags new
+production_sound ps nullable width flags new i p l is s g same n =
+    let at : slice_get ps i ≡ Some p = slice_get_read ps (length ps) i p refl l is in
+    s g n (λ a f. first.First.nonterminal (Produces-ordinary g i p (rw same at)) f)
 
 -- the marks of what derives the empty word
 mark_sound : (g : PlainGrammar) (nullable : List Bool) → AreMarks false g.productions nullable → (X : Symbol) → mark_of false nullable X ≡ true → Derives g X []

@@ -1,4 +1,4 @@
--- Flags that are set.
+-- How a table of flags grows: by one flag, by a change behind another, by a row that is added to a row.
 use Rattle.std.proofs.Common.{◌≡◌, ℕ, ◌+◌, ◌*◌, ◌<◌, ◌≤◌, ◌⊎◌, ◌||◌, Bool, true, false, not, List, length, get_or, set, count_by, refl, sym, ap, ◌∙◌, arith, inl, inr, get_or-set_other, get_or-set_same}
 use Rattle.std.proofs.lemmas.Bool.{cases_eq}
 use Rattle.std.proofs.lemmas.Nat.{same_from_place}

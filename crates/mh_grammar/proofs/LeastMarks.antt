@@ -1,5 +1,5 @@
--- Marks and what they mark.
-use Rattle.std.proofs.Common.{◌≡◌, ℕ, ◌+◌, ◌<◌, Bool, true, false, not, List, [], ◌∷◌, ◌++◌, Some, ◌&&◌, length, get_or, set, count_by, refl, sym, ap, ◌∙◌, arith, ◌↔◌, cond, inl, inr, get_or-set_other, ◌||◌}
+-- Marks that are sound and closed are the least, and these mark what derives the empty word, or any word.
+use Rattle.std.proofs.Common.{◌≡◌, ℕ, ◌+◌, ◌<◌, Bool, true, false, not, List, [], ◌∷◌, ◌++◌, Some, length, get_or, set, count_by, refl, sym, ap, ◌∙◌, arith, ◌↔◌, cond, inl, inr, get_or-set_other}
 use Rattle.std.specs.List.{slice_get}
 use Rattle.std.proofs.lemmas.Bool.{cases_eq}
 use Rattle.std.proofs.lemmas.List.Sums.{sum_by-set}
@@ -9,9 +9,7 @@ use Rattle.mh_grammar.specs.declared.types.Production.{Production}
 use Rattle.mh_grammar.specs.Derivations as trees
 use Rattle.mh_grammar.specs.Derivations.{Derivation, Derivations}
 use Rattle.mh_grammar.specs.Plain.{PlainGrammar, IsToken, Produces, Derives, DerivesAll, IsNullable, IsProductive}
-use Rattle.mh_grammar.specs.Grid.{Grows}
-use Rattle.std.proofs.lemmas.Bool.{and_from, and_parts, or_parts}
-use Rattle.mh_grammar.proofs.Flags.{Grows-refl, Grows-trans}
+use Rattle.std.proofs.lemmas.Bool.{and_from, and_parts}
 use Rattle.mh_grammar.proofs.Lists.{nil_parts}
 use Rattle.mh_grammar.proofs.Numbered.{produces_at, listed_from_for}
 use Rattle.mh_grammar.specs.Marked.{Marked, AllMarked, mark_of, all_marked, AreSound, AreClosed, AreMarks}
@@ -56,33 +54,9 @@ sound-set tokens ps marks k p s at all = record {
   sound = λ n e. elim (cases_eq n p.lhs) [ inl same ↦ marked.Marked.produced k p at (sym same) (marked-all_marked tokens ps marks s p.rhs all) | inr other ↦ s.sound n (sym (get_or-set_other marks p.lhs n true false other) ∙ e) ];
 }
 
--- what a pass over the productions keeps, up to the i-th: old are the marks before it
-pub record Pass (tokens : Bool) (ps : List Production) (old marks : List Bool) (changed : Bool) (i : ℕ) : Type 0 where
-  pub grows : Grows old marks changed
-  pub sound : AreSound tokens ps old → AreSound tokens ps marks
-  pub closed : changed ≡ false → (k : ℕ) (p : Production) → k < i → slice_get ps k ≡ Some p → all_marked tokens marks p.rhs ≡ true → get_or marks p.lhs false ≡ true
-
-pub Pass-start : (tokens : Bool) (ps : List Production) (old : List Bool) → Pass tokens ps old old false 0
-Pass-start tokens ps old = record { grows = Grows-refl old; sound = λ s. s; closed = λ e k p l. absurd (omega arith) }
-
--- one production more: in a pass backward, which says nothing of what is closed, and in one forward
-module _ (tokens : Bool) (ps : List Production) (old marks new : List Bool) (changed more : Bool) (i : ℕ) (p : Production) (at : slice_get ps i ≡ Some p) (g : Grows marks new more) (s : AreSound tokens ps marks → AreSound tokens ps new) where
-  pub Pass-back : Pass tokens ps old marks changed 0 → Pass tokens ps old new (changed || more) 0
-  Pass-back h = record {
-    grows = Grows-trans old marks new changed more h.grows g;
-    sound = λ o. s (h.sound o);
-    closed = λ e k q l. absurd (omega arith);
-  }
-
-  pub Pass-step : Pass tokens ps old marks changed i → (more ≡ false → all_marked tokens new p.rhs ≡ true → get_or new p.lhs false ≡ true) → Pass tokens ps old new (changed || more) (i + 1)
-  Pass-step h c = record {
-    grows = Grows-trans old marks new changed more h.grows g;
-    sound = λ o. s (h.sound o);
-    closed = λ e k q l read. let both = or_parts changed more e in elim (cases_eq k i) [
-      | inl same ↦ (let one : q ≡ p = cc in rw one (c both.1))
-      | inr other ↦ rw (g.same both.1) (h.closed both.0 k q (omega arith) read)
-    ];
-  }
+-- a production whose symbols are all marked has its left side marked
+abbrev pub Closes : Bool → List Bool → Production → Type 0
+Closes tokens marks p = all_marked tokens marks p.rhs ≡ true → get_or marks p.lhs false ≡ true
 
 -- with no token counted, what is marked is what derives the empty word
 module _ (g : PlainGrammar) where

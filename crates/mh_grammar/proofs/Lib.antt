@@ -7,5 +7,6 @@ pub mod LeastMarks
 pub mod Lists
 pub mod Numbered
 pub mod OneNumbering
+pub mod Passes
 pub mod Pigeon
 pub mod Placing

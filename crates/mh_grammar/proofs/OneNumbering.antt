@@ -6,7 +6,7 @@ use Rattle.std.proofs.lemmas.List.{take_all, append-nil}
 use Rattle.std.proofs.lemmas.List.Elements.{Contains-append_left, Contains-append_right}
 use Rattle.std.proofs.lemmas.Option.{slice_get_within}
 use Rattle.mh_grammar.specs.Numbering as numbering
-use Rattle.mh_grammar.specs.Numbering.{Reached, AreDistinct, InOrder, Names, IsRowOf, IsNumbering}
+use Rattle.mh_grammar.specs.Numbering.{Reached, AreDistinct, InOrder, Names, IsNumbering}
 use Rattle.mh_grammar.proofs.Placing.{contains_at, at_contains, InOrder-append}
 
 -- numbers in order end at or above where they begin, and lie below their end

@@ -114,6 +114,22 @@ Names-kept old new k [] (x ∷ xs) n = absurd n
 Names-kept old new k (m ∷ row) [] n = absurd n
 Names-kept old new k (m ∷ row) (x ∷ xs) n = (k m x n.0, Names-kept old new k row xs n.1)
 
+-- what holds of each item and its row, where a list keeps its items and one more of them gets a row
+pub rows_pushed : {X Y : Type 0} (Old New : X → Y → Type 0) (states new : List X) (rows : List Y) (x : X) (row : Y) → length rows ≤ length states → ((i : ℕ) (y : X) → slice_get states i ≡ Some y → slice_get new i ≡ Some y)
+    → slice_get states (length rows) ≡ Some x → ((y : X) (r : Y) → Old y r → New y r) → New x row → ((i : ℕ) (y : X) (r : Y) → slice_get states i ≡ Some y → slice_get rows i ≡ Some r → Old y r)
+    → (i : ℕ) (y : X) (r : Y) → slice_get new i ≡ Some y → slice_get (rows ++ row ∷ []) i ≡ Some r → New y r
+rows_pushed Old New states new rows x row short kept at weaker here before i y r e f = elim (get_cases rows row i r f) [
+  | inl was ↦ (let m : i < length states = omega (arith, slice_get_within rows i r was, short) in
+      let old = slice_get-get_or states i y m in
+      let both = kept i (get_or states i y) old in
+      let same : get_or states i y ≡ y = cc in
+      weaker y r (before i y r (old ∙ ap Some same) was))
+  | inr last ↦ (let both = kept (length rows) x at in
+      let again = rw last.0 at e in
+      let same : y ≡ x = cc in
+      rw (last.1, same) here)
+]
+
 -- what is kept while items are numbered: those before the last row have theirs
 pub record Walking {X : Type 0} (Next : X → List X → Type 0) (starts states : List X) (targets : List (List ℕ)) : Type 0 where
   pub begins : (more : List X) × (states ≡ starts ++ more)
@@ -146,19 +162,9 @@ module _ {X : Type 0} (Next : X → List X → Type 0) (starts states : List X) 
         reached = AllPlaced-each (Reached Next starts) states new xs row p w.reached (λ y c. numbering.Reached.step r next c);
         distinct = AllPlaced-distinct states new xs row p w.distinct;
         short = omega (arith, length_push targets row, within, ap length grows.1, length-append states grows.0);
-        rows = λ i y s e f. elim (get_cases targets row i s f) [
-          | inl before ↦ (let l = slice_get_within targets i s before in
-              let m : i < length states = omega (arith, w.short) in
-              let old = slice_get-get_or states i y m in
-              let both = kept i (get_or states i y) old in
-              let same : get_or states i y ≡ y = cc in
-              let was = w.rows i y s (old ∙ ap Some same) before in
-              record { items = was.items; next = was.next; names = Names-kept states new kept s was.items was.names })
-          | inr last ↦ (let both = kept (length targets) x at in
-              let again = rw last.0 at e in
-              let same : y ≡ x = cc in
-              rw (last.1, same) (record { items = xs; next = next; names = AllPlaced-names states new xs row p }))
-        ];
+        rows = rows_pushed (IsRowOf Next states) (IsRowOf Next new) states new targets x row w.short kept at
+            (λ y s was. record { items = was.items; next = was.next; names = Names-kept states new kept s was.items was.names })
+            (record { items = xs; next = next; names = AllPlaced-names states new xs row p }) w.rows;
         order = rw (concat-append, append-nil row) (InOrder-append (length starts) (concat targets) row (length states) (length new) w.order (AllPlaced-order states new xs row p));
       }
 

@@ -1,5 +1,5 @@
 //! The tokens that each nonterminal's words may begin with.
-ghost use Rattle.std.specs.Prelude.{◌≡◌, ◌<◌, ◌≤◌, ◌+◌, ◌*◌, ◌↔◌, ℕ, List, map, true, false, length, slice_get, slice_index_or, vec_len, Some, IfOk};
+ghost use Rattle.std.specs.Prelude.{◌≡◌, ◌<◌, ◌≤◌, ◌+◌, ◌*◌, ◌^◌, ◌↔◌, ℕ, List, map, true, false, length, slice_get, slice_index_or, vec_len, Some, IfOk};
 ghost use Rattle.std.specs.List.{All, Contains};
 ghost use Rattle.std.specs.List.Sorted.{IsStrictlyIncreasing};
 ghost use Rattle.mh_grammar.specs.declared.types.Symbol.TheVariants.{N};
@@ -36,7 +36,7 @@ pub fn first(alloc: Global, grammar: &Grammar) -> Result<Vec<Vec<Token>>, Memory
 
 /// The places of the flags that are set.
 fn tokens_of(alloc: Global, flags: &[bool]) -> Result<Vec<Token>, Memory>
-    requires { length flags.now ≤ 65536 }
+    requires { length flags.now ≤ 2 ^ 16 }
     ensures rising { IfOk result (λ v. IsStrictlyIncreasing v.items) }
     ensures exact { IfOk result (λ v. (a : ℕ) → Contains v.items a ↔ (slice_index_or flags.now a false ≡ true)) }
 {

@@ -19,7 +19,7 @@ pub use laws::words_begin_with_first;
 pub use marks::{nullable, productive};
 pub use name::{Name, from_bytes};
 pub use names::{left_side_name, nonterminal_name, start_name, symbol_name, token_name};
-pub use range::{has_costs_in_range, is_in_range};
+pub use range::{MAX_NUMBERED, has_costs_in_range, is_in_range};
 pub use sequence::Sequence;
 pub use types::{
     Assoc, Grammar, Level, Look, MAX_COST, Memory, NontermInfo, Production, Sentence, Symbol,

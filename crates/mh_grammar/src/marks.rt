@@ -1,5 +1,5 @@
 //! Which nonterminals derive the empty word, and which derive a word at all.
-ghost use Rattle.std.specs.Prelude.{◌≡◌, ◌<◌, ◌≤◌, ◌↔◌, ℕ, List, Some, true, false, not, length, count_by, slice_get, slice_index_or, vec_len, IsTrue, IfOk};
+ghost use Rattle.std.specs.Prelude.{◌≡◌, ◌^◌, ◌<◌, ◌≤◌, ◌↔◌, ℕ, List, Some, true, false, not, length, count_by, slice_get, slice_index_or, vec_len, IsTrue, IfOk};
 ghost use Rattle.std.specs.List.{All};
 ghost use Rattle.mh_grammar.specs.Grid.{Grows};
 ghost use Rattle.mh_grammar.specs.Plain.{plain_of, IsInRange, IsSymbolBelow, IsProductionBelow, IsNullable, IsProductive};
@@ -45,7 +45,7 @@ fn least_marks(alloc: Global, grammar: &Grammar, tokens: bool) -> Result<Vec<boo
 /// Marks go from right sides to left sides: in a file written top down a forward pass alone would carry them up by
 /// one rule, and in one written bottom up a backward pass alone.
 fn mark_once(tokens: bool, productions: &[Production], marks: &mut [bool]) -> bool
-    requires { All (IsProductionBelow 65536 (length marks.old)) productions.now }
+    requires { All (IsProductionBelow (2 ^ 16) (length marks.old)) productions.now }
     ensures sound { AreSound tokens productions.now marks.old → AreSound tokens productions.now marks.new }
     ensures closed { result ≡ false → AreClosed tokens productions.now marks.new }
     ensures shrinks { result ≡ true → count_by not marks.new < count_by not marks.old }
@@ -63,7 +63,7 @@ fn mark_once(tokens: bool, productions: &[Production], marks: &mut [bool]) -> bo
 
 /// Marks the left side of a production whose symbols are all marked, and says whether the mark was new.
 fn mark_left_side(tokens: bool, production: &Production, marks: &mut [bool]) -> bool
-    requires { IsProductionBelow 65536 (length marks.old) production.now }
+    requires { IsProductionBelow (2 ^ 16) (length marks.old) production.now }
     ensures grows { Grows marks.old marks.new result }
     ensures sound { (ps : List Production) (k : ℕ) → slice_get ps k ≡ Some production.now → AreSound tokens ps marks.old → AreSound tokens ps marks.new }
     ensures closed { result ≡ false → all_marked tokens marks.new production.now.rhs ≡ true → slice_index_or marks.new production.now.lhs false ≡ true }
@@ -81,7 +81,7 @@ fn mark_left_side(tokens: bool, production: &Production, marks: &mut [bool]) -> 
 
 /// Whether all symbols of a right side are marked.
 fn are_marked(tokens: bool, marks: &[bool], symbols: &[Symbol]) -> bool
-    requires { All (IsSymbolBelow 65536 (length marks.now)) symbols.now }
+    requires { All (IsSymbolBelow (2 ^ 16) (length marks.now)) symbols.now }
     ensures { result ≡ all_marked tokens marks.now symbols.now }
 {
     for symbol in symbols {

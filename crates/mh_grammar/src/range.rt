@@ -7,7 +7,7 @@ ghost use Rattle.mh_grammar.specs.Plain.{plain_of, IsInRange, IsSymbolBelow, IsP
 use crate::types::{Grammar, MAX_COST, Production, Symbol};
 
 /// The most tokens, nonterminals or starts: each has a number of 16 bits.
-const MAX_NUMBERED: usize = 65_535;
+pub const MAX_NUMBERED: usize = 65_535;
 
 /// The most productions, with the starts', and the most symbols of a right side: their places have 32 bits.
 const MAX_PLACES: usize = 0xffff_ffff;

@@ -1,18 +1,16 @@
 -- A closure adds no complete item where nothing that is asked for may bring an empty production.
-use Rattle.std.proofs.Common.{◌≡◌, ℕ, ◌+◌, ◌<◌, ◌⊎◌, ◌↔◌, Bool, true, false, not, ◌||◌, List, [], ◌∷◌, Some, length, drop, get_or, set, count_by, cond, refl, sym, ap, ◌∙◌, arith, inl, inr, get_or-set_same}
-use Rattle.std.specs.List.{slice_get, Contains}
-use Rattle.std.proofs.lemmas.Bool.{cases_eq, or_parts}
+use Rattle.std.proofs.Common.{◌≡◌, ℕ, ◌<◌, ◌⊎◌, Bool, true, false, not, List, [], ◌∷◌, Some, length, get_or, set, cond, refl, arith, inl, inr}
+use Rattle.std.specs.List.{slice_get}
 use Rattle.std.proofs.lemmas.List.{length-set}
 use Rattle.std.proofs.lemmas.List.Sums.{sum_by-set}
 use Rattle.mh_grammar.specs.declared.types.Symbol.{Symbol}
-use Rattle.mh_grammar.specs.declared.types.Symbol.TheVariants.{T, N}
+use Rattle.mh_grammar.specs.declared.types.Symbol.TheVariants.{N}
 use Rattle.mh_grammar.specs.declared.types.Production.{Production}
 use Rattle.mh_grammar.specs.declared.types.Look.{Look}
 use Rattle.mh_grammar.specs.Grid.{Grows}
 use Rattle.mh_grammar.specs.Plain.{PlainGrammar, IsProductionFor, rhs_of}
 use Rattle.mh_grammar.specs.ItemSets as sets
 use Rattle.mh_grammar.specs.ItemSets.{Close}
-use Rattle.mh_grammar.proofs.Flags.{Grows-refl, Grows-trans}
 use Rattle.mh_grammar.proofs.Lists.{at_drop}
 use Rattle.mh_grammar.proofs.Numbered.{listed_from_for}
 use Rattle.mh_items.specs.Shapes.{Kernel}
@@ -21,27 +19,9 @@ use Rattle.mh_items.specs.Empties.{begins_empty, AreEmpties, HasComplete}
 
 -- ---- passes over the productions
 
--- what a pass keeps, up to the i-th production: old are the marks before it
-pub record Pass (ps : List Production) (old marks : List Bool) (changed : Bool) (i : ℕ) : Type 0 where
-  pub grows : Grows old marks changed
-  pub closed : changed ≡ false → (k : ℕ) (p : Production) → k < i → slice_get ps k ≡ Some p → begins_empty marks p.rhs ≡ true → get_or marks p.lhs false ≡ true
-
-pub Pass-start : (ps : List Production) (old : List Bool) → Pass ps old old false 0
-Pass-start ps old = record { grows = Grows-refl old; closed = λ e k p l. absurd (omega arith) }
-
--- one production more: in the pass backward, which says nothing of what is closed, and in the one forward
-module _ (ps : List Production) (old marks new : List Bool) (changed more : Bool) (i : ℕ) (p : Production) (g : Grows marks new more) where
-  pub Pass-back : Pass ps old marks changed 0 → Pass ps old new (changed || more) 0
-  Pass-back h = record { grows = Grows-trans old marks new changed more h.grows g; closed = λ e k q l. absurd (omega arith) }
-
-  pub Pass-step : slice_get ps i ≡ Some p → Pass ps old marks changed i → (more ≡ false → begins_empty new p.rhs ≡ true → get_or new p.lhs false ≡ true) → Pass ps old new (changed || more) (i + 1)
-  Pass-step at h c = record {
-    grows = Grows-trans old marks new changed more h.grows g;
-    closed = λ e k q l read. let both = or_parts changed more e in elim (cases_eq k i) [
-      | inl same ↦ (let one : q ≡ p = cc in rw one (c both.1))
-      | inr other ↦ rw (g.same both.1) (h.closed both.0 k q (omega arith) read)
-    ];
-  }
+-- a production that may bring an empty one has its left side marked
+abbrev pub Closes : List Bool → Production → Type 0
+Closes marks p = begins_empty marks p.rhs ≡ true → get_or marks p.lhs false ≡ true
 
 -- a new mark
 pub mark_set : (marks : List Bool) (n : ℕ) → n < length marks → get_or marks n false ≡ false → Grows marks (set marks n true) true

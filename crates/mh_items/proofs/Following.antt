@@ -1,5 +1,5 @@
 -- What an item asks for by itself.
-use Rattle.std.proofs.Common.{◌≡◌, ℕ, suc, ◌+◌, ◌-◌, ◌*◌, ◌<◌, ◌≤◌, ◌⊎◌, ◌↔◌, Bool, true, false, List, [], ◌∷◌, ◌++◌, Some, None, length, get_or, drop, vec_len, refl, sym, ap, subst, ◌∙◌, arith, inl, inr}
+use Rattle.std.proofs.Common.{◌≡◌, ℕ, suc, ◌+◌, ◌-◌, ◌*◌, ◌<◌, ◌≤◌, ◌⊎◌, ◌↔◌, Bool, true, List, [], ◌∷◌, ◌++◌, Some, None, length, get_or, drop, refl, sym, ap, subst, ◌∙◌, arith, inl, inr}
 use Rattle.std.specs.List.{slice_get, All, Contains}
 use Rattle.std.proofs.lemmas.Bool.{cases_lt}
 use Rattle.std.proofs.lemmas.List.Elements.{Contains-push, Contains-push_cases, Contains-append_left, Contains-get_or, All-weaker, All-drop, All-cons, All-nil}
@@ -16,8 +16,8 @@ use Rattle.mh_grammar.specs.ItemSets.{MayBegin}
 use Rattle.mh_items.specs.Shapes.{KernelItem, Kernel}
 use Rattle.mh_items.specs.declared.asked.Asked.{Asked}
 use Rattle.mh_items.specs.Kernels.{Holds, IsKernelItem}
-use Rattle.mh_items.specs.Firsts.{AreSets, BeginsAll, IsRest}
-use Rattle.mh_items.specs.Asked.{IsAsked, IsTable, AreAwake, Adds, IsAt}
+use Rattle.mh_items.specs.Firsts.{BeginsAll, IsRest}
+use Rattle.mh_items.specs.Asked.{IsAsked, AreAwake, Adds, IsAt}
 use Rattle.mh_items.specs.Wanted as wanted
 use Rattle.mh_items.specs.Wanted.{Follows, IsItemSeed, IsSeedOf, IsSeed, AreSeeds}
 use Rattle.mh_grammar.proofs.Lists.{all_at}

@@ -7,7 +7,7 @@ use Rattle.std.proofs.lemmas.List.Elements.{Contains-push, Contains-push_cases, 
 use Rattle.std.proofs.lemmas.Option.{slice_get-get_or, get_or_from_slice_get, slice_get_read, slice_get_within}
 use Rattle.mh_grammar.specs.declared.types.Symbol.TheVariants.{N}
 use Rattle.mh_grammar.specs.declared.types.Production.{Production}
-use Rattle.mh_grammar.specs.Plain.{PlainGrammar, IsInRange, IsProductionFor}
+use Rattle.mh_grammar.specs.Plain.{PlainGrammar, IsInRange, IsProductionFor, IsProductionBelow}
 use Rattle.mh_grammar.specs.First.{First}
 use Rattle.mh_grammar.proofs.Numbered.{IsProductionFor-ordinary, listed_from_for}
 use Rattle.mh_items.specs.declared.links.Link.{Link}
@@ -21,7 +21,7 @@ use Rattle.mh_grammar.specs.Plain.{IsSymbolBelow}
 use Rattle.mh_grammar.specs.First as first
 use Rattle.mh_grammar.proofs.FirstSets.{first_of-below}
 use Rattle.mh_items.proofs.Linking.{LinksSoFar, LinksSoFar-push, LinksSoFar-skip}
-use Rattle.mh_grammar.proofs.Lists.{same_at}
+use Rattle.mh_grammar.proofs.Lists.{same_at, all_at}
 
 -- ---- FIRST as sets
 
@@ -104,6 +104,18 @@ NumbersSoFar-all g n row upto all h p = (
   h.sound p,
   λ for. (let at = listed_from_for g n p for in rw at.number (h.complete at.place at.production (omega (arith, slice_get_within g.productions at.place at.production at.at)) at.at at.lhs)),
 )
+
+-- a production that a loop has come to, whose left side has a row
+pub record HasRow (g : PlainGrammar) (rows i : ℕ) (p : Production) : Type 0 where
+  pub at : slice_get g.productions i ≡ Some p
+  pub within : p.lhs < rows
+
+pub has_row : (g : PlainGrammar) → IsInRange g → (ps : List Production) → ps ≡ g.productions → (rows i : ℕ) (p : Production) → rows ≡ g.nonterminals → i < length ps → p ≡ get_or ps i p → HasRow g rows i p
+has_row g range ps same rows i p len l is =
+    let short : i < length g.productions = rw same at l in
+    let item = rw same at is in
+    let below = (all_at (IsProductionBelow g.tokens g.nonterminals) g.productions i p range.productions short item).lhs in
+    record { at = slice_get_read g.productions (length g.productions) i p refl short item; within = omega arith }
 
 -- the row of a production's left side changes, and what is said of the others is said of one production more
 pub numbers_set : (g : PlainGrammar) (rows : List (List ℕ)) (i : ℕ) (p : Production) (row : List ℕ) → slice_get g.productions i ≡ Some p → p.lhs < length rows → row ≡ get_or rows p.lhs row

@@ -1,5 +1,5 @@
 -- How what a closure asks for grows.
-use Rattle.std.proofs.Common.{◌≡◌, ℕ, zero, suc, ◌+◌, ◌-◌, ◌*◌, ◌<◌, ◌≤◌, ◌⊎◌, ◌↔◌, Bool, true, false, List, [], ◌∷◌, ◌++◌, Some, length, get_or, set, vec_len, refl, sym, ap, ap₂, subst, ◌∙◌, arith, inl, inr}
+use Rattle.std.proofs.Common.{◌≡◌, ℕ, zero, suc, ◌+◌, ◌-◌, ◌*◌, ◌<◌, ◌≤◌, ◌⊎◌, ◌↔◌, Bool, true, false, List, [], ◌∷◌, ◌++◌, Some, length, get_or, set, vec_len, refl, sym, ap, subst, ◌∙◌, arith, inl, inr}
 use Rattle.std.specs.Prelude.{sum_by}
 use Rattle.std.specs.List.{slice_get, All, Contains}
 use Rattle.std.proofs.lemmas.Bool.{cases_eq}
@@ -12,7 +12,7 @@ use Rattle.mh_grammar.specs.declared.types.Look.{Look}
 use Rattle.mh_sets.specs.Sets.{IsSet}
 use Rattle.mh_items.specs.declared.asked.Asked.{Asked}
 use Rattle.mh_items.specs.declared.links.Link.{Link}
-use Rattle.mh_items.specs.Asked.{looks_at, IsAsked, IsWaiting, room, AreQueued, IsTable, Adds, IsAt, IsPassedOn, IsStep}
+use Rattle.mh_items.specs.Asked.{looks_at, IsAsked, IsWaiting, AreQueued, IsTable, Adds, IsAt, IsPassedOn, IsStep}
 use Rattle.mh_grammar.proofs.Lists.{get_left, get_last, contains_here}
 
 -- how many looks a set of a width may still get

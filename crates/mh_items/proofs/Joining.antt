@@ -1,6 +1,5 @@
 -- An item with the looks of two.
-use Rattle.std.proofs.Common.{◌≡◌, ◌<◌, length, get_or, arith, inl, inr}
-use Rattle.std.specs.List.{Contains}
+use Rattle.std.proofs.Common.{get_or, arith, inl, inr}
 use Rattle.std.proofs.lemmas.List.Elements.{Contains-get_or}
 use Rattle.mh_grammar.specs.declared.types.Look.TheVariants.{End}
 use Rattle.mh_grammar.specs.Plain.{PlainGrammar, IsLookBelow}

@@ -12,7 +12,7 @@ use Rattle.mh_grammar.proofs.Numbered.{rhs_of-start, rhs_of-ordinary}
 use Rattle.mh_grammar.specs.ItemSets as sets
 use Rattle.mh_grammar.specs.ItemSets.{AreSame, Moved}
 use Rattle.mh_items.specs.Shapes.{KernelItem}
-use Rattle.mh_items.specs.Shapes.{Kernel}
+use Rattle.mh_items.specs.Shapes.{Items, Kernel}
 use Rattle.mh_items.specs.Kernels.{Holds, IsKernel, IsKernelItem, IsItemBefore}
 use Rattle.mh_grammar.proofs.Lists.{same_at, contains_at, at_contains, recursion_at, rising_at}
 use Rattle.mh_items.proofs.Dotted.{drop_from-slice_get, slice_get_from-drop}
@@ -80,7 +80,7 @@ module _ (g : PlainGrammar) (X : Symbol) (items out : List KernelItem) (i : ℕ)
     ];
   }
 
-module _ (g : PlainGrammar) (X : Symbol) (closed : Kernel) (out : List KernelItem) (i : ℕ) (all : length closed.items ≤ i) (h : MovedSoFar g X closed.items out i) where
+module _ (g : PlainGrammar) (X : Symbol) (closed : Items) (out : List KernelItem) (i : ℕ) (all : length closed.items ≤ i) (h : MovedSoFar g X closed.items out i) where
   from_moved : (p d : ℕ) (a : Look) → Holds (of_items out) p d a → Moved g (Holds closed) X p d a
   from_moved p d a f =
       let o = h.origin f.0 f.1 in

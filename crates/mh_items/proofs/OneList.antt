@@ -1,5 +1,5 @@
 -- A kernel is the only one for its set of items.
-use Rattle.std.proofs.Common.{◌≡◌, ℕ, ◌<◌, List, [], ◌∷◌, length, refl, sym, ap, ◌∙◌, arith, inl, inr}
+use Rattle.std.proofs.Common.{◌≡◌, ℕ, List, [], ◌∷◌, refl, sym, ap, ◌∙◌, arith, inl, inr}
 use Rattle.std.specs.List.{AllByRecursion, Contains}
 use Rattle.std.proofs.lemmas.Bool.{cases_order}
 use Rattle.mh_grammar.specs.declared.types.Look.{Look}
@@ -10,7 +10,7 @@ use Rattle.mh_grammar.specs.ItemSets.{AreSame}
 use Rattle.mh_items.specs.Shapes.{KernelItem}
 use Rattle.mh_items.specs.Shapes.{Kernel}
 use Rattle.mh_items.specs.Kernels.{Holds, IsKernel, IsKernelItem, IsItemBefore}
-use Rattle.mh_grammar.proofs.Lists.{contains_here, contains_there, contains_cases, recursion_contains, rising_same}
+use Rattle.mh_grammar.proofs.Lists.{contains_here, contains_there, contains_cases, recursion_contains, rising_same, some_item}
 
 pub look_never : (a b : Look) → IsLookBefore a b → IsLookBefore b a → ⊥
 look_never (Token a) (Token b) h k = omega arith
@@ -35,37 +35,33 @@ item_along x y z (inl h) (inr k) = let e = k.0 in inl (omega arith)
 item_along x y z (inr h) (inl k) = let e = h.0 in inl (omega arith)
 item_along x y z (inr h) (inr k) = let e = h.1 in let f = k.1 in inr (h.0 ∙ k.0, omega arith)
 
-abbrev of_items : List KernelItem → Kernel
-of_items items = record { items = items }
+-- items of which neither comes before the other stand at one place
+pub heads : (x y : KernelItem) → (IsItemBefore x y → ⊥) → (IsItemBefore y x → ⊥) → (x.production ≡ y.production) × (x.dot ≡ y.dot)
+heads x y h k = elim (cases_order x.production y.production) [
+  | inl e ↦ elim (cases_order x.dot y.dot) [
+    | inl f ↦ (e, f)
+    | inr (inl l) ↦ absurd (h (inr (e, l)))
+    | inr (inr l) ↦ absurd (k (inr (sym e, l)))
+  ]
+  | inr (inl l) ↦ absurd (h (inl l))
+  | inr (inr l) ↦ absurd (k (inl l))
+]
 
--- some look of an item
-some_look : (looks : List Look) → 0 < length looks → (a : Look) × Contains looks a
-some_look [] l = absurd (omega arith)
-some_look (a ∷ looks) l = (a, contains_here a looks)
+abbrev pub of_items : List KernelItem → Kernel
+of_items items = record { items = items }
 
 module _ (g : PlainGrammar) where
   -- the place of a list's item is not before the place of the head of the other
   not_before : (x : KernelItem) (xs : List KernelItem) (y : KernelItem) (ys : List KernelItem) → IsKernelItem g x → AllByRecursion (IsItemBefore y) ys
       → ((p d : ℕ) (a : Look) → Holds (of_items (x ∷ xs)) p d a → Holds (of_items (y ∷ ys)) p d a) → IsItemBefore x y → ⊥
   not_before x xs y ys i b s h =
-      let a = some_look x.looks i.some in
+      let a = some_item x.looks i.some in
       let f = s x.production x.dot a.0 (x, contains_here x xs, refl, refl, a.1) in
       let z = f.0 in
       elim (contains_cases y ys z f.1) [
         | inl e ↦ (let p : y.production ≡ x.production = ap (λ (k : KernelItem). k.production) e ∙ f.2 in let q : y.dot ≡ x.dot = ap (λ (k : KernelItem). k.dot) e ∙ f.3 in place_never x y h (sym p) (sym q))
         | inr c ↦ place_never x z (item_along x y z h (recursion_contains (IsItemBefore y) ys b z c)) (sym f.2) (sym f.3)
       ]
-
-  heads : (x y : KernelItem) → (IsItemBefore x y → ⊥) → (IsItemBefore y x → ⊥) → (x.production ≡ y.production) × (x.dot ≡ y.dot)
-  heads x y h k = elim (cases_order x.production y.production) [
-    | inl e ↦ elim (cases_order x.dot y.dot) [
-      | inl f ↦ (e, f)
-      | inr (inl l) ↦ absurd (h (inr (e, l)))
-      | inr (inr l) ↦ absurd (k (inr (sym e, l)))
-    ]
-    | inr (inl l) ↦ absurd (h (inl l))
-    | inr (inr l) ↦ absurd (k (inl l))
-  ]
 
   -- what the head's place has in one list it has in the other's head
   head_looks : (x : KernelItem) (xs : List KernelItem) (y : KernelItem) (ys : List KernelItem) → x.production ≡ y.production → x.dot ≡ y.dot → AllByRecursion (IsItemBefore y) ys
@@ -91,8 +87,8 @@ module _ (g : PlainGrammar) where
   pub items_same : (xs ys : List KernelItem) → AllByRecursion (IsKernelItem g) xs → AllByRecursion (IsKernelItem g) ys → IsRising IsItemBefore xs → IsRising IsItemBefore ys
       → AreSame (Holds (of_items xs)) (Holds (of_items ys)) → xs ≡ ys
   items_same [] [] i j h k s = refl
-  items_same [] (y ∷ ys) i j h k s = absurd (let a = some_look y.looks j.0.some in let f = (s y.production y.dot a.0).1 (y, contains_here y ys, refl, refl, a.1) in omega (arith, f.1.1))
-  items_same (x ∷ xs) [] i j h k s = absurd (let a = some_look x.looks i.0.some in let f = (s x.production x.dot a.0).0 (x, contains_here x xs, refl, refl, a.1) in omega (arith, f.1.1))
+  items_same [] (y ∷ ys) i j h k s = absurd (let a = some_item y.looks j.0.some in let f = (s y.production y.dot a.0).1 (y, contains_here y ys, refl, refl, a.1) in omega (arith, f.1.1))
+  items_same (x ∷ xs) [] i j h k s = absurd (let a = some_item x.looks i.0.some in let f = (s x.production x.dot a.0).0 (x, contains_here x xs, refl, refl, a.1) in omega (arith, f.1.1))
   items_same (x ∷ xs) (y ∷ ys) i j h k s =
       let over = λ (p d : ℕ) (a : Look). (s p d a).0 in
       let back = λ (p d : ℕ) (a : Look). (s p d a).1 in

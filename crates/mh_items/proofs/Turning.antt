@@ -7,7 +7,7 @@ use Rattle.std.specs.declared.cmp.Ordering.{Ordering}
 use Rattle.std.specs.declared.cmp.Ordering.TheVariants.{Less, Equal, Greater}
 use Rattle.mh_items.specs.Shapes.{KernelItem}
 use Rattle.mh_items.specs.Kernels.{IsItemBefore}
-use Rattle.mh_items.specs.Merging.{IsTurn, order_of}
+use Rattle.mh_items.specs.Merging.{IsTurn, place_order}
 use Rattle.mh_grammar.proofs.Lists.{same_at}
 
 -- what the order of two items says
@@ -16,7 +16,7 @@ IsOrder x y Less = IsItemBefore x y
 IsOrder x y Greater = IsItemBefore y x
 IsOrder x y Equal = (x.production ≡ y.production) × (x.dot ≡ y.dot)
 
-pub order_says : (x y : KernelItem) → IsOrder x y (order_of x y)
+pub order_says : (x y : KernelItem) → IsOrder x y (place_order x y)
 order_says x y = go (ltb x.production y.production) (ltb y.production x.production) (ltb x.dot y.dot) (ltb y.dot x.dot) refl refl refl refl
   where
     go : (a b c d : Bool) → ltb x.production y.production ≡ a → ltb y.production x.production ≡ b → ltb x.dot y.dot ≡ c → ltb y.dot x.dot ≡ d

@@ -1,8 +1,7 @@
 -- What is reached from what a kernel's items ask for is what its closure asks for.
-use Rattle.std.proofs.Common.{◌≡◌, ℕ, suc, ◌+◌, ◌-◌, ◌*◌, ◌<◌, ◌≤◌, ◌⊎◌, ◌↔◌, Bool, true, false, List, [], ◌∷◌, Some, length, get_or, set, drop, vec_len, refl, sym, ap, subst, ◌∙◌, arith, inl, inr}
-use Rattle.std.specs.List.{slice_get, All, Contains}
+use Rattle.std.proofs.Common.{◌≡◌, ℕ, ◌+◌, ◌-◌, ◌*◌, ◌<◌, ◌≤◌, Bool, true, false, List, [], ◌∷◌, Some, length, get_or, set, drop, vec_len, refl, sym, ap, subst, ◌∙◌, arith, inl, inr}
+use Rattle.std.specs.List.{slice_get, Contains}
 use Rattle.std.specs.Prelude.{sum_by}
-use Rattle.mh_sets.specs.Sets.{IsSet}
 use Rattle.mh_items.proofs.Growing.{longer}
 use Rattle.std.proofs.lemmas.Bool.{cases_lt, cases_eq, false≢true}
 use Rattle.std.proofs.lemmas.List.{get_or-set_other, get_or_past}
@@ -21,10 +20,10 @@ use Rattle.mh_items.specs.declared.first_sets.Firsts.{Firsts}
 use Rattle.mh_items.specs.declared.asked.Asked.{Asked}
 use Rattle.mh_items.specs.Firsts.{AreFirsts, AreLinksOf, IsLinked, IsRest}
 use Rattle.mh_items.specs.Kernels.{Holds}
-use Rattle.mh_items.specs.Asked.{looks_at, IsAsked, IsWaiting, room, AreQueued, IsTable, AreAwake, Adds, IsPassedOn, IsStep}
+use Rattle.mh_items.specs.Asked.{looks_at, IsAsked, IsWaiting, room, AreQueued, IsTable, AreAwake, Adds, IsStep}
 use Rattle.mh_items.specs.Wanted as wanted
 use Rattle.mh_items.specs.Wanted.{Wants, IsSeed, AreSeeds, AreWanted}
-use Rattle.mh_grammar.proofs.Lists.{same_at, contains_at, at_contains}
+use Rattle.mh_grammar.proofs.Lists.{same_at, contains_at}
 
 module _ (g : PlainGrammar) (I : ItemSet) where
   -- what is wanted of a nonterminal is wanted of what its productions begin with

@@ -1,5 +1,5 @@
 -- What a closure asks for, and how it grows.
-use Rattle.std.specs.Prelude.{◌≡◌, ◌<◌, ◌≤◌, ◌+◌, ◌-◌, ◌*◌, ◌⊎◌, ℕ, true, false, List, [], Some, slice_get, slice_index_or, length, vec_len, sum_by}
+use Rattle.std.specs.Prelude.{◌≡◌, ◌≤◌, ◌+◌, ◌-◌, ◌*◌, ◌⊎◌, ℕ, true, false, List, [], Some, slice_get, slice_index_or, length, vec_len, sum_by}
 use Rattle.std.specs.List.{All, Contains}
 use Rattle.mh_grammar.specs.declared.types.Look.{Look}
 use Rattle.mh_sets.specs.Sets.{IsSet}

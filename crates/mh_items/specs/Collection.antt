@@ -5,7 +5,7 @@ use Rattle.mh_grammar.specs.declared.types.Look.{Look}
 use Rattle.mh_grammar.specs.declared.edges.Edge.{Edge}
 use Rattle.mh_grammar.specs.Plain.{PlainGrammar, rhs_of}
 use Rattle.mh_grammar.specs.ItemSets.{ItemSet, AreSame, Close, Moved}
-use Rattle.mh_items.specs.Shapes.{Kernel, Automaton}
+use Rattle.mh_items.specs.Shapes.{Items, Kernel, Automaton}
 use Rattle.mh_items.specs.Kernels.{Holds, HasPlace, IsKernel}
 use Rattle.mh_items.specs.Automaton.{start_kernel, leads_to}
 
@@ -34,7 +34,7 @@ pub record IsBehindDot (g : PlainGrammar) (k : Kernel) (X : Symbol) : Type 0 whe
   pub behind : slice_get (rhs_of g production) dot ≡ Some X
 
 -- the kernel of a move of a closure
-pub record IsMove (g : PlainGrammar) (closed : Kernel) (X : Symbol) (k : Kernel) : Type 0 where
+pub record IsMove (g : PlainGrammar) (closed : Items) (X : Symbol) (k : Kernel) : Type 0 where
   pub kernel : IsKernel g k
   pub same : AreSame (Holds k) (Moved g (Holds closed) X)
 

@@ -1,5 +1,5 @@
 -- Two rising lists of items as one.
-use Rattle.std.specs.Prelude.{◌≡◌, ◌<◌, ◌≤◌, ◌↔◌, ◌⊎◌, ℕ, Bool, true, false, List, Some, length, slice_get, slice_index_or, nat_lt, if◌then◌else◌}
+use Rattle.std.specs.Prelude.{◌≡◌, ◌<◌, ◌≤◌, ◌↔◌, ◌⊎◌, ℕ, List, Some, length, slice_get, nat_lt, if◌then◌else◌}
 use Rattle.std.specs.List.{Contains}
 use Rattle.std.specs.declared.cmp.Ordering.{Ordering}
 use Rattle.std.specs.declared.cmp.Ordering.TheVariants.{Less, Equal, Greater}
@@ -26,8 +26,8 @@ pub record IsMerged (g : PlainGrammar) (left : List KernelItem) (i : ℕ) (right
   pub has_right : (y : KernelItem) (k : ℕ) (b : Look) → k < j → slice_get right k ≡ Some y → Contains y.looks b → Holds (record { items = items }) y.production y.dot b
 
 -- by production, then by dot
-abbrev pub order_of : KernelItem → KernelItem → Ordering
-order_of x y = if nat_lt x.production y.production then Less else if nat_lt y.production x.production then Greater else if nat_lt x.dot y.dot then Less else if nat_lt y.dot x.dot then Greater else Equal
+abbrev pub place_order : KernelItem → KernelItem → Ordering
+place_order x y = if nat_lt x.production y.production then Less else if nat_lt y.production x.production then Greater else if nat_lt x.dot y.dot then Less else if nat_lt y.dot x.dot then Greater else Equal
 
 -- which list has the next item, or both
 abbrev pub IsTurn : List KernelItem → ℕ → List KernelItem → ℕ → Ordering → Type 0

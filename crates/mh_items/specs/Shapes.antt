@@ -2,14 +2,18 @@
 use Rattle.std.specs.Prelude.{List}
 use Rattle.mh_grammar.specs.declared.types.Look.{Look}
 use Rattle.mh_items.specs.declared.kernels.ItemWith.{ItemWith}
-use Rattle.mh_items.specs.declared.kernels.KernelWith.{KernelWith}
+use Rattle.mh_items.specs.declared.kernels.ItemsWith.{ItemsWith}
 use Rattle.mh_items.specs.declared.kernels.AutomatonWith.{AutomatonWith}
 
 abbrev pub KernelItem : Type 0
 KernelItem = ItemWith (List Look)
 
+-- items in order, as those of a closure
+abbrev pub Items : Type 0
+Items = ItemsWith (List Look)
+
 abbrev pub Kernel : Type 0
-Kernel = KernelWith (List Look)
+Kernel = Items
 
 abbrev pub Automaton : Type 0
 Automaton = AutomatonWith (List Look)

@@ -2,6 +2,7 @@
 ghost use Rattle.std.specs.Prelude.{◌≡◌, ◌<◌, ◌≤◌, ◌⊎◌, ◌↔◌, ℕ, true, List, length, vec_len, slice_get, Some, IfOk, OnOk};
 ghost use Rattle.std.specs.List.{All, Contains};
 ghost use Rattle.mh_grammar.specs.declared.types.Look.{Look as LookOf};
+ghost use Rattle.mh_grammar.specs.declared.range.TheConstants.{MAX_NUMBERED};
 ghost use Rattle.mh_items.specs.Asked.{IsTable, IsNothing, Adds, IsAt, IsStep, IsWaiting};
 
 use crate::links::Link;
@@ -21,7 +22,7 @@ impl<const W: usize> Asked<W> {
     /// Nothing is asked of so many nonterminals.
     pub(crate) fn new(alloc: Global, rows: usize) -> Result<Asked<W>, Memory>
         requires few { W ≤ 8 }
-        requires rows { rows ≤ 65535 }
+        requires rows { rows ≤ MAX_NUMBERED }
         ensures { IfOk result (IsNothing rows) }
     {
         Ok(Asked {

@@ -12,7 +12,7 @@ use crate::closures::closure_over;
 use crate::empties::empties;
 use crate::first_sets::Firsts;
 use crate::gathering::firsts;
-use crate::kernels::{Kernel, KernelItem};
+use crate::kernels::{Closure, Kernel, KernelItem};
 use crate::places::symbol_at;
 use mh_grammar::{Grammar, Memory, Symbol};
 use std::alloc::Global;
@@ -46,7 +46,7 @@ impl<const W: usize> Closer<W> {
         alloc: Global,
         grammar: &Grammar,
         kernel: &Kernel<W>,
-    ) -> Result<Kernel<W>, Memory>
+    ) -> Result<Closure<W>, Memory>
         requires few { W ≤ 8 }
         requires width { length grammar.now.tokens ≤ 64 * W }
         requires range { IsInRange (plain_of grammar.now) }

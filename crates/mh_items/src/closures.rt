@@ -12,7 +12,7 @@ ghost use Rattle.mh_items.specs.Wanted.{Follows, IsItemSeed, IsSeedOf};
 use crate::added::added_items;
 use crate::asked::{Asked, passed_on};
 use crate::first_sets::{Firsts, Sets};
-use crate::kernels::{Kernel, KernelItem};
+use crate::kernels::{Closure, Kernel, KernelItem};
 use crate::links::rest_of;
 use crate::merging::merged;
 use crate::places::{behind, symbol_at};
@@ -27,7 +27,7 @@ pub fn closure<const W: usize>(
     grammar: &Grammar,
     firsts: &Firsts<W>,
     kernel: &Kernel<W>,
-) -> Result<Kernel<W>, Memory>
+) -> Result<Closure<W>, Memory>
     requires few { W ≤ 8 }
     requires width { length grammar.now.tokens ≤ 64 * W }
     requires range { IsInRange (plain_of grammar.now) }
@@ -47,7 +47,7 @@ pub(crate) fn closure_over<const W: usize>(
     firsts: &Firsts<W>,
     kernel: &Kernel<W>,
     asked: &mut Asked<W>,
-) -> Result<Kernel<W>, Memory>
+) -> Result<Closure<W>, Memory>
     requires few { W ≤ 8 }
     requires width { length grammar.now.tokens ≤ 64 * W }
     requires range { IsInRange (plain_of grammar.now) }
@@ -63,7 +63,7 @@ pub(crate) fn closure_over<const W: usize>(
     let added = added_items(alloc, grammar, firsts, asked)?;
     asked.forget();
     let items = merged(alloc, grammar, kernel.items.as_slice(), added.as_slice())?;
-    Ok(Kernel {
+    Ok(Closure {
         items: Sequence::from_vec(items),
     })
 }

@@ -1,5 +1,5 @@
 //! The nonterminals that may bring empty productions into a closure.
-ghost use Rattle.std.specs.Prelude.{◌≡◌, ◌<◌, ℕ, true, false, not, length, count_by, slice_index_or, vec_len, IfOk};
+ghost use Rattle.std.specs.Prelude.{◌≡◌, ◌^◌, ◌<◌, ℕ, true, false, not, length, count_by, slice_index_or, vec_len, IfOk};
 ghost use Rattle.std.specs.List.{All};
 ghost use Rattle.mh_grammar.specs.Grid.{Grows};
 ghost use Rattle.mh_grammar.specs.Plain.{plain_of, IsInRange, IsProductionBelow, IsSymbolBelow};
@@ -26,7 +26,7 @@ pub(crate) fn empties(alloc: Global, grammar: &Grammar) -> Result<Vec<bool>, Mem
 /// Adds the marks that one pass over the productions backward and one forward find, and says whether there were any:
 /// either pass alone would take a round for each rule of a file that is written in the other order.
 fn mark_once(productions: &[Production], marks: &mut [bool]) -> bool
-    requires { All (IsProductionBelow 65536 (length marks.old)) productions.now }
+    requires { All (IsProductionBelow (2 ^ 16) (length marks.old)) productions.now }
     ensures grows { Grows marks.old marks.new result }
     ensures closed { result ≡ false → AreEmpties productions.now marks.new }
 {
@@ -42,7 +42,7 @@ fn mark_once(productions: &[Production], marks: &mut [bool]) -> bool
 
 /// Marks the left side of a production that may bring an empty one, and says whether the mark was new.
 fn mark_left_side(production: &Production, marks: &mut [bool]) -> bool
-    requires { IsProductionBelow 65536 (length marks.old) production.now }
+    requires { IsProductionBelow (2 ^ 16) (length marks.old) production.now }
     ensures grows { Grows marks.old marks.new result }
     ensures closed { result ≡ false → begins_empty marks.new production.now.rhs ≡ true → slice_index_or marks.new production.now.lhs false ≡ true }
 {
@@ -59,7 +59,7 @@ fn mark_left_side(production: &Production, marks: &mut [bool]) -> bool
 
 /// Whether a right side is empty, or begins with a marked nonterminal.
 fn may_begin_empty(marks: &[bool], symbols: &[Symbol]) -> bool
-    requires { All (IsSymbolBelow 65536 (length marks.now)) symbols.now }
+    requires { All (IsSymbolBelow (2 ^ 16) (length marks.now)) symbols.now }
     ensures { result ≡ begins_empty marks.now symbols.now }
 {
     match symbols.first() {

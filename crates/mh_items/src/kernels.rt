@@ -1,4 +1,4 @@
-//! Kernels and automata.
+//! Lists of items, which kernels and closures are, and automata.
 use mh_grammar::{Edge, Memory, Sequence};
 use mh_sets::TokenSet;
 use std::alloc::{AllocError, AllocFailed};
@@ -13,16 +13,16 @@ pub struct ItemWith<L> {
     pub looks: L,
 }
 
-/// Items, rising by production and dot.
+/// Items, rising by production and dot: those of a kernel or of a closure.
 #[derive(Debug, Drop, PartialEq, Eq, Hash)]
-pub struct KernelWith<L> {
+pub struct ItemsWith<L> {
     pub items: Sequence<ItemWith<L>>,
 }
 
 /// States by their kernels, with the edges of each in the order of symbols.
 #[derive(Debug, Drop)]
 pub struct AutomatonWith<L> {
-    pub kernels: Sequence<KernelWith<L>>,
+    pub kernels: Sequence<ItemsWith<L>>,
     pub edges: Sequence<Sequence<Edge>>,
 }
 
@@ -30,7 +30,10 @@ pub struct AutomatonWith<L> {
 pub type KernelItem<const W: usize> = ItemWith<TokenSet<W>>;
 
 /// A kernel whose looks are sets of a width.
-pub type Kernel<const W: usize> = KernelWith<TokenSet<W>>;
+pub type Kernel<const W: usize> = ItemsWith<TokenSet<W>>;
+
+/// A closure whose looks are sets of a width.
+pub type Closure<const W: usize> = ItemsWith<TokenSet<W>>;
 
 /// An automaton whose looks are sets of a width.
 pub type Automaton<const W: usize> = AutomatonWith<TokenSet<W>>;

@@ -21,7 +21,7 @@ pub use closer::Closer;
 pub use closures::closure;
 pub use gathering::firsts;
 pub use kernels::{
-    Automaton, AutomatonWith, ItemWith, Kernel, KernelItem, KernelWith, StatesFault,
+    Automaton, AutomatonWith, Closure, ItemWith, ItemsWith, Kernel, KernelItem, StatesFault,
 };
 pub use laws::{are_equal, one_list};
 pub use moves::moved;

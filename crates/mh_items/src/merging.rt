@@ -2,7 +2,7 @@
 ghost use Rattle.std.specs.Prelude.{◌≡◌, ◌<◌, ◌≤◌, ◌+◌, ◌⊎◌, length, IfOk};
 ghost use Rattle.mh_grammar.specs.Plain.{plain_of, IsInRange};
 ghost use Rattle.mh_items.specs.Kernels.{IsKernel};
-ghost use Rattle.mh_items.specs.Merging.{IsUnion, IsMerged, IsJoined, IsTurn, order_of};
+ghost use Rattle.mh_items.specs.Merging.{IsUnion, IsMerged, IsJoined, IsTurn, place_order};
 
 use crate::kernels::KernelItem;
 use mh_grammar::{Grammar, Memory};
@@ -88,7 +88,7 @@ fn turn<const W: usize>(
 }
 
 fn order<const W: usize>(x: &KernelItem<W>, y: &KernelItem<W>) -> Ordering
-    ensures { result ≡ order_of x.now y.now }
+    ensures { result ≡ place_order x.now y.now }
 {
     if x.production < y.production {
         return Ordering::Less;

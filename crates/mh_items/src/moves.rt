@@ -4,7 +4,7 @@ ghost use Rattle.mh_grammar.specs.Plain.{plain_of, rhs_of, production_count, IsI
 ghost use Rattle.mh_grammar.specs.ItemSets.{AreSame, Moved};
 ghost use Rattle.mh_items.specs.Kernels.{Holds, IsKernel};
 
-use crate::kernels::{Kernel, KernelItem};
+use crate::kernels::{Closure, Kernel, KernelItem};
 use crate::places::symbol_at;
 use mh_grammar::{Grammar, Memory, Sequence, Symbol};
 use std::alloc::Global;
@@ -13,7 +13,7 @@ use std::alloc::Global;
 pub fn moved<const W: usize>(
     alloc: Global,
     grammar: &Grammar,
-    closed: &Kernel<W>,
+    closed: &Closure<W>,
     symbol: Symbol,
 ) -> Result<Kernel<W>, Memory>
     requires few { W ≤ 8 }

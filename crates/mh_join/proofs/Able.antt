@@ -1,7 +1,7 @@
 -- Where no fault is found nothing is in the way of joining.
 use Rattle.std.proofs.Common.{◌≡◌, ℕ, ◌+◌, ◌<◌, ◌≤◌, Bool, true, false, List, [], ◌∷◌, ◌++◌, Option, Some, length, refl, sym, ap, subst, ◌∙◌, ◌⊎◌, inl, inr}
 use Rattle.std.specs.Prelude.{◌||◌, not, is_some, if◌then◌else◌}
-use Rattle.std.specs.List.{flat_map, enumerate_from, list_any}
+use Rattle.std.specs.List.{All, flat_map, enumerate_from, list_any}
 use Rattle.std.proofs.lemmas.Bool.{cases_lt, lt-ltb}
 use Rattle.std.proofs.lemmas.List.Concat.{flat_map-append}
 use Rattle.indexmap.specs.IndexSet.{insert_all, insert_key}
@@ -13,6 +13,8 @@ use Rattle.mh_rules.specs.declared.modules.Rule.{Rule}
 use Rattle.mh_rules.specs.declared.modules.Module.{Module}
 use Rattle.mh_rules.specs.declared.joined.Head.{Head}
 use Rattle.mh_rules.specs.declared.joined.Joined.{Joined}
+use Rattle.mh_rules.specs.Depth.{AreProducersShallow}
+use Rattle.mh_rules.specs.Ready.{AreModulesReady}
 use Rattle.mh_meanings.specs.declared.fault.JoinFault.{JoinFault}
 use Rattle.mh_meanings.specs.declared.fault.JoinFault.TheVariants as faults
 use Rattle.mh_meanings.specs.declared.names.Names.{Names}
@@ -25,6 +27,7 @@ use Rattle.mh_meanings.specs.Maps.{meanings_in, elsewhere_in, HasMeanings}
 use Rattle.mh_building.specs.Standing.{unresolved, unresolved_in_rule, unresolved_in_rules, unresolved_in_file, unresolved_on_error, CanJoin, definitions_by}
 use Rattle.mh_meanings.proofs.Resolving.{front_nil, back_nil}
 use Rattle.mh_join.proofs.Library.{number_known, prelude_stands}
+use Rattle.mh_join.proofs.Shallow.{prelude_shallow}
 
 -- where one thing finds nothing at each item, another does not
 pub nil_by : {A B C : Type 0} (f : A → List B) (g : A → List C) → ((x : A) → f x ≡ [] → g x ≡ []) → (xs : List A) → flat_map f xs ≡ [] → flat_map g xs ≡ []
@@ -99,8 +102,8 @@ flat_starts : (f : Text → List JoinFault) (ms : List Module) → flat_map (λ 
 flat_starts f [] = refl
 flat_starts f (m ∷ ms) = ap (λ k. flat_map f m.starts ++ k) (flat_starts f ms) ∙ sym (flat_map-append f m.starts (flat_map (λ m. m.starts) ms))
 
-pub can_join : (p : Bool) (ms : List Module) (n : Names) (library : List Rule) → HasMeanings p ms n → library ≡ prelude_rules p → faults_by (meanings_in n) ms ≡ [] → CanJoin n ms library
-can_join p ms n library named is none = record {
+pub can_join : (p : Bool) (ms : List Module) (n : Names) (library : List Rule) → HasMeanings p ms n → AreModulesReady ms → library ≡ prelude_rules p → faults_by (meanings_in n) ms ≡ [] → CanJoin n ms library
+can_join p ms n library named ready is none = record {
   few = few_tokens (length (meanings_in n).tokens) (back_nil (flat_map (unlevelled_in_file (meanings_in n)) ms) (many_tokens (length (meanings_in n).tokens)) (back_nil (flat_map errors_in_file ms) (flat_map (unlevelled_in_file (meanings_in n)) ms ++ many_tokens (length (meanings_in n).tokens)) later));
   starts = subst (λ ks. flat_map (undefined_start (meanings_in n)) ks ≡ []) (sym (ap (λ (v : Meanings). v.starts) named.meanings_are))
       (kept_nil (undefined_start (meanings_in n)) [] (flat_map (λ m. m.starts) ms) refl (sym (flat_starts (undefined_start (meanings_in n)) ms) ∙ sym (numbered (λ (m : Module). flat_map (undefined_start (meanings_in n)) m.starts) 1 ms) ∙ nil_by (undefined_in_file (meanings_in n)) (λ (f : ℕ × Module). flat_map (undefined_start (meanings_in n)) f.1.starts) (starts_stand (meanings_in n)) (files ms) undefined_none));
@@ -108,6 +111,8 @@ can_join p ms n library named is none = record {
   rules = nil_by_two (undefined_in_file (meanings_in n)) (λ (f : ℕ × Module). errors_in_file f.1) (unresolved_in_file (meanings_in n)) (file_stands (meanings_in n)) (files ms) undefined_none
       (numbered errors_in_file 1 ms ∙ front_nil (flat_map errors_in_file ms) (flat_map (unlevelled_in_file (meanings_in n)) ms ++ many_tokens (length (meanings_in n).tokens)) later);
   prelude = ap (unresolved_in_rules (meanings_in n) 0) is ∙ prelude_stands p (meanings_in n) (λ x h. ap (λ (v : Meanings). is_some (v.numbers.rule (Some 0) x)) named.meanings_are ∙ number_known p ms x h);
+  files_ready = ready;
+  prelude_shallow = subst (All AreProducersShallow) (sym is) (prelude_shallow p);
 }
   where
     undefined_none : flat_map (undefined_in_file (meanings_in n)) (files ms) ≡ []

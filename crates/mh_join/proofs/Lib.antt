@@ -1,4 +1,5 @@
 pub mod Library
+pub mod Shallow
 pub mod Able
 pub mod Costing
 pub mod Readying

@@ -12,6 +12,7 @@ use Rattle.std.proofs.lemmas.List.Quantifiers.{position-Some}
 use Rattle.std.proofs.lemmas.Option.{slice_get_within, slice_get-get_or, slice_get-map}
 use Rattle.indexmap.specs.IndexSet.{insert_all, insert_key}
 use Rattle.mh_rules.specs.declared.joined.TheConstants.{MAX_TOKENS}
+use Rattle.mh_rules.specs.declared.modules.TheConstants.{MAX_DEPTH}
 use Rattle.mh_rules.specs.declared.modules.Ref.{Ref}
 use Rattle.mh_rules.specs.declared.modules.Ref.TheVariants.{Plain, Alias}
 use Rattle.mh_rules.specs.declared.modules.Actual.{Actual}
@@ -23,7 +24,7 @@ use Rattle.mh_rules.specs.declared.modules.Module.{Module}
 use Rattle.mh_rules.specs.declared.joined.Head.{Head}
 use Rattle.mh_rules.specs.declared.joined.Head.TheVariants as heads
 use Rattle.mh_rules.specs.declared.joined.Applied.{Applied}
-use Rattle.mh_rules.specs.declared.joined.Applied.TheFolds.{every-Applied, every_made-Applied}
+use Rattle.mh_rules.specs.declared.joined.Applied.TheFolds.{every-Applied, every_made-Applied, fold-roll-Applied}
 use Rattle.mh_rules.specs.declared.joined.JoinedAlternative.{JoinedAlternative}
 use Rattle.mh_rules.specs.declared.joined.JoinedRule.{JoinedRule}
 use Rattle.mh_rules.specs.declared.joined.Joined.{Joined}
@@ -34,6 +35,7 @@ use Rattle.mh_meanings.specs.Prelude.{prelude_rules}
 use Rattle.mh_meanings.specs.Names.{Text, same, files, firsts, token_names, start_names, is_elsewhere, is_public, owner_in, Definition, definitions, definitions_from, definitions_in, library_definitions, outline_of, same_owner, is_rule, same_rule, rules, rule_number, formal_number, visible_head, user_head, rule_head, token_head}
 use Rattle.mh_meanings.specs.Faults.{Meanings, meanings, meant_by, unless, agrees, same_flag, same_shape, repeats, own_name, own_names, own_in_file, formals_in_file, shapes_in_file, other_shape, name_duplicates, rule_duplicates, duplicates, levels_in_file, has_some, errors_in_file, unlevelled_in_file, many_tokens, other_faults, undefined_in_file, join_faults, first}
 use Rattle.mh_meanings.specs.Joining.{all_of, applied_to, apply_step, resolved, all_resolved, prec_by, alternative_with, alternative_by, alternatives_by, is_number, alternatives_for, rule_without, without_alternatives, token_info, on_error_in, IsJoined, Joins}
+use Rattle.mh_rules.specs.Depth.{greatest, actual_depth, actual_depth_step, applied_depth, applied_depth_step, IsActualShallow, IsAppliedShallow, AreProducersShallow}
 use Rattle.mh_rules.specs.Ready.{IsModuleReady, AreModulesReady, IsHeadBelow, IsAppliedBelow, IsRuleReady, IsReady}
 use Rattle.mh_meanings.proofs.Lists.{same_is, same_self, position-push}
 use Rattle.mh_naming.proofs.Numbers.{is_some-position, none_from}
@@ -42,6 +44,7 @@ use Rattle.mh_join.proofs.Costing.{tokens_costed}
 use Rattle.mh_meanings.proofs.Resolving.{front_nil, back_nil, is_known}
 use Rattle.mh_join.proofs.Library.{and_left, and_right, owner_is}
 use Rattle.mh_join.proofs.Able.{few_tokens}
+use Rattle.mh_join.proofs.Shallow.{prelude_shallow}
 
 some_is : {A : Type 0} {x y : A} → Some x ≡ Some y → x ≡ y
 some_is e = cc
@@ -243,6 +246,40 @@ module _ (P : Head → Type 0) (meant : Ref → Option Head) (good : (r : Ref) (
           let here : resolved meant b ≡ Some l = cc in
           let rest : map (resolved meant) bs ≡ map Some ls = cc in
           (resolved_good b l here, go bs ls rest)
+
+-- an actual is as deep as what it stands for
+module _ (meant : Ref → Option Head) where
+  abbrev KeepsDepth : Actual → Type 0
+  KeepsDepth a = (k : Applied) → resolved meant a ≡ Some k → applied_depth k ≡ actual_depth a
+
+  args_keep : (ys : List ((a : Actual) × KeepsDepth a)) (ks : List Applied) → map (resolved meant) (map (λ e. e.0) ys) ≡ map Some ks → map applied_depth ks ≡ map actual_depth (map (λ e. e.0) ys)
+  args_keep [] [] e = refl
+  args_keep [] (k ∷ ks) e = let bad : [] ≡ Some k ∷ map Some ks = e in cc
+  args_keep (y ∷ ys) [] e = let bad : resolved meant y.0 ∷ map (resolved meant) (map (λ v. v.0) ys) ≡ [] = e in cc
+  args_keep (y ∷ ys) (k ∷ ks) e =
+      let here : resolved meant y.0 ≡ Some k = cc in
+      let rest : map (resolved meant) (map (λ v. v.0) ys) ≡ map Some ks = cc in
+      ap (λ n. n ∷ map applied_depth ks) (y.1 k here) ∙ ap (λ ns. actual_depth y.0 ∷ ns) (args_keep ys ks rest)
+
+  depth_kept : (a : Actual) → KeepsDepth a
+  depth_kept = ind-Actual KeepsDepth (λ x y is k e.
+      let parts = applied_parts (meant x.head) (all_of (map (resolved meant) x.args)) k (sym (fold-roll-Actual (Option Applied) (apply_step meant) x) ∙ e) in
+      let same = ap (λ (v : Actual-F Actual). v.args) is in
+      let args = args_keep y.args parts.1 (ap (map (resolved meant)) same ∙ all_of_parts (map (resolved meant) x.args) parts.1 parts.3) in
+      ap applied_depth (sym parts.4) ∙ fold-roll-Applied ℕ applied_depth_step (record { head = parts.0; args = parts.1 })
+      ∙ ap (λ ns. suc (greatest ns)) (args ∙ ap (map actual_depth) same) ∙ sym (fold-roll-Actual ℕ actual_depth_step x))
+
+  all_kept : (actuals : List Actual) (ks : List Applied) → all_resolved meant actuals ≡ Some ks → All IsActualShallow actuals → All IsAppliedShallow ks
+  all_kept actuals ks e shallow = All-from_recursion IsAppliedShallow ks (go actuals ks (all_of_parts (map (resolved meant) actuals) ks e) (recursion_from_All IsActualShallow actuals shallow))
+    where
+      go : (bs : List Actual) (ls : List Applied) → map (resolved meant) bs ≡ map Some ls → AllByRecursion IsActualShallow bs → AllByRecursion IsAppliedShallow ls
+      go [] [] f h = tt
+      go [] (l ∷ ls) f h = let bad : [] ≡ Some l ∷ map Some ls = f in cc
+      go (b ∷ bs) [] f h = let bad : resolved meant b ∷ map (resolved meant) bs ≡ [] = f in cc
+      go (b ∷ bs) (l ∷ ls) f h =
+          let here : resolved meant b ≡ Some l = cc in
+          let rest : map (resolved meant) bs ≡ map Some ls = cc in
+          (subst (λ n. n ≤ MAX_DEPTH) (sym (depth_kept b l here)) h.0, go bs ls rest h.1)
 
 -- HEADS
 
@@ -512,6 +549,16 @@ module _ (p : Bool) (ms : List Module) (filled : AreModulesReady ms) where
           a.rule_in
       go (in_prelude a) = ltb-true 0 (length d.rule.alternatives) (tested_in (λ (r : Rule). nat_lt 0 (length r.alternatives)) (prelude_rules p) d.rule (prelude_filled p) a.rule_in)
 
+  definition_shallow : (d : Definition) → In (definitions p ms) d → AreProducersShallow d.rule
+  definition_shallow d h = go (placed p ms d h)
+    where
+      go : IsPlaced p ms d → AreProducersShallow d.rule
+      go (in_file f at_f a) =
+          at_in AreProducersShallow f.1.rules d.rule
+          (recursion_from_All AreProducersShallow f.1.rules (at_in IsModuleReady ms f.1 (recursion_from_All IsModuleReady ms filled) (number_from 1 ms f at_f).1).shallow)
+          a.rule_in
+      go (in_prelude a) = at_in AreProducersShallow (prelude_rules p) d.rule (recursion_from_All AreProducersShallow (prelude_rules p) (prelude_shallow p)) a.rule_in
+
 -- RULES
 
 module _ (p : Bool) (ms : List Module) (j : Joined) (none : join_faults p ms ≡ []) (joined : IsJoined p ms j) where
@@ -570,6 +617,29 @@ module _ (p : Bool) (ms : List Module) (j : Joined) (none : join_faults p ms ≡
       let one = in_map (alternative_by (meanings p ms) d.file (meant_by (meanings p ms) d.file (formal_number d.rule.formals))) (enumerate_from d.place d.rule.alternatives) (Some a) there.1 in
       subst (λ n. All (IsAppliedBelow n (length j.tokens) (length j.rules)) a.producers) (sym (formals_are p ms none d i outline.0 from.1 there.0 outline.1) ∙ outline.2) (producers_below d one.0 a one.2)
 
+  -- an alternative of a rule is that of one of the spelled rules, which are not too deep
+  producers_shallow : (d : Definition) (e : ℕ × Alternative) (a : JoinedAlternative) → alternative_by (meanings p ms) d.file (meant_by (meanings p ms) d.file (formal_number d.rule.formals)) e ≡ Some a
+      → All IsActualShallow e.1.producers → All IsAppliedShallow a.producers
+  producers_shallow d e a is shallow = go (all_resolved (meant_by (meanings p ms) d.file (formal_number d.rule.formals)) e.1.producers) refl is
+    where
+      go : (o : Option (List Applied)) → all_resolved (meant_by (meanings p ms) d.file (formal_number d.rule.formals)) e.1.producers ≡ o
+          → option_map (alternative_with d.file e.0 (prec_by (meanings p ms).aliased (meanings p ms).level e.1.prec)) o ≡ Some a → All IsAppliedShallow a.producers
+      go None f g = let bad : None ≡ Some a = g in cc
+      go (Some ks) f g =
+          subst (λ (v : JoinedAlternative). All IsAppliedShallow v.producers) (some_is g)
+          (all_kept (meant_by (meanings p ms) d.file (formal_number d.rule.formals)) e.1.producers ks f shallow)
+
+  alternative_shallow : AreModulesReady ms → (i : ℕ) (r : JoinedRule) → slice_get j.rules i ≡ Some r → (a : JoinedAlternative) → In r.alternatives a → All IsAppliedShallow a.producers
+  alternative_shallow filled i r at a h =
+      let from = in_flat (alternatives_for (meanings p ms) i) (definitions p ms) (Some a) (subst (λ k. In k (Some a)) (joined.rules_are.alternatives_are i r at) (map_in Some r.alternatives a h)) in
+      let d = from.0 in
+      let there = from_definition i d (is_number i (rule_number p ms d.owner d.rule.name)) a refl from.2 in
+      let one = in_map (alternative_by (meanings p ms) d.file (meant_by (meanings p ms) d.file (formal_number d.rule.formals))) (enumerate_from d.place d.rule.alternatives) (Some a) there.1 in
+      let spelled =
+      at_in (λ (b : Alternative). All IsActualShallow b.producers) d.rule.alternatives one.0.1 (recursion_from_All (λ (b : Alternative). All IsActualShallow b.producers) d.rule.alternatives (definition_shallow p ms filled d from.1))
+      (number_from d.place d.rule.alternatives one.0 one.1).1 in
+      producers_shallow d one.0 a one.2 spelled
+
   -- a rule has the alternatives of its first definition
   rule_filled : AreModulesReady ms → (i : ℕ) (r : JoinedRule) → slice_get j.rules i ≡ Some r → 0 < length r.alternatives
   rule_filled filled i r at =
@@ -599,6 +669,7 @@ module _ (p : Bool) (ms : List Module) (j : Joined) (none : join_faults p ms ≡
   rule_ready filled i r at = record {
     has_some = rule_filled filled i r at;
     heads_below = all_in (λ (a : JoinedAlternative). All (IsAppliedBelow r.formals (length j.tokens) (length j.rules)) a.producers) r.alternatives (alternative_below i r at);
+    shallow = all_in (λ (a : JoinedAlternative). All IsAppliedShallow a.producers) r.alternatives (alternative_shallow filled i r at);
   }
 
   -- STARTS
@@ -638,6 +709,14 @@ module _ (p : Bool) (ms : List Module) (j : Joined) (none : join_faults p ms ≡
       let one = in_map (all_resolved (meant_by (meanings p ms) f.0.0 (formal_number []))) f.0.1.on_error (Some ks) f.2 in
       below f.0.0 [] one.0 ks one.2
 
+  actuals_shallow : AreModulesReady ms → (ks : List Applied) → In j.on_error ks → All IsAppliedShallow ks
+  actuals_shallow filled ks h =
+      let f = in_flat (on_error_in (meanings p ms)) (files ms) (Some ks) (subst (λ k. In k (Some ks)) joined.on_error_is (map_in Some j.on_error ks h)) in
+      let one = in_map (all_resolved (meant_by (meanings p ms) f.0.0 (formal_number []))) f.0.1.on_error (Some ks) f.2 in
+      let module_ready = at_in IsModuleReady ms f.0.1 (recursion_from_All IsModuleReady ms filled) (number_from 1 ms f.0 f.1).1 in
+      let spelled = at_in (All IsActualShallow) f.0.1.on_error one.0 (recursion_from_All (All IsActualShallow) f.0.1.on_error module_ready.on_error_shallow) one.1 in
+      all_kept (meant_by (meanings p ms) f.0.0 (formal_number [])) one.0 ks one.2 spelled
+
 -- files whose rules have alternatives are in range once they are joined
 pub ready : (p : Bool) (ms : List Module) (j : Joined) → AreModulesReady ms → Joins p ms (Ok j) → IsReady j
 ready p ms j filled (none, joined) = record {
@@ -646,6 +725,7 @@ ready p ms j filled (none, joined) = record {
   starts_below = All-from_recursion (λ s. s < length j.rules) j.starts (all_at (λ s. s < length j.rules) j.starts (start_below p ms j none joined));
   starts_distinct = starts_distinct p ms j none joined;
   on_error_below = all_in (λ actuals. All (IsAppliedBelow 0 (length j.tokens) (length j.rules)) actuals) j.on_error (actuals_below p ms j none joined);
+  on_error_shallow = all_in (All IsAppliedShallow) j.on_error (actuals_shallow p ms j none joined filled);
   rules_ready = All-from_recursion (IsRuleReady (length j.tokens) (length j.rules)) j.rules (all_at (IsRuleReady (length j.tokens) (length j.rules)) j.rules (rule_ready p ms j none joined filled));
 }
 

@@ -1,4 +1,5 @@
 //! The first fault in several files.
+ghost use Rattle.mh_rules.specs.Ready.{AreModulesReady};
 ghost use Rattle.mh_meanings.specs.Faults.{Finds, faults_by};
 ghost use Rattle.mh_meanings.specs.Maps.{meanings_in};
 
@@ -10,6 +11,7 @@ use std::alloc::Global;
 
 /// Answers the first fault in the files, if there is one.
 pub fn check(alloc: Global, names: &Names, modules: &[Module]) -> Result<(), JoinFault>
+    requires { AreModulesReady modules.now }
     ensures { Finds (faults_by (meanings_in names.now) modules.now) result }
 {
     if let Err(fault) = check_undefined(alloc, names, modules) {

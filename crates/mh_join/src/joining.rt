@@ -22,6 +22,7 @@ fn join_named(
     library: &[Rule],
 ) -> Result<Joined, JoinFault>
     requires named { HasMeanings prelude modules.now names.now }
+    requires ready { AreModulesReady modules.now }
     requires library { library.now ≡ spec.prelude_rules prelude }
     ensures { Joins prelude modules.now result }
 {
@@ -41,7 +42,8 @@ fn join_with(
     prelude: bool,
     library: &[Rule],
 ) -> Result<Joined, JoinFault>
-    requires { library.now ≡ spec.prelude_rules prelude }
+    requires ready { AreModulesReady modules.now }
+    requires library { library.now ≡ spec.prelude_rules prelude }
     ensures { Joins prelude modules.now result }
 {
     match names_of(alloc, modules, prelude, library) {
@@ -60,10 +62,11 @@ fn join_with(
 /// there is no prelude. Answers the first fault
 /// where there is one: all names and strings stand for something; nothing has two meanings; some start symbol is named;
 /// no rule speaks of `error`; each `%prec` is of a token or has a level; there are at most 512 tokens. Answers `Memory`
-/// only where memory runs out. (The Menhir manual on grammars split into files; this project's profile.)
+/// only where memory runs out. The recursion over actuals is as deep as they are, at most `MAX_DEPTH`. (The Menhir manual on grammars split into files; this project's profile.)
 pub fn join(alloc: Global, modules: &[Module], prelude: bool) -> Result<Joined, JoinFault>
+    requires { AreModulesReady modules.now }
     ensures joins { Joins prelude modules.now result }
-    ensures ready { AreModulesReady modules.now → IfOk result IsReady }
+    ensures ready { IfOk result IsReady }
 {
     match prelude_rules(alloc, prelude) {
         Ok(library) => join_with(alloc, modules, prelude, library.as_slice()),

@@ -1,13 +1,10 @@
 -- The best-first search keeps what it needs, and settles each key at its least word.
-use Rattle.std.proofs.Common.{◌≡◌, ℕ, zero, suc, ◌+◌, ◌-◌, ◌<◌, ◌≤◌, ◌⊎◌, inl, inr, List, [], ◌∷◌, ◌++◌, length, Some, None, Option, refl, ap, sym, subst, arith, ◌∙◌}
-use Rattle.mh_grammar.specs.declared.types.Symbol.TheVariants.{T, N}
-use Rattle.mh_tables.specs.Table.{TableData, edge_of}
+use Rattle.std.proofs.Common.{◌≡◌, ℕ, suc, ◌+◌, ◌⊎◌, inl, inr, List, [], ◌∷◌, ◌++◌, length, Some, Option}
+use Rattle.mh_tables.specs.Table.{TableData}
 use Rattle.mh_tables.specs.Facts.{Facts}
-use Rattle.mh_grammar.specs.Plain.{production_count, rhs_of, lhs_of}
-use Rattle.mh_least.specs.Search.{Derives, front_of}
+use Rattle.mh_grammar.specs.Plain.{rhs_of, lhs_of}
 use Rattle.mh_facts.specs.declared.store.FactKey.{FactKey}
-use Rattle.mh_least.specs.Least.{IsEnd, Laws, key, Holds, Waits, ClosedBy, Closes, Congruent, SoundAt, Pending, Frontier, Complete, Turn, Label, longer, LabelLaws, HoldsAt, ClosedAt, ClosesAt}
-use Rattle.mh_least.proofs.Bound.{bound, HoldsOr}
+use Rattle.mh_least.specs.Least.{Laws, key, Holds, ClosedBy, Closes, SoundAt, Pending, Frontier, Complete, Turn, Label, longer, LabelLaws, HoldsAt, ClosedAt, ClosesAt}
 use Rattle.mh_least.proofs.Least.{closed_complete}
 
 -- what comes later than a word that is held is held

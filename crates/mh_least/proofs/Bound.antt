@@ -1,7 +1,6 @@
 -- A store that is closed, or closed up to a queue, has the least words.
-use Rattle.std.proofs.Common.{◌≡◌, ℕ, zero, suc, ◌+◌, ◌-◌, ◌<◌, ◌≤◌, ◌⊎◌, inl, inr, List, [], ◌∷◌, ◌++◌, length, Some, None, Option, refl, ap, sym, subst, arith, ◌∙◌}
+use Rattle.std.proofs.Common.{◌≡◌, ℕ, zero, suc, ◌+◌, ◌<◌, ◌≤◌, ◌⊎◌, inl, inr, List, [], ◌∷◌, ◌++◌, length, Some, Option, refl, ap, sym, ◌∙◌}
 use Rattle.std.specs.List.{slice_get, AllByRecursion}
-use Rattle.mh_grammar.specs.declared.types.Symbol.{Symbol}
 use Rattle.mh_grammar.specs.declared.types.Symbol.TheVariants.{T, N}
 use Rattle.mh_tables.specs.Table.{TableData, edge_of}
 use Rattle.mh_grammar.specs.Plain.{production_count, rhs_of, lhs_of}
@@ -11,9 +10,9 @@ use Rattle.mh_tables.proofs.Reductions.{shifts_from_move, reduces_from_move}
 use Rattle.mh_least.specs.Search.{front_of, Derives}
 use Rattle.mh_least.specs.Search as rules
 use Rattle.mh_facts.specs.declared.store.FactKey.{FactKey}
-use Rattle.mh_least.specs.Least.{IsEnd, Laws, key, Holds, Waits, ClosedBy, Congruent, SoundAt, SoundWay, GoesLike}
+use Rattle.mh_least.specs.Least.{IsEnd, Laws, key, Holds, ClosedBy, Congruent, SoundAt, SoundWay, GoesLike}
 use Rattle.mh_least.proofs.Forward.{derives_front, front_append}
-use Rattle.mh_least.proofs.Sound.{Known, derives_known, shift_known}
+use Rattle.mh_least.proofs.Sound.{derives_known, shift_known}
 
 -- a derivation goes along the path
 pub derives_end : (t : TableData) (f : Facts t) (r p d a z : ℕ) (v : List ℕ) (s : ℕ) → Derives t r p d a z v s → IsEnd t r p d s

@@ -1,24 +1,22 @@
 -- Each run makes a path of facts.
-use Rattle.std.proofs.Common.{◌≡◌, ℕ, zero, suc, ◌+◌, ◌-◌, ◌<◌, ◌≤◌, ◌⊎◌, inl, inr, List, [], ◌∷◌, ◌++◌, length, take, drop, get_or, Some, None, Option, refl, ap, sym, subst, arith, length-append, length-drop, append_assoc, append-nil, ◌∙◌}
-use Rattle.std.specs.List.{slice_get}
-use Rattle.std.proofs.lemmas.List.{take_at, append_cancel_right, append_cancel_left}
-use Rattle.mh_grammar.specs.declared.types.Symbol.{Symbol}
-use Rattle.mh_grammar.specs.declared.types.Symbol.TheVariants.{T, N}
+use Rattle.std.proofs.Common.{◌≡◌, ℕ, zero, suc, ◌+◌, ◌-◌, ◌<◌, ◌≤◌, inl, inr, List, [], ◌∷◌, ◌++◌, length, take, drop, Some, None, Option, refl, ap, sym, arith, length-append, length-drop, append_assoc, ◌∙◌}
+use Rattle.std.proofs.lemmas.List.{take_at}
+use Rattle.mh_grammar.specs.declared.types.Symbol.TheVariants.{N}
 use Rattle.mh_tables.specs.Table.{TableData, edge_of}
 use Rattle.mh_grammar.specs.Plain.{rhs_of, lhs_of}
-use Rattle.mh_tables.specs.Facts.{Facts, InCore, HasGoto, Behind}
-use Rattle.mh_tables.specs.Run.{Config, Move, Accepts, Asks, Refuses, Shifts, Reduces, move_of, top_of, reduce, step, step_by, Step, Goes, Ends, Stuck, goes_to, next_of, after}
-use Rattle.mh_tables.proofs.Reductions.{shifts_from_move, no_shift_at_end, reduced, reduces_from_move, move_at_next}
+use Rattle.mh_tables.specs.Facts.{Facts, HasGoto}
+use Rattle.mh_tables.specs.Run.{Config, Move, Accepts, Asks, Refuses, Shifts, Reduces, move_of, top_of, reduce, step, step_by, Goes, Ends, goes_to, next_of, after}
+use Rattle.mh_tables.proofs.Reductions.{reduced, reduces_from_move, move_at_next}
 use Rattle.mh_tables.proofs.Ending.{step_moves}
 use Rattle.std.specs.List.{AllByRecursion}
 use Rattle.mh_tables.specs.declared.parts.Fallback.{Fallback}
 use Rattle.mh_tables.specs.declared.parts.Fallback.TheVariants as fallbacks
 use Rattle.mh_tables.specs.Table.{fallback_of}
-use Rattle.mh_tables.specs.Run.{Ending, Rejected, initial, move_by_default}
+use Rattle.mh_tables.specs.Run.{Rejected, initial, move_by_default}
 use Rattle.mh_tables.specs.Failing.{Fails}
-use Rattle.mh_least.specs.Search.{front_of, Derives, Reaches, Refused}
+use Rattle.mh_least.specs.Search.{Reaches, Refused}
 use Rattle.mh_least.specs.Search as rules
-use Rattle.mh_least.proofs.Forward.{Built, Split, split, Ready, begun_before, built_top, built_long, length_more}
+use Rattle.mh_least.proofs.Forward.{Built, split, Ready, begun_before, built_top, built_long, length_more}
 use Rattle.mh_least.proofs.Forward as forward
 
 -- where a run on w stands, seen from r: a path of facts, and the tokens to come, of which there is one

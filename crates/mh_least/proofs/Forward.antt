@@ -1,18 +1,16 @@
 -- A run, seen as a path of facts that grows.
-use Rattle.std.proofs.Common.{◌≡◌, ℕ, zero, suc, ◌+◌, ◌-◌, ◌<◌, ◌≤◌, ◌⊎◌, inl, inr, List, [], ◌∷◌, ◌++◌, length, take, drop, get_or, Some, None, Option, refl, ap, sym, subst, arith, length-append, append_assoc, append-nil, ◌∙◌}
+use Rattle.std.proofs.Common.{◌≡◌, ℕ, zero, suc, ◌+◌, ◌-◌, ◌<◌, ◌≤◌, inl, inr, List, [], ◌∷◌, ◌++◌, length, get_or, Some, refl, ap, sym, arith, length-append, append_assoc, append-nil, ◌∙◌}
 use Rattle.std.specs.List.{slice_get}
 use Rattle.mh_grammar.specs.declared.types.Symbol.{Symbol}
 use Rattle.mh_grammar.specs.declared.types.Symbol.TheVariants.{T, N}
-use Rattle.mh_tables.specs.declared.parts.Place.{Place}
+use Rattle.mh_tables.specs.declared.parts.CoreItem.{CoreItem}
 use Rattle.mh_tables.specs.Table.{TableData, state_at, edge_of}
 use Rattle.mh_grammar.specs.Plain.{rhs_of, lhs_of}
-use Rattle.mh_tables.specs.Facts.{Facts, InCore, HasGoto, Behind}
-use Rattle.mh_tables.specs.Run.{Move, Accepts, Asks, Refuses, Shifts, Reduces, move_of}
-use Rattle.std.proofs.lemmas.Bool.{cases_lt}
-use Rattle.std.proofs.Math.ListN.{get_or-append}
+use Rattle.mh_tables.specs.Facts.{Facts, InCore, HasGoto}
+use Rattle.mh_tables.specs.Run.{Shifts, Reduces, move_of}
 use Rattle.std.proofs.Math.Seq.{get_or-append_seam}
 use Rattle.mh_tables.proofs.Path.{not_begun}
-use Rattle.mh_tables.proofs.Reductions.{shifts_from_move, no_shift_at_end}
+use Rattle.mh_tables.proofs.Reductions.{shifts_from_move}
 use Rattle.mh_least.specs.Search.{front_of, Derives}
 use Rattle.mh_least.specs.Search as rules
 
@@ -150,7 +148,7 @@ built_long t r stack s v z Alone = omega arith
 built_long t r new s v z (Pushed {stack = stack} b m is w) = let l = length_more new stack s is in omega arith
 built_long t r new s v z (Went {stack = stack} q b inner m edge is w) = let l = length_more new stack s is in omega arith
 
-first_of : (t : TableData) (u : ℕ) (l : List Place) → (state_at t u).core ≡ l → 0 < length l → (p : ℕ) × (d : ℕ) × InCore t u p d
+first_of : (t : TableData) (u : ℕ) (l : List CoreItem) → (state_at t u).core ≡ l → 0 < length l → (p : ℕ) × (d : ℕ) × InCore t u p d
 unfolding InCore
 first_of t u [] e lt = absurd (omega arith)
 first_of t u (c ∷ cs) e lt = (c.production, c.dot, (0, rw e (omega arith), rw e refl))

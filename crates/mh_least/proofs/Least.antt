@@ -1,21 +1,20 @@
 -- The second search, and the least sentences.
-use Rattle.std.proofs.Common.{◌≡◌, ℕ, zero, suc, ◌+◌, ◌-◌, ◌<◌, ◌≤◌, ◌⊎◌, inl, inr, List, [], ◌∷◌, ◌++◌, length, Some, None, Option, refl, ap, sym, subst, arith, ◌∙◌}
-use Rattle.std.specs.List.{slice_get, AllByRecursion}
-use Rattle.mh_grammar.specs.declared.types.Symbol.TheVariants.{T, N}
+use Rattle.std.proofs.Common.{◌≡◌, ℕ, ◌+◌, ◌<◌, ◌⊎◌, inl, inr, List, [], ◌∷◌, ◌++◌, length, Some, Option, refl, sym, subst}
+use Rattle.mh_grammar.specs.declared.types.Symbol.TheVariants.{N}
 use Rattle.mh_tables.specs.Table.{TableData, edge_of}
 use Rattle.mh_grammar.specs.Plain.{rhs_of, lhs_of}
 use Rattle.mh_tables.specs.Facts.{Facts}
 use Rattle.mh_tables.proofs.Reductions.{reduces_from_move}
-use Rattle.mh_tables.specs.Run.{Shifts, Reduces, Refuses, move_of}
+use Rattle.mh_tables.specs.Run.{Shifts, Reduces, move_of}
 use Rattle.mh_tables.specs.Failing.{Fails}
-use Rattle.mh_least.specs.Search.{front_of, Derives, Reaches, Refused}
+use Rattle.mh_least.specs.Search.{front_of, Reaches, Refused}
 use Rattle.mh_least.specs.Search as rules
 use Rattle.mh_facts.specs.declared.store.FactKey.{FactKey}
-use Rattle.mh_least.specs.Least.{IsEnd, Laws, key, Holds, Waits, ClosedBy, Congruent, SoundAt, SoundWay, Label, longer, LabelLaws, HoldsAt, ClosedAt, SoundReach, Complete, Candidate}
+use Rattle.mh_least.specs.Least.{IsEnd, Laws, key, Holds, ClosedBy, SoundWay, Label, longer, LabelLaws, HoldsAt, ClosedAt, SoundReach, Complete, Candidate}
 use Rattle.mh_least.proofs.Forward.{derives_front}
-use Rattle.mh_least.proofs.Sound.{Known, derives_known, reaches_known, shift_known, refused_fails}
+use Rattle.mh_least.proofs.Sound.{derives_known, reaches_known, shift_known, refused_fails}
 use Rattle.mh_least.proofs.Complete.{fails_refused}
-use Rattle.mh_least.proofs.Bound.{bound, derives_end, front_known, HoldsOr}
+use Rattle.mh_least.proofs.Bound.{bound, derives_end, front_known}
 
 -- a store that is closed is complete
 pub closed_complete : (t : TableData) (f : Facts t) (rep : ℕ → ℕ → ℕ) (Le : List ℕ → List ℕ → Type 0) (laws : Laws Le) (store : FactKey → Option (List ℕ)) → ClosedBy t rep store (Holds Le store) → Complete t rep Le store

@@ -1,5 +1,5 @@
 -- Each derivation is a run, from any stack with its state on top.
-use Rattle.std.proofs.Common.{◌≡◌, ℕ, zero, suc, ◌+◌, ◌-◌, ◌<◌, ◌≤◌, ◌⊎◌, inl, inr, List, [], ◌∷◌, ◌++◌, length, take, drop, get_or, Some, None, Option, refl, ap, sym, subst, arith, length-append, append_assoc, append-nil, ◌∙◌}
+use Rattle.std.proofs.Common.{◌≡◌, ℕ, suc, ◌+◌, ◌-◌, ◌<◌, ◌≤◌, inl, inr, List, [], ◌∷◌, ◌++◌, length, take, get_or, Some, refl, ap, arith, length-append, append_assoc, append-nil, ◌∙◌}
 use Rattle.std.specs.List.{slice_get, AllByRecursion}
 use Rattle.std.proofs.lemmas.Bool.{cases_lt}
 use Rattle.std.proofs.lemmas.List.{take_at, get_or_past}
@@ -10,9 +10,9 @@ use Rattle.mh_grammar.specs.declared.types.Symbol.TheVariants.{T, N}
 use Rattle.mh_tables.specs.declared.parts.Action.TheVariants as actions
 use Rattle.mh_tables.specs.Table.{TableData, edge_of, cell_of, state_at}
 use Rattle.mh_grammar.specs.Plain.{rhs_of, lhs_of}
-use Rattle.mh_tables.specs.Facts.{Facts, HasGoto}
-use Rattle.mh_tables.specs.Run.{Config, Move, Accepts, Asks, Refuses, Shifts, Reduces, move_of, top_of, reduce, step, step_by, Step, Goes, Ends, Stuck, goes_to, next_of, after, Rejected, initial}
-use Rattle.mh_tables.specs.Failing.{Fails, IsSentence}
+use Rattle.mh_tables.specs.Facts.{Facts}
+use Rattle.mh_tables.specs.Run.{Config, Refuses, Shifts, Reduces, move_of, top_of, reduce, step, Goes, goes_to, after}
+use Rattle.mh_tables.specs.Failing.{Fails}
 use Rattle.mh_tables.proofs.Path.{Finds, reduce_finds}
 use Rattle.mh_tables.proofs.Reductions.{shifts_from_move, move_at_next, after-add}
 use Rattle.mh_tables.proofs.Ending.{step_moves}

@@ -1,5 +1,5 @@
 -- Orders of words and of sentences.
-use Rattle.std.specs.Prelude.{◌≡◌, ℕ, zero, suc, List, [], ◌∷◌, ◌++◌, length, ◌<◌, ◌≤◌, ◌⊎◌, ◌+◌}
+use Rattle.std.specs.Prelude.{◌≡◌, ℕ, List, ◌<◌, ◌≤◌, ◌⊎◌}
 use Rattle.mh_tables.specs.Failing.{cost_by, LexLe}
 use Rattle.mh_least.specs.Least.{Label}
 

@@ -17,7 +17,7 @@ use Rattle.mh_grammar.specs.Plain.{PlainGrammar, IsInRange, IsSymbolBelow, rhs_o
 use Rattle.mh_grammar.specs.ItemSets as sets
 use Rattle.mh_grammar.specs.ItemSets.{Moved}
 use Rattle.mh_grammar.proofs.Lists.{at_contains, contains_push, contains_last, contains_none, contains_map, map_contains, some_item, recursion-from, recursion_contains}
-use Rattle.mh_items.specs.Shapes.{KernelItem, Kernel}
+use Rattle.mh_items.specs.Shapes.{Items, KernelItem, Kernel}
 use Rattle.mh_items.specs.Kernels.{Holds, IsKernel, IsKernelItem}
 use Rattle.mh_items.proofs.Dotted.{drop_from-slice_get, slice_get_from-drop}
 use Rattle.mh_moves.specs.declared.rows.Rows.{Rows}
@@ -175,7 +175,7 @@ taken-all g old filled i new moves same ready past h = record {
 
 -- ---- they are the moves
 
-module _ {W : ℕ} (g : PlainGrammar) (range : IsInRange g) (closed : Kernel) (kernel : IsKernel g closed) (r : Rows W) (gathered : (X : Symbol) → IsSymbolBelow g.tokens g.nonterminals X → IsMove g closed X (record { items = row_at r (place_of g.tokens X) })) (ready : AreReady g r) where
+module _ {W : ℕ} (g : PlainGrammar) (range : IsInRange g) (closed : Items) (kernel : IsKernel g closed) (r : Rows W) (gathered : (X : Symbol) → IsSymbolBelow g.tokens g.nonterminals X → IsMove g closed X (record { items = row_at r (place_of g.tokens X) })) (ready : AreReady g r) where
   abbrev F : List ℕ
   F = r.filled.items
 

@@ -5,7 +5,7 @@ use Rattle.mh_grammar.specs.declared.types.Symbol.{Symbol}
 use Rattle.mh_grammar.specs.declared.types.Look.{Look}
 use Rattle.mh_grammar.specs.Plain.{PlainGrammar}
 use Rattle.mh_grammar.specs.Edges.{IsRising, IsSymbolBefore}
-use Rattle.mh_items.specs.Shapes.{Kernel}
+use Rattle.mh_items.specs.Shapes.{Items, Kernel}
 use Rattle.mh_grammar.specs.ItemSets.{AreSame, Close}
 use Rattle.mh_items.specs.Kernels.{Holds, IsKernel}
 use Rattle.mh_items.specs.Collection.{IsBehindDot, IsMove}
@@ -19,7 +19,7 @@ abbrev pub symbols_of : List Move → List Symbol
 symbols_of moves = map (λ (m : Move). m.symbol) moves
 
 -- the moves, one for each symbol behind a dot, in the order of symbols
-pub record AreMoves (g : PlainGrammar) (closed : Kernel) (moves : List Move) : Type 0 where
+pub record AreMoves (g : PlainGrammar) (closed : Items) (moves : List Move) : Type 0 where
   pub rising : IsRising IsSymbolBefore (symbols_of moves)
   pub exact : (X : Symbol) → Contains (symbols_of moves) X ↔ IsBehindDot g closed X
   pub each : All (λ (m : Move). IsMove g closed m.symbol m.kernel) moves

@@ -7,7 +7,7 @@ ghost use Rattle.mh_moves.specs.Moves.{AreMoves};
 
 use crate::rows::{Rows, place};
 use mh_grammar::{Grammar, Memory, Sequence, Symbol};
-use mh_items::{Kernel, KernelItem, KernelWith, symbol_at};
+use mh_items::{Closure, ItemsWith, KernelItem, symbol_at};
 use mh_sets::TokenSet;
 use std::alloc::Global;
 use std::mem;
@@ -16,7 +16,7 @@ use std::mem;
 #[derive(Drop)]
 pub struct MoveWith<L> {
     pub symbol: Symbol,
-    pub kernel: KernelWith<L>,
+    pub kernel: ItemsWith<L>,
 }
 
 /// A move whose looks are sets of a width.
@@ -27,7 +27,7 @@ pub type Move<const W: usize> = MoveWith<TokenSet<W>>;
 pub fn moves<const W: usize>(
     alloc: Global,
     grammar: &Grammar,
-    closed: &Kernel<W>,
+    closed: &Closure<W>,
     rows: &mut Rows<W>,
 ) -> Result<Vec<Move<W>>, Memory>
     requires few { W ≤ 8 }
@@ -108,7 +108,7 @@ fn taken<const W: usize>(
         let items = mem::replace(&mut rows.rows[*place as usize], Sequence::new(alloc));
         moves.push(MoveWith {
             symbol: symbol_at_place(grammar, *place),
-            kernel: KernelWith { items },
+            kernel: ItemsWith { items },
         })?;
     }
     Ok(moves)

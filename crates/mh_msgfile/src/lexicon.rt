@@ -1,6 +1,7 @@
 //! The numbers that the names of a grammar's starts and tokens stand for.
 ghost use Rattle.std.specs.Prelude.{◌≡◌, ◌≤◌, length, map, IfOk, OnOk};
 ghost use Rattle.mh_grammar.specs.Plain.{plain_of, IsInRange};
+ghost use Rattle.mh_grammar.specs.declared.range.TheConstants.{MAX_NUMBERED};
 ghost use Rattle.mh_msgfile.specs.Sentences.{AreNumbers, PutsName, start_names, only_one, vocabulary_of, vocabulary_in};
 
 use indexmap::IndexMap;
@@ -35,7 +36,7 @@ fn put_name(
 
 /// The numbers of tokens. Of two with one name the first counts.
 fn token_numbers(alloc: Global, tokens: &[TokenInfo]) -> Result<IndexMap<Vec<u8>, Token>, Memory>
-    requires { length tokens.now ≤ 65535 }
+    requires { length tokens.now ≤ MAX_NUMBERED }
     ensures { IfOk result (λ numbers. AreNumbers (map (λ token. token.name) tokens.now) numbers.entries) }
 {
     let mut numbers = IndexMap::new(alloc);

@@ -4,8 +4,8 @@ use Rattle.std.specs.List.{slice_get, AllZip}
 use Rattle.mh_grammar.specs.declared.edges.Edge.{Edge}
 use Rattle.mh_grammar.specs.Plain.{PlainGrammar}
 use Rattle.mh_grammar.specs.Numbering.{IsNumbering}
+use Rattle.mh_grammar.proofs.Lists.{same_at, zip_one}
 use Rattle.mh_grammar.proofs.OneNumbering.{one_numbering}
-use Rattle.mh_items.specs.Shapes.{Kernel}
 use Rattle.mh_items.specs.Shapes.{Automaton}
 use Rattle.mh_canon.specs.Canonical.{targets_of}
 use Rattle.mh_pager.specs.Steps.{Work, symbols_of, Steps, Leads, IsOnSymbolsOf, IsMerged, start_numbers}
@@ -17,18 +17,6 @@ leads_one rows n a b p q =
     let one : Some p.row ≡ Some q.row = sym p.at ∙ q.at in
     let same : p.row ≡ q.row = cc in
     sym p.are ∙ ap targets_of same ∙ q.are
-
-kernels_one : (kernels : List Kernel) (states : List ℕ) (xs ys : List Kernel) → AllZip (λ n k. slice_get kernels n ≡ Some k) states xs → AllZip (λ n k. slice_get kernels n ≡ Some k) states ys → xs ≡ ys
-kernels_one kernels [] [] [] a b = refl
-kernels_one kernels [] [] (y ∷ ys) a b = absurd b
-kernels_one kernels [] (x ∷ xs) ys a b = absurd a
-kernels_one kernels (n ∷ states) [] ys a b = absurd a
-kernels_one kernels (n ∷ states) (x ∷ xs) [] a b = absurd b
-kernels_one kernels (n ∷ states) (x ∷ xs) (y ∷ ys) a b =
-    let one : Some x ≡ Some y = sym a.0 ∙ b.0 in
-    let first : x ≡ y = cc in
-    let rest = kernels_one kernels states xs ys a.1 b.1 in
-    λ i. first i ∷ rest i
 
 rows_one : (rows : List (List Edge)) (states : List ℕ) (xs ys : List (List Edge)) → AllZip (IsOnSymbolsOf rows) states xs → AllZip (IsOnSymbolsOf rows) states ys → map targets_of xs ≡ map targets_of ys → xs ≡ ys
 rows_one rows [] [] [] a b t = refl
@@ -53,6 +41,6 @@ merged_one g a b m n =
     let both = one_numbering (Leads m.last.rows) (leads_one m.last.rows) (start_numbers g) m.states n.states (map targets_of a.edges) (map targets_of b.edges) m.numbering numbering in
     let kernels_b : AllZip (λ i k. slice_get m.last.kernels i ≡ Some k) n.states b.kernels = subst (λ (w : Work). AllZip (λ i k. slice_get w.kernels i ≡ Some k) n.states b.kernels) last n.kernels in
     let symbols_b : AllZip (IsOnSymbolsOf m.last.rows) n.states b.edges = subst (λ (w : Work). AllZip (IsOnSymbolsOf w.rows) n.states b.edges) last n.symbols in
-    let kernels = kernels_one m.last.kernels m.states a.kernels b.kernels m.kernels (subst (λ (s : List ℕ). AllZip (λ i k. slice_get m.last.kernels i ≡ Some k) s b.kernels) (sym both.0) kernels_b) in
+    let kernels = zip_one (λ n k. slice_get m.last.kernels n ≡ Some k) (same_at m.last.kernels) m.states a.kernels b.kernels m.kernels (subst (λ (s : List ℕ). AllZip (λ i k. slice_get m.last.kernels i ≡ Some k) s b.kernels) (sym both.0) kernels_b) in
     let edges = rows_one m.last.rows m.states a.edges b.edges m.symbols (subst (λ (s : List ℕ). AllZip (IsOnSymbolsOf m.last.rows) s b.edges) (sym both.0) symbols_b) both.1 in
     λ i. record { kernels = kernels i; edges = edges i }

@@ -6,7 +6,6 @@ use Rattle.std.proofs.lemmas.List.{length-set, length_push}
 use Rattle.mh_grammar.proofs.Lists.{rising_same}
 use Rattle.mh_grammar.specs.declared.types.Symbol.{Symbol}
 use Rattle.mh_grammar.specs.declared.types.Symbol.TheVariants.{T, N}
-use Rattle.mh_grammar.specs.declared.edges.Edge.{Edge}
 use Rattle.mh_grammar.specs.Plain.{PlainGrammar}
 use Rattle.mh_grammar.specs.Edges.{IsSymbolBefore}
 use Rattle.mh_grammar.specs.ItemSets.{ItemSet, Close, Moved}

@@ -8,8 +8,8 @@ use Rattle.mh_grammar.specs.declared.edges.Edge.{Edge}
 use Rattle.mh_grammar.specs.Plain.{PlainGrammar, rhs_of}
 use Rattle.mh_grammar.specs.Edges.{IsRising, IsSymbolBefore}
 use Rattle.mh_grammar.specs.ItemSets as items
-use Rattle.mh_grammar.specs.ItemSets.{ItemSet, AreSame, Close, Moved}
-use Rattle.mh_items.specs.Shapes.{Kernel}
+use Rattle.mh_grammar.specs.ItemSets.{AreSame, Close, Moved}
+use Rattle.mh_items.specs.Shapes.{Items, Kernel}
 use Rattle.mh_items.specs.Kernels.{Holds, IsKernel}
 use Rattle.mh_canon.specs.Canonical.{HasItem, targets_of}
 use Rattle.mh_items.specs.Collection.{IsBehindDot}
@@ -19,7 +19,7 @@ use Rattle.mh_pager.specs.Steps.{Work, Puts, IsMoveOf, AllPut, AreMoving, IsStep
 use Rattle.mh_pager.proofs.Readying.{all_put_push, all_put_ready}
 
 -- a move of a closure is one of the kernel that it was made of
-module _ (g : PlainGrammar) (closed move : Kernel) (X : Symbol) (valid : IsKernel g move) (same : AreSame (Holds move) (Moved g (Holds closed) X)) (some : HasItem (Moved g (Holds closed) X)) where
+module _ (g : PlainGrammar) (closed : Items) (move : Kernel) (X : Symbol) (valid : IsKernel g move) (same : AreSame (Holds move) (Moved g (Holds closed) X)) (some : HasItem (Moved g (Holds closed) X)) where
   pub of_kernel : (k : Kernel) → AreSame (Holds closed) (Close g (Holds k)) → IsMoveOf g k X move
   of_kernel k is = record {
     valid = valid;
@@ -40,23 +40,23 @@ module _ (g : PlainGrammar) (closed move : Kernel) (X : Symbol) (valid : IsKerne
     pub OverIn-push : (rest all : List Symbol) → all ≡ (symbols ++ X ∷ []) ++ rest → (limit : ℕ) → limit < length new.kernels → OverIn g closed all old limit
     OverIn-push rest all are limit over = record { front = symbols ++ X ∷ []; rest = rest; are = are; targets = targets_of row ++ n ∷ []; placed = new; put = all_put; over = over }
 
-pub RowIn-none : (g : PlainGrammar) (closed : Kernel) (old : Work) → RowIn g closed [] [] old old
+pub RowIn-none : (g : PlainGrammar) (closed : Items) (old : Work) → RowIn g closed [] [] old old
 RowIn-none g closed old = record { on = refl; put = λ k is. refl }
 
 -- what stands behind a dot moves
-pub behind_has : (g : PlainGrammar) (closed : Kernel) (X : Symbol) → IsKernel g closed → IsBehindDot g closed X → HasItem (Moved g (Holds closed) X)
+pub behind_has : (g : PlainGrammar) (closed : Items) (X : Symbol) → IsKernel g closed → IsBehindDot g closed X → HasItem (Moved g (Holds closed) X)
 behind_has g closed X is b =
     let look = place_holds g closed is b.production b.dot b.place in
     record { production = b.production; dot = suc b.dot; look = look.0; holds = items.Moved.moved look.1 (drop_from_get (rhs_of g b.production) b.dot X b.behind) }
 
-moved_behind : (g : PlainGrammar) (closed : Kernel) (X : Symbol) (p d : ℕ) (a : Look) → Moved g (Holds closed) X p d a → IsBehindDot g closed X
+moved_behind : (g : PlainGrammar) (closed : Items) (X : Symbol) (p d : ℕ) (a : Look) → Moved g (Holds closed) X p d a → IsBehindDot g closed X
 moved_behind g closed X p d a (items.Moved.moved {d = d'} {y} h e) = record { production = p; dot = d'; place = (h.0, h.1, h.2, h.3); behind = get_from_drop (rhs_of g p) d' X y e }
 
-pub has_behind : (g : PlainGrammar) (closed : Kernel) (X : Symbol) → HasItem (Moved g (Holds closed) X) → IsBehindDot g closed X
+pub has_behind : (g : PlainGrammar) (closed : Items) (X : Symbol) → HasItem (Moved g (Holds closed) X) → IsBehindDot g closed X
 has_behind g closed X h = moved_behind g closed X h.production h.dot h.look h.holds
 
 -- the symbols behind the dots of a closure are those that move
-module _ (g : PlainGrammar) (k closed : Kernel) (is : IsKernel g closed) (same : AreSame (Holds closed) (Close g (Holds k))) (symbols : List Symbol) (rising : IsRising IsSymbolBefore symbols) (exact : (X : Symbol) → Contains symbols X ↔ IsBehindDot g closed X) where
+module _ (g : PlainGrammar) (k : Kernel) (closed : Items) (is : IsKernel g closed) (same : AreSame (Holds closed) (Close g (Holds k))) (symbols : List Symbol) (rising : IsRising IsSymbolBefore symbols) (exact : (X : Symbol) → Contains symbols X ↔ IsBehindDot g closed X) where
   pub are_moving : AreMoving g k symbols
   are_moving = record {
     rising = rising;
@@ -77,10 +77,10 @@ module _ (g : PlainGrammar) (k closed : Kernel) (is : IsKernel g closed) (same :
       oldest = oldest;
       kernel = k;
       at = at;
-      row = row;
       moving = rw r.on are_moving;
-      placed = placed;
       put = rw r.on (r.put k same);
+      row = row;
+      placed = placed;
       after = refl;
     }
 
@@ -101,5 +101,5 @@ module _ (g : PlainGrammar) (k closed : Kernel) (is : IsKernel g closed) (same :
     }
 
 -- what the row's moves keep
-pub row_ready : (g : PlainGrammar) (k closed : Kernel) → AreSame (Holds closed) (Close g (Holds k)) → (symbols : List Symbol) (row : List Edge) (old new : Work) → RowIn g closed symbols row old new → IsReady g old → IsReady g new
+pub row_ready : (g : PlainGrammar) (k : Kernel) (closed : Items) → AreSame (Holds closed) (Close g (Holds k)) → (symbols : List Symbol) (row : List Edge) (old new : Work) → RowIn g closed symbols row old new → IsReady g old → IsReady g new
 row_ready g k closed same symbols row old new r ready = all_put_ready g k symbols (targets_of row) old new (r.put k same) ready

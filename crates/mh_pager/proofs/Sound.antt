@@ -10,7 +10,7 @@ use Rattle.mh_grammar.specs.declared.types.Look.TheVariants.{End}
 use Rattle.mh_grammar.specs.declared.edges.Edge.{Edge}
 use Rattle.mh_grammar.specs.Plain.{PlainGrammar}
 use Rattle.mh_grammar.specs.ItemSets as items
-use Rattle.mh_grammar.specs.ItemSets.{ItemSet, AreSame, Close, Moved, StartItems}
+use Rattle.mh_grammar.specs.ItemSets.{ItemSet, Close, Moved, StartItems}
 use Rattle.mh_grammar.proofs.Lists.{contains_at}
 use Rattle.mh_items.specs.Shapes.{Kernel}
 use Rattle.mh_items.specs.Kernels.{Holds, IsKernel}

@@ -4,7 +4,7 @@ use Rattle.mh_grammar.specs.declared.types.Symbol.{Symbol}
 use Rattle.mh_grammar.specs.declared.edges.Edge.{Edge}
 use Rattle.mh_grammar.specs.Plain.{PlainGrammar}
 use Rattle.mh_grammar.specs.ItemSets.{AreSame, Close}
-use Rattle.mh_items.specs.Shapes.{Kernel}
+use Rattle.mh_items.specs.Shapes.{Items, Kernel}
 use Rattle.mh_items.specs.Kernels.{Holds, IsKernel}
 use Rattle.mh_moves.specs.Moves.{Move, AreMoves}
 use Rattle.mh_pager.specs.declared.listing.Listing.{Listing}
@@ -54,12 +54,12 @@ abbrev pub with_first : {W : ℕ} → Listing W → ℕ → Work
 with_first l n = record { kernels = l.kernels.items; rows = l.rows.items; queue = n ∷ l.queue.states.items }
 
 -- the row of a closure, whose moves on the symbols were put somewhere
-pub record RowIn (g : PlainGrammar) (closed : Kernel) (symbols : List Symbol) (row : List Edge) (old new : Work) : Type 0 where
+pub record RowIn (g : PlainGrammar) (closed : Items) (symbols : List Symbol) (row : List Edge) (old new : Work) : Type 0 where
   pub on : symbols_of row ≡ symbols
   pub put : (k : Kernel) → AreSame (Holds closed) (Close g (Holds k)) → AllPut g k symbols (targets_of row) old new
 
 -- the list came to hold too many states at one of the symbols
-pub record OverIn (g : PlainGrammar) (closed : Kernel) (symbols : List Symbol) (old : Work) (limit : ℕ) : Type 0 where
+pub record OverIn (g : PlainGrammar) (closed : Items) (symbols : List Symbol) (old : Work) (limit : ℕ) : Type 0 where
   pub front : List Symbol
   pub rest : List Symbol
   pub are : symbols ≡ front ++ rest
@@ -70,7 +70,7 @@ pub record OverIn (g : PlainGrammar) (closed : Kernel) (symbols : List Symbol) (
 
 -- all moves were put somewhere, or the list came to hold too many states, whatever closure they are of
 abbrev pub PutsAll : PlainGrammar → List Move → Work → Work → List Edge → Type 0
-PutsAll g moves old new row = (closed : Kernel) → IsKernel g closed → AreMoves g closed moves → RowIn g closed (map (λ (m : Move). m.symbol) moves) row old new
+PutsAll g moves old new row = (closed : Items) → IsKernel g closed → AreMoves g closed moves → RowIn g closed (map (λ (m : Move). m.symbol) moves) row old new
 
 abbrev pub OverrunsAll : PlainGrammar → List Move → Work → ℕ → Type 0
-OverrunsAll g moves old limit = (closed : Kernel) → IsKernel g closed → AreMoves g closed moves → OverIn g closed (map (λ (m : Move). m.symbol) moves) old limit
+OverrunsAll g moves old limit = (closed : Items) → IsKernel g closed → AreMoves g closed moves → OverIn g closed (map (λ (m : Move). m.symbol) moves) old limit

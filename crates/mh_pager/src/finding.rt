@@ -5,11 +5,21 @@ ghost use Rattle.mh_items.specs.Shapes.{Kernel as KernelOf};
 ghost use Rattle.mh_items.specs.Kernels.{Holds, IsKernel};
 ghost use Rattle.mh_pager.specs.Indexed.{AreCandidates};
 ghost use Rattle.mh_pager.specs.Weak.{OneCore, Covers, AreCompatible};
-ghost use Rattle.mh_pager.specs.Steps.{Keeps, Takes, IsFirst, HasNone};
+ghost use Rattle.mh_pager.specs.Fits.{IsFit, HasFit};
+ghost use Rattle.mh_pager.specs.Steps.{IsFirst, HasNone};
 
 use crate::compatible::{are_compatible, are_within};
 use mh_grammar::Grammar;
 use mh_items::Kernel;
+
+/// What a move may ask of a state that has its core.
+#[derive(Clone, Copy)]
+pub(crate) enum Fit {
+    // It contains the move's looks.
+    Keeps,
+    // It is weakly compatible with the move.
+    Takes,
+}
 
 /// Whether two kernels of one core are weakly compatible (Pager 1977): at any two places that differ, no look of one
 /// kernel's stands at the other place of the other kernel, or one of the kernels has a look at both places.
@@ -34,43 +44,36 @@ fn covers<const W: usize>(grammar: &Grammar, state: &Kernel<W>, kernel: &Kernel<
     are_within(kernel.items.as_slice(), state.items.as_slice())
 }
 
-/// The first state that keeps a move, among those of its core.
-pub(crate) fn first_keeping<const W: usize>(
-    grammar: &Grammar,
-    kernels: &[Kernel<W>],
-    states: &[u32],
-    kernel: &Kernel<W>,
-) -> Option<u32>
+/// Whether a state of the move's core fits it.
+fn fits<const W: usize>(grammar: &Grammar, fit: Fit, state: &Kernel<W>, kernel: &Kernel<W>) -> bool
     requires few { W ≤ 8 }
-    requires kernels { (n : ℕ) (k : KernelOf) → slice_get kernels.now n ≡ Some k → IsKernel (plain_of grammar.now) k }
+    requires state { IsKernel (plain_of grammar.now) state.now }
     requires kernel { IsKernel (plain_of grammar.now) kernel.now }
-    requires states { AreCandidates kernels.now kernel.now states.now }
-    ensures { MatchOption result (HasNone (Keeps kernel.now) kernels.now) (λ n. (k : KernelOf) × IsFirst (Keeps kernel.now) kernels.now n k) }
+    requires core { OneCore (Holds state.now) (Holds kernel.now) }
+    ensures { IsTrue result ↔ IsFit fit (Holds state.now) (Holds kernel.now) }
 {
-    for state in states {
-        if covers(grammar, &kernels[*state as usize], kernel) {
-            return Some(*state);
-        }
+    match fit {
+        Fit::Keeps => covers(grammar, state, kernel),
+        Fit::Takes => weakly_compatible(state, kernel),
     }
-    None
 }
 
-/// The first state that takes a move, among those of its core.
-pub(crate) fn first_taking<const W: usize>(
+/// The first state that fits a move, among those of its core.
+pub(crate) fn first_fitting<const W: usize>(
     grammar: &Grammar,
     kernels: &[Kernel<W>],
     states: &[u32],
     kernel: &Kernel<W>,
+    fit: Fit,
 ) -> Option<u32>
     requires few { W ≤ 8 }
     requires kernels { (n : ℕ) (k : KernelOf) → slice_get kernels.now n ≡ Some k → IsKernel (plain_of grammar.now) k }
     requires kernel { IsKernel (plain_of grammar.now) kernel.now }
     requires states { AreCandidates kernels.now kernel.now states.now }
-    ensures { MatchOption result (HasNone (Takes kernel.now) kernels.now) (λ n. (k : KernelOf) × IsFirst (Takes kernel.now) kernels.now n k) }
+    ensures { MatchOption result (HasNone (HasFit fit kernel.now) kernels.now) (λ n. (k : KernelOf) × IsFirst (HasFit fit kernel.now) kernels.now n k) }
 {
-    let _grammar = grammar;
     for candidate in states {
-        if weakly_compatible(&kernels[*candidate as usize], kernel) {
+        if fits(grammar, fit, &kernels[*candidate as usize], kernel) {
             return Some(*candidate);
         }
     }

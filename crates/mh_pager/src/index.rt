@@ -6,7 +6,7 @@ ghost use Rattle.mh_pager.specs.Indexed.{bare, core_of, IsGroup, IsIndexed};
 
 use indexmap::IndexSet;
 use mh_grammar::{Memory, Sequence};
-use mh_items::{ItemWith, Kernel, KernelItem, KernelWith};
+use mh_items::{ItemWith, Kernel, KernelItem};
 use mh_sets::TokenSet;
 use std::alloc::{AllocFailed, Global};
 
@@ -74,7 +74,7 @@ pub(crate) fn without_looks<const W: usize>(
     for item in items {
         places.push(bare_item(item))?;
     }
-    Ok(KernelWith {
+    Ok(Kernel {
         items: Sequence::from_vec(places),
     })
 }

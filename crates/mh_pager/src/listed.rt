@@ -1,4 +1,4 @@
-//! All steps.
+//! The list that the steps make, from the start kernels until no state waits.
 ghost use Rattle.std.specs.Prelude.{◌≡◌, ◌<◌, ◌≤◌, ◌*◌, [], ℕ, length, Err, IfOk, OnOk};
 ghost use Rattle.mh_grammar.specs.Plain.{plain_of, IsInRange};
 ghost use Rattle.mh_pager.specs.Listing.{work_of, IsKept};

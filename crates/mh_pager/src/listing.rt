@@ -5,7 +5,7 @@ ghost use Rattle.mh_items.specs.Kernels.{IsKernel};
 ghost use Rattle.mh_pager.specs.Listing.{work_of, IsKept, IsGroupIn, TakesIn, AppendsIn, OneCoreAt};
 ghost use Rattle.mh_pager.specs.Steps.{Work, Keeps, HasNone, Puts, IsReady};
 
-use crate::finding::{first_keeping, first_taking};
+use crate::finding::{Fit, first_fitting};
 use crate::index::Index;
 use crate::queue::Queue;
 use crate::unions::joined;
@@ -56,11 +56,12 @@ pub(crate) fn put<const W: usize>(
     ensures over { result ≡ Err StatesFault.TooManyStates → (n : ℕ) × (new : Work) × Puts (plain_of grammar.now) kernel.entry (work_of listing.old) new n × (MAX_STATES < length new.kernels) }
 {
     let core = listing.index.place(alloc, &kernel)?;
-    match first_keeping(
+    match first_fitting(
         grammar,
         listing.kernels.as_slice(),
         listing.index.states[core].as_slice(),
         &kernel,
+        Fit::Keeps,
     ) {
         Some(n) => Ok(n),
         None => put_unkept(alloc, grammar, listing, core, kernel),
@@ -88,11 +89,12 @@ fn put_unkept<const W: usize>(
     ensures kept { OnOk result (IsKept listing.new) }
     ensures over { result ≡ Err StatesFault.TooManyStates → (n : ℕ) × (new : Work) × Puts (plain_of grammar.now) kernel.entry (work_of listing.old) new n × (MAX_STATES < length new.kernels) }
 {
-    match first_taking(
+    match first_fitting(
         grammar,
         listing.kernels.as_slice(),
         listing.index.states[core].as_slice(),
         &kernel,
+        Fit::Takes,
     ) {
         Some(n) => {
             take(alloc, grammar, listing, n, &kernel)?;

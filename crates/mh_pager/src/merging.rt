@@ -1,4 +1,4 @@
-//! The merged automaton.
+//! The merged automaton: the states of the last list that the starts reach, numbered anew.
 ghost use Rattle.std.specs.Prelude.{◌≡◌, ◌↔◌, ◌≤◌, ◌*◌, [], length, Err, IfOk};
 ghost use Rattle.mh_grammar.specs.Plain.{plain_of, IsInRange};
 ghost use Rattle.mh_items.specs.Shapes.{Automaton as AutomatonOf};

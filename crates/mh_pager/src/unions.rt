@@ -6,7 +6,7 @@ ghost use Rattle.mh_items.specs.Merging.{IsJoined};
 ghost use Rattle.mh_pager.specs.Weak.{OneCore, IsJoin};
 
 use mh_grammar::{Grammar, Memory, Sequence};
-use mh_items::{Kernel, KernelItem, KernelWith};
+use mh_items::{Kernel, KernelItem};
 use std::alloc::Global;
 
 /// The kernel that has the looks of two kernels of one core.
@@ -30,7 +30,7 @@ pub(crate) fn joined<const W: usize>(
     for i in 0..ours.len() {
         items.push(with_looks(&ours[i], &theirs[i]))?;
     }
-    Ok(KernelWith {
+    Ok(Kernel {
         items: Sequence::from_vec(items),
     })
 }
@@ -59,7 +59,7 @@ pub(crate) fn copied<const W: usize>(alloc: Global, kernel: &Kernel<W>) -> Resul
     for item in items {
         all.push(copied_item(item))?;
     }
-    Ok(KernelWith {
+    Ok(Kernel {
         items: Sequence::from_vec(all),
     })
 }

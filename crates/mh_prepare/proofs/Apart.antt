@@ -1,5 +1,5 @@
 -- The tokens of a grammar that modules give have names of their own, and none has that of the end of the stream.
-use Rattle.std.proofs.Common.{inl, inr, ◌⊎◌, ◌≡◌, ◌<◌, ◌==◌, ◌∙◌, ◌||◌, ℕ, zero, suc, Bool, true, false, true≢false, List, [], ◌∷◌, ◌++◌, map, length, Option, None, Some, Ok, refl, sym, ap, subst, arith, codes, get_or, if◌then◌else◌}
+use Rattle.std.proofs.Common.{◌≡◌, ◌<◌, ◌∙◌, ◌||◌, ℕ, zero, suc, Bool, true, false, true≢false, List, [], ◌∷◌, ◌++◌, map, length, Option, Some, refl, sym, ap, subst, codes, get_or, if◌then◌else◌}
 use Rattle.std.specs.List.{All, Contains, flat_map, list_any, slice_get}
 use Rattle.std.specs.Option.{option_map, unwrap_or}
 use Rattle.std.proofs.lemmas.Bool.Decides.{Decides-eqb}
@@ -16,7 +16,7 @@ use Rattle.mh_grammar.proofs.Lists.{at_contains, contains_at}
 use Rattle.mh_grammar.proofs.Placing.{AreDistinct-push}
 use Rattle.mh_rules.specs.declared.modules.Module.{Module}
 use Rattle.mh_rules.specs.declared.modules.TokenDecl.{TokenDecl}
-use Rattle.mh_meanings.specs.Names.{firsts, same, token_names, tokens_in}
+use Rattle.mh_meanings.specs.Names.{same, token_names, tokens_in}
 use Rattle.mh_meanings.specs.Faults.{Meanings, meanings}
 use Rattle.mh_meanings.specs.Joining.{token_info}
 use Rattle.mh_reader.specs.Signs.{is_capital}

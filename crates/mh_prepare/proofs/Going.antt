@@ -136,8 +136,8 @@ pub valid_table : (name : Text) (raw : RawTable) (g : Grammar) (a : Automaton) (
 valid_table name raw g a parts r valid has = automaton_goes (File name raw) g a r (parts, valid) has
 
 -- a file that is not valid
-invalid_stops : (name : Text) (raw : RawTable) (g : Grammar) (state : Option ℕ) (reason : Reason) (stop : Stop) → IsInvalidAt g raw state reason → Halts (Refused (invalid_line name state reason)) stop → StageHas {A = Tabled} (IsTableStage (File name raw) g) (Err stop)
-invalid_stops name raw g state reason (Halted cause) first halts = (Halt cause, record { state = state; reason = reason; first = first; cause_is = halts }, refl)
+invalid_stops : (name : Text) (raw : RawTable) (g : Grammar) (state : Option ℕ) (reason : Reason) (stop : Stop) → IsInvalidAt g raw state reason → Halts (Refused (invalid_line name state reason)) stop → StageHas {A = Automaton} (IsAutomatonStage (File name raw) g) (Err stop)
+invalid_stops name raw g state reason (Halted cause) first halts = record { state = state; reason = reason; first = first; cause_is = halts }
 invalid_stops name raw g state reason OutOfMemory first halts = tt
 invalid_stops name raw g state reason (ShelfFailed other) first halts = absurd halts
 invalid_stops name raw g state reason InputFailed first halts = absurd halts
@@ -148,9 +148,9 @@ pub automaton_kept : (mode : Mode) (g : Grammar) (a : Automaton) (r : Result Tab
 automaton_kept mode g a (Ok tabled) is has = subst (IsAutomaton (plain_of g)) (sym has.automaton) is
 automaton_kept mode g a (Err stop) is has = tt
 
-pub not_valid_stops : (name : Text) (raw : RawTable) (g : Grammar) (fault : ValidFault) (stop : Stop) → ((state : Option ℕ) (reason : Reason) → fault ≡ tables.Invalid state reason → IsInvalidAt g raw state reason) → RejectsBy name fault stop → StageHas {A = Tabled} (IsTableStage (File name raw) g) (Err stop)
+pub not_valid_stops : (name : Text) (raw : RawTable) (g : Grammar) (fault : ValidFault) (stop : Stop) → ((state : Option ℕ) (reason : Reason) → fault ≡ tables.Invalid state reason → IsInvalidAt g raw state reason) → RejectsBy name fault stop → StageHas {A = Automaton} (IsAutomatonStage (File name raw) g) (Err stop)
 not_valid_stops name raw g (tables.Invalid state reason) stop first halts = invalid_stops name raw g state reason stop (first state reason refl) halts
-not_valid_stops name raw g tables.Memory stop first halts = subst (λ (s : Stop). StageHas {A = Tabled} (IsTableStage (File name raw) g) (Err s)) (sym halts) tt
+not_valid_stops name raw g tables.Memory stop first halts = subst (λ (s : Stop). StageHas {A = Automaton} (IsAutomatonStage (File name raw) g) (Err s)) (sym halts) tt
 
 pub table_stops : (front : Front) (source : Source) (stop : Stop) → StageHas (IsTableStage source front.grammar) (Err stop) → StageHas {A = Prepared} (IsTabledFrom front source) (Err stop)
 table_stops front source stop has = then_stops (IsTableStage source front.grammar) (λ tabled. Gives (record { order = front.order; grammar = front.grammar; tabled = tabled })) (λ name. ⊥) stop has

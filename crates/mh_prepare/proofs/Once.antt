@@ -8,7 +8,7 @@ use Rattle.mh_pager.proofs.OneMerged.{merged_one}
 use Rattle.mh_resolve.proofs.Once.{one_table, conflicts_once}
 use Rattle.mh_resolve.specs.declared.kinds.Mode.{Mode}
 use Rattle.mh_tables.specs.Table.{TableData}
-use Rattle.mh_tables.specs.Halting.{Halts, LoopsAt}
+use Rattle.mh_tables.specs.Halting.{AlwaysHalts, LoopsAt}
 use Rattle.mh_tables.proofs.Finding.{one_loop}
 use Rattle.mh_outside.specs.Shelf.{Files}
 use Rattle.mh_msgfile.specs.Sentences.{token_names}
@@ -139,7 +139,7 @@ automaton_once (File name raw) g n (Halt cause) (Go a) p q = absurd (valid_not g
 automaton_once (File name raw) g n (Halt cause) (Halt cause') p q = ap Halt (invalid_once g n name raw cause cause' p q)
 
 -- no run that never ends is on a table that halts
-no_loop : (t : TableData) (below : Option ℕ) (s : ℕ) (look : Option ℕ) → Halts t → LoopsAt t below s look → ⊥
+no_loop : (t : TableData) (below : Option ℕ) (s : ℕ) (look : Option ℕ) → AlwaysHalts t → LoopsAt t below s look → ⊥
 no_loop t below s look halts loops = let le : 10001 ≤ 10000 = halts below s look 10001 loops.begins loops.known loops.loops in omega arith
 
 loops_not : (mode : Mode) (g : Grammar) (a : Automaton) (x : Tabled) (cause : Cause) → AreTabled mode g a x → LoopsFirst mode g a cause → ⊥
@@ -196,4 +196,4 @@ prepared_once words files s r p q = at p.0 q.0 (front_once words files p.0 q.0 p
         tabled_front_once files front (front_ready words (Some files) front is).apart s r x (subst (λ (k : Front). IsTabledFront (Some files) k r) (sym one) y)
     at (Go front) (Halt cause) same is x y = absurd (cc)
     at (Halt cause) (Go front) same is x y = absurd (cc)
-    at (Halt cause) (Halt other) same is x y = x ∙ same ∙ sym y
+    at (Halt cause) (Halt other) same is x y = let one : cause ≡ other = cc in x ∙ ap Halt one ∙ sym y

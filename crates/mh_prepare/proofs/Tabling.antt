@@ -8,7 +8,7 @@ use Rattle.mh_resolve.specs.Conflicts.{AreConflicts}
 use Rattle.mh_resolve.specs.declared.conflicts.Conflict.{Conflict}
 use Rattle.mh_resolve.specs.declared.kinds.Mode.{Mode}
 use Rattle.mh_tables.specs.Table.{TableData}
-use Rattle.mh_tables.specs.Halting.{Halts, LoopsAt}
+use Rattle.mh_tables.specs.Halting.{AlwaysHalts, LoopsAt}
 use Rattle.mh_msgfile.specs.Sentences.{token_names}
 use Rattle.mh_drive.specs.Stages.{StageHas, Halts as HaltsWith}
 use Rattle.mh_prepare.specs.TableStage.{AreTabled, IsResolvedStage}
@@ -19,12 +19,12 @@ use Rattle.mh_drive.specs.declared.stop.Stop.TheVariants.{Halted, ShelfFailed, I
 use Rattle.mh_prepare.specs.Shapes.{Tabled}
 
 module _ (mode : Mode) (g : Grammar) (a : Automaton) (t : TableData) (table : IsTableOf g a mode t) where
-  pub halts_too : (h : TableData) (found conflicts : List Conflict) → h ≡ t → conflicts ≡ found → AreConflicts g a found → Halts t → AreTabled mode g a (record { automaton = a; halting = h; conflicts = conflicts; mode = mode })
+  pub halts_too : (h : TableData) (found conflicts : List Conflict) → h ≡ t → conflicts ≡ found → AreConflicts g a found → AlwaysHalts t → AreTabled mode g a (record { automaton = a; halting = h; conflicts = conflicts; mode = mode })
   halts_too h found conflicts same_table same are halts = record {
     automaton = refl;
     table = subst (IsTableOf g a mode) (sym same_table) table;
     conflicts = subst (AreConflicts g a) (sym same) are;
-    halts = subst Halts (sym same_table) halts;
+    halts = subst AlwaysHalts (sym same_table) halts;
     resolved_in = refl;
   }
 

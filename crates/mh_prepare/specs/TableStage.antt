@@ -1,5 +1,5 @@
 -- The automaton of a grammar, built or from a table file, with its table, where every run on it ends, and the list of its conflicts.
-use Rattle.std.specs.Prelude.{if◌then◌else◌, ◌≡◌, ℕ, Bool, List, Option, None, Some}
+use Rattle.std.specs.Prelude.{if◌then◌else◌, ◌≡◌, ℕ, Bool, List, Option, None, Some, Result, Ok, Err}
 use Rattle.mh_grammar.specs.declared.types.Grammar.{Grammar}
 use Rattle.mh_grammar.specs.Plain.{plain_of}
 use Rattle.mh_items.specs.Shapes.{Automaton}
@@ -12,9 +12,12 @@ use Rattle.mh_resolve.specs.declared.kinds.Mode.{Mode}
 use Rattle.mh_resolve.specs.declared.kinds.Mode.TheVariants as modes
 use Rattle.mh_tables.specs.Table.{TableData}
 use Rattle.mh_tables.specs.declared.parts.StateParts.{StateParts}
-use Rattle.mh_tables.specs.Halting.{Halts, LoopsAt}
+use Rattle.mh_tables.specs.Halting.{AlwaysHalts, LoopsAt}
 use Rattle.mh_prepare.specs.Texts.{loops_line, too_many_states}
+use Rattle.mh_tabfile.specs.declared.types.RawTable.{RawTable}
 use Rattle.mh_valid.specs.Valid.{IsValidFor}
+use Rattle.mh_validate.specs.Outcome.{Gives as IsValidGiven}
+use Rattle.mh_validate.specs.declared.validation.Valid.{Valid}
 use Rattle.mh_outside.specs.Shelf.{Files}
 use Rattle.mh_drive.specs.Text.{Text}
 use Rattle.mh_drive.specs.Causes.{Staged, Go, Halt, Then, Gives}
@@ -22,6 +25,8 @@ use Rattle.mh_msgfile.specs.Sentences.{token_names}
 use Rattle.mh_opts.specs.declared.order.Order.{Order}
 use Rattle.mh_drive.specs.declared.stop.Cause.{Cause}
 use Rattle.mh_drive.specs.declared.stop.Cause.TheVariants.{Refused}
+use Rattle.mh_drive.specs.Stages.{StageHas}
+use Rattle.mh_drive.specs.declared.stop.Stop.{Stop}
 use Rattle.mh_prepare.specs.declared.tabled.Source.{Source}
 use Rattle.mh_prepare.specs.declared.tabled.Source.TheVariants.{Canonical, Merged, File}
 use Rattle.mh_prepare.specs.FileStage.{IsFile}
@@ -56,6 +61,11 @@ IsAutomatonStage Canonical g (Halt cause) = IsOver (plain_of g) MAX_STATES × (c
 IsAutomatonStage (File name raw) g (Go a) = (parts : List StateParts) × IsValidFor g raw a parts
 IsAutomatonStage (File name raw) g (Halt cause) = IsInvalid name g raw cause
 
+-- what a table file gives, or why it is not valid
+abbrev pub IsValidated : {W : ℕ} → Text → RawTable → Grammar → Result (Valid W) Stop → Type 0
+IsValidated name raw g (Ok valid) = IsValidGiven g raw valid
+IsValidated name raw g (Err stop) = StageHas {A = Automaton} (IsAutomatonStage (File name raw) g) (Err stop)
+
 -- ---- its table
 
 -- a run on the table never ends, and this is the cause for the first that does not
@@ -73,7 +83,7 @@ pub record AreTabled (mode : Mode) (g : Grammar) (a : Automaton) (tabled : Table
   pub automaton : tabled.automaton ≡ a
   pub table : IsTableOf g a mode tabled.halting
   pub conflicts : AreConflicts g a tabled.conflicts
-  pub halts : Halts tabled.halting
+  pub halts : AlwaysHalts tabled.halting
   pub resolved_in : tabled.mode ≡ mode
 
 abbrev pub IsResolvedStage : Mode → Grammar → Automaton → Staged Tabled → Type 0

@@ -3,7 +3,7 @@ ghost use Rattle.std.specs.Prelude.{◌≡◌, ◌<◌, ◌≤◌, ◌*◌, ◌^
 ghost use Rattle.mh_grammar.specs.Costs.{HaveCosts};
 ghost use Rattle.mh_grammar.specs.Plain.{plain_of, IsInRange};
 ghost use Rattle.mh_items.specs.Automaton.{IsAutomaton};
-ghost use Rattle.mh_prepare.specs.TableStage.{IsAutomatonStage, IsResolvedStage, IsTableStage};
+ghost use Rattle.mh_prepare.specs.TableStage.{IsAutomatonStage, IsResolvedStage, IsTableStage, IsValidated};
 ghost use Rattle.mh_prepare.specs.Texts.{loop_place, look_text, loops_line, too_many_states as too_many_states_line};
 ghost use Rattle.mh_drive.specs.Stages.{Halts, StageHas};
 ghost use Rattle.mh_msgfile.specs.Sentences.{token_names};
@@ -227,6 +227,28 @@ fn with_valid<const W: usize>(
     where_halting(alloc, grammar, automaton, table, conflicts, mode)
 }
 
+/// What a table file gives, where it is valid for the grammar.
+fn validated<const W: usize>(
+    alloc: Global,
+    grammar: &Grammar,
+    name: &[u8],
+    raw: &RawTable,
+) -> Result<Valid<W>, Stop>
+    requires few { W ≤ 8 }
+    requires width { length grammar.now.tokens ≤ 64 * W }
+    requires range { IsInRange (plain_of grammar.now) }
+    requires costs { HaveCosts grammar.now.tokens }
+    requires apart { AreNamesApart grammar.now }
+    requires numbered { length raw.now.states < 2 ^ 32 }
+    ensures stage { IsValidated name.now raw.now grammar.now result }
+    ensures automaton { IfOk result (λ valid. IsAutomaton (plain_of grammar.now) valid.automaton) }
+{
+    match validate(alloc, grammar, raw) {
+        Ok(valid) => Ok(valid),
+        Err(fault) => Err(not_valid(alloc, name, fault)),
+    }
+}
+
 /// The automaton of a table file with its table, where the file is valid for the grammar. None is built.
 fn table_in<const W: usize>(
     alloc: Global,
@@ -243,9 +265,9 @@ fn table_in<const W: usize>(
     ensures stage { StageHas (IsTableStage (File name.now raw.now) grammar.now) result }
     ensures automaton { IfOk result (λ tabled. IsAutomaton (plain_of grammar.now) tabled.automaton) }
 {
-    match validate::<W>(alloc, grammar, raw) {
+    match validated(alloc, grammar, name, raw) {
         Ok(valid) => with_valid(alloc, grammar, valid, raw.mode),
-        Err(fault) => Err(not_valid(alloc, name, fault)),
+        Err(stop) => Err(stop),
     }
 }
 

@@ -1,7 +1,7 @@
--- What is read is ready to be joined: each rule has an alternative, and costs are in range.
+-- What is read is ready to be joined: each rule has an alternative, costs are in range, and no actual is too deep.
 use Rattle.std.proofs.Common.{◌<◌, ◌≢◌, ℕ, List, [], ◌∷◌, ◌++◌, length, refl, arith, Ok, Err}
 use Rattle.std.specs.Prelude.{Result, IfOk, None}
-use Rattle.std.specs.List.{AllByRecursion}
+use Rattle.std.specs.List.{All, AllByRecursion}
 use Rattle.std.proofs.lemmas.List.Elements.{All-push, All-from_recursion}
 use Rattle.mh_lex.specs.declared.kinds.Lexeme.{Lexeme}
 use Rattle.mh_lex.specs.declared.kinds.SyntaxFault.{SyntaxFault}
@@ -12,10 +12,12 @@ use Rattle.mh_rules.specs.declared.modules.Rule.{Rule}
 use Rattle.mh_rules.specs.declared.modules.TokenDecl.{TokenDecl}
 use Rattle.mh_rules.specs.declared.modules.Module.{Module}
 use Rattle.mh_rules.specs.Modules.{no_module}
+use Rattle.mh_rules.specs.Depth.{IsActualShallow, AreProducersShallow}
 use Rattle.mh_rules.specs.Ready.{IsTokenReady, IsModuleReady, AreModulesReady}
 use Rattle.mh_reader.specs.Signs.{reads_of}
 use Rattle.mh_reader.specs.Spelling.{File, Spells}
 use Rattle.mh_reader.proofs.Fitting.{FitsToken, FitsRule, lexemes_fit, spelled_fitting}
+use Rattle.mh_reader.proofs.Shallow.{rules_shallow, lists_shallow}
 
 abbrev IsFilled : Rule → Type 0
 IsFilled r = 0 < length r.alternatives
@@ -38,6 +40,8 @@ file_ready bytes ls m lexed f =
     record {
       alternatives = All-from_recursion IsFilled m.rules (rules_filled m.rules fitting.rules);
       costs = All-from_recursion IsTokenReady m.tokens (tokens_ready m.tokens fitting.tokens);
+      shallow = All-from_recursion AreProducersShallow m.rules (rules_shallow m.rules fitting.rules);
+      on_error_shallow = All-from_recursion (All IsActualShallow) m.on_error (lists_shallow m.on_error fitting.on_error);
     }
 
 -- each answer that spells a module

@@ -8,4 +8,5 @@ pub mod Fitting
 pub mod Reprinted
 pub mod Lines
 pub mod Short
+pub mod Shallow
 pub mod Filled

@@ -1,6 +1,7 @@
 -- Reading one lexeme at a time.
 use Rattle.std.specs.Prelude.{◌≡◌, ◌+◌, ℕ, suc, max, nat_le, List, [], ◌∷◌, ◌++◌, length, map, Option, Some, None, Bool, true, false, Result, Ok, Err}
 use Rattle.std.specs.Option.{option_or}
+use Rattle.mh_rules.specs.declared.modules.TheConstants.{MAX_DEPTH}
 use Rattle.mh_rules.specs.declared.modules.Ref.{Ref}
 use Rattle.mh_rules.specs.declared.modules.Ref.TheVariants.{Plain, Alias}
 use Rattle.mh_rules.specs.declared.modules.Actual.{Actual}
@@ -250,7 +251,7 @@ above m k (p ∷ ps) a d g text = within m k p ps a d g
 
 -- so deep within so many brackets is not too deep
 abbrev pub fits : ℕ → List Pending → Bool
-fits d ps = nat_le (d + length ps) 1000
+fits d ps = nat_le (d + length ps) MAX_DEPTH
 
 abbrev pub deeper : Module → Purpose → List Pending → Actual → ℕ → Bool → List ℕ → Option Reader
 deeper m k ps a d true n = goes m (places.After k ps (applied (Plain n) (a ∷ [])) (suc d))

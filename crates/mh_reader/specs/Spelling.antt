@@ -6,6 +6,7 @@ use Rattle.std.specs.Option.{option_or}
 use Rattle.mh_grammar.specs.declared.types.Assoc.{Assoc}
 use Rattle.mh_lex.specs.declared.kinds.Lexeme.{Lexeme}
 use Rattle.mh_lex.specs.Lexing.{Lexes}
+use Rattle.mh_rules.specs.declared.modules.TheConstants.{MAX_DEPTH}
 use Rattle.mh_rules.specs.declared.modules.Ref.{Ref}
 use Rattle.mh_rules.specs.declared.modules.Ref.TheVariants.{Plain, Alias}
 use Rattle.mh_rules.specs.declared.modules.Actual.{Actual}
@@ -60,7 +61,7 @@ mutual
 
 -- an actual that is not too deep
 pub data Limited : List Read → List Read → Actual → Type 0 where
-  limited : {xs rest : List Read} {a : Actual} {d : ℕ} → IsActual xs rest a d → d ≤ 1000 → Limited xs rest a
+  limited : {xs rest : List Read} {a : Actual} {d : ℕ} → IsActual xs rest a d → d ≤ MAX_DEPTH → Limited xs rest a
 
 -- ([","] X)*, behind others of the list
 pub data ListOf (A : Type 0) (X : List Read → List Read → A → Type 0) : List A → List Read → List Read → List A → Type 0 where

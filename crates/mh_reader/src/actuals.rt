@@ -16,11 +16,8 @@ use crate::rules::{at_spaced, reference};
 use crate::signs::Sign;
 use crate::stack::Stack;
 use mh_grammar::{Memory, Name, Sequence, from_bytes};
-use mh_rules::{Actual, Module, Ref};
+use mh_rules::{Actual, MAX_DEPTH, Module, Ref};
 use std::alloc::Global;
-
-/// The greatest depth of an actual.
-const DEPTH: usize = 1000;
 
 /// An actual with all its arguments, and its depth.
 #[derive(Drop)]
@@ -31,9 +28,9 @@ pub(crate) struct Measured {
 
 /// Whether one more than a depth within so many brackets is not too deep.
 fn has_room(depth: usize, brackets: usize) -> bool
-    ensures { result ≡ nat_le (suc depth + brackets) 1000 }
+    ensures { result ≡ nat_le (suc depth + brackets) MAX_DEPTH }
 {
-    brackets < DEPTH && depth < DEPTH - brackets
+    brackets < MAX_DEPTH && depth < MAX_DEPTH - brackets
 }
 
 fn deeper_of(one: usize, two: usize) -> usize
@@ -139,8 +136,8 @@ fn behind_argument(
     argument: Measured,
     sign: Sign,
 ) -> Result<Reader, Refusal>
-    requires inner { inner.depth ≤ 1000 }
-    requires outer { argument.depth ≤ 1000 }
+    requires inner { inner.depth ≤ MAX_DEPTH }
+    requires outer { argument.depth ≤ MAX_DEPTH }
     ensures { Refers (machine.within made purpose inner rest argument.actual argument.depth sign) result }
 {
     match add_argument(inner, argument) {
@@ -170,7 +167,7 @@ fn above(
     sign: Sign,
     text: &[u8],
 ) -> Result<Reader, Refusal>
-    requires within { read.depth + length pending ≤ 1000 }
+    requires within { read.depth + length pending ≤ MAX_DEPTH }
     requires deep { Deep pending }
     ensures { Refers (machine.above made purpose pending read.actual read.depth sign text.now) result }
 {
@@ -213,7 +210,7 @@ pub(crate) fn after(
     sign: Sign,
     text: &[u8],
 ) -> Result<Reader, Refusal>
-    requires within { read.depth + length pending ≤ 1000 }
+    requires within { read.depth + length pending ≤ MAX_DEPTH }
     requires deep { Deep pending }
     ensures { Refers (machine.after made purpose pending read.actual read.depth sign text.now) result }
 {
@@ -257,7 +254,7 @@ pub(crate) fn at_head(
     sign: Sign,
     text: &[u8],
 ) -> Result<Reader, Refusal>
-    requires within { 1 + length pending ≤ 1000 }
+    requires within { 1 + length pending ≤ MAX_DEPTH }
     requires deep { Deep pending }
     ensures { Refers (machine.at_head made purpose pending head sign text.now) result }
 {

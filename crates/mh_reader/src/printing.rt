@@ -5,6 +5,7 @@ ghost use Rattle.mh_reader.specs.Printed.{Writes, word, quoted, keyword, ref_pie
 ghost use Rattle.mh_lex.specs.declared.kinds.SyntaxFault.{SyntaxFault};
 ghost use Rattle.mh_lex.specs.declared.kinds.SyntaxFault.TheVariants as faults;
 ghost use Rattle.mh_rules.specs.declared.modules.Module.{Module};
+ghost use Rattle.mh_rules.specs.Ready.{IsModuleReady};
 ghost use Rattle.mh_reader.specs.Spelling.{Spells};
 ghost use Rattle.mh_reader.specs.Faults.{Reads};
 
@@ -263,8 +264,10 @@ fn write_module(alloc: Global, text: &mut Vec<u8>, module: &Module) -> Result<()
 }
 
 /// Bytes that spell the module, if some bytes spell it; `read_module` gives it back from them. Answers `Memory` only where
-/// memory runs out.
+/// memory runs out. What bytes spell is ready, so nothing is lost by asking for it: the recursion over actuals is at most
+/// `MAX_DEPTH` deep.
 pub fn print_module(alloc: Global, module: &Module) -> Result<Vec<u8>, Memory>
+    requires { IsModuleReady «module».now }
     ensures spelled { IfOk result (λ text. (bytes : List ℕ) → Spells bytes «module».now → Spells text.items «module».now) }
     ensures again { IfOk result (λ text. (bytes : List ℕ) → Spells bytes «module».now → (answer : Result Module SyntaxFault)
         → Reads text.items answer → answer ≢ Err faults.Memory → answer ≡ Ok «module».now) }

@@ -9,11 +9,11 @@ use Rattle.mh_grammar.specs.declared.types.Grammar.{Grammar}
 use Rattle.mh_grammar.specs.declared.types.Look.{Look}
 use Rattle.mh_grammar.specs.declared.types.Look.TheVariants.{Token, End}
 use Rattle.mh_grammar.specs.declared.edges.Edge.{Edge}
-use Rattle.mh_grammar.specs.Plain.{plain_of, rhs_of, IsLookBelow}
+use Rattle.mh_grammar.specs.Plain.{plain_of, IsLookBelow}
 use Rattle.mh_items.specs.Empties.{HasComplete}
-use Rattle.mh_items.specs.Shapes.{Kernel}
+use Rattle.mh_items.specs.Shapes.{Items, Kernel}
 use Rattle.mh_items.specs.Shapes.{KernelItem}
-use Rattle.mh_items.specs.Kernels.{Holds, IsKernel, IsKernelItem}
+use Rattle.mh_items.specs.Kernels.{IsKernel, IsKernelItem}
 use Rattle.mh_tables.specs.declared.parts.Action.{Action}
 use Rattle.mh_tables.specs.declared.parts.Action.TheVariants.{Shift, Reduce, Refuse}
 use Rattle.mh_tables.specs.declared.parts.StateParts.{StateParts}
@@ -31,7 +31,7 @@ use Rattle.mh_resolve.proofs.Stating.{stream_to, stream_from, found, fallback_is
 abbrev pub IsListed : Grammar → Kernel → Kernel → Type 0
 IsListed g kernel closed = HasComplete (plain_of g) kernel closed
 
-raw_listed : (g : Grammar) (kernel closed : Kernel) (edges : List Edge) → IsListed g kernel closed → (look : Look) → AreAlike (Raw (listed g closed.items edges) look) (Raw (closed_state g kernel edges) look)
+raw_listed : (g : Grammar) (kernel : Kernel) (closed : Items) (edges : List Edge) → IsListed g kernel closed → (look : Look) → AreAlike (Raw (listed g closed.items edges) look) (Raw (closed_state g kernel edges) look)
 raw_listed g kernel closed edges e look = record { to = to; from = from }
   where
     to : (a : Action) → Raw (listed g closed.items edges) look a → Raw (closed_state g kernel edges) look a
@@ -44,7 +44,7 @@ raw_listed g kernel closed edges e look = record { to = to; from = from }
     from (Reduce p) r = (e p look).1 r
     from Refuse r = r
 
-pub row_is : (g : Grammar) (kernel closed : Kernel) (edges : List Edge) → IsListed g kernel closed → IsKnown (closed_state g kernel edges) → (items : List KernelItem) → items ≡ closed.items → (cells slice row : List Cell) (last : Cell) (stream : Bool)
+pub row_is : (g : Grammar) (kernel : Kernel) (closed : Items) (edges : List Edge) → IsListed g kernel closed → IsKnown (closed_state g kernel edges) → (items : List KernelItem) → items ≡ closed.items → (cells slice row : List Cell) (last : Cell) (stream : Bool)
     → AreCells (listed g items edges) (length g.tokens) cells → IsDecidedOn (listed g items edges) End last → slice ≡ cells → row ≡ cells → (IsTrue stream ↔ IsStreamIn last.action slice) → IsRow (closed_state g kernel edges) row last stream
 row_is g kernel closed edges e k items same cells slice row last stream a d f h t =
     let here : AreCells (listed g closed.items edges) (length g.tokens) cells = rw same at a in
@@ -64,24 +64,24 @@ row_is g kernel closed edges e k items same cells slice row last stream a d f h 
       );
     }
 
-candidate_to : (g : Grammar) (kernel closed : Kernel) (edges : List Edge) → IsListed g kernel closed → (p r : ℕ) → IsCandidate (listed g closed.items []) p r → IsCandidate (closed_state g kernel edges) p r
+candidate_to : (g : Grammar) (kernel : Kernel) (closed : Items) (edges : List Edge) → IsListed g kernel closed → (p r : ℕ) → IsCandidate (listed g closed.items []) p r → IsCandidate (closed_state g kernel edges) p r
 candidate_to g kernel closed edges e p r c = record { look = c.look; complete = (e p c.look).0 c.complete; named = c.named }
 
-candidate_from : (g : Grammar) (kernel closed : Kernel) (edges : List Edge) → IsListed g kernel closed → (p r : ℕ) → IsCandidate (closed_state g kernel edges) p r → IsCandidate (listed g closed.items []) p r
+candidate_from : (g : Grammar) (kernel : Kernel) (closed : Items) (edges : List Edge) → IsListed g kernel closed → (p r : ℕ) → IsCandidate (closed_state g kernel edges) p r → IsCandidate (listed g closed.items []) p r
 candidate_from g kernel closed edges e p r c = record { look = c.look; complete = (e p c.look).1 c.complete; named = c.named }
 
-errors_to : (g : Grammar) (kernel closed : Kernel) (edges : List Edge) → IsListed g kernel closed → (p : ℕ) → IsForErrors (listed g closed.items []) p → IsForErrors (closed_state g kernel edges) p
+errors_to : (g : Grammar) (kernel : Kernel) (closed : Items) (edges : List Edge) → IsListed g kernel closed → (p : ℕ) → IsForErrors (listed g closed.items []) p → IsForErrors (closed_state g kernel edges) p
 errors_to g kernel closed edges e p f = record { rank = f.rank; candidate = candidate_to g kernel closed edges e p f.rank f.candidate; lowest = λ q r c. f.lowest q r (candidate_from g kernel closed edges e q r c) }
 
-errors_from : (g : Grammar) (kernel closed : Kernel) (edges : List Edge) → IsListed g kernel closed → (p : ℕ) → IsForErrors (closed_state g kernel edges) p → IsForErrors (listed g closed.items []) p
+errors_from : (g : Grammar) (kernel : Kernel) (closed : Items) (edges : List Edge) → IsListed g kernel closed → (p : ℕ) → IsForErrors (closed_state g kernel edges) p → IsForErrors (listed g closed.items []) p
 errors_from g kernel closed edges e p f = record { rank = f.rank; candidate = candidate_from g kernel closed edges e p f.rank f.candidate; lowest = λ q r c. f.lowest q r (candidate_to g kernel closed edges e q r c) }
 
-filler_to : (g : Grammar) (kernel closed : Kernel) (edges : List Edge) → IsListed g kernel closed → (default filler : Option ℕ) → IsFiller (listed g closed.items []) default filler → IsFiller (closed_state g kernel edges) default filler
+filler_to : (g : Grammar) (kernel : Kernel) (closed : Items) (edges : List Edge) → IsListed g kernel closed → (default filler : Option ℕ) → IsFiller (listed g closed.items []) default filler → IsFiller (closed_state g kernel edges) default filler
 filler_to g kernel closed edges e (Some p) filler f = f
 filler_to g kernel closed edges e None None f = λ p h. f p (errors_from g kernel closed edges e p h)
 filler_to g kernel closed edges e None (Some p) f = errors_to g kernel closed edges e p f
 
-pub parts_is : (g : Grammar) (kernel closed : Kernel) (edges : List Edge) (mode : Mode) → IsListed g kernel closed → IsKnown (closed_state g kernel edges) → (row slice : List Cell) (last : Cell) (stream : Bool) → IsRow (closed_state g kernel edges) row last stream
+pub parts_is : (g : Grammar) (kernel : Kernel) (closed : Items) (edges : List Edge) (mode : Mode) → IsListed g kernel closed → IsKnown (closed_state g kernel edges) → (row slice : List Cell) (last : Cell) (stream : Bool) → IsRow (closed_state g kernel edges) row last stream
     → slice ≡ row → (default filler : Option ℕ)
     → MatchOption default ((p : ℕ) → IsDefaultIn (kept_of stream last.action) mode slice p → ⊥) (IsDefaultIn (kept_of stream last.action) mode slice)
     → IsFiller (listed g closed.items []) default filler
@@ -102,7 +102,7 @@ parts_is g kernel closed edges mode e k row slice last stream r same default fil
       core = core;
     }
 
-pub known_is : (g : Grammar) (kernel closed : Kernel) (edges : List Edge) → IsKernel (plain_of g) closed → IsListed g kernel closed → AreEdgesKnown (length g.tokens) edges → IsKnown (closed_state g kernel edges)
+pub known_is : (g : Grammar) (kernel : Kernel) (closed : Items) (edges : List Edge) → IsKernel (plain_of g) closed → IsListed g kernel closed → AreEdgesKnown (length g.tokens) edges → IsKnown (closed_state g kernel edges)
 known_is g kernel closed edges h e k = record { known = known }
   where
     known : (look : Look) (a : Action) → Raw (closed_state g kernel edges) look a → IsLookBelow (length g.tokens) look
@@ -114,8 +114,8 @@ known_is g kernel closed edges h e k = record { known = known }
         recursion_contains (IsLookBelow (length g.tokens)) held.0.looks is.looks (Token z) held.4
     known (Token z) Refuse r = absurd r
 
-pub looked_is : (g : Grammar) (closed : Kernel) → IsKernel (plain_of g) closed → All IsLooked closed.items
+pub looked_is : (g : Grammar) (closed : Items) → IsKernel (plain_of g) closed → All IsLooked closed.items
 looked_is g closed h = All-weaker (IsKernelItem (plain_of g)) IsLooked (λ item is. is.some) closed.items (All-from_recursion (IsKernelItem (plain_of g)) closed.items h.items)
 
-pub looks_known : (g : Grammar) (closed : Kernel) → IsKernel (plain_of g) closed → All (AreLooksKnown (length g.tokens)) closed.items
+pub looks_known : (g : Grammar) (closed : Items) → IsKernel (plain_of g) closed → All (AreLooksKnown (length g.tokens)) closed.items
 looks_known g closed h = All-weaker (IsKernelItem (plain_of g)) (AreLooksKnown (length g.tokens)) (λ item is. is.looks) closed.items (All-from_recursion (IsKernelItem (plain_of g)) closed.items h.items)

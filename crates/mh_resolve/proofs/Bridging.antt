@@ -1,22 +1,20 @@
 -- Conflicts of item sets are those of the states.
-use Rattle.std.proofs.Common.{◌≡◌, ◌⊎◌, ◌↔◌, ◌<◌, ℕ, Some, None, length, sym, ap, ◌∙◌, inl, inr}
+use Rattle.std.proofs.Common.{◌≡◌, ◌↔◌, ◌<◌, ℕ, Some, None, length, sym, ap, ◌∙◌, inl, inr}
 use Rattle.mh_grammar.specs.declared.types.Grammar.{Grammar}
-use Rattle.mh_grammar.specs.declared.types.Symbol.{Symbol}
 use Rattle.mh_grammar.specs.declared.types.Symbol.TheVariants.{T}
 use Rattle.mh_grammar.specs.declared.types.Look.{Look}
 use Rattle.mh_grammar.specs.declared.types.Look.TheVariants.{Token, End}
-use Rattle.mh_grammar.specs.Plain.{PlainGrammar, plain_of}
-use Rattle.mh_grammar.specs.Edges.{find_edge}
+use Rattle.mh_grammar.specs.Plain.{plain_of}
 use Rattle.mh_grammar.specs.ItemSets as items
 use Rattle.mh_grammar.specs.ItemSets.{ItemSet, Close, Moved}
 use Rattle.mh_items.specs.Shapes.{Automaton}
-use Rattle.mh_items.specs.Conflicts.{ShiftsOn, ReducesOn, HasConflict, shift_reduce, reduce_reduce, HasStreamConflict, shift, reduce, HasEither, IsConflicting, IsFaulty}
-use Rattle.mh_items.specs.Automaton.{kernel_of, leads_to, closure_of, move_of, Moves, IsAutomaton}
+use Rattle.mh_items.specs.Conflicts.{ShiftsOn, HasConflict, shift_reduce, reduce_reduce, HasStreamConflict, shift, reduce, HasEither, IsConflicting, IsFaulty}
+use Rattle.mh_items.specs.Automaton.{kernel_of, IsAutomaton}
 use Rattle.mh_tables.specs.declared.parts.Action.{Action}
 use Rattle.mh_tables.specs.declared.parts.Action.TheVariants.{Shift, Reduce, Refuse}
 use Rattle.mh_resolve.specs.Cells.{IsConflict}
 use Rattle.mh_resolve.specs.Clear.{IsClear, HasNoConflicts, HasRawConflict}
-use Rattle.mh_resolve.specs.States.{State, state_of, Raw, IsStreamConflict}
+use Rattle.mh_resolve.specs.States.{state_of, Raw, IsStreamConflict}
 use Rattle.mh_resolve.proofs.Once.{raw_taken}
 use Rattle.mh_resolve.proofs.Stating.{takes_raw}
 

@@ -1,6 +1,5 @@
 -- What the closure of a kernel of an automaton holds.
-use Rattle.std.proofs.Common.{◌≡◌, ℕ, zero, suc, ◌<◌, ◌≤◌, ◌⊎◌, List, [], ◌∷◌, length, drop, Some, refl, ap, arith, inl, inr}
-use Rattle.std.specs.List.{slice_get, Contains}
+use Rattle.std.proofs.Common.{◌≡◌, ℕ, suc, ◌<◌, ◌≤◌, ◌⊎◌, List, ◌∷◌, length, drop, Some, refl, arith, inl, inr}
 use Rattle.std.proofs.lemmas.Bool.{cases_lt}
 use Rattle.std.proofs.lemmas.List.{get_or_past}
 use Rattle.mh_grammar.specs.declared.types.Symbol.{Symbol}
@@ -12,8 +11,9 @@ use Rattle.mh_grammar.specs.ItemSets.{ItemSet, Close, given, added, Moved, moved
 use Rattle.mh_items.specs.Shapes.{Kernel}
 use Rattle.mh_items.specs.Shapes.{Automaton}
 use Rattle.mh_items.specs.Kernels.{Holds, HasPlace, IsKernelItem, IsKernel}
+use Rattle.mh_items.specs.Collection.{HasItem}
 use Rattle.mh_items.specs.Automaton.{IsAutomaton, no_kernel, kernel_at, kernel_of, closure_of, leads_to}
-use Rattle.mh_grammar.proofs.Lists.{at_contains, recursion_contains}
+use Rattle.mh_grammar.proofs.Lists.{recursion_contains}
 
 -- what is so of each item of a closure
 pub record IsItem (g : PlainGrammar) (p d : ℕ) (look : Look) : Type 0 where
@@ -42,37 +42,25 @@ closed_is_item g I h p d look (added c e is b) = record {
 }
 
 -- a closure has an item of the kernel
-record AnItem (I : ItemSet) : Type 0 where
-  production : ℕ
-  dot : ℕ
-  look : Look
-  there : I production dot look
-
-closed_from : (g : PlainGrammar) (I : ItemSet) (p d : ℕ) (look : Look) → Close g I p d look → AnItem I
-closed_from g I p d look (given c) = record { production = p; dot = d; look = look; there = c }
+closed_from : (g : PlainGrammar) (I : ItemSet) (p d : ℕ) (look : Look) → Close g I p d look → HasItem I
+closed_from g I p d look (given c) = record { production = p; dot = d; look = look; holds = c }
 closed_from g I p d look (added {p = q} {d = e} {a = l} c s is b) = closed_from g I q e l c
 
 -- an item of a closure stands in the kernel, or begins a production of a nonterminal behind a dot
 record IsBegun (g : PlainGrammar) (I : ItemSet) (p d : ℕ) : Type 0 where
   dot : d ≡ 0
   ordinary : length g.starts ≤ p
-  from : ℕ
-  place : ℕ
-  look : Look
+  from : HasItem (Close g I)
   rest : List Symbol
-  there : Close g I from place look
-  before : drop place (rhs_of g from) ≡ N (lhs_of g p) ∷ rest
+  before : drop from.dot (rhs_of g from.production) ≡ N (lhs_of g p) ∷ rest
 
 closed_cases : (g : PlainGrammar) (I : ItemSet) (p d : ℕ) (look : Look) → Close g I p d look → I p d look ⊎ IsBegun g I p d
 closed_cases g I p d look (given c) = inl c
 closed_cases g I p d look (added {p = q} {d = e} {y = y} {a = l} c s is b) = inr (record {
   dot = refl;
   ordinary = is.ordinary;
-  from = q;
-  place = e;
-  look = l;
+  from = record { production = q; dot = e; look = l; holds = c };
   rest = y;
-  there = c;
   before = rw is.lhs s;
 })
 
@@ -88,7 +76,7 @@ held_within a s p d look h =
     ]
 
 pub closure_within : (g : PlainGrammar) (a : Automaton) (s p d : ℕ) (look : Look) → closure_of g a s p d look → s < length a.kernels
-closure_within g a s p d look c = let from = closed_from g (kernel_of a s) p d look c in held_within a s from.production from.dot from.look from.there
+closure_within g a s p d look c = let from = closed_from g (kernel_of a s) p d look c in held_within a s from.production from.dot from.look from.holds
 
 -- an item of a state's closure
 pub closure_is_item : (g : PlainGrammar) (a : Automaton) → IsAutomaton g a → (s p d : ℕ) (look : Look) → closure_of g a s p d look → IsItem g p d look
@@ -110,7 +98,7 @@ stands g a h s p d look c =
     elim (closed_cases g (kernel_of a s) p d look c) [
       | inl held ↦ inl (held.0, held.1, held.2, held.3)
       | inr begun ↦ (
-          let found = edge_from g a h s begun.from begun.place begun.look (N (lhs_of g p)) begun.rest begun.there begun.before in
+          let found = edge_from g a h s begun.from.production begun.from.dot begun.from.look (N (lhs_of g p)) begun.rest begun.from.holds begun.before in
           inr (begun.dot, record { ordinary = begun.ordinary; target = found.0; goto = found.1 }))
     ]
 

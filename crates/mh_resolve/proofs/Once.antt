@@ -1,12 +1,12 @@
 -- What is resolved of a state is determined.
-use Rattle.std.proofs.Common.{◌≡◌, ℕ, zero, suc, ◌<◌, ◌⊎◌, List, [], ◌∷◌, length, get_or, Option, Some, None, refl, ap, sym, ◌∙◌, arith, inl, inr}
+use Rattle.std.proofs.Common.{◌≡◌, ℕ, ◌<◌, ◌⊎◌, List, length, get_or, Option, Some, None, refl, ap, sym, ◌∙◌, arith, inl, inr}
 use Rattle.std.proofs.lemmas.List.{same_lists, get_or_default}
 use Rattle.mh_grammar.specs.declared.types.Grammar.{Grammar}
 use Rattle.mh_items.specs.Shapes.{Automaton}
 use Rattle.mh_items.specs.Automaton.{kernel_at}
 use Rattle.mh_tables.specs.Table.{no_state}
 use Rattle.mh_grammar.specs.declared.types.Look.{Look}
-use Rattle.mh_grammar.specs.declared.types.Look.TheVariants.{Token, End}
+use Rattle.mh_grammar.specs.declared.types.Look.TheVariants.{Token}
 use Rattle.mh_tables.specs.declared.parts.Action.{Action}
 use Rattle.mh_tables.specs.declared.parts.Action.TheVariants.{Shift, Reduce, Refuse}
 use Rattle.mh_tables.specs.declared.parts.Fallback.{Fallback}
@@ -17,8 +17,7 @@ use Rattle.mh_resolve.specs.declared.kinds.Mode.{Mode}
 use Rattle.std.proofs.lemmas.Bool.{cases_lt}
 use Rattle.mh_resolve.specs.Cells.{IsConflict}
 use Rattle.mh_resolve.specs.States.{Raw, TakesOn, State, state_of, AreResolved, HasDefault, IsFallback, IsForErrors, Fills, IsCell, IsResolved, IsTableOf}
-use Rattle.std.specs.List.{slice_get, Contains}
-use Rattle.mh_grammar.specs.Edges.{IsRising, IsLookBefore}
+use Rattle.mh_grammar.specs.Edges.{IsLookBefore}
 use Rattle.mh_tables.specs.Table.{TableData}
 use Rattle.mh_resolve.specs.declared.conflicts.Conflict.{Conflict}
 use Rattle.mh_resolve.specs.Conflicts.{AreConflicts, IsConflictBefore, IsKindBefore}

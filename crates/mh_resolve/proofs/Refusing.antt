@@ -1,5 +1,5 @@
 -- Which cells are holes: those of a state without default that refuse and have an edge.
-use Rattle.std.proofs.Common.{◌≡◌, ℕ, zero, suc, ◌<◌, ◌≤◌, ◌+◌, ◌⊎◌, List, [], ◌∷◌, ◌++◌, Option, Some, None, length, get_or, Bool, true, false, refl, ap, sym, subst, ◌∙◌, arith, inl, inr}
+use Rattle.std.proofs.Common.{◌≡◌, ℕ, zero, suc, ◌<◌, ◌+◌, List, [], ◌∷◌, ◌++◌, Option, Some, None, length, get_or, Bool, true, false, refl, ap, sym, subst, ◌∙◌, arith, inl, inr}
 use Rattle.std.specs.Prelude.{◌&&◌, is_some, MatchBool}
 use Rattle.std.proofs.lemmas.Bool.{cases_lt}
 use Rattle.std.proofs.lemmas.List.{get_or_append_left, get_or_push, length_push}
@@ -16,7 +16,7 @@ use Rattle.mh_tables.specs.declared.parts.Action.TheVariants.{Shift, Reduce, Ref
 use Rattle.mh_resolve.specs.declared.kinds.Mode.{Mode}
 use Rattle.mh_resolve.specs.Levels.{compared}
 use Rattle.mh_resolve.specs.Cells.{Stays}
-use Rattle.mh_resolve.specs.States.{State, state_of, Raw, TakesOn, IsHoleOn, IsCell, Fills, IsTableOf}
+use Rattle.mh_resolve.specs.States.{State, state_of, Raw, TakesOn, IsHoleOn, IsCell, IsTableOf}
 use Rattle.mh_resolve.specs.code.Counting.{AreShifts}
 use Rattle.mh_resolve.specs.Holes.{AreHoles, refuses}
 use Rattle.mh_resolve.proofs.Stating.{takes_stays}

@@ -1,20 +1,17 @@
 -- What is resolved from an automaton meets the facts that a table keeps.
-use Rattle.std.proofs.Common.{◌≡◌, ℕ, zero, suc, ◌<◌, ◌≤◌, ◌-◌, ◌⊎◌, List, [], ◌∷◌, length, get_or, Some, None, Option, lt-ltb, le-ltb, refl, ap, sym, ◌∙◌, arith, inl, inr}
-use Rattle.std.specs.List.{slice_get, slice_index, Contains}
-use Rattle.std.specs.Option.{option_map, unwrap_or}
+use Rattle.std.proofs.Common.{◌≡◌, ℕ, ◌<◌, ◌≤◌, ◌-◌, ◌⊎◌, List, [], ◌∷◌, length, get_or, Some, None, Option, lt-ltb, refl, ap, sym, ◌∙◌, arith, inl, inr}
+use Rattle.std.specs.List.{Contains}
 use Rattle.std.proofs.lemmas.Bool.{cases_lt}
 use Rattle.std.proofs.lemmas.List.{get_or_past, length-map}
-use Rattle.std.proofs.lemmas.List.Elements.{All-contains, All-get_or}
 use Rattle.mh_grammar.specs.declared.types.Symbol.{Symbol}
 use Rattle.mh_grammar.specs.declared.types.Symbol.TheVariants.{T, N}
-use Rattle.mh_grammar.specs.declared.types.Production.{Production}
 use Rattle.mh_grammar.specs.declared.types.Grammar.{Grammar}
 use Rattle.mh_grammar.specs.declared.types.TokenInfo.{TokenInfo}
 use Rattle.mh_grammar.specs.declared.types.Look.{Look}
 use Rattle.mh_grammar.specs.declared.types.Look.TheVariants.{Token, End}
 use Rattle.mh_grammar.specs.Costs.{HaveCosts}
 use Rattle.mh_grammar.proofs.Costs.{costed}
-use Rattle.mh_grammar.specs.Plain.{PlainGrammar, plain_of, rhs_of, lhs_of, production_count, IsInRange, IsSymbolBelow, IsProductionBelow}
+use Rattle.mh_grammar.specs.Plain.{PlainGrammar, plain_of, rhs_of, lhs_of, production_count, IsInRange, IsSymbolBelow}
 use Rattle.mh_grammar.specs.Edges.{IsRising, IsEdgeBefore, find_edge}
 use Rattle.mh_items.specs.Shapes.{Kernel}
 use Rattle.mh_items.specs.Shapes.{KernelItem}
@@ -22,7 +19,7 @@ use Rattle.mh_items.specs.Shapes.{Automaton}
 use Rattle.mh_items.specs.Kernels.{IsKernelItem, HasPlace}
 use Rattle.mh_items.specs.Automaton.{IsAutomaton, IsTarget, Moves, kernel_at, edges_at, leads_to, closure_of, start_kernel}
 use Rattle.mh_tables.proofs.Known.{symbol_below}
-use Rattle.mh_tables.specs.declared.parts.Place.{Place}
+use Rattle.mh_tables.specs.declared.parts.CoreItem.{CoreItem}
 use Rattle.mh_tables.specs.declared.parts.Action.{Action}
 use Rattle.mh_tables.specs.declared.parts.Action.TheVariants.{Shift, Reduce, Refuse}
 use Rattle.mh_tables.specs.declared.parts.Fallback.{Fallback}
@@ -33,7 +30,7 @@ use Rattle.mh_tables.specs.Facts.{Facts, InCore, HasGoto, ReducesBy, Behind}
 use Rattle.mh_resolve.specs.declared.kinds.Mode.{Mode}
 use Rattle.mh_resolve.specs.Levels.{error_rank}
 use Rattle.mh_resolve.specs.States.{State, state_of, Raw, Keeps, IsFallback, Fills, IsCell, place_of, AreResolved}
-use Rattle.mh_grammar.proofs.Lists.{at_drop, contains_one, contains_at, contains_map, map_contains, recursion_contains}
+use Rattle.mh_grammar.proofs.Lists.{at_drop, contains_one, contains_map, map_contains, recursion_contains}
 use Rattle.mh_resolve.proofs.Closed.{closure_is_item, closure_within, stands, Begins, came_from}
 
 -- what stands together
@@ -64,7 +61,7 @@ edge_to m s X u e = sym (edge_in m s X (edge_within m s X u e)) ∙ e
 target_of : {g : Grammar} {a : Automaton} {mode : Mode} {states : List StateParts} → Made g a mode states → (s : ℕ) (X : Symbol) (u : ℕ) → edge_of (table_data g states) s X ≡ Some u → Moves (plain_of g) a s X × IsTarget (plain_of g) a s X u
 target_of m s X u e = m.automaton.target s X u (edge_to m s X u e)
 
-no_core : (parts : StateParts) (x : Place) → parts ≡ no_state → Contains parts.core x → ⊥
+no_core : (parts : StateParts) (x : CoreItem) → parts ≡ no_state → Contains parts.core x → ⊥
 no_core parts x e c = let none : length parts.core ≡ 0 = ap (λ (q : StateParts). length q.core) e in omega (arith, c.1)
 
 core_within : {g : Grammar} {a : Automaton} {mode : Mode} {states : List StateParts} → Made g a mode states → (s p d : ℕ) → InCore (table_data g states) s p d → s < length a.kernels
@@ -80,7 +77,7 @@ unfolding InCore
 core_place {a = a} m s p d c =
     let core = (m.resolved.each s (core_within m s p d c)).core in
     let found = map_contains place_of (kernel_at a s).items (record { production = p; dot = d }) (rw core at c) in
-    (found.0, found.1, ap (λ (q : Place). q.production) found.2, ap (λ (q : Place). q.dot) found.2)
+    (found.0, found.1, ap (λ (q : CoreItem). q.production) found.2, ap (λ (q : CoreItem). q.dot) found.2)
 
 place_core : {g : Grammar} {a : Automaton} {mode : Mode} {states : List StateParts} → Made g a mode states → (s p d : ℕ) → s < length a.kernels → HasPlace (kernel_at a s) p d → InCore (table_data g states) s p d
 unfolding InCore

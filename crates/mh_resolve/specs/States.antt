@@ -10,7 +10,7 @@ use Rattle.mh_tables.specs.declared.parts.Action.TheVariants.{Shift, Reduce, Ref
 use Rattle.mh_tables.specs.declared.parts.Fallback.{Fallback}
 use Rattle.mh_tables.specs.declared.parts.Fallback.TheVariants as fallbacks
 use Rattle.mh_grammar.specs.declared.edges.Edge.{Edge}
-use Rattle.mh_tables.specs.declared.parts.Place.{Place}
+use Rattle.mh_tables.specs.declared.parts.CoreItem.{CoreItem}
 use Rattle.mh_items.specs.Shapes.{Kernel}
 use Rattle.mh_items.specs.Shapes.{KernelItem}
 use Rattle.mh_items.specs.Shapes.{Automaton}
@@ -106,7 +106,7 @@ Fills mode s z a = TakesOn s (Token z) a ⊎ (((b : Action) → Raw s (Token z) 
 abbrev pub IsCell : Mode → State → ℕ → Action → Type 0
 IsCell mode s z a = Fills mode s z a ⊎ ((a ≡ Refuse) × ((b : Action) → Fills mode s z b → ⊥))
 
-abbrev pub place_of : KernelItem → Place
+abbrev pub place_of : KernelItem → CoreItem
 place_of item = record { production = item.production; dot = item.dot }
 
 -- the parts of a state of the table

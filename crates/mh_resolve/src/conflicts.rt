@@ -1,5 +1,5 @@
 //! The list of conflicts.
-ghost use Rattle.std.specs.Prelude.{◌≡◌, ◌<◌, ◌++◌, length, OnOk, OnErr};
+ghost use Rattle.std.specs.Prelude.{◌≡◌, ◌<◌, ◌^◌, ◌++◌, length, OnOk, OnErr};
 ghost use Rattle.mh_resolve.specs.Conflicts.{found_on, row_conflicts};
 
 use crate::kinds::ConflictKind;
@@ -50,7 +50,7 @@ pub(crate) fn add_conflicts(
     state: u32,
     row: &Row,
 ) -> Result<(), Memory>
-    requires { length row.now.cells < 65536 }
+    requires { length row.now.cells < 2 ^ 16 }
     ensures { OnOk result (conflicts.new.items ≡ conflicts.old.items ++ row_conflicts state row.now.cells row.now.last row.now.stream) }
 {
     for token in 0..row.cells.len() {

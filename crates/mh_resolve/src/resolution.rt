@@ -19,7 +19,7 @@ use crate::conflicts::{Conflict, add_conflicts};
 use crate::kinds::Mode;
 use crate::states::{Row, parts_of, row_of};
 use mh_grammar::{Edge, Grammar, Memory};
-use mh_items::{Automaton, Closer, Kernel};
+use mh_items::{Automaton, Closer, Closure, Kernel};
 use mh_tables::{StateParts, Table, table_of};
 use std::alloc::Global;
 
@@ -84,7 +84,7 @@ fn resolve_listed<const W: usize>(
     alloc: Global,
     grammar: &Grammar,
     kernel: &Kernel<W>,
-    closed: &Kernel<W>,
+    closed: &Closure<W>,
     edges: &[Edge],
     mode: Mode,
 ) -> Result<Resolved, Memory>

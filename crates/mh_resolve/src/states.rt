@@ -15,8 +15,8 @@ use crate::errors::for_errors;
 use crate::kinds::Mode;
 use crate::row::{cells_of, default_of, is_stream_conflict};
 use mh_grammar::{Edge, Grammar, Memory, Sequence};
-use mh_items::{Kernel, KernelItem};
-use mh_tables::{Action, Fallback, Place, StateParts};
+use mh_items::{Closure, Kernel, KernelItem};
+use mh_tables::{Action, CoreItem, Fallback, StateParts};
 use std::alloc::Global;
 
 /// What was found of a state: the cells of the tokens and of the end of the stream, and whether they conflict.
@@ -70,16 +70,16 @@ fn actions_of(alloc: Global, cells: &[Cell], filler: Option<u32>) -> Result<Vec<
     Ok(actions)
 }
 
-fn place<const W: usize>(item: &KernelItem<W>) -> Place
+fn place<const W: usize>(item: &KernelItem<W>) -> CoreItem
     ensures { result ≡ place_of item.now }
 {
-    Place {
+    CoreItem {
         production: item.production,
         dot: item.dot,
     }
 }
 
-fn core_of<const W: usize>(alloc: Global, items: &[KernelItem<W>]) -> Result<Vec<Place>, Memory>
+fn core_of<const W: usize>(alloc: Global, items: &[KernelItem<W>]) -> Result<Vec<CoreItem>, Memory>
     requires few { W ≤ 8 }
     ensures { IfOk result (λ core. core.items ≡ map place_of items.now) }
 {
@@ -111,7 +111,7 @@ pub(crate) fn row_of<const W: usize>(
     alloc: Global,
     grammar: &Grammar,
     kernel: &Kernel<W>,
-    closed: &Kernel<W>,
+    closed: &Closure<W>,
     edges: &[Edge],
 ) -> Result<Row, Memory>
     requires few { W ≤ 8 }
@@ -139,7 +139,7 @@ pub(crate) fn parts_of<const W: usize>(
     alloc: Global,
     grammar: &Grammar,
     kernel: &Kernel<W>,
-    closed: &Kernel<W>,
+    closed: &Closure<W>,
     edges: &[Edge],
     mode: Mode,
     row: &Row,

@@ -1,3 +1,4 @@
+pub mod Depth
 pub mod Modules
 pub mod Ready
 pub mod Sentences

@@ -17,6 +17,7 @@ use Rattle.mh_rules.specs.declared.instances.Part.TheVariants as parts
 use Rattle.mh_rules.specs.declared.instances.InstanceProduction.{InstanceProduction}
 use Rattle.mh_rules.specs.declared.instances.Instance.{Instance}
 use Rattle.mh_rules.specs.declared.instances.Expanded.{Expanded}
+use Rattle.mh_rules.specs.Depth.{IsActualShallow, AreProducersShallow, IsAppliedShallow, AreJoinedShallow}
 
 -- MODULES
 
@@ -24,10 +25,12 @@ use Rattle.mh_rules.specs.declared.instances.Expanded.{Expanded}
 abbrev pub IsTokenReady : TokenDecl → Type 0
 IsTokenReady t = IfSome t.cost IsCost
 
--- each rule has an alternative, and costs are in range
+-- each rule has an alternative, costs are in range, and no actual is too deep
 pub record IsModuleReady (m : Module) : Type 0 where
   pub alternatives : All (λ (r : Rule). 0 < length r.alternatives) m.rules
   pub costs : All IsTokenReady m.tokens
+  pub shallow : All AreProducersShallow m.rules
+  pub on_error_shallow : All (All IsActualShallow) m.on_error
 
 abbrev pub AreModulesReady : List Module → Type 0
 AreModulesReady modules = All IsModuleReady modules
@@ -44,18 +47,21 @@ IsHeadBelow formals tokens rules (heads.Rule n) = n < rules
 abbrev pub IsAppliedBelow : ℕ → ℕ → ℕ → Applied → Type 0
 IsAppliedBelow formals tokens rules = every-Applied (λ a. IsHeadBelow formals tokens rules a.head)
 
--- a rule has an alternative, and the heads in it are there
+-- a rule has an alternative, the heads in it are there, and nothing in it is too deep
 pub record IsRuleReady (tokens rules : ℕ) (r : JoinedRule) : Type 0 where
   pub has_some : 0 < length r.alternatives
   pub heads_below : All (λ a. All (IsAppliedBelow r.formals tokens rules) a.producers) r.alternatives
+  pub shallow : AreJoinedShallow r
 
--- All numbers and costs are in range, each rule has an alternative, no start stands twice, and there are not too many tokens.
+-- All numbers and costs are in range, each rule has an alternative, no start stands twice, there are not too many tokens, and
+-- nothing is too deep.
 pub record IsReady (j : Joined) : Type 0 where
   pub few_tokens : length j.tokens ≤ MAX_TOKENS
   pub costs : HaveCosts j.tokens
   pub starts_below : All (λ s. s < length j.rules) j.starts
   pub starts_distinct : AllPairs (λ a b. a ≢ b) j.starts
   pub on_error_below : All (λ actuals. All (IsAppliedBelow 0 (length j.tokens) (length j.rules)) actuals) j.on_error
+  pub on_error_shallow : All (All IsAppliedShallow) j.on_error
   pub rules_ready : All (IsRuleReady (length j.tokens) (length j.rules)) j.rules
 
 -- INSTANCES

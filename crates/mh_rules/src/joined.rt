@@ -13,7 +13,7 @@ pub enum Head {
     Rule(u64),
 }
 
-/// A head with actual arguments.
+/// A head with actual arguments, as deep as the actual that it stands for.
 #[derive(Debug, Drop)]
 pub struct Applied {
     pub head: Head,

@@ -7,4 +7,4 @@ mod modules;
 
 pub use instances::{Expanded, Instance, InstanceProduction, Part};
 pub use joined::{Applied, Head, Joined, JoinedAlternative, JoinedRule, MAX_TOKENS, Prec};
-pub use modules::{Actual, Alternative, LevelDecl, Module, Ref, Rule, TokenDecl};
+pub use modules::{Actual, Alternative, LevelDecl, MAX_DEPTH, Module, Ref, Rule, TokenDecl};

@@ -1,6 +1,9 @@
 //! What a grammar file spells. Code and types leave nothing here, and of attributes only the costs of tokens do.
 use mh_grammar::{Assoc, Name, Sequence};
 
+/// The greatest depth of an actual: 1 without arguments, else one more than the deepest of them.
+pub const MAX_DEPTH: usize = 1000;
+
 /// A name, or a string that is to be an alias: the bytes between its quotes.
 #[derive(Clone, Debug, Drop, PartialEq, Eq)]
 pub enum Ref {
@@ -8,7 +11,8 @@ pub enum Ref {
     Alias(Name),
 }
 
-/// A name or an alias with actual arguments. `X?`, `X*` and `X+` are `option`, `list` and `nonempty_list` of `X`.
+/// A name or an alias with actual arguments. `X?`, `X*` and `X+` are `option`, `list` and `nonempty_list` of `X`. What goes
+/// over all that it holds calls itself as often as it is deep, so the public calls that do ask for at most `MAX_DEPTH`.
 #[derive(Debug, Drop)]
 pub struct Actual {
     pub head: Ref,

@@ -8,6 +8,7 @@ use Rattle.mh_tables.specs.Table.{TableData}
 use Rattle.mh_tables.specs.Run.{VerdictOf, Ending, Accepted, Overshot, Rejected}
 use Rattle.mh_msgfile.specs.Sentences.{Vocabulary, vocabulary_of, vocabulary_in, LineFound, IsSentence, sentence_in}
 use Rattle.mh_msgfile.specs.declared.lexicon.Lexicon.{Lexicon}
+use Rattle.mh_sample.specs.declared.texts.TheConstants.{SENTENCES}
 use Rattle.mh_sample.specs.Texts.{Text, each_from, operators_of, sentence_text}
 
 -- ---- the sentences that are run
@@ -23,7 +24,7 @@ sentences_at v operators sentence = sentences_of (sentence_in v (sentence_text o
 
 -- those of all lines, in order; a line that is no sentence of the grammar is left out
 unfoldable pub sample_sentences : Grammar → ℕ → List Sentence
-sample_sentences g number = each_from (sentences_at (vocabulary_of g) (operators_of number)) 0 3000
+sample_sentences g number = each_from (sentences_at (vocabulary_of g) (operators_of number)) 0 SENTENCES
 
 -- the runs of the sentences end so
 abbrev pub HaveEndings : TableData → List Sentence → List Ending → Type 0

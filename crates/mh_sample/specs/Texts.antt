@@ -1,6 +1,7 @@
 -- The sample: for each number a grammar of expressions with so many levels, and sentences of it, of which a part lacks its last
 -- parenthesis. All of it is this project's own.
 use Rattle.std.specs.Prelude.{ℕ, zero, suc, ◌+◌, ◌-◌, ◌*◌, ◌%◌, List, [], ◌∷◌, ◌++◌, nat_eq, if◌then◌else◌, codes, decimal}
+use Rattle.mh_sample.specs.declared.texts.TheConstants.{SENTENCES}
 
 abbrev pub Text : Type 0
 Text = List ℕ
@@ -72,4 +73,4 @@ sentence_line operators sentence = sentence_text operators sentence ++ 10 ∷ []
 
 -- 3,000 of them
 unfoldable pub sentences_text : ℕ → Text
-sentences_text number = each_from (sentence_line (operators_of number)) 0 3000
+sentences_text number = each_from (sentence_line (operators_of number)) 0 SENTENCES

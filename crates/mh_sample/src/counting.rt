@@ -5,6 +5,7 @@ ghost use Rattle.mh_grammar.specs.Plain.{plain_of, IsInRange};
 ghost use Rattle.mh_grammar.specs.declared.types.Sentence.{Sentence as Sentence'};
 ghost use Rattle.mh_run.specs.Verdicts.{ending_for};
 ghost use Rattle.mh_msgfile.specs.Sentences.{vocabulary_in, vocabulary_of, sentence_in};
+ghost use Rattle.mh_sample.specs.declared.texts.TheConstants.{SENTENCES};
 ghost use Rattle.mh_sample.specs.Texts.{each_from, operators_of, sentence_text};
 ghost use Rattle.mh_sample.specs.Counts.{HaveEndings, IsSampleLine, SpeaksOf, counts_line as counts_text, endings_text, grammar_sizes, table_sizes, is_accepted, is_overshot, is_rejected, sample_sentences, sentences_of, sentences_at};
 
@@ -65,7 +66,7 @@ fn judge_sentence(
 ) -> Result<(), Memory>
     requires some { 0 < operators }
     requires few { operators < 32 }
-    requires sentence { sentence < 3000 }
+    requires sentence { sentence < SENTENCES }
     requires speaks { SpeaksOf lexicon.now table.now }
     ensures { OnOk result ((done : List Sentence') → HaveEndings table.now done (map ending_for verdicts.old.items) → HaveEndings table.now (done ++ sentences_at (vocabulary_in lexicon.now) operators sentence) (map ending_for verdicts.new.items)) }
 {
@@ -84,7 +85,7 @@ fn judge_sentences(
 ) -> Result<Vec<Verdict>, Memory>
     requires some { 0 < operators }
     requires few { operators < 32 }
-    requires count { count ≤ 3000 }
+    requires count { count ≤ SENTENCES }
     requires speaks { SpeaksOf lexicon.now table.now }
     ensures { IfOk result (λ verdicts. HaveEndings table.now (each_from (sentences_at (vocabulary_in lexicon.now) operators) 0 count) (map ending_for verdicts.items)) }
 {

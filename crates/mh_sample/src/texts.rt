@@ -1,5 +1,6 @@
 //! The grammar and the sentences of a number.
 ghost use Rattle.std.specs.Prelude.{◌≡◌, ◌<◌, ◌≤◌, ◌+◌, ◌-◌, ◌%◌, ◌++◌, IfOk, OnOk};
+ghost use Rattle.mh_sample.specs.declared.texts.TheConstants.{SENTENCES};
 ghost use Rattle.mh_sample.specs.Texts.{operators_of, each_from, token_line, left_text, right_text, level_line, last_level_line, grammar_text, operator_at, operand_text, opened, closed, sentence_text, sentence_line, sentences_text};
 
 use crate::repeating::write_times;
@@ -123,7 +124,7 @@ fn write_operand(alloc: Global, text: &mut Vec<u8>, operator: u32) -> Result<(),
 fn operator(operators: u32, sentence: u32, place: u32) -> u32
     requires some { 0 < operators }
     requires few { operators < 32 }
-    requires sentence { sentence < 3000 }
+    requires sentence { sentence < SENTENCES }
     requires place { place < 5 }
     ensures { result ≡ operator_at operators sentence place }
 {
@@ -139,7 +140,7 @@ fn write_operands(
 ) -> Result<(), Memory>
     requires some { 0 < operators }
     requires few { operators < 32 }
-    requires sentence { sentence < 3000 }
+    requires sentence { sentence < SENTENCES }
     ensures { OnOk result (text.new.items ≡ text.old.items ++ each_from (λ place. operand_text (operator_at operators sentence place)) 1 (sentence % 5)) }
 {
     for place in 0..sentence % 5 {
@@ -170,7 +171,7 @@ pub(crate) fn write_sentence(
 ) -> Result<(), Memory>
     requires some { 0 < operators }
     requires few { operators < 32 }
-    requires sentence { sentence < 3000 }
+    requires sentence { sentence < SENTENCES }
     ensures { OnOk result (text.new.items ≡ text.old.items ++ sentence_text operators sentence) }
 {
     write_times(text, b"LP ", sentence % 17)?;
@@ -189,7 +190,7 @@ fn write_line(
 ) -> Result<(), Memory>
     requires some { 0 < operators }
     requires few { operators < 32 }
-    requires sentence { sentence < 3000 }
+    requires sentence { sentence < SENTENCES }
     ensures { OnOk result (text.new.items ≡ text.old.items ++ sentence_line operators sentence) }
 {
     write_sentence(alloc, text, operators, sentence)?;
@@ -206,7 +207,7 @@ fn write_sentences(
 ) -> Result<(), Memory>
     requires some { 0 < operators }
     requires few { operators < 32 }
-    requires count { count ≤ 3000 }
+    requires count { count ≤ SENTENCES }
     ensures { OnOk result (text.new.items ≡ text.old.items ++ each_from (sentence_line operators) 0 count) }
 {
     for sentence in 0..count {

@@ -1,8 +1,7 @@
 -- What each call does to the looks that the words hold.
-use Rattle.std.proofs.Common.{◌≡◌, ℕ, ◌+◌, ◌*◌, ◌^◌, ◌<◌, ◌≤◌, ◌⊎◌, ◌↔◌, ◌||◌, ◌&&◌, ◌==◌, Bool, true, false, not, List, [], ◌∷◌, Some, None, length, get_or, replicate, IsTrue, refl, sym, ap, ap₂, subst, ◌∙◌, arith, inl, inr}
-use Rattle.std.specs.Prelude.{slice_get, IfSome, IfNone}
-use Rattle.std.specs.List.{All, AllByRecursion, Contains}
-use Rattle.std.proofs.lemmas.Bool.{cases_lt, cases_eq}
+use Rattle.std.proofs.Common.{◌≡◌, ℕ, ◌^◌, ◌<◌, ◌≤◌, ◌⊎◌, ◌↔◌, ◌||◌, ◌&&◌, ◌==◌, Bool, true, false, not, List, [], ◌∷◌, Some, None, length, get_or, replicate, IsTrue, refl, sym, ap, ap₂, subst, ◌∙◌, arith, inl, inr}
+use Rattle.std.specs.Prelude.{slice_get}
+use Rattle.std.specs.List.{Contains}
 use Rattle.std.proofs.lemmas.Bool.Decides.{Decides-eqb}
 use Rattle.std.proofs.lemmas.List.{get_or-replicate, length-replicate}
 use Rattle.std.proofs.lemmas.List.Elements.{All-replicate}
@@ -11,7 +10,7 @@ use Rattle.mh_grammar.specs.declared.types.Look.TheVariants.{Token, End}
 use Rattle.mh_grammar.specs.Edges.{IsRising, IsLookBefore}
 use Rattle.mh_sets.specs.Words.{has_token, looks_of, AreWords}
 use Rattle.mh_sets.specs.Sets.{IsSet}
-use Rattle.mh_grammar.proofs.Lists.{contains_here, contains_there, contains_cases, recursion_contains}
+use Rattle.mh_grammar.proofs.Lists.{contains_here, contains_cases, recursion_contains}
 use Rattle.mh_sets.proofs.Members.{Has, one_set}
 use Rattle.mh_sets.proofs.Places.{no_bits}
 use Rattle.mh_sets.proofs.Views.{member_sound, member_complete, is_set, rises, grown, words_same, or_cases, or_left, or_right}

@@ -1,10 +1,9 @@
 -- What a list of looks made by tests holds.
-use Rattle.std.proofs.Common.{◌≡◌, ℕ, zero, suc, ◌+◌, ◌*◌, ◌<◌, ◌≤◌, ◌⊎◌, ◌↔◌, Bool, true, false, if◌then◌else◌, List, [], ◌∷◌, length, refl, sym, ap, subst, ◌∙◌, arith, inl, inr}
+use Rattle.std.proofs.Common.{◌≡◌, ℕ, zero, suc, ◌+◌, ◌<◌, ◌≤◌, ◌⊎◌, ◌↔◌, Bool, true, false, if◌then◌else◌, List, [], ◌∷◌, length, refl, sym, ap, subst, arith, inl, inr}
 use Rattle.std.specs.List.{AllByRecursion, Contains}
 use Rattle.std.proofs.lemmas.Bool.{cases_eq}
 use Rattle.mh_grammar.specs.declared.types.Look.{Look}
 use Rattle.mh_grammar.specs.declared.types.Look.TheVariants.{Token, End}
-use Rattle.mh_grammar.specs.Plain.{IsLookBelow}
 use Rattle.mh_grammar.specs.Edges.{IsRising, IsLookBefore}
 use Rattle.mh_sets.specs.Words.{looks_from}
 use Rattle.mh_grammar.proofs.Lists.{contains_here, contains_there, contains_cases, contains_none, rising_same}

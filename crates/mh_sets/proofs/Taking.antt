@@ -1,11 +1,11 @@
 -- Taking the first look out.
-use Rattle.std.proofs.Common.{◌≡◌, ℕ, ◌<◌, ◌≤◌, ◌⊎◌, ◌==◌, Bool, true, false, if◌then◌else◌, List, [], ◌∷◌, refl, sym, ap, subst, ◌∙◌, arith, inl, inr}
-use Rattle.std.specs.List.{AllByRecursion, Contains}
+use Rattle.std.proofs.Common.{◌≡◌, ℕ, ◌<◌, ◌⊎◌, ◌==◌, Bool, true, false, if◌then◌else◌, List, ◌∷◌, refl, sym, ap, subst, ◌∙◌, arith, inl, inr}
+use Rattle.std.specs.List.{Contains}
 use Rattle.std.proofs.lemmas.Bool.{cases_lt, cases_eq}
 use Rattle.std.proofs.lemmas.Bool.Decides.{Decides-eqb}
 use Rattle.mh_grammar.specs.declared.types.Look.{Look}
 use Rattle.mh_grammar.specs.declared.types.Look.TheVariants.{Token, End}
-use Rattle.mh_grammar.specs.Edges.{IsRising, IsLookBefore}
+use Rattle.mh_grammar.specs.Edges.{IsLookBefore}
 use Rattle.mh_sets.specs.Words.{has_token, looks_of}
 use Rattle.mh_grammar.proofs.Lists.{contains_here, contains_there, contains_cases}
 use Rattle.mh_sets.proofs.Members.{Has, one_set, recursion-from}

@@ -1,6 +1,6 @@
 -- Words as the looks that they hold.
-use Rattle.std.proofs.Common.{◌≡◌, ℕ, zero, suc, ◌+◌, ◌*◌, ◌/◌, ◌%◌, ◌^◌, ◌<◌, ◌≤◌, ◌⊎◌, ◌↔◌, ◌||◌, ◌==◌, Bool, true, false, if◌then◌else◌, List, [], ◌∷◌, length, get_or, Decides, refl, sym, ap, ap₂, subst, ◌∙◌, arith, inl, inr}
-use Rattle.std.specs.List.{All, AllByRecursion, Contains, list_any}
+use Rattle.std.proofs.Common.{◌≡◌, ℕ, zero, suc, ◌+◌, ◌*◌, ◌/◌, ◌%◌, ◌^◌, ◌<◌, ◌⊎◌, ◌||◌, ◌==◌, Bool, true, false, if◌then◌else◌, List, [], ◌∷◌, length, get_or, refl, sym, ap, ap₂, subst, ◌∙◌, arith, inl, inr}
+use Rattle.std.specs.List.{Contains, list_any}
 use Rattle.std.specs.Int.{bit_at}
 use Rattle.std.proofs.lemmas.Bool.{cases_lt}
 use Rattle.std.proofs.lemmas.Bool.Decides.{same_from_decides, Decides-eqb}
@@ -14,8 +14,8 @@ use Rattle.mh_grammar.specs.Edges.{IsRising, IsLookBefore}
 use Rattle.mh_sets.specs.Words.{has_token, looks_from, looks_of, AreWords, is_token, is_end, word_by, words_by, words_of, ends}
 use Rattle.mh_sets.specs.Sets.{IsSet}
 use Rattle.mh_grammar.proofs.Lists.{contains_here, contains_there, contains_cases}
-use Rattle.mh_sets.proofs.Members.{Has, HasFrom, sound, has_end, has_at, rising, short, longer, recursion-from}
-use Rattle.mh_sets.proofs.Places.{past, bit, from_test, from_not, test_of, test_not, two}
+use Rattle.mh_sets.proofs.Members.{Has, sound, has_end, has_at, rising, short, longer, recursion-from}
+use Rattle.mh_sets.proofs.Places.{past, bit, from_test, test_of, test_not, two}
 
 pub token_within : (words : List ℕ) (a : ℕ) → has_token words a ≡ true → a < 64 * length words
 unfolding has_token

@@ -1,4 +1,4 @@
-//! Sets of looks.
+//! Sets of looks, as all layers above use them.
 ghost use Rattle.std.specs.Prelude.{◌≡◌, [], ◌∷◌, ◌<◌, ◌≤◌, ◌*◌, ◌⊎◌, ◌↔◌, ◌++◌, true, false, length, slice_get, IsTrue, MatchOption};
 ghost use Rattle.std.specs.List.{Contains};
 ghost use Rattle.std.specs.Cmp.Lexicographic.{pointwise, lists_per, lists_equiv};

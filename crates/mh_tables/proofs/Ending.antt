@@ -5,7 +5,7 @@ use Rattle.mh_grammar.specs.declared.types.Symbol.TheVariants.{T}
 use Rattle.mh_tables.specs.Table.{TableData}
 use Rattle.mh_tables.specs.Facts.{Facts}
 use Rattle.mh_tables.specs.Run.{Config, Move, Accepts, Asks, Refuses, Shifts, Reduces, move_of, top_of, IsRunStack, Goes, Ends, step, step_by, after, Ending, EndsSo, VerdictOf, Accepted, Overshot, Rejected}
-use Rattle.mh_tables.specs.Halting.{Halts, HaltingFacts}
+use Rattle.mh_tables.specs.Halting.{AlwaysHalts, HaltingFacts}
 use Rattle.mh_tables.proofs.Path.{run_push}
 use Rattle.mh_tables.proofs.Reductions.{shifts_from_move, no_shift_at_end, move_at_next, reductions_at_next, after_reductions, after-add}
 use Rattle.mh_tables.proofs.Settling.{Settles, settles}
@@ -27,7 +27,7 @@ pub run_shift : (t : TableData) (f : Facts t) (stack : List ℕ) (z j : ℕ) (re
 run_shift t f stack z j rest run m = run_push t stack (T z) j run (f.shifts (top_of stack) z j (shifts_from_move t (top_of stack) z rest j m))
 
 -- the same for all tokens to come
-settles_left : (t : TableData) (f : Facts t) (h : Halts t) (left stack : List ℕ) → AllByRecursion (λ z. z < t.grammar.tokens) left → IsRunStack t stack → Settles t left stack
+settles_left : (t : TableData) (f : Facts t) (h : AlwaysHalts t) (left stack : List ℕ) → AllByRecursion (λ z. z < t.grammar.tokens) left → IsRunStack t stack → Settles t left stack
 settles_left t f h [] stack fits run = settles t f h None tt stack run
 settles_left t f h (z ∷ rest) stack fits run =
     let s = settles t f h (Some z) fits.0 stack run in
@@ -60,7 +60,7 @@ ends_with : (t : TableData) (f : Facts t) (left stack : List ℕ) (read : ℕ) (
 ends_with t f left stack read s (how, ended) = (how, ends_before t s.count _ _ how (after_reductions t read left stack s.new s.count s.made) ended)
 
 -- a run on a table that halts ends
-pub ends : (t : TableData) (f : Facts t) (h : Halts t) (left stack : List ℕ) (read : ℕ) → AllByRecursion (λ z. z < t.grammar.tokens) left → IsRunStack t stack → EndsFrom t stack read left
+pub ends : (t : TableData) (f : Facts t) (h : AlwaysHalts t) (left stack : List ℕ) (read : ℕ) → AllByRecursion (λ z. z < t.grammar.tokens) left → IsRunStack t stack → EndsFrom t stack read left
 ends t f h [] stack read fits run =
     let s = settles_left t f h [] stack fits run in
     ends_with t f [] stack read s (ends_settled t f [] s.new read s.run _ refl s.settled (λ j e r. absurd (no_shift_at_end t (top_of s.new) j e)) (λ j e. absurd (no_shift_at_end t (top_of s.new) j e)))

@@ -15,7 +15,7 @@ use Rattle.mh_tables.specs.Facts.{Facts}
 use Rattle.mh_tables.specs.Run.{reductions}
 use Rattle.mh_grammar.proofs.EdgeOrder.{edge_found}
 use Rattle.mh_tables.proofs.Reductions.{reductions_none, reductions_split, reductions_before}
-use Rattle.mh_tables.specs.Halting.{IsBeginning, IsLook, Loops, Clear, Before, LoopsAt, NoneLoops, Halts, look_list, beginning}
+use Rattle.mh_tables.specs.Halting.{IsBeginning, IsLook, Loops, Clear, Before, LoopsAt, NoneLoops, AlwaysHalts, look_list, beginning}
 use Rattle.mh_tables.specs.code.Relative.{FirstLook, FirstState, AllClear, AddsTarget, AreTargets}
 
 pub first_look_is : (t : TableData) (below : Option ℕ) (s z : ℕ) → z < t.grammar.tokens → (Loops t below s None → ⊥) → ((y : ℕ) → y < z → Loops t below s (Some y) → ⊥) → Loops t below s (Some z) → FirstLook t below s (Some z)
@@ -180,7 +180,7 @@ makes_fewer t left (suc k) (suc n) from new le e =
     (rest.0, reductions_before t left from split.0 rest.0 k split.1 rest.1)
 
 -- where no relative run makes 10,001 reductions, none makes more
-pub halts_from : (t : TableData) → NoneLoops t → Halts t
+pub halts_from : (t : TableData) → NoneLoops t → AlwaysHalts t
 halts_from t none below s look n begins known made =
     elim (cases_lt n 10001) [ inl lt ↦ omega arith | inr le ↦ absurd (none below s begins look known (makes_fewer t (look_list look) 10001 n (beginning below s) made.0 le made.1)) ]
 
@@ -238,5 +238,5 @@ one_loop t below s look below' s' look' h h' =
     (b, e, same_look t below s look look' h h2)
 
 -- and doesn't halt
-pub not_halts : (t : TableData) (below : Option ℕ) (s : ℕ) (look : Option ℕ) → LoopsAt t below s look → Halts t → ⊥
+pub not_halts : (t : TableData) (below : Option ℕ) (s : ℕ) (look : Option ℕ) → LoopsAt t below s look → AlwaysHalts t → ⊥
 not_halts t below s look h halts = let few : 10001 ≤ 10000 = halts below s look 10001 h.begins h.known h.loops in omega arith

@@ -9,7 +9,7 @@ use Rattle.mh_grammar.specs.declared.types.Symbol.{Symbol}
 use Rattle.mh_grammar.specs.declared.types.Symbol.TheVariants.{N}
 use Rattle.mh_grammar.specs.Plain.{PlainGrammar, rhs_of, lhs_of, production_count, IsInRange, IsSymbolBelow, IsProductionBelow}
 use Rattle.mh_grammar.proofs.Lists.{contains_at}
-use Rattle.mh_tables.specs.declared.parts.Place.{Place}
+use Rattle.mh_tables.specs.declared.parts.CoreItem.{CoreItem}
 use Rattle.mh_tables.specs.Table.{TableData, state_at}
 use Rattle.mh_tables.specs.Facts.{InCore}
 
@@ -44,6 +44,6 @@ left_below g h p ordinary known =
     let at = get_below g.productions (p - length g.starts) (omega arith) in
     rw at.1 (All-contains (IsProductionBelow g.tokens g.nonterminals) g.productions at.0 h.productions (contains_at g.productions (p - length g.starts) at.0 at.1)).lhs
 
-pub first_in : (t : TableData) (s : ℕ) (places : List Place) (d : Place) → places ≡ (state_at t s).core → 0 < length (state_at t s).core → InCore t s (get_or places 0 d).production (get_or places 0 d).dot
+pub first_in : (t : TableData) (s : ℕ) (places : List CoreItem) (d : CoreItem) → places ≡ (state_at t s).core → 0 < length (state_at t s).core → InCore t s (get_or places 0 d).production (get_or places 0 d).dot
 unfolding InCore
 first_in t s places d is some = rw (← is) (Contains-get_or places 0 d (rw is some))

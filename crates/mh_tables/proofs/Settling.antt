@@ -6,7 +6,7 @@ use Rattle.mh_grammar.specs.Plain.{rhs_of}
 use Rattle.mh_tables.specs.Table.{TableData}
 use Rattle.mh_tables.specs.Facts.{Facts}
 use Rattle.mh_tables.specs.Run.{Move, Accepts, Asks, Refuses, Shifts, Reduces, move_of, top_of, reduce, reduction, reductions, IsRunStack}
-use Rattle.mh_tables.specs.Halting.{Halts, IsBeginning, beginning, IsLook, look_list}
+use Rattle.mh_tables.specs.Halting.{AlwaysHalts, IsBeginning, beginning, IsLook, look_list}
 use Rattle.mh_tables.proofs.Path.{Finds, finds, reduce_finds, reduce_keeps}
 use Rattle.mh_tables.proofs.Reductions.{reduces_from_move, reduced, reduction_is, reduction-drop, reductions_more, reductions_before, reductions_none}
 
@@ -19,7 +19,7 @@ pub record Relative (t : TableData) (look : Option ℕ) (stack : List ℕ) (floo
   pub made : reductions t (look_list look) count (beginning below state) ≡ Some (drop floor stack)
 
 -- so there are no more than `MAX_REDUCTIONS`
-pub relative_few : (t : TableData) (h : Halts t) (look : Option ℕ) (l : IsLook t look) (stack : List ℕ) (floor count : ℕ) → Relative t look stack floor count → count ≤ 10000
+pub relative_few : (t : TableData) (h : AlwaysHalts t) (look : Option ℕ) (l : IsLook t look) (stack : List ℕ) (floor count : ℕ) → Relative t look stack floor count → count ≤ 10000
 relative_few t h look l stack floor count r = h r.below r.state look count r.begins l (drop floor stack, r.made)
 
 -- the last state, and the last two
@@ -105,7 +105,7 @@ move_cases (Shifts j) = inr (λ p e. cc)
 move_cases (Reduces p) = inl (p, refl)
 
 -- The work left falls: the floor, and the reductions that are left above it.
-settles_by : (t : TableData) (f : Facts t) (h : Halts t) (look : Option ℕ) (l : IsLook t look) (fuel : ℕ) (stack : List ℕ) (run : IsRunStack t stack) (floor count : ℕ) (r : Relative t look stack floor count)
+settles_by : (t : TableData) (f : Facts t) (h : AlwaysHalts t) (look : Option ℕ) (l : IsLook t look) (fuel : ℕ) (stack : List ℕ) (run : IsRunStack t stack) (floor count : ℕ) (r : Relative t look stack floor count)
     → 10001 * floor + (10000 - count) < fuel → Settles t (look_list look) stack
 settles_by t f h look l zero stack run floor count r lt = absurd (omega arith)
 settles_by t f h look l (suc fuel) stack run floor count r lt =
@@ -131,6 +131,6 @@ settles_by t f h look l (suc fuel) stack run floor count r lt =
           ]))
     ]
 
-pub settles : (t : TableData) (f : Facts t) (h : Halts t) (look : Option ℕ) (l : IsLook t look) (stack : List ℕ) → IsRunStack t stack → Settles t (look_list look) stack
+pub settles : (t : TableData) (f : Facts t) (h : AlwaysHalts t) (look : Option ℕ) (l : IsLook t look) (stack : List ℕ) → IsRunStack t stack → Settles t (look_list look) stack
 settles t f h look l stack run =
     settles_by t f h look l (suc (10001 * (length stack - 2) + 10000)) stack run (length stack - 2) 0 (relative_begins t look stack run) (omega arith)

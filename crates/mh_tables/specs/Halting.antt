@@ -31,13 +31,13 @@ abbrev pub Makes : TableData → Option ℕ → ℕ → Option ℕ → ℕ → T
 Makes t below s look n = (stack : List ℕ) × (reductions t (look_list look) n (beginning below s) ≡ Some stack)
 
 -- no relative run makes more than `MAX_REDUCTIONS` reductions
-abbrev pub Halts : TableData → Type 0
-Halts t = (below : Option ℕ) (s : ℕ) (look : Option ℕ) (n : ℕ) → IsBeginning t below s → IsLook t look → Makes t below s look n → n ≤ MAX_REDUCTIONS
+abbrev pub AlwaysHalts : TableData → Type 0
+AlwaysHalts t = (below : Option ℕ) (s : ℕ) (look : Option ℕ) (n : ℕ) → IsBeginning t below s → IsLook t look → Makes t below s look n → n ≤ MAX_REDUCTIONS
 
 -- what a table that was tested keeps
 pub record HaltingFacts (t : TableData) : Type 0 where
   pub facts : Facts t
-  pub halts : Halts t
+  pub halts : AlwaysHalts t
 
 -- it makes more
 abbrev pub Loops : TableData → Option ℕ → ℕ → Option ℕ → Type 0
@@ -74,5 +74,5 @@ FaultOf t faults.Memory = Unit {0}
 
 -- a table with such a fault doesn't halt
 abbrev pub IsRefused : TableData → HaltFault → Type 0
-IsRefused t (faults.Loops below s look) = Halts t → ⊥
+IsRefused t (faults.Loops below s look) = AlwaysHalts t → ⊥
 IsRefused t faults.Memory = Unit {0}

@@ -1,7 +1,7 @@
 //! A table on which every run ends.
 ghost use Rattle.std.specs.Prelude.{◌≡◌, ◌<◌, List, ℕ, length, IfOk, IfErr, OnOk};
 ghost use Rattle.std.specs.List.{AllByRecursion};
-ghost use Rattle.mh_tables.specs.Halting.{FaultOf, HaltingFacts, Halts, IsRefused};
+ghost use Rattle.mh_tables.specs.Halting.{FaultOf, HaltingFacts, AlwaysHalts, IsRefused};
 ghost use Rattle.mh_tables.specs.Run.{VerdictOf, Ending};
 
 use crate::relative::{HaltFault, first_loop};
@@ -47,7 +47,7 @@ impl Halting {
 /// the table is dropped.
 pub fn check_halts(alloc: Global, table: Table) -> Result<Halting, HaltFault>
     ensures same { IfOk result (λ halting. halting ≡ table) }
-    ensures halts { OnOk result (Halts table) }
+    ensures halts { OnOk result (AlwaysHalts table) }
     ensures fault { IfErr result (λ fault. FaultOf table fault) }
     ensures refused { IfErr result (λ fault. IsRefused table fault) }
 {

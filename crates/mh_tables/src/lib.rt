@@ -11,6 +11,6 @@ mod table;
 
 pub use halting::{Halting, check_halts};
 pub use moves::{Choice, choose};
-pub use parts::{Action, Fallback, Place, StateParts};
+pub use parts::{Action, CoreItem, Fallback, StateParts};
 pub use relative::{HaltFault, MAX_REDUCTIONS};
 pub use table::{Table, table_of};

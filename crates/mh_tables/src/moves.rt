@@ -1,4 +1,4 @@
-//! What a state does.
+//! What a state does next: by its default, else by the cell of the next token.
 ghost use Rattle.std.specs.Prelude.{◌≡◌, ◌<◌, length};
 ghost use Rattle.mh_tables.specs.Run.{move_of};
 ghost use Rattle.mh_tables.specs.Halting.{IsLook, look_list};

@@ -23,7 +23,7 @@ pub enum Fallback {
 
 /// A production and a dot in its right side.
 #[derive(Clone, Copy, Debug, PartialEq, Eq)]
-pub struct Place {
+pub struct CoreItem {
     /// The production's number, below the count of productions; start productions come first.
     pub production: u32,
     /// How many symbols of the right side stand before the dot, at most all of them.
@@ -36,5 +36,5 @@ pub struct StateParts {
     pub cells: Sequence<Action>,
     pub fallback: Option<Fallback>,
     pub edges: Sequence<Edge>,
-    pub core: Sequence<Place>,
+    pub core: Sequence<CoreItem>,
 }

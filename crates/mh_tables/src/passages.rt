@@ -5,10 +5,10 @@
 ghost use Rattle.std.specs.Prelude.{◌≡◌, ◌<◌, ◌≤◌, ◌+◌, ℕ, true, false, length, vec_len, slice_index, All, Contains, IfOk, OnOk};
 ghost use Rattle.mh_grammar.specs.Plain.{production_count, rhs_of, IsSymbolBelow};
 ghost use Rattle.mh_tables.specs.Halting.{IsLook, look_list};
-ghost use Rattle.mh_tables.specs.code.Passages.{symbol_place, symbol_count, StoppedOr, GoesSo, IsKnown, KeepsAll, IsUnclear, UnitIsIn, UnitsAreIn, EmptyNext, PassageOr, IsCoveredOn, IsCoveredFrom, IsCovered, AreAll, IsLifted, AreSettled};
+ghost use Rattle.mh_tables.specs.code.Passages.{symbol_place, symbol_count, GoesSo, IsKnown, KeepsAll, IsUnclear, UnitIsIn, UnitsAreIn, EmptyNext, PassageOr, IsCoveredOn, IsCoveredFrom, IsCovered, AreAll, IsLifted, AreSettled};
 
 use crate::moves::{Choice, choose};
-use crate::relative::{begin, next_reduction, reduce_once};
+use crate::relative::{next_reduction, reduced_within};
 use crate::table::Table;
 use mh_grammar::{Symbol, Token};
 use std::alloc::{AllocError, Global};
@@ -149,28 +149,6 @@ fn empty_reduction(table: &Table, state: u32, look: Option<Token>) -> Option<u32
     }
 }
 
-// Makes the reductions of a state alone, and says how many came, if no more than `MAX_TRIED` did.
-fn reduced_alone(
-    table: &Table,
-    stack: &mut Vec<u32>,
-    state: u32,
-    look: Option<Token>,
-) -> Result<Option<u32>, AllocError>
-    requires look { IsLook table.now look }
-    requires state { state < length table.now.states }
-    ensures stops { IfOk result (λ count. StoppedOr table.now state look stack.new.items count) }
-    ensures begun { OnOk result (0 < length stack.new.items) }
-    ensures known { OnOk result (All (λ s. s < length table.now.states) stack.new.items) }
-{
-    begin(table, stack, None, state)?;
-    'tries: for count in 0..MAX_TRIED + 1 {
-        if !reduce_once(table, stack, look)? {
-            return Ok(Some(count));
-        }
-    }
-    Ok(None)
-}
-
 // How relative runs go whose upper state's run leaves a stack.
 fn course_behind(table: &Table, stack: &[u32], look: Option<Token>) -> Course
     requires begun { 0 < length stack.now }
@@ -214,7 +192,7 @@ fn passage_of(
         to: place_of(table, Symbol::N(table.lhs_of(production))),
         count: MAX_BOUND,
     };
-    let Some(count) = reduced_alone(table, stack, state, look)? else {
+    let Some(count) = reduced_within(table, stack, None, state, look, MAX_TRIED)? else {
         return Ok(Some(unclear));
     };
     match course_behind(table, stack, look) {

@@ -1,4 +1,4 @@
-//! Relative runs, tried one after another.
+//! The test that every run on a table ends: relative runs are tried one after another, but for those that bounds tell to end.
 ghost use Rattle.std.specs.Prelude.{◌≡◌, ◌<◌, ◌≤◌, length, All, IfOk, OnOk, Some, None, false};
 ghost use Rattle.std.specs.Option.{ForSome};
 ghost use Rattle.std.specs.List.Sorted.{IsPermutation};
@@ -6,7 +6,7 @@ ghost use Rattle.mh_grammar.specs.Plain.{production_count, rhs_of};
 ghost use Rattle.mh_tables.specs.Table.{TableData, state_at, cell_of, edge_of};
 ghost use Rattle.mh_tables.specs.Run.{top_of as top};
 ghost use Rattle.mh_tables.specs.Halting.{IsLook, look_list, IsBeginning, beginning};
-ghost use Rattle.mh_tables.specs.code.Relative.{ReducedOr, ReducesNext, StackReduced, TriedOr, LoopsOr, Waits, LookFound, TokenFound, StateFound, AddsTarget, AreTargets, TestFound};
+ghost use Rattle.mh_tables.specs.code.Relative.{ReducedOr, ReducesNext, StackReduced, StoppedOr, TriedOr, LoopsOr, Waits, LookFound, TokenFound, StateFound, AddsTarget, AreTargets, TestFound};
 ghost use Rattle.mh_tables.specs.code.Passages.{symbol_count, AreSettled};
 
 use crate::moves::{Choice, choose};
@@ -85,11 +85,7 @@ fn stack_reduced(table: &Table, stack: &[u32], production: u32) -> Option<(usize
 }
 
 // Makes the reduction that comes next, or answers that none does.
-pub(crate) fn reduce_once(
-    table: &Table,
-    stack: &mut Vec<u32>,
-    look: Option<Token>,
-) -> Result<bool, AllocError>
+fn reduce_once(table: &Table, stack: &mut Vec<u32>, look: Option<Token>) -> Result<bool, AllocError>
     requires begun { 0 < length stack.old.items }
     requires known { All (λ s. s < length table.now.states) stack.old.items }
     requires look { IsLook table.now look }
@@ -111,7 +107,7 @@ pub(crate) fn reduce_once(
 }
 
 // Puts the states with which a relative run begins in place of what was there.
-pub(crate) fn begin(
+fn begin(
     table: &Table,
     stack: &mut Vec<u32>,
     below: Option<u32>,
@@ -131,6 +127,32 @@ pub(crate) fn begin(
     Ok(())
 }
 
+// Makes the reductions of a relative run, and says how many came, if no more than `most` did: `stack` holds what they leave.
+pub(crate) fn reduced_within(
+    table: &Table,
+    stack: &mut Vec<u32>,
+    below: Option<u32>,
+    state: u32,
+    look: Option<Token>,
+    most: u32,
+) -> Result<Option<u32>, AllocError>
+    requires look { IsLook table.now look }
+    requires below { ForSome below (λ r. r < length table.now.states) }
+    requires state { state < length table.now.states }
+    requires most { most ≤ MAX_REDUCTIONS }
+    ensures made { IfOk result (λ count. StoppedOr table.now below state look most stack.new.items count) }
+    ensures begun { OnOk result (0 < length stack.new.items) }
+    ensures known { OnOk result (All (λ s. s < length table.now.states) stack.new.items) }
+{
+    begin(table, stack, below, state)?;
+    'tries: for count in 0..most + 1 {
+        if !reduce_once(table, stack, look)? {
+            return Ok(Some(count));
+        }
+    }
+    Ok(None)
+}
+
 // Whether the relative run makes more than `MAX_REDUCTIONS` reductions; where it doesn't, `stack` holds what they leave.
 fn loops(
     table: &Table,
@@ -147,13 +169,10 @@ fn loops(
     ensures begun { OnOk result (0 < length stack.new.items) }
     ensures known { OnOk result (All (λ s. s < length table.now.states) stack.new.items) }
 {
-    begin(table, stack, below, state)?;
-    'tries: for _count in 0..MAX_REDUCTIONS + 1 {
-        if !reduce_once(table, stack, look)? {
-            return Ok(false);
-        }
+    match reduced_within(table, stack, below, state, look, MAX_REDUCTIONS)? {
+        Some(_) => Ok(false),
+        None => Ok(true),
     }
-    Ok(true)
 }
 
 // Whether the relative run makes more than `MAX_REDUCTIONS` reductions with a token, where it stops in a state without default

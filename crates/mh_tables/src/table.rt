@@ -8,7 +8,7 @@ ghost use Rattle.mh_grammar.specs.Costs.{costs_of};
 ghost use Rattle.mh_tables.specs.Table.{TableData, state_at, cell_of, fallback_of, edge_of, cost_of_token, table_data};
 ghost use Rattle.mh_tables.specs.Facts.{Facts};
 
-use crate::parts::{Action, Fallback, Place, StateParts};
+use crate::parts::{Action, CoreItem, Fallback, StateParts};
 use mh_grammar::{
     Edge, Grammar, Memory, Production, Sequence, Symbol, Token, TokenInfo, find_edge,
 };
@@ -179,7 +179,7 @@ impl Table {
     }
 
     // The core of a state.
-    fn core(&self, state: u32) -> &[Place]
+    fn core(&self, state: u32) -> &[CoreItem]
         requires { state < length self.now.states }
         ensures { result.now ≡ (state_at self.now state).core }
     {

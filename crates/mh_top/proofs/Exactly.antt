@@ -55,7 +55,7 @@ use Rattle.mh_prepare.specs.Shapes.{Prepared}
 use Rattle.mh_drive.specs.declared.stop.Cause.{Cause}
 use Rattle.mh_prepare.specs.declared.tabled.Source.{Source}
 use Rattle.mh_prepare.specs.declared.tabled.Source.TheVariants.{Canonical, File, Merged}
-use Rattle.mh_tables.specs.Halting.{Halts}
+use Rattle.mh_tables.specs.Halting.{AlwaysHalts}
 use Rattle.mh_modes.proofs.Reading.{Runs}
 use Rattle.mh_modes.proofs.EachMode.{facts_of as job_facts}
 
@@ -74,7 +74,7 @@ pub record IsTabled (words : List Text) (g : Grammar) (t : TableData) : Type 0 w
   range : IsInRange (plain_of g)
   costs : HaveCosts g.tokens
   table : HasTable words g t
-  halts : Halts t
+  halts : AlwaysHalts t
 
 prepared_tabled : (words : List Text) (files : Option Files) (p : Prepared) → IsPrepared words files (Go p) → IsTabled words p.grammar p.tabled.halting
 prepared_tabled words files p is = let m = made words files p is in at m m.stage.0 m.stage.1 m.stage.2

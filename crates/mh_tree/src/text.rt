@@ -1,4 +1,4 @@
-//! The text of a tree.
+//! The text that shows a tree.
 ghost use Rattle.std.specs.Prelude.{◌≡◌, ◌++◌, IfOk, OnOk};
 ghost use Rattle.mh_tree.specs.Trees.{text_of, forest_text, forest_of};
 

@@ -1,4 +1,4 @@
-//! The tokens of a tree.
+//! The tokens that a tree spells.
 ghost use Rattle.std.specs.Prelude.{◌≡◌, ◌++◌, IfOk, OnOk};
 ghost use Rattle.mh_tree.specs.Trees as spec;
 ghost use Rattle.mh_tree.specs.Trees.{forest_yield, forest_of};

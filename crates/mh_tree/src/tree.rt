@@ -1,4 +1,4 @@
-//! Trees.
+//! Shared syntax trees of a bounded height: how they are made, looked at, shared and dropped.
 ghost use Rattle.std.specs.Prelude.{◌≡◌, ◌↔◌, ℕ, IfOk, IfSome, IsTrue};
 ghost use Rattle.std.specs.Prelude.{◌<◌, ◌≤◌};
 ghost use Rattle.std.specs.List.{All};

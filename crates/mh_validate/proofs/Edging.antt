@@ -1,8 +1,7 @@
 -- The edges of a state beside the moves of its closure.
-use Rattle.std.proofs.Common.{◌≡◌, ◌↔◌, ◌<◌, ◌≤◌, ℕ, zero, suc, List, [], ◌∷◌, map, length, Option, None, Some, get_or, drop, refl, sym, ap, ◌∙◌, subst, arith, inl, inr, true, false}
+use Rattle.std.proofs.Common.{◌≡◌, ◌<◌, ℕ, suc, List, [], ◌∷◌, map, length, Option, None, Some, get_or, refl, sym, ap, ◌∙◌, subst, arith, inl, inr}
 use Rattle.std.specs.Prelude.{slice_index_or}
-use Rattle.std.specs.List.{All, AllZip, Contains, slice_get}
-use Rattle.std.proofs.lemmas.Bool.{cases_Bool}
+use Rattle.std.specs.List.{AllZip, Contains}
 use Rattle.std.proofs.lemmas.List.Elements.{All-contains}
 use Rattle.std.proofs.lemmas.List.{get_or_default}
 use Rattle.mh_grammar.specs.declared.types.Symbol.{Symbol}
@@ -10,20 +9,20 @@ use Rattle.mh_grammar.specs.declared.types.Look.{Look}
 use Rattle.mh_grammar.specs.declared.types.Grammar.{Grammar}
 use Rattle.mh_grammar.specs.declared.edges.Edge.{Edge}
 use Rattle.mh_grammar.specs.Plain.{PlainGrammar, plain_of, rhs_of}
-use Rattle.mh_grammar.specs.Edges.{IsRising, IsSymbolBefore, IsEdgeBefore, find_edge, same_symbol}
+use Rattle.mh_grammar.specs.Edges.{IsRising, IsSymbolBefore, IsEdgeBefore}
 use Rattle.mh_grammar.specs.ItemSets as items
 use Rattle.mh_grammar.specs.ItemSets.{AreSame, Close, Moved}
 use Rattle.mh_grammar.proofs.Lists.{contains_here, contains_there, contains_cases, at_contains, contains_map, recursion-from, recursion_contains}
-use Rattle.mh_items.specs.Shapes.{Kernel, Automaton}
-use Rattle.mh_items.specs.Kernels.{Holds, HasPlace, IsKernel}
+use Rattle.mh_items.specs.Shapes.{Kernel}
+use Rattle.mh_items.specs.Kernels.{Holds, IsKernel}
 use Rattle.mh_items.specs.Automaton.{no_kernel, kernel_at, move_of, Moves, IsTarget}
-use Rattle.mh_items.specs.Collection.{IsBehindDot, IsMove, edge_symbols, targets_of}
-use Rattle.mh_moves.specs.Moves.{Move, AreMoves, AreMovesOf, symbols_of}
+use Rattle.mh_items.specs.Collection.{IsBehindDot, IsMove, edge_symbols}
+use Rattle.mh_moves.specs.Moves.{Move, AreMovesOf, symbols_of}
 use Rattle.mh_canon.proofs.Sets.{same_trans, moved_same, place_holds, drop_from_get, get_from_drop}
 use Rattle.mh_tabfile.specs.declared.types.RawEdge.{RawEdge}
 use Rattle.mh_tabfile.specs.declared.types.RawTable.{RawTable}
 use Rattle.mh_tabfile.specs.Written.{raw_edge}
-use Rattle.mh_valid.specs.Valid.{AreKernels, AreEdgesAt, HasEdges, of_kernels, raw_state}
+use Rattle.mh_valid.specs.Valid.{AreKernels, HasEdges, of_kernels, raw_state}
 use Rattle.mh_valid.proofs.Edged.{found_in, on_symbol, has_symbol, one_symbols, symbols_rise}
 use Rattle.mh_grammar.specs.Names.{symbol_name}
 use Rattle.mh_grammar.proofs.EdgeOrder.{edge_found}

@@ -1,17 +1,15 @@
 -- Looks and items that are read.
 use Rattle.std.specs.Prelude.{◌==◌}
 use Rattle.std.proofs.Common.{false, ◌≡◌, ◌↔◌, ◌⊎◌, ◌<◌, ◌≤◌, ◌+◌, ◌-◌, ℕ, zero, suc, List, [], ◌∷◌, ◌++◌, map, take, length, Option, Some, None, get_or, refl, sym, ap, ◌∙◌, subst, arith, inl, inr}
-use Rattle.std.specs.List.{AllByRecursion, Contains, slice_get}
+use Rattle.std.specs.List.{Contains, slice_get}
 use Rattle.std.proofs.lemmas.List.{length-map}
-use Rattle.std.proofs.lemmas.Bool.{cases_lt}
-use Rattle.std.proofs.lemmas.Option.{slice_get_within, slice_get-get_or}
+use Rattle.std.proofs.lemmas.Option.{slice_get-get_or}
 use Rattle.mh_grammar.specs.declared.types.Look.{Look}
 use Rattle.mh_grammar.specs.declared.types.Look.TheVariants.{Token, End}
 use Rattle.mh_grammar.specs.declared.types.Grammar.{Grammar}
 use Rattle.mh_grammar.specs.declared.types.Production.{Production}
-use Rattle.mh_grammar.specs.declared.types.Symbol.TheVariants.{N}
 use Rattle.mh_grammar.specs.Edges.{IsRising, IsLookBefore}
-use Rattle.mh_grammar.specs.Plain.{PlainGrammar, plain_of, rhs_of, IsLookBelow, production_count}
+use Rattle.mh_grammar.specs.Plain.{plain_of, rhs_of, IsLookBelow, production_count}
 use Rattle.mh_grammar.proofs.Lists.{contains_push, contains_last, at_contains, contains_at, get_left, rising-push, rising_same}
 use Rattle.mh_grammar.proofs.Numbered.{rhs_of-ordinary, rhs_of-start}
 use Rattle.mh_sets.specs.Sets.{IsSet}
@@ -24,7 +22,7 @@ use Rattle.mh_report.specs.Items.{look_name}
 use Rattle.mh_tabfile.specs.Written.{raw_item}
 use Rattle.mh_valid.specs.Valid.{AreNamesApart}
 use Rattle.mh_valid.proofs.OneKernel.{same_look, same_item}
-use Rattle.mh_validate.specs.Looking.{IsLookOf, AreLooksOf, IsItemOf, AreItemsOf, IsLast, Behind, AreRead}
+use Rattle.mh_validate.specs.Looking.{IsLookOf, AreLooksOf, IsItemOf, AreItemsOf, IsLast, Behind}
 use Rattle.mh_validate.proofs.Reading.{read-none, read-more, read-never, read-all, behind_last, behind_all, last_pushed, last_contained}
 
 look_along : (x y z : Look) → IsLookBefore x y → IsLookBefore y z → IsLookBefore x z

@@ -1,12 +1,10 @@
 -- What is answered of a file whose header and kernels are right.
-use Rattle.std.proofs.Common.{◌≡◌, ◌⊎◌, ◌<◌, ◌≤◌, ◌^◌, ℕ, zero, suc, Bool, true, false, List, [], ◌∷◌, length, Option, Some, None, Result, Ok, Err, IfOk, if◌then◌else◌, get_or, refl, sym, ap, ◌∙◌, subst, arith, inl, inr}
+use Rattle.std.proofs.Common.{◌≡◌, ◌⊎◌, ◌<◌, ◌≤◌, ℕ, Bool, true, false, List, [], length, Option, Some, Result, Ok, Err, IfOk, if◌then◌else◌, get_or, refl, sym, ◌∙◌, subst, arith, inl, inr}
 use Rattle.std.specs.Prelude.{slice_index_or}
 use Rattle.mh_grammar.specs.declared.types.Grammar.{Grammar}
-use Rattle.mh_grammar.specs.declared.types.Symbol.{Symbol}
 use Rattle.mh_grammar.specs.declared.types.Symbol.TheVariants.{T}
 use Rattle.mh_grammar.specs.declared.edges.Edge.{Edge}
 use Rattle.mh_grammar.specs.Plain.{plain_of, IsInRange}
-use Rattle.mh_grammar.specs.Edges.{find_edge}
 use Rattle.mh_items.specs.Shapes.{Kernel, Automaton}
 use Rattle.mh_items.specs.Automaton.{no_kernel, kernel_at, edges_at}
 use Rattle.mh_tables.specs.declared.parts.StateParts.{StateParts}
@@ -15,18 +13,17 @@ use Rattle.std.proofs.lemmas.List.{get_or_default}
 use Rattle.mh_resolve.specs.States.{AreResolved, IsResolved}
 use Rattle.mh_resolve.specs.code.Whole.{AreEdgesKnown, closed_state}
 use Rattle.mh_resolve.proofs.Tabled.{moving_symbol}
-use Rattle.mh_tabfile.specs.declared.types.RawCells.{RawCells}
 use Rattle.mh_tabfile.specs.declared.types.RawTable.{RawTable}
 use Rattle.mh_tabfile.specs.Written.{raw_cells}
 use Rattle.mh_valid.specs.declared.reason.Reason.{Reason}
 use Rattle.mh_valid.specs.declared.reason.Reason.TheVariants as reasons
-use Rattle.mh_valid.specs.Valid.{HasHeader, HasStates, AreKernels, HasEdges, AreEdgesAt, IsResolvedAt, IsRight, IsRightBefore, IsWrong, IsInvalidAt, IsValidFor, has_lines, reason_of, of_kernels, raw_state}
+use Rattle.mh_valid.specs.Valid.{HasHeader, HasStates, AreKernels, HasEdges, IsResolvedAt, IsRightBefore, IsWrong, IsInvalidAt, IsValidFor, has_lines, reason_of, of_kernels, raw_state}
 use Rattle.mh_valid.proofs.Giving.{IsNamed}
 use Rattle.mh_validate.specs.declared.fault.ValidFault.{ValidFault}
 use Rattle.mh_validate.specs.declared.fault.ValidFault.TheVariants.{Invalid}
 use Rattle.mh_validate.specs.declared.validation.Valid.{Valid}
 use Rattle.mh_validate.specs.Outcome.{IsFault, IsOutcome, Gives}
-use Rattle.mh_validate.specs.Comparing.{AreFirstKernels, AreFirstRows, AreFirstCells, AreRows, AreResolvedRows}
+use Rattle.mh_validate.specs.Comparing.{AreFirstKernels, AreFirstRows, AreRows, AreResolvedRows}
 
 -- all kernels, where no state lacks one
 pub all_kernels : (g : Grammar) (raw : RawTable) (ks : List Kernel) → AreFirstKernels g raw ks → length raw.states ≤ length ks → AreKernels g raw ks

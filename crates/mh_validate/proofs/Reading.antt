@@ -5,7 +5,7 @@ use Rattle.std.proofs.lemmas.List.{map-append, length-append}
 use Rattle.std.proofs.lemmas.Option.{slice_get_within}
 use Rattle.std.proofs.lemmas.Bool.{cases_lt}
 use Rattle.mh_grammar.specs.Edges.{IsRising}
-use Rattle.mh_grammar.proofs.Lists.{contains_here, contains_there, contains_cases, contains_none, contains_push, contains_last, at_contains, contains_at, get_last, same_at, taken, split_at, recursion_contains, recursion-push, rising-push, rising_at}
+use Rattle.mh_grammar.proofs.Lists.{contains_here, contains_there, contains_cases, contains_none, at_contains, contains_at, get_last, same_at, taken, split_at, recursion_contains, recursion-push, rising-push, rising_at}
 use Rattle.mh_validate.specs.Looking.{AreRead, IsLast}
 
 cons_first : {X : Type 0} (x y : X) (xs ys : List X) → x ∷ xs ≡ y ∷ ys → x ≡ y

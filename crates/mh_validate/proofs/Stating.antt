@@ -1,21 +1,16 @@
 -- The kernel of a state, from its items.
 use Rattle.std.specs.Prelude.{◌==◌}
-use Rattle.std.proofs.Common.{IsTrue, eqb-true, Bool, true, false, true≢false, ◌≡◌, ◌↔◌, ◌<◌, ◌≤◌, ℕ, zero, suc, List, [], ◌∷◌, map, length, refl, sym, ap, ◌∙◌, subst, arith, inl, inr}
-use Rattle.std.specs.List.{AllByRecursion, Contains}
+use Rattle.std.proofs.Common.{IsTrue, eqb-true, Bool, true, false, true≢false, ◌≡◌, ◌↔◌, ◌<◌, ◌≤◌, ℕ, List, [], ◌∷◌, length, refl, sym, ap, ◌∙◌, subst, arith, inl, inr}
+use Rattle.std.specs.List.{AllByRecursion}
 use Rattle.std.proofs.lemmas.Bool.{cases_lt}
-use Rattle.mh_grammar.specs.declared.types.Look.{Look}
-use Rattle.mh_grammar.specs.declared.types.Look.TheVariants.{End}
 use Rattle.mh_grammar.specs.declared.types.Grammar.{Grammar}
-use Rattle.mh_grammar.specs.Plain.{plain_of}
 use Rattle.mh_grammar.proofs.Lists.{recursion-weaker, recursion_contains, recursion-from}
 use Rattle.mh_items.specs.Shapes.{KernelItem, Kernel}
-use Rattle.mh_items.specs.Kernels.{IsKernel}
 use Rattle.mh_items.specs.Automaton.{start_kernel}
 use Rattle.mh_tabfile.specs.declared.types.RawItem.{RawItem}
 use Rattle.mh_tabfile.specs.declared.types.RawTable.{RawTable}
-use Rattle.mh_tabfile.specs.Written.{raw_item}
 use Rattle.mh_valid.proofs.OneKernel.{same_items}
-use Rattle.mh_valid.specs.Valid.{AreNamesApart, HasKernel, IsKernelAt, IsAtEnd, raw_state}
+use Rattle.mh_valid.specs.Valid.{AreNamesApart, HasKernel, IsAtEnd, raw_state}
 use Rattle.mh_validate.specs.Looking.{AreItemsOf, MayHave, IsMovedItem}
 
 abbrev kernel_from : List KernelItem → Kernel

@@ -1,8 +1,6 @@
 -- A kernel holds a move, item by item, exactly where an edge of the move may lead to it.
-use Rattle.std.proofs.Common.{◌≡◌, ◌<◌, ℕ, zero, suc, List, [], ◌∷◌, length, refl, sym, ap, ◌∙◌, subst, arith, inl, inr}
-use Rattle.std.specs.Prelude.{slice_index_or}
-use Rattle.std.specs.List.{AllZip, AllByRecursion, Contains, slice_get}
-use Rattle.std.proofs.lemmas.Bool.{cases_order}
+use Rattle.std.proofs.Common.{◌≡◌, ◌<◌, ℕ, List, [], ◌∷◌, length, refl, sym, ap, ◌∙◌, subst, arith, inl, inr}
+use Rattle.std.specs.List.{AllZip, AllByRecursion, Contains}
 use Rattle.mh_grammar.specs.declared.types.Symbol.{Symbol}
 use Rattle.mh_grammar.specs.declared.types.Look.{Look}
 use Rattle.mh_grammar.specs.Plain.{PlainGrammar}
@@ -12,7 +10,7 @@ use Rattle.mh_grammar.proofs.Lists.{contains_here, contains_there, contains_case
 use Rattle.mh_items.specs.Shapes.{KernelItem, Kernel, Automaton}
 use Rattle.mh_items.specs.Kernels.{Holds, HasPlace, IsKernel, IsKernelItem, IsItemBefore}
 use Rattle.mh_items.specs.Automaton.{kernel_at, move_of, IsTarget}
-use Rattle.mh_items.proofs.OneList.{place_never, item_along}
+use Rattle.mh_items.proofs.OneList.{place_never, item_along, heads, of_items}
 use Rattle.mh_valid.specs.Within.{IsItemWithin, IsKernelWithin}
 
 pub target_of : (g : PlainGrammar) (a : Automaton) (s : ℕ) (X : Symbol) (u : ℕ) (m : Kernel) → IsKernel g m → AreSame (Holds m) (move_of g a s X) → u < length a.kernels → IsKernelWithin m (kernel_at a u) → IsTarget g a s X u
@@ -33,21 +31,7 @@ target_of g a s X u m k same known h = record {
 
 -- ---- the other way
 
-abbrev of_items : List KernelItem → Kernel
-of_items items = record { items = items }
-
 module _ (g : PlainGrammar) where
-  heads : (x y : KernelItem) → (IsItemBefore x y → ⊥) → (IsItemBefore y x → ⊥) → (x.production ≡ y.production) × (x.dot ≡ y.dot)
-  heads x y h k = elim (cases_order x.production y.production) [
-    | inl e ↦ elim (cases_order x.dot y.dot) [
-      | inl f ↦ (e, f)
-      | inr (inl l) ↦ absurd (h (inr (e, l)))
-      | inr (inr l) ↦ absurd (k (inr (sym e, l)))
-    ]
-    | inr (inl l) ↦ absurd (h (inl l))
-    | inr (inr l) ↦ absurd (k (inl l))
-  ]
-
   -- a place of a rising list that is the place of its head is the head's
   module _ (y : KernelItem) (ys : List KernelItem) (below : AllByRecursion (IsItemBefore y) ys) where
     at_head : (z : KernelItem) → Contains (y ∷ ys) z → z.production ≡ y.production → z.dot ≡ y.dot → y ≡ z

@@ -1,5 +1,5 @@
 -- Raw edges beside the moves of a closure.
-use Rattle.std.specs.Prelude.{◌≡◌, ◌<◌, ℕ, List, [], ◌∷◌, length, slice_index_or, Option, MatchOption}
+use Rattle.std.specs.Prelude.{◌≡◌, ◌<◌, List, [], ◌∷◌, length, slice_index_or, Option, MatchOption}
 use Rattle.std.specs.List.{AllZip}
 use Rattle.mh_grammar.specs.declared.types.Grammar.{Grammar}
 use Rattle.mh_grammar.specs.declared.edges.Edge.{Edge}

@@ -228,8 +228,8 @@ fn check_in_turn(rt: &impl Abort, alloc: Global, cases: &str, rows: &str) -> Res
     Ok(())
 }
 
-/// The files: a grammar with a conflict, of which is warned; messages for its states 0 and 1; and files that are refused.
-const FILES: [&str; 5] = [
+/// The files: a grammar with a conflict, of which is warned; messages for its states 0 and 1, and its table; and files that are refused.
+const FILES: [&str; 7] = [
     "g.mly
 %token A EOF
 %start s
@@ -254,6 +254,45 @@ M
 ",
     "shape
 EOF
+",
+    "t
+menhir-tables 2 merged
+tokens A EOF
+costs 1 1
+starts s
+productions 3
+s -> A EOF
+s -> x EOF
+x -> A
+states 6
+state 0
+item 0 0 #
+edge A 1
+edge s 2
+edge x 3
+cell A shift 1
+state 1
+item 1 1 #
+item 3 1 EOF
+edge EOF 4
+cell EOF shift 4
+state 2
+item 0 1 #
+default accept
+state 3
+item 2 1 #
+edge EOF 5
+cell EOF shift 5
+state 4
+item 1 2 #
+default reduce 1
+state 5
+item 2 2 #
+default reduce 2
+end
+",
+    "other
+menhir-tables 9 merged
 ",
 ];
 
@@ -395,7 +434,39 @@ const NO_LINE: &str = "3 shelf 1 0 0 0; menhir: cannot read g.mly
 0 err 2 all all 0
 ";
 
-const WRITTEN: &str = "--show-automaton g.mly
+const WRITTEN: &str = "--show-automaton --tables t g.mly
+~
+A EOF
+~
+merged: 6 states
+state 0
+  s' -> . s [ # ]
+  A: shift 1
+  s: goto 2
+  x: goto 3
+state 1
+  s -> A . EOF [ # ]
+  x -> A . [ EOF ]
+  EOF: shift 4
+state 2
+  s' -> s . [ # ]
+  default: accept
+state 3
+  s -> x . EOF [ # ]
+  EOF: shift 5
+state 4
+  s -> A EOF . [ # ]
+  default: reduce s -> A EOF
+state 5
+  s -> x EOF . [ # ]
+  default: reduce s -> x EOF
+~
+menhir: warning: conflict in state 1 on EOF
+~
+3 shelf 2 0 0 0; menhir: cannot read t
+0 shelf 3 all all 0
+^
+--show-automaton g.mly
 ~
 A EOF
 ~
@@ -622,6 +693,30 @@ menhir: early:1: refused early at index 0
 #[test]
 fn refusals_of_modes(rt: HostRuntime) -> Result<(), Fail> {
     check_in_turn(&rt, rt.alloc(), REFUSALS, REFUSED)
+}
+
+// A table file that is refused comes before the warnings.
+const NO_TABLE: &str = "3 shelf 1 0 0 0; menhir: cannot read g.mly
+3 shelf 2 0 0 0; menhir: cannot read other
+1 shelf 3 all all 0
+1 input 1 all all 0
+1 out 1 all all 0
+4 err 1 0 before 0
+1 err 2 all all 0
+";
+
+const OTHER_TABLE: &str = "--interpret --tables other g.mly
+~
+A EOF
+~
+~
+menhir: other: version
+~
+";
+
+#[test]
+fn a_table_that_is_refused(rt: HostRuntime) -> Result<(), Fail> {
+    check_in_turn(&rt, rt.alloc(), OTHER_TABLE, NO_TABLE)
 }
 
 // The first line has no entry.

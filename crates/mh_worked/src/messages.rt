@@ -337,7 +337,7 @@ fn check_round(rt: &impl Abort, alloc: Global, grammar: &[u8]) -> Result<(), Fai
 }
 
 /// Grammars of the worked examples, one a line.
-const ROUNDS: &str = "%token A EOF %start s %% s: A EOF {}
+pub const ROUNDS: &str = "%token A EOF %start s %% s: A EOF {}
 %token A B EOF %start s %% s: A EOF {}
 %token A B C D %start p q %% p: x A {} q: x B {} x: C D {}
 %token INT EQ EOF %nonassoc EQ %start main %% main: e EOF {} e: INT {} | e EQ e {}

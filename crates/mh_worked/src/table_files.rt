@@ -1,5 +1,8 @@
 //! Table files that the program writes, and tables that come from files.
-use crate::runs::check_cases;
+use crate::messages::ROUNDS;
+use crate::runs::{Fails, ONE_SENTENCE_FILE, Outcome, check_cases, check_cases_with, run, run_on};
+use std::alloc::Global;
+use std::process::Abort;
 use std::test::Fail;
 
 const WRITTEN: &str = "0 --write-tables g.mly
@@ -146,11 +149,62 @@ fn around(rt: HostRuntime) -> Result<(), Fail> {
     check_cases(&rt, rt.alloc(), AROUND)
 }
 
-// A table that comes from a file is worked with like one that is built, in every mode; its mode is the file's.
-const TAKEN: &str = "0 --interpret --tables t g.mly
+// Beside the files of each case stands the grammar of one sentence. The last table is of version 1.
+const TAKEN: &str = "0 --list-errors --tables t g.mly
 ~
-g.mly
-%token A EOF %start s %% s: A EOF {}
+t
+menhir-tables 2 merged
+tokens A EOF
+costs 1 1
+starts s
+productions 1
+s -> A EOF
+states 4
+state 0
+item 0 0 #
+edge A 1
+edge s 2
+cell A shift 1
+state 1
+item 1 1 #
+edge EOF 3
+cell EOF shift 3
+state 2
+item 0 1 #
+default accept
+state 3
+item 1 2 #
+default reduce 1
+end
+~
+~
+s: EOF
+##
+## Ends in an error in state: 0.
+##
+## s' -> . s [ # ]
+##
+## The known suffix of the stack is as follows:
+##
+##
+
+<YOUR SYNTAX ERROR MESSAGE HERE>
+
+s: A A
+##
+## Ends in an error in state: 1.
+##
+## s -> A . EOF [ # ]
+##
+## The known suffix of the stack is as follows:
+## A
+##
+
+<YOUR SYNTAX ERROR MESSAGE HERE>
+
+~
+^
+0 --tables t --interpret g.mly
 ~
 t
 menhir-tables 2 merged
@@ -186,13 +240,44 @@ REJECT
 OVERSHOOT
 ~
 ^
-0 --write-tables --tables old g.mly
+0 --session --tables t g.mly
 ~
-g.mly
-%token A EOF %start s %% s: A EOF {}
+t
+menhir-tables 2 merged
+tokens A EOF
+costs 1 1
+starts s
+productions 1
+s -> A EOF
+states 4
+state 0
+item 0 0 #
+edge A 1
+edge s 2
+cell A shift 1
+state 1
+item 1 1 #
+edge EOF 3
+cell EOF shift 3
+state 2
+item 0 1 #
+default accept
+state 3
+item 1 2 #
+default reduce 1
+end
 ~
-old
-menhir-tables 1 canonical
+begin a
+offer a A
+~
+a input-needed 0
+a shifting 0 A
+~
+^
+0 --tables t --write-tables g.mly
+~
+t
+menhir-tables 1 merged
 tokens A EOF
 starts s
 productions 1
@@ -216,7 +301,7 @@ default reduce 1
 end
 ~
 ~
-menhir-tables 2 canonical
+menhir-tables 2 merged
 tokens A EOF
 costs 1 1
 starts s
@@ -242,45 +327,70 @@ end
 ~
 ";
 
-// What is refused of a file: its version, its first line that is not of the form, the first test that it fails.
-const REFUSED: &str = "1 --interpret --tables t g.mly
+/// A table that comes from a file is worked with like one that is built.
+#[test]
+fn taken(rt: HostRuntime) -> Result<(), Fail> {
+    check_cases_with(&rt, rt.alloc(), ONE_SENTENCE_FILE, TAKEN)
+}
+
+// The file is read behind the grammar. Beside what builds a table of its own, or none, the word has no meaning.
+const REFUSED: &str = "3 --interpret --tables t g.mly
 ~
-g.mly
-%token A EOF %start s %% s: A EOF {}
-~
-t
-menhir-tables 9 merged
 ~
 ~
+menhir: cannot read t
+^
+3 --interpret --tables t h.mly
 ~
-menhir: t: version
+~
+~
+menhir: cannot read h.mly
+^
+1 --interpret --tables t h.mly
+~
+h.mly
+%token A %start s %% s: B {}
+~
+~
+~
+menhir: undefined: B
 ^
 1 --interpret --tables t g.mly
 ~
-g.mly
-%token A EOF %start s %% s: A EOF {}
+t
+~
+~
+~
+menhir: t:1: shape
+^
+1 --interpret --tables t h.mly
+~
+h.mly
+%token A EOF %start s %% s: A A EOF {}
 ~
 t
 menhir-tables 2 merged
 tokens A EOF
-starts s
-~
-~
-~
-menhir: t:3: shape
-^
-1 --interpret --tables t g.mly
-~
-g.mly
-%token A EOF %start s %% s: A EOF {}
-~
-t
-menhir-tables 2 merged
-tokens A B
 costs 1 1
 starts s
-productions 0
-states 0
+productions 1
+s -> A EOF
+states 4
+state 0
+item 0 0 #
+edge A 1
+edge s 2
+cell A shift 1
+state 1
+item 1 1 #
+edge EOF 3
+cell EOF shift 3
+state 2
+item 0 1 #
+default accept
+state 3
+item 1 2 #
+default reduce 1
 end
 ~
 ~
@@ -288,9 +398,6 @@ end
 menhir: t: invalid: header
 ^
 1 --interpret --tables t g.mly
-~
-g.mly
-%token A EOF %start s %% s: A EOF {}
 ~
 t
 menhir-tables 2 merged
@@ -306,359 +413,7 @@ end
 ~
 menhir: t: invalid: states
 ^
-1 --interpret --tables t g.mly
-~
-g.mly
-%token A EOF %start s %% s: A EOF {}
-~
-t
-menhir-tables 2 merged
-tokens A EOF
-costs 1 1
-starts s
-productions 1
-s -> A EOF
-states 1
-state 0
-item 0 1 #
-default accept
-end
-~
-~
-~
-menhir: t: invalid: state 0: kernel
-^
-1 --interpret --tables t g.mly
-~
-g.mly
-%token A EOF %start s %% s: A EOF {}
-~
-t
-menhir-tables 2 merged
-tokens A EOF
-costs 1 1
-starts s
-productions 1
-s -> A EOF
-states 1
-state 0
-item 0 0 #
-end
-~
-~
-~
-menhir: t: invalid: state 0: edge
-^
-3 --interpret --tables t g.mly
-~
-g.mly
-%token A EOF %start s %% s: A EOF {}
-~
-~
-~
-menhir: cannot read t
-^
-3 --interpret --tables t g.mly
-~
-~
-~
-menhir: cannot read g.mly
-^
-1 --interpret --tables t g.mly
-~
-g.mly
-%token A %start s %% s: B {}
-~
-~
-~
-menhir: undefined: B
-";
-
-// A file with one line turned, cut or left out.
-const DAMAGED: &str = "1 --interpret --tables t g.mly
-~
-g.mly
-%token A EOF %start s %% s: A EOF {}
-~
-t
-menhir-tables 2 merged
-tokens A EOF
-costs 1 1
-starts s
-productions 1
-s -> A EOF
-states 4
-state 0
-item 0 0 #
-edge A 3
-edge s 2
-cell A shift 1
-state 1
-item 1 1 #
-edge EOF 3
-cell EOF shift 3
-state 2
-item 0 1 #
-default accept
-state 3
-item 1 2 #
-default reduce 1
-end
-~
-~
-~
-menhir: t: invalid: state 0: edge
-^
-1 --interpret --tables t g.mly
-~
-g.mly
-%token A EOF %start s %% s: A EOF {}
-~
-t
-menhir-tables 2 merged
-tokens A EOF
-costs 1 1
-starts s
-productions 1
-s -> A EOF
-states 4
-state 0
-item 0 0 #
-edge A 1
-edge s 2
-cell A shift 1
-state 1
-item 1 1 #
-edge EOF 3
-cell EOF shift 3
-state 2
-item 0 1 #
-default accept
-state 3
-item 1 2 #
-default reduce 1
-~
-~
-~
-menhir: t:22: shape
-^
-1 --interpret --tables t g.mly
-~
-g.mly
-%token A EOF %start s %% s: A EOF {}
-~
-t
-~
-~
-~
-menhir: t:1: shape
-^
-1 --interpret --tables t g.mly
-~
-g.mly
-%token A EOF %start s %% s: A EOF {}
-~
-t
-menhir-tables 2 merged
-tokens A EOF
-costs 1 2
-starts s
-productions 1
-s -> A EOF
-states 4
-state 0
-item 0 0 #
-edge A 1
-edge s 2
-cell A shift 1
-state 1
-item 1 1 #
-edge EOF 3
-cell EOF shift 3
-state 2
-item 0 1 #
-default accept
-state 3
-item 1 2 #
-default reduce 1
-end
-~
-~
-~
-menhir: t: invalid: header
-^
-1 --interpret --tables t g.mly
-~
-g.mly
-%token A EOF %start s %% s: A EOF {}
-~
-t
-menhir-tables 2 merged
-tokens A EOF
-costs 1 1
-starts s
-productions 1
-s -> A EOF
-states 4
-state 0
-item 0 0 #
-edge A 1
-edge s 2
-cell A shift 1
-state 1
-item 1 1 #
-edge EOF 3
-cell EOF shift 3
-state 2
-item 0 1 #
-default accept
-state 3
-item 1 2 A
-default reduce 1
-end
-~
-~
-~
-menhir: t: invalid: state 1: edge
-^
-1 --interpret --tables t g.mly
-~
-g.mly
-%token A EOF %start s %% s: A EOF {}
-~
-t
-menhir-tables 2 merged
-tokens A EOF
-costs 1 1
-starts s
-productions 1
-s -> A EOF
-states 4
-state 0
-item 0 0 #
-edge A 1
-edge s 2
-cell A shift 2
-state 1
-item 1 1 #
-edge EOF 3
-cell EOF shift 3
-state 2
-item 0 1 #
-default accept
-state 3
-item 1 2 #
-default reduce 1
-end
-~
-~
-~
-menhir: t: invalid: state 0: cell
-^
-1 --interpret --tables t g.mly
-~
-g.mly
-%token A EOF %start s %% s: A EOF {}
-~
-t
-menhir-tables 2 merged
-tokens A EOF
-costs 1 1
-starts s
-productions 1
-s -> A EOF
-states 4
-state 0
-item 0 0 #
-edge A 1
-edge s 2
-cell A shift 1
-state 1
-item 1 1 #
-edge EOF 3
-default reduce 1
-state 2
-item 0 1 #
-default accept
-state 3
-item 1 2 #
-default reduce 1
-end
-~
-~
-~
-menhir: t: invalid: state 1: cell
-^
-1 --interpret --tables t g.mly
-~
-g.mly
-%token A EOF %start s %% s: A EOF {}
-~
-t
-menhir-tables 2 merged
-tokens A EOF
-costs 1 1
-starts s
-productions 1
-s -> A EOF
-states 4
-state 0
-item 0 0 #
-edge A 1
-edge s 2
-cell A shift 1
-state 1
-item 1 1 #
-edge EOF 3
-cell EOF shift 3
-state 2
-item 0 1 #
-state 3
-item 1 2 #
-default reduce 1
-end
-~
-~
-~
-menhir: t: invalid: state 2: fallback
-^
-1 --interpret --tables t g.mly
-~
-g.mly
-%token A EOF %start s %% s: A EOF {}
-~
-t
-menhir-tables 2 merged
-tokens A EOF
-costs 1 1
-starts s
-productions 1
-s -> A EOF
-states 4
-state 0
-item 0 0 #
-edge A 1
-edge s 2
-cell A shift 1
-state 1
-item 1 1 #
-edge EOF 3
-cell EOF shift 3
-state 2
-item 0 1 #
-default accept
-state 3
-item 1 2 #
-default accept
-end
-~
-~
-~
-menhir: t: invalid: state 3: fallback
-";
-
-// Beside what builds a table of its own the word has no meaning.
-const MISPLACED: &str = "2 --interpret --tables t --canonical g.mly
+2 --canonical --tables t --interpret g.mly
 ~
 ~
 ~
@@ -669,6 +424,12 @@ menhir: usage: misplaced --tables
 ~
 ~
 menhir: usage: misplaced --tables
+^
+2 --session --messages m --tables t --canonical g.mly
+~
+~
+~
+menhir: usage: misplaced --messages
 ^
 2 --tables t g.mly
 ~
@@ -681,30 +442,248 @@ menhir: usage: no mode
 ~
 ~
 menhir: usage: no grammar
-^
-2 --session --messages m --tables t --canonical g.mly
-~
-~
-~
-menhir: usage: misplaced --messages
 ";
 
 #[test]
-fn taken(rt: HostRuntime) -> Result<(), Fail> {
-    check_cases(&rt, rt.alloc(), TAKEN)
-}
-
-#[test]
 fn refused(rt: HostRuntime) -> Result<(), Fail> {
-    check_cases(&rt, rt.alloc(), REFUSED)
+    check_cases_with(&rt, rt.alloc(), ONE_SENTENCE_FILE, REFUSED)
 }
 
-#[test]
-fn damaged(rt: HostRuntime) -> Result<(), Fail> {
-    check_cases(&rt, rt.alloc(), DAMAGED)
+/// A table file with its lines `old` as `new`, or without them.
+fn changed(alloc: Global, file: &str, old: &str, new: &str) -> Result<String, Fail> {
+    let mut text = String::new(alloc);
+    for line in file.lines() {
+        let line = if line == old { new } else { line };
+        if !line.is_empty() {
+            text.push_str(line)?;
+            text.push('\n')?;
+        }
+    }
+    Ok(text)
 }
 
+/// The files `g.mly` and `t`.
+fn with_table(alloc: Global, grammar: &str, table: &[u8]) -> Result<Vec<(Vec<u8>, Vec<u8>)>, Fail> {
+    let mut files = Vec::new(alloc);
+    let grammar = grammar.as_bytes().to_vec(alloc)?;
+    files.push((b"g.mly".to_vec(alloc)?, grammar))?;
+    files.push((b"t".to_vec(alloc)?, table.to_vec(alloc)?))?;
+    Ok(files)
+}
+
+/// What the words come to on a grammar with a table file beside it.
+fn run_beside(
+    rt: &impl Abort,
+    alloc: Global,
+    words: &str,
+    grammar: &str,
+    table: &[u8],
+) -> Result<Outcome, Fail> {
+    let files = with_table(alloc, grammar, table)?;
+    run(rt, alloc, words, files, Vec::new(alloc), Fails::none(alloc))
+}
+
+/// Changes a table file as a line tells: an old and a new line, perhaps two more, and what is told of the file then.
+fn check_change(
+    rt: &impl Abort,
+    alloc: Global,
+    grammar: &str,
+    file: &str,
+    line: &str,
+) -> Result<(), Fail> {
+    let (change, told) = line.rsplit_once("; ").ok_or("nothing is told")?;
+    let mut table = String::from_str(alloc, file)?;
+    for pair in change.split(" & ") {
+        let (old, new) = pair.split_once("; ").ok_or("a change without a new line")?;
+        table = changed(alloc, &table, old, new)?;
+    }
+    let got = run_beside(
+        rt,
+        alloc,
+        "--interpret --tables t g.mly",
+        grammar,
+        table.as_bytes(),
+    )?;
+    assert_eq!(rt; str::from_utf8(&got.err)?, told, "of\n{table}");
+    assert_eq!(rt; got.status, 1);
+    assert_eq!(rt; got.out.len(), 0);
+    Ok(())
+}
+
+/// Changes the table file that the tool writes of a grammar as each line tells.
+fn check_changes(
+    rt: &impl Abort,
+    alloc: Global,
+    grammar: &str,
+    words: &str,
+    changes: &str,
+) -> Result<(), Fail> {
+    let written = run_on(rt, alloc, words, grammar.as_bytes(), Vec::new(alloc))?;
+    for line in changes.split_inclusive('\n') {
+        check_change(rt, alloc, grammar, str::from_utf8(&written.out)?, line)?;
+    }
+    Ok(())
+}
+
+// Another version comes before each fault of form, a fault of form before each test of what the file says, and each kernel before
+// the first edge.
+const ONE_SENTENCE_CHANGES: &str =
+    "menhir-tables 2 merged; menhir-tables 9 merged; menhir: t: version
+menhir-tables 2 merged; menhir-tables 9 merged & end; ; menhir: t: version
+menhir-tables 2 merged; menhir-tables 9 Merged; menhir: t:1: shape
+menhir-tables 2 merged; menhir-tables 1 merged; menhir: t:3: shape
+costs 1 1; ; menhir: t:3: shape
+productions 1; productions 2; menhir: t:7: shape
+edge A 1; edge A 01; menhir: t:10: shape
+edge A 1; edge A 4294967296; menhir: t:10: shape
+states 4; states 3; menhir: t:20: shape
+end; ; menhir: t:22: shape
+states 4; states 5; menhir: t:23: shape
+edge A 1; edge A 3 & end; ; menhir: t:22: shape
+tokens A EOF; tokens EOF A; menhir: t: invalid: header
+costs 1 1; costs 1 2; menhir: t: invalid: header
+costs 1 1; costs 1; menhir: t: invalid: header
+costs 1 1; costs 1 1 1; menhir: t: invalid: header
+starts s; starts t; menhir: t: invalid: header
+s -> A EOF; s -> A A; menhir: t: invalid: header
+item 0 0 #; item 0 0 A; menhir: t: invalid: state 0: kernel
+item 1 1 #; item 1 0 #; menhir: t: invalid: state 1: kernel
+item 1 1 #; item 1 3 #; menhir: t: invalid: state 1: kernel
+item 1 1 #; item 1 1 B; menhir: t: invalid: state 1: kernel
+item 1 1 #; ; menhir: t: invalid: state 1: kernel
+edge A 1; edge A 3 & item 1 2 #; item 1 3 #; menhir: t: invalid: state 3: kernel
+edge A 1; edge A 3; menhir: t: invalid: state 0: edge
+edge A 1; edge A 4294967295; menhir: t: invalid: state 0: edge
+edge s 2; ; menhir: t: invalid: state 0: edge
+edge EOF 3; edge EOF 2; menhir: t: invalid: state 1: edge
+item 1 2 #; item 1 2 A; menhir: t: invalid: state 1: edge
+cell A shift 1; cell A shift 2; menhir: t: invalid: state 0: cell
+cell A shift 1; cell A reduce 1; menhir: t: invalid: state 0: cell
+cell A shift 1; ; menhir: t: invalid: state 0: cell
+cell EOF shift 3; default reduce 1; menhir: t: invalid: state 1: cell
+default accept; cell A reduce 1; menhir: t: invalid: state 2: cell
+default accept; ; menhir: t: invalid: state 2: fallback
+default reduce 1; default accept; menhir: t: invalid: state 3: fallback
+";
+
+// A state that has a default where automata are merged has cells where they are not.
+const MODE_CHANGES: &str =
+    "menhir-tables 2 canonical; menhir-tables 2 merged; menhir: t: invalid: state 2: cell
+";
+
+// An item of a start production has no look but the end.
+const LOOK_CHANGES: &str = "item 0 1 #; item 0 1 INT #; menhir: t: invalid: state 2: kernel
+";
+
+/// The first test that fails is told, with its line or state.
 #[test]
-fn misplaced(rt: HostRuntime) -> Result<(), Fail> {
-    check_cases(&rt, rt.alloc(), MISPLACED)
+fn changed_files(rt: HostRuntime) -> Result<(), Fail> {
+    let alloc = rt.alloc();
+    let one = "%token A EOF %start s %% s: A EOF {}";
+    check_changes(
+        &rt,
+        alloc,
+        one,
+        "--write-tables g.mly",
+        ONE_SENTENCE_CHANGES,
+    )?;
+    let two = "%token C D %start s %% s: c c {} c: C c {} | D {}";
+    check_changes(
+        &rt,
+        alloc,
+        two,
+        "--canonical --write-tables g.mly",
+        MODE_CHANGES,
+    )?;
+    let sums = "%token INT PLUS %start e %% e: INT {} | e PLUS INT {}";
+    check_changes(&rt, alloc, sums, "--write-tables g.mly", LOOK_CHANGES)
+}
+
+/// What is told with an automaton that is built, and with its table file.
+fn check_both(
+    rt: &impl Abort,
+    alloc: Global,
+    grammar: &str,
+    mode: &str,
+    table: &[u8],
+) -> Result<(), Fail> {
+    for job in [
+        "--write-tables",
+        "--show-automaton",
+        "--list-errors",
+        "--strict --write-tables",
+    ] {
+        let mut built = String::from_str(alloc, mode)?;
+        built.push_str(job)?;
+        built.push_str(" g.mly")?;
+        let wanted = run_on(rt, alloc, &built, grammar.as_bytes(), Vec::new(alloc))?;
+        let mut read = String::from_str(alloc, "--tables t g.mly ")?;
+        read.push_str(job)?;
+        let got = run_beside(rt, alloc, &read, grammar, table)?;
+        assert_eq!(rt; str::from_utf8(&got.out)?, str::from_utf8(&wanted.out)?);
+        assert_eq!(rt; str::from_utf8(&got.err)?, str::from_utf8(&wanted.err)?);
+        assert_eq!(rt; got.status, wanted.status);
+    }
+    Ok(())
+}
+
+/// The table file that is written of a grammar, in a mode.
+fn check_file(
+    rt: &impl Abort,
+    alloc: Global,
+    grammar: &str,
+    mode: &str,
+    first: &str,
+) -> Result<(), Fail> {
+    let mut words = String::from_str(alloc, mode)?;
+    words.push_str("--write-tables g.mly")?;
+    let written = run_on(rt, alloc, &words, grammar.as_bytes(), Vec::new(alloc))?;
+    assert!(rt; written.out.starts_with(first.as_bytes()));
+    check_both(rt, alloc, grammar, mode, &written.out)
+}
+
+/// Two grammars with conflicts, one of them at the end of a stream, and one whose costs are not one.
+const MORE: &str = "%token INT PLUS %start e %% e: INT {} | e PLUS INT {}
+%token IF ELSE X EOF %start main %% main: s EOF {} s: IF s {} | IF s ELSE s {} | X {}
+%token C [@cost 3] D %start s t %% s: c c {} c: C c {} | D {} t: c {}";
+
+/// Every mode says of a table that was written and read again what it says of the automaton that was built.
+#[test]
+fn written_and_read_again(rt: HostRuntime) -> Result<(), Fail> {
+    for grammars in [ROUNDS, MORE] {
+        for grammar in grammars.lines() {
+            check_file(&rt, rt.alloc(), grammar, "", "menhir-tables 2 merged\n")?;
+            check_file(
+                &rt,
+                rt.alloc(),
+                grammar,
+                "--canonical ",
+                "menhir-tables 2 canonical\n",
+            )?;
+        }
+    }
+    Ok(())
+}
+
+/// The file of a canonical automaton says so, whatever the words say of it.
+#[test]
+fn mode_of_the_file(rt: HostRuntime) -> Result<(), Fail> {
+    let alloc = rt.alloc();
+    let grammar = "%token C D %start s %% s: c c {} c: C c {} | D {}";
+    let written = run_on(
+        &rt,
+        alloc,
+        "--canonical --write-tables g.mly",
+        grammar.as_bytes(),
+        Vec::new(alloc),
+    )?;
+    let shown = run_beside(
+        &rt,
+        alloc,
+        "--tables t --show-automaton g.mly",
+        grammar,
+        &written.out,
+    )?;
+    assert!(rt; shown.out.starts_with(b"canonical: 10 states\n"));
+    Ok(())
 }

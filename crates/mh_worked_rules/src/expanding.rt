@@ -1,5 +1,6 @@
 //! Files and the instances of their rules, worked out by hand.
 ghost use Rattle.std.specs.Prelude.{IfOk};
+ghost use Rattle.mh_rules.specs.Ready.{IsReady};
 ghost use Rattle.mh_expand.specs.Expansion.{IsFirstFault};
 
 use crate::cases::{joined_of, parts, push_digit, push_named, push_prec, release};
@@ -75,7 +76,9 @@ fn push_fault(out: &mut Vec<u8>, fault: &ExpandFault) -> Result<(), AllocError> 
 }
 
 /// Adds the instances of the rules, or their fault.
-fn push_answer(alloc: Global, out: &mut Vec<u8>, joined: &Joined) -> Result<(), AllocError> {
+fn push_answer(alloc: Global, out: &mut Vec<u8>, joined: &Joined) -> Result<(), AllocError>
+    requires { IsReady joined.now }
+{
     match expand(alloc, joined) {
         Ok(expanded) => {
             let result = push_expanded(out, &expanded);
@@ -90,7 +93,9 @@ fn push_answer(alloc: Global, out: &mut Vec<u8>, joined: &Joined) -> Result<(), 
     }
 }
 
-fn answer(alloc: Global, joined: &Joined) -> Result<Vec<u8>, AllocError> {
+fn answer(alloc: Global, joined: &Joined) -> Result<Vec<u8>, AllocError>
+    requires { IsReady joined.now }
+{
     let mut out = Vec::new(alloc);
     push_answer(alloc, &mut out, joined)?;
     Ok(out)
@@ -193,7 +198,9 @@ fn arity_before_expansion(rt: HostRuntime) -> Result<(), Fail> {
     Ok(())
 }
 
-fn check_expansion(alloc: Global, joined: &Joined) -> Result<(), Fail> {
+fn check_expansion(alloc: Global, joined: &Joined) -> Result<(), Fail>
+    requires { IsReady joined.now }
+{
     let left = expand(alloc, joined)?;
     let right = expand(alloc, joined)?;
     is_one_expansion(joined, &left, &right);
@@ -210,6 +217,7 @@ fn one_expansion(rt: HostRuntime) -> Result<(), Fail> {
 
 /// The fault of rules that is an arity.
 fn arity_of(alloc: Global, joined: &Joined) -> Result<ExpandFault, Fail>
+    requires { IsReady joined.now }
     ensures { IfOk result (IsFirstFault joined.now) }
 {
     let Err(ExpandFault::Arity { instance }) = expand(alloc, joined) else {
@@ -218,7 +226,9 @@ fn arity_of(alloc: Global, joined: &Joined) -> Result<ExpandFault, Fail>
     Ok(ExpandFault::Arity { instance })
 }
 
-fn check_fault(alloc: Global, joined: &Joined) -> Result<(), Fail> {
+fn check_fault(alloc: Global, joined: &Joined) -> Result<(), Fail>
+    requires { IsReady joined.now }
+{
     let left = arity_of(alloc, joined)?;
     let right = arity_of(alloc, joined)?;
     is_one_fault(joined, &left, &right);

@@ -1,4 +1,6 @@
 //! Files and what they give together, worked out by hand.
+ghost use Rattle.mh_rules.specs.Ready.{AreModulesReady};
+
 use crate::cases::{
     modules_of, parts, push_digit, push_level, push_named, push_number, push_prec, release,
 };
@@ -126,7 +128,9 @@ fn push_answer(
     out: &mut Vec<u8>,
     modules: &[Module],
     prelude: bool,
-) -> Result<(), AllocError> {
+) -> Result<(), AllocError>
+    requires { AreModulesReady modules.now }
+{
     match join(alloc, modules, prelude) {
         Ok(joined) => {
             let result = push_joined(out, &joined);
@@ -141,7 +145,9 @@ fn push_answer(
     }
 }
 
-fn answer(alloc: Global, modules: &[Module], prelude: bool) -> Result<Vec<u8>, AllocError> {
+fn answer(alloc: Global, modules: &[Module], prelude: bool) -> Result<Vec<u8>, AllocError>
+    requires { AreModulesReady modules.now }
+{
     let mut out = Vec::new(alloc);
     push_answer(alloc, &mut out, modules, prelude)?;
     Ok(out)
@@ -276,7 +282,9 @@ fn files(rt: HostRuntime) -> Result<(), Fail> {
     check_cases(&rt, rt.alloc(), cases_with_prelude(), true)
 }
 
-fn check_answer(alloc: Global, modules: &[Module]) -> Result<(), Fail> {
+fn check_answer(alloc: Global, modules: &[Module]) -> Result<(), Fail>
+    requires { AreModulesReady modules.now }
+{
     let left = join(alloc, modules, false)?;
     let right = join(alloc, modules, false)?;
     is_one_joined(false, modules, &left, &right);
@@ -292,7 +300,9 @@ fn one_answer(rt: HostRuntime) -> Result<(), Fail> {
     result
 }
 
-fn check_fault(rt: &impl Abort, alloc: Global, modules: &[Module]) -> Result<(), Fail> {
+fn check_fault(rt: &impl Abort, alloc: Global, modules: &[Module]) -> Result<(), Fail>
+    requires { AreModulesReady modules.now }
+{
     let Err(left) = join(alloc, modules, false) else {
         return Err("no fault".into());
     };

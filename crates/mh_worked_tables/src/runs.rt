@@ -302,7 +302,7 @@ fn check_pairs(rt: &impl Abort, alloc: Global, table: &Halting) -> Result<(), Fa
     check_end(rt, alloc, table, &sentence, "too deep")
 }
 
-/// 4,000 times A leave as many pairs, and one more is too many, though no tree is high.
+/// 4,000 times A leave as many pairs, the longest stack that is let go; one more is too many, though no tree is high.
 #[test]
 fn too_many_pairs(rt: HostRuntime) -> Result<(), Fail> {
     let table = table_of(rt.alloc(), CHAIN)?;

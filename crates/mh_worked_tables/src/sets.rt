@@ -60,31 +60,45 @@ fn production(lhs: u16, rhs: Vec<Symbol>) -> Production {
     }
 }
 
-/// Whether the sample with one production more is in range.
-fn takes_production(alloc: Global, production: Production) -> Result<bool, Fail> {
+/// Whether a grammar is in range with one production more, of this left side and with this token last.
+fn takes_production(
+    alloc: Global,
+    grammar: &mut Grammar,
+    side: u16,
+    token: u16,
+) -> Result<bool, Memory> {
+    let rhs = vec![in alloc; Symbol::T(0), Symbol::T(token)]?;
+    grammar.productions.push(production(side, rhs))?;
+    Ok(is_in_range(grammar))
+}
+
+/// Whether the sample is.
+fn sample_takes_production(alloc: Global, side: u16, token: u16) -> Result<bool, Fail> {
     let mut grammar = grammar_of(alloc, SAMPLE)?;
-    grammar.productions.push(production)?;
-    Ok(is_in_range(&grammar))
+    let result = takes_production(alloc, &mut grammar, side, token);
+    release(grammar);
+    Ok(result?)
 }
 
 /// Whether the sample with one start more is in range.
-fn takes_start(alloc: Global, start: u16) -> Result<bool, Fail> {
+fn sample_takes_start(alloc: Global, start: u16) -> Result<bool, Fail> {
     let mut grammar = grammar_of(alloc, SAMPLE)?;
-    grammar.starts.push(start)?;
-    Ok(is_in_range(&grammar))
+    let result = grammar.starts.push(start);
+    let in_range = is_in_range(&grammar);
+    release(grammar);
+    result?;
+    Ok(in_range)
 }
 
 #[test]
 fn numbers_that_name_nothing_are_out_of_range(rt: HostRuntime) -> Result<(), Fail> {
     for (side, token, wanted) in [(3, 1, true), (4, 1, false), (3, 2, false)] {
-        let rhs = vec![in rt.alloc(); Symbol::T(0), Symbol::T(token)]?;
-        assert_eq!(rt;
-            takes_production(rt.alloc(), production(side, rhs))?,
-            wanted
-        );
+        let taken = sample_takes_production(rt.alloc(), side, token)?;
+        assert_eq!(rt; taken, wanted);
     }
-    assert!(rt; takes_start(rt.alloc(), 3)?);
-    assert!(rt; !takes_start(rt.alloc(), 4)?);
+    for (start, wanted) in [(3, true), (4, false)] {
+        assert_eq!(rt; sample_takes_start(rt.alloc(), start)?, wanted);
+    }
     Ok(())
 }
 

@@ -1,7 +1,14 @@
 //! Table files that were written out by hand: what is written for a grammar, what is read of it, and the line at which a
 //! file is not of the form.
+ghost use Rattle.std.specs.Prelude.{◌≤◌, length};
+ghost use Rattle.mh_grammar.specs.Costs.{HaveCosts};
+ghost use Rattle.mh_grammar.specs.Plain.{plain_of, IsInRange};
+ghost use Rattle.mh_items.specs.Automaton.{IsAutomaton};
+
+use crate::cases::release;
 use mh_canon::canonical;
-use mh_grammar::{Grammar, has_costs_in_range, is_in_range};
+use mh_grammar::{Grammar, Memory, has_costs_in_range, is_in_range};
+use mh_items::Automaton;
 use mh_made::grammar_of;
 use mh_resolve::{Mode, resolve};
 use mh_tabfile::{RawCells, RawTable, TabFault, read_tables, write_tables};
@@ -29,14 +36,41 @@ const LARGER_FILE: &str =
     state 4\nitem 4 1 #\ndefault reduce 4\nstate 5\nitem 1 1 #\ndefault accept\n\
     state 6\nitem 2 2 #\ndefault reduce 2\nend\n";
 
+/// The file of an automaton's table.
+fn file_of(
+    alloc: Global,
+    grammar: &Grammar,
+    automaton: &Automaton<1>,
+    mode: Mode,
+) -> Result<Vec<u8>, Memory>
+    requires width { length grammar.now.tokens ≤ 64 }
+    requires range { IsInRange (plain_of grammar.now) }
+    requires costs { HaveCosts grammar.now.tokens }
+    requires automaton { IsAutomaton (plain_of grammar.now) automaton.now }
+{
+    let (table, conflicts) = resolve(alloc, grammar, automaton, mode)?;
+    let file = write_tables(alloc, grammar, automaton, &table, mode);
+    release(table);
+    release(conflicts);
+    file
+}
+
 /// The file of a grammar's table, by its canonical automaton.
-fn written_of(alloc: Global, grammar: &Grammar, mode: Mode) -> Result<Vec<u8>, Fail> {
+fn written_by(alloc: Global, grammar: &Grammar, mode: Mode) -> Result<Vec<u8>, Fail> {
     if !is_in_range(grammar) || !has_costs_in_range(grammar) || grammar.tokens.len() > 64 {
         return Err(Fail::from("out of range"));
     }
     let automaton = canonical::<1>(alloc, grammar).map_err(|_| "no automaton")?;
-    let (table, _) = resolve(alloc, grammar, &automaton, mode)?;
-    Ok(write_tables(alloc, grammar, &automaton, &table, mode)?)
+    let file = file_of(alloc, grammar, &automaton, mode);
+    release(automaton);
+    Ok(file?)
+}
+
+fn written_of(alloc: Global, text: &str, mode: Mode) -> Result<Vec<u8>, Fail> {
+    let grammar = grammar_of(alloc, text)?;
+    let file = written_by(alloc, &grammar, mode);
+    release(grammar);
+    file
 }
 
 fn check_file(
@@ -46,7 +80,7 @@ fn check_file(
     mode: Mode,
     wanted: &str,
 ) -> Result<(), Fail> {
-    let file = written_of(alloc, &grammar_of(alloc, grammar)?, mode)?;
+    let file = written_of(alloc, grammar, mode)?;
     assert_eq!(rt; str::from_utf8(file.as_slice())?, wanted, "{grammar}");
     Ok(())
 }
@@ -191,23 +225,38 @@ fn has_default(table: &RawTable, state: usize) -> bool {
     }
 }
 
-/// What is read of the small file, in both versions.
-#[test]
-fn contents(rt: HostRuntime) -> Result<(), Fail> {
-    let alloc = rt.alloc();
-    let table = read_tables(alloc, SMALL_FILE.as_bytes()).map_err(|_| "no table")?;
-    assert!(&rt; table.mode == Mode::Merged);
-    assert!(&rt; table.costs.is_some());
-    assert_eq!(&rt; table.tokens.len(), 2usize);
-    assert_eq!(&rt; table.productions.len(), 1usize);
-    assert!(&rt; !has_default(&table, 0) && has_default(&table, 3));
+/// What the small file says, in both versions.
+fn check_small(rt: &impl Abort, table: &RawTable, has_costs: bool) {
+    assert!(rt; table.mode == Mode::Merged);
+    assert_eq!(rt; table.costs.is_some(), has_costs);
+    assert_eq!(rt; table.tokens.len(), 2);
+    assert_eq!(rt; table.productions.len(), 1);
+    assert_eq!(rt; table.states.len(), 4);
+    assert!(rt; !has_default(table, 0) && has_default(table, 3));
+}
+
+fn check_contents(rt: &impl Abort, alloc: Global, file: &str, has_costs: bool) -> Result<(), Fail> {
+    if file.len() > 100_000_000 {
+        return Err(Fail::from("a file is too long"));
+    }
+    let table = read_tables(alloc, file.as_bytes()).map_err(|_| "no table")?;
+    check_small(rt, &table, has_costs);
+    release(table);
+    Ok(())
+}
+
+/// The small file in version 1.
+fn older_file(alloc: Global) -> Result<String, Fail> {
     let (head, rest) = SMALL_FILE.split_once("costs 1 1\n").ok_or("no costs")?;
     let (_, head) = head.split_once(" 2 ").ok_or("no version")?;
-    let older = format!(in alloc; "menhir-tables 1 {head}{rest}")?;
-    let table = read_tables(alloc, older.as_bytes()).map_err(|_| "no table")?;
-    assert!(&rt; table.costs.is_none());
-    assert_eq!(&rt; table.states.len(), 4usize);
-    Ok(())
+    Ok(format!(in alloc; "menhir-tables 1 {head}{rest}")?)
+}
+
+#[test]
+fn contents(rt: HostRuntime) -> Result<(), Fail> {
+    check_contents(&rt, rt.alloc(), SMALL_FILE, true)?;
+    let older = older_file(rt.alloc())?;
+    check_contents(&rt, rt.alloc(), &older, false)
 }
 
 /// A line of a hundred thousand words, and as many states.

@@ -24,6 +24,22 @@ fn pair(alloc: Global, production: u32, first: Tree, second: Tree) -> Result<Tre
     node(alloc, production, children)
 }
 
+fn two_leaves(alloc: Global) -> Result<Tree, Memory>
+    ensures { IfOk result (λ t. height_of t < 4000) }
+{
+    let first = leaf(alloc, 0)?;
+    let second = leaf(alloc, 1)?;
+    pair(alloc, 1, first, second)
+}
+
+fn behind_an_empty_node(alloc: Global, tree: &Tree) -> Result<Tree, Memory>
+    requires { height_of tree.now < 4000 }
+{
+    let empty = node(alloc, 2, Vec::new(alloc))?;
+    let shared = tree.share()?;
+    pair(alloc, 3, empty, shared)
+}
+
 /// The text of a tree of the sample.
 fn text_of(alloc: Global, tree: &Tree) -> Result<Vec<u8>, Fail> {
     let grammar = grammar_of(alloc, SAMPLE)?;
@@ -50,7 +66,7 @@ fn check(
 #[test]
 fn a_tree_of_two_leaves(rt: HostRuntime) -> Result<(), Fail> {
     let alloc = rt.alloc();
-    let tree = pair(alloc, 1, leaf(alloc, 0)?, leaf(alloc, 1)?)?;
+    let tree = two_leaves(alloc)?;
     let result = check(&rt, alloc, &tree, 2, &[0, 1], b"[s: A EOF]");
     release(tree);
     result
@@ -60,16 +76,21 @@ fn a_tree_of_two_leaves(rt: HostRuntime) -> Result<(), Fail> {
 fn an_empty_node(rt: HostRuntime) -> Result<(), Fail> {
     let alloc = rt.alloc();
     let tree = node(alloc, 2, Vec::new(alloc))?;
-    check(&rt, alloc, &tree, 1, &[], b"[b:]")
+    let result = check(&rt, alloc, &tree, 1, &[], b"[b:]");
+    release(tree);
+    result
 }
 
 #[test]
 fn a_shared_tree_in_a_tree(rt: HostRuntime) -> Result<(), Fail> {
     let alloc = rt.alloc();
-    let inner = pair(alloc, 1, leaf(alloc, 0)?, leaf(alloc, 1)?)?;
-    let tree = pair(alloc, 3, node(alloc, 2, Vec::new(alloc))?, inner.share()?)?;
-    drop(inner);
-    check(&rt, alloc, &tree, 3, &[0, 1], b"[s: [b:] [s: A EOF]]")
+    let inner = two_leaves(alloc)?;
+    let tree = behind_an_empty_node(alloc, &inner);
+    release(inner);
+    let tree = tree?;
+    let result = check(&rt, alloc, &tree, 3, &[0, 1], b"[s: [b:] [s: A EOF]]");
+    release(tree);
+    result
 }
 
 #[test]

@@ -1,16 +1,17 @@
 -- Bounds of the reductions of relative runs above an edge, by the symbol of the edge.
-use Rattle.std.specs.Prelude.{◌≡◌, ◌<◌, ◌≤◌, ◌+◌, ◌⊎◌, ℕ, List, [], ◌∷◌, length, slice_index, slice_get, Option, Some, None}
+use Rattle.std.specs.Prelude.{◌≡◌, ◌<◌, ◌≤◌, ◌+◌, ◌⊎◌, ℕ, List, length, slice_index, slice_get, Option, Some, None}
 use Rattle.std.specs.List.{Contains}
 use Rattle.mh_grammar.specs.declared.types.Symbol.{Symbol}
 use Rattle.mh_grammar.specs.declared.types.Symbol.TheVariants.{T, N}
 use Rattle.mh_grammar.specs.Plain.{rhs_of, lhs_of, production_count}
 use Rattle.mh_tables.specs.Table.{TableData, edge_of}
-use Rattle.mh_tables.specs.Run.{Reduces, move_of, top_of, reduction, reductions}
+use Rattle.mh_tables.specs.Run.{Reduces, move_of, top_of}
 use Rattle.mh_tables.specs.Halting.{IsLook, Clear, look_list}
 use Rattle.mh_tables.specs.declared.passages.Passage.{Passage}
 use Rattle.mh_tables.specs.declared.passages.Course.{Course}
 use Rattle.mh_tables.specs.declared.passages.Course.TheVariants as courses
 use Rattle.mh_tables.specs.declared.passages.TheConstants.{MAX_TRIED, MAX_BOUND}
+use Rattle.mh_tables.specs.code.Relative.{StopsWithin}
 
 -- symbols have places: tokens come first
 abbrev pub symbol_place : TableData → Symbol → ℕ
@@ -23,14 +24,8 @@ symbol_count t = t.grammar.tokens + t.grammar.nonterminals
 -- ---- what the run of a state alone comes to
 
 -- it makes so many reductions, which are few, and they leave this stack
-pub record StopsAt (t : TableData) (s : ℕ) (look : Option ℕ) (stack : List ℕ) (count : ℕ) : Type 0 where
-  pub few : count ≤ MAX_TRIED
-  pub made : reductions t (look_list look) count (s ∷ []) ≡ Some stack
-  pub over : reduction t (look_list look) stack ≡ None
-
-abbrev pub StoppedOr : TableData → ℕ → Option ℕ → List ℕ → Option ℕ → Type 0
-StoppedOr t s look stack None = Unit {0}
-StoppedOr t s look stack (Some count) = StopsAt t s look stack count
+abbrev pub StopsAt : TableData → ℕ → Option ℕ → List ℕ → ℕ → Type 0
+StopsAt t s look stack count = StopsWithin t None s look MAX_TRIED stack count
 
 -- how the relative runs go whose upper state's run leaves a stack: what is reduced next takes off a state more, or just the stack
 abbrev pub GoesSo : TableData → List ℕ → List ℕ → Course → Type 0

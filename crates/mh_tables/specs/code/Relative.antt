@@ -1,5 +1,5 @@
 -- What the test of relative runs finds at each level.
-use Rattle.std.specs.Prelude.{◌≡◌, ℕ, List, [], ◌∷◌, ◌++◌, length, take, ◌≤◌, ◌⊎◌, Option, Some, None, ◌<◌, Bool, true, false}
+use Rattle.std.specs.Prelude.{◌≡◌, ℕ, suc, List, [], ◌∷◌, ◌++◌, length, take, ◌≤◌, ◌⊎◌, Option, Some, None, ◌<◌, Bool, true, false}
 use Rattle.std.specs.List.{All, Contains}
 use Rattle.std.specs.List.Sorted.{IsNonDecreasing}
 use Rattle.mh_grammar.specs.Plain.{production_count}
@@ -29,6 +29,17 @@ pub record Leaves (t : TableData) (p : ℕ) (stack : List ℕ) (kept target : �
 abbrev pub StackReduced : TableData → ℕ → List ℕ → Option (ℕ × ℕ) → Type 0
 StackReduced t p stack None = reduce t p stack ≡ None
 StackReduced t p stack (Some (kept, target)) = Leaves t p stack kept target
+
+-- the relative run makes so many reductions, no more than `most`, and they leave this stack
+pub record StopsWithin (t : TableData) (below : Option ℕ) (s : ℕ) (look : Option ℕ) (most : ℕ) (stack : List ℕ) (count : ℕ) : Type 0 where
+  pub few : count ≤ most
+  pub made : reductions t (look_list look) count (beginning below s) ≡ Some stack
+  pub over : reduction t (look_list look) stack ≡ None
+
+-- it does, or makes one more
+abbrev pub StoppedOr : TableData → Option ℕ → ℕ → Option ℕ → ℕ → List ℕ → Option ℕ → Type 0
+StoppedOr t below s look most stack None = reductions t (look_list look) (suc most) (beginning below s) ≡ Some stack
+StoppedOr t below s look most stack (Some count) = StopsWithin t below s look most stack count
 
 -- the relative run makes no more than `MAX_REDUCTIONS` reductions, and they leave this stack
 pub record RunsOut (t : TableData) (below : Option ℕ) (s : ℕ) (look : Option ℕ) (stack : List ℕ) : Type 0 where

@@ -1,5 +1,5 @@
 use Rattle.std.proofs.lemmas.Result.{IfOk-weaker}
-use Rattle.mh_rules.specs.Ready.{IsReady, IsExpandedReady}
+use Rattle.mh_rules.specs.Ready.{IsExpandedReady}
 use Rattle.mh_expand.specs.declared.fault.ExpandFault.{ExpandFault}
 use Rattle.mh_expand.specs.Expansion.{IsExpanded, IsFirstFault}
 use Rattle.mh_expand.specs.Sentences.{HasSameSentences}
@@ -14,7 +14,7 @@ returns-clause-ok c =
 pub returns-clause-ready : goal.returns-clause-ready
 returns-clause-ready c =
     let j = c.args.joined.now in
-    IfOk-weaker c.expand_with.result (IsExpandedWhole j) (λ e. IsReady j → IsExpandedReady e) (λ e w. w.ready) c.expand_with.ensures.ok
+    IfOk-weaker c.expand_with.result (IsExpandedWhole j) IsExpandedReady (λ e w. w.ready c.requires) c.expand_with.ensures.ok
 
 pub returns-clause-sentences : goal.returns-clause-sentences
 returns-clause-sentences c =

@@ -1,28 +1,26 @@
-use Rattle.std.proofs.Common.{◌≡◌, ◌-◌, length, Some, refl, arith}
-use Rattle.std.specs.List.{slice_get}
-use Rattle.std.proofs.lemmas.Option.{slice_get_read, slice_get_within}
-use Rattle.mh_grammar.proofs.FirstSets.{OnceSoFar-back, OnceSoFar-step}
+use Rattle.std.proofs.Common.{◌-◌, arith}
+use Rattle.mh_grammar.proofs.FirstSets.{Gives, production_sound}
+use Rattle.mh_grammar.proofs.Passes.{pass-back, pass-step, pass-end}
 use Rattle.mh_grammar.proofs.firsts.add_once.Goals as goal
 
 pub loop-place-preserved : goal.loop-place-preserved
 loop-place-preserved c =
-    let ps = c.args.productions.now in
-    let p = c.index-productions-place.result in
-    let i = c.loop-place.place - 1 in
-    let at : slice_get ps i ≡ Some p = slice_get_read ps (length ps) i p refl (omega arith) c.index-productions-place.is in
     let add = c.add_production-grown in
-    OnceSoFar-back ps c.args.nullable.now c.args.width c.args.flags.now c.loop-place.flags add.new.flags c.loop-place.grown add.result i p at add.ensures.grows add.ensures.sound c.loop-place.invariant
+    let sound = production_sound c.args.productions.now c.args.nullable.now c.args.width c.loop-place.flags add.new.flags (c.loop-place.place - 1) c.index-productions-place.result (omega arith) c.index-productions-place.is add.ensures.sound in
+    record {
+      pass = pass-back (Gives c.args.nullable.now c.args.width) c.args.productions.now c.args.flags.now c.loop-place.flags add.new.flags c.loop-place.grown add.result add.ensures.grows c.loop-place.invariant.pass;
+      sound = λ g e n s. sound g e n (c.loop-place.invariant.sound g e n s);
+    }
 
 pub loop-production-preserved : goal.loop-production-preserved
 loop-production-preserved c =
-    let ps = c.args.productions.now in
-    let p = c.production-item.result in
-    let i = c.loop-production.production-index in
-    let at : slice_get ps i ≡ Some p = slice_get_read ps (length ps) i p refl (omega arith) c.production-item.is in
     let add = c.add_production-grown-in-loop-production in
-    OnceSoFar-step ps c.args.nullable.now c.args.width c.args.flags.now c.loop-production.flags add.new.flags c.loop-production.grown add.result i p at add.ensures.grows add.ensures.sound c.loop-production.invariant add.ensures.added
+    let sound = production_sound c.args.productions.now c.args.nullable.now c.args.width c.loop-production.flags add.new.flags c.loop-production.production-index c.production-item.result c.loop-production-test.true c.production-item.is add.ensures.sound in
+    record {
+      pass = pass-step (Gives c.args.nullable.now c.args.width) c.args.productions.now c.args.flags.now c.loop-production.flags add.new.flags c.loop-production.grown add.result add.ensures.grows c.loop-production.production-index c.production-item.result
+          c.loop-production-test.true c.production-item.is add.ensures.added c.loop-production.invariant.pass;
+      sound = λ g e n s. sound g e n (c.loop-production.invariant.sound g e n s);
+    }
 
 pub returns-clause-added : goal.returns-clause-added
-returns-clause-added c = λ e. record {
-  added = λ k p at. c.loop-production.invariant.added e k p (omega (arith, slice_get_within c.args.productions.now k p at)) at;
-}
+returns-clause-added c = λ e. record { added = pass-end (Gives c.args.nullable.now c.args.width) c.args.productions.now c.args.flags.now c.loop-production.flags c.loop-production.grown c.loop-production.production-index (omega (arith, c.loop-production-test.false)) e c.loop-production.invariant.pass }

@@ -1,19 +1,19 @@
-use Rattle.std.proofs.Common.{◌≡◌, length, Some, refl, arith}
-use Rattle.std.specs.List.{slice_get}
-use Rattle.std.proofs.lemmas.Option.{slice_get_read, slice_get_within}
-use Rattle.mh_grammar.proofs.LeastMarks.{Pass-step}
+use Rattle.std.proofs.Common.{length, refl, arith}
+use Rattle.std.proofs.lemmas.Option.{slice_get_read}
+use Rattle.mh_grammar.proofs.LeastMarks.{Closes}
+use Rattle.mh_grammar.proofs.Passes.{pass-step, pass-end}
 use Rattle.mh_grammar.proofs.marks.mark_once.Goals as goal
 
 pub loop-production-preserved : goal.loop-production-preserved
 loop-production-preserved c =
     let ps = c.args.productions.now in
-    let p = c.production-item.result in
     let i = c.loop-production.production-index in
-    let at : slice_get ps i ≡ Some p = slice_get_read ps (length ps) i p refl (omega arith) c.production-item.is in
+    let p = c.production-item.result in
     let mark = c.mark_left_side-changed-in-loop-production in
-    Pass-step c.args.tokens ps c.args.marks.now c.loop-production.marks mark.new.marks c.loop-production.changed mark.result i p at mark.ensures.grows (mark.ensures.sound ps i at) c.loop-production.invariant mark.ensures.closed
+    record {
+      pass = pass-step (Closes c.args.tokens) ps c.args.marks.now c.loop-production.marks mark.new.marks c.loop-production.changed mark.result mark.ensures.grows i p c.loop-production-test.true c.production-item.is mark.ensures.closed c.loop-production.invariant.pass;
+      sound = λ s. mark.ensures.sound ps i (slice_get_read ps (length ps) i p refl c.loop-production-test.true c.production-item.is) (c.loop-production.invariant.sound s);
+    }
 
 pub returns-clause-closed : goal.returns-clause-closed
-returns-clause-closed c = λ e. record {
-  closed = λ k p at. c.loop-production.invariant.closed e k p (omega (arith, slice_get_within c.args.productions.now k p at)) at;
-}
+returns-clause-closed c = λ e. record { closed = pass-end (Closes c.args.tokens) c.args.productions.now c.args.marks.now c.loop-production.marks c.loop-production.changed c.loop-production.production-index (omega (arith, c.loop-production-test.false)) e c.loop-production.invariant.pass }

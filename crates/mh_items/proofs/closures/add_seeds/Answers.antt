@@ -1,5 +1,4 @@
-use Rattle.std.proofs.Common.{◌≡◌, List, take, sym, subst, ◌∙◌, rules, lit<}
-use Rattle.std.proofs.lemmas.List.{take_all}
+use Rattle.std.proofs.Common.{List, take, sym, subst, ◌∙◌, rules}
 use Rattle.mh_grammar.specs.Plain.{plain_of}
 use Rattle.mh_items.specs.Shapes.{KernelItem}
 use Rattle.mh_items.specs.Kernels.{IsKernelItem}

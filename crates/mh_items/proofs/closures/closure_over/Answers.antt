@@ -1,4 +1,4 @@
-use Rattle.std.proofs.Common.{◌≡◌, ◌<◌, ◌≤◌, ◌∙◌, arith, rules}
+use Rattle.std.proofs.Common.{◌∙◌, arith, rules}
 use Rattle.mh_grammar.specs.Plain.{plain_of}
 use Rattle.mh_items.specs.Shapes.{Kernel}
 use Rattle.mh_items.specs.Kernels.{IsKernel}

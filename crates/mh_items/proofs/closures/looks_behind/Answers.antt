@@ -1,6 +1,5 @@
-use Rattle.std.proofs.Common.{◌≡◌, ◌⊎◌, ◌↔◌, List, subst, sym, ◌∙◌, rules, lit<}
+use Rattle.std.proofs.Common.{sym, ◌∙◌, rules, lit<}
 use Rattle.mh_grammar.specs.Plain.{plain_of}
-use Rattle.mh_items.specs.Firsts.{IsRest}
 use Rattle.mh_items.proofs.Following.{behind_fits, follows_is}
 use Rattle.mh_items.proofs.closures.looks_behind.Goals as goal
 

@@ -1,11 +1,8 @@
-use Rattle.std.proofs.Common.{◌≡◌, ◌<◌, Some, length, refl, ap, arith}
-use Rattle.std.specs.List.{slice_get}
-use Rattle.std.proofs.lemmas.Option.{slice_get_read}
-use Rattle.mh_grammar.specs.Plain.{plain_of, IsProductionBelow}
+use Rattle.std.proofs.Common.{length, ap, arith}
+use Rattle.mh_grammar.specs.Plain.{plain_of}
 use Rattle.mh_items.specs.Firsts.{IsLink}
 use Rattle.mh_items.proofs.Linking.{LinksSoFar-skip, LinksSoFar-all}
-use Rattle.mh_grammar.proofs.Lists.{all_at}
-use Rattle.mh_items.proofs.Gathered.{links_set}
+use Rattle.mh_items.proofs.Gathered.{has_row, links_set}
 use Rattle.mh_items.proofs.gathering.all_links.Goals as goal
 use Rattle.mh_items.proofs.gathering.all_links.Goals.{in-Some+in_ok-push, in_default}
 
@@ -16,12 +13,7 @@ loop-production-preserved gg c =
     let p = c.production-item.result in
     let rows = c.loop-production.rows in
     let links = c.loop-production.invariant.links in
-    let same = c.as_slice-production-items.ensures in
-    let short : i < length g.productions = rw same at c.loop-production-test.true in
-    let item = rw same at c.production-item.is in
-    let at : slice_get g.productions i ≡ Some p = slice_get_read g.productions (length g.productions) i p refl short item in
-    let below = (all_at (IsProductionBelow g.tokens g.nonterminals) g.productions i p c.requires.range.productions short item).lhs in
-    let within : p.lhs < length rows.items = omega (arith, c.loop-production.invariant.len, rows.ok.0) in
+    let here = has_row g c.requires.range _ c.as_slice-production-items.ensures (length rows.items) i p (omega (arith, c.loop-production.invariant.len, rows.ok.0)) c.loop-production-test.true c.production-item.is in
     let found = rw c.as_slice.ensures at (c.link_of.ensures g c.requires.sets) in
     elim c.match-link_of.branch [
       | in-Some+in_ok-push w ↦
@@ -29,13 +21,13 @@ loop-production-preserved gg c =
           let is : IsLink g p.rhs link = rw w.in-Some.is at found in
           record {
             len = rw w.rows-is c.loop-production.invariant.len;
-            links = rw (w.rows-is, w.in_ok-push.ensures.ok, w.from.ensures) (links_set g c.requires.range rows.items i p w.index_mut.result.now link at is within (rw w.from.ensures at w.index_mut.ensures.value) links);
+            links = rw (w.rows-is, w.in_ok-push.ensures.ok, w.from.ensures) (links_set g c.requires.range rows.items i p w.index_mut.result.now link here.at is here.within (rw w.from.ensures at w.index_mut.ensures.value) links);
           })
       | in_default w ↦
           (let none = rw w.in_default.is at found in
           record {
             len = rw w.rows-is c.loop-production.invariant.len;
-            links = rw w.rows-is (λ n row read. LinksSoFar-skip g c.requires.range n row i p (links n row read) at (λ _. none));
+            links = rw w.rows-is (λ n row read. LinksSoFar-skip g c.requires.range n row i p (links n row read) here.at (λ _. none));
           })
     ]
 

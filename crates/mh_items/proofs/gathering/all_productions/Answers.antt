@@ -1,9 +1,6 @@
-use Rattle.std.proofs.Common.{◌≡◌, ◌<◌, ◌≤◌, Some, length, refl, arith}
-use Rattle.std.specs.List.{slice_get}
-use Rattle.std.proofs.lemmas.Option.{slice_get_read}
-use Rattle.mh_grammar.specs.Plain.{plain_of, IsProductionBelow}
-use Rattle.mh_grammar.proofs.Lists.{all_at}
-use Rattle.mh_items.proofs.Gathered.{NumbersSoFar-all, numbers_set}
+use Rattle.std.proofs.Common.{◌≤◌, length, arith}
+use Rattle.mh_grammar.specs.Plain.{plain_of}
+use Rattle.mh_items.proofs.Gathered.{NumbersSoFar-all, has_row, numbers_set}
 use Rattle.mh_items.proofs.gathering.all_productions.Goals as goal
 
 pub loop-place-preserved : goal.loop-place-preserved
@@ -12,15 +9,10 @@ loop-place-preserved c =
     let i = c.loop-place.place in
     let p = c.production-item.result in
     let rows = c.loop-place.rows in
-    let same = c.as_slice-production-items.ensures in
-    let short : i < length g.productions = rw same at c.loop-place-test.true in
-    let item = rw same at c.production-item.is in
-    let at : slice_get g.productions i ≡ Some p = slice_get_read g.productions (length g.productions) i p refl short item in
-    let below = (all_at (IsProductionBelow g.tokens g.nonterminals) g.productions i p c.requires.range.productions short item).lhs in
-    let within : p.lhs < length rows.items = omega (arith, c.loop-place.invariant.len, rows.ok.0) in
+    let here = has_row g c.requires.range _ c.as_slice-production-items.ensures (length rows.items) i p (omega (arith, c.loop-place.invariant.len, rows.ok.0)) c.loop-place-test.true c.production-item.is in
     record {
       len = c.loop-place.invariant.len;
-      numbers = rw (c.in_ok-push.ensures.ok, c.from.ensures, c.len-starts.ensures) (numbers_set g rows.items i p c.index_mut.result.now at within (rw c.from.ensures at c.index_mut.ensures.value) c.loop-place.invariant.numbers);
+      numbers = rw (c.in_ok-push.ensures.ok, c.from.ensures, c.len-starts.ensures) (numbers_set g rows.items i p c.index_mut.result.now here.at here.within (rw c.from.ensures at c.index_mut.ensures.value) c.loop-place.invariant.numbers);
     }
 
 pub returns-clause-exact : goal.returns-clause-exact

@@ -1,4 +1,4 @@
-use Rattle.std.proofs.Common.{◌≡◌, ℕ, ◌↔◌, List, take, get_or, sym, subst, refl, arith}
+use Rattle.std.proofs.Common.{ℕ, ◌↔◌, List, take, get_or, sym, subst}
 use Rattle.std.specs.List.{Contains}
 use Rattle.std.proofs.lemmas.List.{take_all, take_more}
 use Rattle.mh_grammar.specs.declared.types.Look.{Look}

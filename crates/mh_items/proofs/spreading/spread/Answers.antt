@@ -1,14 +1,12 @@
-use Rattle.std.proofs.Common.{◌≡◌, ℕ, ◌<◌, ◌≤◌, List, [], Some, false, length, get_or, vec_len, refl, sym, ap, subst, ◌∙◌, arith, rules, lit<}
-use Rattle.std.specs.List.{slice_get, All}
+use Rattle.std.proofs.Common.{◌≡◌, ℕ, ◌<◌, [], Some, false, length, get_or, vec_len, refl, sym, ap, ◌∙◌, arith, rules, lit<}
+use Rattle.std.specs.List.{slice_get}
 use Rattle.std.proofs.lemmas.List.{get_or_read}
 use Rattle.std.proofs.lemmas.Option.{slice_get_read}
-use Rattle.mh_grammar.specs.declared.types.Look.{Look}
 use Rattle.mh_grammar.specs.Plain.{PlainGrammar, plain_of}
-use Rattle.mh_items.specs.declared.links.Link.{Link}
 use Rattle.mh_items.specs.declared.asked.Asked.{Asked}
 use Rattle.mh_items.specs.declared.first_sets.Firsts.{Firsts}
 use Rattle.mh_items.specs.Firsts.{AreFirsts}
-use Rattle.mh_items.specs.Asked.{looks_at, IsTable, Adds, IsStep}
+use Rattle.mh_items.specs.Asked.{looks_at}
 use Rattle.mh_items.proofs.Wanting.{SpreadSoFar, SpreadSoFar-start, SpreadSoFar-step, fewer, table_mid, wanted_of, all_asleep, next_known}
 use Rattle.mh_items.proofs.spreading.spread.Goals as goal
 

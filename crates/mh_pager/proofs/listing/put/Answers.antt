@@ -4,8 +4,8 @@ use Rattle.std.proofs.lemmas.Option.{slice_get_read, slice_get_within}
 use Rattle.mh_pager.proofs.Indexing.{candidates_of}
 use Rattle.mh_pager.proofs.listing.put.Goals as goal
 
-pub first_keeping-requires : goal.first_keeping-requires
-first_keeping-requires g c =
+pub first_fitting-requires : goal.first_fitting-requires
+first_fitting-requires g c =
     let kernels = c.args.listing.now.kernels.items in
     let index = c.place.new.self in
     let states = index.states.items in

@@ -11,8 +11,8 @@ use Rattle.mh_pager.proofs.Combining.{if_ok, taken, appended, overflown}
 use Rattle.mh_pager.proofs.Indexing.{candidates_of}
 use Rattle.mh_pager.proofs.listing.put_unkept.Goals as goal
 
-pub first_taking-requires : goal.first_taking-requires
-first_taking-requires g c =
+pub first_fitting-requires : goal.first_fitting-requires
+first_fitting-requires g c =
     let kernels = c.args.listing.now.kernels.items in
     let index = c.args.listing.now.index in
     let states = index.states.items in

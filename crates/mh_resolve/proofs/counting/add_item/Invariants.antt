@@ -1,4 +1,4 @@
-use Rattle.std.proofs.Common.{ℕ, length}
+use Rattle.std.proofs.Common.{length}
 use Rattle.mh_resolve.proofs.Counted.{AreCounted}
 use Rattle.mh_resolve.proofs.counting.add_item.Given as goal
 

@@ -1,7 +1,4 @@
 use Rattle.std.proofs.Common.{◌≡◌, ◌<◌, length, sym, arith}
-use Rattle.mh_grammar.specs.declared.edges.Edge.{Edge}
-use Rattle.mh_grammar.specs.Plain.{plain_of}
-use Rattle.mh_items.specs.Automaton.{edges_at}
 use Rattle.mh_resolve.specs.code.Counting.{AreShifts}
 use Rattle.mh_resolve.proofs.Refusing.{AreMarked, holes_are}
 use Rattle.mh_resolve.proofs.Resolving.{edges_are, edges_known, edges_rise}

@@ -1,4 +1,4 @@
-use Rattle.std.proofs.Common.{arith, refl, ◌<◌, length}
+use Rattle.std.proofs.Common.{arith, refl}
 use Rattle.mh_sets.proofs.Places.{within_from, outside}
 use Rattle.mh_sets.proofs.bits.are_within.Goals as goal
 

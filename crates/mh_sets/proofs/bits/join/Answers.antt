@@ -1,5 +1,4 @@
-use Rattle.std.proofs.Common.{ℕ, ◌<◌, arith, ◌∙◌, length, get_or, ◌≡◌}
-use Rattle.std.specs.Prelude.{bit_or}
+use Rattle.std.proofs.Common.{arith, length, ◌≡◌}
 use Rattle.std.proofs.lemmas.Grind.{same_number_lists}
 use Rattle.mh_sets.proofs.Places.{join_bits, join_each}
 use Rattle.mh_sets.proofs.bits.join.Goals as goal

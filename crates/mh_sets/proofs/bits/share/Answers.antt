@@ -1,4 +1,4 @@
-use Rattle.std.proofs.Common.{arith, refl, ◌<◌, length}
+use Rattle.std.proofs.Common.{arith, refl}
 use Rattle.mh_sets.proofs.Places.{shared, apart}
 use Rattle.mh_sets.proofs.bits.share.Goals as goal
 

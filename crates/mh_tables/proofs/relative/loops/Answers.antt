@@ -1,28 +1,7 @@
-use Rattle.std.proofs.Common.{◌≡◌, ◌+◌, suc, sym, ◌∙◌, ap, Some, List, ℕ, arith}
-use Rattle.mh_tables.specs.Halting.{look_list, beginning}
-use Rattle.mh_tables.proofs.Reductions.{reductions_none, reductions_more}
-use Rattle.mh_tables.proofs.Trying.{not_more}
+use Rattle.mh_tables.proofs.Waiting.{out_not}
 use Rattle.mh_tables.proofs.relative.loops.Goals as goal
 
-pub tries-init : goal.tries-init
-tries-init c = record {
-  made = reductions_none c.args.table.now (look_list c.args.look) (beginning c.args.below c.args.state) ∙ ap (λ (l : List ℕ). Some l) (sym c.in_ok-begin.ensures.stack);
-  begun = c.in_ok-begin.ensures.begun;
-  known = c.in_ok-begin.ensures.known;
-}
-
-pub tries-preserved : goal.tries-preserved
-tries-preserved c = record {
-  made = (
-      let e : c.tries._count + 1 ≡ suc c.tries._count = omega arith in
-      rw e (reductions_more c.args.table.now (look_list c.args.look) (beginning c.args.below c.args.state) c.tries.stack.items c.reduce_once.new.stack.items c.tries._count c.tries.invariant.made
-      (rw c.if-not-branch.false at c.in_ok-reduce_once.ensures.ok)));
-  begun = c.in_ok-reduce_once.ensures.begun;
-  known = c.in_ok-reduce_once.ensures.known;
-}
-
-pub returns-then-not-branch-clause-loops : goal.returns-then-not-branch-clause-loops
-returns-then-not-branch-clause-loops c =
-    let made = rw c.if-not-branch.true at c.in_ok-reduce_once.ensures.ok in
-    λ loops.
-    not_more c.args.table.now (look_list c.args.look) c.tries._count 10001 (beginning c.args.below c.args.state) c.tries.stack.items loops.0 c.tries.invariant.made made.0 c.tries-test.true loops.1
+pub returns-in-Some-clause-loops : goal.returns-in-Some-clause-loops
+returns-in-Some-clause-loops c =
+    let stops = rw c.in-Some.is at c.in_ok-reduced_within.ensures.made in
+    out_not c.args.table.now c.args.below c.args.state c.args.look c.reduced_within.new.stack.items (record { count = c.in-Some.field-0; few = stops.few; made = stops.made; over = stops.over })

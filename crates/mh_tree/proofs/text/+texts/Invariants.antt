@@ -9,6 +9,4 @@ abbrev pub decreases-write_children : goal.decreases-write_children
 decreases-write_children l = 2 * forest_height (forest_of l.children.now) + 1
 
 abbrev pub invariant-write_children-loop-child : goal.invariant-write_children-loop-child
-invariant-write_children-loop-child l = record {
-  rest : l.text.items ++ forest_text l.grammar (forest_of (drop l.child-index l.children)) ≡ l.initial.text.items ++ forest_text l.grammar (forest_of l.children);
-}
+invariant-write_children-loop-child l = l.text.items ++ forest_text l.grammar (forest_of (drop l.child-index l.children)) ≡ l.initial.text.items ++ forest_text l.grammar (forest_of l.children)

@@ -9,6 +9,4 @@ abbrev pub decreases-push_children : goal.decreases-push_children
 decreases-push_children l = 2 * forest_height (forest_of l.children.now) + 1
 
 abbrev pub invariant-push_children-loop-child : goal.invariant-push_children-loop-child
-invariant-push_children-loop-child l = record {
-  rest : l.tokens.items ++ forest_yield (forest_of (drop l.child-index l.children)) ≡ l.initial.tokens.items ++ forest_yield (forest_of l.children);
-}
+invariant-push_children-loop-child l = l.tokens.items ++ forest_yield (forest_of (drop l.child-index l.children)) ≡ l.initial.tokens.items ++ forest_yield (forest_of l.children)

@@ -1,5 +1,4 @@
 use Rattle.std.proofs.Common.{◌≡◌, ◌↔◌, drop, map, length}
-use Rattle.mh_grammar.specs.Names.{nonterminal_name, symbol_name}
 use Rattle.mh_tabfile.specs.Written.{raw_production}
 use Rattle.mh_validate.proofs.header.are_productions.Given as goal
 

@@ -1,6 +1,5 @@
 use Rattle.std.proofs.Common.{◌≡◌, ◌↔◌, drop, map, length}
-use Rattle.mh_grammar.specs.Names.{nonterminal_name, symbol_name}
-use Rattle.mh_tabfile.specs.Written.{raw_production}
+use Rattle.mh_grammar.specs.Names.{symbol_name}
 use Rattle.mh_validate.proofs.header.are_symbols.Given as goal
 
 abbrev pub invariant-loop-at : goal.invariant-loop-at

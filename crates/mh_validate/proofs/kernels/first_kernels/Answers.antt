@@ -1,4 +1,4 @@
-use Rattle.std.proofs.Common.{sym, ◌∙◌, arith}
+use Rattle.std.proofs.Common.{arith}
 use Rattle.mh_items.specs.Automaton.{no_kernel}
 use Rattle.mh_valid.specs.Valid.{HasKernel}
 use Rattle.mh_validate.proofs.Counting.{count_more, pushed, kernels_stop, kernels_end}

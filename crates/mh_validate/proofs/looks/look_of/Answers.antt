@@ -1,4 +1,4 @@
-use Rattle.std.proofs.Common.{◌≡◌, Some, None, sym, ap, ◌∙◌, true≢false}
+use Rattle.std.proofs.Common.{◌≡◌, sym, ap, ◌∙◌, true≢false}
 use Rattle.mh_msgfile.specs.Sentences.{Vocabulary, number_in, number_of, token_names}
 use Rattle.mh_validate.proofs.Named.{token_named, none_named}
 use Rattle.mh_validate.proofs.looks.look_of.Goals as goal

@@ -1,4 +1,4 @@
-use Rattle.std.proofs.Common.{take, map}
+use Rattle.std.proofs.Common.{take}
 use Rattle.mh_validate.proofs.Itemed.{LooksSoFar}
 use Rattle.mh_validate.proofs.looks.looks_of.Given as goal
 

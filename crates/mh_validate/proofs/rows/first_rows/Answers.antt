@@ -1,4 +1,4 @@
-use Rattle.std.proofs.Common.{[], sym, ◌∙◌, arith, rules}
+use Rattle.std.proofs.Common.{[], arith, rules}
 use Rattle.mh_valid.specs.Valid.{HasEdges}
 use Rattle.mh_validate.proofs.Counting.{count_more, pushed, rows_stop, rows_end}
 use Rattle.mh_validate.proofs.rows.first_rows.Goals as goal

@@ -1,6 +1,5 @@
 use Rattle.std.proofs.Common.{[], ◌<◌, length, arith, rules}
 use Rattle.std.specs.Prelude.{slice_index_or}
-use Rattle.mh_tables.specs.declared.parts.StateParts.{StateParts}
 use Rattle.mh_tables.specs.Table.{no_state}
 use Rattle.mh_valid.specs.Valid.{IsResolvedAt}
 use Rattle.mh_validate.proofs.Counting.{count_more, pushed}

@@ -1,4 +1,4 @@
-use Rattle.std.proofs.Common.{◌≡◌, ℕ, ◌+◌, ◌<◌, List, [], ◌∷◌, ◌++◌, take, length, sym, subst, arith}
+use Rattle.std.proofs.Common.{List, take, sym, subst}
 use Rattle.mh_items.specs.declared.links.Link.{Link}
 use Rattle.mh_items.specs.Asked.{Adds, IsStep}
 use Rattle.mh_grammar.proofs.Lists.{taken}

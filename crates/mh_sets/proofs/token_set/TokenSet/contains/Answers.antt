@@ -1,4 +1,3 @@
-use Rattle.std.proofs.Common.{◌∙◌}
 use Rattle.mh_sets.proofs.Calls.{contains_token, contains_end}
 use Rattle.mh_sets.proofs.token_set.TokenSet.contains.Goals as goal
 

@@ -1,5 +1,4 @@
-use Rattle.std.proofs.Common.{◌≡◌, ℕ, ◌||◌, ◌==◌, ◌∙◌, refl}
-use Rattle.mh_sets.specs.Words.{has_token, AreWords}
+use Rattle.std.proofs.Common.{◌∙◌}
 use Rattle.mh_sets.proofs.Views.{is_set}
 use Rattle.mh_sets.proofs.Calls.{insert_token, insert_end, fresh_token, fresh_end}
 use Rattle.mh_sets.proofs.token_set.TokenSet.insert.Goals as goal
