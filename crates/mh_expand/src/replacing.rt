@@ -9,7 +9,8 @@ use mh_grammar::{Memory, Sequence};
 use mh_rules::{Applied, Head};
 use std::alloc::Global;
 
-/// The term that an actual stands for, where the formals stand for these terms.
+/// The term that an actual stands for, where the formals stand for these terms. It calls itself as often as the actual is
+/// deep, which is at most `MAX_DEPTH` in what `expand` is given.
 pub(crate) fn replace(
     alloc: Global,
     terms: &mut Terms,

@@ -30,7 +30,8 @@ pub(crate) fn text_within(
     Ok(Some(from_bytes(alloc, text.as_slice())?))
 }
 
-/// Writes the text of a term, as far as there is room.
+/// Writes the text of a term, as far as there is room. It calls itself as often as the term is deep: at most `MAX_DEPTH` for
+/// the actual, and less than that for its formals, whose terms stand in an instance's name.
 fn write_term(
     text: &mut Vec<u8>,
     room: usize,
