@@ -148,11 +148,7 @@ fn rest_from<T>(items: &[T], at: usize) -> &[T]
 }
 
 /// Takes the unfoldings of an instance out of those that are known.
-fn moved_out(
-    alloc: Global,
-    known: &mut Vec<Sequence<Unfolding>>,
-    number: usize,
-) -> Vec<Unfolding>
+fn moved_out(alloc: Global, known: &mut Vec<Sequence<Unfolding>>, number: usize) -> Vec<Unfolding>
     requires { number < length known.old.items }
     ensures taken { slice_get known.old.items number ≡ Some result.items }
     ensures left { known.new.items ≡ slice_set known.old.items number [] }
@@ -206,11 +202,7 @@ fn unfold_around(
 }
 
 /// The unfoldings with the `%prec` of the alternative that they are inlined into.
-fn with_own(
-    alloc: Global,
-    prec: Prec,
-    unfoldings: Vec<Unfolding>,
-) -> Result<Vec<Unfolding>, Memory>
+fn with_own(alloc: Global, prec: Prec, unfoldings: Vec<Unfolding>) -> Result<Vec<Unfolding>, Memory>
     ensures { IfOk result (λ all. all.items ≡ map (own prec) unfoldings.items) }
 {
     match prec {
