@@ -2,7 +2,7 @@
 use Rattle.std.proofs.Common.{◌≡◌, ℕ, zero, suc, ◌+◌, ◌<◌, ◌≤◌, ◌==◌, ◌⊎◌, true, List, [], ◌∷◌, ◌++◌, Option, Some, None, map, set, take, drop, length, get_or, refl, sym, ap, ◌∙◌, arith, inl, inr, length-set, append_assoc, subst}
 use Rattle.std.specs.List.{slice_get}
 use Rattle.std.specs.Option.{IfSome}
-use Rattle.std.proofs.lemmas.Bool.{cases_eq}
+use Rattle.std.proofs.lemmas.Bool.{cases_eq, eqb-true}
 use Rattle.std.proofs.lemmas.List.{append-nil, take_more}
 use Rattle.std.proofs.lemmas.Option.{none-some, same_Some, slice_get_within, slice_get-get_or, get_or_from_slice_get}
 use Rattle.mh_grammar.proofs.Lists.{set_here, set_elsewhere, split_at}
@@ -34,13 +34,9 @@ get_dropped xs zero j x e = let same : j ≡ 0 + j = omega arith in subst (λ n.
 get_dropped [] (suc i) j x e = absurd (none-some x e)
 get_dropped (y ∷ xs) (suc i) j x e = let same : suc (i + j) ≡ suc i + j = omega arith in subst (λ n. slice_get (y ∷ xs) n ≡ Some x) same (get_dropped xs i j x e)
 
-no_count : (n : ℕ) → (n == 0) ≡ true → n ≡ 0
-no_count zero e = refl
-no_count (suc n) e = cc
-
 pub no_items : {X : Type 0} (xs : List X) → (length xs == 0) ≡ true → xs ≡ []
 no_items [] e = refl
-no_items (x ∷ xs) e = absurd (let none = no_count (suc (length xs)) e in omega arith)
+no_items (x ∷ xs) e = absurd (let none : suc (length xs) ≡ 0 = eqb-true (suc (length xs)) 0 e in omega arith)
 
 pub at_split : {X : Type 0} (xs : List X) (i : ℕ) (x : X) → slice_get xs i ≡ Some x → xs ≡ take i xs ++ x ∷ drop (suc i) xs
 at_split xs i x e = split_at xs i x (slice_get_within xs i x e) (sym (get_or_from_slice_get xs i x x e))

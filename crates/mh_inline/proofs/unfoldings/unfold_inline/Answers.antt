@@ -46,7 +46,7 @@ pub forget-requires-clause-known : goal.forget-requires-clause-known
 forget-requires-clause-known c =
     let n = get_or c.as_slice-order.result.now c.loop-place.place 0 in
     let len = length-set c.unfold_one.new.known.items n c.in_ok-all.all ∙ c.in_ok-all.ensures.known.len ∙ c.loop-place.invariant.len in
-    rw (c.as_slice-2.ensures.value, len) c.in_ok-numbers.ensures.within
+    rw (c.as_slice-in-loop-place.ensures.value, len) c.in_ok-numbers.ensures.within
 
 pub forget-requires-clause-last : goal.forget-requires-clause-last
 forget-requires-clause-last c =
