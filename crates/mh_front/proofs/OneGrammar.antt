@@ -17,22 +17,20 @@ use Rattle.mh_rules.specs.Ready.{AreModulesReady, IsExpandedReady}
 use Rattle.mh_join.proofs.Readying as joins
 use Rattle.mh_meanings.proofs.Resolving.{front_nil, back_nil}
 use Rattle.mh_expand.specs.declared.fault.ExpandFault.{ExpandFault}
-use Rattle.mh_expand.specs.declared.fault.ExpandFault.TheVariants as expanding
 use Rattle.mh_expand.specs.Expansion.{IsFirstFault}
 use Rattle.mh_expand.proofs.Few.{few_instances}
 use Rattle.mh_expand.proofs.Order as order
 use Rattle.mh_expand.proofs.Ranged.{IsExpandedReady-expanded}
 use Rattle.mh_expand.proofs.Same.{has_same_sentences}
 use Rattle.mh_inline.specs.declared.fault.InlineFault.{InlineFault}
-use Rattle.mh_inline.specs.declared.fault.InlineFault.TheVariants as inlining
 use Rattle.mh_inline.specs.Inlined.{number_of}
-use Rattle.mh_inline.specs.Faults.{IsGrammarOf, IsFault, IsNoMemory}
+use Rattle.mh_inline.specs.Faults.{IsGrammarOf, IsFault}
 use Rattle.mh_inline.proofs.Only as only
 use Rattle.mh_inline.proofs.Ranges as ranges
 use Rattle.mh_inline.proofs.Sentences.{keeps_sentences}
 use Rattle.mh_front.specs.declared.fault.GrammarFault.{GrammarFault}
-use Rattle.mh_front.specs.declared.fault.GrammarFault.TheVariants.{Undefined, Duplicate, NoStart, ErrorToken, UnknownLevel, TooManyTokens, Arity, Expansion, InlineCycle, InlineStart, TooManyProductions, EmptyLanguage, Memory}
-use Rattle.mh_front.specs.Stages.{of_join, of_expand, of_inline, IsGrammarOfJoined, IsInstancesFault, IsJoinedFault, IsGrammarOfModules, IsGrammarFault, IsLaterFault}
+use Rattle.mh_front.specs.declared.fault.GrammarFault.TheVariants.{Join, Expand, Inline, Memory}
+use Rattle.mh_front.specs.Stages.{IsGrammarOfJoined, IsInstancesFault, IsJoinedFault, IsGrammarOfModules, IsGrammarFault, IsLaterFault}
 use Rattle.mh_front.specs.Sentences.{HasSentencesOf, HasSentencesOfModules}
 use Rattle.mh_front.proofs.Composing.{has_sentences}
 
@@ -42,27 +40,17 @@ use Rattle.mh_front.proofs.Composing.{has_sentences}
 record FromExpansion (j : Joined) (f : GrammarFault) : Type 0 where
   fault : ExpandFault
   first : IsFirstFault j fault
-  is : of_expand fault ≡ f
+  is : Expand fault ≡ f
 
 record FromInlining (j : Joined) (f : GrammarFault) : Type 0 where
   fault : InlineFault
   faulty : IsInstancesFault j fault
-  told : IsNoMemory fault
-  is : of_inline fault ≡ f
+  is : Inline fault ≡ f
 
 stage : (j : Joined) (f : GrammarFault) → IsJoinedFault j f → FromExpansion j f ⊎ FromInlining j f
-stage j (Undefined name) h = absurd h
-stage j (Duplicate name) h = absurd h
-stage j NoStart h = absurd h
-stage j ErrorToken h = absurd h
-stage j (UnknownLevel name) h = absurd h
-stage j (TooManyTokens count) h = absurd h
-stage j (Arity instance) h = inl (record { fault = expanding.Arity instance; first = h; is = refl })
-stage j (Expansion name) h = inl (record { fault = expanding.Expansion name; first = h; is = refl })
-stage j (InlineCycle instance) h = inr (record { fault = inlining.InlineCycle instance; faulty = h; told = tt; is = refl })
-stage j (InlineStart name) h = inr (record { fault = inlining.InlineStart name; faulty = h; told = tt; is = refl })
-stage j TooManyProductions h = inr (record { fault = inlining.TooManyProductions; faulty = h; told = tt; is = refl })
-stage j (EmptyLanguage name) h = inr (record { fault = inlining.EmptyLanguage name; faulty = h; told = tt; is = refl })
+stage j (Join fault) h = absurd h
+stage j (Expand fault) h = inl (record { fault = fault; first = h; is = refl })
+stage j (Inline fault) h = inr (record { fault = fault; faulty = h; is = refl })
 stage j Memory h = absurd h
 
 module _ (j : Joined) where
@@ -72,20 +60,20 @@ module _ (j : Joined) where
       let again : IsGrammarOf a.expanded h = subst (λ e. IsGrammarOf e h) same b.grammar in
       only.one_grammar a.expanded g h a.grammar.inlined again.inlined
 
-  one_inlining : (e f : InlineFault) → IsInstancesFault j e → IsInstancesFault j f → IsNoMemory e → IsNoMemory f → e ≡ f
-  one_inlining e f a b m n =
+  one_inlining : (e f : InlineFault) → IsInstancesFault j e → IsInstancesFault j f → e ≡ f
+  one_inlining e f a b =
       let same = order.one_expanded j b.expanded a.expanded b.expands a.expands in
-      only.one_fault a.expanded e f a.faulty (subst (λ x. IsFault x f) same b.faulty) m n
+      only.one_fault a.expanded e f a.faulty (subst (λ x. IsFault x f) same b.faulty) a.told b.told
 
   one_joined_fault : (e f : GrammarFault) → IsJoinedFault j e → IsJoinedFault j f → e ≡ f
   one_joined_fault e f a b = elim (stage j e a) [
     | inl x ↦ elim (stage j f b) [
-      | inl y ↦ sym x.is ∙ ap of_expand (order.one_fault j x.fault y.fault x.first y.first) ∙ y.is
+      | inl y ↦ sym x.is ∙ ap Expand (order.one_fault j x.fault y.fault x.first y.first) ∙ y.is
       | inr y ↦ absurd (order.no_fault j y.faulty.expanded y.faulty.expands x.fault x.first)
     ]
     | inr x ↦ elim (stage j f b) [
       | inl y ↦ absurd (order.no_fault j x.faulty.expanded x.faulty.expands y.fault y.first)
-      | inr y ↦ sym x.is ∙ ap of_inline (one_inlining x.fault y.fault x.faulty y.faulty x.told y.told) ∙ y.is
+      | inr y ↦ sym x.is ∙ ap Inline (one_inlining x.fault y.fault x.faulty y.faulty) ∙ y.is
     ]
   ]
 
@@ -94,7 +82,7 @@ module _ (j : Joined) where
     | inl x ↦ order.no_fault j a.expanded a.expands x.fault x.first
     | inr x ↦ (
         let same = order.one_expanded j x.faulty.expanded a.expanded x.faulty.expands a.expands in
-        only.no_fault a.expanded g x.fault a.grammar (subst (λ e. IsFault e x.fault) same x.faulty.faulty) x.told
+        only.no_fault a.expanded g x.fault a.grammar (subst (λ e. IsFault e x.fault) same x.faulty.faulty) x.faulty.told
         )
   ]
 
@@ -104,22 +92,13 @@ module _ (j : Joined) where
 record FromJoining (p : Bool) (ms : List Module) (f : GrammarFault) : Type 0 where
   fault : JoinFault
   is_first : first (join_faults p ms) ≡ Some fault
-  is : of_join fault ≡ f
+  is : Join fault ≡ f
 
 module _ (p : Bool) (ms : List Module) where
   stage_of_modules : (f : GrammarFault) → IsGrammarFault p ms f → FromJoining p ms f ⊎ IsLaterFault p ms f
-  stage_of_modules (Undefined name) h = inl (record { fault = joining.Undefined name; is_first = h; is = refl })
-  stage_of_modules (Duplicate name) h = inl (record { fault = joining.Duplicate name; is_first = h; is = refl })
-  stage_of_modules NoStart h = inl (record { fault = joining.NoStart; is_first = h; is = refl })
-  stage_of_modules ErrorToken h = inl (record { fault = joining.ErrorToken; is_first = h; is = refl })
-  stage_of_modules (UnknownLevel name) h = inl (record { fault = joining.UnknownLevel name; is_first = h; is = refl })
-  stage_of_modules (TooManyTokens count) h = inl (record { fault = joining.TooManyTokens count; is_first = h; is = refl })
-  stage_of_modules (Arity instance) h = inr h
-  stage_of_modules (Expansion name) h = inr h
-  stage_of_modules (InlineCycle instance) h = inr h
-  stage_of_modules (InlineStart name) h = inr h
-  stage_of_modules TooManyProductions h = inr h
-  stage_of_modules (EmptyLanguage name) h = inr h
+  stage_of_modules (Join fault) h = inl (record { fault = fault; is_first = h; is = refl })
+  stage_of_modules (Expand fault) h = inr h
+  stage_of_modules (Inline fault) h = inr h
   stage_of_modules Memory h = absurd h
 
   no_join_fault : (j : Joined) (f : JoinFault) → Joins p ms (Ok j) → first (join_faults p ms) ≡ Some f → ⊥
@@ -133,7 +112,7 @@ module _ (p : Bool) (ms : List Module) where
   pub one_fault : (e f : GrammarFault) → IsGrammarFault p ms e → IsGrammarFault p ms f → e ≡ f
   one_fault e f a b = elim (stage_of_modules e a) [
     | inl x ↦ elim (stage_of_modules f b) [
-      | inl y ↦ (let both : Some x.fault ≡ Some y.fault = sym x.is_first ∙ y.is_first in let same : x.fault ≡ y.fault = cc in sym x.is ∙ ap of_join same ∙ y.is)
+      | inl y ↦ (let both : Some x.fault ≡ Some y.fault = sym x.is_first ∙ y.is_first in let same : x.fault ≡ y.fault = cc in sym x.is ∙ ap Join same ∙ y.is)
       | inr y ↦ absurd (no_join_fault y.joined x.fault y.joins x.is_first)
     ]
     | inr x ↦ elim (stage_of_modules f b) [

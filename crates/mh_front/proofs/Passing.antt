@@ -1,5 +1,5 @@
 -- The fault of a stage is the fault of the whole.
-use Rattle.std.proofs.Common.{Bool, List, Ok, Err, inl, inr}
+use Rattle.std.proofs.Common.{◌≡◌, Bool, List, Ok, Err, inl, inr}
 use Rattle.mh_rules.specs.declared.modules.Module.{Module}
 use Rattle.mh_meanings.specs.declared.fault.JoinFault.{JoinFault}
 use Rattle.mh_meanings.specs.declared.fault.JoinFault.TheVariants as joining
@@ -14,22 +14,21 @@ use Rattle.mh_inline.specs.declared.fault.InlineFault.{InlineFault}
 use Rattle.mh_inline.specs.declared.fault.InlineFault.TheVariants as inlining
 use Rattle.mh_inline.specs.Faults.{IsFault}
 use Rattle.mh_front.specs.declared.fault.GrammarFault.{GrammarFault}
-use Rattle.mh_front.specs.declared.fault.GrammarFault.TheVariants.{Undefined, Duplicate, NoStart, ErrorToken, UnknownLevel, TooManyTokens, Arity, Expansion, InlineCycle, InlineStart, TooManyProductions, EmptyLanguage, Memory}
-use Rattle.mh_front.specs.Stages.{Causes, of_join, of_expand, of_inline, IsJoinedFault, IsGrammarFault}
+use Rattle.mh_front.specs.declared.fault.GrammarFault.TheVariants.{Join, Expand, Inline, Memory}
+use Rattle.mh_front.specs.Stages.{Causes, of_join, of_expand, of_inline, IsJoinFault, IsJoinedFault, IsGrammarFault}
+
+-- a fault that is not want of memory is the first
+other : (p : Bool) (ms : List Module) (f : JoinFault) → Joins p ms (Err f) → (f ≡ joining.Memory → ⊥) → IsJoinFault p ms f
+other p ms f (inl e) told = absurd (told e)
+other p ms f (inr is) told = is
 
 pub join_fault : (p : Bool) (ms : List Module) (f : JoinFault) → Joins p ms (Err f) → Causes (IsGrammarFault p ms) (of_join f)
-join_fault p ms (joining.Undefined name) (inl e) = cc
-join_fault p ms (joining.Undefined name) (inr e) = e
-join_fault p ms (joining.Duplicate name) (inl e) = cc
-join_fault p ms (joining.Duplicate name) (inr e) = e
-join_fault p ms joining.NoStart (inl e) = cc
-join_fault p ms joining.NoStart (inr e) = e
-join_fault p ms joining.ErrorToken (inl e) = cc
-join_fault p ms joining.ErrorToken (inr e) = e
-join_fault p ms (joining.UnknownLevel name) (inl e) = cc
-join_fault p ms (joining.UnknownLevel name) (inr e) = e
-join_fault p ms (joining.TooManyTokens count) (inl e) = cc
-join_fault p ms (joining.TooManyTokens count) (inr e) = e
+join_fault p ms (joining.Undefined name) h = other p ms _ h (λ e. cc)
+join_fault p ms (joining.Duplicate name) h = other p ms _ h (λ e. cc)
+join_fault p ms joining.NoStart h = other p ms _ h (λ e. cc)
+join_fault p ms joining.ErrorToken h = other p ms _ h (λ e. cc)
+join_fault p ms (joining.UnknownLevel name) h = other p ms _ h (λ e. cc)
+join_fault p ms (joining.TooManyTokens count) h = other p ms _ h (λ e. cc)
 join_fault p ms joining.Memory h = tt
 
 pub expand_fault : (j : Joined) (f : ExpandFault) → expansion.Causes (IsFirstFault j) f → Causes (IsJoinedFault j) (of_expand f)
@@ -38,23 +37,14 @@ expand_fault j (expanding.Expansion name) h = h
 expand_fault j expanding.Memory h = tt
 
 pub inline_fault : (j : Joined) (e : Expanded) (f : InlineFault) → IsExpanded j e → IsFault e f → Causes (IsJoinedFault j) (of_inline f)
-inline_fault j e (inlining.InlineCycle instance) x h = record { expanded = e; expands = x; faulty = h }
-inline_fault j e (inlining.InlineStart name) x h = record { expanded = e; expands = x; faulty = h }
-inline_fault j e inlining.TooManyProductions x h = record { expanded = e; expands = x; faulty = h }
-inline_fault j e (inlining.EmptyLanguage name) x h = record { expanded = e; expands = x; faulty = h }
+inline_fault j e (inlining.InlineCycle instance) x h = record { expanded = e; expands = x; faulty = h; told = tt }
+inline_fault j e (inlining.InlineStart name) x h = record { expanded = e; expands = x; faulty = h; told = tt }
+inline_fault j e inlining.TooManyProductions x h = record { expanded = e; expands = x; faulty = h; told = tt }
+inline_fault j e (inlining.EmptyLanguage name) x h = record { expanded = e; expands = x; faulty = h; told = tt }
 inline_fault j e inlining.Memory x h = tt
 
 pub later_fault : (p : Bool) (ms : List Module) (j : Joined) (f : GrammarFault) → Joins p ms (Ok j) → Causes (IsJoinedFault j) f → Causes (IsGrammarFault p ms) f
-later_fault p ms j (Undefined name) x h = absurd h
-later_fault p ms j (Duplicate name) x h = absurd h
-later_fault p ms j NoStart x h = absurd h
-later_fault p ms j ErrorToken x h = absurd h
-later_fault p ms j (UnknownLevel name) x h = absurd h
-later_fault p ms j (TooManyTokens count) x h = absurd h
-later_fault p ms j (Arity instance) x h = record { joined = j; joins = x; faulty = h }
-later_fault p ms j (Expansion name) x h = record { joined = j; joins = x; faulty = h }
-later_fault p ms j (InlineCycle instance) x h = record { joined = j; joins = x; faulty = h }
-later_fault p ms j (InlineStart name) x h = record { joined = j; joins = x; faulty = h }
-later_fault p ms j TooManyProductions x h = record { joined = j; joins = x; faulty = h }
-later_fault p ms j (EmptyLanguage name) x h = record { joined = j; joins = x; faulty = h }
+later_fault p ms j (Join fault) x h = absurd h
+later_fault p ms j (Expand fault) x h = record { joined = j; joins = x; faulty = h }
+later_fault p ms j (Inline fault) x h = record { joined = j; joins = x; faulty = h }
 later_fault p ms j Memory x h = tt

@@ -14,32 +14,23 @@ use Rattle.mh_rules.specs.declared.instances.Expanded.{Expanded}
 use Rattle.mh_expand.specs.Expansion.{IsExpanded, IsFirstFault}
 use Rattle.mh_inline.specs.declared.fault.InlineFault.{InlineFault}
 use Rattle.mh_inline.specs.declared.fault.InlineFault.TheVariants as inlining
-use Rattle.mh_inline.specs.Faults.{IsGrammarOf, IsFault}
+use Rattle.mh_inline.specs.Faults.{IsGrammarOf, IsFault, IsNoMemory}
 use Rattle.mh_front.specs.declared.fault.GrammarFault.{GrammarFault}
-use Rattle.mh_front.specs.declared.fault.GrammarFault.TheVariants.{Undefined, Duplicate, NoStart, ErrorToken, UnknownLevel, TooManyTokens, Arity, Expansion, InlineCycle, InlineStart, TooManyProductions, EmptyLanguage, Memory}
+use Rattle.mh_front.specs.declared.fault.GrammarFault.TheVariants.{Join, Expand, Inline, Memory}
 
--- THE FAULTS OF THE STAGES AS FAULTS OF THE WHOLE
+-- THE FAULTS OF THE STAGES AS FAULTS OF THE WHOLE: want of memory is that of the whole, whatever the stage
 
 abbrev pub of_join : JoinFault → GrammarFault
-of_join (joining.Undefined name) = Undefined name
-of_join (joining.Duplicate name) = Duplicate name
-of_join joining.NoStart = NoStart
-of_join joining.ErrorToken = ErrorToken
-of_join (joining.UnknownLevel name) = UnknownLevel name
-of_join (joining.TooManyTokens count) = TooManyTokens count
 of_join joining.Memory = Memory
+of_join fault = Join fault
 
 abbrev pub of_expand : ExpandFault → GrammarFault
-of_expand (expanding.Arity instance) = Arity instance
-of_expand (expanding.Expansion name) = Expansion name
 of_expand expanding.Memory = Memory
+of_expand fault = Expand fault
 
 abbrev pub of_inline : InlineFault → GrammarFault
-of_inline (inlining.InlineCycle instance) = InlineCycle instance
-of_inline (inlining.InlineStart name) = InlineStart name
-of_inline inlining.TooManyProductions = TooManyProductions
-of_inline (inlining.EmptyLanguage name) = EmptyLanguage name
 of_inline inlining.Memory = Memory
+of_inline fault = Inline fault
 
 -- OF JOINED RULES
 
@@ -49,21 +40,18 @@ pub record IsGrammarOfJoined (j : Joined) (g : Grammar) : Type 0 where
   pub expands : IsExpanded j expanded
   pub grammar : IsGrammarOf expanded g
 
--- the instances are there, and this is their fault
+-- the instances are there, and this is their fault; want of memory is none
 pub record IsInstancesFault (j : Joined) (fault : InlineFault) : Type 0 where
   pub expanded : Expanded
   pub expands : IsExpanded j expanded
   pub faulty : IsFault expanded fault
+  pub told : IsNoMemory fault
 
 -- The fault of expansion, or that of the instances. Joined rules have no fault of joining, and want of memory is no fault
 -- of theirs.
 abbrev pub IsJoinedFault : Joined → GrammarFault → Type 0
-IsJoinedFault j (Arity instance) = IsFirstFault j (expanding.Arity instance)
-IsJoinedFault j (Expansion name) = IsFirstFault j (expanding.Expansion name)
-IsJoinedFault j (InlineCycle instance) = IsInstancesFault j (inlining.InlineCycle instance)
-IsJoinedFault j (InlineStart name) = IsInstancesFault j (inlining.InlineStart name)
-IsJoinedFault j TooManyProductions = IsInstancesFault j inlining.TooManyProductions
-IsJoinedFault j (EmptyLanguage name) = IsInstancesFault j (inlining.EmptyLanguage name)
+IsJoinedFault j (Expand fault) = IsFirstFault j fault
+IsJoinedFault j (Inline fault) = IsInstancesFault j fault
 IsJoinedFault j _ = ⊥
 
 -- OF MODULES
@@ -86,12 +74,7 @@ pub record IsLaterFault (prelude : Bool) (modules : List Module) (fault : Gramma
 
 -- The fault of the first stage that has one; want of memory is no fault of the modules.
 abbrev pub IsGrammarFault : Bool → List Module → GrammarFault → Type 0
-IsGrammarFault prelude modules (Undefined name) = IsJoinFault prelude modules (joining.Undefined name)
-IsGrammarFault prelude modules (Duplicate name) = IsJoinFault prelude modules (joining.Duplicate name)
-IsGrammarFault prelude modules NoStart = IsJoinFault prelude modules joining.NoStart
-IsGrammarFault prelude modules ErrorToken = IsJoinFault prelude modules joining.ErrorToken
-IsGrammarFault prelude modules (UnknownLevel name) = IsJoinFault prelude modules (joining.UnknownLevel name)
-IsGrammarFault prelude modules (TooManyTokens count) = IsJoinFault prelude modules (joining.TooManyTokens count)
+IsGrammarFault prelude modules (Join fault) = IsJoinFault prelude modules fault
 IsGrammarFault prelude modules Memory = ⊥
 IsGrammarFault prelude modules fault = IsLaterFault prelude modules fault
 

@@ -1,19 +1,40 @@
 -- What is told of a fault behind the program's name (this project's profile).
 use Rattle.std.specs.Prelude.{ℕ, List, ◌++◌, codes, decimal}
+use Rattle.mh_meanings.specs.declared.fault.JoinFault.{JoinFault}
+use Rattle.mh_meanings.specs.declared.fault.JoinFault.TheVariants as joining
+use Rattle.mh_expand.specs.declared.fault.ExpandFault.{ExpandFault}
+use Rattle.mh_expand.specs.declared.fault.ExpandFault.TheVariants as expanding
+use Rattle.mh_inline.specs.declared.fault.InlineFault.{InlineFault}
+use Rattle.mh_inline.specs.declared.fault.InlineFault.TheVariants as inlining
 use Rattle.mh_front.specs.declared.fault.GrammarFault.{GrammarFault}
-use Rattle.mh_front.specs.declared.fault.GrammarFault.TheVariants.{Undefined, Duplicate, NoStart, ErrorToken, UnknownLevel, TooManyTokens, Arity, Expansion, InlineCycle, InlineStart, TooManyProductions, EmptyLanguage, Memory}
+use Rattle.mh_front.specs.declared.fault.GrammarFault.TheVariants.{Join, Expand, Inline, Memory}
+
+abbrev pub no_memory : List ℕ
+no_memory = codes "out of memory"
+
+abbrev pub join_text : JoinFault → List ℕ
+join_text (joining.Undefined name) = codes "undefined: " ++ name
+join_text (joining.Duplicate name) = codes "duplicate: " ++ name
+join_text joining.NoStart = codes "no start symbol"
+join_text joining.ErrorToken = codes "the error token is refused"
+join_text (joining.UnknownLevel name) = codes "unknown level: " ++ name
+join_text (joining.TooManyTokens count) = codes "too many tokens: " ++ decimal count
+join_text joining.Memory = no_memory
+
+abbrev pub expand_text : ExpandFault → List ℕ
+expand_text (expanding.Arity instance) = codes "arity: " ++ instance
+expand_text (expanding.Expansion name) = codes "expansion: " ++ name
+expand_text expanding.Memory = no_memory
+
+abbrev pub inline_text : InlineFault → List ℕ
+inline_text (inlining.InlineCycle instance) = codes "inline cycle: " ++ instance
+inline_text (inlining.InlineStart name) = codes "inline start: " ++ name
+inline_text inlining.TooManyProductions = codes "too many productions"
+inline_text (inlining.EmptyLanguage name) = codes "empty language: " ++ name
+inline_text inlining.Memory = no_memory
 
 abbrev pub fault_text : GrammarFault → List ℕ
-fault_text (Undefined name) = codes "undefined: " ++ name
-fault_text (Duplicate name) = codes "duplicate: " ++ name
-fault_text NoStart = codes "no start symbol"
-fault_text ErrorToken = codes "the error token is refused"
-fault_text (UnknownLevel name) = codes "unknown level: " ++ name
-fault_text (TooManyTokens count) = codes "too many tokens: " ++ decimal count
-fault_text (Arity instance) = codes "arity: " ++ instance
-fault_text (Expansion name) = codes "expansion: " ++ name
-fault_text (InlineCycle instance) = codes "inline cycle: " ++ instance
-fault_text (InlineStart name) = codes "inline start: " ++ name
-fault_text TooManyProductions = codes "too many productions"
-fault_text (EmptyLanguage name) = codes "empty language: " ++ name
-fault_text Memory = codes "out of memory"
+fault_text (Join fault) = join_text fault
+fault_text (Expand fault) = expand_text fault
+fault_text (Inline fault) = inline_text fault
+fault_text Memory = no_memory

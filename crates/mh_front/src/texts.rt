@@ -1,9 +1,12 @@
 //! The lines that say why there is no grammar.
 ghost use Rattle.std.specs.Prelude.{◌≡◌, ◌++◌, codes, decimal, IfOk};
-ghost use Rattle.mh_front.specs.Texts.{fault_text};
+ghost use Rattle.mh_front.specs.Texts.{expand_text, fault_text, inline_text, join_text};
 
 use crate::fault::GrammarFault;
+use mh_expand::ExpandFault;
 use mh_grammar::{Memory, Name};
+use mh_inline::InlineFault;
+use mh_join::JoinFault;
 use std::alloc::Global;
 
 /// A fixed text.
@@ -34,24 +37,51 @@ fn counted(alloc: Global, text: &[u8], count: u64) -> Result<Vec<u8>, Memory>
     Ok(line)
 }
 
+fn join_line(alloc: Global, fault: &JoinFault) -> Result<Vec<u8>, Memory>
+    ensures { IfOk result (λ line. line.items ≡ join_text fault.now) }
+{
+    match fault {
+        JoinFault::Undefined { name } => named(alloc, b"undefined: ", name),
+        JoinFault::Duplicate { name } => named(alloc, b"duplicate: ", name),
+        JoinFault::NoStart => plain(alloc, b"no start symbol"),
+        JoinFault::ErrorToken => plain(alloc, b"the error token is refused"),
+        JoinFault::UnknownLevel { name } => named(alloc, b"unknown level: ", name),
+        JoinFault::TooManyTokens { count } => counted(alloc, b"too many tokens: ", *count),
+        JoinFault::Memory => plain(alloc, b"out of memory"),
+    }
+}
+
+fn expand_line(alloc: Global, fault: &ExpandFault) -> Result<Vec<u8>, Memory>
+    ensures { IfOk result (λ line. line.items ≡ expand_text fault.now) }
+{
+    match fault {
+        ExpandFault::Arity { instance } => named(alloc, b"arity: ", instance),
+        ExpandFault::Expansion { name } => named(alloc, b"expansion: ", name),
+        ExpandFault::Memory => plain(alloc, b"out of memory"),
+    }
+}
+
+fn inline_line(alloc: Global, fault: &InlineFault) -> Result<Vec<u8>, Memory>
+    ensures { IfOk result (λ line. line.items ≡ inline_text fault.now) }
+{
+    match fault {
+        InlineFault::InlineCycle { instance } => named(alloc, b"inline cycle: ", instance),
+        InlineFault::InlineStart { name } => named(alloc, b"inline start: ", name),
+        InlineFault::TooManyProductions => plain(alloc, b"too many productions"),
+        InlineFault::EmptyLanguage { name } => named(alloc, b"empty language: ", name),
+        InlineFault::Memory => plain(alloc, b"out of memory"),
+    }
+}
+
 /// What is told of a fault, without the program's name before it and without the end of the line. A program that ends by
 /// another status where memory runs out does not come to the text of `Memory`.
 pub fn fault_line(alloc: Global, fault: &GrammarFault) -> Result<Vec<u8>, Memory>
     ensures { IfOk result (λ line. line.items ≡ fault_text fault.now) }
 {
     match fault {
-        GrammarFault::Undefined { name } => named(alloc, b"undefined: ", name),
-        GrammarFault::Duplicate { name } => named(alloc, b"duplicate: ", name),
-        GrammarFault::NoStart => plain(alloc, b"no start symbol"),
-        GrammarFault::ErrorToken => plain(alloc, b"the error token is refused"),
-        GrammarFault::UnknownLevel { name } => named(alloc, b"unknown level: ", name),
-        GrammarFault::TooManyTokens { count } => counted(alloc, b"too many tokens: ", *count),
-        GrammarFault::Arity { instance } => named(alloc, b"arity: ", instance),
-        GrammarFault::Expansion { name } => named(alloc, b"expansion: ", name),
-        GrammarFault::InlineCycle { instance } => named(alloc, b"inline cycle: ", instance),
-        GrammarFault::InlineStart { name } => named(alloc, b"inline start: ", name),
-        GrammarFault::TooManyProductions => plain(alloc, b"too many productions"),
-        GrammarFault::EmptyLanguage { name } => named(alloc, b"empty language: ", name),
+        GrammarFault::Join(fault) => join_line(alloc, fault),
+        GrammarFault::Expand(fault) => expand_line(alloc, fault),
+        GrammarFault::Inline(fault) => inline_line(alloc, fault),
         GrammarFault::Memory => plain(alloc, b"out of memory"),
     }
 }

@@ -4,7 +4,7 @@ use Rattle.std.specs.Prelude.{Err}
 use Rattle.mh_grammar.specs.declared.types.Grammar.{Grammar}
 use Rattle.mh_rules.specs.declared.modules.Module.{Module}
 use Rattle.mh_front.specs.declared.fault.GrammarFault.{GrammarFault}
-use Rattle.mh_front.specs.declared.fault.GrammarFault.TheVariants.{Undefined, Duplicate, NoStart, ErrorToken, UnknownLevel, TooManyTokens, Arity, Expansion, InlineCycle, InlineStart, TooManyProductions, EmptyLanguage, Memory}
+use Rattle.mh_front.specs.declared.fault.GrammarFault.TheVariants.{Join, Expand, Inline, Memory}
 use Rattle.mh_front.specs.Stages.{IsGrammarFault, Causes}
 use Rattle.mh_prepare.specs.GrammarStage.{IsGrammarStage}
 use Rattle.mh_prepare.specs.Texts.{refusal}
@@ -26,16 +26,7 @@ module _ (prelude : Bool) (modules : List Module) where
   halts_so fault WriteFailed is halts = absurd halts
 
   pub refused_so : (fault : GrammarFault) (stop : Stop) → Causes (IsGrammarFault prelude modules) fault → RefusesBy fault stop → Has stop
-  refused_so (Undefined name) stop is halts = halts_so (Undefined name) stop is halts
-  refused_so (Duplicate name) stop is halts = halts_so (Duplicate name) stop is halts
-  refused_so NoStart stop is halts = halts_so NoStart stop is halts
-  refused_so ErrorToken stop is halts = halts_so ErrorToken stop is halts
-  refused_so (UnknownLevel name) stop is halts = halts_so (UnknownLevel name) stop is halts
-  refused_so (TooManyTokens count) stop is halts = halts_so (TooManyTokens count) stop is halts
-  refused_so (Arity instance) stop is halts = halts_so (Arity instance) stop is halts
-  refused_so (Expansion name) stop is halts = halts_so (Expansion name) stop is halts
-  refused_so (InlineCycle instance) stop is halts = halts_so (InlineCycle instance) stop is halts
-  refused_so (InlineStart name) stop is halts = halts_so (InlineStart name) stop is halts
-  refused_so TooManyProductions stop is halts = halts_so TooManyProductions stop is halts
-  refused_so (EmptyLanguage name) stop is halts = halts_so (EmptyLanguage name) stop is halts
+  refused_so (Join fault) stop is halts = halts_so (Join fault) stop is halts
+  refused_so (Expand fault) stop is halts = halts_so (Expand fault) stop is halts
+  refused_so (Inline fault) stop is halts = halts_so (Inline fault) stop is halts
   refused_so Memory stop is halts = subst Has (sym halts) tt
