@@ -9,3 +9,4 @@ pub mod Numbered
 pub mod OneNumbering
 pub mod Pigeon
 pub mod Placing
+pub mod SameText

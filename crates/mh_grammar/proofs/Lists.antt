@@ -334,3 +334,11 @@ module _ {A B : Type 0} (R : A → B → Type 0) where
   zip_length [] (y ∷ ys) z = absurd z
   zip_length (x ∷ xs) [] z = absurd z
   zip_length (x ∷ xs) (y ∷ ys) z = ap suc (zip_length xs ys z.1)
+
+  pub zip_one : ((x : A) (y z : B) → R x y → R x z → y ≡ z) → (xs : List A) (ys zs : List B) → AllZip R xs ys → AllZip R xs zs → ys ≡ zs
+  zip_one one [] [] [] p q = refl
+  zip_one one [] [] (z ∷ zs) p q = absurd q
+  zip_one one [] (y ∷ ys) zs p q = absurd p
+  zip_one one (x ∷ xs) [] zs p q = absurd p
+  zip_one one (x ∷ xs) (y ∷ ys) [] p q = absurd q
+  zip_one one (x ∷ xs) (y ∷ ys) (z ∷ zs) p q = let here = one x y z p.0 q.0 in let more = zip_one one xs ys zs p.1 q.1 in λ i. here i ∷ more i
