@@ -21,7 +21,8 @@ use Rattle.mh_run.specs.declared.outcome.Verdict.TheVariants as verdicts
 use Rattle.mh_msgfile.specs.Messages.{IsOf}
 use Rattle.mh_check.specs.Checks.{FailsIn, Sound, FaultFound, NotRefusedAt, RefusedEarlyAt, SharedBy, IsNoRefusal, Accepts, Overshoots, Breaks, NotRefused, RefusedEarly, Shared, FirstFault}
 use Rattle.mh_check.specs.Compiling.{Item, sentences_in, place_of, Placed, Tells}
-use Rattle.mh_check.proofs.Known.{fails_once, state_refused}
+use Rattle.mh_tables.proofs.Refusing.{state_refused}
+use Rattle.mh_check.proofs.Known.{fails_once}
 
 -- a place of an item's sentence
 contains_sentence : (done : List Item) (x : Item) → Contains done x → Contains (sentences_in done) x.sentence
@@ -57,6 +58,17 @@ replicate_push (suc n) =
 
 pub nones_more : (places new : List (Option Place)) (n : ℕ) → places ≡ replicate n None → new ≡ places ++ None ∷ [] → new ≡ replicate (n + 1) None
 nones_more places new n are added = added ∙ ap (λ (l : List (Option Place)). l ++ None ∷ []) are ∙ replicate_push n
+
+-- ---- more sentences, behind those with the first fault
+
+pub order_more : (xs ys before later : List MsgSentence) (x : MsgSentence) → xs ≡ before ++ x ∷ later → xs ++ ys ≡ before ++ x ∷ (later ++ ys)
+order_more xs ys before later x order = ap (λ (l : List MsgSentence). l ++ ys) order ∙ append_assoc before (x ∷ later) ys
+
+pub told_more : (fault : CheckFault) (P Q : FaultFound → Type 0) → ((f : FaultFound) → P f → Q f) → Tells fault P → Tells fault Q
+told_more (faults.NotRefused line verdict) P Q more told = more _ told
+told_more (faults.RefusedEarly line at) P Q more told = more _ told
+told_more (faults.SharedState first second state) P Q more told = more _ told
+told_more faults.Memory P Q more told = tt
 
 module _ (t : TableData) where
   -- ---- a sentence more is sound
@@ -169,24 +181,13 @@ module _ (t : TableData) where
   -- ---- more sentences behind
 
   pub first_more : (xs ys : List MsgSentence) (f : FaultFound) → FirstFault t xs f → FirstFault t (xs ++ ys) f
-  first_more xs ys f first = record {
-    before = first.before;
-    sentence = first.sentence;
-    later = first.later ++ ys;
-    order = ap (λ (l : List MsgSentence). l ++ ys) first.order ∙ append_assoc first.before (first.sentence ∷ first.later) ys;
-    sound = first.sound;
-    breaks = first.breaks;
-  }
-
-  tells : (fault : CheckFault) (P Q : FaultFound → Type 0) → ((f : FaultFound) → P f → Q f) → Tells fault P → Tells fault Q
-  tells (faults.NotRefused line verdict) P Q on told = on _ told
-  tells (faults.RefusedEarly line at) P Q on told = on _ told
-  tells (faults.SharedState first second state) P Q on told = on _ told
-  tells faults.Memory P Q on told = tt
+  first_more xs ys f first =
+      let order = order_more xs ys first.before first.later first.sentence first.order in
+      record { before = first.before; sentence = first.sentence; later = first.later ++ ys; order = order; sound = first.sound; breaks = first.breaks }
 
   pub fault_more : (done more : List Item) (fault : CheckFault) → Tells fault (FirstFault t (sentences_in done)) → Tells fault (FirstFault t (sentences_in (done ++ more)))
   fault_more done more fault told =
-      tells fault (FirstFault t (sentences_in done)) (FirstFault t (sentences_in (done ++ more)))
+      told_more fault (FirstFault t (sentences_in done)) (FirstFault t (sentences_in (done ++ more)))
       (λ f first. subst (λ (l : List MsgSentence). FirstFault t l f) (sym (map-append (λ (y : Item). y.sentence) done more)) (first_more (sentences_in done) (sentences_in more) f first)) told
 
 -- ---- verdicts of the code

@@ -16,7 +16,7 @@ use Rattle.mh_run.specs.declared.outcome.Verdict.{Verdict}
 use Rattle.mh_run.specs.declared.outcome.Verdict.TheVariants as verdicts
 use Rattle.mh_report.specs.Items.{Text}
 use Rattle.mh_comments.specs.Comments.{IsCommentText, WritesComments, comments}
-use Rattle.mh_comments.proofs.Suffix.{state_refused}
+use Rattle.mh_tables.proofs.Refusing.{state_refused}
 
 -- four pieces behind a text
 pub pieces : (old a b c d t1 t2 t3 t4 : Text) → t1 ≡ old ++ a → t2 ≡ t1 ++ b → t3 ≡ t2 ++ c → t4 ≡ t3 ++ d → t4 ≡ old ++ (a ++ b ++ c ++ d)

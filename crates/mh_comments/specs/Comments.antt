@@ -11,7 +11,7 @@ use Rattle.mh_tables.specs.Run.{Rejected}
 use Rattle.mh_tables.specs.Failing.{Fails}
 use Rattle.mh_run.specs.Trace.{TraceOf}
 use Rattle.mh_msgfile.specs.Printed.{sentence_text}
-use Rattle.mh_report.specs.Items.{Text, names_after, production_text, kernel_text}
+use Rattle.mh_report.specs.Items.{Text, names_after, production_text, item_lines}
 
 -- the first of the items whose dot is as far as any
 pub record IsFarthest (items : List KernelItem) (item : KernelItem) : Type 0 where
@@ -28,12 +28,8 @@ before_dot g item = take item.dot (rhs_of (plain_of g) item.production)
 unfoldable pub ends_in : ℕ → Text
 ends_in s = codes "##\n## Ends in an error in state: " ++ decimal s ++ codes ".\n##\n"
 
-abbrev pub kernel_comment : Grammar → KernelItem → Text
-kernel_comment g item = codes "## " ++ kernel_text g item ++ codes "\n"
-
 abbrev pub kernel_comments : Grammar → List KernelItem → Text
-kernel_comments g [] = []
-kernel_comments g (item ∷ items) = kernel_comment g item ++ kernel_comments g items
+kernel_comments g items = item_lines (codes "## ") g items
 
 unfoldable pub suffix_follows : Text
 suffix_follows = codes "##\n## The known suffix of the stack is as follows:\n##"

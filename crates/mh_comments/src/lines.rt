@@ -6,12 +6,12 @@ ghost use Rattle.mh_items.specs.Kernels.{IsKernelItem};
 ghost use Rattle.mh_items.specs.Automaton.{IsAutomaton, kernel_at};
 ghost use Rattle.mh_tables.specs.Failing.{Fails};
 ghost use Rattle.mh_report.specs.Items.{names_after};
-ghost use Rattle.mh_comments.specs.Comments.{IsFarthest, before_dot, ends_in, kernel_comment, kernel_comments, suffix_follows, suffix_comment, reduced_comment, reduced_comments, WritesComments, IsCommentText, IsEntryText};
+ghost use Rattle.mh_comments.specs.Comments.{IsFarthest, before_dot, ends_in, suffix_follows, suffix_comment, reduced_comment, reduced_comments, WritesComments, IsCommentText, IsEntryText};
 
 use mh_grammar::{Grammar, Memory, Symbol, Token};
 use mh_items::{Automaton, KernelItem};
 use mh_msgfile::write_sentence;
-use mh_report::{write_item, write_names, write_number, write_production};
+use mh_report::{write_item_lines, write_names, write_number, write_production};
 use mh_run::{Verdict, trace};
 use mh_tables::Halting;
 use std::alloc::Global;
@@ -38,36 +38,6 @@ fn write_state(alloc: Global, text: &mut Vec<u8>, state: u32) -> Result<(), Memo
     text.extend_from_slice(b"##\n## Ends in an error in state: ")?;
     write_number(alloc, text, state)?;
     text.extend_from_slice(b".\n##\n")?;
-    Ok(())
-}
-
-fn write_kernel_comment<const W: usize>(
-    text: &mut Vec<u8>,
-    grammar: &Grammar,
-    item: &KernelItem<W>,
-) -> Result<(), Memory>
-    requires few { W ≤ 8 }
-    requires item { IsKernelItem (plain_of grammar.now) item.now }
-    ensures { OnOk result (text.new.items ≡ text.old.items ++ kernel_comment grammar.now item.now) }
-{
-    text.extend_from_slice(b"## ")?;
-    write_item(text, grammar, item)?;
-    text.push(b'\n')?;
-    Ok(())
-}
-
-fn write_kernel_comments<const W: usize>(
-    text: &mut Vec<u8>,
-    grammar: &Grammar,
-    items: &[KernelItem<W>],
-) -> Result<(), Memory>
-    requires few { W ≤ 8 }
-    requires items { All (IsKernelItem (plain_of grammar.now)) items.now }
-    ensures { OnOk result (text.new.items ≡ text.old.items ++ kernel_comments grammar.now items.now) }
-{
-    for item in items {
-        write_kernel_comment(text, grammar, item)?;
-    }
     Ok(())
 }
 
@@ -161,7 +131,7 @@ fn write_comments<const W: usize>(
 {
     let item = farthest(items);
     write_state(alloc, text, state)?;
-    write_kernel_comments(text, grammar, items)?;
+    write_item_lines(text, grammar, b"## ", items)?;
     write_suffix(text, grammar, item)?;
     write_all_reduced(text, grammar, reduced)?;
     Ok(())

@@ -131,21 +131,6 @@ asking : (c : Position) (q : ℕ) → phase_of c ≡ phases.InputNeeded q → (n
 unfolding phase_of
 asking c q e = asking_where c.refused c q e
 
-refusing_by : (m : Move) (s : ℕ) (left : List ℕ) (q : ℕ) → phase_by m s left ≡ phases.HandlingError q → s ≡ q
-refusing_by Accepting s left q e = cc
-refusing_by Asks s left q e = cc
-refusing_by Refuses s left q e = cc
-refusing_by (Shifts j) s left q e = cc
-refusing_by (Reduces p) s left q e = cc
-
-refusing_where : (b : Bool) (c : Position) (q : ℕ) → phase_where b c ≡ phases.HandlingError q → top_of c.pairs.states ≡ q
-refusing_where true c q e = cc
-refusing_where false c q e = refusing_by (next_move c) (top_of c.pairs.states) c.left q e
-
-refusing : (c : Position) (q : ℕ) → phase_of c ≡ phases.HandlingError q → top_of c.pairs.states ≡ q
-unfolding phase_of
-refusing c q e = refusing_where c.refused c q e
-
 pub run_ending : (t : TableData) (f : Facts t) (start : ℕ) (w : List ℕ) → start < length t.grammar.starts → (o : TreeOutcome) → HasReached t start w o → IsTreeEnding t start w (tree_ending_for o)
 run_ending t f start w lt (outcomes.Accept read tree) a =
     let r = a.reaches in
@@ -164,9 +149,9 @@ run_ending t f start w lt (outcomes.Reject at state) r =
     let m = handling r.position state r.phase_is in (
       (
         r.steps,
-        ends t f start w lt (phases.HandlingError state) at r Refuses m refuses ∙ ap (λ (n : ℕ). Ends (Rejected n (top_of (after t r.steps (initial start w)).stack))) (read_is t f start w lt (phases.HandlingError state) at r Refuses m refuses)
-            ∙ ap (λ (s : ℕ). Ends (Rejected at s)) (sym (top_is t f start w lt (phases.HandlingError state) at r Refuses m refuses) ∙ refusing r.position state r.phase_is),
+        ends t f start w lt (phases.HandlingError state) at r Refuses m.0 refuses ∙ ap (λ (n : ℕ). Ends (Rejected n (top_of (after t r.steps (initial start w)).stack))) (read_is t f start w lt (phases.HandlingError state) at r Refuses m.0 refuses)
+            ∙ ap (λ (s : ℕ). Ends (Rejected at s)) (sym (top_is t f start w lt (phases.HandlingError state) at r Refuses m.0 refuses) ∙ m.1),
       ),
-      fits t f start w lt (phases.HandlingError state) at r Refuses m refuses,
+      fits t f start w lt (phases.HandlingError state) at r Refuses m.0 refuses,
     )
 run_ending t f start w lt outcomes.TooDeep d = deep_ends t f start w lt d

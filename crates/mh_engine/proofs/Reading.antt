@@ -186,25 +186,25 @@ feeds_accept t start w i z c o r e a =
     let lt = r.within in
     outcome_of t start w i c.pairs.trees o (reaches_at t start w (i + 1) r.steps i c phases.Accepted r.leads (omega arith) e (accepts_not c e) (let l : length c.left ≡ 1 = ap length r.waits in omega arith)) refl a
 
-handling_by : (m : Move) (s : ℕ) (left : List ℕ) (q : ℕ) → phase_by m s left ≡ phases.HandlingError q → m ≡ Refuses
+handling_by : (m : Move) (s : ℕ) (left : List ℕ) (q : ℕ) → phase_by m s left ≡ phases.HandlingError q → (m ≡ Refuses) × (s ≡ q)
 handling_by Accepting s left q e = cc
 handling_by Asks s left q e = cc
-handling_by Refuses s left q e = refl
+handling_by Refuses s left q e = (refl, cc)
 handling_by (Shifts j) s left q e = cc
 handling_by (Reduces p) s left q e = cc
 
-handling_where : (b : Bool) (c : Position) (q : ℕ) → phase_where b c ≡ phases.HandlingError q → next_move c ≡ Refuses
+handling_where : (b : Bool) (c : Position) (q : ℕ) → phase_where b c ≡ phases.HandlingError q → (next_move c ≡ Refuses) × (top_of c.pairs.states ≡ q)
 handling_where true c q e = cc
 handling_where false c q e = handling_by (next_move c) (top_of c.pairs.states) c.left q e
 
-pub handling : (c : Position) (q : ℕ) → phase_of c ≡ phases.HandlingError q → next_move c ≡ Refuses
+pub handling : (c : Position) (q : ℕ) → phase_of c ≡ phases.HandlingError q → (next_move c ≡ Refuses) × (top_of c.pairs.states ≡ q)
 unfolding phase_of
 handling c q e = handling_where c.refused c q e
 
 pub feeds_reject : (t : TableData) (start : ℕ) (w : List ℕ) (i z s : ℕ) (c : Position) → Feeds t start w i z c → phase_of c ≡ phases.HandlingError s → Reaches t start w (phases.HandlingError s) i
 feeds_reject t start w i z s c r e =
     let lt = r.within in
-    reaches_at t start w (i + 1) r.steps i c (phases.HandlingError s) r.leads (omega arith) e (λ a. let m = handling c s e in let both = sym m ∙ a in cc) (let l : length c.left ≡ 1 = ap length r.waits in omega arith)
+    reaches_at t start w (i + 1) r.steps i c (phases.HandlingError s) r.leads (omega arith) e (λ a. let m = (handling c s e).0 in let both = sym m ∙ a in cc) (let l : length c.left ≡ 1 = ap length r.waits in omega arith)
 
 pub reads_overshoot : (t : TableData) (start : ℕ) (w : List ℕ) (i s : ℕ) (c : Position) → Reads t start w i c → length w ≤ i → phase_of c ≡ phases.InputNeeded s → Reaches t start w (phases.InputNeeded s) (length w)
 reads_overshoot t start w i s c r ge e =

@@ -10,3 +10,4 @@ pub mod OneNumbering
 pub mod Passes
 pub mod Pigeon
 pub mod Placing
+pub mod SameText

@@ -22,7 +22,7 @@ use Rattle.mh_meanings.specs.Prelude.{call, words, plain, optional, in_order, te
 use Rattle.mh_meanings.specs.Names.{Text, same, files, formal_number, definitions, definitions_from, definitions_in, library_definitions, outline_of, same_owner, is_rule, same_rule, rules, rule_number, start_names}
 use Rattle.mh_meanings.specs.Faults.{Meanings, meant_by, refs, refs_step, unless, undefined, undefined_in_actual}
 use Rattle.mh_building.specs.Standing.{unresolved, unresolved_in_rule, unresolved_in_rules}
-use Rattle.mh_meanings.proofs.Lists.{same_is}
+use Rattle.mh_grammar.proofs.SameText.{same_is}
 use Rattle.mh_naming.proofs.Numbers.{is_some-position}
 use Rattle.mh_meanings.proofs.Actuals.{flat_refs}
 

@@ -37,7 +37,8 @@ use Rattle.mh_meanings.specs.Faults.{Meanings, meanings, meant_by, unless, agree
 use Rattle.mh_meanings.specs.Joining.{all_of, applied_to, apply_step, resolved, all_resolved, prec_by, alternative_with, alternative_by, alternatives_by, is_number, alternatives_for, rule_without, without_alternatives, token_info, on_error_in, IsJoined, Joins}
 use Rattle.mh_rules.specs.Depth.{greatest, actual_depth, actual_depth_step, applied_depth, applied_depth_step, IsActualShallow, IsAppliedShallow, AreProducersShallow}
 use Rattle.mh_rules.specs.Ready.{IsModuleReady, AreModulesReady, IsHeadBelow, IsAppliedBelow, IsRuleReady, IsReady}
-use Rattle.mh_meanings.proofs.Lists.{same_is, same_self, position-push}
+use Rattle.mh_grammar.proofs.SameText.{same_is, same_self}
+use Rattle.mh_meanings.proofs.Lists.{position-push}
 use Rattle.mh_naming.proofs.Numbers.{is_some-position, none_from}
 use Rattle.mh_naming.proofs.Meaning.{find_position}
 use Rattle.mh_join.proofs.Costing.{tokens_costed}

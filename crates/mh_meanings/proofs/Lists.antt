@@ -1,37 +1,20 @@
--- Lists that are gone through, and names that are the same.
-use Rattle.std.proofs.Common.{◌≡◌, ℕ, suc, ◌+◌, ◌<◌, Bool, true, false, cond, List, [], ◌∷◌, ◌++◌, Option, Some, None, length, get_or, take, refl, sym, ap, subst, ◌∙◌, ◌⊎◌, inl, inr, arith, zero-add, append_assoc}
+-- Lists that are gone through, and names that are put into sets and maps.
+use Rattle.std.proofs.Common.{◌≡◌, ℕ, suc, ◌+◌, ◌<◌, Bool, true, false, cond, List, [], ◌∷◌, ◌++◌, Option, Some, None, length, get_or, take, refl, sym, ap, subst, ◌∙◌, inl, inr, arith, zero-add, append_assoc}
 use Rattle.std.specs.Prelude.{is_some, ◌||◌, if◌then◌else◌}
 use Rattle.std.specs.List.{flat_map, enumerate_from, position, position_from, list_any}
 use Rattle.std.proofs.lemmas.List.Folds.{list_any-append, list_any_more}
 use Rattle.indexmap.specs.IndexSet.{insert_key}
 use Rattle.std.specs.Map.{lookup}
 use Rattle.std.specs.Option.{option_or}
-use Rattle.std.specs.Cmp.Lexicographic.{bytes_decides}
 use Rattle.std.proofs.lemmas.List.{take_more, append-nil, length-take}
 use Rattle.std.proofs.lemmas.List.Concat.{flat_map-append}
 use Rattle.std.proofs.lemmas.Iterator.Adapters.{position_from-zero}
 use Rattle.std.specs.HashMap.{HashMap}
 use Rattle.indexmap.specs.IndexMap.{get}
 use Rattle.mh_grammar.proofs.Lists.{taken}
+use Rattle.mh_grammar.proofs.SameText.{same_is}
 use Rattle.mh_meanings.specs.Puts.{Puts}
 use Rattle.mh_meanings.specs.Names.{Text, same}
-
--- NAMES
-
-pub same_is : (x y : Text) → same x y ≡ true → x ≡ y
-same_is x y = (bytes_decides x y).0
-
-pub same_self : (x : Text) → same x x ≡ true
-same_self x = (bytes_decides x x).1 refl
-
--- two names are one, or differ both ways
-pub same_cases : (x y : Text) → (x ≡ y) ⊎ ((same x y ≡ false) × (same y x ≡ false))
-same_cases x y = go (same x y) refl (same y x) refl
-  where
-    go : (b : Bool) → same x y ≡ b → (d : Bool) → same y x ≡ d → (x ≡ y) ⊎ ((same x y ≡ false) × (same y x ≡ false))
-    go true e d f = inl (same_is x y e)
-    go false e true f = inl (sym (same_is y x f))
-    go false e false f = inr (e, f)
 
 -- LISTS
 

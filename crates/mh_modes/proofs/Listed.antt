@@ -19,7 +19,7 @@ use Rattle.mh_catalogue.specs.declared.rows.CatalogueFault.TheVariants as faults
 use Rattle.mh_catalogue.specs.Rows.{row_of, rows_of, AreShort}
 use Rattle.mh_comments.specs.Comments.{comments, message_here}
 use Rattle.mh_comments.proofs.Farthest.{some_farthest}
-use Rattle.mh_comments.proofs.Suffix.{state_refused}
+use Rattle.mh_tables.proofs.Refusing.{state_refused}
 use Rattle.mh_msgfile.specs.Printed.{sentence_text}
 use Rattle.mh_drive.specs.Text.{Text}
 use Rattle.mh_modes.specs.Listing.{too_long, Lists, TooLong}

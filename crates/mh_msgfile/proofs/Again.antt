@@ -1,24 +1,21 @@
 -- What `print_messages` writes is read again with the same sentences and messages.
-use Rattle.std.proofs.Common.{◌≡◌, ◌≢◌, ◌<◌, ◌≤◌, ◌+◌, ◌-◌, ◌==◌, ◌&&◌, ℕ, zero, suc, Bool, true, false, not, cond, List, [], ◌∷◌, ◌++◌, length, map, take, drop, filter, flat_map, refl, sym, ◌∙◌, ap, subst, if◌then◌else◌, arith, nat_lt, append_assoc, add-one, get_or-take, slice_index}
+use Rattle.std.proofs.Common.{◌≡◌, ◌<◌, ◌+◌, ◌-◌, ℕ, zero, suc, Bool, true, false, not, List, [], ◌∷◌, ◌++◌, length, map, drop, filter, flat_map, refl, sym, ◌∙◌, ap, subst, if◌then◌else◌, arith, append_assoc, add-one}
 use Rattle.std.specs.Prelude.{slice_index_or}
 use Rattle.std.specs.List.{list_all, AllByRecursion, Contains}
-use Rattle.std.proofs.lemmas.Bool.{eqb-true, cond-false}
-use Rattle.std.proofs.lemmas.List.{map-append, length-take-le, take_all}
-use Rattle.std.proofs.Math.Seq.{take-suc}
-use Rattle.std.proofs.lemmas.Bool.Decides.{nat_tests}
+use Rattle.std.proofs.lemmas.List.{map-append}
 use Rattle.std.proofs.lemmas.Grind.{flat_map-append}
-use Rattle.bstr.specs.Text.{no_cr}
 use Rattle.mh_grammar.specs.declared.types.Grammar.{Grammar}
 use Rattle.mh_grammar.proofs.Lists.{contains_here, contains_there}
 use Rattle.mh_msgfile.specs.Sentences.{Text, vocabulary_of, put_first, fields, has_items, runs, is_blank, LineFound, IsSentence, IsUnreadable, NamesNoStart, LacksStart, NamesUnknown, sentence_in}
-use Rattle.mh_msgfile.specs.Messages.{HasNoEnd, AreLines, NoLine, LastLine, EndedLine, line_at, numbers_from, is_taken_out, is_kept, kept_lines, blocks, message_of, FaultFound, BadShape, fault_at, sentence_at, faults_of, sentences_of, first_number, faults_in, entries_in, MsgSpells}
+use Rattle.mh_msgfile.specs.Messages.{HasNoEnd, AreLines, line_at, numbers_from, is_taken_out, is_kept, kept_lines, blocks, message_of, FaultFound, BadShape, fault_at, sentence_at, faults_of, sentences_of, first_number, faults_in, entries_in, MsgSpells}
 use Rattle.mh_msgfile.specs.Printed.{sentence_text, sentence_line, sentence_lines, entry_text, file_text, HasNames, content_of, entry_content, HaveSameContent, HasNoCr}
 use Rattle.mh_msgfile.specs.declared.messages.MsgSentence.{MsgSentence}
 use Rattle.mh_msgfile.specs.declared.messages.Entry.{Entry}
 use Rattle.mh_msgfile.specs.declared.messages.MsgFile.{MsgFile}
 use Rattle.mh_msgfile.proofs.Below.{sentence_start, sentence_tokens}
+use Rattle.mh_msgfile.proofs.Endings.{with_ends, IsWhole, lines_end, lines_again, ends_in_cr}
 use Rattle.mh_msgfile.proofs.Fields.{run_none}
-use Rattle.mh_msgfile.proofs.Canonical.{and_left, and_right, Plain, run_plain, canonical_line, line_begins}
+use Rattle.mh_msgfile.proofs.Canonical.{Plain, run_plain, canonical_line, line_begins}
 
 -- ---- texts in place of numbers
 
@@ -113,30 +110,6 @@ module _ {A : Type 0} (p : A → Bool) (P : A → Type 0) where
 
   all_runs : (xs : List A) → AllByRecursion P xs → AllByRecursion (λ run. IsRun run × (has_items run ≡ true)) (runs p xs)
   all_runs xs all = all_filter IsRun has_items (fields p xs) (run_fields xs all)
-
--- ---- lines
-
-cut_end : (c : Bool) (n : ℕ) (line : Text) → HasNoEnd line → n ≤ length line → HasNoEnd (cond c (take n line) line)
-cut_end true n line none le = λ k d lt. subst (λ (b : ℕ). b ≢ 10) (sym (get_or-take n line k d (omega (arith, lt, length-take-le n line le)))) (none k d (omega (arith, lt, length-take-le n line le)))
-cut_end false n line none le = none
-
-lines_end : (bytes : Text) (lines : List Text) → AreLines bytes lines → AllByRecursion HasNoEnd lines
-lines_end bytes lines NoLine = tt
-lines_end bytes lines (LastLine line none some) = (none, tt)
-lines_end bytes lines (EndedLine line rest others none are) = (cut_end (nat_lt 0 (length line) && slice_index line (length line - 1) == 13) (length line - 1) line none (omega arith), lines_end rest others are)
-
-abbrev with_ends : List Text → Text
-with_ends lines = flat_map (λ line. line ++ 10 ∷ []) lines
-
-abbrev IsWhole : Text → Type 0
-IsWhole line = HasNoEnd line × (no_cr line ≡ line)
-
-lines_again : (lines : List Text) → AllByRecursion IsWhole lines → AreLines (with_ends lines) lines
-lines_again [] all = NoLine
-lines_again (line ∷ lines) all =
-    let on : AreLines (line ++ 10 ∷ with_ends lines) (no_cr line ∷ lines) = EndedLine line (with_ends lines) lines all.0.0 (lines_again lines all.1) in
-    let cut : AreLines (line ++ 10 ∷ with_ends lines) (line ∷ lines) = subst (λ (t : Text). AreLines (line ++ 10 ∷ with_ends lines) (t ∷ lines)) all.0.1 on in
-    subst (λ (bytes : Text). AreLines bytes (line ∷ lines)) (sym (append_assoc line (10 ∷ []) (with_ends lines))) cut
 
 -- ---- a grammar's blocks
 
@@ -413,19 +386,6 @@ module _ (g : Grammar) where
 
     abbrev IsBlock : List Text → Type 0
     IsBlock run = AllByRecursion (λ line. (HasNoEnd line × (is_kept_text line ≡ true)) × (blank_text line ≡ false)) run × (has_items run ≡ true)
-
-    -- a CR at the end of a line stands before its LF
-    ends_in_cr : (line : Text) (c : Bool) → (nat_lt 0 (length line) && slice_index line (length line - 1) == 13) ≡ c → ((front : Text) → line ≡ front ++ 13 ∷ [] → ⊥) → no_cr line ≡ line
-    ends_in_cr line false is free = cond-false _ _ _ is
-    ends_in_cr line true is free = absurd (free (take (length line - 1) line) last_cr)
-      where
-        last_cr : line ≡ take (length line - 1) line ++ 13 ∷ []
-        last_cr =
-            let some : nat_lt 0 (length line) ≡ true = and_left (nat_lt 0 (length line)) (slice_index line (length line - 1) == 13) is in
-            let byte : slice_index line (length line - 1) ≡ 13 = eqb-true _ 13 (and_right (nat_lt 0 (length line)) (slice_index line (length line - 1) == 13) is) in
-            let pos : 0 < length line = grind (arith, nat_tests) in
-            let whole : suc (length line - 1) ≡ length line = omega arith in
-            sym (take_all (length line) line (omega arith)) ∙ ap (λ (k : ℕ). take k line) (sym whole) ∙ take-suc line (length line - 1) 0 (omega arith) ∙ ap (λ (x : ℕ). take (length line - 1) line ++ x ∷ []) byte
 
     message_lines : (lines : List Text) (before : Text) → ((front rest : Text) → before ++ with_ends lines ≡ front ++ 13 ∷ 10 ∷ rest → ⊥) → AllByRecursion (λ line. (HasNoEnd line × (is_kept_text line ≡ true)) × (blank_text line ≡ false)) lines → AllByRecursion IsLine lines
     message_lines [] before free all = tt

@@ -6,6 +6,7 @@ pub mod Kept
 pub mod Turns
 pub mod Fitting
 pub mod Canonical
+pub mod Endings
 pub mod Spelled
 pub mod Again
 pub mod Spacing

@@ -6,7 +6,7 @@ use Rattle.indexmap.specs.IndexMap.{get}
 use Rattle.mh_meanings.specs.declared.names.Definers.{Definers}
 use Rattle.mh_meanings.specs.Names.{Text, same}
 use Rattle.mh_meanings.specs.Definers.{elsewhere_by, Defines}
-use Rattle.mh_meanings.proofs.Lists.{same_cases, same_self}
+use Rattle.mh_grammar.proofs.SameText.{same_cases, same_self}
 
 or_false : (b : Bool) → b ≡ (b || false)
 or_false true = refl

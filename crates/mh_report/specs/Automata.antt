@@ -17,7 +17,7 @@ use Rattle.mh_resolve.specs.declared.kinds.Mode.{Mode}
 use Rattle.mh_resolve.specs.declared.kinds.Mode.TheVariants.{Merged, Canonical}
 use Rattle.mh_resolve.specs.States.{state_of}
 use Rattle.mh_resolve.specs.Holes.{AreHoles}
-use Rattle.mh_report.specs.Items.{Text, production_text, kernel_text}
+use Rattle.mh_report.specs.Items.{Text, production_text, item_lines}
 
 abbrev pub mode_name : Mode → Text
 mode_name Merged = codes "merged"
@@ -26,12 +26,8 @@ mode_name Canonical = codes "canonical"
 abbrev pub title : Mode → ℕ → Text
 title mode states = mode_name mode ++ codes ": " ++ decimal states ++ codes " states\n"
 
-abbrev pub kernel_line : Grammar → KernelItem → Text
-kernel_line g item = codes "  " ++ kernel_text g item ++ codes "\n"
-
 abbrev pub kernel_lines : Grammar → List KernelItem → Text
-kernel_lines g [] = []
-kernel_lines g (item ∷ items) = kernel_line g item ++ kernel_lines g items
+kernel_lines g items = item_lines (codes "  ") g items
 
 -- a token with what its cell does; a cell that refuses has no line, but for a hole
 abbrev pub cell_line : Grammar → ℕ → Action → Bool → Text

@@ -44,3 +44,11 @@ abbrev pub kernel_text : Grammar → KernelItem → Text
 kernel_text g item =
     let symbols = rhs_of (plain_of g) item.production in
     left_side g item.production ++ codes " ->" ++ names_after g (take item.dot symbols) ++ codes " ." ++ names_after g (drop item.dot symbols) ++ codes " [" ++ looks_after g item.looks ++ codes " ]"
+
+-- an item in a line that begins with a front
+abbrev pub item_line : Text → Grammar → KernelItem → Text
+item_line front g item = front ++ kernel_text g item ++ codes "\n"
+
+abbrev pub item_lines : Text → Grammar → List KernelItem → Text
+item_lines front g [] = []
+item_lines front g (item ∷ items) = item_line front g item ++ item_lines front g items

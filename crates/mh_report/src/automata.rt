@@ -7,16 +7,17 @@ ghost use Rattle.mh_items.specs.Automaton.{IsAutomaton, kernel_at, edges_at};
 ghost use Rattle.mh_tables.specs.Table.{cell_of, fallback_of};
 ghost use Rattle.mh_resolve.specs.declared.kinds.Mode.{Mode as ModeOf};
 ghost use Rattle.mh_resolve.specs.States.{IsTableOf};
-ghost use Rattle.mh_report.specs.Automata.{mode_name, title, kernel_line, kernel_lines, cell_line, cell_lines, goto_line, goto_lines, default_line, head_line, AreActionLines, IsStateText, IsAutomatonText, Adds};
+ghost use Rattle.mh_report.specs.Automata.{mode_name, title, kernel_lines, cell_line, cell_lines, goto_line, goto_lines, default_line, head_line, AreActionLines, IsStateText, IsAutomatonText, Adds};
 
-use crate::items::{write_item, write_number, write_production};
+use crate::items::{write_item_lines, write_number, write_production};
 use mh_grammar::{Edge, Grammar, Memory, Symbol, Token, nonterminal_name, token_name};
 use mh_items::{Automaton, KernelItem};
 use mh_resolve::{Mode, holes_of};
 use mh_tables::{Action, Fallback, Halting, Table};
 use std::alloc::Global;
 
-fn mode_name(mode: Mode) -> &'static [u8]
+/// The name of a mode.
+pub fn mode_name(mode: Mode) -> &'static [u8]
     ensures { result.now ≡ mode_name mode }
 {
     match mode {
@@ -32,36 +33,6 @@ fn write_title(alloc: Global, text: &mut Vec<u8>, mode: Mode, states: u32) -> Re
     text.extend_from_slice(b": ")?;
     write_number(alloc, text, states)?;
     text.extend_from_slice(b" states\n")?;
-    Ok(())
-}
-
-fn write_kernel_line<const W: usize>(
-    text: &mut Vec<u8>,
-    grammar: &Grammar,
-    item: &KernelItem<W>,
-) -> Result<(), Memory>
-    requires few { W ≤ 8 }
-    requires item { IsKernelItem (plain_of grammar.now) item.now }
-    ensures { OnOk result (text.new.items ≡ text.old.items ++ kernel_line grammar.now item.now) }
-{
-    text.extend_from_slice(b"  ")?;
-    write_item(text, grammar, item)?;
-    text.push(b'\n')?;
-    Ok(())
-}
-
-fn write_kernel_lines<const W: usize>(
-    text: &mut Vec<u8>,
-    grammar: &Grammar,
-    items: &[KernelItem<W>],
-) -> Result<(), Memory>
-    requires few { W ≤ 8 }
-    requires items { All (IsKernelItem (plain_of grammar.now)) items.now }
-    ensures { OnOk result (text.new.items ≡ text.old.items ++ kernel_lines grammar.now items.now) }
-{
-    for item in items {
-        write_kernel_line(text, grammar, item)?;
-    }
     Ok(())
 }
 
@@ -228,7 +199,7 @@ fn write_kernel<const W: usize>(
         ++ kernel_lines grammar.now (kernel_at automaton.now state).items) }
 {
     let kernel = &automaton.kernels[state as usize];
-    write_kernel_lines(text, grammar, kernel.items.as_slice())
+    write_item_lines(text, grammar, b"  ", kernel.items.as_slice())
 }
 
 fn write_gotos<const W: usize>(

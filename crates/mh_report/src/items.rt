@@ -1,8 +1,9 @@
 //! The texts of productions, items and kernels. Each function writes behind what a text holds.
 ghost use Rattle.std.specs.Prelude.{◌≡◌, ◌≤◌, ◌++◌, length, decimal, MatchOption, OnOk, ⊤};
+ghost use Rattle.std.specs.List.{All};
 ghost use Rattle.mh_grammar.specs.Plain.{plain_of, rhs_of};
 ghost use Rattle.mh_items.specs.Kernels.{IsKernelItem};
-ghost use Rattle.mh_report.specs.Items.{names_after, symbols_text, left_side, production_text, look_name, looks_after, kernel_text};
+ghost use Rattle.mh_report.specs.Items.{names_after, symbols_text, left_side, production_text, look_name, looks_after, kernel_text, item_line, item_lines};
 
 use mh_grammar::{
     Grammar, Look, Memory, Symbol, left_side_name, nonterminal_name, symbol_name, token_name,
@@ -104,7 +105,8 @@ pub fn write_production(
     write_right_side(text, grammar, production, None)
 }
 
-pub(crate) fn look_name(grammar: &Grammar, look: Look) -> &[u8]
+/// The name of a look.
+pub fn look_name(grammar: &Grammar, look: Look) -> &[u8]
     ensures { result.now ≡ look_name grammar.now look }
 {
     match look {
@@ -128,8 +130,8 @@ fn write_looks<const W: usize>(
     Ok(())
 }
 
-/// An item with its looks. Fails for want of memory alone; then a front of it may be written.
-pub fn write_item<const W: usize>(
+// An item with its looks.
+fn write_item<const W: usize>(
     text: &mut Vec<u8>,
     grammar: &Grammar,
     item: &KernelItem<W>,
@@ -144,5 +146,39 @@ pub fn write_item<const W: usize>(
     text.extend_from_slice(b" [")?;
     write_looks(text, grammar, &item.looks)?;
     text.extend_from_slice(b" ]")?;
+    Ok(())
+}
+
+fn write_item_line<const W: usize>(
+    text: &mut Vec<u8>,
+    grammar: &Grammar,
+    front: &[u8],
+    item: &KernelItem<W>,
+) -> Result<(), Memory>
+    requires few { W ≤ 8 }
+    requires item { IsKernelItem (plain_of grammar.now) item.now }
+    ensures { OnOk result (text.new.items ≡ text.old.items ++ item_line front.now grammar.now item.now) }
+{
+    text.extend_from_slice(front)?;
+    write_item(text, grammar, item)?;
+    text.push(b'\n')?;
+    Ok(())
+}
+
+/// Items, each in a line that begins with a front. Fails for want of memory alone; then a front of them may be written.
+pub fn write_item_lines<const W: usize>(
+    text: &mut Vec<u8>,
+    grammar: &Grammar,
+    front: &[u8],
+    items: &[KernelItem<W>],
+) -> Result<(), Memory>
+    requires few { W ≤ 8 }
+    requires items { All (IsKernelItem (plain_of grammar.now)) items.now }
+    ensures { OnOk result (text.new.items ≡ text.old.items
+        ++ item_lines front.now grammar.now items.now) }
+{
+    for item in items {
+        write_item_line(text, grammar, front, item)?;
+    }
     Ok(())
 }

@@ -5,6 +5,6 @@ mod automata;
 mod items;
 mod warnings;
 
-pub use automata::automaton_text;
-pub use items::{write_item, write_names, write_number, write_production};
+pub use automata::{automaton_text, mode_name};
+pub use items::{look_name, write_item_lines, write_names, write_number, write_production};
 pub use warnings::warning_text;

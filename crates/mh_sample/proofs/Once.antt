@@ -2,10 +2,11 @@
 use Rattle.std.proofs.Common.{◌≡◌, ℕ, List, [], ◌∷◌, ◌++◌, zero, suc, ◌+◌, ◌<◌, length, refl, sym, ◌∙◌, ap}
 use Rattle.std.specs.List.{AllByRecursion}
 use Rattle.std.proofs.lemmas.List.Elements.{recursion_from_All}
+use Rattle.mh_grammar.proofs.Lists.{zip_one}
 use Rattle.mh_grammar.specs.declared.types.Grammar.{Grammar}
 use Rattle.mh_grammar.specs.declared.types.Sentence.{Sentence}
 use Rattle.mh_tables.specs.Table.{TableData}
-use Rattle.mh_tables.specs.Run.{Ending, initial}
+use Rattle.mh_tables.specs.Run.{VerdictOf, Ending, initial}
 use Rattle.mh_tables.specs.Halting.{HaltingFacts}
 use Rattle.mh_tables.proofs.Ending.{one_ending, has_verdict}
 use Rattle.mh_grammar.specs.Plain.{plain_of}
@@ -16,14 +17,7 @@ use Rattle.mh_sample.specs.Counts.{HaveEndings, sample_sentences, sentences_of, 
 
 module _ (t : TableData) where
   same_endings : (ss : List Sentence) (xs ys : List Ending) → HaveEndings t ss xs → HaveEndings t ss ys → xs ≡ ys
-  same_endings [] [] [] p q = refl
-  same_endings [] [] (y ∷ ys) p q = absurd q
-  same_endings [] (x ∷ xs) ys p q = absurd p
-  same_endings (s ∷ ss) [] ys p q = absurd p
-  same_endings (s ∷ ss) (x ∷ xs) [] p q = absurd q
-  same_endings (s ∷ ss) (x ∷ xs) (y ∷ ys) p q =
-      let first : x ≡ y = one_ending t (initial s.start s.tokens) x y p.0 q.0 in
-      let more = same_endings ss xs ys p.1 q.1 in λ i. first i ∷ more i
+  same_endings ss xs ys = zip_one (λ (s : Sentence) (x : Ending). VerdictOf t s.start s.tokens x) (λ s x y. one_ending t (initial s.start s.tokens) x y) ss xs ys
 
   pub line_once : (g : Grammar) (number listed : ℕ) (x y : Text) → IsSampleLine g t number listed x → IsSampleLine g t number listed y → x ≡ y
   line_once g number listed x y p q =

@@ -1,9 +1,9 @@
 -- Values by name.
-use Rattle.std.proofs.Common.{◌≡◌, ℕ, Bool, true, false, cond, List, [], ◌∷◌, Option, Some, None, Bor, refl, sym, ap, subst, ◌∙◌, ◌⊎◌, inl, inr}
+use Rattle.std.proofs.Common.{◌≡◌, ℕ, Bool, true, false, cond, List, [], ◌∷◌, Option, Some, None, Bor, refl, sym, ap, subst, ◌∙◌, inl, inr}
 use Rattle.std.specs.Prelude.{IfSome}
 use Rattle.std.specs.Option.{option_copied}
-use Rattle.std.specs.Cmp.Lexicographic.{bytes_decides}
 use Rattle.std.specs.Map.{update}
+use Rattle.mh_grammar.proofs.SameText.{same_is, same_self, same_cases}
 use Rattle.mh_tables.specs.Table.{TableData}
 use Rattle.mh_engine.specs.Positions.{Position}
 use Rattle.mh_engine.specs.declared.checkpoint.Checkpoint.{Checkpoint}
@@ -13,21 +13,6 @@ use Rattle.mh_session.specs.Moments.{Moment}
 use Rattle.mh_session.specs.Answers.{Branches}
 use Rattle.mh_session.specs.Standing.{Fits, StandsFor}
 use Rattle.mh_session.specs.Puts.{Puts, AreOf}
-
-pub same_is : (x y : Text) → same x y ≡ true → x ≡ y
-same_is x y = (bytes_decides x y).0
-
-pub same_self : (x : Text) → same x x ≡ true
-same_self x = (bytes_decides x x).1 refl
-
--- two names are one, or differ both ways
-pub same_cases : (x y : Text) → (x ≡ y) ⊎ ((same x y ≡ false) × (same y x ≡ false))
-same_cases x y = go (same x y) refl (same y x) refl
-  where
-    go : (b : Bool) → same x y ≡ b → (d : Bool) → same y x ≡ d → (x ≡ y) ⊎ ((same x y ≡ false) × (same y x ≡ false))
-    go true e d f = inl (same_is x y e)
-    go false e true f = inl (sym (same_is y x f))
-    go false e false f = inr (e, f)
 
 -- the positions of a session are of its table
 pub of_table : (t : TableData) (held : List (Text × Position)) (name : Text) (o : Option (Bor Checkpoint)) → option_copied o ≡ at_name name held → AreOf t held → IfSome o (λ c. c.now.table ≡ t)

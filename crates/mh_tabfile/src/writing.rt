@@ -8,18 +8,17 @@ ghost use Rattle.mh_grammar.specs.Names.{nonterminal_name as name_of_nonterminal
 ghost use Rattle.mh_items.specs.Automaton.{IsAutomaton, kernel_at, edges_at};
 ghost use Rattle.mh_tables.specs.Table.{state_at};
 ghost use Rattle.mh_resolve.specs.States.{IsTableOf};
-ghost use Rattle.mh_report.specs.Automata.{mode_name as name_of_mode};
 ghost use Rattle.mh_report.specs.Items.{look_name as name_of_look};
 ghost use Rattle.mh_tabfile.specs.Form.{count_line, production_line, item_line, edge_line, cell_line, fallback_line, cells_lines, state_lines, states_lines, table_text};
 ghost use Rattle.mh_tabfile.specs.Written.{raw_production, raw_item, raw_edge, raw_cell, raw_row, raw_cells, raw_state_of, raw_states, raw_of};
 ghost use Rattle.mh_tabfile.specs.code.Texts.{words_after, line_written, lines_written};
 
 use mh_grammar::{
-    Edge, Grammar, Look, Memory, Production, Symbol, Token, TokenInfo, nonterminal_name,
-    symbol_name, token_name,
+    Edge, Grammar, Memory, Production, Symbol, Token, TokenInfo, nonterminal_name, symbol_name,
+    token_name,
 };
 use mh_items::{Automaton, KernelItem};
-use mh_report::write_number;
+use mh_report::{look_name, mode_name, write_number};
 use mh_resolve::Mode;
 use mh_sets::TokenSet;
 use mh_tables::{Action, Fallback, Table};
@@ -50,15 +49,6 @@ fn write_count(alloc: Global, text: &mut Vec<u8>, key: &[u8], count: u32) -> Res
     write_numeral(alloc, text, count)?;
     text.push(b'\n')?;
     Ok(())
-}
-
-fn mode_name(mode: Mode) -> &'static [u8]
-    ensures { result.now ≡ name_of_mode mode }
-{
-    match mode {
-        Mode::Merged => b"merged",
-        Mode::Canonical => b"canonical",
-    }
 }
 
 fn write_version(alloc: Global, text: &mut Vec<u8>, version: u32, mode: &[u8]) -> Result<(), Memory>
@@ -114,15 +104,6 @@ fn write_symbol_names(
         write_word(text, symbol_name(grammar, *symbol))?;
     }
     Ok(())
-}
-
-fn look_name(grammar: &Grammar, look: Look) -> &[u8]
-    ensures { result.now ≡ name_of_look grammar.now look }
-{
-    match look {
-        Look::Token(token) => token_name(grammar, token),
-        Look::End => b"#",
-    }
 }
 
 fn write_looks<const W: usize>(

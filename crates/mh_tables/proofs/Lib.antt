@@ -11,7 +11,9 @@ pub mod OneTreeEnding
 pub mod Passing
 pub mod Path
 pub mod Reductions
+pub mod Refusing
 pub mod Settling
 pub mod Trees
 pub mod Trying
 pub mod Waiting
+pub mod WordOrder

@@ -10,10 +10,10 @@ use Rattle.mh_items.specs.Shapes.{Automaton}
 use Rattle.mh_tables.specs.Table.{TableData}
 use Rattle.mh_msgfile.specs.declared.messages.MsgSentence.{MsgSentence}
 use Rattle.mh_msgfile.specs.declared.messages.Entry.{Entry}
-use Rattle.mh_check.specs.Checks.{Breaks, FailsIn, FaultFound}
+use Rattle.mh_check.specs.Checks.{Breaks, FailsIn}
 use Rattle.mh_check.specs.Compiling.{Tells}
 use Rattle.mh_check.specs.declared.compiling.CheckFault.{CheckFault}
-use Rattle.mh_check.specs.declared.compiling.CheckFault.TheVariants as faults
+use Rattle.mh_check.proofs.Placing.{order_more, told_more}
 use Rattle.mh_update.specs.declared.comments.Comment.{Comment}
 use Rattle.mh_update.specs.Updates.{AreComments, FirstUnfit, IsComment}
 
@@ -41,12 +41,6 @@ entry_split es i e lt is =
     ∙ sym (flat_map-append (λ (entry : Entry). entry.sentences) (take (i + 1) es) (drop (i + 1) es)) ∙ ap of_entries (take-append-drop (i + 1) es)
 
 -- ---- comments and faults
-
-told_more : (fault : CheckFault) (P Q : FaultFound → Type 0) → ((f : FaultFound) → P f → Q f) → Tells fault P → Tells fault Q
-told_more (faults.NotRefused line verdict) P Q more told = more _ told
-told_more (faults.RefusedEarly line at) P Q more told = more _ told
-told_more (faults.SharedState first second state) P Q more told = more _ told
-told_more faults.Memory P Q more told = tt
 
 module _ (g : Grammar) (a : Automaton) (t : TableData) where
   pub comments_push : (xs : List MsgSentence) (cs : List Comment) (x : MsgSentence) (c : Comment) → AreComments g a t xs cs → IsComment g a t x c → AreComments g a t (xs ++ x ∷ []) (cs ++ c ∷ [])
@@ -83,11 +77,6 @@ module _ (g : Grammar) (a : Automaton) (t : TableData) where
   }) told
 
 pub unfit_more : (t : TableData) (xs ys : List MsgSentence) (fault : CheckFault) → Tells fault (FirstUnfit t xs) → Tells fault (FirstUnfit t (xs ++ ys))
-unfit_more t xs ys fault told = told_more fault (FirstUnfit t xs) (FirstUnfit t (xs ++ ys)) (λ f first. record {
-  before = first.before;
-  sentence = first.sentence;
-  later = first.later ++ ys;
-  order = ap (λ (l : List MsgSentence). l ++ ys) first.order ∙ append_assoc first.before (first.sentence ∷ first.later) ys;
-  fail = first.fail;
-  breaks = first.breaks;
-}) told
+unfit_more t xs ys fault told = told_more fault (FirstUnfit t xs) (FirstUnfit t (xs ++ ys)) (λ f first.
+    let order = order_more xs ys first.before first.later first.sentence first.order in
+    record { before = first.before; sentence = first.sentence; later = first.later ++ ys; order = order; fail = first.fail; breaks = first.breaks }) told

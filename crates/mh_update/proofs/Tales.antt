@@ -1,20 +1,16 @@
 -- Comment lines are lines that are made anew.
-use Rattle.std.proofs.Common.{◌≡◌, ◌≢◌, ℕ, suc, ◌-◌, ◌<◌, ◌^◌, ◌==◌, ◌&&◌, Bool, true, false, List, [], ◌∷◌, ◌++◌, length, take, drop, refl, sym, ◌∙◌, ap, subst, if◌then◌else◌, arith, nat_lt, append_assoc, append-nil, slice_index, true≢false, Option, None, Some}
+use Rattle.std.proofs.Common.{◌≡◌, ◌≢◌, ℕ, ◌-◌, ◌<◌, ◌^◌, ◌==◌, ◌&&◌, Bool, true, false, List, [], ◌∷◌, ◌++◌, length, take, drop, refl, sym, ◌∙◌, ap, subst, if◌then◌else◌, arith, nat_lt, append_assoc, append-nil, true≢false, Option, None, Some}
 use Rattle.std.specs.Prelude.{codes, decimal, slice_get}
 use Rattle.std.specs.Option.{option_map, unwrap_or}
 use Rattle.std.specs.List.{AllByRecursion, list_all}
 use Rattle.std.specs.Str.{all_ascii_digits}
 use Rattle.std.specs.Char.{is_ascii_digit}
-use Rattle.std.proofs.lemmas.Bool.{eqb-true, cond-false}
-use Rattle.std.proofs.lemmas.Bool.Decides.{nat_tests}
-use Rattle.std.proofs.lemmas.List.{take_all}
-use Rattle.std.proofs.Math.Seq.{take-suc}
+use Rattle.std.proofs.lemmas.Bool.{eqb-true}
 use Rattle.std.proofs.lemmas.List.Elements.{All-from_recursion}
 use Rattle.std.proofs.lemmas.Grind.{flat_map-append}
 use Rattle.std.proofs.lemmas.List.Folds.{list_all-append}
 use Rattle.std.proofs.lemmas.Fmt.{digits_decimal}
 use Rattle.std.proofs.lemmas.Str.Parse.{numerals_by_value, tells_all_ascii_digits}
-use Rattle.bstr.specs.Text.{no_cr}
 use Rattle.mh_grammar.specs.declared.types.Grammar.{Grammar}
 use Rattle.mh_grammar.specs.declared.types.Production.{Production}
 use Rattle.mh_grammar.specs.declared.types.Symbol.{Symbol}
@@ -27,12 +23,13 @@ use Rattle.mh_items.specs.Shapes.{KernelItem, Automaton}
 use Rattle.mh_items.specs.Automaton.{kernel_at}
 use Rattle.mh_tables.specs.Table.{TableData}
 use Rattle.mh_tables.specs.Facts.{Facts}
-use Rattle.mh_report.specs.Items.{names_after, left_side, production_text, look_name, looks_after, kernel_text}
-use Rattle.mh_check.proofs.Known.{state_refused}
-use Rattle.mh_comments.specs.Comments.{before_dot, ends_in, kernel_comment, kernel_comments, suffix_follows, suffix_comment, reduced_before, reduced_comment, reduced_comments, comments, IsCommentText}
+use Rattle.mh_report.specs.Items.{names_after, left_side, production_text, look_name, looks_after, kernel_text, item_line}
+use Rattle.mh_msgfile.proofs.Endings.{with_ends, IsWhole, ends_in_cr}
+use Rattle.mh_tables.proofs.Refusing.{state_refused}
+use Rattle.mh_comments.specs.Comments.{before_dot, ends_in, kernel_comments, suffix_follows, suffix_comment, reduced_before, reduced_comment, reduced_comments, comments, IsCommentText}
 use Rattle.mh_update.specs.Updates.{Text, is_made}
 use Rattle.mh_update.specs.Lines.{is_inner, IsInLine, HasLineNames}
-use Rattle.mh_update.proofs.Walks.{with_ends, IsWhole, IsMadeLine}
+use Rattle.mh_update.proofs.Walks.{IsMadeLine}
 
 -- ---- texts in a line
 
@@ -64,21 +61,8 @@ ends_in_cr_not : (front : Text) → IsInLine (front ++ 13 ∷ []) → ⊥
 ends_in_cr_not [] is = true≢false (sym is)
 ends_in_cr_not (b ∷ front) is = ends_in_cr_not front (rest_of b (front ++ 13 ∷ []) is)
 
--- a CR at the end of a line is its last byte
-pub no_cr_by : (line : Text) (c : Bool) → (nat_lt 0 (length line) && slice_index line (length line - 1) == 13) ≡ c → ((front : Text) → line ≡ front ++ 13 ∷ [] → ⊥) → no_cr line ≡ line
-no_cr_by line false is free = cond-false _ _ _ is
-no_cr_by line true is free = absurd (free (take (length line - 1) line) last_cr)
-  where
-    last_cr : line ≡ take (length line - 1) line ++ 13 ∷ []
-    last_cr =
-        let some : nat_lt 0 (length line) ≡ true = and_first (nat_lt 0 (length line)) (slice_index line (length line - 1) == 13) is in
-        let byte : slice_index line (length line - 1) ≡ 13 = eqb-true _ 13 (and_second (nat_lt 0 (length line)) (slice_index line (length line - 1) == 13) is) in
-        let pos : 0 < length line = grind (arith, nat_tests) in
-        let whole : suc (length line - 1) ≡ length line = omega arith in
-        sym (take_all (length line) line (omega arith)) ∙ ap (λ (k : ℕ). take k line) (sym whole) ∙ take-suc line (length line - 1) 0 (omega arith) ∙ ap (λ (x : ℕ). take (length line - 1) line ++ x ∷ []) byte
-
 whole : (line : Text) → IsInLine line → IsWhole line
-whole line is = (All-from_recursion (λ b. b ≢ 10) line (no_ends line is), no_cr_by line _ refl (λ front e. ends_in_cr_not front (subst IsInLine e is)))
+whole line is = (All-from_recursion (λ b. b ≢ 10) line (no_ends line is), ends_in_cr line _ refl (λ front e. ends_in_cr_not front (subst IsInLine e is)))
 
 -- ---- lines one after another
 
@@ -202,7 +186,7 @@ module _ (g : Grammar) (names : HasLineNames g) where
 
   kernel_tale : (items : List KernelItem) → IsTale (kernel_comments g items)
   kernel_tale [] = tale_none
-  kernel_tale (item ∷ items) = tale_both (kernel_comment g item) (kernel_comments g items) (tale_line (codes "## " ++ kernel_text g item) refl (kernel_in item)) (kernel_tale items)
+  kernel_tale (item ∷ items) = tale_both (item_line (codes "## ") g item) (kernel_comments g items) (tale_line (codes "## " ++ kernel_text g item) refl (kernel_in item)) (kernel_tale items)
 
   suffix_tale : (symbols : List Symbol) → IsTale (suffix_comment g symbols)
   unfolding suffix_follows

@@ -1,53 +1,36 @@
 -- A messages file that was brought up to date has the same sentences and messages, and is brought up to date as it is.
-use Rattle.std.proofs.Common.{◌≡◌, ◌≢◌, ℕ, ◌+◌, ◌-◌, ◌≤◌, ◌==◌, ◌&&◌, Bool, true, false, cond, List, [], ◌∷◌, ◌++◌, length, take, map, refl, sym, ◌∙◌, ap, subst, arith, nat_lt, append_assoc, slice_index, get_or-take, Option, None, Some}
+use Rattle.std.proofs.Common.{◌≡◌, ℕ, ◌+◌, Bool, true, false, List, [], ◌∷◌, ◌++◌, map, refl, sym, ◌∙◌, ap, subst, Option, None, Some}
 use Rattle.std.specs.List.{AllByRecursion, Contains}
-use Rattle.std.proofs.lemmas.List.{length-take-le}
-use Rattle.bstr.specs.Text.{no_cr}
-use Rattle.mh_grammar.proofs.Lists.{contains_here, contains_there}
+use Rattle.mh_grammar.proofs.Lists.{contains_here, contains_there, zip_one}
 use Rattle.mh_grammar.specs.declared.types.Grammar.{Grammar}
 use Rattle.mh_items.specs.Shapes.{Automaton}
 use Rattle.mh_tables.specs.Table.{TableData}
 use Rattle.mh_tables.specs.Facts.{Facts}
 use Rattle.mh_msgfile.specs.Sentences.{Vocabulary, vocabulary_of, sentence_in}
-use Rattle.mh_msgfile.specs.Messages.{HasNoEnd, AreLines, NoLine, LastLine, EndedLine, blocks, entries_in, MsgSpells}
+use Rattle.mh_msgfile.specs.Messages.{HasNoEnd, AreLines, blocks, entries_in, MsgSpells}
 use Rattle.mh_msgfile.specs.Printed.{entry_content, HaveSameContent}
 use Rattle.mh_msgfile.specs.declared.messages.MsgSentence.{MsgSentence}
 use Rattle.mh_msgfile.specs.declared.messages.MsgFile.{MsgFile}
+use Rattle.mh_msgfile.proofs.Endings.{with_ends, IsWhole, lines_end, lines_again, ends_in_cr}
 use Rattle.mh_check.specs.Checks.{sentences_of}
 use Rattle.mh_comments.specs.Comments.{IsCommentText}
 use Rattle.mh_comments.proofs.OneText.{comments_once}
 use Rattle.mh_update.specs.declared.comments.Comment.{Comment}
-use Rattle.mh_update.specs.Updates.{Text, is_made, AreComments, updated, IsUpdated}
+use Rattle.mh_update.specs.Updates.{Text, is_made, IsComment, AreComments, updated, IsUpdated}
 use Rattle.mh_update.specs.Lines.{HasLineNames, HasNoCrAtEnds}
-use Rattle.mh_update.proofs.Walks.{Place, Outside, Kind, kind_of, next, Content, told, put, sentences, with_ends, IsWhole, made_remark, Walk, Ended, Dropped, Silent, Telling, grown, text_of, tales_of, again, grown_text, again_text, grown_whole, grown_kept, text_is}
+use Rattle.mh_update.proofs.Walks.{Place, Outside, Kind, kind_of, next, Content, told, put, sentences, made_remark, Walk, Ended, Dropped, Silent, Telling, grown, text_of, tales_of, again, grown_text, again_text, grown_whole, grown_kept, text_is}
 use Rattle.mh_update.proofs.Found.{sentences_are}
 use Rattle.mh_update.proofs.Alike.{alike}
-use Rattle.mh_update.proofs.Tales.{IsTale, comment_tale, no_cr_by}
+use Rattle.mh_update.proofs.Tales.{IsTale, comment_tale}
 
 -- ---- lines
-
-cut_end : (c : Bool) (n : ℕ) (line : Text) → HasNoEnd line → n ≤ length line → HasNoEnd (cond c (take n line) line)
-cut_end true n line none le = λ k d lt. subst (λ (b : ℕ). b ≢ 10) (sym (get_or-take n line k d (omega (arith, lt, length-take-le n line le)))) (none k d (omega (arith, lt, length-take-le n line le)))
-cut_end false n line none le = none
-
-lines_end : (bytes : Text) (lines : List Text) → AreLines bytes lines → AllByRecursion HasNoEnd lines
-lines_end bytes lines NoLine = tt
-lines_end bytes lines (LastLine line none some) = (none, tt)
-lines_end bytes lines (EndedLine line rest others none are) = (cut_end (nat_lt 0 (length line) && slice_index line (length line - 1) == 13) (length line - 1) line none (omega arith), lines_end rest others are)
 
 all_whole : (lines : List Text) → AllByRecursion HasNoEnd lines → ((line front : Text) → Contains lines line → line ≡ front ++ 13 ∷ [] → ⊥) → AllByRecursion IsWhole lines
 all_whole [] ends free = tt
 all_whole (line ∷ lines) ends free = (
-  (ends.0, no_cr_by line _ refl (λ front is. free line front (contains_here line lines) is)),
+  (ends.0, ends_in_cr line _ refl (λ front is. free line front (contains_here line lines) is)),
   all_whole lines ends.1 (λ other front c is. free other front (contains_there line lines other c) is),
 )
-
-lines_again : (lines : List Text) → AllByRecursion IsWhole lines → AreLines (with_ends lines) lines
-lines_again [] all = NoLine
-lines_again (line ∷ lines) all =
-    let on : AreLines (line ++ 10 ∷ with_ends lines) (no_cr line ∷ lines) = EndedLine line (with_ends lines) lines all.0.0 (lines_again lines all.1) in
-    let cut : AreLines (line ++ 10 ∷ with_ends lines) (line ∷ lines) = subst (λ (t : Text). AreLines (line ++ 10 ∷ with_ends lines) (t ∷ lines)) all.0.1 on in
-    subst (λ (bytes : Text). AreLines bytes (line ∷ lines)) (sym (append_assoc line (10 ∷ []) (with_ends lines))) cut
 
 module _ (g : Grammar) (a : Automaton) (t : TableData) where
   abbrev IsTold : Content → Text → Type 0
@@ -149,16 +132,10 @@ module _ (g : Grammar) (a : Automaton) (t : TableData) where
 
   -- ---- a file is brought up to date in one way
 
-  same_comments : (xs : List MsgSentence) (cs ds : List Comment) → AreComments g a t xs cs → AreComments g a t xs ds → cs ≡ ds
-  same_comments [] [] [] p q = refl
-  same_comments [] [] (d ∷ ds) p q = absurd q
-  same_comments [] (c ∷ cs) ds p q = absurd p
-  same_comments (x ∷ xs) [] ds p q = absurd p
-  same_comments (x ∷ xs) (c ∷ cs) [] p q = absurd q
-  same_comments (x ∷ xs) (c ∷ cs) (d ∷ ds) p q =
-      let line : c.line ≡ d.line = p.0.0 ∙ sym q.0.0 in
-      let text : c.text ≡ d.text = comments_once g a t x.start x.tokens c.text d.text p.0.1 q.0.1 in
-      let more = same_comments xs cs ds p.1 q.1 in λ i. record { line = line i; text = text i } ∷ more i
+  one_comment : (x : MsgSentence) (c d : Comment) → IsComment g a t x c → IsComment g a t x d → c ≡ d
+  one_comment x c d p q =
+      let line : c.line ≡ d.line = p.0 ∙ sym q.0 in
+      let text : c.text ≡ d.text = comments_once g a t x.start x.tokens c.text d.text p.1 q.1 in λ i. record { line = line i; text = text i }
 
   pub updated_once : (file : MsgFile) (x y : Text) → IsUpdated g a t file x → IsUpdated g a t file y → x ≡ y
-  updated_once file x y p q = p.2 ∙ ap (updated file.lines) (same_comments (sentences_of file) p.0 q.0 p.1 q.1) ∙ sym q.2
+  updated_once file x y p q = p.2 ∙ ap (updated file.lines) (zip_one (IsComment g a t) one_comment (sentences_of file) p.0 q.0 p.1 q.1) ∙ sym q.2

@@ -20,7 +20,8 @@ use Rattle.mh_msgfile.specs.declared.messages.Entry.{Entry}
 use Rattle.mh_msgfile.specs.declared.messages.MsgFile.{MsgFile}
 use Rattle.mh_msgfile.specs.Messages.{IsOf, AreOf}
 use Rattle.mh_check.specs.Checks.{FailsIn, FaultFound, NotRefusedAt, RefusedEarlyAt, IsNoRefusal, Accepts, Overshoots, Breaks, NotRefused, RefusedEarly, Shared, sentences_of}
-use Rattle.mh_check.proofs.Known.{one_verdict, state_refused}
+use Rattle.mh_tables.proofs.Refusing.{state_refused}
+use Rattle.mh_check.proofs.Known.{one_verdict}
 use Rattle.mh_comments.specs.Comments.{comments}
 use Rattle.mh_comments.proofs.Farthest.{some_farthest}
 use Rattle.mh_update.specs.declared.comments.Comment.{Comment}

@@ -1,15 +1,15 @@
 -- A messages file line by line: which lines are sentences, what is told behind them, and the lines that the file has once it is brought
 -- up to date.
-use Rattle.std.proofs.Common.{◌≡◌, ℕ, ◌+◌, ◌-◌, Bool, true, false, List, [], ◌∷◌, ◌++◌, length, take, drop, flat_map, filter, not, Option, None, Some, refl, sym, ◌∙◌, ap, subst, if◌then◌else◌, arith, append_assoc, append-nil, length-append, ◌==◌, ◌&&◌, nat_eq}
+use Rattle.std.proofs.Common.{◌≡◌, ℕ, ◌+◌, ◌-◌, Bool, true, false, List, [], ◌∷◌, ◌++◌, length, take, drop, filter, not, Option, None, Some, refl, sym, ◌∙◌, ap, subst, if◌then◌else◌, arith, append_assoc, append-nil, length-append, ◌==◌, ◌&&◌, nat_eq}
 use Rattle.std.specs.List.{AllByRecursion, list_all}
 use Rattle.std.specs.Cmp.Lexicographic.{pointwise}
 use Rattle.std.proofs.lemmas.Bool.{eqb-true}
 use Rattle.std.proofs.lemmas.Grind.{flat_map-append}
 use Rattle.std.proofs.lemmas.List.{drop-drop}
-use Rattle.bstr.specs.Text.{no_cr}
 use Rattle.mh_msgfile.specs.Sentences.{Vocabulary, is_blank, LineFound, IsSentence, IsUnreadable, NamesNoStart, LacksStart, NamesUnknown, sentence_in}
-use Rattle.mh_msgfile.specs.Messages.{HasNoEnd, is_taken_out}
+use Rattle.mh_msgfile.specs.Messages.{is_taken_out}
 use Rattle.mh_msgfile.specs.declared.messages.MsgSentence.{MsgSentence}
+use Rattle.mh_msgfile.proofs.Endings.{with_ends, IsWhole}
 use Rattle.mh_update.specs.declared.comments.Comment.{Comment}
 use Rattle.mh_update.specs.Updates.{Text, is_made, own_text, own_texts, updated_from}
 
@@ -78,13 +78,6 @@ sentences v place before [] = []
 sentences v place before (line ∷ lines) = put (before + 1) (told (kind_of line) place (sentence_in v line)) (sentences v (next (kind_of line) place) (before + 1) lines)
 
 -- ---- lines that are made anew
-
-abbrev pub with_ends : List Text → Text
-with_ends lines = flat_map (λ line. line ++ 10 ∷ []) lines
-
--- a line as a file has it, that is read as it stands
-abbrev pub IsWhole : Text → Type 0
-IsWhole line = HasNoEnd line × (no_cr line ≡ line)
 
 abbrev pub IsMadeLine : Text → Type 0
 IsMadeLine line = (is_made line ≡ true) × IsWhole line

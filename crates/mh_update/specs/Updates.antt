@@ -1,7 +1,7 @@
 -- What a messages file becomes when it is brought up to date. Source: the Menhir manual (`--update-errors`); which lines are made
 -- anew is this project's own.
-use Rattle.std.specs.Prelude.{◌≡◌, ℕ, ◌-◌, Bool, List, [], ◌∷◌, ◌++◌, take, drop, flat_map, codes, Result, Ok, Err, nat_eq, if◌then◌else◌, ⊤}
-use Rattle.std.specs.List.{Contains, starts_with}
+use Rattle.std.specs.Prelude.{◌≡◌, ℕ, ◌-◌, Bool, List, [], ◌∷◌, ◌++◌, take, drop, flat_map, codes, Result, Ok, Err, nat_eq, if◌then◌else◌}
+use Rattle.std.specs.List.{AllZip, Contains, starts_with}
 use Rattle.mh_grammar.specs.declared.types.Grammar.{Grammar}
 use Rattle.mh_items.specs.Shapes.{Automaton}
 use Rattle.mh_tables.specs.Table.{TableData}
@@ -24,10 +24,7 @@ IsComment g a t x c = (c.line ≡ x.line) × IsCommentText g a t x.start x.token
 
 -- those of sentences, in order
 abbrev pub AreComments : Grammar → Automaton → TableData → List MsgSentence → List Comment → Type 0
-AreComments g a t [] [] = ⊤
-AreComments g a t [] (c ∷ cs) = ⊥
-AreComments g a t (x ∷ xs) [] = ⊥
-AreComments g a t (x ∷ xs) (c ∷ cs) = IsComment g a t x c × AreComments g a t xs cs
+AreComments g a t xs cs = AllZip (IsComment g a t) xs cs
 
 -- ---- lines
 

@@ -5,6 +5,6 @@ pub returns : goal.returns
 returns g c = (
   c.farthest-item.result.now,
   c.farthest-item.ensures,
-  pieces c.args.text.now.items _ _ _ _ c.write_state.new.text.items c.write_kernel_comments.new.text.items c.write_suffix.new.text.items c.write_all_reduced.new.text.items
-      c.in_ok-write_state.ensures c.in_ok-write_kernel_comments.ensures c.in_ok-write_suffix.ensures c.in_ok-write_all_reduced.ensures,
+  pieces c.args.text.now.items _ _ _ _ c.write_state.new.text.items c.write_item_lines.new.text.items c.write_suffix.new.text.items c.write_all_reduced.new.text.items
+      c.in_ok-write_state.ensures c.in_ok-write_item_lines.ensures c.in_ok-write_suffix.ensures c.in_ok-write_all_reduced.ensures,
 )
