@@ -12,3 +12,4 @@ pub mod Same
 pub mod Ranged
 pub mod Order
 pub mod Few
+pub mod Steps

@@ -4,18 +4,16 @@ use Rattle.std.specs.List.{slice_get, Contains}
 use Rattle.std.proofs.lemmas.Bool.{false≢true}
 use Rattle.std.proofs.lemmas.List.{take_more, length_push, length-replicate}
 use Rattle.std.proofs.lemmas.List.Elements.{Contains-push, Contains-push_cases, Contains-append_left}
-use Rattle.std.proofs.lemmas.Option.{none-some, same_Some}
 use Rattle.mh_grammar.proofs.Flags.{kept-set, set-cases}
 use Rattle.mh_grammar.proofs.LeastMarks.{unmarked-set}
-use Rattle.mh_grammar.proofs.Placing.{get_left, get_last, get_cases, contains_at, at_contains}
+use Rattle.mh_grammar.proofs.Placing.{get_left, contains_at, at_contains}
 use Rattle.mh_rules.specs.declared.instances.Part.{Part}
-use Rattle.mh_rules.specs.declared.instances.Part.TheVariants.{Instance as Applied}
 use Rattle.mh_rules.specs.declared.instances.InstanceProduction.{InstanceProduction}
 use Rattle.mh_rules.specs.declared.instances.Instance.{Instance}
 use Rattle.mh_inline.specs.declared.cycles.Found.{Found}
-use Rattle.mh_inline.specs.Instances.{is_inlined, inline_number, IsKept}
+use Rattle.mh_inline.specs.Instances.{inline_number}
 use Rattle.mh_inline.specs.Found.{IsAmong, IsIn, IsMadeOf, AreQueued, Adds, IsTable, IsSame}
-use Rattle.mh_inline.proofs.Knowing.{inline_some, inline_none}
+use Rattle.mh_inline.proofs.Among.{among_one, one_among, kept_none, among_cases, among_front, among_last, in_cases, in_front, in_last, made_in, in_made}
 
 pub Adds-none : (P : ℕ → Type 0) (f : Found) → AreQueued f → ((m : ℕ) → P m → ⊥) → Adds P f f
 Adds-none P f q none = record { len = refl; sets = q; room = refl; kept = λ i m e. e; origin = λ m c. inl c; added = λ m p. absurd (none m p) }
@@ -86,52 +84,20 @@ pub IsTable-after : (is : List Instance) (P : ℕ → Type 0) (old new : Found) 
 IsTable-after is P old new t a = record { len = a.len ∙ t.len; sets = a.sets }
 
 module _ (is : List Instance) where
-  -- producers, one after another
   pub part_inline : (X : Part) (n : ℕ) (old new : Found) → inline_number is X ≡ Some n → Adds (IsSame n) old new → Adds (IsAmong is (X ∷ [])) old new
-  part_inline X n old new e a = let h = inline_some is X n e in Adds-same (IsSame n) (IsAmong is (X ∷ [])) old new a
-      (λ m x. first m x.producer x.at)
-      (λ m s. record { producer = 0; at = ap Some (h.same ∙ ap Applied (sym s)); used = rw s h.inlined })
-    where
-      first : (m j : ℕ) → slice_get (X ∷ []) j ≡ Some (Applied m) → m ≡ n
-      first m zero at = let f : Applied n ≡ Applied m = sym (inline_some is X n e).same ∙ same_Some X (Applied m) at in let g : n ≡ m = cc in sym g
-      first m (suc j) at = absurd (none-some (Applied m) at)
+  part_inline X n old new e a = Adds-same (IsSame n) (IsAmong is (X ∷ [])) old new a (λ m x. among_one is X n m e x) (λ m s. one_among is X n m e s)
 
   pub part_kept : (X : Part) (f : Found) → inline_number is X ≡ None → AreQueued f → Adds (IsAmong is (X ∷ [])) f f
-  part_kept X f e q = Adds-none (IsAmong is (X ∷ [])) f q (λ m x. first m x.producer x.at x.used)
-    where
-      first : (m j : ℕ) → slice_get (X ∷ []) j ≡ Some (Applied m) → is_inlined is m ≡ true → ⊥
-      first m zero at used = let kept = subst (IsKept is) (same_Some X (Applied m) at) (inline_none is X e) in false≢true (sym kept ∙ used)
-      first m (suc j) at used = none-some (Applied m) at
-
-  pub side_none : (m : ℕ) → IsAmong is [] m → ⊥
-  side_none m x = none-some (Applied m) x.at
+  part_kept X f e q = Adds-none (IsAmong is (X ∷ [])) f q (λ m x. kept_none is X m e x)
 
   pub side_step : (Xs : List Part) (i : ℕ) (d : Part) (a b c : Found) → i < length Xs → Adds (IsAmong is (take i Xs)) a b → Adds (IsAmong is (get_or Xs i d ∷ [])) b c → Adds (IsAmong is (take (i + 1) Xs)) a c
-  side_step Xs i d a b c l h k = rw (take_more Xs i d l) (Adds-then (IsAmong is (take i Xs)) (IsAmong is (get_or Xs i d ∷ [])) (IsAmong is (take i Xs ++ get_or Xs i d ∷ [])) a b c h k
-      (λ m x. elim (get_cases (take i Xs) (get_or Xs i d) x.producer (Applied m) x.at) [
-        | inl before ↦ inl (record { producer = x.producer; at = before; used = x.used })
-        | inr last ↦ inr (record { producer = 0; at = ap Some (sym last.1); used = x.used })
-      ])
-      (λ m x. record { producer = x.producer; at = get_left (take i Xs) (get_or Xs i d ∷ []) x.producer (Applied m) x.at; used = x.used })
-      (λ m x. record { producer = length (take i Xs); at = at_end (take i Xs) (get_or Xs i d) m x.producer x.at; used = x.used }))
-    where
-      at_end : (Ys : List Part) (Y : Part) (m j : ℕ) → slice_get (Y ∷ []) j ≡ Some (Applied m) → slice_get (Ys ++ Y ∷ []) (length Ys) ≡ Some (Applied m)
-      at_end Ys Y m zero at = get_last Ys Y (length Ys) refl ∙ at
-      at_end Ys Y m (suc j) at = absurd (none-some (Applied m) at)
-
-  pub each_none : (m : ℕ) → IsIn is [] m → ⊥
-  each_none m x = none-some x.production x.at
+  side_step Xs i d a b c l h k =
+      let front = take i Xs in
+      let X = get_or Xs i d in
+      rw (take_more Xs i d l) (Adds-then (IsAmong is front) (IsAmong is (X ∷ [])) (IsAmong is (front ++ X ∷ [])) a b c h k (among_cases is front X) (among_front is front X) (among_last is front X))
 
   pub each_step : (ps : List InstanceProduction) (i : ℕ) (p : InstanceProduction) (a b c : Found) → i < length ps → p ≡ get_or ps i p → Adds (IsIn is (take i ps)) a b → Adds (IsAmong is p.rhs) b c → Adds (IsIn is (take (i + 1) ps)) a c
-  each_step ps i p a b c l at h k = rw (take_more ps i p l, ← at) (Adds-then (IsIn is (take i ps)) (IsAmong is p.rhs) (IsIn is (take i ps ++ p ∷ [])) a b c h k
-      (λ m x. elim (get_cases (take i ps) p x.place x.production x.at) [
-        | inl before ↦ inl (record { place = x.place; production = x.production; at = before; among = x.among })
-        | inr last ↦ inr (subst (λ (q : InstanceProduction). IsAmong is q.rhs m) last.1 x.among)
-      ])
-      (λ m x. record { place = x.place; production = x.production; at = get_left (take i ps) (p ∷ []) x.place x.production x.at; among = x.among })
-      (λ m x. record { place = length (take i ps); production = p; at = get_last (take i ps) p (length (take i ps)) refl; among = x }))
+  each_step ps i p a b c l at h k = let front = take i ps in rw (take_more ps i p l, ← at) (Adds-then (IsIn is front) (IsAmong is p.rhs) (IsIn is (front ++ p ∷ [])) a b c h k (in_cases is front p) (in_front is front p) (in_last is front p))
 
   pub made_of : (n : ℕ) (i : Instance) (a b : Found) → slice_get is n ≡ Some i → Adds (IsIn is i.productions) a b → Adds (IsMadeOf is n) a b
-  made_of n i a b at h = Adds-same (IsIn is i.productions) (IsMadeOf is n) a b h
-      (λ m x. record { place = x.place; production = x.production; at = ap (λ (j : Instance). slice_get j.productions x.place) (same_Some _ _ (sym at ∙ x.alternative.at)) ∙ x.alternative.alternative; among = x.among })
-      (λ m x. record { place = x.place; production = x.production; alternative = record { instance = i; at = at; alternative = x.at }; among = x.among })
+  made_of n i a b at h = Adds-same (IsIn is i.productions) (IsMadeOf is n) a b h (λ m x. made_in is n i m at x) (λ m x. in_made is n i m at x)

@@ -1,5 +1,5 @@
 -- Producers and the unfoldings that are known of them.
-use Rattle.std.proofs.Common.{◌≡◌, ℕ, zero, suc, inl, inr, ◌+◌, ◌<◌, Bool, true, false, cond, List, [], ◌∷◌, ◌++◌, Some, None, length, get_or, refl, sym, ap, ◌∙◌, take, map, subst}
+use Rattle.std.proofs.Common.{◌≡◌, ℕ, zero, suc, inl, inr, ◌+◌, ◌<◌, Bool, true, false, cond, List, [], ◌∷◌, ◌++◌, Some, None, length, get_or, refl, sym, ap, ◌∙◌, arith, take, map, subst}
 use Rattle.std.specs.List.{slice_get}
 use Rattle.std.proofs.lemmas.Option.{cond_some, none-some, slice_get-get_or, get_or_from_slice_get, slice_get_cases}
 use Rattle.std.proofs.lemmas.Bool.{false≢true}
@@ -48,6 +48,10 @@ inline_instance is n e = elim (slice_get_cases is n).1 [
   }
   | inr past ↦ absurd (false≢true (rw past.1 at e))
 ]
+
+-- so it has its place in a list of something for each instance
+pub inline_within : (is : List Instance) (X : Part) (n count : ℕ) → inline_number is X ≡ Some n → count ≡ length is → n < count
+inline_within is X n count e len = omega (arith, len, (inline_instance is n (inline_some is X n e).inlined).within)
 
 module _ (is : List Instance) (known : List (List Unfolding)) where
   pub known_part : (X : Part) (n : ℕ) → AreKnown is known (X ∷ []) → inline_number is X ≡ Some n → IsKnown is known n

@@ -1,3 +1,4 @@
+pub mod Among
 pub mod Building
 pub mod Choices
 pub mod Counting

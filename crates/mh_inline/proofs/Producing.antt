@@ -16,7 +16,7 @@ use Rattle.mh_rules.specs.declared.instances.Expanded.{Expanded}
 use Rattle.mh_inline.specs.declared.unfoldings.Unfolding.{Unfolding}
 use Rattle.mh_inline.specs.declared.origins.Origin.{Origin}
 use Rattle.mh_inline.specs.declared.sizes.Size.{Size}
-use Rattle.mh_inline.specs.Instances.{IsAlternative}
+use Rattle.mh_inline.specs.Instances.{IsAlternative, IsKept}
 use Rattle.mh_rules.specs.Ready.{IsPartBelow, IsInstanceReady, IsExpandedReady}
 use Rattle.mh_inline.specs.Unfoldings as unfoldings
 use Rattle.mh_inline.specs.Unfoldings.{only, own, joined, choices, UnfoldsPart, Unfolds, UnfoldsEach}
@@ -102,32 +102,36 @@ part_wider s t n (Applied m) l b = b
 pub below_wider : (s t : ℕ) (is : List Instance) → s ≤ t → AreBelow s is → AreBelow t is
 below_wider s t is l b = record { each = λ n k p a. All-weaker (IsPartBelow s (length is)) (IsPartBelow t (length is)) (λ X. part_wider s t (length is) X l) p.rhs (b.each n k p a) }
 
-module _ (t : ℕ) (is : List Instance) (b : AreBelow t is) where
-  abbrev Below : Unfolding → Type 0
-  Below u = IsUnfoldingBelow t (length is) u
+-- What holds of each kept producer that is in range holds of each producer of the unfoldings.
+module _ (t : ℕ) (is : List Instance) (b : AreBelow t is) (P : Part → Type 0) (holds : (X : Part) → IsKept is X → IsPartBelow t (length is) X → P X) where
+  abbrev Each : Unfolding → Type 0
+  Each u = All P u.rhs
 
-  joined_below : (u : Unfolding) (vs : List Unfolding) → Below u → All Below vs → All Below (map (joined u) vs)
-  joined_below u vs p q = All-map Below (joined u) vs (All-weaker Below (λ v. Below (joined u v)) (λ v r. All-append (IsPartBelow t (length is)) u.rhs v.rhs p r) vs q)
+  abbrev In : List Part → Type 0
+  In = All (IsPartBelow t (length is))
 
-  choices_below : (us vs : List Unfolding) → All Below us → All Below vs → All Below (choices us vs)
-  choices_below [] vs p q = All-nil Below
-  choices_below (u ∷ us) vs p q = All-append Below (map (joined u) vs) (choices us vs) (joined_below u vs (All-head Below u us p) q) (choices_below us vs (All-tail Below u us p) q)
+  each_joined : (u : Unfolding) (vs : List Unfolding) → Each u → All Each vs → All Each (map (joined u) vs)
+  each_joined u vs p q = All-map Each (joined u) vs (All-weaker Each (λ v. Each (joined u v)) (λ v r. All-append P u.rhs v.rhs p r) vs q)
 
-  own_below : (prec : Prec) (us : List Unfolding) → All Below us → All Below (map (own prec) us)
-  own_below prec us p = All-map Below (own prec) us p
+  each_choice : (us vs : List Unfolding) → All Each us → All Each vs → All Each (choices us vs)
+  each_choice [] vs p q = All-nil Each
+  each_choice (u ∷ us) vs p q = All-append Each (map (joined u) vs) (choices us vs) (each_joined u vs (All-head Each u us p) q) (each_choice us vs (All-tail Each u us p) q)
 
   mutual
-    part_below : (X : Part) (us : List Unfolding) → UnfoldsPart is X us → IsPartBelow t (length is) X → All Below us
-    part_below X us (unfoldings.UnfoldsPart.kept k) p = All-cons Below (only X) [] (All-cons (IsPartBelow t (length is)) X [] p (All-nil (IsPartBelow t (length is)))) (All-nil Below)
-    part_below X us (unfoldings.UnfoldsPart.inlined {n = n} {i = i} at e r) p = each_below i.productions us r (λ k q here. b.each n k q (record { instance = i; at = at; alternative = here }))
+    each_of_part : (X : Part) (us : List Unfolding) → UnfoldsPart is X us → IsPartBelow t (length is) X → All Each us
+    each_of_part X us (unfoldings.UnfoldsPart.kept k) p = All-cons Each (only X) [] (All-cons P X [] (holds X k p) (All-nil P)) (All-nil Each)
+    each_of_part X us (unfoldings.UnfoldsPart.inlined {n = n} {i = i} at e r) p = each_of_alternatives i.productions us r (λ k q here. b.each n k q (record { instance = i; at = at; alternative = here }))
 
-    pub side_below : (Xs : List Part) (us : List Unfolding) → Unfolds is Xs us → All (IsPartBelow t (length is)) Xs → All Below us
-    side_below Xs us unfoldings.Unfolds.none p = All-cons Below unfoldings.nothing [] (All-nil (IsPartBelow t (length is))) (All-nil Below)
-    side_below Xs us (unfoldings.Unfolds.more {X = X} {Xs = Ys} {us = firsts} {vs = rests} e q f) p = subst (All Below) (sym e) (choices_below firsts rests (part_below X firsts q (All-head (IsPartBelow t (length is)) X Ys p)) (side_below Ys rests f (All-tail (IsPartBelow t (length is)) X Ys p)))
+    pub each_of_side : (Xs : List Part) (us : List Unfolding) → Unfolds is Xs us → In Xs → All Each us
+    each_of_side Xs us unfoldings.Unfolds.none p = All-cons Each unfoldings.nothing [] (All-nil P) (All-nil Each)
+    each_of_side Xs us (unfoldings.Unfolds.more {X = X} {Xs = Ys} {us = firsts} {vs = rests} e q f) p = subst (All Each) (sym e) (each_choice firsts rests (each_of_part X firsts q (All-head (IsPartBelow t (length is)) X Ys p)) (each_of_side Ys rests f (All-tail (IsPartBelow t (length is)) X Ys p)))
 
-    each_below : (ps : List InstanceProduction) (us : List Unfolding) → UnfoldsEach is ps us → ((k : ℕ) (q : InstanceProduction) → slice_get ps k ≡ Some q → All (IsPartBelow t (length is)) q.rhs) → All Below us
-    each_below ps us unfoldings.UnfoldsEach.no_alternative h = All-nil Below
-    each_below ps us (unfoldings.UnfoldsEach.alternative {p = q} {ps = rest} {us = firsts} {vs = rests} e f r) h = subst (All Below) (sym e) (All-append Below (map (own q.prec) firsts) rests (own_below q.prec firsts (side_below q.rhs firsts f (h zero q refl))) (each_below rest rests r (λ k x at. h (suc k) x at)))
+    each_of_alternatives : (ps : List InstanceProduction) (us : List Unfolding) → UnfoldsEach is ps us → ((k : ℕ) (q : InstanceProduction) → slice_get ps k ≡ Some q → In q.rhs) → All Each us
+    each_of_alternatives ps us unfoldings.UnfoldsEach.no_alternative h = All-nil Each
+    each_of_alternatives ps us (unfoldings.UnfoldsEach.alternative {p = q} {ps = rest} {us = firsts} {vs = rests} e f r) h = subst (All Each) (sym e) (All-append Each (map (own q.prec) firsts) rests (All-map Each (own q.prec) firsts (each_of_side q.rhs firsts f (h zero q refl))) (each_of_alternatives rest rests r (λ k x at. h (suc k) x at)))
+
+pub side_below : (t : ℕ) (is : List Instance) → AreBelow t is → (Xs : List Part) (us : List Unfolding) → Unfolds is Xs us → All (IsPartBelow t (length is)) Xs → All (IsUnfoldingBelow t (length is)) us
+side_below t is b = each_of_side t is b (IsPartBelow t (length is)) (λ X k p. p)
 
 -- NUMBERS
 

@@ -29,7 +29,7 @@ use Rattle.mh_inline.specs.Unfoldings.{only, own, joined, choices, UnfoldsPart, 
 use Rattle.mh_inline.specs.Inlined as inlined
 use Rattle.mh_inline.specs.Inlined.{is_kept, nonterminal_of, number_of, symbol_of, production_of, IsOrigin, AreOrigins, AreProductions, IsInlined}
 use Rattle.mh_inline.specs.Faults.{HasEmptyStart, HasNoCycle, HasNoInlineStart, IsFirstUnmarked, IsSmall}
-use Rattle.mh_inline.proofs.Producing.{AreBelow, below_ready}
+use Rattle.mh_inline.proofs.Producing.{AreBelow, below_ready, each_of_side}
 use Rattle.mh_inline.proofs.Cycling.{numbers, length-numbers, numbers_at}
 
 -- an instance that is not inline, by its number
@@ -85,28 +85,8 @@ module _ (t : ℕ) (is : List Instance) (b : AreBelow t is) where
   abbrev Good : Unfolding → Type 0
   Good u = All (IsGood t is) u.rhs
 
-  joined_good : (u : Unfolding) (vs : List Unfolding) → Good u → All Good vs → All Good (map (joined u) vs)
-  joined_good u vs p q = All-map Good (joined u) vs (All-weaker Good (λ v. Good (joined u v)) (λ v r. All-append (IsGood t is) u.rhs v.rhs p r) vs q)
-
-  choices_good : (us vs : List Unfolding) → All Good us → All Good vs → All Good (choices us vs)
-  choices_good [] vs p q = All-nil Good
-  choices_good (u ∷ us) vs p q = All-append Good (map (joined u) vs) (choices us vs) (joined_good u vs (All-head Good u us p) q) (choices_good us vs (All-tail Good u us p) q)
-
-  own_good : (prec : Prec) (us : List Unfolding) → All Good us → All Good (map (own prec) us)
-  own_good prec us p = All-map Good (own prec) us p
-
-  mutual
-    part_good : (X : Part) (us : List Unfolding) → UnfoldsPart is X us → IsPartBelow t (length is) X → All Good us
-    part_good X us (unfoldings.UnfoldsPart.kept k) p = All-cons Good (only X) [] (All-cons (IsGood t is) X [] (record { kept = k; below = p }) (All-nil (IsGood t is))) (All-nil Good)
-    part_good X us (unfoldings.UnfoldsPart.inlined {n = n} {i = i} at e r) p = each_good i.productions us r (λ k q here. b.each n k q (record { instance = i; at = at; alternative = here }))
-
-    pub side_good : (Xs : List Part) (us : List Unfolding) → Unfolds is Xs us → All (IsPartBelow t (length is)) Xs → All Good us
-    side_good Xs us unfoldings.Unfolds.none p = All-cons Good unfoldings.nothing [] (All-nil (IsGood t is)) (All-nil Good)
-    side_good Xs us (unfoldings.Unfolds.more {X = X} {Xs = Ys} {us = firsts} {vs = rests} e q f) p = subst (All Good) (sym e) (choices_good firsts rests (part_good X firsts q (All-head (IsPartBelow t (length is)) X Ys p)) (side_good Ys rests f (All-tail (IsPartBelow t (length is)) X Ys p)))
-
-    each_good : (ps : List InstanceProduction) (us : List Unfolding) → UnfoldsEach is ps us → ((k : ℕ) (q : InstanceProduction) → slice_get ps k ≡ Some q → All (IsPartBelow t (length is)) q.rhs) → All Good us
-    each_good ps us unfoldings.UnfoldsEach.no_alternative h = All-nil Good
-    each_good ps us (unfoldings.UnfoldsEach.alternative {p = q} {ps = rest} {us = firsts} {vs = rests} e f r) h = subst (All Good) (sym e) (All-append Good (map (own q.prec) firsts) rests (own_good q.prec firsts (side_good q.rhs firsts f (h zero q refl))) (each_good rest rests r (λ k x at. h (suc k) x at)))
+  pub side_good : (Xs : List Part) (us : List Unfolding) → Unfolds is Xs us → All (IsPartBelow t (length is)) Xs → All Good us
+  side_good = each_of_side t is b (IsGood t is) (λ X k p. record { kept = k; below = p })
 
   abbrev Count : ℕ
   Count = length (map nonterminal_of (filter is_kept is))

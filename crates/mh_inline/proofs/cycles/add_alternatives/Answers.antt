@@ -1,4 +1,5 @@
-use Rattle.mh_inline.proofs.Finding.{Adds-none, IsTable-after, each_none, each_step}
+use Rattle.mh_inline.proofs.Among.{each_none}
+use Rattle.mh_inline.proofs.Finding.{Adds-none, IsTable-after, each_step}
 use Rattle.mh_inline.proofs.cycles.add_alternatives.Goals as goal
 
 pub loop-production-init : goal.loop-production-init

@@ -1,5 +1,6 @@
 use Rattle.mh_rules.specs.declared.instances.Part.TheVariants.{Token}
-use Rattle.mh_inline.proofs.Finding.{Adds-none, IsTable-after, side_none, side_step}
+use Rattle.mh_inline.proofs.Among.{side_none}
+use Rattle.mh_inline.proofs.Finding.{Adds-none, IsTable-after, side_step}
 use Rattle.mh_inline.proofs.cycles.add_side.Goals as goal
 
 pub loop-part-init : goal.loop-part-init

@@ -1,23 +1,16 @@
-use Rattle.std.proofs.Common.{◌<◌, length, refl, sym, ◌∙◌, arith}
-use Rattle.mh_inline.proofs.Knowing.{inline_some, inline_instance}
+use Rattle.std.proofs.Common.{refl, sym, ◌∙◌}
+use Rattle.mh_inline.proofs.Knowing.{inline_within}
 use Rattle.mh_inline.proofs.Counting.{kept_size, part_sized, sized_inline, sized_kept}
 use Rattle.mh_inline.proofs.sizes.size_of_part.Goals as goal
 
 pub bounds-sizes-number : goal.bounds-sizes-number
-bounds-sizes-number c =
-    let is = c.args.expanded.now.instances in
-    let e = sym c.inline_part.ensures ∙ c.in-Some.is in
-    let w = (inline_instance is c.in-Some.number (inline_some is c.args.part c.in-Some.number e).inlined).within in
-    let len = c.requires.len in
-    omega arith
+bounds-sizes-number c = inline_within c.args.expanded.now.instances c.args.part c.in-Some.number _ (sym c.inline_part.ensures ∙ c.in-Some.is) c.requires.len
 
 pub returns-in-Some : goal.returns-in-Some
 returns-in-Some c =
     let is = c.args.expanded.now.instances in
     let e = sym c.inline_part.ensures ∙ c.in-Some.is in
-    let w = (inline_instance is c.in-Some.number (inline_some is c.args.part c.in-Some.number e).inlined).within in
-    let len = c.requires.len in
-    let l : c.in-Some.number < length c.args.sizes.now = omega arith in
+    let l = inline_within is c.args.part c.in-Some.number _ e c.requires.len in
     record {
       size = part_sized is c.args.sizes.now c.args.part c.in-Some.number c.requires e l;
       sized = sized_inline is c.args.sizes.now c.args.part c.in-Some.number e l;

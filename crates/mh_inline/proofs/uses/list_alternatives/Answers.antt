@@ -1,4 +1,4 @@
-use Rattle.mh_inline.proofs.Finding.{each_none}
+use Rattle.mh_inline.proofs.Among.{each_none}
 use Rattle.mh_inline.proofs.Listed.{Lists-none, each_listed}
 use Rattle.mh_inline.proofs.uses.list_alternatives.Goals as goal
 

@@ -1,5 +1,5 @@
 use Rattle.mh_rules.specs.declared.instances.Part.TheVariants.{Token}
-use Rattle.mh_inline.proofs.Finding.{side_none}
+use Rattle.mh_inline.proofs.Among.{side_none}
 use Rattle.mh_inline.proofs.Listed.{Lists-none, side_listed}
 use Rattle.mh_inline.proofs.uses.list_side.Goals as goal
 
