@@ -147,11 +147,3 @@ alternatives_there j t q e = ap (λ o. unwrap_or (option_map (λ (r : JoinedRule
 
 pub regroup : (a b c d : List Term) → a ++ (b ++ (c ++ d)) ≡ ((a ++ b) ++ c) ++ d
 regroup a b c d = sym (append_assoc a b (c ++ d)) ∙ sym (append_assoc (a ++ b) c d)
-
-pub default_same : (xs : List ℕ) (i : ℕ) → i < length xs → get_or xs i 0 ≡ get_or xs i (get_or xs i 0)
-default_same xs i l = go xs i (get_or xs i 0) l
-  where
-    go : (ys : List ℕ) (k d : ℕ) → k < length ys → get_or ys k 0 ≡ get_or ys k d
-    go [] k d l = absurd (omega arith)
-    go (y ∷ ys) zero d l = refl
-    go (y ∷ ys) (suc k) d l = go ys k d (omega arith)

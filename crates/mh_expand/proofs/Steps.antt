@@ -4,7 +4,7 @@ use Rattle.std.specs.List.{slice_get, All}
 use Rattle.std.proofs.lemmas.List.{map-append}
 use Rattle.mh_grammar.specs.Numbering.{Names}
 use Rattle.mh_grammar.specs.Placed.{Placed}
-use Rattle.mh_grammar.proofs.Lists.{split_at, taken, zip_push}
+use Rattle.mh_grammar.proofs.Lists.{read_again, split_at, taken, zip_push}
 use Rattle.mh_rules.specs.declared.joined.Head.TheVariants.{Rule}
 use Rattle.mh_rules.specs.declared.joined.Applied.{Applied}
 use Rattle.mh_rules.specs.declared.joined.JoinedAlternative.{JoinedAlternative}
@@ -20,7 +20,7 @@ use Rattle.mh_expand.specs.Sharing.{term_at, terms_at, node_term, IsNode, Grows}
 use Rattle.mh_expand.specs.Searching.{IsSearch, Finds, Went, WentAlternative}
 use Rattle.mh_expand.proofs.Actuals.{stands, Grows-none, Grows-more, Grows-placed}
 use Rattle.mh_expand.proofs.Shared.{terms_at-kept, term_got, node_arguments}
-use Rattle.mh_expand.proofs.Going.{below_grows, IsLonger-found, IsSearch-grows, Went-none, Went-more, Went-one, Fails-here, Fails-more, IsThrough, IsThrough-none, IsThrough-step, AreThrough, AreThrough-none, AreThrough-step, side_split, flat_split, regroup, default_same}
+use Rattle.mh_expand.proofs.Going.{below_grows, IsLonger-found, IsSearch-grows, Went-none, Went-more, Went-one, Fails-here, Fails-more, IsThrough, IsThrough-none, IsThrough-step, AreThrough, AreThrough-none, AreThrough-step, side_split, flat_split, regroup}
 use Rattle.mh_expand.proofs.Expanding.{Names-longer}
 
 -- PRODUCERS
@@ -128,7 +128,7 @@ module _ (j : Joined) (ts : List Term) (old : List ℕ) where
       through = λ s.
           let w = so_far.through s in
           let f = rw its_start at (found_so seen (IsSearch-grows j seen us vs found w.0.search grows)) in
-          let list : map start_term (take (i + 1) items) ≡ seen ++ start_term rule ∷ [] = ap (map start_term) (taken items i rule inside (default_same items i inside)) ∙ map-append start_term (take i items) (rule ∷ []) in
+          let list : map start_term (take (i + 1) items) ≡ seen ++ start_term rule ∷ [] = ap (map start_term) (taken items i rule inside (read_again items i 0 inside)) ∙ map-append start_term (take i items) (rule ∷ []) in
           let longer = IsLonger-found us vs found new w.0.search.below grows f.grows in
           rw list (
             Went-more j [] seen (start_term rule ∷ []) ts us vs old found new w.0 (Went-one j seen us vs (start_term rule) found new (Instance p) grows f),
@@ -140,5 +140,5 @@ module _ (j : Joined) (ts : List Term) (old : List ℕ) where
     starts_fail fault failed s =
         let w = so_far.through s in
         let f = rw its_start at (failed seen (IsSearch-grows j seen us vs found w.0.search grows)) in
-        let whole : map start_term items ≡ seen ++ start_term rule ∷ map start_term (drop (suc i) items) = ap (map start_term) (split_at items i rule inside (default_same items i inside)) ∙ map-append start_term (take i items) (rule ∷ drop (suc i) items) in
+        let whole : map start_term items ≡ seen ++ start_term rule ∷ map start_term (drop (suc i) items) = ap (map start_term) (split_at items i rule inside (read_again items i 0 inside)) ∙ map-append start_term (take i items) (rule ∷ drop (suc i) items) in
         rw whole (Fails-here j [] seen ts us old found (start_term rule) (map start_term (drop (suc i) items)) fault w.0 f)

@@ -30,7 +30,7 @@ use std::alloc::Global;
 /// term that is no instance has no effect. Answers the first fault in the order of finding: `Arity` where a term has not as
 /// many arguments as its rule has formals, or is a token with arguments; `Expansion` where a new instance has a printed
 /// name of more than 1,000 bytes, or is the 20,001st. At one place `Arity` comes first. Answers `Memory` only where memory
-/// runs out. (The Menhir manual on parameterized rules; the limits and the order are this project's profile.)
+/// runs out, or the name of a term with a wrong count of arguments has more than 16 MiB. (The Menhir manual on parameterized rules; the limits and the order are this project's profile.)
 pub fn expand(alloc: Global, joined: &Joined) -> Result<Expanded, ExpandFault>
     ensures ok { IfOk result (IsExpanded joined.now) }
     ensures ready { IfOk result (λ e. IsReady joined.now → IsExpandedReady e) }

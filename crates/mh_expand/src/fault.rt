@@ -6,15 +6,15 @@ use thiserror::Error;
 /// The first fault in the order of finding; at one place `Arity` comes before `Expansion`.
 #[derive(Debug, Drop, PartialEq, Eq, Error)]
 pub enum ExpandFault {
-    /// The term of this printed name, of any length, has not as many arguments as its rule has formals, or is a token with
-    /// arguments. Starts are asked too.
+    /// The term of this printed name, which may be longer than that of an instance, has not as many arguments as its rule has
+    /// formals, or is a token with arguments. Starts are asked too.
     #[error("a rule or token with a wrong count of arguments")]
     Arity { instance: Name },
     /// A new instance of the rule of this printed name has itself a printed name of more than 1,000 bytes, or is the
     /// 20,001st instance.
     #[error("a rule has too many or too long instances")]
     Expansion { name: Name },
-    /// Memory ran out.
+    /// Memory ran out, or the name of a term with a wrong count of arguments has more than 16 MiB.
     #[error("out of memory")]
     Memory,
 }

@@ -20,6 +20,9 @@ pub(crate) const MAX_INSTANCES: usize = 20_000;
 /// The most bytes that the name of an instance may have.
 pub(crate) const MAX_NAME: usize = 1000;
 
+/// The most bytes of a name that a fault tells, as many as a file may have.
+pub(crate) const MAX_FAULT_NAME: usize = 16_777_216;
+
 /// What a term is that was found: a token, or an instance, which is a new one where it was not there.
 pub(crate) fn find(
     alloc: Global,
@@ -149,14 +152,15 @@ fn place(found: &mut IndexSet<usize>, number: usize) -> Result<usize, AllocFaile
     Ok(at)
 }
 
-/// The fault of a term with too many or too few arguments.
+/// The fault of a term with too many or too few arguments. Where long terms stand for many formals its name may have gigabytes, more than
+/// memory is wanted for: that is answered as want of memory.
 fn wrong_count(alloc: Global, joined: &Joined, terms: &Terms, number: usize) -> ExpandFault
     requires number { number < length (terms_of terms.now.nodes.keys) }
     requires count { Fits joined.now (term_at (terms_of terms.now.nodes.keys) number) → ⊥ }
     ensures { (before : List Term) →
         Causes (IsFault joined.now before (term_at (terms_of terms.now.nodes.keys) number)) result }
 {
-    match text_within(alloc, joined, terms, number, usize::MAX - 1) {
+    match text_within(alloc, joined, terms, number, MAX_FAULT_NAME) {
         Ok(Some(instance)) => ExpandFault::Arity { instance },
         _ => ExpandFault::Memory,
     }

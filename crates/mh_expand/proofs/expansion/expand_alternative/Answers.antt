@@ -18,15 +18,13 @@ pub loop-producer-preserved : goal.loop-producer-preserved
 loop-producer-preserved c =
     let us = terms_of c.loop-producer.terms.nodes.keys in
     let vs = terms_of c.replace.new.terms.nodes.keys in
-    let producer = record { grows = c.in_ok-number.ensures.grows; at = c.in_ok-number.ensures.term } in
-    rw c.in_ok-push-in-Ok.ensures.ok (producers_more c.args.joined.now c.args.formals.now (terms_of c.args.terms.now.nodes.keys) c.args.found.now.keys c.requires.formals us vs c.loop-producer.found.keys c.as_slice-producer-items.result.now c.loop-producer.producer-index c.producer-item.result c.loop-producer.rhs c.in_ok-number.number c.loop-producer.invariant c.loop-producer-test.true c.producer-item.is producer c.find.new.found.keys c.in-Ok.part c.in-Ok.ensures.few c.in-Ok.ensures.ok)
+    rw c.in_ok-push-in-Ok.ensures.ok (producers_more c.args.joined.now c.args.formals.now (terms_of c.args.terms.now.nodes.keys) c.args.found.now.keys c.requires.formals us vs c.loop-producer.found.keys c.as_slice-producer-items.result.now c.loop-producer.producer-index c.producer-item.result c.loop-producer.rhs c.in_ok-number.number c.loop-producer.invariant c.loop-producer-test.true c.producer-item.is (record { grows = c.in_ok-number.ensures.grows; at = c.in_ok-number.ensures.term }) c.find.new.found.keys c.in-Ok.part c.in-Ok.ensures.few c.in-Ok.ensures.ok)
 
 pub returns-in-Err-clause-err : goal.returns-in-Err-clause-err
 returns-in-Err-clause-err c = λ before t e s.
     let us = terms_of c.loop-producer.terms.nodes.keys in
     let vs = terms_of c.replace.new.terms.nodes.keys in
-    let producer = record { grows = c.in_ok-number.ensures.grows; at = c.in_ok-number.ensures.term } in
-    subst (λ l. Causes (Fails c.args.joined.now (before ++ map (stands (arguments t)) l)) c.in-Err.fault) c.as_slice-producer-items.ensures (producers_fail c.args.joined.now c.args.formals.now (terms_of c.args.terms.now.nodes.keys) c.args.found.now.keys c.requires.formals us vs c.loop-producer.found.keys c.as_slice-producer-items.result.now c.loop-producer.producer-index c.producer-item.result c.loop-producer.rhs c.in_ok-number.number c.loop-producer.invariant c.loop-producer-test.true c.producer-item.is producer c.in-Err.fault c.in-Err.ensures.err before t e s)
+    subst (λ l. Causes (Fails c.args.joined.now (before ++ map (stands (arguments t)) l)) c.in-Err.fault) c.as_slice-producer-items.ensures (producers_fail c.args.joined.now c.args.formals.now (terms_of c.args.terms.now.nodes.keys) c.args.found.now.keys c.requires.formals us vs c.loop-producer.found.keys c.as_slice-producer-items.result.now c.loop-producer.producer-index c.producer-item.result c.loop-producer.rhs c.in_ok-number.number c.loop-producer.invariant c.loop-producer-test.true c.producer-item.is (record { grows = c.in_ok-number.ensures.grows; at = c.in_ok-number.ensures.term }) c.in-Err.fault c.in-Err.ensures.err before t e s)
 
 pub returns-clause-ok : goal.returns-clause-ok
 returns-clause-ok c = λ before t e s.
