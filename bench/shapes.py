@@ -84,11 +84,38 @@ def pass_through(size):
                    + " | ".join(f"{word} {{ () }}" for word in words(size - links)) + "\n", THIRTY)
 
 
-def pass_on_longer(size):
-    """The same, where each link puts a token behind: what is written grows with the square of the size, and the work with its third power."""
+def passed_on(size, link):
+    """A chain of inline rules of this form, and a long list of alternatives at its end."""
     links = size // 10
-    return grammar("s: a0 EOF { () }\n" + lines("%inline a{0}: a{1} A {{ () }}\n", links) + f"%inline a{links}: "
-                   + " | ".join(f"{word} {{ () }}" for word in words(size - links)) + "\n", THIRTY)
+    return grammar("s: a0 EOF { () }\n" + lines(link, links) + f"%inline a{links}: " + " | ".join(f"{word} {{ () }}" for word in words(size - links)) + "\n", THIRTY)
+
+
+def pass_on_longer(size):
+    """A long list of alternatives, where each link of a chain puts a token behind: what is written grows with the square of the size."""
+    return passed_on(size, "%inline a{0}: a{1} A {{ () }}\n")
+
+
+def pass_on_in_front(size):
+    """The same, where each link puts a token in front."""
+    return passed_on(size, "%inline a{0}: A a{1} {{ () }}\n")
+
+
+def pass_on_between(size):
+    """Between two tokens."""
+    return passed_on(size, "%inline a{0}: A a{1} B {{ () }}\n")
+
+
+def pass_on_more(size):
+    """Each link puts a token behind, and has an alternative of its own: its length is as that of what it passes on."""
+    return grammar("s: a0 EOF { () }\n" + lines("%inline a{0}: a{1} A {{ () }} | B {{ () }}\n", size) + f"%inline a{size}: A {{ () }}\n")
+
+
+def many_then_one(size):
+    """A list of alternatives before many inline rules of one."""
+    links = size // 10
+    names = " ".join(f"a{it}" for it in range(links))
+    return grammar(f"s: l {names} EOF {{ () }}\n%inline l: " + " | ".join(f"{word} {{ () }}" for word in words(size - links)) + "\n"
+                   + "".join(f"%inline a{it}: A {{ () }}\n" for it in range(links)), THIRTY)
 
 
 def inline_doubles(size):
@@ -262,7 +289,7 @@ def groups(size):
 # Each shape with its size at a limit: instances and links, then bytes.
 SHAPES = {
     inline_chain: 19_000, inline_chain_unlucky: 19_000, cycle_far: 19_000, cycle_long: 19_000, cycle_from_many: 19_000, cycles_meet: 19_000,
-    pass_through: 19_000, pass_on_longer: 6_000, inline_doubles: 14, inline_wide: 9_900, terms_double: 19_000, terms_grow: 16_000_000, terms_many: 6_000,
+    pass_through: 19_000, pass_on_longer: 6_000, pass_on_in_front: 6_000, pass_on_between: 6_000, pass_on_more: 3_000, many_then_one: 6_000, inline_doubles: 14, inline_wide: 9_900, terms_double: 19_000, terms_grow: 16_000_000, terms_many: 6_000,
     deep_actual: 1_000, deep_actuals: MOST_BYTES - 1000, wide_actual: 1_000_000, wide_nested: MOST_BYTES - 1000, modifiers: 16_000_000,
     long_side: 8_000_000, many_alternatives: 900_000, small_rules: MOST_BYTES - 1000, reached_rules: 19_000, twice_at_the_end: MOST_BYTES - 1000,
     unknown_at_the_end: MOST_BYTES - 1000, long_names: MOST_BYTES - 1000, long_name: MOST_BYTES - 1000, like_names: 19_000,

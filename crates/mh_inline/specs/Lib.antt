@@ -1,7 +1,7 @@
 pub mod Faults
 pub mod Found
 pub mod Inlined
-pub mod Passing
+pub mod LastUse
 pub mod Instances
 pub mod Known
 pub mod Making

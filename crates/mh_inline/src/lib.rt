@@ -4,13 +4,14 @@
 
 mod cycles;
 mod depth;
+mod ends;
 mod fault;
 mod inlining;
 mod instances;
 mod laws;
+mod moving;
 mod nonterminals;
 mod origins;
-mod passing;
 mod productions;
 mod ranks;
 mod sizes;

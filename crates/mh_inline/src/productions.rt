@@ -69,11 +69,11 @@ fn production(
     requires { IsUnfoldingBelow 65536 (length numbers.now) choice.now }
     ensures { IfOk result (λ p. p ≡ production_by tokens.now numbers.now lhs (own prec choice.now)) }
 {
-    let rhs = choice.rhs.as_slice();
+    let parts = choice.rhs.to_vec(alloc)?;
     Ok(Production {
         lhs,
-        rhs: Sequence::from_vec(symbols(alloc, numbers, rhs)?),
-        level: level(tokens, rightmost_prec(choice.prec, prec), rhs),
+        rhs: Sequence::from_vec(symbols(alloc, numbers, parts.as_slice())?),
+        level: level(tokens, rightmost_prec(choice.prec, prec), parts.as_slice()),
     })
 }
 

@@ -1,26 +1,27 @@
 //! What producers become when each inline one is replaced by one of its own alternatives.
-ghost use Rattle.std.specs.Prelude.{◌≡◌, ◌++◌, ◌∷◌, [], List, map, IfOk, OnOk, IfSome, length};
+ghost use Rattle.std.specs.Prelude.{◌≡◌, ◌++◌, ◌∷◌, [], List, Some, map, IfOk, OnOk, IfSome, length, slice_get};
 ghost use Rattle.mh_inline.specs.declared.unfoldings.Unfolding.{Unfolding as Unfolded};
 ghost use Rattle.mh_rules.specs.Ready.{IsExpandedReady};
 ghost use Rattle.mh_inline.specs.Unfoldings.{choices, joined, nothing, only, own, rightmost, Unfolds, UnfoldsEach, UnfoldsPart};
 ghost use Rattle.mh_inline.specs.Known.{AreKnown, AreEachKnown, Extends, IsNext};
-ghost use Rattle.mh_inline.specs.Passing.{PassesOn, without};
+ghost use Rattle.mh_inline.specs.LastUse.{IsLastOf, MayLack};
+ghost use Rattle.mh_rules.specs.declared.instances.Instance.{Instance as Row};
 ghost use Rattle.mh_inline.specs.Uses.{KnowsUsed};
 ghost use Rattle.mh_inline.specs.Sizes.{AreSmall, IsSizing};
 
+use crate::ends::Ends;
 use crate::instances::inline_part;
-use crate::passing::{Passed, pass_on, passed_last};
+use crate::moving::{LastUse, last_use_of, unfold_with};
 use crate::sizes::{Sizing, is_small};
 use crate::uses::{forget, inlined_in, last_uses};
 use mh_grammar::{Memory, Sequence};
 use mh_rules::{Expanded, InstanceProduction, Part, Prec};
 use std::alloc::Global;
-use std::mem;
 
 /// Producers none of which is inline, and the `%prec` that came with what was inlined.
 #[derive(Debug, Drop)]
 pub struct Unfolding {
-    pub rhs: Sequence<Part>,
+    pub rhs: Ends<Part>,
     pub prec: Prec,
 }
 
@@ -37,10 +38,8 @@ pub(crate) fn rightmost_prec(left: Prec, right: Prec) -> Prec
 fn join(alloc: Global, left: &Unfolding, right: &Unfolding) -> Result<Unfolding, Memory>
     ensures { IfOk result (λ u. u ≡ joined left.now right.now) }
 {
-    let mut rhs = Vec::from_slice(alloc, left.rhs.as_slice())?;
-    rhs.extend_from_slice(right.rhs.as_slice())?;
     Ok(Unfolding {
-        rhs: Sequence::from_vec(rhs),
+        rhs: left.rhs.joined(alloc, &right.rhs)?,
         prec: rightmost_prec(left.prec, right.prec),
     })
 }
@@ -75,12 +74,88 @@ fn all_choices(
     Ok(all)
 }
 
+/// The first goes on with the other.
+fn go_on(first: &mut Unfolding, other: &Unfolding) -> Result<(), Memory>
+    ensures { OnOk result (first.new ≡ joined first.old other.now) }
+{
+    first.prec = rightmost_prec(first.prec, other.prec);
+    first.rhs.put_behind(&other.rhs)
+}
+
+/// The last comes behind the other.
+fn come_behind(last: &mut Unfolding, other: &Unfolding) -> Result<(), Memory>
+    ensures { OnOk result (last.new ≡ joined other.now last.old) }
+{
+    last.prec = rightmost_prec(other.prec, last.prec);
+    last.rhs.put_in_front(&other.rhs)
+}
+
+fn go_on_each(all: &mut [Unfolding], other: &Unfolding) -> Result<(), Memory>
+    ensures { OnOk result (all.new ≡ map (λ u. joined u other.now) all.old) }
+{
+    for choice in all.iter_mut() {
+        go_on(choice, other)?;
+    }
+    Ok(())
+}
+
+fn come_behind_each(all: &mut [Unfolding], other: &Unfolding) -> Result<(), Memory>
+    ensures { OnOk result (all.new ≡ map (joined other.now) all.old) }
+{
+    for choice in all.iter_mut() {
+        come_behind(choice, other)?;
+    }
+    Ok(())
+}
+
+fn with_one_behind(mut all: Vec<Unfolding>, last: &Unfolding) -> Result<Vec<Unfolding>, Memory>
+    ensures { IfOk result (λ more. more.items ≡ choices all.items (last.now ∷ [])) }
+{
+    go_on_each(&mut all, last)?;
+    Ok(all)
+}
+
+fn with_one_in_front(first: &Unfolding, mut all: Vec<Unfolding>) -> Result<Vec<Unfolding>, Memory>
+    ensures { IfOk result (λ more. more.items ≡ choices (first.now ∷ []) all.items) }
+{
+    come_behind_each(&mut all, first)?;
+    Ok(all)
+}
+
+/// Each of the first with each of the second, where the first go on as they are if there is one second.
+pub(crate) fn with_behind(
+    alloc: Global,
+    all: Vec<Unfolding>,
+    seconds: &[Unfolding],
+) -> Result<Vec<Unfolding>, Memory>
+    ensures { IfOk result (λ more. more.items ≡ choices all.items seconds.now) }
+{
+    match seconds {
+        [second] => with_one_behind(all, second),
+        _ => all_choices(alloc, all.as_slice(), seconds),
+    }
+}
+
+/// The same, where the second stay if there is one first.
+pub(crate) fn with_in_front(
+    alloc: Global,
+    firsts: &[Unfolding],
+    all: Vec<Unfolding>,
+) -> Result<Vec<Unfolding>, Memory>
+    ensures { IfOk result (λ more. more.items ≡ choices firsts.now all.items) }
+{
+    match firsts {
+        [first] => with_one_in_front(first, all),
+        _ => all_choices(alloc, firsts, all.as_slice()),
+    }
+}
+
 /// Puts a producer behind each unfolding.
 fn push_part(all: &mut [Unfolding], part: Part) -> Result<(), Memory>
     ensures { OnOk result (all.new ≡ map (λ u. joined u (only part)) all.old) }
 {
     for choice in all.iter_mut() {
-        choice.rhs.push(part)?;
+        choice.rhs.push_back(part)?;
     }
     Ok(())
 }
@@ -103,7 +178,7 @@ fn unfold_part(
     ensures { IfOk result (λ more. Extends expanded.now.instances part all.items more.items) }
 {
     match inline_part(expanded, part) {
-        Some(number) => all_choices(alloc, all.as_slice(), known[number].as_slice()),
+        Some(number) => with_behind(alloc, all, known[number].as_slice()),
         None => with_part(all, part),
     }
 }
@@ -130,7 +205,7 @@ fn just_nothing(alloc: Global) -> Result<Vec<Unfolding>, Memory>
 {
     let mut all = Vec::new(alloc);
     all.push(Unfolding {
-        rhs: Sequence::new(alloc),
+        rhs: Ends::new(alloc),
         prec: Prec::Absent,
     })?;
     Ok(all)
@@ -154,7 +229,7 @@ pub(crate) fn add_own(
 }
 
 /// All unfoldings of some alternatives, in order.
-fn unfold_alternatives(
+pub(crate) fn unfold_alternatives(
     alloc: Global,
     expanded: &Expanded,
     known: &[Sequence<Unfolding>],
@@ -186,49 +261,27 @@ fn unfold_one(
     alloc: Global,
     expanded: &Expanded,
     sizing: &Sizing,
-    known: &[Sequence<Unfolding>],
+    known: &mut Vec<Sequence<Unfolding>>,
     number: usize,
+    q: Option<LastUse>,
 ) -> Result<Sequence<Unfolding>, Memory>
     requires ready { IsExpandedReady expanded.now }
-    requires next { IsNext expanded.now.instances sizing.now.sizes.items known.now number }
-    ensures { IfOk result (λ all. (us : List Unfolded) → UnfoldsPart expanded.now.instances (Part.Instance number) us → AreSmall us → all ≡ us) }
+    requires next { IsNext expanded.now.instances sizing.now.sizes.items known.old.items number }
+    requires last { (i : Row) → slice_get expanded.now.instances number ≡ Some i → IfSome q (IsLastOf expanded.now.instances i.productions) }
+    ensures unfoldings { IfOk result (λ all. (us : List Unfolded) → UnfoldsPart expanded.now.instances (Part.Instance number) us → AreSmall us → all ≡ us) }
+    ensures known { OnOk result (MayLack q known.old.items known.new.items) }
 {
     if !is_small(sizing.sizes[number]) {
         return Ok(Sequence::new(alloc));
     }
     let productions = expanded.instances[number].productions.as_slice();
-    let all = unfold_alternatives(alloc, expanded, known, productions)?;
+    let all = unfold_with(alloc, expanded, known, productions, q)?;
     Ok(Sequence::from_vec(all))
 }
 
-/// The same, where those that are passed on are moved.
-fn unfold_next(
-    alloc: Global,
-    expanded: &Expanded,
-    sizing: &Sizing,
-    known: &mut Vec<Sequence<Unfolding>>,
-    number: usize,
-    passed: Option<Passed>,
-) -> Result<Sequence<Unfolding>, Memory>
-    requires ready { IsExpandedReady expanded.now }
-    requires next { IsNext expanded.now.instances sizing.now.sizes.items known.old.items number }
-    requires known { length known.old.items ≡ length expanded.now.instances }
-    requires passed { IfSome passed (PassesOn expanded.now.instances number) }
-    ensures unfoldings { IfOk result (λ all. (us : List Unfolded) → UnfoldsPart expanded.now.instances (Part.Instance number) us → AreSmall us → all ≡ us) }
-    ensures known { known.new.items ≡ without passed known.old.items }
-{
-    match passed {
-        Some(passed) => {
-            let list = mem::replace(&mut known[passed.from], Sequence::new(alloc));
-            pass_on(alloc, passed.prec, list)
-        }
-        None => unfold_one(alloc, expanded, sizing, known, number),
-    }
-}
-
 /// The unfoldings of each inline instance that an instance which is not inline is made of, where it has no more and no longer
-/// ones than a grammar may have. Others are let go once they have gone into all that is made of them, so that a chain of
-/// inline instances holds two lists at a time, and one where each passes on those of the next.
+/// ones than a grammar may have. Others are let go once they have gone into all that is made of them, and what goes into one last
+/// is moved there, so that a chain of inline instances holds one list and copies none.
 pub(crate) fn unfold_inline(
     alloc: Global,
     expanded: &Expanded,
@@ -244,8 +297,8 @@ pub(crate) fn unfold_inline(
     let mut known = no_unfoldings(alloc, expanded.instances.len())?;
     for (place, number) in order.iter().enumerate() {
         let at = *number as usize;
-        let passed = passed_last(expanded, until, at, place);
-        let all = unfold_next(alloc, expanded, sizing, &mut known, at, passed)?;
+        let moved = last_use_of(expanded, known.as_slice(), until, place, at);
+        let all = unfold_one(alloc, expanded, sizing, &mut known, at, moved)?;
         known[at] = all;
         let numbers = inlined_in(alloc, expanded, at)?;
         forget(alloc, &mut known, until, numbers.as_slice(), place);

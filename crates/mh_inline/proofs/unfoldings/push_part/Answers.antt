@@ -10,5 +10,5 @@ loop-choice-preserved c =
     let i = c.loop-choice.choice-index in
     let y = get_or all i c.choice-item.result in
     let l : i < length all = omega arith in
-    ap (λ r. set all i (record { rhs = r; prec = y.prec })) c.in_ok-push.ensures.ok ∙
+    ap (λ r. set all i (record { rhs = r; prec = y.prec })) c.in_ok-push_back.ensures ∙
     map_over_more (λ u. joined u (only c.args.part)) c.args.all.now all i y c.loop-choice-test.true c.loop-choice.invariant (get_or_default all i c.choice-item.result y l)

@@ -10,9 +10,9 @@ pub bounds-known-number : goal.bounds-known-number
 bounds-known-number c = let k = known_part c.args.expanded.now.instances c.args.known.now c.args.part c.in-Some.number c.requires (sym c.inline_part.ensures ∙ c.in-Some.is) in slice_get_within c.args.known.now c.in-Some.number k.unfoldings k.at
 
 pub returns-in-Some : goal.returns-in-Some
-returns-in-Some c = IfOk-weaker c.all_choices.result (λ all. all.items ≡ choices c.as_slice.result.now c.as_slice-in-Some.result.now) (λ more. Extends c.args.expanded.now.instances c.args.part c.args.all.items more.items)
+returns-in-Some c = IfOk-weaker c.with_behind.result (λ all. all.items ≡ choices c.args.all.items c.as_slice.result.now) (λ more. Extends c.args.expanded.now.instances c.args.part c.args.all.items more.items)
     (λ v e. extends_known c.args.expanded.now.instances c.args.known.now c.args.part c.in-Some.number c.args.all.items v.items c.index-known-number.result c.requires (sym c.inline_part.ensures ∙ c.in-Some.is) c.index-known-number.is
-    (e ∙ ap (λ l. choices l c.as_slice-in-Some.result.now) c.as_slice.ensures.value ∙ ap (choices c.args.all.items) c.as_slice-in-Some.ensures)) c.all_choices.ensures
+    (e ∙ ap (choices c.args.all.items) c.as_slice.ensures)) c.with_behind.ensures
 
 pub returns-in-None : goal.returns-in-None
 returns-in-None c = IfOk-weaker c.with_part.result (λ more. more.items ≡ choices c.args.all.items (only c.args.part ∷ [])) (λ more. Extends c.args.expanded.now.instances c.args.part c.args.all.items more.items)
