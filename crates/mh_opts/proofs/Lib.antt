@@ -1,4 +1,10 @@
 pub mod Chosen
+pub mod Files
 pub mod Given
+pub mod Known
+pub mod Once
 pub mod Renaming
+pub mod Rows
 pub mod Taken
+pub mod Told
+pub mod Walking

@@ -4,11 +4,13 @@
 mod command;
 mod found;
 mod jobs;
+mod laws;
 mod numbers;
 mod order;
 mod twice;
 mod words;
 
 pub use jobs::Job;
+pub use laws::{files_are_words, too_often_is_no_order};
 pub use order::{Order, UsageFault};
 pub use words::read_words;
