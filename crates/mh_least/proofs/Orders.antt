@@ -3,25 +3,13 @@ use Rattle.std.proofs.Common.{◌≡◌, ℕ, zero, suc, ◌+◌, ◌-◌, ◌<�
 use Rattle.std.proofs.lemmas.Bool.{cases_lt}
 use Rattle.mh_least.specs.Least.{Laws, LabelLaws, Label, longer}
 use Rattle.mh_tables.specs.Failing.{cost_by, LexLe}
+use Rattle.mh_tables.proofs.WordOrder.{lex_same, lex_after, lex_front}
 use Rattle.mh_least.specs.Orders.{cap, CostLe, CostLabelLe, FirstLe, SentenceLe}
 use Rattle.mh_least.specs.Orders as orders
 
 pub cost_append : (weigh : ℕ → ℕ) (u v : List ℕ) → cost_by weigh (u ++ v) ≡ cost_by weigh u + cost_by weigh v
 cost_append weigh [] v = omega arith
 cost_append weigh (x ∷ u) v = let h = cost_append weigh u v in omega arith
-
-lex_same : (u : List ℕ) → LexLe u u
-lex_same [] = tt
-lex_same (x ∷ u) = inr (refl, lex_same u)
-
-lex_after : (u v w : List ℕ) → LexLe u v → LexLe v w → LexLe u w
-lex_after [] v w a b = tt
-lex_after (x ∷ u) [] w a b = absurd a
-lex_after (x ∷ u) (y ∷ v) [] a b = absurd b
-lex_after (x ∷ u) (y ∷ v) (z ∷ w) (inl a) (inl b) = inl (omega arith)
-lex_after (x ∷ u) (y ∷ v) (z ∷ w) (inl a) (inr b) = inl (let e = b.0 in omega arith)
-lex_after (x ∷ u) (y ∷ v) (z ∷ w) (inr a) (inl b) = inl (let e = a.0 in omega arith)
-lex_after (x ∷ u) (y ∷ v) (z ∷ w) (inr a) (inr b) = inr (a.0 ∙ b.0, lex_after u v w a.1 b.1)
 
 module _ (weigh : ℕ → ℕ) (some : (x : ℕ) → 0 < weigh x) where
   -- words of one cost don't begin with one another
@@ -69,10 +57,6 @@ module _ (weigh : ℕ → ℕ) (some : (x : ℕ) → 0 < weigh x) where
   first_nil : (v : List ℕ) → FirstLe weigh [] v
   first_nil [] = orders.FirstLe.Lower refl tt
   first_nil (x ∷ v) = orders.FirstLe.Cheaper (let s = some x in omega arith)
-
-  lex_front : (u v : List ℕ) → LexLe u (u ++ v)
-  lex_front [] v = tt
-  lex_front (x ∷ u) v = inr (refl, lex_front u v)
 
   first_front : (u v : List ℕ) → FirstLe weigh u (u ++ v)
   first_front u v =

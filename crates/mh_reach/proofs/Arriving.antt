@@ -31,7 +31,8 @@ use Rattle.mh_reach.specs.Arriving.{NoLaterAt, NoLaterBy, Spots, spot, StepsAlon
 use Rattle.mh_words.specs.Rising.{Rises}
 use Rattle.mh_search.proofs.Rowing.{none_in, row_past}
 use Rattle.mh_search.proofs.Wording.{some_is, capped_one, capped_both, min_cap, no_lower}
-use Rattle.mh_reach.proofs.Spots.{label_kept, label_one, journey_more, new_labels, labels_kept, labels_here, labels_only, spots_cases}
+use Rattle.mh_search.proofs.Keyed.{at_cases}
+use Rattle.mh_reach.proofs.Spots.{label_kept, label_one, journey_more, new_labels, labels_kept, labels_here, labels_only, spot_keys}
 use Rattle.mh_reach.proofs.Labelling.{label_laws, same_label, over_from}
 use Rattle.mh_words.proofs.Listing.{rises_by}
 
@@ -326,7 +327,7 @@ module _ (t : TableData) (f : Facts t) (c : Classes) (cls : IsClasses t c) (word
         ];
         items = each;
         low = low_all;
-        high = λ k g e. elim (spots_cases spots i.spot k r g next.fresh e) [ inl was ↦ good.high k g was | inr is ↦ rw is.1 (omega arith) ];
+        high = λ k g e. elim (at_cases spot_keys spots i.spot k r g next.fresh e) [ inl was ↦ good.high k g was | inr is ↦ rw is.1 (omega arith) ];
         before = before_all;
       }
 

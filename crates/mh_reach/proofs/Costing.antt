@@ -15,7 +15,7 @@ use Rattle.mh_least.specs.Orders.{cap}
 use Rattle.mh_least.specs.Orders as orders
 use Rattle.mh_least.proofs.Least.{fails_candidate, closed_reached, candidate_fails}
 use Rattle.mh_least.proofs.Best.{closes_all_at}
-use Rattle.mh_words.proofs.Ordered.{lex_same}
+use Rattle.mh_tables.proofs.WordOrder.{lex_same}
 use Rattle.mh_search.specs.declared.classes.Classes.{Classes}
 use Rattle.mh_search.specs.declared.settling.Found.{Found}
 use Rattle.mh_search.proofs.Numbers.{all_numbered}

@@ -1,5 +1,5 @@
 -- A level of the second search, from its beginning to its end.
-use Rattle.std.proofs.Common.{◌≡◌, ℕ, ◌+◌, ◌<◌, ◌≤◌, ◌⊎◌, inl, inr, List, [], ◌∷◌, ◌++◌, Option, refl, arith}
+use Rattle.std.proofs.Common.{◌≡◌, ℕ, ◌+◌, ◌<◌, ◌≤◌, inl, inr, List, [], ◌∷◌, Option, refl, arith}
 use Rattle.std.specs.List.{Contains}
 use Rattle.std.proofs.lemmas.Bool.{cases_lt}
 use Rattle.mh_tables.specs.Table.{TableData}
@@ -12,7 +12,7 @@ use Rattle.mh_search.specs.declared.work.Whole.{Whole}
 use Rattle.mh_search.specs.declared.work.Work.{Work}
 use Rattle.mh_search.specs.declared.classes.Classes.{Classes}
 use Rattle.mh_search.specs.declared.settling.Found.{Found}
-use Rattle.mh_search.specs.Rows.{Gains, IsOne, Taken, NoneTaken}
+use Rattle.mh_search.specs.Rows.{Gains, IsOne}
 use Rattle.mh_search.specs.Classes.{IsClasses, rep_of}
 use Rattle.mh_search.specs.Rules.{wholes_at}
 use Rattle.mh_search.specs.Tales.{Tale, capped}
@@ -23,39 +23,28 @@ use Rattle.mh_reach.specs.declared.arrivals.Spot.{Spot}
 use Rattle.mh_reach.specs.declared.arrivals.Step.{Step}
 use Rattle.mh_reach.specs.declared.arrivals.Step.TheVariants as steps
 use Rattle.mh_reach.specs.declared.arrivals.Coming.{Coming}
-use Rattle.mh_reach.specs.Arriving.{NoLaterBy, Spots, Journey, LabelBy, Waiting, GoodAt, InOrderAt, ReadyAt, HasArrived, NoneComes, KeepsComing, TakesComings, TakesAll, GoodIn}
+use Rattle.mh_reach.specs.Arriving.{NoLaterBy, Spots, Journey, LabelBy, Waiting, GoodAt, InOrderAt, ReadyAt, IsDone, NoneComes, TakesAll, GoodIn}
 use Rattle.mh_reach.specs.Comparing.{PrecedesBy, IsKnown, IsTold, AreKnown, InTurn}
 use Rattle.mh_words.specs.Rising.{Rises, Same}
+use Rattle.mh_search.proofs.Queueing.{moves_taken, moves_sorted, moves_pushed, moves_drained, moves_higher, above}
 use Rattle.mh_reach.proofs.Arriving.{Comings, good_moves}
 use Rattle.mh_reach.proofs.Labelling.{label_laws, both_over, cheaper_at, by_numbers}
-use Rattle.mh_words.proofs.Listing.{here, in_more, in_cons, in_left, in_last, none_in, rises_by, rises_all}
+use Rattle.mh_words.proofs.Listing.{here, rises_by, rises_all}
 use Rattle.mh_reach.proofs.Spots.{label_one}
 use Rattle.mh_reach.proofs.Walking.{arrived_at}
 
 module _ (t : TableData) (f : Facts t) (c : Classes) (cls : IsClasses t c) (words : FactKey → Option (List ℕ)) (work : Work) (ways_ok : (n : ℕ) (w : Whole) → Contains (wholes_at work n) w → WholeOk t (rep_of c) words cap w) (spots : Spots) (old : Comings) (level : ℕ) where
   -- what waited with the level's cost waits beside the queue
   pub level_taken : (mid : Comings) (all : List Coming) → GoodAt t c words work spots old level [] → TakesAll spots old mid level all → GoodAt t c words work spots mid level all
-  level_taken mid all good takes = good_moves t f c cls words work ways_ok spots old level [] good mid level all on back (λ cost o h. good.low cost o (back cost o h)) (omega arith)
-    where
-      on : (cost : ℕ) (o : Coming) → Waiting old level [] cost o → Waiting mid level all cost o ⊎ HasArrived spots o.spot
-      on cost o (inl there) = elim (takes.taken.kept cost o there) [ inl left ↦ (elim left [ inl still ↦ inl (inl still) | inr stored ↦ inr stored ]) | inr beside ↦ inl (inr beside) ]
-      on cost o (inr beside) = absurd (none_in o beside.1)
-
-      back : (cost : ℕ) (o : Coming) → Waiting mid level all cost o → Waiting old level [] cost o
-      back cost o (inl there) = inl (takes.taken.only cost o there)
-      back cost o (inr (e, there)) = inl (rw e (takes.taken.each o there))
+  level_taken mid all good takes =
+      let m = moves_taken (IsDone spots) old mid level all takes in
+      good_moves t f c cls words work ways_ok spots old level [] good mid level all m.on m.back (λ cost o h. good.low cost o (m.back cost o h)) (omega arith)
 
   -- the same arrivals beside it, in another order
   pub level_sorted : (xs ys : List Coming) → GoodAt t c words work spots old level xs → Same xs ys → GoodAt t c words work spots old level ys
-  level_sorted xs ys good same = good_moves t f c cls words work ways_ok spots old level xs good old level ys on back (λ cost o h. good.low cost o (back cost o h)) (omega arith)
-    where
-      on : (cost : ℕ) (o : Coming) → Waiting old level xs cost o → Waiting old level ys cost o ⊎ HasArrived spots o.spot
-      on cost o (inl there) = inl (inl there)
-      on cost o (inr beside) = inl (inr (beside.0, same.kept o beside.1))
-
-      back : (cost : ℕ) (o : Coming) → Waiting old level ys cost o → Waiting old level xs cost o
-      back cost o (inl there) = inl there
-      back cost o (inr beside) = inr (beside.0, same.only o beside.1)
+  level_sorted xs ys good same =
+      let m = moves_sorted (IsDone spots) old level xs ys same in
+      good_moves t f c cls words work ways_ok spots old level xs good old level ys m.on m.back (λ cost o h. good.low cost o (m.back cost o h)) (omega arith)
 
   module _ (ys : List Coming) (good : GoodAt t c words work spots old level ys) where
     abbrev labels : Spot → Option Label
@@ -79,7 +68,7 @@ module _ (t : TableData) (f : Facts t) (c : Classes) (cls : IsClasses t c) (word
   pub level_pushed : (mid : Comings) (x : Coming) (xs : List Coming) → ReadyAt t c words work spots old level (x ∷ xs) → Gains (IsOne level x) old mid → InOrderAt t c words work spots mid level xs
   unfolding good_moves
   level_pushed mid x xs ready gains = record {
-    good = good_moves t f c cls words work ways_ok spots old level (x ∷ xs) ready.good mid level xs on back (λ cost o h. ready.good.low cost o (back cost o h)) (omega arith);
+    good = let m = moves_pushed (IsDone spots) old mid level x xs gains in good_moves t f c cls words work ways_ok spots old level (x ∷ xs) ready.good mid level xs m.on m.back (λ cost o h. ready.good.low cost o (m.back cost o h)) (omega arith);
     flat = λ o y cost there waits. elim (gains.only level o there) [
       | inl was ↦ absurd (ready.none o was)
       | inr is ↦ rw is.1 (first y cost waits)
@@ -87,14 +76,6 @@ module _ (t : TableData) (f : Facts t) (c : Classes) (cls : IsClasses t c) (word
     rising = ready.rising.1;
   }
     where
-      on : (cost : ℕ) (o : Coming) → Waiting old level (x ∷ xs) cost o → Waiting mid level xs cost o ⊎ HasArrived spots o.spot
-      on cost o (inl there) = inl (inl (gains.kept cost o there))
-      on cost o (inr beside) = elim (in_cons x xs o beside.1) [ inl is ↦ inl (inl (gains.all cost o (beside.0, is))) | inr other ↦ inl (inr (beside.0, other)) ]
-
-      back : (cost : ℕ) (o : Coming) → Waiting mid level xs cost o → Waiting old level (x ∷ xs) cost o
-      back cost o (inl there) = elim (gains.only cost o there) [ inl was ↦ inl was | inr is ↦ inr (is.0, rw is.1 (here x xs)) ]
-      back cost o (inr beside) = inr (beside.0, in_more x xs o beside.1)
-
       -- x comes no later than all that waits
       first : (y : Coming) (cost : ℕ) → Waiting mid level xs cost y → NoLaterBy t words ready.good.journey.labels x y
       first y cost (inr beside) k l by by' = ready.rising.0 y beside.1 k l by by'
@@ -118,80 +99,16 @@ module _ (t : TableData) (f : Facts t) (c : Classes) (cls : IsClasses t c) (word
   pub level_drained : (mid : Comings) (xs : List Coming) → InOrderAt t c words work spots old level xs → NoneComes spots old mid level → ReadyAt t c words work spots mid level xs
   unfolding good_moves
   level_drained mid xs order next = record {
-    good = good_moves t f c cls words work ways_ok spots old level xs order.good mid level xs on back (λ cost o h. order.good.low cost o (back cost o h)) (omega arith);
+    good = let m = moves_drained (IsDone spots) old mid level xs next in good_moves t f c cls words work ways_ok spots old level xs order.good mid level xs m.on m.back (λ cost o h. order.good.low cost o (m.back cost o h)) (omega arith);
     none = next.none;
     rising = order.rising;
   }
-    where
-      on : (cost : ℕ) (o : Coming) → Waiting old level xs cost o → Waiting mid level xs cost o ⊎ HasArrived spots o.spot
-      on cost o (inl there) = elim (next.kept cost o there) [ inl still ↦ inl (inl still) | inr stored ↦ inr stored ]
-      on cost o (inr beside) = inl (inr beside)
-
-      back : (cost : ℕ) (o : Coming) → Waiting mid level xs cost o → Waiting old level xs cost o
-      back cost o (inl there) = inl (next.only cost o there)
-      back cost o (inr beside) = inr beside
 
   -- the level is done
   pub level_done : ReadyAt t c words work spots old level [] → GoodAt t c words work spots old (level + 1) []
-  level_done ready = good_moves t f c cls words work ways_ok spots old level [] ready.good old (level + 1) [] on back low (omega arith)
-    where
-      on : (cost : ℕ) (o : Coming) → Waiting old level [] cost o → Waiting old (level + 1) [] cost o ⊎ HasArrived spots o.spot
-      on cost o (inl there) = inl (inl there)
-      on cost o (inr beside) = absurd (none_in o beside.1)
-
-      back : (cost : ℕ) (o : Coming) → Waiting old (level + 1) [] cost o → Waiting old level [] cost o
-      back cost o (inl there) = inl there
-      back cost o (inr beside) = absurd (none_in o beside.1)
-
-      low : (cost : ℕ) (o : Coming) → Waiting old (level + 1) [] cost o → level + 1 ≤ cost
-      low cost o (inr beside) = absurd (none_in o beside.1)
-      low cost o (inl there) =
-          let le = ready.good.low cost o (inl there) in
-          elim (cases_lt level cost) [ inl lt ↦ omega arith | inr ge ↦ absurd (ready.none o (let same : cost ≡ level = omega arith in rw same at there)) ]
-
--- WHAT IS TAKEN
-
-pub takes_none : (spots : Spots) (q : Comings) (cost : ℕ) → TakesComings spots q q cost []
-takes_none spots q cost = record { kept = λ c o w. inl (inl w); only = λ c o w. w; each = λ o there. absurd (none_in o there) }
-
--- one arrival more is taken out
-pub takes_more : (spots : Spots) (old mid new : Comings) (cost : ℕ) (i : Coming) (before after : List Coming) → TakesComings spots old mid cost before → Taken mid new cost i → KeepsComing spots i before after → TakesComings spots old new cost after
-takes_more spots old mid new cost i before after h t (inl is) = record {
-  kept = λ c o w. elim (h.kept c o w) [
-    | inl left ↦ (elim left [
-      | inl there ↦ (elim (t.kept c o there) [ inl still ↦ inl (inl still) | inr one ↦ inr (one.0, rw (is, one.1) (in_end before i)) ])
-      | inr stored ↦ inl (inr stored)
-    ])
-    | inr beside ↦ inr (beside.0, rw is (in_left before (i ∷ []) o beside.1))
-  ];
-  only = λ c o w. h.only c o (t.only c o w);
-  each = λ o there. elim (in_last before i o (rw is at there)) [ inl was ↦ h.each o was | inr one ↦ rw one (h.only cost i t.was) ];
-}
-  where
-    in_end : (xs : List Coming) (y : Coming) → Contains (xs ++ y ∷ []) y
-    in_end [] y = here y []
-    in_end (w ∷ xs) y = in_more w (xs ++ y ∷ []) y (in_end xs y)
-takes_more spots old mid new cost i before after h t (inr is) = record {
-  kept = λ c o w. elim (h.kept c o w) [
-    | inl left ↦ (elim left [
-      | inl there ↦ (elim (t.kept c o there) [ inl still ↦ inl (inl still) | inr one ↦ inl (inr (rw one.1 is.1)) ])
-      | inr stored ↦ inl (inr stored)
-    ])
-    | inr beside ↦ inr (beside.0, rw is.0 beside.1)
-  ];
-  only = λ c o w. h.only c o (t.only c o w);
-  each = λ o there. h.each o (rw is.0 at there);
-}
-
-pub takes_all : (spots : Spots) (old mid new : Comings) (cost : ℕ) (all : List Coming) → TakesComings spots old mid cost all → NoneTaken mid new cost → TakesAll spots old new cost all
-takes_all spots old mid new cost all h t = record {
-  taken = record {
-    kept = λ c o w. elim (h.kept c o w) [ inl left ↦ (elim left [ inl there ↦ inl (inl (t.kept c o there)) | inr stored ↦ inl (inr stored) ]) | inr beside ↦ inr beside ];
-    only = λ c o w. h.only c o (t.only c o w);
-    each = h.each;
-  };
-  none = λ o w. t.none o (t.only cost o w);
-}
+  level_done ready =
+      let m = moves_higher (IsDone spots) old level in
+      good_moves t f c cls words work ways_ok spots old level [] ready.good old (level + 1) [] m.on m.back (above old level ready.good.low ready.none) (omega arith)
 
 -- WHAT IS KNOWN OF IT
 

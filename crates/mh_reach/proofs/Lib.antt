@@ -1,10 +1,8 @@
 mod Arriving
-mod Coming
 mod Costing
 mod First
 mod Labelling
 mod Levels
-mod Runs
 mod Spelled
 mod Spots
 mod Spotting

@@ -1,6 +1,5 @@
 -- What arrivals tell, where one more is stored.
-use Rattle.std.proofs.Common.{◌≡◌, ℕ, ◌+◌, ◌⊎◌, inl, inr, List, [], ◌∷◌, ◌++◌, Some, None, Option, Bool, true, false, cond, nat_eq, ◌&&◌, refl, ap, sym, arith, ◌∙◌}
-use Rattle.std.specs.Prelude.{fold}
+use Rattle.std.proofs.Common.{◌≡◌, ℕ, ◌+◌, ◌⊎◌, inl, inr, List, [], ◌∷◌, ◌++◌, Some, None, Option, Bool, true, false, nat_eq, ◌&&◌, refl, ap, sym, arith, ◌∙◌}
 use Rattle.std.proofs.lemmas.Grind.{common_steps}
 use Rattle.indexmap.specs.IndexMap.{insert_entry}
 use Rattle.indexmap.proofs.MapLemmas.{insert_entry-absent, absent_from_lookup}
@@ -13,6 +12,7 @@ use Rattle.mh_reach.specs.declared.arrivals.Step.TheVariants as steps
 use Rattle.mh_reach.specs.declared.arrivals.Arrival.{Arrival}
 use Rattle.mh_search.specs.Tales.{capped}
 use Rattle.mh_reach.specs.Arriving.{Spots, same_spot, arrival_at, spot, put_at, height_by, with_height, heights_of, LabelBy, Reached, Journey}
+use Rattle.mh_search.proofs.Keyed.{AreKeys, put_here, put_cases, put_other, each_more, none_more, fold_more}
 use Rattle.mh_search.proofs.Wording.{some_is}
 
 both_true : (a b : Bool) → (a && b) ≡ true → (a ≡ true) × (b ≡ true)
@@ -36,59 +36,11 @@ same_spot_is x y e =
 pub spot_same : (k : Spot) → same_spot k k ≡ true
 spot_same k = rw (number_same k.state, number_same k.next) refl
 
-pub put_at_here : {V : Type 0} (f : Spot → V) (k : Spot) (v : V) → put_at f k v k ≡ v
-put_at_here f k v = rw (spot_same k) refl
-
-pub put_at_cases : {V : Type 0} (f : Spot → V) (k : Spot) (v : V) (other : Spot) → ((other ≡ k) × (put_at f k v other ≡ v)) ⊎ (put_at f k v other ≡ f other)
-put_at_cases f k v other = by (same_spot other k) refl
-  where
-    by : (b : Bool) → same_spot other k ≡ b → ((other ≡ k) × (cond b v (f other) ≡ v)) ⊎ (cond b v (f other) ≡ f other)
-    by true e = inl (same_spot_is other k e, refl)
-    by false e = inr refl
-
-pub put_at_other : {V : Type 0} (f : Spot → V) (k : Spot) (v : V) (other : Spot) → (other ≡ k → ⊥) → put_at f k v other ≡ f other
-put_at_other f k v other apart = elim (put_at_cases f k v other) [ inl here ↦ absurd (apart here.0) | inr is ↦ is ]
-
-pub spots_push : (a : Spots) (k q : Spot) (f : Arrival) → arrival_at a q ≡ None → arrival_at (a ++ (k, f) ∷ []) q ≡ cond (same_spot q k) (Some f) None
-spots_push [] k q f e = refl
-spots_push (x ∷ a) k q f e = by (same_spot q x.0) e (spots_push a k q f)
-  where
-    by : (b : Bool) → cond b (Some x.1) (arrival_at a q) ≡ None → (arrival_at a q ≡ None → arrival_at (a ++ (k, f) ∷ []) q ≡ cond (same_spot q k) (Some f) None) → cond b (Some x.1) (arrival_at (a ++ (k, f) ∷ []) q) ≡ cond (same_spot q k) (Some f) None
-    by true e go = absurd (let y : Some x.1 ≡ None = e in cc)
-    by false e go = go e
-
-pub spots_kept : (a : Spots) (k q : Spot) (f g : Arrival) → arrival_at a q ≡ Some g → arrival_at (a ++ (k, f) ∷ []) q ≡ Some g
-spots_kept [] k q f g e = absurd (let y : None ≡ Some g = e in cc)
-spots_kept (x ∷ a) k q f g e = by (same_spot q x.0) e (spots_kept a k q f g)
-  where
-    by : (b : Bool) → cond b (Some x.1) (arrival_at a q) ≡ Some g → (arrival_at a q ≡ Some g → arrival_at (a ++ (k, f) ∷ []) q ≡ Some g) → cond b (Some x.1) (arrival_at (a ++ (k, f) ∷ []) q) ≡ Some g
-    by true e go = e
-    by false e go = go e
-
-pub spots_cases : (a : Spots) (k q : Spot) (f g : Arrival) → arrival_at a k ≡ None → arrival_at (a ++ (k, f) ∷ []) q ≡ Some g → (arrival_at a q ≡ Some g) ⊎ ((q ≡ k) × (g ≡ f))
-spots_cases a k q f g fresh e = by (arrival_at a q) refl
-  where
-    last : (b : Bool) → same_spot q k ≡ b → cond b (Some f) None ≡ Some g → (arrival_at a q ≡ Some g) ⊎ ((q ≡ k) × (g ≡ f))
-    last true s h = inr (same_spot_is q k s, (let y : Some f ≡ Some g = h in cc))
-    last false s h = absurd (let y : None ≡ Some g = h in cc)
-
-    by : (o : Option Arrival) → arrival_at a q ≡ o → (arrival_at a q ≡ Some g) ⊎ ((q ≡ k) × (g ≡ f))
-    by None s = last (same_spot q k) refl (sym (spots_push a k q f s) ∙ e)
-    by (Some h) s = inl (let there : Some h ≡ Some g = sym (spots_kept a k q f h s) ∙ e in s ∙ there)
-
-pub spots_none : (a : Spots) (k q : Spot) (f : Arrival) → arrival_at (a ++ (k, f) ∷ []) q ≡ None → (arrival_at a q ≡ None) × (q ≡ k → ⊥)
-spots_none a k q f e = by (arrival_at a q) refl
-  where
-    by : (o : Option Arrival) → arrival_at a q ≡ o → (arrival_at a q ≡ None) × (q ≡ k → ⊥)
-    by (Some h) s = absurd (let y : Some h ≡ None = sym (spots_kept a k q f h s) ∙ e in cc)
-    by None s = (s, (λ is. let here : same_spot q k ≡ true = rw is (spot_same k) in let y : cond (same_spot q k) (Some f) None ≡ None = sym (spots_push a k q f s) ∙ e in let z : cond true (Some f) None ≡ None = rw here at y in let x : Some f ≡ None = z in cc))
+pub spot_keys : AreKeys same_spot
+spot_keys = record { one = same_spot_is; agree = spot_same }
 
 pub spots_entries : (es : Spots) (k : Spot) (f : Arrival) → arrival_at es k ≡ None → insert_entry same_spot es k f ≡ es ++ (k, f) ∷ []
 spots_entries es k f none = insert_entry-absent same_spot k f es (absent_from_lookup (same_spot k) es none)
-
-fold_more : {A B : Type 0} (step : B → A → B) (b : B) (xs : List A) (x : A) → fold step b (xs ++ x ∷ []) ≡ step (fold step b xs) x
-fold_more step b [] x = refl
-fold_more step b (y ∷ xs) x = fold_more step (step b y) xs x
 
 pub heights_more : (spots : Spots) (e : Spot × Arrival) → heights_of (spots ++ e ∷ []) ≡ with_height (heights_of spots) e
 heights_more spots e = fold_more (λ heights e. with_height heights e) (λ k. 0) spots e
@@ -123,19 +75,19 @@ module _ (t : TableData) (words : FactKey → Option (List ℕ)) (spots : Spots)
   other_than o u e is = let n : journey.labels o ≡ None = rw is none_there in let y : None ≡ Some u = sym n ∙ e in cc
 
   pub labels_kept : (o : Spot) (u : Label) → journey.labels o ≡ Some u → new_labels o ≡ Some u
-  labels_kept o u e = put_at_other journey.labels k (Some l) o (other_than o u e) ∙ e
+  labels_kept o u e = put_other spot_keys journey.labels k (Some l) o (other_than o u e) ∙ e
 
   pub labels_here : new_labels k ≡ Some l
-  labels_here = put_at_here journey.labels k (Some l)
+  labels_here = put_here spot_keys journey.labels k (Some l)
 
   pub labels_only : (o : Spot) (u : Label) → new_labels o ≡ Some u → (journey.labels o ≡ Some u) ⊎ ((o ≡ k) × (u ≡ l))
-  labels_only o u e = elim (put_at_cases journey.labels k (Some l) o) [
+  labels_only o u e = elim (put_cases spot_keys journey.labels k (Some l) o) [
     | inl here ↦ inr (here.0, some_is (new_labels o) u l e here.1)
     | inr was ↦ inl (sym was ∙ e)
   ]
 
   heights_kept : (o : Spot) (u : Label) → journey.labels o ≡ Some u → new_heights o ≡ heights_of spots o
-  heights_kept o u e = put_at_other (heights_of spots) k (height_by (heights_of spots) r.step) o (other_than o u e)
+  heights_kept o u e = put_other spot_keys (heights_of spots) k (height_by (heights_of spots) r.step) o (other_than o u e)
 
   height_kept : (step : Step) (u : Label) → LabelBy words journey.labels step u → height_by new_heights step ≡ height_by (heights_of spots) step
   height_kept (steps.Begin start) u h = refl
@@ -157,15 +109,12 @@ module _ (t : TableData) (words : FactKey → Option (List ℕ)) (spots : Spots)
     is = labels_here;
     cost_is = cost_is;
     by = label_kept words journey.labels new_labels r.step l labels_kept by;
-    height = let e = put_at_here (heights_of spots) k (height_by (heights_of spots) r.step) in let s = height_kept r.step l by in omega (arith, e, s);
+    height = let e = put_here spot_keys (heights_of spots) k (height_by (heights_of spots) r.step) in let s = height_kept r.step l by in omega (arith, e, s);
   }
 
   abbrev pub journey_more : Journey t words (spots ++ (k, r) ∷ [])
   journey_more = record {
     labels = new_labels;
-    none = λ o e. let h = spots_none spots k o r e in put_at_other journey.labels k (Some l) o h.1 ∙ journey.none o h.0;
-    some = λ o g e. elim (spots_cases spots k o r g fresh e) [
-      | inl was ↦ rw (heights_more spots (k, r)) (reached_old o g (journey.some o g was))
-      | inr is ↦ rw (heights_more spots (k, r), is.0, is.1) reached_new
-    ];
+    none = none_more spot_keys journey.labels spots k r (Some l) journey.none;
+    some = each_more spot_keys (Reached t words new_labels (heights_of (spots ++ (k, r) ∷ []))) spots k r fresh (λ o g was. rw (heights_more spots (k, r)) (reached_old o g (journey.some o g was))) (rw (heights_more spots (k, r)) reached_new);
   }

@@ -1,5 +1,5 @@
 -- What sentences are made of, and what a comparison of their parts tells.
-use Rattle.std.proofs.Common.{◌≡◌, ℕ, ◌+◌, ◌<◌, List, [], ◌∷◌, ◌++◌, Some, None, Option, Bool, true, false, refl, ap, sym, arith, append_assoc, ◌∙◌}
+use Rattle.std.proofs.Common.{◌≡◌, ℕ, ◌+◌, ◌<◌, List, [], ◌∷◌, ◌++◌, Some, None, Option, Bool, true, false, refl, ap, sym, subst, arith, append_assoc, ◌∙◌}
 use Rattle.std.proofs.lemmas.List.{append-nil}
 use Rattle.mh_tables.specs.Table.{TableData}
 use Rattle.mh_facts.specs.declared.store.FactKey.{FactKey}
@@ -9,15 +9,17 @@ use Rattle.mh_search.specs.declared.tails.Part.{Part}
 use Rattle.mh_search.specs.Tails.{IsWordOf, AreWordOf, IsLater, AreComparable}
 use Rattle.mh_search.specs.Tales.{Tale}
 use Rattle.mh_search.specs.declared.settling.Found.{Found}
-use Rattle.mh_words.proofs.Ordered.{lex_after}
+use Rattle.mh_tables.proofs.WordOrder.{lex_after}
 use Rattle.mh_search.proofs.Compared.{parts_append}
 use Rattle.mh_search.proofs.Wording.{some_is}
 use Rattle.mh_reach.specs.declared.arrivals.Spot.{Spot}
 use Rattle.mh_reach.specs.declared.arrivals.Step.{Step}
 use Rattle.mh_reach.specs.declared.arrivals.Step.TheVariants as steps
 use Rattle.mh_reach.specs.declared.arrivals.Arrival.{Arrival}
+use Rattle.mh_reach.specs.declared.arrivals.Coming.{Coming}
 use Rattle.mh_reach.specs.Arriving.{Spots, arrival_at, Journey, LabelBy, heights_of, height_by}
-use Rattle.mh_reach.specs.Comparing.{part_of, from_of, numbers_of, ArePartsOf, HasSentence, IsKnown, IsTold, Precedes, ComesLater}
+use Rattle.mh_reach.specs.Comparing.{part_of, from_of, numbers_of, ArePartsOf, HasSentence, IsKnown, IsTold, Precedes, ComesLater, InTurn}
+use Rattle.mh_words.specs.Rising.{IsLater as IsLaterBy, IsTransitive, StandAlike}
 use Rattle.mh_reach.proofs.Walking.{arrived_at, lower}
 
 -- a sentence is that of a step and the word of some parts behind it
@@ -133,3 +135,14 @@ pub precedes_after : (t : TableData) (facts : Stored) (spots : Spots) (x y z : S
 precedes_after t facts spots x y z known a b tale journey k m by by' =
     let l = known_label t facts spots tale journey y known in
     lex_after (numbers_of k) (numbers_of l.0) (numbers_of m) (a tale journey k l.0 by l.1) (b tale journey l.0 m l.1 by')
+
+-- arrivals come as their steps do
+pub in_turn_later : (t : TableData) (facts : Stored) (spots : Spots) (x y : Coming) (later : Bool) → ComesLater t facts spots x.step y.step later → IsLaterBy (InTurn t facts spots) x y later
+in_turn_later t facts spots x y true h = h
+in_turn_later t facts spots x y false h = h
+
+pub in_turn_after : (t : TableData) (facts : Stored) (spots : Spots) → IsTransitive (λ (x : Coming). IsKnown facts spots x.step) (InTurn t facts spots)
+in_turn_after t facts spots x y z known a b = precedes_after t facts spots x.step y.step z.step known a b
+
+pub same_alike : (t : TableData) (facts : Stored) (spots : Spots) (x y : Coming) → x.step ≡ y.step → StandAlike (InTurn t facts spots) x y
+same_alike t facts spots x y same z le = subst (λ (s : Step). Precedes t facts spots s z.step) (sym same) le

@@ -1,5 +1,5 @@
 -- The second search: how a state is reached with a token to come.
-use Rattle.std.specs.Prelude.{◌≡◌, ℕ, List, [], ◌∷◌, ◌++◌, length, fold, Option, Some, None, Bool, if◌then◌else◌, nat_eq, ◌&&◌, ◌<◌, ◌≤◌, ◌⊎◌, ◌+◌, min}
+use Rattle.std.specs.Prelude.{◌≡◌, ℕ, List, [], ◌∷◌, length, fold, Option, Some, None, Bool, if◌then◌else◌, nat_eq, ◌&&◌, ◌<◌, ◌≤◌, ◌⊎◌, ◌+◌, min}
 use Rattle.std.specs.List.{Contains}
 use Rattle.std.specs.Map.{lookup}
 use Rattle.mh_tables.specs.Table.{TableData, cost_of_token}
@@ -18,6 +18,7 @@ use Rattle.mh_reach.specs.declared.arrivals.Step.TheVariants as steps
 use Rattle.mh_reach.specs.declared.arrivals.Arrival.{Arrival}
 use Rattle.mh_reach.specs.declared.arrivals.Coming.{Coming}
 use Rattle.mh_search.specs.Rows.{Waits, Beside, IsOne, Below, Among}
+use Rattle.mh_search.specs.Drawn.{DrawsOne, DrawsNone, Keeps, DrawsSome, DrawsAll}
 use Rattle.mh_search.specs.Classes.{rep_of, place_of, list_at}
 use Rattle.mh_search.specs.Rules.{wholes_at}
 use Rattle.mh_search.specs.Tales.{weigh, capped}
@@ -167,16 +168,15 @@ pub record ReadyAt (t : TableData) (c : Classes) (words : FactKey → Option (Li
 abbrev pub HasArrived : Spots → Spot → Type 0
 HasArrived spots k = (r : Arrival) × (arrival_at spots k ≡ Some r)
 
-pub record ComesNext (spots : Spots) (old new : List (Rattle.std.specs.Global.Vec Coming)) (cost : ℕ) (i : Coming) : Type 0 where
-  pub was : Waits old cost i
-  pub fresh : arrival_at spots i.spot ≡ None
-  pub kept : (c : ℕ) (o : Coming) → Waits old c o → (Waits new c o ⊎ HasArrived spots o.spot) ⊎ IsOne cost i c o
-  pub only : (c : ℕ) (o : Coming) → Waits new c o → Waits old c o
+abbrev pub IsDone : Spots → Coming → Type 0
+IsDone spots o = HasArrived spots o.spot
 
-pub record NoneComes (spots : Spots) (old new : List (Rattle.std.specs.Global.Vec Coming)) (cost : ℕ) : Type 0 where
-  pub none : (o : Coming) → Waits new cost o → ⊥
-  pub kept : (c : ℕ) (o : Coming) → Waits old c o → Waits new c o ⊎ HasArrived spots o.spot
-  pub only : (c : ℕ) (o : Coming) → Waits new c o → Waits old c o
+-- the next arrival of a cost at a spot that is not reached; the others are dropped
+abbrev pub ComesNext : Spots → List (Rattle.std.specs.Global.Vec Coming) → List (Rattle.std.specs.Global.Vec Coming) → ℕ → Coming → Type 0
+ComesNext spots old new cost i = DrawsOne (IsDone spots) (λ o. arrival_at spots o.spot ≡ None) old new cost i
+
+abbrev pub NoneComes : Spots → List (Rattle.std.specs.Global.Vec Coming) → List (Rattle.std.specs.Global.Vec Coming) → ℕ → Type 0
+NoneComes spots old new cost = DrawsNone (IsDone spots) old new cost
 
 abbrev pub NextComing : Spots → List (Rattle.std.specs.Global.Vec Coming) → List (Rattle.std.specs.Global.Vec Coming) → ℕ → Option Coming → Type 0
 NextComing spots old new cost None = NoneComes spots old new cost
@@ -189,18 +189,15 @@ pub record HasWays (t : TableData) (c : Classes) (work : Work) : Type 0 where
 
 -- an arrival is put behind others, where its spot is not reached
 abbrev pub KeepsComing : Spots → Coming → List Coming → List Coming → Type 0
-KeepsComing spots o old new = (new ≡ old ++ o ∷ []) ⊎ ((new ≡ old) × HasArrived spots o.spot)
+KeepsComing spots o old new = Keeps (IsDone spots) o old new
 
 -- arrivals of a cost are taken out, and those at spots that are not reached kept
-pub record TakesComings (spots : Spots) (old new : List (Rattle.std.specs.Global.Vec Coming)) (cost : ℕ) (all : List Coming) : Type 0 where
-  pub kept : (c : ℕ) (o : Coming) → Waits old c o → (Waits new c o ⊎ HasArrived spots o.spot) ⊎ ((c ≡ cost) × Contains all o)
-  pub only : (c : ℕ) (o : Coming) → Waits new c o → Waits old c o
-  pub each : (o : Coming) → Contains all o → Waits old cost o
+abbrev pub TakesComings : Spots → List (Rattle.std.specs.Global.Vec Coming) → List (Rattle.std.specs.Global.Vec Coming) → ℕ → List Coming → Type 0
+TakesComings spots old new cost all = DrawsSome (IsDone spots) old new cost all
 
 -- none of them is left
-pub record TakesAll (spots : Spots) (old new : List (Rattle.std.specs.Global.Vec Coming)) (cost : ℕ) (all : List Coming) : Type 0 where
-  pub taken : TakesComings spots old new cost all
-  pub none : (o : Coming) → Waits new cost o → ⊥
+abbrev pub TakesAll : Spots → List (Rattle.std.specs.Global.Vec Coming) → List (Rattle.std.specs.Global.Vec Coming) → ℕ → List Coming → Type 0
+TakesAll spots old new cost all = DrawsAll (IsDone spots) old new cost all
 
 -- the second search over what the first one found
 pub record GoodIn (t : TableData) (c : Classes) (found : Found) (spots : Spots) (q : List (Rattle.std.specs.Global.Vec Coming)) (level : ℕ) (beside : List Coming) : Type 0 where

@@ -77,11 +77,3 @@ AreKnown facts spots xs = (o : Coming) → Contains xs o → IsKnown facts spots
 -- the arrivals by their sentences
 abbrev pub InTurn : TableData → Facts → Spots → Coming → Coming → Type 0
 InTurn t facts spots x y = Precedes t facts spots x.step y.step
-
--- the first of some arrivals are put behind others; they came by one step
-pub record PutsRun (xs rest old new : List Coming) : Type 0 where
-  pub first : Coming
-  pub run : List Coming
-  pub is : xs ≡ (first ∷ run) ++ rest
-  pub put : new ≡ old ++ first ∷ run
-  pub same : (y : Coming) → Contains run y → y.step ≡ first.step

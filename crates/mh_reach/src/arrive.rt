@@ -13,11 +13,12 @@ ghost use Rattle.mh_reach.specs.Comparing.{AreKnown, InTurn, IsTold};
 ghost use Rattle.mh_words.specs.Rising.{Rises, Same};
 
 use crate::arrivals::{Arrival, Arrivals, Coming, Spot, Step, arrival_of, arrive_at, no_arrivals};
-use crate::sorting::sorted;
+use crate::sorting::BySentence;
 use mh_grammar::{Edge, Memory, Symbol, Token};
 use mh_search::queue::{Queue, empty_queue, push, take};
 use mh_search::{CAP, Classes, Found, Whole, add_costs, add_token, class_of, list_of};
 use mh_tables::{Choice, Table, choose};
+use mh_words::sorted;
 use std::alloc::Global;
 
 /// Puts an arrival in with each of some tokens to come.
@@ -285,7 +286,13 @@ fn ordered(
     if cost >= CAP {
         return Ok(all);
     }
-    sorted(alloc, table, found, arrivals, all.as_slice())
+    let order = BySentence {
+        alloc,
+        table,
+        found,
+        arrivals,
+    };
+    sorted(alloc, &order, &mut (), all.as_slice())
 }
 
 /// Arrivals of one cost, in their order.

@@ -1,63 +1,22 @@
-//! Arrivals of one cost, put in the order of their sentences.
-ghost use Rattle.std.specs.Prelude.{◌≡◌, ◌<◌, ◌∷◌, ◌++◌, IfOk, IsTrue, OnOk, drop, length, slice_get};
-ghost use Rattle.mh_reach.specs.Comparing.{AreKnown, InTurn, IsTold, PutsRun};
-ghost use Rattle.mh_words.specs.Rising.{IsSooner, Merges, Rises, Sorts};
+//! Arrivals of one cost in the order of their sentences.
+ghost use Rattle.std.specs.Prelude.{◌≡◌, IfOk, IsTrue};
+ghost use Rattle.mh_reach.specs.Comparing.{InTurn, IsKnown, IsTold};
 
 use crate::arrivals::{Arrivals, Coming, Step};
 use crate::comparing::comes_later;
 use mh_grammar::Memory;
 use mh_search::Found;
 use mh_tables::Table;
+use mh_words::Order;
 use std::alloc::Global;
 
-/// The first of some arrivals.
-fn first_of(comings: &[Coming]) -> Option<Coming>
-    ensures { result ≡ slice_get comings.now 0 }
-{
-    match comings.first() {
-        Some(coming) => Some(*coming),
-        None => None,
-    }
-}
-
-/// The first of arrivals, of which there is one.
-fn head_of(comings: &[Coming]) -> Coming
-    requires { 0 < length comings.now }
-    ensures { comings.now ≡ result ∷ drop 1 comings.now }
-{
-    comings[0]
-}
-
-/// Some arrivals without the first.
-fn behind(comings: &[Coming]) -> &[Coming]
-    requires { 0 < length comings.now }
-    ensures { result.now ≡ drop 1 comings.now }
-{
-    &comings[1..]
-}
-
-/// The first of some arrivals that are in order, where it comes no later than another; none where that one comes no later
-/// than all of them.
-fn sooner(
-    alloc: Global,
-    table: &Table,
-    found: &Found,
-    arrivals: &Arrivals,
-    coming: Coming,
-    others: &[Coming],
-) -> Result<Option<Coming>, Memory>
-    requires told { IsTold table.now found.now arrivals.now.spots.entries }
-    requires known { AreKnown found.now.store arrivals.now.spots.entries (coming ∷ others.now) }
-    requires rising { Rises (InTurn table.now found.now.store arrivals.now.spots.entries) others.now }
-    ensures { IfOk result (IsSooner (InTurn table.now found.now.store arrivals.now.spots.entries) coming others.now) }
-{
-    match first_of(others) {
-        None => Ok(None),
-        Some(other) => {
-            let later = comes_later(alloc, table, found, arrivals, coming.step, other.step)?;
-            if later { Ok(Some(other)) } else { Ok(None) }
-        }
-    }
+/// Arrivals by their sentences.
+#[derive(Drop)]
+pub struct BySentence<'a> {
+    pub alloc: Global,
+    pub table: &'a Table,
+    pub found: &'a Found,
+    pub arrivals: &'a Arrivals,
 }
 
 /// Whether two steps are one, where they have a sentence by other spots.
@@ -99,99 +58,30 @@ fn is_same(left: Step, right: Step) -> bool
     }
 }
 
-/// Puts the first of some arrivals behind others, and those behind it that came by the same step, so that they have the
-/// same sentence: one for each token to come. Gives the rest.
-fn push_run<'a>(all: &mut Vec<Coming>, comings: &'a [Coming]) -> Result<&'a [Coming], Memory>
-    requires { 0 < length comings.now }
-    ensures { IfOk result (λ rest. PutsRun comings.now rest.now all.old.items all.new.items) }
-{
-    let first = head_of(comings);
-    all.push(first)?;
-    let mut rest = behind(comings);
-    'comings: loop {
-        match first_of(rest) {
-            None => return Ok(rest),
-            Some(coming) => {
-                if is_same(coming.step, first.step) {
-                    all.push(coming)?;
-                    rest = behind(rest);
-                } else {
-                    return Ok(rest);
-                }
-            }
-        }
-    }
-}
+impl<'a> Order for BySentence<'a> {
+    type Item = Coming;
 
-/// Puts some arrivals behind others.
-fn push_all(all: &mut Vec<Coming>, comings: &[Coming]) -> Result<(), Memory>
-    ensures { OnOk result (all.new.items ≡ all.old.items ++ comings.now) }
-{
-    for coming in comings {
-        all.push(*coming)?;
-    }
-    Ok(())
-}
+    type Rests = ();
 
-/// The arrivals of two lists in order, in order.
-fn merged(
-    alloc: Global,
-    table: &Table,
-    found: &Found,
-    arrivals: &Arrivals,
-    left: &[Coming],
-    right: &[Coming],
-) -> Result<Vec<Coming>, Memory>
-    requires told { IsTold table.now found.now arrivals.now.spots.entries }
-    requires left_known { AreKnown found.now.store arrivals.now.spots.entries left.now }
-    requires right_known { AreKnown found.now.store arrivals.now.spots.entries right.now }
-    requires left { Rises (InTurn table.now found.now.store arrivals.now.spots.entries) left.now }
-    requires right { Rises (InTurn table.now found.now.store arrivals.now.spots.entries) right.now }
-    ensures { IfOk result (λ all. Merges (InTurn table.now found.now.store arrivals.now.spots.entries) left.now right.now all.items) }
-{
-    let mut all = Vec::new(alloc);
-    let mut rest = left;
-    let mut others = right;
-    'comings: loop {
-        match first_of(rest) {
-            None => {
-                push_all(&mut all, others)?;
-                return Ok(all);
-            }
-            Some(coming) => match sooner(alloc, table, found, arrivals, coming, others)? {
-                None => rest = push_run(&mut all, rest)?,
-                Some(_) => others = push_run(&mut all, others)?,
-            },
-        }
-    }
-}
+    ghost is_sound = { λ order. IsTold order.table.now order.found.now order.arrivals.now.spots.entries };
 
-/// The same arrivals in the order of their sentences.
-pub fn sorted(
-    alloc: Global,
-    table: &Table,
-    found: &Found,
-    arrivals: &Arrivals,
-    comings: &[Coming],
-) -> Result<Vec<Coming>, Memory>
-    requires told { IsTold table.now found.now arrivals.now.spots.entries }
-    requires known { AreKnown found.now.store arrivals.now.spots.entries comings.now }
-    ensures { IfOk result (λ all. Sorts (InTurn table.now found.now.store arrivals.now.spots.entries) comings.now all.items) }
-{
-    if comings.len() < 2 {
-        let mut same = Vec::new(alloc);
-        push_all(&mut same, comings)?;
-        return Ok(same);
+    ghost is_known = { λ order coming. IsKnown order.found.now.store order.arrivals.now.spots.entries coming.step };
+
+    ghost in_turn = { λ order. InTurn order.table.now order.found.now.store order.arrivals.now.spots.entries };
+
+    fn comes_later(&self, _rests: &mut (), left: Coming, right: Coming) -> Result<bool, Memory> {
+        comes_later(
+            self.alloc,
+            self.table,
+            self.found,
+            self.arrivals,
+            left.step,
+            right.step,
+        )
     }
-    let middle = comings.len() / 2;
-    let left = sorted(alloc, table, found, arrivals, &comings[..middle])?;
-    let right = sorted(alloc, table, found, arrivals, &comings[middle..])?;
-    merged(
-        alloc,
-        table,
-        found,
-        arrivals,
-        left.as_slice(),
-        right.as_slice(),
-    )
+
+    /// Arrivals that came by one step have the same sentence: one for each token to come.
+    fn is_alike(&self, left: Coming, right: Coming) -> bool {
+        is_same(left.step, right.step)
+    }
 }

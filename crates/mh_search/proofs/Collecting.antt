@@ -1,7 +1,6 @@
 -- How a set grows.
-use Rattle.std.proofs.Common.{◌≡◌, ℕ, ◌<◌, ◌+◌, ◌⊎◌, inl, inr, List, [], ◌∷◌, ◌++◌, length, Bool, true, false, eqb, ◌&&◌, not, refl, sym, arith, ◌∙◌, get_or}
+use Rattle.std.proofs.Common.{◌≡◌, ℕ, ◌<◌, ◌+◌, ◌⊎◌, inl, inr, List, [], ◌∷◌, ◌++◌, length, Bool, true, false, eqb, ◌&&◌, not, refl, sym, ◌∙◌, get_or}
 use Rattle.std.specs.List.{Contains, list_any}
-use Rattle.std.proofs.lemmas.Bool.{cases_lt}
 use Rattle.std.proofs.lemmas.Bool.Decides.{Decides-eqb}
 use Rattle.std.specs.Prelude.{if◌then◌else◌}
 use Rattle.mh_search.specs.declared.work.Way.{Way}
@@ -10,6 +9,7 @@ use Rattle.std.proofs.lemmas.List.{get_or_default}
 use Rattle.indexmap.specs.IndexSet.{insert_key}
 use Rattle.indexmap.proofs.CallerLemmas.{Contains-list_any}
 use Rattle.mh_search.specs.Past.{Collects}
+use Rattle.mh_search.proofs.Firsts.{OfFirst, of_none, of_more, of_fewer, of_all, of_some}
 use Rattle.mh_search.proofs.Rowing.{contains_front, contains_last, contains_either}
 
 module _ {X : Type 0} where
@@ -77,30 +77,18 @@ reduction_same x y r e t =
 
 -- those of the first n of a list
 abbrev pub FirstOf : {X Y : Type 0} → (X → Y → Type 0) → List X → ℕ → Y → Type 0
-FirstOf {X} rule xs n o = (p : X) × (k : ℕ) × (k < n) × (get_or xs k p ≡ p) × rule p o
+FirstOf rule xs n o = OfFirst (λ p. rule p o) xs n
 
 module _ {X Y : Type 0} (rule : X → Y → Type 0) (xs : List X) where
   pub firsts_begin : (q : List Y) → Collects (FirstOf rule xs 0) q q
-  firsts_begin q = collects_none (FirstOf rule xs 0) q (λ o h. let l = h.2 in omega arith)
+  firsts_begin q = collects_none (FirstOf rule xs 0) q (λ o. of_none (λ p. rule p o) xs)
 
   first_goes : (n : ℕ) (x : X) (old mid new : List Y) → n < length xs → get_or xs n x ≡ x → Collects (FirstOf rule xs n) old mid → Collects (rule x) mid new → Collects (FirstOf rule xs (n + 1)) old new
-  first_goes n x old mid new lt is g p = collects_by (λ o. FirstOf rule xs n o ⊎ rule x o) (FirstOf rule xs (n + 1)) old new
-      (λ o e. elim e [ inl h ↦ (h.0, h.1, (let l = h.2 in omega arith), h.3, h.4) | inr r ↦ (x, n, omega arith, is, r) ])
-      (λ o h. elim (cases_lt h.1 n) [
-        | inl less ↦ inl (h.0, h.1, less, h.3, h.4)
-        | inr le ↦ inr (
-            let e : h.1 ≡ n = (let l = h.2 in omega arith) in
-            let there : get_or xs n h.0 ≡ h.0 = rw e at h.3 in
-            let one : h.0 ≡ x = sym there ∙ get_or_default xs n h.0 x lt ∙ is in
-            rw one at h.4)
-      ])
-      (collects_then (FirstOf rule xs n) (rule x) old mid new g p)
+  first_goes n x old mid new lt is g p =
+      collects_by (λ o. FirstOf rule xs n o ⊎ rule x o) (FirstOf rule xs (n + 1)) old new (λ o. of_more (λ p. rule p o) xs n x is) (λ o. of_fewer (λ p. rule p o) xs n x lt is) (collects_then (FirstOf rule xs n) (rule x) old mid new g p)
 
   pub firsts_next : (n : ℕ) (d : X) (old mid new : List Y) → n < length xs → Collects (FirstOf rule xs n) old mid → Collects (rule (get_or xs n d)) mid new → Collects (FirstOf rule xs (n + 1)) old new
   firsts_next n d old mid new lt g p = first_goes n (get_or xs n d) old mid new lt (get_or_default xs n (get_or xs n d) d lt) g p
 
   pub firsts_all : (n : ℕ) (old new : List Y) → n ≡ length xs → Collects (FirstOf rule xs n) old new → Collects (λ o. (x : X) × Contains xs x × rule x o) old new
-  firsts_all n old new e g = collects_by (FirstOf rule xs n) (λ o. (x : X) × Contains xs x × rule x o) old new
-      (λ o h. (h.0, (h.1, (let l = h.2 in omega arith), h.3), h.4))
-      (λ o h. (h.0, (h.1).0, (let l = (h.1).1 in omega arith), (h.1).2, h.2))
-      g
+  firsts_all n old new e g = collects_by (FirstOf rule xs n) (λ o. (x : X) × Contains xs x × rule x o) old new (λ o. of_all (λ p. rule p o) xs n e) (λ o. of_some (λ p. rule p o) xs n e) g

@@ -1,9 +1,10 @@
 -- How a queue grows.
-use Rattle.std.proofs.Common.{◌≡◌, ℕ, ◌<◌, ◌⊎◌, inl, inr, List, length, sym, arith, ◌∙◌, ◌+◌, get_or}
+use Rattle.std.proofs.Common.{◌≡◌, ℕ, ◌<◌, ◌⊎◌, inl, inr, List, length, arith, ◌+◌, get_or}
 use Rattle.std.specs.List.{Contains}
 use Rattle.std.specs.Global.{Vec}
 use Rattle.std.proofs.lemmas.Bool.{cases_lt}
 use Rattle.std.proofs.lemmas.List.{get_or_default}
+use Rattle.mh_search.proofs.Firsts.{OfFirst, of_none, of_more, of_fewer, of_all, of_some}
 use Rattle.mh_search.specs.Rows.{Gains, IsOne, Among, Below}
 
 module _ {Y : Type 0} where
@@ -31,33 +32,21 @@ module _ {Y : Type 0} where
 
 -- those of the first n of a list
 abbrev pub First : {X Y : Type 0} → (X → ℕ → Y → Type 0) → List X → ℕ → ℕ → Y → Type 0
-First {X} rule xs n c o = (p : X) × (k : ℕ) × (k < n) × (get_or xs k p ≡ p) × rule p c o
+First rule xs n c o = OfFirst (λ p. rule p c o) xs n
 
 module _ {X Y : Type 0} (rule : X → ℕ → Y → Type 0) (xs : List X) where
   pub first_begins : (q : List (Vec Y)) → Gains (First rule xs 0) q q
-  first_begins q = gains_none (First rule xs 0) q (λ c o h. let l = h.2 in omega arith)
+  first_begins q = gains_none (First rule xs 0) q (λ c o. of_none (λ p. rule p c o) xs)
 
   first_goes : (n : ℕ) (x : X) (old mid new : List (Vec Y)) → n < length xs → get_or xs n x ≡ x → Gains (First rule xs n) old mid → Gains (rule x) mid new → Gains (First rule xs (n + 1)) old new
-  first_goes n x old mid new lt is g p = gains_by (λ c o. First rule xs n c o ⊎ rule x c o) (First rule xs (n + 1)) old new
-      (λ c o e. elim e [ inl h ↦ (h.0, h.1, (let l = h.2 in omega arith), h.3, h.4) | inr r ↦ (x, n, omega arith, is, r) ])
-      (λ c o h. elim (cases_lt h.1 n) [
-        | inl less ↦ inl (h.0, h.1, less, h.3, h.4)
-        | inr le ↦ inr (
-            let e : h.1 ≡ n = (let l = h.2 in omega arith) in
-            let there : get_or xs n h.0 ≡ h.0 = rw e at h.3 in
-            let one : h.0 ≡ x = sym there ∙ get_or_default xs n h.0 x lt ∙ is in
-            rw one at h.4)
-      ])
-      (gains_then (First rule xs n) (rule x) old mid new g p)
+  first_goes n x old mid new lt is g p =
+      gains_by (λ c o. First rule xs n c o ⊎ rule x c o) (First rule xs (n + 1)) old new (λ c o. of_more (λ p. rule p c o) xs n x is) (λ c o. of_fewer (λ p. rule p c o) xs n x lt is) (gains_then (First rule xs n) (rule x) old mid new g p)
 
   pub first_next : (n : ℕ) (d : X) (old mid new : List (Vec Y)) → n < length xs → Gains (First rule xs n) old mid → Gains (rule (get_or xs n d)) mid new → Gains (First rule xs (n + 1)) old new
   first_next n d old mid new lt g p = first_goes n (get_or xs n d) old mid new lt (get_or_default xs n (get_or xs n d) d lt) g p
 
   pub first_all : (n : ℕ) (old new : List (Vec Y)) → n ≡ length xs → Gains (First rule xs n) old new → Gains (Among rule xs) old new
-  first_all n old new e g = gains_by (First rule xs n) (Among rule xs) old new
-      (λ c o h. (h.0, (h.1, (let l = h.2 in omega arith), h.3), h.4))
-      (λ c o h. (h.0, (h.1).0, (let l = (h.1).1 in omega arith), (h.1).2, h.2))
-      g
+  first_all n old new e g = gains_by (First rule xs n) (Among rule xs) old new (λ c o. of_all (λ p. rule p c o) xs n e) (λ c o. of_some (λ p. rule p c o) xs n e) g
 
 pub in_list : {X : Type 0} (xs : List X) (n : ℕ) (d : X) → n < length xs → Contains xs (get_or xs n d)
 in_list xs n d lt = (n, lt, get_or_default xs n (get_or xs n d) d lt)

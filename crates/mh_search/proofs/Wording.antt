@@ -19,10 +19,15 @@ use Rattle.mh_least.specs.Orders.{cap, CostLe, FirstLe}
 use Rattle.mh_least.specs.Orders as orders
 use Rattle.mh_least.proofs.Orders.{cost_append, cost_label_laws, first_laws}
 use Rattle.mh_search.specs.Tales.{NoLater, NoDearerAt, capped, weigh, WordBy, before_dot, size_by, sizes_of, put, Told, Tale}
-use Rattle.mh_search.proofs.Putting.{put_here, put_cases, put_other, at_cases, at_none, sizes_more}
+use Rattle.mh_search.proofs.Keyed.{put_here, put_cases, put_other, each_more, none_more}
+use Rattle.mh_search.proofs.Putting.{fact_keys, sizes_more}
 
 pub some_is : {X : Type 0} (o : Option X) (a b : X) → o ≡ Some a → o ≡ Some b → a ≡ b
 some_is o a b e h = let y : Some a ≡ Some b = sym e ∙ h in cc
+
+pub some_there : {X : Type 0} (o : Option X) → (o ≡ None → ⊥) → (x : X) × (o ≡ Some x)
+some_there None h = absurd (h refl)
+some_there (Some x) h = (x, refl)
 
 -- what is made of stored words stays where they stay
 pub word_kept : (t : TableData) (words new : FactKey → Option (List ℕ)) (k : FactKey) (back : Back) (w : List ℕ) → ((o : FactKey) (u : List ℕ) → words o ≡ Some u → new o ≡ Some u) → WordBy t words k back w → WordBy t new k back w
@@ -145,19 +150,19 @@ module _ (t : TableData) (facts : Facts) (tale : Tale t facts) (k : FactKey) (f 
   other_than o u e is = let n : tale.words o ≡ None = rw is none in let y : None ≡ Some u = sym n ∙ e in cc
 
   pub words_kept : (o : FactKey) (u : List ℕ) → tale.words o ≡ Some u → new_words o ≡ Some u
-  words_kept o u e = put_other tale.words k (Some w) o (other_than o u e) ∙ e
+  words_kept o u e = put_other fact_keys tale.words k (Some w) o (other_than o u e) ∙ e
 
   pub words_here : new_words k ≡ Some w
-  words_here = put_here tale.words k (Some w)
+  words_here = put_here fact_keys tale.words k (Some w)
 
   pub words_only : (o : FactKey) (u : List ℕ) → new_words o ≡ Some u → (tale.words o ≡ Some u) ⊎ ((o ≡ k) × (u ≡ w))
-  words_only o u e = elim (put_cases tale.words k (Some w) o) [
+  words_only o u e = elim (put_cases fact_keys tale.words k (Some w) o) [
     | inl here ↦ inr (here.0, some_is (new_words o) u w e here.1)
     | inr was ↦ inl (sym was ∙ e)
   ]
 
   sizes_kept : (o : FactKey) (u : List ℕ) → tale.words o ≡ Some u → new_sizes o ≡ (sizes_of facts) o
-  sizes_kept o u e = put_other (sizes_of facts) k (size_by (sizes_of facts) f.back) o (other_than o u e)
+  sizes_kept o u e = put_other fact_keys (sizes_of facts) k (size_by (sizes_of facts) f.back) o (other_than o u e)
 
   size_kept : (o : FactKey) (back : Back) (u : List ℕ) → WordBy t tale.words o back u → size_by new_sizes back ≡ size_by (sizes_of facts) back
   size_kept o backs.Empty u h = refl
@@ -181,17 +186,14 @@ module _ (t : TableData) (facts : Facts) (tale : Tale t facts) (k : FactKey) (f 
     cost_is = cost_is;
     short = short;
     by = word_kept t tale.words new_words k f.back w words_kept by;
-    size = let e = put_here (sizes_of facts) k (size_by (sizes_of facts) f.back) in let s = size_kept k f.back w by in omega (arith, e, s);
+    size = let e = put_here fact_keys (sizes_of facts) k (size_by (sizes_of facts) f.back) in let s = size_kept k f.back w by in omega (arith, e, s);
   }
 
   abbrev pub told_more : Tale t (facts ++ (k, f) ∷ [])
   told_more = record {
     words = new_words;
-    none = λ o e. let h = at_none facts k o f e in put_other tale.words k (Some w) o h.1 ∙ tale.none o h.0;
-    some = λ o g e. elim (at_cases facts k o f g fresh e) [
-      | inl was ↦ rw (sizes_more facts (k, f)) (told_old o g (tale.some o g was))
-      | inr is ↦ rw (sizes_more facts (k, f), is.0, is.1) told_new
-    ];
+    none = none_more fact_keys tale.words facts k f (Some w) tale.none;
+    some = each_more fact_keys (Told t new_words (sizes_of (facts ++ (k, f) ∷ []))) facts k f fresh (λ o g was. rw (sizes_more facts (k, f)) (told_old o g (tale.some o g was))) (rw (sizes_more facts (k, f)) told_new);
   }
 
 pub not_free : (a b : ℕ) → 1 ≤ b → min (a + b) cap ≡ 0 → ⊥

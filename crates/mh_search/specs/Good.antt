@@ -1,5 +1,5 @@
 -- The search between two of its turns.
-use Rattle.std.specs.Prelude.{◌≡◌, ℕ, List, [], ◌∷◌, ◌++◌, slice_get, Option, Some, None, ◌<◌, ◌≤◌, ◌⊎◌, ◌+◌, length}
+use Rattle.std.specs.Prelude.{◌≡◌, ℕ, List, [], ◌∷◌, ◌++◌, slice_get, Option, Some, None, ◌<◌, ◌≤◌, ◌+◌, length}
 use Rattle.std.specs.List.{Contains}
 use Rattle.mh_grammar.specs.declared.types.Symbol.TheVariants.{N}
 use Rattle.mh_grammar.specs.Plain.{rhs_of}
@@ -16,7 +16,8 @@ use Rattle.mh_search.specs.declared.work.Way.{Way}
 use Rattle.mh_search.specs.declared.work.Work.{Work}
 use Rattle.mh_search.specs.declared.classes.Classes.{Classes}
 use Rattle.mh_search.specs.declared.settling.Found.{Found}
-use Rattle.mh_search.specs.Rows.{Waits, IsOne, Beside}
+use Rattle.mh_search.specs.Rows.{Waits, Beside}
+use Rattle.mh_search.specs.Drawn.{DrawsOne, DrawsNone, Keeps, DrawsSome, DrawsAll}
 use Rattle.mh_search.specs.Classes.{rep_of, place_of}
 use Rattle.mh_search.specs.Rules.{InRange, path_of, way_of, queue_of, paths_at, wholes_at, Knows, IsReady}
 use Rattle.mh_search.specs.Tales.{NoLater, capped, WordBy, Tale}
@@ -26,17 +27,15 @@ use Rattle.mh_search.specs.Numbering.{IsNumbered}
 abbrev pub IsStored : Facts → FactKey → Type 0
 IsStored facts k = (f : Fact) × (fact_at facts k ≡ Some f)
 
--- the next item of a cost that is not stored; what is stored is dropped
-pub record NextIs (facts : Facts) (old new : List (Rattle.std.specs.Global.Vec Item)) (cost : ℕ) (i : Item) : Type 0 where
-  pub was : Waits old cost i
-  pub fresh : fact_at facts i.key ≡ None
-  pub kept : (c : ℕ) (o : Item) → Waits old c o → (Waits new c o ⊎ IsStored facts o.key) ⊎ IsOne cost i c o
-  pub only : (c : ℕ) (o : Item) → Waits new c o → Waits old c o
+abbrev pub IsDone : Facts → Item → Type 0
+IsDone facts i = IsStored facts i.key
 
-pub record NoneIsNext (facts : Facts) (old new : List (Rattle.std.specs.Global.Vec Item)) (cost : ℕ) : Type 0 where
-  pub none : (o : Item) → Waits new cost o → ⊥
-  pub kept : (c : ℕ) (o : Item) → Waits old c o → Waits new c o ⊎ IsStored facts o.key
-  pub only : (c : ℕ) (o : Item) → Waits new c o → Waits old c o
+-- the next item of a cost that is not stored; what is stored is dropped
+abbrev pub NextIs : Facts → List (Rattle.std.specs.Global.Vec Item) → List (Rattle.std.specs.Global.Vec Item) → ℕ → Item → Type 0
+NextIs facts old new cost i = DrawsOne (IsDone facts) (λ o. fact_at facts o.key ≡ None) old new cost i
+
+abbrev pub NoneIsNext : Facts → List (Rattle.std.specs.Global.Vec Item) → List (Rattle.std.specs.Global.Vec Item) → ℕ → Type 0
+NoneIsNext facts old new cost = DrawsNone (IsDone facts) old new cost
 
 -- it is stored
 abbrev pub SettlesNext : Facts → Facts → List (Rattle.std.specs.Global.Vec Item) → List (Rattle.std.specs.Global.Vec Item) → ℕ → Option Item → Type 0
@@ -116,18 +115,15 @@ pub record LevelReady (t : TableData) (c : Classes) (facts : Facts) (work : Work
   pub rising : IsRising t good.tale.words beside
 
 abbrev pub KeepsNew : Facts → Item → List Item → List Item → Type 0
-KeepsNew facts i old new = (new ≡ old ++ i ∷ []) ⊎ ((new ≡ old) × IsStored facts i.key)
+KeepsNew facts i old new = Keeps (IsDone facts) i old new
 
 -- all items of a cost are taken out, and those that are not stored kept
-pub record AllNew (facts : Facts) (old new : List (Rattle.std.specs.Global.Vec Item)) (cost : ℕ) (all : List Item) : Type 0 where
-  pub kept : (c : ℕ) (o : Item) → Waits old c o → (Waits new c o ⊎ IsStored facts o.key) ⊎ ((c ≡ cost) × Contains all o)
-  pub only : (c : ℕ) (o : Item) → Waits new c o → Waits old c o
-  pub each : (o : Item) → Contains all o → Waits old cost o
+abbrev pub AllNew : Facts → List (Rattle.std.specs.Global.Vec Item) → List (Rattle.std.specs.Global.Vec Item) → ℕ → List Item → Type 0
+AllNew facts old new cost all = DrawsSome (IsDone facts) old new cost all
 
 -- none of them is left
-pub record AllTaken (facts : Facts) (old new : List (Rattle.std.specs.Global.Vec Item)) (cost : ℕ) (all : List Item) : Type 0 where
-  pub taken : AllNew facts old new cost all
-  pub none : (o : Item) → Waits new cost o → ⊥
+abbrev pub AllTaken : Facts → List (Rattle.std.specs.Global.Vec Item) → List (Rattle.std.specs.Global.Vec Item) → ℕ → List Item → Type 0
+AllTaken facts old new cost all = DrawsAll (IsDone facts) old new cost all
 
 -- What the search leaves. A path that a run goes along is stored with a word that the run reads on it, and no other such word comes
 -- before that one: the stored cost is the least.

@@ -2,6 +2,7 @@ pub mod Adding
 pub mod Begins
 pub mod Classes
 pub mod Classing
+pub mod Drawn
 pub mod Good
 pub mod Left
 pub mod Numbering

@@ -1,30 +1,14 @@
--- The order of words: by the numbers of their tokens, a front first.
+-- What a comparison of two words tells of their order.
 use Rattle.std.proofs.Common.{◌≡◌, ◌∙◌, ℕ, ◌⊎◌, inl, inr, List, [], ◌∷◌, ◌++◌, refl, sym, arith}
 use Rattle.std.specs.declared.cmp.Ordering.{Ordering}
 use Rattle.std.specs.declared.cmp.Ordering.TheVariants.{Less, Equal, Greater}
 use Rattle.mh_tables.specs.Failing.{LexLe}
+use Rattle.mh_tables.proofs.WordOrder.{lex_same, lex_after, lex_front, lower_or_same}
 use Rattle.mh_words.specs.declared.made.Made.{Made}
 use Rattle.mh_words.specs.Words.{Words, Before, IsFront, spelled}
 use Rattle.mh_words.specs.Compared.{IsCompared}
 use Rattle.mh_words.specs.Numbered.{AreApart}
 use Rattle.mh_words.specs.Rising.{NoLater}
-
-pub lex_same : (u : List ℕ) → LexLe u u
-lex_same [] = tt
-lex_same (x ∷ u) = inr (refl, lex_same u)
-
-pub lex_after : (u v w : List ℕ) → LexLe u v → LexLe v w → LexLe u w
-lex_after [] v w a b = tt
-lex_after (x ∷ u) [] w a b = absurd a
-lex_after (x ∷ u) (y ∷ v) [] a b = absurd b
-lex_after (x ∷ u) (y ∷ v) (z ∷ w) (inl a) (inl b) = inl (omega arith)
-lex_after (x ∷ u) (y ∷ v) (z ∷ w) (inl a) (inr b) = inl (let e = b.0 in omega arith)
-lex_after (x ∷ u) (y ∷ v) (z ∷ w) (inr a) (inl b) = inl (let e = a.0 in omega arith)
-lex_after (x ∷ u) (y ∷ v) (z ∷ w) (inr a) (inr b) = inr (a.0 ∙ b.0, lex_after u v w a.1 b.1)
-
-front_lex : (u v : List ℕ) → LexLe u (u ++ v)
-front_lex [] v = tt
-front_lex (x ∷ u) v = inr (refl, front_lex u v)
 
 -- whatever stands behind two words that differ
 pub before_lex : (u v r s : List ℕ) → Before u v → LexLe (u ++ r) (v ++ s)
@@ -43,10 +27,7 @@ pub before_after : (u v w : List ℕ) → Before u v → Before v w → Before u
 before_after [] v w a b = absurd a
 before_after (x ∷ u) [] w a b = absurd a
 before_after (x ∷ u) (y ∷ v) [] a b = absurd b
-before_after (x ∷ u) (y ∷ v) (z ∷ w) (inl a) (inl b) = inl (omega arith)
-before_after (x ∷ u) (y ∷ v) (z ∷ w) (inl a) (inr b) = inl (let e = b.0 in omega arith)
-before_after (x ∷ u) (y ∷ v) (z ∷ w) (inr a) (inl b) = inl (let e = a.0 in omega arith)
-before_after (x ∷ u) (y ∷ v) (z ∷ w) (inr a) (inr b) = inr (a.0 ∙ b.0, before_after u v w a.1 b.1)
+before_after (x ∷ u) (y ∷ v) (z ∷ w) a b = lower_or_same x y z (λ p q. before_after u v w p q) a b
 
 -- not both ways
 before_once : (u v : List ℕ) → Before v u → LexLe u v → ⊥
@@ -58,7 +39,7 @@ before_once (x ∷ u) (y ∷ v) (inr a) (inl b) = let e = a.0 in omega arith
 before_once (x ∷ u) (y ∷ v) (inr a) (inr b) = before_once u v a.1 b.1
 
 front_no_later : (u v : List ℕ) → IsFront u v → LexLe u v
-front_no_later u v h = rw h.2 (front_lex u (h.0 ∷ h.1))
+front_no_later u v h = rw h.2 (lex_front u (h.0 ∷ h.1))
 
 -- words that differ, of which the first comes no later, and none is a front
 pub apart_before : (u v : List ℕ) → AreApart u v → LexLe u v → (IsFront u v → ⊥) → (IsFront v u → ⊥) → Before u v

@@ -7,6 +7,8 @@ mod comparing;
 mod made;
 mod numbering;
 mod sorting;
+mod spelling;
 
 pub use book::Book;
 pub use made::{Last, Made};
+pub use sorting::{Order, sorted};

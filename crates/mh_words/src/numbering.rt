@@ -8,6 +8,7 @@ ghost use Rattle.mh_words.specs.Words.{IsSound, Knows, words_of};
 use crate::comparing::{Rests, compare, no_rests};
 use crate::made::{Entry, Made};
 use crate::sorting::sorted;
+use crate::spelling::BySpelling;
 use indexmap::{IndexMap, IndexSet};
 use mh_grammar::Memory;
 use std::alloc::Global;
@@ -206,7 +207,8 @@ pub fn number_words(
 {
     let distinct = distinct_of(alloc, made)?;
     let mut rests = no_rests(alloc);
-    let words = sorted(alloc, entries, &mut rests, distinct.as_slice())?;
+    let order = BySpelling { entries };
+    let words = sorted(alloc, &order, &mut rests, distinct.as_slice())?;
     let ordered = Ordered {
         group,
         made: words.as_slice(),

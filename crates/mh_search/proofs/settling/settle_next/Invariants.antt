@@ -1,11 +1,12 @@
 use Rattle.std.proofs.Common.{◌≡◌, length}
 use Rattle.mh_search.specs.Rows.{row_of}
+use Rattle.mh_search.specs.Good.{IsDone}
 use Rattle.mh_search.proofs.Queueing.{Thinned}
 use Rattle.mh_search.proofs.settling.settle_next.Given as goal
 
 pub record Turn (l : goal.Live-items) : Type 0 where
   pub same : l.store ≡ l.fn.store
-  pub thinned : Thinned l.fn.store l.fn.queue.buckets.items l.queue.buckets.items
+  pub thinned : Thinned (IsDone l.fn.store) l.fn.queue.buckets.items l.queue.buckets.items
 
 abbrev pub invariant-items : goal.invariant-items
 invariant-items l = Turn l

@@ -1,4 +1,3 @@
-use Rattle.mh_words.specs.declared.comparing.Rests.{Rests}
 use Rattle.mh_words.proofs.Parts.{on_ok}
 use Rattle.mh_words.proofs.Turning.{right_word_known, right_opened}
 use Rattle.mh_words.specs.Words.{words_of}
@@ -9,5 +8,4 @@ open-requires-clause-known c = right_word_known (words_of c.args.entries.now) c.
 
 pub returns : goal.returns
 returns c =
-    let new : Rests = record { left = c.put_back.new.parts; right = c.open.new.parts } in
-    on_ok c.open.result _ _ (right_opened (words_of c.args.entries.now) c.args.rests.now new c.args.left c.args.right c.requires.tops c.in_ok-put_back.ensures) c.open.ensures
+    on_ok c.open.result _ _ (right_opened (words_of c.args.entries.now) c.args.rests.now (record { left = c.put_back.new.parts; right = c.open.new.parts }) c.args.left c.args.right c.requires.tops c.in_ok-put_back.ensures) c.open.ensures

@@ -1,7 +1,11 @@
 use Rattle.mh_words.specs.Rising.{NoLater, Sorts}
 use Rattle.mh_words.specs.Words.{words_of}
+use Rattle.mh_words.proofs.Ordered.{no_later_after}
 use Rattle.mh_words.proofs.Extending.{ordered_known, ordered_even, number_of, is_numbered}
 use Rattle.mh_words.proofs.numbering.number_words.Goals as goal
+
+pub sorted-requires-clause-transitive : goal.sorted-requires-clause-transitive
+sorted-requires-clause-transitive c x y z known = no_later_after (words_of c.args.entries.now) x y z
 
 pub sorted-requires-clause-known : goal.sorted-requires-clause-known
 sorted-requires-clause-known c m there = c.requires.known m (c.in_ok-distinct.ensures.only m (rw c.as_slice.ensures.value at there))
