@@ -12,14 +12,15 @@ use Rattle.mh_lex.specs.declared.kinds.Front.{Front}
 use Rattle.mh_lex.specs.declared.kinds.Front.TheVariants.{Ended, Short, Long, Fault}
 use Rattle.mh_lex.specs.Bytes.{byte_at, has, is_end, is_word_start, is_word_byte, is_blank, is_mark}
 use Rattle.mh_lex.specs.Spellings.{word_rest, string_rest, literal, quoted_opening, quoted_id, quoted_rest}
-use Rattle.mh_lex.specs.Steps.{passed, begins_comment, opener, single, item, plain, closer, has_remarks, step}
-use Rattle.mh_lex.specs.Begins.{front, percent, slash, string_front, keyword_of, is_keyword}
+use Rattle.mh_lex.specs.Steps.{passed, begins_comment, nests_in, single, item, plain, closer, has_remarks, step}
+use Rattle.mh_lex.specs.Begins.{front, percent, slash, string_front, keyword_of}
+use Rattle.mh_lex.specs.Keywords.{is_keyword}
 use Rattle.mh_lex.specs.Bodies.{Body}
 use Rattle.mh_lex.specs.Bodies.Body.{closes, passes, nests, remark}
 use Rattle.mh_lex.specs.Lexing.{Taken, LexesFrom, Lexes, kept, left_after}
 use Rattle.mh_lex.specs.Lexing.Taken.{short, long}
 use Rattle.mh_lex.specs.Lexing.LexesFrom.{ended, trailer, taken, fault}
-use Rattle.mh_lex.proofs.Levels.{Body-passes, Body-nests, Body-remark, Body-stuck, Body-once}
+use Rattle.mh_lex.proofs.Levels.{each_end, Body-passes, Body-nests, Body-remark, Body-stuck, Body-once}
 use Rattle.mh_lex.proofs.Takes.{Taken-long, Taken-fault}
 
 -- a step goes over some byte
@@ -64,7 +65,7 @@ word_more [] h = absurd (cc)
 word_more (b ∷ bs) h = let byte : is_word_byte b ≡ true = rw h refl in rw byte (omega arith)
 
 moves_single : (e : Ends) (s : List ℕ) → Moves (single e s)
-moves_single e s = moves_cond (is_end s) (λ _. moves_stuck) (moves_cond (has s 0 (opener e)) (λ _. moves_nests) (moves_passes (omega arith)))
+moves_single e s = moves_cond (is_end s) (λ _. moves_stuck) (moves_cond (nests_in e s) (λ _. moves_nests) (moves_passes (omega arith)))
 
 moves_item : (e : Ends) (s : List ℕ) → Moves (item e s)
 unfolding item
@@ -89,12 +90,7 @@ moves_step e s = moves_cond (nat_lt 0 (closer e s)) (λ h. moves_closes (more_th
 
 step_nil : (e : Ends) → step e [] ≡ Stuck
 unfolding step item literal quoted_opening
-step_nil Comment = refl
-step_nil Brace = refl
-step_nil Bracket = refl
-step_nil Header = refl
-step_nil Angle = refl
-step_nil Slash = refl
+step_nil e = each_end (λ e. step e [] ≡ Stuck) refl refl refl refl refl refl e
 
 -- code is closed somewhere, or nowhere
 data Closing (e : Ends) (s : List ℕ) : Type 0 where

@@ -1,10 +1,11 @@
 -- Texts with spaces behind them are lexed to themselves.
-use Rattle.std.proofs.Common.{◌≡◌, ℕ, zero, suc, ◌+◌, ◌-◌, ◌<◌, ◌==◌, ◌&&◌, ◌||◌, Bool, true, false, not, cond, List, [], ◌∷◌, ◌++◌, length, drop, Some, None, refl, sym, ap, subst, ◌∙◌, arith, length-append}
-use Rattle.std.specs.Prelude.{codes, bytes_eq}
-use Rattle.std.specs.List.{AllByRecursion}
+use Rattle.std.proofs.Common.{◌≡◌, ℕ, zero, suc, ◌+◌, ◌-◌, ◌<◌, ◌==◌, ◌&&◌, ◌||◌, Bool, true, false, not, cond, List, [], ◌∷◌, ◌++◌, length, take, drop, Some, None, refl, sym, ap, subst, ◌∙◌, arith, length-append}
+use Rattle.std.specs.Prelude.{codes}
+use Rattle.std.specs.List.{AllByRecursion, list_all}
 use Rattle.std.proofs.lemmas.Bool.{not-true}
 use Rattle.std.proofs.lemmas.Bool.Decides.{nat_tests, Decides-eqb}
-use Rattle.std.proofs.lemmas.Slice.Eq.{bytes_eq-Decides}
+use Rattle.std.proofs.lemmas.List.Elements.{recursion_from_All}
+use Rattle.std.proofs.lemmas.List.Sums.{AllPass-from_list_all}
 use Rattle.mh_lex.specs.declared.kinds.Ends.TheVariants as ends
 use Rattle.mh_lex.specs.declared.kinds.Step.TheVariants.{Closes, Passes}
 use Rattle.mh_lex.specs.declared.kinds.Kind.{Kind}
@@ -15,7 +16,9 @@ use Rattle.mh_lex.specs.declared.kinds.Front.TheVariants.{Ended, Short, Long}
 use Rattle.mh_lex.specs.Bytes.{is_word_start, is_word_byte, is_blank, is_mark, is_decimal}
 use Rattle.mh_lex.specs.Spellings.{more, word_rest, string_rest, literal, quoted_opening}
 use Rattle.mh_lex.specs.Steps.{step, item}
-use Rattle.mh_lex.specs.Begins.{front, percent, keyword_of, is_keyword}
+use Rattle.mh_lex.specs.Keywords.{is_keyword}
+use Rattle.mh_lex.specs.Words.{is_word}
+use Rattle.mh_lex.specs.Begins.{front, percent, keyword_of}
 use Rattle.mh_lex.specs.Bodies.{Body}
 use Rattle.mh_lex.specs.Bodies.Body.{closes, passes}
 use Rattle.mh_lex.specs.Lexing.{Taken, LexesFrom, Lexes, piece, left_after}
@@ -23,15 +26,13 @@ use Rattle.mh_lex.specs.Lexing.Taken.{short, long}
 use Rattle.mh_lex.specs.Lexing.LexesFrom.{ended, taken}
 use Rattle.mh_lex.specs.Texts.{Text, IsText, is_content, laid, places, one_of, count_of_percents}
 use Rattle.mh_lex.specs.Texts.Text.{word, mark, percents, keyword, quoted, empty_action, cost}
+use Rattle.mh_lex.proofs.Rows.{keyword_is_word}
+use Rattle.mh_lex.proofs.Tests.{both, third, fourth}
 
 -- one of two
 either : {P : Type 0} (a b : Bool) → (a || b) ≡ true → (a ≡ true → P) → (b ≡ true → P) → P
 either true b h f g = f refl
 either false b h f g = g h
-
-pub both : (a b : Bool) → (a && b) ≡ true → (a ≡ true) × (b ≡ true)
-both true b h = (refl, h)
-both false b h = absurd (cc)
 
 pub drop_all : (t rest : List ℕ) → drop (length t) (t ++ rest) ≡ rest
 drop_all [] rest = refl
@@ -41,15 +42,12 @@ drop_all (b ∷ bs) rest = drop_all bs rest
 word_tests : (b : ℕ) → is_word_start b ≡ true → ((b == 256) ≡ false) × (is_blank b ≡ false)
 word_tests b h = (grind (arith, nat_tests), grind (arith, nat_tests))
 
-start_is_byte : (b : ℕ) → is_word_start b ≡ true → is_word_byte b ≡ true
+pub start_is_byte : (b : ℕ) → is_word_start b ≡ true → is_word_byte b ≡ true
 start_is_byte b h = rw h refl
 
 word_rest-append : (t rest : List ℕ) → AllByRecursion (λ b. is_word_byte b ≡ true) t → word_rest (t ++ 32 ∷ rest) ≡ length t
 word_rest-append [] rest h = refl
 word_rest-append (b ∷ bs) rest h = rw h.0 (ap (λ k. k + 1) (word_rest-append bs rest h.1) ∙ (omega arith))
-
-third : (p q r : Bool) (x y z w : Front) → p ≡ false → q ≡ false → r ≡ true → cond p x (cond q y (cond r z w)) ≡ z
-third p q r x y z w e f g = rw (e, f, g) refl
 
 word_front : (b : ℕ) (bs rest : List ℕ) → is_word_start b ≡ true → word_rest (b ∷ bs ++ 32 ∷ rest) ≡ length (b ∷ bs) → front (b ∷ bs ++ 32 ∷ rest) ≡ Short (Some kinds.Word) (length (b ∷ bs))
 unfolding front
@@ -72,25 +70,32 @@ unfolding front
 mark_front b h = mark_cases IsMarkFront (λ rest. refl) (λ rest. refl) (λ rest. refl) (λ rest. refl) (λ rest. refl) (λ rest. refl) (λ rest. refl) (λ rest. refl) (λ rest. refl) (λ rest. refl) b h
 
 -- a keyword
-keyword_cases : (P : List ℕ → Type 0) → P (codes "token") → P (codes "start") → P (codes "type") → P (codes "left") → P (codes "right") → P (codes "nonassoc") →
-    P (codes "on_error_reduce") → P (codes "parameter") → P (codes "attribute") → P (codes "public") → P (codes "inline") → P (codes "prec") → (w : List ℕ) → is_keyword w ≡ true → P w
-unfolding is_keyword
-keyword_cases P p0 p1 p2 p3 p4 p5 p6 p7 p8 p9 p10 p11 w h =
-    either _ _ h (is (codes "token") p0) (λ h1. either _ _ h1 (is (codes "start") p1) (λ h2. either _ _ h2 (is (codes "type") p2) (λ h3. either _ _ h3 (is (codes "left") p3)
-    (λ h4. either _ _ h4 (is (codes "right") p4) (λ h5. either _ _ h5 (is (codes "nonassoc") p5) (λ h6. either _ _ h6 (is (codes "on_error_reduce") p6)
-    (λ h7. either _ _ h7 (is (codes "parameter") p7) (λ h8. either _ _ h8 (is (codes "attribute") p8) (λ h9. either _ _ h9 (is (codes "public") p9)
-    (λ h10. either _ _ h10 (is (codes "inline") p10) (is (codes "prec") p11)))))))))))
+percent_tests : (b : ℕ) → is_word_start b ≡ true → ((b == 37) ≡ false) × ((b == 123) ≡ false) × ((b == 91) ≡ false)
+percent_tests b h = (grind (arith, nat_tests), grind (arith, nat_tests), grind (arith, nat_tests))
+
+and_false : (p q : Bool) → p ≡ false → (p && q) ≡ false
+and_false p q e = rw e refl
+
+pub take_all : (t rest : List ℕ) → take (length t) (t ++ rest) ≡ t
+take_all [] rest = refl
+take_all (b ∷ bs) rest = ap (λ k. b ∷ k) (take_all bs rest)
+
+keyword_front_by : (b : ℕ) (bs rest : List ℕ) → is_keyword (b ∷ bs) ≡ true → is_word_start b ≡ true → word_rest (b ∷ bs ++ 32 ∷ rest) ≡ length (b ∷ bs) →
+    front (37 ∷ b ∷ bs ++ 32 ∷ rest) ≡ Short (Some kinds.Keyword) (length (b ∷ bs) + 1)
+unfolding front percent keyword_of
+keyword_front_by b bs rest h start e =
+    let tests = percent_tests b start in
+    let whole : take (word_rest (b ∷ bs ++ 32 ∷ rest)) (b ∷ bs ++ 32 ∷ rest) ≡ b ∷ bs = ap (λ n. take n (b ∷ bs ++ 32 ∷ rest)) e ∙ take_all (b ∷ bs) (32 ∷ rest) in
+    fourth _ _ _ _ _ _ _ _ _ tests.0 tests.1 (and_false _ _ tests.2) (ap is_keyword whole ∙ h) ∙ ap (λ n. Short (Some kinds.Keyword) (n + 1)) e
+
+keyword_front : (w rest : List ℕ) → is_keyword w ≡ true → front (37 ∷ w ++ 32 ∷ rest) ≡ Short (Some kinds.Keyword) (length w + 1)
+keyword_front w rest h = by w h (keyword_is_word w h)
   where
-    is : (v : List ℕ) → P v → bytes_eq w v ≡ true → P w
-    is v p e = subst P (sym ((bytes_eq-Decides w v).0 e)) p
-
-abbrev IsKeywordFront : List ℕ → Type 0
-IsKeywordFront w = (rest : List ℕ) → front (37 ∷ w ++ 32 ∷ rest) ≡ Short (Some kinds.Keyword) (length w + 1)
-
-keyword_front : (w : List ℕ) → is_keyword w ≡ true → IsKeywordFront w
-unfolding front percent keyword_of is_keyword
-keyword_front w h = keyword_cases IsKeywordFront (λ rest. refl) (λ rest. refl) (λ rest. refl) (λ rest. refl) (λ rest. refl) (λ rest. refl)
-    (λ rest. refl) (λ rest. refl) (λ rest. refl) (λ rest. refl) (λ rest. refl) (λ rest. refl) w h
+    by : (w : List ℕ) → is_keyword w ≡ true → is_word w ≡ true → front (37 ∷ w ++ 32 ∷ rest) ≡ Short (Some kinds.Keyword) (length w + 1)
+    by [] h k = absurd (cc)
+    by (b ∷ bs) h k =
+        let two = both (is_word_start b) (list_all is_word_byte bs) k in
+        keyword_front_by b bs rest h two.0 (word_rest-append (b ∷ bs) rest (start_is_byte b two.0, recursion_from_All (λ c. is_word_byte c ≡ true) bs (AllPass-from_list_all is_word_byte bs two.1)))
 
 -- %%
 percents_front : (rest : List ℕ) → front (37 ∷ 37 ∷ 32 ∷ rest) ≡ Short (Some kinds.Percents) 2
@@ -98,7 +103,7 @@ unfolding front percent
 percents_front rest = refl
 
 -- a string
-string_rest-append : (held : Bool) (s rest : List ℕ) → is_content held s ≡ true → string_rest held ((s ++ 34 ∷ []) ++ rest) ≡ Some (length s + 1)
+pub string_rest-append : (held : Bool) (s rest : List ℕ) → is_content held s ≡ true → string_rest held ((s ++ 34 ∷ []) ++ rest) ≡ Some (length s + 1)
 string_rest-append true [] rest h = cc
 string_rest-append false [] rest h = refl
 string_rest-append held (b ∷ bs) rest h =
@@ -166,7 +171,7 @@ text_taken k t (word {b = b} {bs = bs} h all) rest =
     before_space kinds.Word (b ∷ bs) rest (word_front b bs rest h (word_rest-append (b ∷ bs) rest (start_is_byte b h, all)))
 text_taken k t (mark {b = b} h) rest = before_space kinds.Mark (b ∷ []) rest (mark_front b h rest)
 text_taken k t percents rest = before_space kinds.Percents (37 ∷ 37 ∷ []) rest (percents_front rest)
-text_taken k t (keyword {w = w} h) rest = before_space kinds.Keyword (37 ∷ w) rest (keyword_front w h rest ∙ ap (λ n. Short (Some kinds.Keyword) n) (omega arith))
+text_taken k t (keyword {w = w} h) rest = before_space kinds.Keyword (37 ∷ w) rest (keyword_front w rest h ∙ ap (λ n. Short (Some kinds.Keyword) n) (omega arith))
 text_taken k t (quoted s h) rest =
     before_space kinds.Quoted (34 ∷ s ++ 34 ∷ []) rest (quoted_front s rest h ∙ ap (λ n. Short (Some kinds.Quoted) n) (omega (arith, length-append s (34 ∷ []))))
 text_taken k t empty_action rest = long (action_front (125 ∷ 32 ∷ rest)) (closes (action_step (32 ∷ rest)) refl)

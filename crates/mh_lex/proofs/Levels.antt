@@ -1,12 +1,25 @@
 -- How code closes, level by level.
-use Rattle.std.proofs.Common.{◌≡◌, ℕ, zero, suc, ◌+◌, ◌<◌, List, drop, refl, sym, ap, subst, ◌∙◌, arith, ◌-◌, add-one, add_assoc}
+use Rattle.std.proofs.Common.{◌≡◌, ℕ, zero, suc, ◌+◌, ◌<◌, ◌-◌, Bool, true, false, cond, List, [], ◌∷◌, Option, Some, None, drop, refl, sym, subst, ◌∙◌, arith, add-one}
+use Rattle.std.specs.Prelude.{nat_lt}
 use Rattle.std.proofs.lemmas.List.{drop-drop}
 use Rattle.mh_lex.specs.declared.kinds.Ends.{Ends}
-use Rattle.mh_lex.specs.declared.kinds.Ends.TheVariants.{Comment}
+use Rattle.mh_lex.specs.declared.kinds.Ends.TheVariants.{Comment, Brace, Bracket, Header, Angle, Slash}
+use Rattle.mh_lex.specs.declared.kinds.Step.{Step}
 use Rattle.mh_lex.specs.declared.kinds.Step.TheVariants.{Closes, Passes, Nests, Remark, Stuck}
-use Rattle.mh_lex.specs.Steps.{step}
+use Rattle.mh_lex.specs.Bytes.{byte_at, has, is_end, is_word_start}
+use Rattle.mh_lex.specs.Spellings.{string_rest, literal, quoted_opening, quoted_id, quoted_rest}
+use Rattle.mh_lex.specs.Steps.{passed, begins_comment, innermost_of, item, closer, step}
 use Rattle.mh_lex.specs.Bodies.{Body}
 use Rattle.mh_lex.specs.Bodies.Body.{closes, passes, nests, remark}
+
+-- what holds of each
+pub each_end : (P : Ends → Type 0) → P Comment → P Brace → P Bracket → P Header → P Angle → P Slash → (e : Ends) → P e
+each_end P comment brace bracket header angle slash Comment = comment
+each_end P comment brace bracket header angle slash Brace = brace
+each_end P comment brace bracket header angle slash Bracket = bracket
+each_end P comment brace bracket header angle slash Header = header
+each_end P comment brace bracket header angle slash Angle = angle
+each_end P comment brace bracket header angle slash Slash = slash
 
 -- what each step says of the code
 pub Body-closes : {e : Ends} {bytes rest : List ℕ} {n : ℕ} → step e bytes ≡ Closes n → Body e bytes rest → rest ≡ drop n bytes
@@ -46,85 +59,154 @@ Body-once (passes s a) b = Body-once a (Body-passes s b)
 Body-once {e} {bytes} {one} {two} (nests {mid = mid} s a c) b = let x = Body-nests s b in let same = Body-once a x.1 in Body-once c (subst (λ m. Body e m two) same x.2)
 Body-once {e} {bytes} {one} {two} (remark {mid = mid} s a c) b = let x = Body-remark s b in let same = Body-once a x.1 in Body-once c (subst (λ m. Body e m two) same x.2)
 
--- so many levels close, one after the other
-abbrev pub Levels : Ends → ℕ → List ℕ → List ℕ → Type 0
-Levels e zero bytes rest = rest ≡ bytes
-Levels e (suc d) bytes rest = (mid : List ℕ) × Body e bytes mid × Levels e d mid rest
+-- the levels that are open close, the innermost first
+abbrev pub Closing : List Ends → List ℕ → List ℕ → Type 0
+Closing [] now rest = rest ≡ now
+Closing (e ∷ es) now rest = (mid : List ℕ) × Body e now mid × Closing es mid rest
 
--- from start on, the code was passed over up to now, where so many levels are open outside of the innermost
-pub record Inside (e : Ends) (start now : List ℕ) (outer : ℕ) : Type 0 where
-  pub sound : (rest : List ℕ) → Levels e (suc outer) now rest → Body e start rest
-  pub whole : (rest : List ℕ) → Body e start rest → Levels e (suc outer) now rest
+-- from start on, the code was passed over up to now, where these levels are open
+pub record Inside (e : Ends) (start now : List ℕ) (es : List Ends) : Type 0 where
+  pub sound : (rest : List ℕ) → Closing es now rest → Body e start rest
+  pub whole : (rest : List ℕ) → Body e start rest → Closing es now rest
 
-pub Inside-start : (e : Ends) (start : List ℕ) → Inside e start start 0
+pub Inside-start : (e : Ends) (start : List ℕ) → Inside e start start (e ∷ [])
 Inside-start e start = record {
   sound = λ rest l. subst (λ m. Body e start m) (sym l.2) l.1;
   whole = λ rest b. (rest, b, refl);
 }
 
-pub Inside-passes : {e : Ends} {start now : List ℕ} {outer n : ℕ} → Inside e start now outer → step e now ≡ Passes n → Inside e start (drop n now) outer
-Inside-passes i s = record {
-  sound = λ rest l. i.sound rest (l.0, passes s l.1, l.2);
-  whole = λ rest b. let l = i.whole rest b in (l.0, Body-passes s l.1, l.2);
-}
+Inside-done : {e : Ends} {start now : List ℕ} → Inside e start now [] → Body e start now
+Inside-done {now = now} i = i.sound now refl
 
-pub Inside-nests : {e : Ends} {start now : List ℕ} {outer : ℕ} → Inside e start now outer → step e now ≡ Nests → Inside e start (drop 1 now) (suc outer)
-Inside-nests i s = record {
-  sound = λ rest l. i.sound rest (l.2.0, nests s l.1 l.2.1, l.2.2);
-  whole = λ rest b. let l = i.whole rest b in let x = Body-nests s l.1 in (x.0, x.1, (l.0, x.2, l.2));
-}
+module _ {e top : Ends} {start now : List ℕ} {es : List Ends} (i : Inside e start now (top ∷ es)) where
+  Inside-passes : {n : ℕ} → step top now ≡ Passes n → Inside e start (drop n now) (top ∷ es)
+  Inside-passes s = record {
+    sound = λ rest l. i.sound rest (l.0, passes s l.1, l.2);
+    whole = λ rest b. let l = i.whole rest b in (l.0, Body-passes s l.1, l.2);
+  }
 
-pub Inside-closes : {e : Ends} {start now : List ℕ} {outer n : ℕ} → Inside e start now (suc outer) → step e now ≡ Closes n → Inside e start (drop n now) outer
-Inside-closes {e} {start} {now} {outer} {n} i s = record {
-  sound = λ rest l. i.sound rest (drop n now, closes s refl, l);
-  whole = λ rest b. let l = i.whole rest b in subst (λ m. Levels e (suc outer) m rest) (Body-closes s l.1) l.2;
-}
+  Inside-nests : step top now ≡ Nests → Inside e start (drop 1 now) (top ∷ top ∷ es)
+  Inside-nests s = record {
+    sound = λ rest l. i.sound rest (l.2.0, nests s l.1 l.2.1, l.2.2);
+    whole = λ rest b. let l = i.whole rest b in let x = Body-nests s l.1 in (x.0, x.1, (l.0, x.2, l.2));
+  }
 
-pub Inside-remark : {e : Ends} {start now after : List ℕ} {outer : ℕ} → Inside e start now outer → step e now ≡ Remark → Body Comment (drop 2 now) after → Inside e start after outer
-Inside-remark {e} {start} {now} {after} {outer} i s a = record {
-  sound = λ rest l. i.sound rest (l.0, remark s a l.1, l.2);
-  whole = λ rest b. let l = i.whole rest b in let x = Body-remark s l.1 in (l.0, subst (λ m. Body e m l.0) (Body-once a x.1) x.2, l.2);
-}
+  Inside-remark : step top now ≡ Remark → Inside e start (drop 2 now) (Comment ∷ top ∷ es)
+  Inside-remark s = record {
+    sound = λ rest l. i.sound rest (l.2.0, remark s l.1 l.2.1, l.2.2);
+    whole = λ rest b. let l = i.whole rest b in let x = Body-remark s l.1 in (x.0, x.1, (l.0, x.2, l.2));
+  }
 
-pub Inside-done : {e : Ends} {start now : List ℕ} {n : ℕ} → Inside e start now 0 → step e now ≡ Closes n → Body e start (drop n now)
-Inside-done {e} {start} {now} {n} i s = i.sound (drop n now) (drop n now, closes s refl, refl)
+  Inside-closes : {n : ℕ} → step top now ≡ Closes n → Inside e start (drop n now) es
+  Inside-closes {n} s = record {
+    sound = λ rest l. i.sound rest (drop n now, closes s refl, l);
+    whole = λ rest b. let l = i.whole rest b in subst (λ m. Closing es m rest) (Body-closes s l.1) l.2;
+  }
 
-pub Inside-stuck : {e : Ends} {start now : List ℕ} {outer : ℕ} → Inside e start now outer → step e now ≡ Stuck → (rest : List ℕ) → Body e start rest → ⊥
-Inside-stuck i s rest b = Body-stuck s (i.whole rest b).1
+  Inside-stuck : step top now ≡ Stuck → (rest : List ℕ) → Body e start rest → ⊥
+  Inside-stuck s rest b = Body-stuck s (i.whole rest b).1
 
-pub Inside-lost : {e : Ends} {start now : List ℕ} {outer : ℕ} → Inside e start now outer → step e now ≡ Remark → ((mid : List ℕ) → Body Comment (drop 2 now) mid → ⊥) → (rest : List ℕ) → Body e start rest → ⊥
-Inside-lost i s h rest b = let x = Body-remark s (i.whole rest b).1 in h x.0 x.1
+-- in a comment no byte nests
+record IsFlat (f : Step) : Type 0 where
+  flat : f ≡ Nests → ⊥
 
-pub Inside-deeper : {start now : List ℕ} {outer : ℕ} → Inside Comment start now outer → step Comment now ≡ Remark → Inside Comment start (drop 2 now) (suc outer)
-Inside-deeper i s = record {
-  sound = λ rest l. i.sound rest (l.2.0, remark s l.1 l.2.1, l.2.2);
-  whole = λ rest b. let l = i.whole rest b in let x = Body-remark s l.1 in (x.0, x.1, (l.0, x.2, l.2));
-}
+flat_cond : {x y : Step} (b : Bool) → IsFlat x → IsFlat y → IsFlat (cond b x y)
+flat_cond true f g = f
+flat_cond false f g = g
+
+flat_closes : {n : ℕ} → IsFlat (Closes n)
+flat_closes = record { flat = λ e. cc }
+
+flat_passes : {n : ℕ} → IsFlat (Passes n)
+flat_passes = record { flat = λ e. cc }
+
+flat_remark : IsFlat Remark
+flat_remark = record { flat = λ e. cc }
+
+flat_stuck : IsFlat Stuck
+flat_stuck = record { flat = λ e. cc }
+
+flat_passed : (opening : ℕ) (o : Option ℕ) → IsFlat (passed opening o)
+flat_passed opening None = flat_stuck
+flat_passed opening (Some n) = flat_passes
+
+flat_item : (s : List ℕ) → IsFlat (item Comment s)
+unfolding item
+flat_item s = flat_cond (has s 0 34) (flat_passed 1 (string_rest false (drop 1 s))) (flat_cond (nat_lt 0 (literal s)) flat_passes
+    (flat_cond (is_word_start (byte_at s 0)) flat_passes
+    (flat_cond (nat_lt 0 (quoted_opening s)) (flat_passed (quoted_opening s) (quoted_rest (quoted_id (quoted_opening s) s) (drop (quoted_opening s) s)))
+    (flat_cond (is_end s) flat_stuck flat_passes))))
+
+flat_comment : (s : List ℕ) → IsFlat (step Comment s)
+unfolding step
+flat_comment s = flat_cond (nat_lt 0 (closer Comment s)) flat_closes (flat_cond (begins_comment s) flat_remark (flat_item s))
+
+-- comments are innermost
+pub innermost_code : (code : Ends) (remarks : ℕ) → remarks ≡ 0 → code ≡ innermost_of code remarks
+innermost_code code zero h = refl
+innermost_code code (suc remarks) h = absurd (omega arith)
+
+pub innermost_comment : (code : Ends) (remarks : ℕ) → 0 < remarks → Comment ≡ innermost_of code remarks
+innermost_comment code zero h = absurd (omega arith)
+innermost_comment code (suc remarks) h = refl
+
+-- the levels that are open, by their numbers: the code's own, and inside of them comments
+abbrev pub outers : Ends → ℕ → List Ends
+outers code zero = code ∷ []
+outers code (suc outer) = code ∷ outers code outer
+
+abbrev pub levels : Ends → ℕ → ℕ → List Ends
+levels code zero outer = outers code outer
+levels code (suc remarks) outer = Comment ∷ levels code remarks outer
+
+-- those outside of the innermost
+abbrev pub around : Ends → ℕ → ℕ → List Ends
+around code zero zero = []
+around code zero (suc outer) = outers code outer
+around code (suc remarks) outer = levels code remarks outer
+
+levels_are : (code : Ends) (outer remarks : ℕ) → levels code remarks outer ≡ innermost_of code remarks ∷ around code remarks outer
+levels_are code zero zero = refl
+levels_are code (suc outer) zero = refl
+levels_are code outer (suc remarks) = refl
 
 -- the same at places of the bytes
-pub deeper_at : (start : List ℕ) (at outer : ℕ) → Inside Comment start (drop at start) outer → Remark ≡ step Comment (drop at start) → Inside Comment start (drop (at + 2) start) (outer + 1)
-deeper_at start at outer i s = rw add-one (subst (λ m. Inside Comment start m (suc outer)) (drop-drop 2 at start) (Inside-deeper i (sym s)))
+module _ (code : Ends) (start : List ℕ) (at outer remarks : ℕ) (i : Inside code start (drop at start) (levels code remarks outer)) where
+  told : Inside code start (drop at start) (innermost_of code remarks ∷ around code remarks outer)
+  told = subst (λ es. Inside code start (drop at start) es) (levels_are code outer remarks) i
 
-module _ (e : Ends) (start : List ℕ) (at n outer : ℕ) (i : Inside e start (drop at start) outer) where
-  pub passes_at : Passes n ≡ step e (drop at start) → Inside e start (drop (at + n) start) outer
-  passes_at s = subst (λ m. Inside e start m outer) (drop-drop n at start) (Inside-passes i (sym s))
+  pub passes_at : (n : ℕ) → Passes n ≡ step (innermost_of code remarks) (drop at start) → Inside code start (drop (at + n) start) (levels code remarks outer)
+  passes_at n s = subst (λ es. Inside code start (drop (at + n) start) es) (sym (levels_are code outer remarks))
+      (subst (λ m. Inside code start m (innermost_of code remarks ∷ around code remarks outer)) (drop-drop n at start) (Inside-passes told (sym s)))
 
-  pub nests_at : Nests ≡ step e (drop at start) → Inside e start (drop (at + 1) start) (outer + 1)
-  nests_at s = rw (add-one outer) (subst (λ m. Inside e start m (suc outer)) (drop-drop 1 at start) (Inside-nests i (sym s)))
+  pub closes_at : (n : ℕ) → Closes n ≡ step (innermost_of code remarks) (drop at start) → Inside code start (drop (at + n) start) (around code remarks outer)
+  closes_at n s = subst (λ m. Inside code start m (around code remarks outer)) (drop-drop n at start) (Inside-closes told (sym s))
 
-  pub closes_at : 0 < outer → Closes n ≡ step e (drop at start) → Inside e start (drop (at + n) start) (outer - 1)
-  closes_at h s = let more : outer ≡ suc (outer - 1) = omega arith in
-      subst (λ m. Inside e start m (outer - 1)) (drop-drop n at start) (Inside-closes (subst (λ k. Inside e start (drop at start) k) more i) (sym s))
+  pub remark_at : Remark ≡ step (innermost_of code remarks) (drop at start) → Inside code start (drop (at + 2) start) (levels code (remarks + 1) outer)
+  remark_at s = rw (add-one remarks) (subst (λ es. Inside code start (drop (at + 2) start) (Comment ∷ es)) (sym (levels_are code outer remarks))
+      (subst (λ m. Inside code start m (Comment ∷ innermost_of code remarks ∷ around code remarks outer)) (drop-drop 2 at start) (Inside-remark told (sym s))))
 
-  pub done_at : outer ≡ 0 → Closes n ≡ step e (drop at start) → Body e start (drop (at + n) start)
-  done_at h s = subst (λ m. Body e start m) (drop-drop n at start) (Inside-done (subst (λ k. Inside e start (drop at start) k) h i) (sym s))
+  pub stuck_at : Stuck ≡ step (innermost_of code remarks) (drop at start) → (rest : List ℕ) → Body code start rest → ⊥
+  stuck_at s = Inside-stuck told (sym s)
 
-  pub remark_at : Remark ≡ step e (drop at start) → Body Comment (drop (at + 2) start) (drop n (drop (at + 2) start)) → Inside e start (drop (at + (2 + n)) start) outer
-  remark_at s b = subst (λ m. Inside e start m outer) (drop-drop n (at + 2) start ∙ ap (λ k. drop k start) (add_assoc at 2 n))
-      (Inside-remark i (sym s) (subst (λ m. Body Comment m (drop n (drop (at + 2) start))) (sym (drop-drop 2 at start)) b))
+pub nests_at : (code : Ends) (start : List ℕ) (at outer remarks : ℕ) → Inside code start (drop at start) (levels code remarks outer) → Nests ≡ step (innermost_of code remarks) (drop at start) →
+    Inside code start (drop (at + 1) start) (levels code remarks (outer + 1))
+nests_at code start at outer (suc remarks) i s = absurd ((flat_comment (drop at start)).flat (sym s))
+nests_at code start at zero zero i s = subst (λ m. Inside code start m (code ∷ code ∷ [])) (drop-drop 1 at start) (Inside-nests i (sym s))
+nests_at code start at (suc outer) zero i s =
+    rw (add-one (suc outer)) (subst (λ m. Inside code start m (code ∷ code ∷ outers code outer)) (drop-drop 1 at start) (Inside-nests i (sym s)))
 
-  pub stuck_at : Stuck ≡ step e (drop at start) → (rest : List ℕ) → Body e start rest → ⊥
-  stuck_at s = Inside-stuck i (sym s)
+-- what was around is what is open then
+pub around_comment : (code : Ends) (start now : List ℕ) (outer remarks : ℕ) → 0 < remarks → Inside code start now (around code remarks outer) → Inside code start now (levels code (remarks - 1) outer)
+around_comment code start now outer zero h i = absurd (omega arith)
+around_comment code start now outer (suc remarks) h i = let less : suc remarks - 1 ≡ remarks = omega arith in rw less i
 
-  pub lost_at : Remark ≡ step e (drop at start) → ((mid : List ℕ) → Body Comment (drop (at + 2) start) mid → ⊥) → (rest : List ℕ) → Body e start rest → ⊥
-  lost_at s h = Inside-lost i (sym s) (λ mid b. h mid (subst (λ m. Body Comment m mid) (drop-drop 2 at start) b))
+pub around_level : (code : Ends) (start now : List ℕ) (outer remarks : ℕ) → remarks ≡ 0 → 0 < outer → Inside code start now (around code remarks outer) → Inside code start now (levels code remarks (outer - 1))
+around_level code start now outer (suc remarks) none h i = absurd (omega arith)
+around_level code start now zero zero none h i = absurd (omega arith)
+around_level code start now (suc outer) zero none h i = let less : suc outer - 1 ≡ outer = omega arith in rw less i
+
+pub around_all : (code : Ends) (start now : List ℕ) (outer remarks : ℕ) → remarks ≡ 0 → outer ≡ 0 → Inside code start now (around code remarks outer) → Body code start now
+around_all code start now outer (suc remarks) none h i = absurd (omega arith)
+around_all code start now (suc outer) zero none h i = absurd (omega arith)
+around_all code start now zero zero none h i = Inside-done i

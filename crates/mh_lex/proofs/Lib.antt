@@ -1,7 +1,12 @@
 pub mod Sums
+pub mod Tests
+pub mod Rows
 pub mod Levels
 pub mod Takes
 pub mod Spans
 pub mod LaidOut
 pub mod Spelled
 pub mod Always
+pub mod Readings
+pub mod Coded
+pub mod Recoded

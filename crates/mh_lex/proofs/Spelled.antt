@@ -4,6 +4,7 @@ use Rattle.std.specs.List.{AllByRecursion}
 use Rattle.std.proofs.lemmas.List.{take-append-drop, drop-drop}
 use Rattle.std.proofs.lemmas.Bool.Decides.{Decides-eqb}
 use Rattle.mh_lex.specs.declared.kinds.Ends.{Ends}
+use Rattle.mh_lex.specs.declared.kinds.Ends.TheVariants as ends
 use Rattle.mh_lex.specs.declared.kinds.Kind.{Kind}
 use Rattle.mh_lex.specs.declared.kinds.Kind.TheVariants as kinds
 use Rattle.mh_lex.specs.declared.kinds.Lexeme.{Lexeme}
@@ -12,15 +13,17 @@ use Rattle.mh_lex.specs.declared.kinds.Front.TheVariants.{Ended, Short, Long, Fa
 use Rattle.mh_lex.specs.Bytes.{byte_at, has, is_end, is_word_start, is_word_byte, is_blank, is_mark}
 use Rattle.mh_lex.specs.Spellings.{more, word_rest, string_rest}
 use Rattle.mh_lex.specs.Steps.{begins_comment}
-use Rattle.mh_lex.specs.Begins.{front, percent, slash, string_front, keyword_of, is_keyword}
+use Rattle.mh_lex.specs.Begins.{front, percent, slash, string_front, keyword_of}
+use Rattle.mh_lex.specs.Keywords.{is_keyword}
 use Rattle.mh_lex.specs.Bodies.{Body}
 use Rattle.mh_lex.specs.Bodies.Body.{closes, passes, nests, remark}
 use Rattle.mh_lex.specs.Lexing.{Taken, LexesFrom, Lexes, kept}
 use Rattle.mh_lex.specs.Lexing.Taken.{short, long}
 use Rattle.mh_lex.specs.Lexing.LexesFrom.{ended, trailer, taken, fault}
-use Rattle.mh_lex.specs.Texts.{Text, is_content, HasText, IsSpelled}
+use Rattle.mh_lex.specs.Texts.{Text, is_content, bytes_of, HasText, IsSpelled}
 use Rattle.mh_lex.specs.Texts.Text.{word, mark, percents, keyword, quoted}
-use Rattle.mh_lex.proofs.LaidOut.{both, drop_all}
+use Rattle.mh_lex.proofs.LaidOut.{drop_all, take_all}
+use Rattle.mh_lex.proofs.Tests.{both, front_is, two_are, three_are}
 
 -- one of two
 by_cond : {P : Type 0} {X : Type 0} (b : Bool) (x y z : X) → cond b x y ≡ z → (b ≡ true → x ≡ z → P) → (b ≡ false → y ≡ z → P) → P
@@ -28,7 +31,7 @@ by_cond true x y z e f g = f refl e
 by_cond false x y z e f g = g refl e
 
 -- words
-word_bytes : (s : List ℕ) → AllByRecursion (λ c. is_word_byte c ≡ true) (take (word_rest s) s)
+pub word_bytes : (s : List ℕ) → AllByRecursion (λ c. is_word_byte c ≡ true) (take (word_rest s) s)
 word_bytes [] = tt
 word_bytes (b ∷ bs) = by_cond (is_word_byte b) (word_rest bs + 1) 0 (word_rest (b ∷ bs)) refl
     (λ h e. rw (sym e, add-one) (h, word_bytes bs))
@@ -63,7 +66,7 @@ string_longer held b bs n h (Some m) q d later =
     let x = later m q in
     (b ∷ x.0, rw (next, add-one) (ap (λ k. b ∷ k) x.1), rw h x.2)
 
-string_split : (held : Bool) (s : List ℕ) (n : ℕ) → string_rest held s ≡ Some n → (c : List ℕ) × (take n s ≡ c ++ 34 ∷ []) × (is_content held c ≡ true)
+pub string_split : (held : Bool) (s : List ℕ) (n : ℕ) → string_rest held s ≡ Some n → (c : List ℕ) × (take n s ≡ c ++ 34 ∷ []) × (is_content held c ≡ true)
 string_split held [] n e = absurd (cc)
 string_split held (b ∷ bs) n e = by_cond (not held && b == 34) (Some 1) (more (string_rest (not held && b == 92) bs)) (Some n) e
     (λ h d. let one : n ≡ 1 = cc in let two = both (not held) (b == 34) h in ([], rw (one, (Decides-eqb b 34).0 two.1) refl, two.0))
@@ -75,13 +78,22 @@ quoted_text (a ∷ bs) n h e =
     let x = string_split false bs n e in
     rw (add-one, (Decides-eqb a 34).0 h) (subst (λ k. Text kinds.Quoted (34 ∷ k)) (sym x.1) (quoted x.0 x.2))
 
+-- what is an opening and code
+abbrev pub holds_code : Kind → Bool
+holds_code kinds.Header = true
+holds_code kinds.Action = true
+holds_code kinds.Attribute = true
+holds_code _ = false
+
 -- what a lexeme that is whole at the front spells
 record Whole (s : List ℕ) (f : Front) : Type 0 where
   spells : (k : Kind) (n : ℕ) → f ≡ Short (Some k) n → HasText k (take n s)
+  kind : (k : Kind) (n : ℕ) → f ≡ Short (Some k) n → holds_code k ≡ false
 
-whole : {s : List ℕ} {own : Kind} {m : ℕ} → HasText own (take m s) → Whole s (Short (Some own) m)
-whole {s} {own} {m} h = record {
+whole : {s : List ℕ} {own : Kind} {m : ℕ} → holds_code own ≡ false → HasText own (take m s) → Whole s (Short (Some own) m)
+whole {s} {own} {m} c h = record {
   spells = λ k n e. let kind : own ≡ k = cc in let size : m ≡ n = cc in subst (λ i. HasText k (take i s)) size (subst (λ i. HasText i (take m s)) kind h);
+  kind = λ k n e. let kind : own ≡ k = cc in subst (λ i. holds_code i ≡ false) kind c;
 }
 
 whole_cond : {s : List ℕ} {x y : Front} (b : Bool) → (b ≡ true → Whole s x) → Whole s y → Whole s (cond b x y)
@@ -89,28 +101,28 @@ whole_cond true f g = f refl
 whole_cond false f g = g
 
 whole_dropped : {s : List ℕ} {m : ℕ} → Whole s (Short None m)
-whole_dropped = record { spells = λ k n e. absurd (cc) }
+whole_dropped = record { spells = λ k n e. absurd (cc); kind = λ k n e. absurd (cc) }
 
 whole_long : {s : List ℕ} {what : Option Kind} {d : Ends} {m : ℕ} → Whole s (Long what d m)
-whole_long = record { spells = λ k n e. absurd (cc) }
+whole_long = record { spells = λ k n e. absurd (cc); kind = λ k n e. absurd (cc) }
 
 whole_ended : {s : List ℕ} → Whole s Ended
-whole_ended = record { spells = λ k n e. absurd (cc) }
+whole_ended = record { spells = λ k n e. absurd (cc); kind = λ k n e. absurd (cc) }
 
 whole_fault : {s : List ℕ} → Whole s Fault
-whole_fault = record { spells = λ k n e. absurd (cc) }
+whole_fault = record { spells = λ k n e. absurd (cc); kind = λ k n e. absurd (cc) }
 
 whole_string : (s : List ℕ) → has s 0 34 ≡ true → (o : Option ℕ) → string_rest false (drop 1 s) ≡ o → Whole s (string_front o)
 whole_string s h None q = whole_fault
-whole_string s h (Some m) q = whole (quoted_text s m h q)
+whole_string s h (Some m) q = whole refl (quoted_text s m h q)
 
 whole_keyword : (s : List ℕ) → has s 0 37 ≡ true → Whole s (keyword_of (drop 1 s))
 unfolding keyword_of
-whole_keyword s h = whole_cond (is_keyword (take (word_rest (drop 1 s)) (drop 1 s))) (λ k. whole (keyword_text s h k)) whole_fault
+whole_keyword s h = whole_cond (is_keyword (take (word_rest (drop 1 s)) (drop 1 s))) (λ k. whole refl (keyword_text s h k)) whole_fault
 
 whole_percent : (s : List ℕ) → has s 0 37 ≡ true → Whole s (percent s)
 unfolding percent
-whole_percent s h = whole_cond (has s 1 37) (λ k. whole (percents_text s h k)) (whole_cond (has s 1 123) (λ _. whole_long)
+whole_percent s h = whole_cond (has s 1 37) (λ k. whole refl (percents_text s h k)) (whole_cond (has s 1 123) (λ _. whole_long)
     (whole_cond (has s 1 91 && has s 2 64) (λ _. whole_long) (whole_keyword s h)))
 
 whole_slash : (s : List ℕ) → Whole s (slash s)
@@ -121,9 +133,9 @@ whole_front : (s : List ℕ) → Whole s (front s)
 unfolding front
 whole_front s = whole_cond (is_end s) (λ _. whole_ended)
     (whole_cond (is_blank (byte_at s 0)) (λ _. whole_dropped)
-    (whole_cond (is_word_start (byte_at s 0)) (λ h. whole (word_text s h))
+    (whole_cond (is_word_start (byte_at s 0)) (λ h. whole refl (word_text s h))
     (whole_cond (begins_comment s) (λ _. whole_long)
-    (whole_cond (is_mark (byte_at s 0)) (λ h. whole (mark_text s h))
+    (whole_cond (is_mark (byte_at s 0)) (λ h. whole refl (mark_text s h))
     (whole_cond (has s 0 37) (λ h. whole_percent s h)
     (whole_cond (has s 0 47) (λ _. whole_slash s)
     (whole_cond (has s 0 34) (λ h. whole_string s h (string_rest false (drop 1 s)) refl)
@@ -131,59 +143,82 @@ whole_front s = whole_cond (is_end s) (λ _. whole_ended)
     (whole_cond (has s 0 60) (λ _. whole_long)
     (whole_cond (has s 0 91 && has s 1 64) (λ _. whole_long) whole_fault))))))))))
 
--- what has to be closed is not looked into
-record Opens (f : Front) : Type 0 where
-  spells : (k : Kind) (d : Ends) (n : ℕ) → f ≡ Long (Some k) d n → (t : List ℕ) → HasText k t
+pub whole_kind : (s : List ℕ) (k : Kind) (n : ℕ) → front s ≡ Short (Some k) n → holds_code k ≡ false
+whole_kind s k n e = (whole_front s).kind k n e
 
-opens : {own : Kind} {d : Ends} {m : ℕ} → ((t : List ℕ) → HasText own t) → Opens (Long (Some own) d m)
-opens {own} h = record { spells = λ k c n e t. let kind : own ≡ k = cc in subst (λ i. HasText i t) kind (h t) }
+-- what the opening of what has to be closed is
+pub data Opening : Kind → Ends → ℕ → List ℕ → Type 0 where
+  action : {s : List ℕ} → s ≡ 123 ∷ drop 1 s → Opening kinds.Action ends.Brace 1 s
+  header : {s : List ℕ} → s ≡ 37 ∷ 123 ∷ drop 2 s → Opening kinds.Header ends.Header 2 s
+  attribute : {s : List ℕ} → s ≡ 91 ∷ 64 ∷ drop 2 s → Opening kinds.Attribute ends.Bracket 2 s
+  own_attribute : {s : List ℕ} → s ≡ 37 ∷ 91 ∷ 64 ∷ drop 3 s → Opening kinds.Attribute ends.Bracket 3 s
+  type_text : {s : List ℕ} → Opening kinds.TypeText ends.Angle 1 s
 
-opens_cond : {x y : Front} (b : Bool) → Opens x → Opens y → Opens (cond b x y)
-opens_cond true f g = f
+record Opens (s : List ℕ) (f : Front) : Type 0 where
+  opening : (k : Kind) (d : Ends) (n : ℕ) → f ≡ Long (Some k) d n → Opening k d n s
+
+opens : {s : List ℕ} {own : Kind} {d : Ends} {m : ℕ} → Opening own d m s → Opens s (Long (Some own) d m)
+opens {s} {own} {d} {m} o = record {
+  opening = λ k c n e. let kind : own ≡ k = cc in let end : d ≡ c = cc in let size : m ≡ n = cc in
+      subst (λ i. Opening k c i s) size (subst (λ i. Opening k i m s) end (subst (λ i. Opening i d m s) kind o));
+}
+
+opens_cond : {s : List ℕ} {x y : Front} (b : Bool) → (b ≡ true → Opens s x) → Opens s y → Opens s (cond b x y)
+opens_cond true f g = f refl
 opens_cond false f g = g
 
-opens_dropped : {d : Ends} {m : ℕ} → Opens (Long None d m)
-opens_dropped = record { spells = λ k d n e t. absurd (cc) }
+opens_dropped : {s : List ℕ} {d : Ends} {m : ℕ} → Opens s (Long None d m)
+opens_dropped = record { opening = λ k d n e. absurd (cc) }
 
-opens_short : {what : Option Kind} {m : ℕ} → Opens (Short what m)
-opens_short = record { spells = λ k d n e t. absurd (cc) }
+opens_short : {s : List ℕ} {what : Option Kind} {m : ℕ} → Opens s (Short what m)
+opens_short = record { opening = λ k d n e. absurd (cc) }
 
-opens_ended : Opens Ended
-opens_ended = record { spells = λ k d n e t. absurd (cc) }
+opens_ended : {s : List ℕ} → Opens s Ended
+opens_ended = record { opening = λ k d n e. absurd (cc) }
 
-opens_fault : Opens Fault
-opens_fault = record { spells = λ k d n e t. absurd (cc) }
+opens_fault : {s : List ℕ} → Opens s Fault
+opens_fault = record { opening = λ k d n e. absurd (cc) }
 
-opens_string : (o : Option ℕ) → Opens (string_front o)
+opens_string : {s : List ℕ} (o : Option ℕ) → Opens s (string_front o)
 opens_string None = opens_fault
 opens_string (Some m) = opens_short
 
-opens_keyword : (s : List ℕ) → Opens (keyword_of s)
+opens_keyword : {s : List ℕ} (w : List ℕ) → Opens s (keyword_of w)
 unfolding keyword_of
-opens_keyword s = opens_cond (is_keyword (take (word_rest s) s)) opens_short opens_fault
+opens_keyword w = opens_cond (is_keyword (take (word_rest w) w)) (λ _. opens_short) opens_fault
 
-opens_percent : (s : List ℕ) → Opens (percent s)
+opens_percent : (s : List ℕ) → has s 0 37 ≡ true → Opens s (percent s)
 unfolding percent
-opens_percent s = opens_cond (has s 1 37) opens_short (opens_cond (has s 1 123) (opens (λ t. tt))
-    (opens_cond (has s 1 91 && has s 2 64) (opens (λ t. tt)) (opens_keyword (drop 1 s))))
+opens_percent s h = opens_cond (has s 1 37) (λ _. opens_short) (opens_cond (has s 1 123) (λ k. opens (header (two_are s 37 123 refl refl h k)))
+    (opens_cond (has s 1 91 && has s 2 64) (λ k. let x = both (has s 1 91) (has s 2 64) k in opens (own_attribute (three_are s 37 91 64 refl refl refl h x.0 x.1))) (opens_keyword (drop 1 s))))
 
-opens_slash : (s : List ℕ) → Opens (slash s)
+opens_slash : {s : List ℕ} (t : List ℕ) → Opens s (slash t)
 unfolding slash
-opens_slash s = opens_cond (has s 1 42) opens_dropped (opens_cond (has s 1 47) opens_short opens_fault)
+opens_slash t = opens_cond (has t 1 42) (λ _. opens_dropped) (opens_cond (has t 1 47) (λ _. opens_short) opens_fault)
 
-opens_front : (s : List ℕ) → Opens (front s)
+opens_front : (s : List ℕ) → Opens s (front s)
 unfolding front
-opens_front s = opens_cond (is_end s) opens_ended
-    (opens_cond (is_blank (byte_at s 0)) opens_short
-    (opens_cond (is_word_start (byte_at s 0)) opens_short
-    (opens_cond (begins_comment s) opens_dropped
-    (opens_cond (is_mark (byte_at s 0)) opens_short
-    (opens_cond (has s 0 37) (opens_percent s)
-    (opens_cond (has s 0 47) (opens_slash s)
-    (opens_cond (has s 0 34) (opens_string (string_rest false (drop 1 s)))
-    (opens_cond (has s 0 123) (opens (λ t. tt))
-    (opens_cond (has s 0 60) (opens (λ t. tt))
-    (opens_cond (has s 0 91 && has s 1 64) (opens (λ t. tt)) opens_fault))))))))))
+opens_front s = opens_cond (is_end s) (λ _. opens_ended)
+    (opens_cond (is_blank (byte_at s 0)) (λ _. opens_short)
+    (opens_cond (is_word_start (byte_at s 0)) (λ _. opens_short)
+    (opens_cond (begins_comment s) (λ _. opens_dropped)
+    (opens_cond (is_mark (byte_at s 0)) (λ _. opens_short)
+    (opens_cond (has s 0 37) (λ h. opens_percent s h)
+    (opens_cond (has s 0 47) (λ _. opens_slash s)
+    (opens_cond (has s 0 34) (λ _. opens_string (string_rest false (drop 1 s)))
+    (opens_cond (has s 0 123) (λ h. opens (action (front_is s 123 refl h)))
+    (opens_cond (has s 0 60) (λ _. opens type_text)
+    (opens_cond (has s 0 91 && has s 1 64) (λ h. let x = both (has s 0 91) (has s 1 64) h in opens (attribute (two_are s 91 64 refl refl x.0 x.1))) opens_fault))))))))))
+
+pub opening_at : (s : List ℕ) (k : Kind) (d : Ends) (n : ℕ) → front s ≡ Long (Some k) d n → Opening k d n s
+opening_at s k d n e = (opens_front s).opening k d n e
+
+not_looked_into : {k : Kind} {d : Ends} {n : ℕ} {s : List ℕ} → Opening k d n s → (t : List ℕ) → HasText k t
+not_looked_into (action q) t = tt
+not_looked_into (header q) t = tt
+not_looked_into (attribute q) t = tt
+not_looked_into (own_attribute q) t = tt
+not_looked_into type_text t = tt
 
 -- code goes over bytes
 Body-drop : {e : Ends} {bytes rest : List ℕ} → Body e bytes rest → (n : ℕ) × (rest ≡ drop n bytes)
@@ -210,19 +245,15 @@ short_text bytes (Some k) n s = (whole_front bytes).spells k n s
 
 long_text : (bytes : List ℕ) (what : Option Kind) (d : Ends) (n : ℕ) → front bytes ≡ Long what d n → (t : List ℕ) → Spells what t
 long_text bytes None d n s t = tt
-long_text bytes (Some k) d n s t = (opens_front bytes).spells k d n s t
+long_text bytes (Some k) d n s t = not_looked_into (opening_at bytes k d n s) t
 
-Taken-text : {bytes rest : List ℕ} {what : Option Kind} → Taken bytes what rest → (t : List ℕ) × (bytes ≡ t ++ rest) × Spells what t
+pub Taken-text : {bytes rest : List ℕ} {what : Option Kind} → Taken bytes what rest → (t : List ℕ) × (bytes ≡ t ++ rest) × Spells what t
 Taken-text {bytes} {rest} {what} (short {n = n} s q) = (take n bytes, front_of n bytes rest q, short_text bytes what n s)
 Taken-text {bytes} {rest} {what} (long {e = d} {n = n} s b) =
     let x = Body-drop b in
     (take (n + x.0) bytes, front_of (n + x.0) bytes rest (x.1 ∙ drop-drop x.0 n bytes), long_text bytes what d n s (take (n + x.0) bytes))
 
 -- the bytes between two places
-take_all : (t rest : List ℕ) → take (length t) (t ++ rest) ≡ t
-take_all [] rest = refl
-take_all (b ∷ bs) rest = ap (λ k. b ∷ k) (take_all bs rest)
-
 between : (pre t rest file : List ℕ) → file ≡ pre ++ (t ++ rest) →
     take ((length file - length rest) - (length file - length (t ++ rest))) (drop (length file - length (t ++ rest)) file) ≡ t
 between pre t rest file e =
@@ -233,19 +264,51 @@ between pre t rest file e =
     let tail : drop (length pre) file ≡ t ++ rest = ap (λ k. drop (length pre) k) e ∙ drop_all pre (t ++ rest) in
     ap (λ k. take ((length file - length rest) - k) (drop k file)) start ∙ ap (λ k. take k (drop (length pre) file)) size ∙ ap (λ k. take (length t) k) tail ∙ take_all t rest
 
-spelled_from : (file pre : List ℕ) {left : ℕ} {bytes : List ℕ} {ls : List Lexeme} {f : Option ℕ} → file ≡ pre ++ bytes → LexesFrom (length file) left bytes ls f → AllByRecursion (IsSpelled file) ls
-spelled_from file pre e (ended s) = tt
-spelled_from file pre e trailer = tt
-spelled_from file pre e (fault s h) = tt
-spelled_from file pre {bytes = bytes} e (taken {rest = rest} {what = what} {ls = ls} t l q) =
-    let x = Taken-text t in
-    let split : file ≡ pre ++ (x.0 ++ rest) = e ∙ ap (λ k. pre ++ k) x.1 in
-    let later = spelled_from file (pre ++ x.0) (split ∙ sym (append_assoc pre x.0 rest)) l in
-    subst (λ k. AllByRecursion (IsSpelled file) k) (sym q) (first what x.0 x.2 later split x.1)
-  where
-    first : (what : Option Kind) (t : List ℕ) → Spells what t → AllByRecursion (IsSpelled file) ls → file ≡ pre ++ (t ++ rest) → bytes ≡ t ++ rest → AllByRecursion (IsSpelled file) (kept (length file) bytes what rest ++ ls)
-    first None t h later split same = later
-    first (Some k) t h later split same = (subst (λ i. HasText k i) (sym (ap (λ i. take ((length file - length rest) - (length file - length i)) (drop (length file - length i) file)) same ∙ between pre t rest file split)) h, later)
+tail_is : (t rest file : List ℕ) → file ≡ t ++ rest → drop (length file - length rest) file ≡ rest
+tail_is t rest file e =
+    let all : length file ≡ length t + length rest = ap length e ∙ length-append t rest in
+    let size : length file - length rest ≡ length t = omega arith in
+    ap (λ n. drop n file) size ∙ ap (λ k. drop (length t) k) e ∙ drop_all t rest
+
+-- what the text of a lexeme is before what follows it
+abbrev pub Holding : (Kind → List ℕ → List ℕ → Type 0) → Option Kind → List ℕ → List ℕ → Type 0
+Holding Q None t rest = Unit {0}
+Holding Q (Some k) t rest = Q k t rest
+
+abbrev pub Held : List ℕ → (Kind → List ℕ → List ℕ → Type 0) → Lexeme → Type 0
+Held file Q l = Q l.kind (bytes_of file l) (drop l.end file)
+
+-- what holds of all that is taken holds of all lexemes
+module _ (file : List ℕ) (Q : Kind → List ℕ → List ℕ → Type 0)
+    (one : (pre bytes rest : List ℕ) (what : Option Kind) → file ≡ pre ++ bytes → Taken bytes what rest → (t : List ℕ) × (bytes ≡ t ++ rest) × Holding Q what t rest) where
+  first_held : (pre t bytes rest : List ℕ) (what : Option Kind) (ls : List Lexeme) → file ≡ pre ++ (t ++ rest) → bytes ≡ t ++ rest → Holding Q what t rest → AllByRecursion (Held file Q) ls →
+      AllByRecursion (Held file Q) (kept (length file) bytes what rest ++ ls)
+  first_held pre t bytes rest None ls split same h later = later
+  first_held pre t bytes rest (Some k) ls split same h later =
+      let text : take ((length file - length rest) - (length file - length bytes)) (drop (length file - length bytes) file) ≡ t =
+      ap (λ i. take ((length file - length rest) - (length file - length i)) (drop (length file - length i) file)) same ∙ between pre t rest file split in
+      let behind : drop (length file - length rest) file ≡ rest = tail_is (pre ++ t) rest file (split ∙ sym (append_assoc pre t rest)) in
+      (subst (λ i. Q k i (drop (length file - length rest) file)) (sym text) (subst (λ i. Q k t i) (sym behind) h), later)
+
+  held_from : (pre : List ℕ) {left : ℕ} {bytes : List ℕ} {ls : List Lexeme} {f : Option ℕ} → file ≡ pre ++ bytes → LexesFrom (length file) left bytes ls f → AllByRecursion (Held file Q) ls
+  held_from pre e (ended s) = tt
+  held_from pre e trailer = tt
+  held_from pre e (fault s h) = tt
+  held_from pre {bytes = bytes} e (taken {rest = rest} {what = what} {ls = ls} t l q) =
+      let x = one pre bytes rest what e t in
+      let split : file ≡ pre ++ (x.0 ++ rest) = e ∙ ap (λ k. pre ++ k) x.1 in
+      let later = held_from (pre ++ x.0) (split ∙ sym (append_assoc pre x.0 rest)) l in
+      subst (λ k. AllByRecursion (Held file Q) k) (sym q) (first_held pre x.0 bytes rest what ls split x.1 x.2 later)
+
+  pub lexemes_hold : (ls : List Lexeme) (f : Option ℕ) → Lexes file ls f → AllByRecursion (Held file Q) ls
+  lexemes_hold ls f l = held_from [] refl l
 
 pub lexemes_spelled : (bytes : List ℕ) (ls : List Lexeme) (f : Option ℕ) → Lexes bytes ls f → AllByRecursion (IsSpelled bytes) ls
-lexemes_spelled bytes ls f l = spelled_from bytes [] refl l
+lexemes_spelled bytes ls f l = lexemes_hold bytes (λ k t rest. HasText k t) one ls f l
+  where
+    spelled : (what : Option Kind) (t rest : List ℕ) → Spells what t → Holding (λ k t rest. HasText k t) what t rest
+    spelled None t rest h = tt
+    spelled (Some k) t rest h = h
+
+    one : (pre s rest : List ℕ) (what : Option Kind) → bytes ≡ pre ++ s → Taken s what rest → (t : List ℕ) × (s ≡ t ++ rest) × Holding (λ k t rest. HasText k t) what t rest
+    one pre s rest what e w = let x = Taken-text w in (x.0, x.1, spelled what x.0 rest x.2)

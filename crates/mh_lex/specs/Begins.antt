@@ -1,11 +1,11 @@
 -- What begins a lexeme, a comment or a blank. Source: the Menhir manual's syntax of grammars, and this project's profile.
-use Rattle.std.specs.Prelude.{ℕ, ◌+◌, ◌<◌, ◌≤◌, ◌==◌, ◌&&◌, ◌||◌, Bool, false, cond, List, [], ◌∷◌, Option, Some, None, drop, take, nat_eq, codes}
-use Rattle.std.specs.Cmp.Lexicographic.{pointwise}
+use Rattle.std.specs.Prelude.{ℕ, ◌+◌, ◌<◌, ◌≤◌, ◌==◌, ◌&&◌, Bool, false, cond, List, [], ◌∷◌, Option, Some, None, drop, take}
 use Rattle.mh_lex.specs.declared.kinds.Ends.TheVariants as ends
 use Rattle.mh_lex.specs.declared.kinds.Kind.TheVariants as kinds
 use Rattle.mh_lex.specs.declared.kinds.Front.{Front}
 use Rattle.mh_lex.specs.declared.kinds.Front.TheVariants.{Ended, Short, Long, Fault}
 use Rattle.mh_lex.specs.Bytes.{byte_at, has, is_end, is_word_start, is_blank, is_mark}
+use Rattle.mh_lex.specs.Keywords.{is_keyword}
 use Rattle.mh_lex.specs.Spellings.{word_rest, string_rest}
 use Rattle.mh_lex.specs.Steps.{begins_comment}
 
@@ -13,15 +13,6 @@ use Rattle.mh_lex.specs.Steps.{begins_comment}
 abbrev pub line_rest : List ℕ → ℕ
 line_rest [] = 0
 line_rest (b ∷ bs) = cond (b == 10) 0 (line_rest bs + 1)
-
--- the words behind a percent sign
-unfoldable pub is_keyword : List ℕ → Bool
-is_keyword w = pointwise nat_eq w (codes "token") || (pointwise nat_eq w (codes "start")
-    || (pointwise nat_eq w (codes "type") || (pointwise nat_eq w (codes "left")
-    || (pointwise nat_eq w (codes "right") || (pointwise nat_eq w (codes "nonassoc")
-    || (pointwise nat_eq w (codes "on_error_reduce") || (pointwise nat_eq w (codes "parameter")
-    || (pointwise nat_eq w (codes "attribute") || (pointwise nat_eq w (codes "public")
-    || (pointwise nat_eq w (codes "inline") || pointwise nat_eq w (codes "prec")))))))))))
 
 abbrev pub string_front : Option ℕ → Front
 string_front None = Fault

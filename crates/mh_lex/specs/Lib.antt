@@ -3,6 +3,8 @@ pub mod Words
 pub mod Spellings
 pub mod Steps
 pub mod Bodies
+pub mod Keywords
 pub mod Begins
 pub mod Lexing
 pub mod Texts
+pub mod InCode

@@ -1,6 +1,6 @@
 -- What stands at the front inside of code, comments and types. Source: this project's profile; the Menhir manual leaves
 -- what is in actions to OCaml.
-use Rattle.std.specs.Prelude.{ℕ, ◌+◌, ◌<◌, ◌≤◌, ◌&&◌, Bool, true, false, cond, List, Option, Some, None, drop, nat_lt}
+use Rattle.std.specs.Prelude.{ℕ, zero, suc, ◌+◌, ◌<◌, ◌≤◌, ◌&&◌, Bool, true, false, cond, List, Option, Some, None, drop, nat_lt}
 use Rattle.mh_lex.specs.declared.kinds.Ends.{Ends}
 use Rattle.mh_lex.specs.declared.kinds.Ends.TheVariants.{Comment, Brace, Bracket, Header, Angle, Slash}
 use Rattle.mh_lex.specs.declared.kinds.Step.{Step}
@@ -17,18 +17,20 @@ passed opening (Some n) = Passes (n + opening)
 abbrev pub begins_comment : List ℕ → Bool
 begins_comment s = has s 0 40 && has s 1 42
 
--- the byte that nests: { in an action, [ in an attribute, and none (257) elsewhere
-abbrev pub opener : Ends → ℕ
-opener Comment = 257
-opener Brace = 123
-opener Bracket = 91
-opener Header = 257
-opener Angle = 257
-opener Slash = 257
+-- the byte that nests: { in an action, [ in an attribute
+abbrev pub nests_in : Ends → List ℕ → Bool
+nests_in Brace s = has s 0 123
+nests_in Bracket s = has s 0 91
+nests_in _ s = false
+
+-- the innermost level, where so many comments are open inside of the code
+abbrev pub innermost_of : Ends → ℕ → Ends
+innermost_of code zero = code
+innermost_of code (suc remarks) = Comment
 
 -- a single byte
 abbrev pub single : Ends → List ℕ → Step
-single e s = cond (is_end s) Stuck (cond (has s 0 (opener e)) Nests (Passes 1))
+single e s = cond (is_end s) Stuck (cond (nests_in e s) Nests (Passes 1))
 
 -- An item other than a comment: the first that fits of a string, a character literal, a word, a quoted string and a single
 -- byte. A string or quoted string that is not closed is not read as single bytes: nothing is passed over.

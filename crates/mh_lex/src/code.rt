@@ -1,11 +1,10 @@
 //! Code, comments and types, up to what closes them.
 ghost use Rattle.std.specs.Prelude.{◌≡◌, ◌-◌, ◌<◌, ◌≤◌, ℕ, length, drop, List, IfSome, IfNone, IsTrue};
 ghost use Rattle.std.specs.Option.{unwrap_or};
-ghost use Rattle.mh_lex.specs.declared.kinds.Ends.TheVariants as ends;
-ghost use Rattle.mh_lex.specs.Bytes.{byte_at, has, is_word_start};
+ghost use Rattle.mh_lex.specs.Bytes.{byte_at, is_word_start};
 ghost use Rattle.mh_lex.specs.Spellings.{quoted_id, quoted_rest};
 ghost use Rattle.mh_lex.specs.Bodies.{Body};
-ghost use Rattle.mh_lex.specs.Steps.{begins_comment, passed, opener, single, item, plain, closer, has_remarks, step, Within};
+ghost use Rattle.mh_lex.specs.Steps.{begins_comment, passed, nests_in, innermost_of, single, item, plain, closer, has_remarks, step, Within};
 
 use crate::items::{
     has_byte, literal_length, quoted_length, quoted_opening_length, starts_word, string_length,
@@ -23,7 +22,7 @@ pub(crate) fn starts_comment(rest: &[u8]) -> bool
 
 /// Whether the byte that nests stands here.
 fn nests(ends: Ends, rest: &[u8]) -> bool
-    ensures value { result ≡ has rest.now 0 (opener ends) }
+    ensures value { result ≡ nests_in ends rest.now }
     ensures within { IsTrue result → 1 ≤ length rest.now }
 {
     match ends {
@@ -179,45 +178,11 @@ fn step_from(ends: Ends, bytes: &[u8], at: usize) -> Step
     step_at(ends, &bytes[at..])
 }
 
-/// How many bytes there are up to and with a comment's end, None where it has none.
-fn comment_length(rest: &[u8]) -> Option<usize>
-    ensures some { IfSome result
-        (λ n. (n ≤ length rest.now) × Body ends.Comment rest.now (drop n rest.now)) }
-    ensures none { IfNone result ((after : List ℕ) → Body ends.Comment rest.now after → ⊥) }
+/// What the innermost level is: comments are open inside of the code.
+fn innermost(code: Ends, remarks: usize) -> Ends
+    ensures { result ≡ innermost_of code remarks }
 {
-    let mut at = 0usize;
-    let mut outer = 0usize;
-    loop {
-        match step_from(Ends::Comment, rest, at) {
-            Step::Closes(length) => {
-                if outer == 0 {
-                    return Some(at + length);
-                }
-                outer -= 1;
-                at += length;
-            }
-            Step::Passes(length) => at += length,
-            Step::Nests => {
-                outer += 1;
-                at += 1;
-            }
-            Step::Remark => {
-                outer += 1;
-                at += 2;
-            }
-            Step::Stuck => return None,
-        }
-    }
-}
-
-/// How many bytes there are from a place up to and with a comment's end, None where it has none.
-fn comment_from(bytes: &[u8], at: usize) -> Option<usize>
-    requires { at ≤ length bytes.now }
-    ensures some { IfSome result
-        (λ n. (n ≤ length bytes.now - at) × Body ends.Comment (drop at bytes.now) (drop n (drop at bytes.now))) }
-    ensures none { IfNone result ((after : List ℕ) → Body ends.Comment (drop at bytes.now) after → ⊥) }
-{
-    comment_length(&bytes[at..])
+    if remarks == 0 { code } else { Ends::Comment }
 }
 
 /// How many bytes there are up to and with what closes the code, None where nothing does.
@@ -228,14 +193,18 @@ pub(crate) fn code_length(code: Ends, rest: &[u8]) -> Option<usize>
 {
     let mut at = 0usize;
     let mut outer = 0usize;
+    let mut remarks = 0usize;
     loop {
-        match step_from(code, rest, at) {
+        match step_from(innermost(code, remarks), rest, at) {
             Step::Closes(length) => {
-                if outer == 0 {
-                    return Some(at + length);
-                }
-                outer -= 1;
                 at += length;
+                if remarks > 0 {
+                    remarks -= 1;
+                } else if outer > 0 {
+                    outer -= 1;
+                } else {
+                    return Some(at);
+                }
             }
             Step::Passes(length) => at += length,
             Step::Nests => {
@@ -243,10 +212,8 @@ pub(crate) fn code_length(code: Ends, rest: &[u8]) -> Option<usize>
                 at += 1;
             }
             Step::Remark => {
-                let Some(length) = comment_from(rest, at + 2) else {
-                    return None;
-                };
-                at += 2 + length;
+                remarks += 1;
+                at += 2;
             }
             Step::Stuck => return None,
         }

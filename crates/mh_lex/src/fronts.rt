@@ -1,11 +1,11 @@
 //! What begins a lexeme.
-ghost use Rattle.std.specs.Prelude.{◌≡◌, ◌+◌, ◌-◌, ◌<◌, ◌≤◌, length, drop, nat_eq};
-ghost use Rattle.std.specs.Cmp.Lexicographic.{pointwise};
+ghost use Rattle.std.specs.Prelude.{◌≡◌, ◌+◌, ◌-◌, ◌<◌, ◌≤◌, length, drop};
 ghost use Rattle.mh_lex.specs.Bytes.{is_blank, is_mark};
-ghost use Rattle.mh_lex.specs.Begins.{line_rest, is_keyword, keyword_of, percent, slash, front, Begins};
+ghost use Rattle.mh_lex.specs.Begins.{line_rest, keyword_of, percent, slash, front, Begins};
 
 use crate::code::starts_comment;
 use crate::items::{has_byte, starts_word, string_length, word_length};
+use crate::keywords::is_keyword_text;
 use crate::kinds::{Ends, Front, Kind};
 
 fn is_blank_byte(byte: u8) -> bool
@@ -42,30 +42,6 @@ fn line_length(rest: &[u8]) -> usize
         length += 1;
     }
     length
-}
-
-fn is_text(bytes: &[u8], text: &[u8]) -> bool
-    ensures { result ≡ pointwise nat_eq bytes.now text.now }
-{
-    bytes == text
-}
-
-#[tactic(auto, unfolding(crate::specs::Begins::is_keyword))]
-fn is_keyword_text(word: &[u8]) -> bool
-    ensures { result ≡ is_keyword word.now }
-{
-    is_text(word, b"token")
-        || is_text(word, b"start")
-        || is_text(word, b"type")
-        || is_text(word, b"left")
-        || is_text(word, b"right")
-        || is_text(word, b"nonassoc")
-        || is_text(word, b"on_error_reduce")
-        || is_text(word, b"parameter")
-        || is_text(word, b"attribute")
-        || is_text(word, b"public")
-        || is_text(word, b"inline")
-        || is_text(word, b"prec")
 }
 
 /// The keyword of which this is the word behind its percent sign.

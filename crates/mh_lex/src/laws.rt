@@ -1,9 +1,12 @@
 //! What holds of bytes and their lexemes.
-ghost use Rattle.std.specs.Prelude.{◌≡◌, ◌<◌, ℕ, List, Option, None};
+ghost use Rattle.std.specs.Prelude.{◌≡◌, ◌<◌, ◌++◌, ℕ, List, Option, None, Some};
 ghost use Rattle.std.specs.List.{All};
+ghost use Rattle.mh_lex.specs.declared.keywords.Keyword.{Keyword};
 ghost use Rattle.mh_lex.specs.declared.kinds.Kind.{Kind};
 ghost use Rattle.mh_lex.specs.declared.kinds.Lexeme.{Lexeme};
-ghost use Rattle.mh_lex.specs.Lexing.{Lexes};
+ghost use Rattle.mh_lex.specs.InCode.{HasCode, SpansCode};
+ghost use Rattle.mh_lex.specs.Keywords.{keyword_named};
+ghost use Rattle.mh_lex.specs.Lexing.{Lexes, Taken};
 ghost use Rattle.mh_lex.specs.Texts.{IsText, IsSpelled, laid, places, count_of_percents};
 
 /// All bytes have lexemes, up to the end or the first fault.
@@ -27,4 +30,23 @@ pub fn lexed_apart()
 pub fn lexed_texts()
     ensures { (bytes : List ℕ) (lexemes : List Lexeme) (f : Option ℕ)
         → Lexes bytes lexemes f → All (IsSpelled bytes) lexemes }
+{}
+
+/// No two words are one keyword.
+pub fn keywords_differ()
+    ensures { (one two : List ℕ) (keyword : Keyword)
+        → keyword_named one ≡ Some keyword → keyword_named two ≡ Some keyword → two ≡ one }
+{}
+
+/// Each action, header and attribute among the lexemes of a file is its opening and then code, up to the first place that closes it:
+/// strings, characters, words, quoted strings and comments, levels inside, and single bytes where none of these begins.
+pub fn lexed_code()
+    ensures { (bytes : List ℕ) (lexemes : List Lexeme) (f : Option ℕ)
+        → All (λ b. b < 256) bytes → Lexes bytes lexemes f → All (SpansCode bytes) lexemes }
+{}
+
+/// Bytes that begin with an opening and code up to what closes it begin with that action, header or attribute.
+pub fn code_is_taken()
+    ensures { (kind : Kind) (text rest : List ℕ)
+        → All (λ b. b < 256) (text ++ rest) → HasCode kind text rest → Taken (text ++ rest) (Some kind) rest }
 {}

@@ -5,12 +5,16 @@ use Rattle.std.specs.Prelude.{IfSome}
 use Rattle.std.specs.Option.{option_or}
 use Rattle.std.specs.List.{AllByRecursion}
 use Rattle.mh_grammar.specs.declared.types.Assoc.TheVariants.{Left, Right, Nonassoc}
+use Rattle.mh_lex.specs.declared.keywords.Keyword.{Keyword}
+use Rattle.mh_lex.specs.declared.keywords.Keyword.TheVariants as keywords
 use Rattle.mh_lex.specs.declared.kinds.Kind.{Kind}
 use Rattle.mh_lex.specs.declared.kinds.Kind.TheVariants as kinds
 use Rattle.mh_lex.specs.declared.kinds.Lexeme.{Lexeme}
+use Rattle.mh_lex.specs.Keywords.{keyword_named}
 use Rattle.mh_lex.specs.Texts as texts
 use Rattle.mh_lex.specs.Texts.{Text, is_content, HasText, IsSpelled, bytes_of, one_of}
 use Rattle.mh_lex.specs.Bytes.{byte_at, is_mark}
+use Rattle.mh_lex.proofs.LaidOut.{take_all}
 use Rattle.mh_rules.specs.declared.modules.Ref.{Ref}
 use Rattle.mh_rules.specs.declared.modules.Ref.TheVariants.{Plain, Alias}
 use Rattle.mh_rules.specs.declared.modules.Actual.{Actual}
@@ -23,7 +27,7 @@ use Rattle.mh_rules.specs.declared.modules.Module.{Module}
 use Rattle.mh_reader.specs.declared.signs.Sign.{Sign}
 use Rattle.mh_reader.specs.declared.signs.Sign.TheVariants as signs
 use Rattle.mh_reader.specs.Costs.{cost_of}
-use Rattle.mh_reader.specs.Signs.{Read, cost_along, cost_behind, kept, sign_by, text_by, mark_sign, keyword_sign, reads_of, read_of, is_capital}
+use Rattle.mh_reader.specs.Signs.{Read, cost_along, cost_behind, kept, sign_by, text_by, mark_sign, sign_of_keyword, sign_or_unknown, reads_of, read_of, is_capital}
 use Rattle.mh_reader.specs.Spelling as spelling
 use Rattle.mh_rules.specs.Modules.{applied, alternative, no_module}
 use Rattle.mh_rules.specs.Ready.{IsTokenReady}
@@ -65,17 +69,23 @@ mark_free b =
     (free_cond (b == 41) (free signs.Close (λ t. tt)) (free_cond (b == 63) (free signs.Question (λ t. tt)) (free_cond (b == 42) (free signs.Star (λ t. tt))
     (free_cond (b == 43) (free signs.Plus (λ t. tt)) (free signs.Unknown (λ t. tt)))))))))))
 
-keyword_free : (w : List ℕ) → IsFree (keyword_sign w)
-unfolding keyword_sign
-keyword_free w =
-    free_cond _ (free signs.Token (λ t. tt)) (free_cond _ (free signs.Start (λ t. tt)) (free_cond _ (free signs.Type (λ t. tt)) (free_cond _ (free (signs.Level Left) (λ t. tt))
-    (free_cond _ (free (signs.Level Right) (λ t. tt)) (free_cond _ (free (signs.Level Nonassoc) (λ t. tt)) (free_cond _ (free signs.OnErrorReduce (λ t. tt))
-    (free_cond _ (free signs.Parameter (λ t. tt)) (free_cond _ (free signs.Attribute (λ t. tt)) (free_cond _ (free signs.Public (λ t. tt))
-    (free_cond _ (free signs.Inline (λ t. tt)) (free_cond _ (free signs.Prec (λ t. tt)) (free signs.Unknown (λ t. tt)))))))))))))
-
-pub take_all : (t rest : List ℕ) → take (length t) (t ++ rest) ≡ t
-take_all [] rest = refl
-take_all (b ∷ bs) rest = ap (λ k. b ∷ k) (take_all bs rest)
+keyword_free : (o : Option Keyword) → IsFree (sign_or_unknown o)
+keyword_free None = free signs.Unknown (λ t. tt)
+keyword_free (Some keyword) = by keyword
+  where
+    by : (k : Keyword) → IsFree (sign_of_keyword k)
+    by keywords.Token = free signs.Token (λ t. tt)
+    by keywords.Start = free signs.Start (λ t. tt)
+    by keywords.Type = free signs.Type (λ t. tt)
+    by keywords.Left = free (signs.Level Left) (λ t. tt)
+    by keywords.Right = free (signs.Level Right) (λ t. tt)
+    by keywords.Nonassoc = free (signs.Level Nonassoc) (λ t. tt)
+    by keywords.OnErrorReduce = free signs.OnErrorReduce (λ t. tt)
+    by keywords.Parameter = free signs.Parameter (λ t. tt)
+    by keywords.Attribute = free signs.Attribute (λ t. tt)
+    by keywords.Public = free signs.Public (λ t. tt)
+    by keywords.Inline = free signs.Inline (λ t. tt)
+    by keywords.Prec = free signs.Prec (λ t. tt)
 
 -- the content of a printed string
 pub content_again : (s : List ℕ) → text_by kinds.Quoted (34 ∷ s ++ 34 ∷ []) ≡ s
@@ -96,7 +106,7 @@ spelled_fits : (k : Kind) (t : List ℕ) (c : Option ℕ) → HasText k t → If
 spelled_fits kinds.Word t c h i = ((h, i), tt)
 spelled_fits kinds.Mark t c h i = (((mark_free (byte_at t 0)).any t, i), tt)
 spelled_fits kinds.Percents t c h i = ((tt, i), tt)
-spelled_fits kinds.Keyword t c h i = (((keyword_free (drop 1 t)).any t, i), tt)
+spelled_fits kinds.Keyword t c h i = (((keyword_free (keyword_named (drop 1 t))).any t, i), tt)
 spelled_fits kinds.Quoted t c h i = ((text_fits kinds.Quoted t h refl, i), tt)
 spelled_fits kinds.Header t c h i = ((tt, i), tt)
 spelled_fits kinds.Action t c h i = ((tt, i), tt)
@@ -156,24 +166,7 @@ ref_fits x r e h = ref_fits_by x.sign x.text r e h.0
 abbrev pub is_plain : Kind → Bool
 is_plain kinds.Percents = false
 is_plain kinds.Attribute = false
-is_plain kinds.Word = true
-is_plain kinds.Mark = true
-is_plain kinds.Keyword = true
-is_plain kinds.Quoted = true
-is_plain kinds.Header = true
-is_plain kinds.Action = true
-is_plain kinds.TypeText = true
-
-abbrev pub is_attribute : Kind → Bool
-is_attribute kinds.Attribute = true
-is_attribute kinds.Percents = false
-is_attribute kinds.Word = false
-is_attribute kinds.Mark = false
-is_attribute kinds.Keyword = false
-is_attribute kinds.Quoted = false
-is_attribute kinds.Header = false
-is_attribute kinds.Action = false
-is_attribute kinds.TypeText = false
+is_plain _ = true
 
 -- alone before a space it is one lexeme of its kind, which is plain
 abbrev pub FitsPiece : Piece → Type 0

@@ -11,10 +11,10 @@ use Rattle.mh_lex.specs.declared.kinds.Kind.TheVariants as kinds
 use Rattle.mh_lex.specs.declared.kinds.SyntaxFault.{SyntaxFault}
 use Rattle.mh_lex.specs.declared.kinds.SyntaxFault.TheVariants.{Syntax, Memory}
 use Rattle.mh_lex.specs.declared.kinds.Lexeme.{Lexeme}
-use Rattle.mh_lex.specs.Begins.{is_keyword}
+use Rattle.mh_lex.specs.Keywords.{keywords, is_keyword}
 use Rattle.mh_lex.specs.Texts as texts
 use Rattle.mh_lex.specs.Texts.{Text, IsText, is_content, laid, places, count_of_percents, one_of, bytes_of}
-use Rattle.mh_lex.proofs.LaidOut.{drop_all, laid_lexes}
+use Rattle.mh_lex.proofs.LaidOut.{drop_all, laid_lexes, take_all}
 use Rattle.mh_lex.proofs.Spelled.{lexemes_spelled}
 use Rattle.mh_rules.specs.declared.modules.Ref.{Ref}
 use Rattle.mh_rules.specs.declared.modules.Actual.{Actual}
@@ -25,7 +25,7 @@ use Rattle.mh_rules.specs.declared.modules.LevelDecl.{LevelDecl}
 use Rattle.mh_rules.specs.declared.modules.Module.{Module}
 use Rattle.mh_reader.specs.declared.signs.Sign.TheVariants as signs
 use Rattle.mh_reader.specs.Costs.{cost_of}
-use Rattle.mh_reader.specs.Signs.{Read, cost_along, cost_behind, kept, sign_by, text_by, reads_of, keyword_sign}
+use Rattle.mh_reader.specs.Signs.{Read, cost_along, cost_behind, kept, sign_by, text_by, reads_of}
 use Rattle.mh_reader.specs.Spelling as spelling
 use Rattle.mh_rules.specs.Modules.{no_module}
 use Rattle.mh_reader.specs.Spelling.{Limited, ListOf, IsAlias, IsToken, IsRef, Declaration, Producers, IsPrec, Productions, Groups, Modifiers, Formals, MayFormals, IsRule, Rules, File, Spells}
@@ -34,7 +34,7 @@ use Rattle.mh_reader.specs.Printed.{Piece, word, mark, keyword, percents, action
 use Rattle.mh_grammar.specs.Costs.{IsCost}
 use Rattle.mh_reader.proofs.Priced.{cost_printed, cost_digits}
 use Rattle.mh_reader.proofs.Again.{map_none, option_or-none}
-use Rattle.mh_reader.proofs.Fitting.{take_all, content_again, all_joined, lexemes_fit, FitsRef, FitsContent, FitsPrec, is_plain, is_attribute, FitsPiece, Printable, reads, reads-append, ref_reads, ref_again, ref_printable, mark_printable, FitsActual, FitsToken, FitsAlternative, FitsRule, FitsLevel, FitsModule, spelled_fitting}
+use Rattle.mh_reader.proofs.Fitting.{content_again, all_joined, lexemes_fit, FitsRef, FitsContent, FitsPrec, is_plain, FitsPiece, Printable, reads, reads-append, ref_reads, ref_again, ref_printable, mark_printable, FitsActual, FitsToken, FitsAlternative, FitsRule, FitsLevel, FitsModule, spelled_fitting}
 
 -- LISTS IN DECLARATIONS
 
@@ -66,12 +66,12 @@ declared_again pieces P made one (a ∷ ks) done rest out h f =
 
 start_again : (m : Module) (done : List (List ℕ)) (n : List ℕ) (rest : List Read) → Text kinds.Word n →
     Declaration (record m { starts = done }) (reads (start_pieces n) rest) rest (record m { starts = done ++ n ∷ [] })
-unfolding keyword_sign
+unfolding keywords
 start_again m done n rest h = spelling.Declaration.starts refl spelling.MayType.absent (spelling.ListOf.next (spelling.IsWord.word refl) spelling.ListOf.none)
 
 level_again : (m : Module) (done : List LevelDecl) (l : LevelDecl) (rest : List Read) → FitsLevel l →
     Declaration (record m { levels = done }) (reads (level_pieces l) rest) rest (record m { levels = done ++ l ∷ [] })
-unfolding keyword_sign
+unfolding keywords
 level_again m done l rest h = by l.assoc
   where
     by : (g : Assoc) → Declaration (record m { levels = done }) (reads (keyword (assoc_word g) ∷ map ref_piece l.names) rest) rest (record m { levels = done ++ record { assoc = g; names = l.names } ∷ [] })
@@ -81,7 +81,7 @@ level_again m done l rest h = by l.assoc
 
 on_error_again : (m : Module) (done : List (List Actual)) (ks : List Actual) (rest : List Read) → AllByRecursion FitsActual ks →
     Declaration (record m { on_error = done }) (reads (on_error_pieces ks) rest) rest (record m { on_error = done ++ ks ∷ [] })
-unfolding keyword_sign
+unfolding keywords
 on_error_again m done ks rest h = spelling.Declaration.on_error refl (actuals_again ks [] rest h)
 
 -- RULES
@@ -94,7 +94,7 @@ producers_again (a ∷ ks) done rest h =
     (spelling.Producers.more (spelling.IsProducer.unnamed (h.0.again (reads (flat_map actual_pieces ks) rest))) spelling.Semicolons.none (producers_again ks (done ++ a ∷ []) rest h.1)))
 
 prec_again : (p : Option Ref) (rest : List Read) → IsPrec (reads (prec_pieces p) rest) rest p
-unfolding keyword_sign
+unfolding keywords
 prec_again None rest = spelling.IsPrec.absent
 prec_again (Some r) rest =
     subst (λ xs. IsPrec (reads (keyword (codes "prec") ∷ []) xs) rest (Some r)) (sym (ref_reads r [] rest)) (spelling.IsPrec.given refl (ref_again r))
@@ -126,7 +126,7 @@ groups_again a (b ∷ ks) done rest h k =
 
 modifiers_again : (p i : Bool) (ys : List Piece) (rest : List Read) →
     Modifiers false false (reads ((modifier_pieces p (codes "public") ++ modifier_pieces i (codes "inline")) ++ ys) rest) (reads ys rest) p i
-unfolding keyword_sign
+unfolding keywords
 modifiers_again true true ys rest = spelling.Modifiers.public refl (spelling.Modifiers.inlined refl spelling.Modifiers.none)
 modifiers_again true false ys rest = spelling.Modifiers.public refl spelling.Modifiers.none
 modifiers_again false true ys rest = spelling.Modifiers.inlined refl spelling.Modifiers.none
@@ -184,7 +184,7 @@ alias_printable None h = tt
 alias_printable (Some s) h = ((texts.Text.quoted s h, refl), tt)
 
 start_printable : (n : List ℕ) → Text kinds.Word n → Printable (start_pieces n)
-unfolding is_keyword
+unfolding keywords
 start_printable n h = (keyword_printable (codes "start") refl, ((h, refl), tt))
 
 refs_printable : (ks : List Ref) → AllByRecursion FitsRef ks → Printable (map ref_piece ks)
@@ -192,7 +192,7 @@ refs_printable [] h = tt
 refs_printable (r ∷ ks) h = (ref_printable r h.0, refs_printable ks h.1)
 
 assoc_printable : (g : Assoc) → FitsPiece (keyword (assoc_word g))
-unfolding is_keyword
+unfolding keywords
 assoc_printable Left = keyword_printable (codes "left") refl
 assoc_printable Right = keyword_printable (codes "right") refl
 assoc_printable Nonassoc = keyword_printable (codes "nonassoc") refl
@@ -201,11 +201,11 @@ level_printable : (l : LevelDecl) → FitsLevel l → Printable (level_pieces l)
 level_printable l h = (assoc_printable l.assoc, refs_printable l.names h)
 
 on_error_printable : (ks : List Actual) → AllByRecursion FitsActual ks → Printable (on_error_pieces ks)
-unfolding is_keyword
+unfolding keywords
 on_error_printable ks h = (keyword_printable (codes "on_error_reduce") refl, actuals_printable ks h)
 
 prec_printable : (p : Option Ref) → FitsPrec p → Printable (prec_pieces p)
-unfolding is_keyword
+unfolding keywords
 prec_printable None h = tt
 prec_printable (Some r) h = (keyword_printable (codes "prec") refl, (ref_printable r h, tt))
 
@@ -229,7 +229,7 @@ formals_printable [] h = tt
 formals_printable (n ∷ ns) h = (mark_printable 40 refl, ((h.0, refl), others_printable ns h.1))
 
 rule_printable : (r : Rule) → FitsRule r → Printable (rule_pieces r)
-unfolding is_keyword
+unfolding keywords
 rule_printable r h =
     let body = mark 58 ∷ flat_map alternative_pieces r.alternatives in
     all_joined FitsPiece (modifier_pieces r.public (codes "public") ++ modifier_pieces r.inlined (codes "inline")) (word r.name ∷ formals_pieces r.formals ++ body)
@@ -242,14 +242,7 @@ rule_printable r h =
 -- a plain lexeme is no %%
 plain_one : (k : Kind) → is_plain k ≡ true → one_of k ≡ 0
 plain_one kinds.Percents e = absurd (cc)
-plain_one kinds.Attribute e = absurd (cc)
-plain_one kinds.Word e = refl
-plain_one kinds.Mark e = refl
-plain_one kinds.Keyword e = refl
-plain_one kinds.Quoted e = refl
-plain_one kinds.Header e = refl
-plain_one kinds.Action e = refl
-plain_one kinds.TypeText e = refl
+plain_one _ e = refl
 
 -- among so many texts there are at most so many %%
 record Mixed (n : ℕ) (ts : List Piece) : Type 0 where
@@ -271,7 +264,7 @@ cost_texts None h us n k = k
 cost_texts (Some c) h us n k = record { texts = (texts.Text.cost (decimal c) (cost_digits c h.1), k.texts); count = omega (arith, k.count) }
 
 token_texts : (t : TokenDecl) → FitsToken t → (us : List Piece) (n : ℕ) → Mixed n us → Mixed n (token_pieces t ++ us)
-unfolding is_keyword
+unfolding keywords
 token_texts t h us n k =
     let inner = subst (Mixed n) (sym (append_assoc (alias_pieces t.alias) (cost_pieces t.cost) us))
     (alias_texts t.alias h.alias (cost_pieces t.cost ++ us) n (cost_texts t.cost h.cost us n k)) in
@@ -311,6 +304,10 @@ abbrev costed_reads : List Piece → List Read
 costed_reads [] = []
 costed_reads (t ∷ ts) = kept (sign_by t.0 t.1) (text_by t.0 t.1) (cost_before ts) ++ costed_reads ts
 
+abbrev is_attribute : Kind → Bool
+is_attribute kinds.Attribute = true
+is_attribute _ = false
+
 abbrev IsNoAttribute : Piece → Type 0
 IsNoAttribute t = is_attribute t.0 ≡ false
 
@@ -319,26 +316,12 @@ plain_other [] h = tt
 plain_other (t ∷ ts) h = (plain_no t.0 h.0.1, plain_other ts h.1)
   where
     plain_no : (k : Kind) → is_plain k ≡ true → is_attribute k ≡ false
-    plain_no kinds.Percents e = refl
     plain_no kinds.Attribute e = cc
-    plain_no kinds.Word e = refl
-    plain_no kinds.Mark e = refl
-    plain_no kinds.Keyword e = refl
-    plain_no kinds.Quoted e = refl
-    plain_no kinds.Header e = refl
-    plain_no kinds.Action e = refl
-    plain_no kinds.TypeText e = refl
+    plain_no _ e = refl
 
 other_along : (k : Kind) (t : List ℕ) (c : Option ℕ) → is_attribute k ≡ false → cost_along (sign_by k t) t c ≡ None
 other_along kinds.Attribute t c e = absurd (cc)
-other_along kinds.Percents t c e = refl
-other_along kinds.Word t c e = refl
-other_along kinds.Mark t c e = refl
-other_along kinds.Keyword t c e = refl
-other_along kinds.Quoted t c e = refl
-other_along kinds.Header t c e = refl
-other_along kinds.Action t c e = refl
-other_along kinds.TypeText t c e = refl
+other_along _ t c e = refl
 
 no_cost : (ts : List Piece) → AllByRecursion IsNoAttribute ts → cost_before ts ≡ None
 no_cost [] h = refl
@@ -354,7 +337,7 @@ without_costs (t ∷ ts) h =
 
 token_again : (m : Module) (done : List TokenDecl) (t : TokenDecl) (us : List Piece) → FitsToken t → cost_before us ≡ None →
     Declaration (record m { tokens = done }) (costed_reads (token_pieces t ++ us)) (costed_reads us) (record m { tokens = done ++ t ∷ [] })
-unfolding keyword_sign
+unfolding keywords
 token_again m done t us h e = by t.alias t.cost h.cost
   where
     made : Option (List ℕ) → Option ℕ → TokenDecl

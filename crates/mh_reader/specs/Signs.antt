@@ -1,12 +1,14 @@
 -- What the lexemes of a file are to its grammar. Source: this project's profile of the Menhir manual's syntax of grammars.
-use Rattle.std.specs.Prelude.{ℕ, ◌-◌, ◌==◌, ◌&&◌, Bool, false, cond, List, [], ◌∷◌, ◌++◌, length, Option, Some, None, drop, take, nat_eq, nat_le, codes}
+use Rattle.std.specs.Prelude.{ℕ, ◌-◌, ◌==◌, ◌&&◌, Bool, false, cond, List, [], ◌∷◌, ◌++◌, length, Option, Some, None, drop, take, nat_le}
 use Rattle.std.specs.Option.{option_or}
-use Rattle.std.specs.Cmp.Lexicographic.{pointwise}
 use Rattle.mh_grammar.specs.declared.types.Assoc.TheVariants.{Left, Right, Nonassoc}
+use Rattle.mh_lex.specs.declared.keywords.Keyword.{Keyword}
+use Rattle.mh_lex.specs.declared.keywords.Keyword.TheVariants as keywords
 use Rattle.mh_lex.specs.declared.kinds.Kind.{Kind}
 use Rattle.mh_lex.specs.declared.kinds.Kind.TheVariants as kinds
 use Rattle.mh_lex.specs.declared.kinds.Lexeme.{Lexeme}
 use Rattle.mh_lex.specs.Bytes.{byte_at}
+use Rattle.mh_lex.specs.Keywords.{keyword_named}
 use Rattle.mh_lex.specs.Texts.{bytes_of}
 use Rattle.mh_reader.specs.declared.signs.Sign.{Sign}
 use Rattle.mh_reader.specs.declared.signs.Sign.TheVariants as signs
@@ -32,28 +34,34 @@ mark_sign b =
     (cond (b == 42) signs.Star
     (cond (b == 43) signs.Plus signs.Unknown)))))))))
 
+abbrev pub sign_of_keyword : Keyword → Sign
+sign_of_keyword keywords.Token = signs.Token
+sign_of_keyword keywords.Start = signs.Start
+sign_of_keyword keywords.Type = signs.Type
+sign_of_keyword keywords.Left = signs.Level Left
+sign_of_keyword keywords.Right = signs.Level Right
+sign_of_keyword keywords.Nonassoc = signs.Level Nonassoc
+sign_of_keyword keywords.OnErrorReduce = signs.OnErrorReduce
+sign_of_keyword keywords.Parameter = signs.Parameter
+sign_of_keyword keywords.Attribute = signs.Attribute
+sign_of_keyword keywords.Public = signs.Public
+sign_of_keyword keywords.Inline = signs.Inline
+sign_of_keyword keywords.Prec = signs.Prec
+
+abbrev pub sign_or_unknown : Option Keyword → Sign
+sign_or_unknown None = signs.Unknown
+sign_or_unknown (Some keyword) = sign_of_keyword keyword
+
 -- the word behind a percent sign
-unfoldable pub keyword_sign : List ℕ → Sign
-keyword_sign w =
-    cond (pointwise nat_eq w (codes "token")) signs.Token
-    (cond (pointwise nat_eq w (codes "start")) signs.Start
-    (cond (pointwise nat_eq w (codes "type")) signs.Type
-    (cond (pointwise nat_eq w (codes "left")) (signs.Level Left)
-    (cond (pointwise nat_eq w (codes "right")) (signs.Level Right)
-    (cond (pointwise nat_eq w (codes "nonassoc")) (signs.Level Nonassoc)
-    (cond (pointwise nat_eq w (codes "on_error_reduce")) signs.OnErrorReduce
-    (cond (pointwise nat_eq w (codes "parameter")) signs.Parameter
-    (cond (pointwise nat_eq w (codes "attribute")) signs.Attribute
-    (cond (pointwise nat_eq w (codes "public")) signs.Public
-    (cond (pointwise nat_eq w (codes "inline")) signs.Inline
-    (cond (pointwise nat_eq w (codes "prec")) signs.Prec signs.Unknown)))))))))))
+abbrev pub sign_of_word : List ℕ → Sign
+sign_of_word w = sign_or_unknown (keyword_named w)
 
 -- what a lexeme with these bytes is; an attribute is nothing to the grammar
 abbrev pub sign_by : Kind → List ℕ → Option Sign
 sign_by kinds.Word t = Some signs.Word
 sign_by kinds.Mark t = Some (mark_sign (byte_at t 0))
 sign_by kinds.Percents t = Some signs.Percents
-sign_by kinds.Keyword t = Some (keyword_sign (drop 1 t))
+sign_by kinds.Keyword t = Some (sign_of_word (drop 1 t))
 sign_by kinds.Quoted t = Some signs.Quoted
 sign_by kinds.Header t = Some signs.Header
 sign_by kinds.Action t = Some signs.Action

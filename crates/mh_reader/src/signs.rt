@@ -1,12 +1,11 @@
 //! What the lexemes of a file are to its grammar.
-ghost use Rattle.std.specs.Prelude.{◌≡◌, drop, nat_eq, length};
-ghost use Rattle.std.specs.Cmp.Lexicographic.{pointwise};
+ghost use Rattle.std.specs.Prelude.{◌≡◌, drop};
 ghost use Rattle.mh_lex.specs.declared.kinds.Kind.TheVariants.{Quoted};
 ghost use Rattle.mh_lex.specs.Bytes.{byte_at};
-ghost use Rattle.mh_reader.specs.Signs.{mark_sign, keyword_sign, sign_by, text_by, is_capital};
+ghost use Rattle.mh_reader.specs.Signs.{mark_sign, sign_of_keyword, sign_of_word, sign_by, text_by, is_capital};
 
 use mh_grammar::Assoc;
-use mh_lex::Kind;
+use mh_lex::{Keyword, Kind, keyword_of};
 
 /// What a lexeme is to the grammar.
 #[derive(Clone, Copy, Debug, Drop, PartialEq, Eq)]
@@ -69,42 +68,22 @@ fn mark_of(byte: u8) -> Sign
     }
 }
 
-fn is_text(bytes: &[u8], text: &[u8]) -> bool
-    ensures { result ≡ pointwise nat_eq bytes.now text.now }
+fn keyword_sign(keyword: Keyword) -> Sign
+    ensures { result ≡ sign_of_keyword keyword }
 {
-    bytes == text
-}
-
-#[tactic(auto, unfolding(crate::specs::Signs::keyword_sign))]
-fn keyword_of(word: &[u8]) -> Sign
-    ensures { result ≡ keyword_sign word.now }
-{
-    if is_text(word, b"token") {
-        Sign::Token
-    } else if is_text(word, b"start") {
-        Sign::Start
-    } else if is_text(word, b"type") {
-        Sign::Type
-    } else if is_text(word, b"left") {
-        Sign::Level(Assoc::Left)
-    } else if is_text(word, b"right") {
-        Sign::Level(Assoc::Right)
-    } else if is_text(word, b"nonassoc") {
-        Sign::Level(Assoc::Nonassoc)
-    } else if is_text(word, b"on_error_reduce") {
-        Sign::OnErrorReduce
-    } else if is_text(word, b"parameter") {
-        Sign::Parameter
-    } else if is_text(word, b"attribute") {
-        Sign::Attribute
-    } else if is_text(word, b"public") {
-        Sign::Public
-    } else if is_text(word, b"inline") {
-        Sign::Inline
-    } else if is_text(word, b"prec") {
-        Sign::Prec
-    } else {
-        Sign::Unknown
+    match keyword {
+        Keyword::Token => Sign::Token,
+        Keyword::Start => Sign::Start,
+        Keyword::Type => Sign::Type,
+        Keyword::Left => Sign::Level(Assoc::Left),
+        Keyword::Right => Sign::Level(Assoc::Right),
+        Keyword::Nonassoc => Sign::Level(Assoc::Nonassoc),
+        Keyword::OnErrorReduce => Sign::OnErrorReduce,
+        Keyword::Parameter => Sign::Parameter,
+        Keyword::Attribute => Sign::Attribute,
+        Keyword::Public => Sign::Public,
+        Keyword::Inline => Sign::Inline,
+        Keyword::Prec => Sign::Prec,
     }
 }
 
@@ -118,9 +97,12 @@ fn mark_at(text: &[u8]) -> Sign
 }
 
 fn keyword_at(text: &[u8]) -> Sign
-    ensures { result ≡ keyword_sign (drop 1 text.now) }
+    ensures { result ≡ sign_of_word (drop 1 text.now) }
 {
-    keyword_of(behind_first(text))
+    match keyword_of(behind_first(text)) {
+        Some(keyword) => keyword_sign(keyword),
+        None => Sign::Unknown,
+    }
 }
 
 /// The bytes behind the first.

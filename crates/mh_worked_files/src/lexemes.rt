@@ -2,7 +2,10 @@
 ghost use Rattle.std.specs.Prelude.{◌<◌, ◌^◌, length};
 
 use crate::cases::{digit, parts};
-use mh_lex::{Kind, SyntaxFault, lex, lexed_always, lexed_apart, lexed_once, lexed_texts};
+use mh_lex::{
+    Kind, SyntaxFault, code_is_taken, keywords_differ, lex, lexed_always, lexed_apart, lexed_code,
+    lexed_once, lexed_texts,
+};
 use std::alloc::{AllocError, Global};
 use std::test::Fail;
 
@@ -171,5 +174,8 @@ fn lexes(rt: HostRuntime) -> Result<(), Fail> {
     lexed_once();
     lexed_apart();
     lexed_texts();
+    lexed_code();
+    code_is_taken();
+    keywords_differ();
     Ok(())
 }
