@@ -12,7 +12,7 @@ use Rattle.std.proofs.lemmas.Iterator.Adapters.{position_from-zero}
 use Rattle.std.specs.HashMap.{HashMap}
 use Rattle.indexmap.specs.IndexMap.{get}
 use Rattle.mh_grammar.proofs.Lists.{taken}
-use Rattle.mh_grammar.proofs.SameText.{same_is, same_self}
+use Rattle.mh_grammar.proofs.SameText.{same_is, same_self, same_cases}
 use Rattle.mh_meanings.specs.Puts.{Puts}
 use Rattle.mh_meanings.specs.Names.{Text, same}
 
