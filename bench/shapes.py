@@ -161,6 +161,12 @@ def wide_actual(size):
     return grammar("s: f(" + ", ".join(["A"] * size) + ") EOF { () }\nf(" + ", ".join(f"x{it}" for it in range(size)) + "): x0 { () }\n")
 
 
+def long_fault(size):
+    """A token with as many arguments, which all stand for a name of 900 bytes: the fault's own name is not written."""
+    name = "n" * 900
+    return grammar(f"s: d({name}) EOF {{ () }}\n{name}: A {{ () }}\nd(x): A(" + ", ".join(["x"] * size) + ") { () }\n")
+
+
 def wide_nested(size):
     """Pairs of pairs, in one actual as wide as it is allowed to be deep."""
     text = "A"
@@ -290,7 +296,7 @@ def groups(size):
 SHAPES = {
     inline_chain: 19_000, inline_chain_unlucky: 19_000, cycle_far: 19_000, cycle_long: 19_000, cycle_from_many: 19_000, cycles_meet: 19_000,
     pass_through: 19_000, pass_on_longer: 6_000, pass_on_in_front: 6_000, pass_on_between: 6_000, pass_on_more: 3_000, many_then_one: 6_000, inline_doubles: 14, inline_wide: 9_900, terms_double: 19_000, terms_grow: 16_000_000, terms_many: 6_000,
-    deep_actual: 1_000, deep_actuals: MOST_BYTES - 1000, wide_actual: 1_000_000, wide_nested: MOST_BYTES - 1000, modifiers: 16_000_000,
+    deep_actual: 1_000, deep_actuals: MOST_BYTES - 1000, wide_actual: 1_000_000, long_fault: 1_000_000, wide_nested: MOST_BYTES - 1000, modifiers: 16_000_000,
     long_side: 8_000_000, many_alternatives: 900_000, small_rules: MOST_BYTES - 1000, reached_rules: 19_000, twice_at_the_end: MOST_BYTES - 1000,
     unknown_at_the_end: MOST_BYTES - 1000, long_names: MOST_BYTES - 1000, long_name: MOST_BYTES - 1000, like_names: 19_000,
     many_tokens: MOST_BYTES - 1000, many_levels: MOST_BYTES - 1000, levels_twice: MOST_BYTES - 1000, used_levels: MOST_BYTES - 1000, many_starts: 19_000, starts_twice: MOST_BYTES - 1000,
