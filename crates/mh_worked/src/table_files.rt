@@ -599,32 +599,76 @@ fn changed_files(rt: HostRuntime) -> Result<(), Fail> {
     check_changes(&rt, alloc, sums, "--write-tables g.mly", LOOK_CHANGES)
 }
 
-/// What is told with an automaton that is built, and with its table file.
-fn check_both(
+/// What a job comes to on an automaton that is built.
+fn run_built(
+    rt: &impl Abort,
+    alloc: Global,
+    grammar: &str,
+    mode: &str,
+    job: &str,
+) -> Result<Outcome, Fail> {
+    let mut words = String::from_str(alloc, mode)?;
+    words.push_str(job)?;
+    words.push_str(" g.mly")?;
+    run_on(rt, alloc, &words, grammar.as_bytes(), Vec::new(alloc))
+}
+
+/// What it comes to on a table file.
+fn run_read(
+    rt: &impl Abort,
+    alloc: Global,
+    grammar: &str,
+    table: &[u8],
+    job: &str,
+) -> Result<Outcome, Fail> {
+    let mut words = String::from_str(alloc, "--tables t g.mly ")?;
+    words.push_str(job)?;
+    run_beside(rt, alloc, &words, grammar, table)
+}
+
+fn check_same(rt: &impl Abort, got: &Outcome, wanted: &Outcome) {
+    assert_eq!(rt; got.out.as_slice(), wanted.out.as_slice());
+    assert_eq!(rt; got.err.as_slice(), wanted.err.as_slice());
+    assert_eq!(rt; got.status, wanted.status);
+}
+
+fn check_read(
+    rt: &impl Abort,
+    alloc: Global,
+    grammar: &str,
+    table: &[u8],
+    job: &str,
+    wanted: &Outcome,
+) -> Result<(), Fail> {
+    let got = run_read(rt, alloc, grammar, table, job)?;
+    check_same(rt, &got, wanted);
+    Ok(())
+}
+
+fn check_job(
+    rt: &impl Abort,
+    alloc: Global,
+    grammar: &str,
+    mode: &str,
+    table: &[u8],
+    job: &str,
+) -> Result<(), Fail> {
+    let wanted = run_built(rt, alloc, grammar, mode, job)?;
+    check_read(rt, alloc, grammar, table, job, &wanted)
+}
+
+/// Each job comes to the same on the automaton that is built and on its table file.
+fn check_jobs(
     rt: &impl Abort,
     alloc: Global,
     grammar: &str,
     mode: &str,
     table: &[u8],
 ) -> Result<(), Fail> {
-    for job in [
-        "--write-tables",
-        "--show-automaton",
-        "--list-errors",
-        "--strict --write-tables",
-    ] {
-        let mut built = String::from_str(alloc, mode)?;
-        built.push_str(job)?;
-        built.push_str(" g.mly")?;
-        let wanted = run_on(rt, alloc, &built, grammar.as_bytes(), Vec::new(alloc))?;
-        let mut read = String::from_str(alloc, "--tables t g.mly ")?;
-        read.push_str(job)?;
-        let got = run_beside(rt, alloc, &read, grammar, table)?;
-        assert_eq!(rt; str::from_utf8(&got.out)?, str::from_utf8(&wanted.out)?);
-        assert_eq!(rt; str::from_utf8(&got.err)?, str::from_utf8(&wanted.err)?);
-        assert_eq!(rt; got.status, wanted.status);
-    }
-    Ok(())
+    check_job(rt, alloc, grammar, mode, table, "--write-tables")?;
+    check_job(rt, alloc, grammar, mode, table, "--show-automaton")?;
+    check_job(rt, alloc, grammar, mode, table, "--list-errors")?;
+    check_job(rt, alloc, grammar, mode, table, "--strict --write-tables")
 }
 
 /// The table file that is written of a grammar, in a mode.
@@ -635,11 +679,9 @@ fn check_file(
     mode: &str,
     first: &str,
 ) -> Result<(), Fail> {
-    let mut words = String::from_str(alloc, mode)?;
-    words.push_str("--write-tables g.mly")?;
-    let written = run_on(rt, alloc, &words, grammar.as_bytes(), Vec::new(alloc))?;
+    let written = run_built(rt, alloc, grammar, mode, "--write-tables")?;
     assert!(rt; written.out.starts_with(first.as_bytes()));
-    check_both(rt, alloc, grammar, mode, &written.out)
+    check_jobs(rt, alloc, grammar, mode, &written.out)
 }
 
 /// Two grammars with conflicts, one of them at the end of a stream, and one whose costs are not one.
@@ -665,25 +707,16 @@ fn written_and_read_again(rt: HostRuntime) -> Result<(), Fail> {
     Ok(())
 }
 
+fn check_shown(rt: &impl Abort, alloc: Global, grammar: &str, table: &[u8]) -> Result<(), Fail> {
+    let shown = run_read(rt, alloc, grammar, table, "--show-automaton")?;
+    assert!(rt; shown.out.starts_with(b"canonical: 10 states\n"));
+    Ok(())
+}
+
 /// The file of a canonical automaton says so, whatever the words say of it.
 #[test]
 fn mode_of_the_file(rt: HostRuntime) -> Result<(), Fail> {
-    let alloc = rt.alloc();
     let grammar = "%token C D %start s %% s: c c {} c: C c {} | D {}";
-    let written = run_on(
-        &rt,
-        alloc,
-        "--canonical --write-tables g.mly",
-        grammar.as_bytes(),
-        Vec::new(alloc),
-    )?;
-    let shown = run_beside(
-        &rt,
-        alloc,
-        "--tables t --show-automaton g.mly",
-        grammar,
-        &written.out,
-    )?;
-    assert!(rt; shown.out.starts_with(b"canonical: 10 states\n"));
-    Ok(())
+    let written = run_built(&rt, rt.alloc(), grammar, "--canonical ", "--write-tables")?;
+    check_shown(&rt, rt.alloc(), grammar, &written.out)
 }
