@@ -1,20 +1,12 @@
 //! The command line tool: it makes the real shelf, source and sinks, and ends with the status of the work.
 #![tactic(auto)]
 
-ghost use Rattle.std.specs.Prelude.{◌≡◌, map, string_bytes};
 ghost use Rattle.std.specs.Process.{exit_status};
-ghost use Rattle.mh_top.specs.Asking.{AsksFor};
-ghost use Rattle.mh_top.specs.Run.{world, Ran};
 ghost use Rattle.mh_top.specs.Saying.{SaysLine};
 
-mod adapters;
-#[cfg(test)]
-mod tests;
-
-use adapters::{FileShelf, StdSink, StdSource};
-use mh_outside::{Shelf, Sink, Source, write_whole};
-use mh_top::status;
-use std::alloc::Global;
+use mh_devices::{FileShelf, StdSink, StdSource};
+use mh_outside::{Sink, write_whole};
+use mh_top::{run, status};
 use std::env;
 use std::io::ErrorKind;
 use std::process::ExitCode;
@@ -24,7 +16,7 @@ const BAD_WORDS: &[u8] = b"menhir: usage: bad words\n";
 const NO_MEMORY: &[u8] = b"menhir: out of memory\n";
 
 /// Why the words of the command line are not had.
-#[derive(Clone, Copy, Debug, PartialEq, Eq)]
+#[derive(Clone, Copy)]
 enum WordsFault {
     Unreadable,
     Memory,
@@ -61,26 +53,6 @@ fn refuse<E: Sink>(err: &mut E, line: &[u8], status: u8) -> ExitCode
         Ok(()) => ExitCode::from(status),
         Err(_) => ExitCode::from(status::WRITE_FAULT),
     }
-}
-
-/// The work over any devices, and the exit code of its status. The program runs it over the real ones: these tell no bytes, so there
-/// the clause speaks of some files and some lines; that it says more over devices that tell theirs holds of this very body.
-fn run<F: Shelf, I: Source, O: Sink, E: Sink>(
-    alloc: Global,
-    words: &[String],
-    shelf: &mut F,
-    input: &mut I,
-    out: &mut O,
-    err: &mut E,
-) -> ExitCode
-    requires asked { AsksFor (map string_bytes words.now) (F.MayAsk shelf.old) }
-    ensures ran { Ran (map string_bytes words.now)
-        (world F.files F.faults I.left I.faults O.written O.faults E.written E.faults
-        shelf.old input.old out.old err.old)
-        (world F.files F.faults I.left I.faults O.written O.faults E.written E.faults
-        shelf.new input.new out.new err.new) (exit_status result) }
-{
-    ExitCode::from(mh_top::menhir(alloc, words, shelf, input, out, err))
 }
 
 fn main(rt: HostRuntime) -> ExitCode {

@@ -13,7 +13,8 @@ use Rattle.mh_rules.specs.declared.modules.Rule.{Rule}
 use Rattle.mh_rules.specs.declared.joined.JoinedAlternative.{JoinedAlternative}
 use Rattle.mh_rules.specs.declared.joined.JoinedRule.{JoinedRule}
 use Rattle.mh_meanings.specs.declared.outlines.Outline.{Outline}
-use Rattle.mh_meanings.specs.Names.{Text, Definition, definitions_from}
+use Rattle.mh_grammar.specs.Text.{Text}
+use Rattle.mh_meanings.specs.Names.{Definition, definitions_from}
 use Rattle.mh_meanings.specs.Faults.{Meanings}
 use Rattle.mh_meanings.specs.Joining.{alternatives_by, alternatives_for, is_number, rule_without, without_alternatives, AreRules}
 use Rattle.mh_building.specs.Standing.{Adds}

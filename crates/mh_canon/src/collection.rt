@@ -2,22 +2,21 @@
 ghost use Rattle.std.specs.Prelude.{◌≡◌, ◌<◌, ◌≤◌, ◌*◌, ℕ, [], length, Err, IfOk, OnOk};
 ghost use Rattle.mh_grammar.specs.Plain.{plain_of, IsInRange};
 ghost use Rattle.mh_grammar.specs.Placed.{Placed};
-ghost use Rattle.mh_items.specs.Automaton.{IsAutomaton};
-ghost use Rattle.mh_canon.specs.Canonical.{IsCanonical, IsOver};
-ghost use Rattle.mh_items.specs.Shapes.{Kernel as KernelOf};
-ghost use Rattle.mh_items.specs.Collection.{AreStarts};
+ghost use Rattle.mh_kernels.specs.Automaton.{IsAutomaton};
+ghost use Rattle.mh_knuth.specs.Canonical.{IsCanonical, IsOver};
+ghost use Rattle.mh_kernels.specs.Shapes.{Kernel as KernelOf};
+ghost use Rattle.mh_kernels.specs.Collection.{AreStarts};
 ghost use Rattle.mh_moves.specs.Moves.{AreMoves};
 ghost use Rattle.mh_moves.specs.Mover.{IsMover};
-ghost use Rattle.mh_canon.specs.Moves.{IsSource, AreStates, PlacesAll, HasEdges};
+ghost use Rattle.mh_knuth.specs.Found.{IsSource, AreStates};
+ghost use Rattle.mh_canon.specs.Placed.{PlacesAll, HasEdges};
 
 use indexmap::IndexSet;
 use mh_grammar::{Edge, Grammar, Sequence};
-use mh_items::{Automaton, Kernel, StatesFault, start_kernel};
+use mh_kernels::{Automaton, Kernel, StatesFault, start_kernel};
+use mh_knuth::MAX_STATES;
 use mh_moves::{Move, Mover};
 use std::alloc::{AllocError, AllocFailed, Global};
-
-/// The most states that an automaton may have.
-pub const MAX_STATES: usize = 200_000;
 
 /// The canonical LR(1) automaton of a grammar (Knuth 1965): the start kernels in order, and then what breadth-first
 /// search finds, over tokens rising and then nonterminals rising. `TooManyStates` comes exactly where it has more

@@ -1,8 +1,8 @@
-//! Knuth's canonical collection of LR(1) item sets (Knuth 1965), numbered breadth first.
+//! Makes Knuth's canonical collection of LR(1) item sets (Knuth 1965), numbered breadth first.
 #![tactic(auto)]
 
 mod collection;
 mod uniqueness;
 
-pub use collection::{MAX_STATES, canonical};
+pub use collection::canonical;
 pub use uniqueness::is_one_automaton;

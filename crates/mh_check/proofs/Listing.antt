@@ -4,7 +4,8 @@ use Rattle.std.proofs.lemmas.List.{drop_all}
 use Rattle.std.proofs.lemmas.Option.{slice_get-get_or}
 use Rattle.std.proofs.Math.Seq.{drop-cons}
 use Rattle.mh_check.specs.Compiling.{message_at, itself}
-use Rattle.mh_check.specs.Texts.{Text, message_text, compiled_from, compiled_text}
+use Rattle.mh_grammar.specs.Text.{Text}
+use Rattle.mh_check.specs.Texts.{message_text, compiled_from, compiled_text}
 
 module _ (compiled : List (Option Text)) where
   here : (s : ℕ) → s < length compiled → message_at compiled s ≡ get_or compiled s None

@@ -3,9 +3,7 @@ use Rattle.std.specs.Prelude.{ℕ, ◌+◌, List, [], ◌∷◌, ◌++◌, lengt
 use Rattle.mh_tables.specs.Run.{Ending, Accepted, Overshot, Rejected}
 use Rattle.mh_msgfile.specs.Messages.{FaultFound as FileFault, BadShape, NamesNoStartAt, LacksStartAt, NamesUnknownAt}
 use Rattle.mh_check.specs.Checks.{FaultFound, NotRefusedAt, RefusedEarlyAt, SharedBy}
-
-abbrev pub Text : Type 0
-Text = List ℕ
+use Rattle.mh_grammar.specs.Text.{Text}
 
 -- a line of a file
 unfoldable pub place_text : Text → ℕ → Text

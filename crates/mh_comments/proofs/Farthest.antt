@@ -2,7 +2,7 @@
 use Rattle.std.proofs.Common.{◌≡◌, ◌⊎◌, inl, inr, ℕ, zero, suc, ◌+◌, ◌<◌, ◌≤◌, List, [], ◌∷◌, length, get_or, refl, sym, ◌∙◌, ap, subst, arith}
 use Rattle.std.proofs.lemmas.Bool.{cases_lt}
 use Rattle.std.proofs.lemmas.List.{get_or_default}
-use Rattle.mh_items.specs.Shapes.{KernelItem}
+use Rattle.mh_kernels.specs.Shapes.{KernelItem}
 use Rattle.mh_comments.specs.Comments.{IsFarthest}
 
 -- of the first n items it is the first whose dot is as far as any

@@ -2,15 +2,15 @@
 use Rattle.std.proofs.Common.{◌≡◌, ℕ, zero, suc, ◌+◌, ◌-◌, List, [], ◌++◌, length, refl, sym, ◌∙◌, ap, ap₂, subst, arith}
 use Rattle.std.specs.Prelude.{Option, None, Some, codes}
 use Rattle.mh_grammar.specs.declared.types.Grammar.{Grammar}
-use Rattle.mh_items.specs.Shapes.{Automaton}
-use Rattle.mh_items.specs.Automaton.{kernel_at}
+use Rattle.mh_kernels.specs.Shapes.{Automaton}
+use Rattle.mh_kernels.specs.Automaton.{kernel_at}
 use Rattle.mh_tables.specs.Table.{TableData}
 use Rattle.mh_tables.specs.Run.{Config, Move, Accepts, Asks, Refuses, Shifts, Reduces, Ending, Rejected, Ends, initial, move_of, top_of, step, step_by, next_of, after, reduce, goes_to}
 use Rattle.mh_tables.specs.Failing.{Fails}
 use Rattle.mh_tables.proofs.Ending.{one_ending, step_moves}
 use Rattle.mh_run.specs.Trace.{TraceOf, since_move, reduced_since}
 use Rattle.mh_msgfile.specs.Printed.{sentence_text}
-use Rattle.mh_report.specs.Items.{Text}
+use Rattle.mh_grammar.specs.Text.{Text}
 use Rattle.mh_comments.specs.Comments.{IsFarthest, IsCommentText, IsEntryText, comments, message_here}
 use Rattle.mh_comments.proofs.Farthest.{farthest_once}
 

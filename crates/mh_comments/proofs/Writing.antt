@@ -2,9 +2,9 @@
 use Rattle.std.proofs.Common.{◌≡◌, ℕ, ◌-◌, ◌<◌, List, [], ◌++◌, length, get_or, sym, ◌∙◌, ap, subst, append_assoc}
 use Rattle.mh_grammar.specs.declared.types.Grammar.{Grammar}
 use Rattle.mh_grammar.specs.Plain.{plain_of}
-use Rattle.mh_items.specs.Shapes.{Automaton, Kernel, KernelItem}
-use Rattle.mh_items.specs.Automaton.{IsAutomaton, kernel_at}
-use Rattle.mh_resolve.proofs.Resolving.{kernel_is}
+use Rattle.mh_kernels.specs.Shapes.{Automaton, Kernel, KernelItem}
+use Rattle.mh_kernels.specs.Automaton.{IsAutomaton, kernel_at}
+use Rattle.mh_cells.proofs.Resolving.{kernel_is}
 use Rattle.mh_tables.specs.Table.{TableData}
 use Rattle.mh_tables.specs.Facts.{Facts}
 use Rattle.mh_tables.specs.Run.{Rejected, initial}
@@ -14,7 +14,7 @@ use Rattle.mh_run.specs.Trace.{TraceOf}
 use Rattle.mh_run.specs.Verdicts.{ending_for}
 use Rattle.mh_run.specs.declared.outcome.Verdict.{Verdict}
 use Rattle.mh_run.specs.declared.outcome.Verdict.TheVariants as verdicts
-use Rattle.mh_report.specs.Items.{Text}
+use Rattle.mh_grammar.specs.Text.{Text}
 use Rattle.mh_comments.specs.Comments.{IsCommentText, WritesComments, comments}
 use Rattle.mh_tables.proofs.Refusing.{state_refused}
 

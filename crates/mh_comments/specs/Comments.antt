@@ -4,14 +4,15 @@ use Rattle.std.specs.Prelude.{◌≡◌, ◌-◌, ◌<◌, ◌≤◌, ℕ, List,
 use Rattle.mh_grammar.specs.declared.types.Symbol.{Symbol}
 use Rattle.mh_grammar.specs.declared.types.Grammar.{Grammar}
 use Rattle.mh_grammar.specs.Plain.{plain_of, rhs_of}
-use Rattle.mh_items.specs.Shapes.{KernelItem, Automaton}
-use Rattle.mh_items.specs.Automaton.{kernel_at}
+use Rattle.mh_kernels.specs.Shapes.{KernelItem, Automaton}
+use Rattle.mh_kernels.specs.Automaton.{kernel_at}
 use Rattle.mh_tables.specs.Table.{TableData}
 use Rattle.mh_tables.specs.Run.{Rejected}
 use Rattle.mh_tables.specs.Failing.{Fails}
 use Rattle.mh_run.specs.Trace.{TraceOf}
 use Rattle.mh_msgfile.specs.Printed.{sentence_text}
-use Rattle.mh_report.specs.Items.{Text, names_after, production_text, item_lines}
+use Rattle.mh_grammar.specs.Text.{Text}
+use Rattle.mh_report.specs.Items.{names_after, production_text, item_lines}
 
 -- the first of the items whose dot is as far as any
 pub record IsFarthest (items : List KernelItem) (item : KernelItem) : Type 0 where

@@ -2,7 +2,7 @@
 ghost use Rattle.std.specs.Prelude.{◌≡◌, ◌<◌, ◌-◌, ℕ, List, slice_get};
 ghost use Rattle.mh_grammar.specs.Plain.{rhs_of};
 ghost use Rattle.mh_grammar.specs.declared.types.Grammar.{Grammar as Grammar'};
-ghost use Rattle.mh_items.specs.Shapes.{Automaton};
+ghost use Rattle.mh_kernels.specs.Shapes.{Automaton};
 ghost use Rattle.mh_tables.specs.Facts.{InCore};
 ghost use Rattle.mh_tables.specs.Failing.{Fails};
 ghost use Rattle.mh_comments.specs.Comments.{IsCommentText, IsEntryText};

@@ -2,14 +2,14 @@
 ghost use Rattle.std.specs.Prelude.{◌≡◌, ◌<◌, ◌≤◌, ◌^◌, ◌++◌, ℕ, List, length, codes, IfOk, OnOk};
 ghost use Rattle.std.specs.List.{All, slice_get};
 ghost use Rattle.mh_grammar.specs.Plain.{plain_of};
-ghost use Rattle.mh_items.specs.Kernels.{IsKernelItem};
-ghost use Rattle.mh_items.specs.Automaton.{IsAutomaton, kernel_at};
+ghost use Rattle.mh_kernels.specs.Kernels.{IsKernelItem};
+ghost use Rattle.mh_kernels.specs.Automaton.{IsAutomaton, kernel_at};
 ghost use Rattle.mh_tables.specs.Failing.{Fails};
 ghost use Rattle.mh_report.specs.Items.{names_after};
 ghost use Rattle.mh_comments.specs.Comments.{IsFarthest, before_dot, ends_in, suffix_follows, suffix_comment, reduced_comment, reduced_comments, WritesComments, IsCommentText, IsEntryText};
 
 use mh_grammar::{Grammar, Memory, Symbol, Token};
-use mh_items::{Automaton, KernelItem};
+use mh_kernels::{Automaton, KernelItem};
 use mh_msgfile::write_sentence;
 use mh_report::{write_item_lines, write_names, write_number, write_production};
 use mh_run::{Verdict, trace};

@@ -8,8 +8,8 @@ use Rattle.mh_outside.specs.Lines.{FindsLine, Loses, ReadsLine}
 use Rattle.mh_outside.specs.Sink.{AppendsPrefix}
 use Rattle.mh_outside.specs.declared.lines.LineFault.{LineFault}
 use Rattle.mh_outside.specs.declared.lines.LineFault.TheVariants as faults
-use Rattle.mh_drive.specs.Text.{Text}
-use Rattle.mh_drive.specs.Ways.{Ending, Way}
+use Rattle.mh_grammar.specs.Text.{Text}
+use Rattle.mh_drive.specs.Ways.{Finish, Way}
 use Rattle.mh_drive.specs.declared.driving.TheConstants.{LINE_LIMIT}
 use Rattle.mh_drive.specs.Steps.{AnswerRan, EndRan, IsNext, LineRan, NextRan, PastRan, StopIs, TookLine, WriteRan}
 use Rattle.mh_drive.specs.declared.stop.Stop.{Stop}
@@ -45,7 +45,7 @@ past_fault in0 in1 faults.Memory stop is reads = subst (λ (s : Stop). PastRan i
 
 -- ---- an end in one piece
 
-pub text_ran : (Is : Ending → Type 0) (text given : Text) (out0 out1 : Option Text) (r : Result (Unit {0}) Stop) → Is (record { cause = None; out = text }) → given ≡ text → WriteRan given out0 out1 r → EndRan Is out0 out1 r
+pub text_ran : (Is : Finish → Type 0) (text given : Text) (out0 out1 : Option Text) (r : Result (Unit {0}) Stop) → Is (record { cause = None; out = text }) → given ≡ text → WriteRan given out0 out1 r → EndRan Is out0 out1 r
 text_ran Is text given out0 out1 (Ok u) is same wrote = (_, is, refl, subst (Appends out0 out1) same wrote)
 text_ran Is text given out0 out1 (Err WriteFailed) is same wrote = (_, is, subst (AppendsPrefix out0 out1) same wrote)
 text_ran Is text given out0 out1 (Err (Halted cause)) is same wrote = absurd wrote

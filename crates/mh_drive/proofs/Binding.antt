@@ -1,6 +1,6 @@
 -- The law of stages in a row: at most one outcome, halts pass through, and what goes on is handed on.
 use Rattle.std.proofs.Common.{◌≡◌, refl, sym, ◌∙◌, subst, Ok, Err, Result}
-use Rattle.mh_drive.specs.Text.{Text}
+use Rattle.mh_grammar.specs.Text.{Text}
 use Rattle.mh_drive.specs.Causes.{Staged, Go, Halt, On, Then}
 use Rattle.mh_drive.specs.Stages.{FilesGive, StageHas}
 use Rattle.mh_drive.specs.declared.stop.Stop.{Stop}

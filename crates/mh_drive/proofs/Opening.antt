@@ -1,7 +1,7 @@
 -- A mode that was opened, or not.
 use Rattle.std.proofs.Common.{◌≡◌, ℕ, Option, arith, refl}
 use Rattle.std.specs.Prelude.{Result, Ok, Err}
-use Rattle.mh_drive.specs.Text.{Text}
+use Rattle.mh_grammar.specs.Text.{Text}
 use Rattle.mh_drive.specs.Drive.{Ran}
 use Rattle.mh_drive.specs.Opening.{IsOpened}
 use Rattle.mh_drive.specs.Steps.{Counts, FileCounts}

@@ -5,9 +5,9 @@ use Rattle.std.specs.Prelude.{Ok, Err, Bool}
 use Rattle.std.specs.Io.KnownBytes.{Appends, Keeps, IsAtEnd}
 use Rattle.mh_outside.specs.Lines.{HasNoEnd, TakesLine, Loses, behind_line}
 use Rattle.mh_outside.proofs.Pieces.{Appends-append}
-use Rattle.mh_drive.specs.Text.{Text}
+use Rattle.mh_grammar.specs.Text.{Text}
 use Rattle.mh_drive.specs.Lines.{split, asked, is_small, behind}
-use Rattle.mh_drive.specs.Ways.{AnswersAll, AsksFor, Ending, Way, asked_of, left_behind, most, wanted}
+use Rattle.mh_drive.specs.Ways.{AnswersAll, AsksFor, Finish, Way, asked_of, left_behind, most, wanted}
 use Rattle.mh_drive.specs.declared.driving.TheConstants.{LINE_LIMIT}
 use Rattle.mh_drive.specs.Drive.{AreFirst, Ended, LeftIs, Ran, Stands, Took, TookPart}
 use Rattle.mh_drive.specs.Steps.{AllAsked, EndRan, LineRan, LinesRan, PastRan, TookLine}
@@ -411,7 +411,7 @@ module _ {Plan : Type 0} (way : Way Plan) where
   left_so EachLine (Some input) new lines asks took = took
 
   module _ (plan next : Plan) (in0 in1 out0 out1 out2 : Option Text) (all : AllAsked way plan in0 in1 out0 out1 next) where
-    ended : (cause : Option Cause) (e : Ending) → way.EndsWith next e → e.cause ≡ cause → Appends out1 out2 e.out → Ended way plan in0 in1 out0 out2 cause
+    ended : (cause : Option Cause) (e : Finish) → way.EndsWith next e → e.cause ≡ cause → Appends out1 out2 e.out → Ended way plan in0 in1 out0 out2 cause
     ended cause e ends is on_out = record {
       outcome = record { cause = e.cause; out = all.text ++ e.out; left = left_behind in0 true all.lines };
       yields = record { lines = all.lines; whole = true; asks = all.asks; text = all.text; last = next; answers = all.answers; ends = (e, ends, refl, refl); left_is = refl };

@@ -3,7 +3,7 @@ use Rattle.std.proofs.Common.{◌≡◌, ◌≢◌, ◌<◌, ◌≤◌, ℕ, zer
 use Rattle.std.proofs.lemmas.Bool.Decides.{nat_tests}
 use Rattle.std.specs.Prelude.{nat_le, ◌==◌}
 use Rattle.mh_outside.specs.Lines.{HasNoEnd}
-use Rattle.mh_drive.specs.Text.{Text}
+use Rattle.mh_grammar.specs.Text.{Text}
 use Rattle.mh_msgfile.specs.Sentences.{put_first}
 use Rattle.mh_drive.specs.Lines.{split, asked, is_small}
 

@@ -3,9 +3,9 @@ use Rattle.std.specs.Prelude.{◌≡◌, ◌⊎◌, ℕ, suc, true, List, [], �
 use Rattle.std.specs.Io.KnownBytes.{Appends}
 use Rattle.mh_outside.specs.Lines.{Loses}
 use Rattle.mh_outside.specs.Sink.{IsPrefix}
-use Rattle.mh_drive.specs.Text.{Text}
+use Rattle.mh_grammar.specs.Text.{Text}
 use Rattle.mh_drive.specs.Lines.{behind}
-use Rattle.mh_drive.specs.Ways.{AnswersAll, AsksFor, Ending, Outcome, Way, Yields, asked_of}
+use Rattle.mh_drive.specs.Ways.{AnswersAll, AsksFor, Finish, Outcome, Way, Yields, asked_of}
 use Rattle.mh_drive.specs.declared.driving.Asks.{Asks}
 use Rattle.mh_drive.specs.declared.driving.Asks.TheVariants.{NoLine}
 use Rattle.mh_drive.specs.declared.stop.Cause.{Cause}
@@ -51,7 +51,7 @@ module _ {Plan : Type 0} (way : Way Plan) where
   -- a front of what is written at the end, behind all lines that were asked for
   pub record IsOfEnd (plan : Plan) (input : Option Text) (lines : List Text) (next : Plan) (front : Text) : Type 0 where
     pub all : AsksFor (way.asks_of plan) input lines true
-    pub ending : Ending
+    pub ending : Finish
     pub ends : way.EndsWith next ending
     pub is_front : IsPrefix front ending.out
 

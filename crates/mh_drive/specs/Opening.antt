@@ -1,6 +1,6 @@
 -- What is done with a mode that was opened, and where none could be.
 use Rattle.std.specs.Prelude.{◌≡◌, Option, Result, Ok, Err, ⊤}
-use Rattle.mh_drive.specs.Text.{Text}
+use Rattle.mh_grammar.specs.Text.{Text}
 use Rattle.mh_drive.specs.Drive.{Ran}
 use Rattle.mh_drive.specs.Ways.{Way}
 use Rattle.mh_drive.specs.declared.stop.Stop.{Stop}

@@ -1,6 +1,7 @@
 -- What is told of the causes by which the work ends before its time: a status, and a line on err.
 use Rattle.std.specs.Prelude.{ℕ, [], Option, None, Some}
-use Rattle.mh_drive.specs.Text.{Text, cannot_read, too_big, too_big_input}
+use Rattle.mh_grammar.specs.Text.{Text}
+use Rattle.mh_drive.specs.Text.{cannot_read, too_big, too_big_input}
 use Rattle.mh_drive.specs.declared.stop.Cause.{Cause}
 use Rattle.mh_drive.specs.declared.stop.Cause.TheVariants.{Refused, Misused, Missing, LongFile, LongInput}
 

@@ -7,8 +7,8 @@ use Rattle.mh_outside.specs.Lines.{HasNoEnd, Loses, TakesLine, behind_line}
 use Rattle.mh_outside.specs.Sink.{AppendsPrefix}
 use Rattle.mh_outside.specs.declared.lines.LineFault.{LineFault}
 use Rattle.mh_outside.specs.declared.lines.LineFault.TheVariants as faults
-use Rattle.mh_drive.specs.Text.{Text}
-use Rattle.mh_drive.specs.Ways.{AnswersAll, AsksFor, Ending, Way}
+use Rattle.mh_grammar.specs.Text.{Text}
+use Rattle.mh_drive.specs.Ways.{AnswersAll, AsksFor, Finish, Way}
 use Rattle.mh_drive.specs.declared.driving.TheConstants.{LINE_LIMIT}
 use Rattle.mh_drive.specs.declared.stop.Cause.TheVariants.{LongInput}
 use Rattle.mh_drive.specs.declared.stop.Stop.{Stop}
@@ -16,11 +16,11 @@ use Rattle.mh_drive.specs.declared.stop.Stop.TheVariants.{Halted, ShelfFailed, I
 use Rattle.mh_drive.specs.Drive.{Ran, Took}
 
 -- how an end was written: all of it, or a front, or nothing
-abbrev pub EndRan : (Ending → Type 0) → Option Text → Option Text → Result (Unit {0}) Stop → Type 0
-EndRan Is out0 out1 (Ok _) = (e : Ending) × Is e × (e.cause ≡ None) × Appends out0 out1 e.out
-EndRan Is out0 out1 (Err (Halted cause)) = (e : Ending) × Is e × (e.cause ≡ Some cause) × Appends out0 out1 e.out
-EndRan Is out0 out1 (Err WriteFailed) = (e : Ending) × Is e × AppendsPrefix out0 out1 e.out
-EndRan Is out0 out1 (Err OutOfMemory) = (out1 ≡ out0) ⊎ ((e : Ending) × Is e × AppendsPrefix out0 out1 e.out)
+abbrev pub EndRan : (Finish → Type 0) → Option Text → Option Text → Result (Unit {0}) Stop → Type 0
+EndRan Is out0 out1 (Ok _) = (e : Finish) × Is e × (e.cause ≡ None) × Appends out0 out1 e.out
+EndRan Is out0 out1 (Err (Halted cause)) = (e : Finish) × Is e × (e.cause ≡ Some cause) × Appends out0 out1 e.out
+EndRan Is out0 out1 (Err WriteFailed) = (e : Finish) × Is e × AppendsPrefix out0 out1 e.out
+EndRan Is out0 out1 (Err OutOfMemory) = (out1 ≡ out0) ⊎ ((e : Finish) × Is e × AppendsPrefix out0 out1 e.out)
 EndRan Is out0 out1 (Err _) = ⊥
 
 abbrev pub OutCounts : {T : Type 0} → ℕ → ℕ → Result T Stop → Type 0

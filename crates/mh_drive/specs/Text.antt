@@ -1,8 +1,6 @@
 -- Texts, and the lines on err that tell of files, of the input and of memory.
 use Rattle.std.specs.Prelude.{ℕ, List, ◌++◌, codes}
-
-abbrev pub Text : Type 0
-Text = List ℕ
+use Rattle.mh_grammar.specs.Text.{Text}
 
 abbrev pub cannot_read : Text → Text
 cannot_read name = codes "menhir: cannot read " ++ name ++ codes "\n"

@@ -1,6 +1,6 @@
 -- How a mode works: which lines of the input it asks for, how each is answered, and how it ends.
 use Rattle.std.specs.Prelude.{◌≡◌, ℕ, Bool, true, false, List, [], ◌∷◌, ◌++◌, length, take, Option, None, Some, ⊤}
-use Rattle.mh_drive.specs.Text.{Text}
+use Rattle.mh_grammar.specs.Text.{Text}
 use Rattle.mh_drive.specs.Lines.{split, asked, is_small, behind}
 use Rattle.mh_drive.specs.declared.driving.Asks.{Asks}
 use Rattle.mh_drive.specs.declared.driving.Asks.TheVariants.{NoLine, FirstLine, EachLine}
@@ -9,7 +9,7 @@ use Rattle.mh_drive.specs.declared.stop.Cause.{Cause}
 use Rattle.mh_drive.specs.declared.stop.Cause.TheVariants.{LongInput}
 
 -- the cause, where the work is refused, and the text on out
-pub record Ending : Type 0 where
+pub record Finish : Type 0 where
   pub cause : Option Cause
   pub out : Text
 
@@ -17,7 +17,7 @@ pub record Ending : Type 0 where
 pub record Way (State : Type 0) : Type 1 where
   pub asks_of : State → Asks
   pub Answers : State → Text → Text → State → Type 0
-  pub EndsWith : State → Ending → Type 0
+  pub EndsWith : State → Finish → Type 0
 
 -- ---- the lines that are asked for
 
@@ -62,7 +62,7 @@ AnswersAll {State} way plan (line ∷ lines) text next = (first rest : Text) × 
 
 -- behind the lines, where they are all that was asked for; else they are answered, and that is all
 abbrev pub EndsBehind : {State : Type 0} → Way State → Bool → State → Text → Option Cause → Text → Type 0
-EndsBehind way true plan text cause out = (e : Ending) × way.EndsWith plan e × (cause ≡ e.cause) × (out ≡ text ++ e.out)
+EndsBehind way true plan text cause out = (e : Finish) × way.EndsWith plan e × (cause ≡ e.cause) × (out ≡ text ++ e.out)
 EndsBehind way false plan text cause out = (cause ≡ Some LongInput) × (out ≡ text)
 
 -- an outcome of a mode on this input: the lines asked for are answered, and then it ends

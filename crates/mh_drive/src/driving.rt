@@ -4,7 +4,7 @@ ghost use Rattle.std.specs.Prelude.{◌≡◌, ◌<◌, ◌^◌, length, IfOk};
 ghost use Rattle.mh_drive.specs.Drive.{Ran};
 ghost use Rattle.mh_drive.specs.Opening.{Driven, IsOpened};
 ghost use Rattle.mh_drive.specs.Steps.{AnswerRan, Counts, EndRan, InputCounts, LineRan, LinesRan, NextRan, OutCounts, PastRan, StopIs, WriteRan};
-ghost use Rattle.mh_drive.specs.Text.{Text};
+ghost use Rattle.mh_grammar.specs.Text.{Text};
 ghost use Rattle.mh_drive.specs.Ways.{Way, most as most_of};
 
 use crate::stop::{Cause, Stop};

@@ -10,7 +10,8 @@ use Rattle.mh_grammar.proofs.Lists.{taken}
 use Rattle.mh_rules.specs.declared.modules.Rule.{Rule}
 use Rattle.mh_meanings.specs.declared.fault.JoinFault.{JoinFault}
 use Rattle.mh_meanings.specs.declared.fault.JoinFault.TheVariants as faults
-use Rattle.mh_meanings.specs.Names.{Text, same}
+use Rattle.mh_grammar.specs.Text.{Text}
+use Rattle.mh_meanings.specs.Names.{same}
 use Rattle.mh_meanings.specs.Faults.{first, unless, repeats, own_name, own_names}
 use Rattle.mh_duplicates.specs.Once.{PutsOwn}
 use Rattle.mh_meanings.proofs.Lists.{any_put, flat_more}

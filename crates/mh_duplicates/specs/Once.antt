@@ -4,7 +4,8 @@ use Rattle.std.specs.HashSet.{HashSet}
 use Rattle.indexmap.specs.IndexSet.{contains, insert_key}
 use Rattle.mh_meanings.specs.declared.fault.JoinFault.{JoinFault}
 use Rattle.mh_meanings.specs.declared.fault.JoinFault.TheVariants as faults
-use Rattle.mh_meanings.specs.Names.{Text, same}
+use Rattle.mh_grammar.specs.Text.{Text}
+use Rattle.mh_meanings.specs.Names.{same}
 
 -- the name was not there and is now, or is a duplicate
 abbrev pub PutsOnce : {S X : Type 0} → HashSet Text S → Text → HashSet Text S → Result X JoinFault → Type 0

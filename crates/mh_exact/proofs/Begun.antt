@@ -10,10 +10,10 @@ use Rattle.mh_grammar.specs.declared.types.Look.TheVariants.{End}
 use Rattle.mh_grammar.specs.Derivations as trees
 use Rattle.mh_grammar.specs.Plain.{production_count, rhs_of, Derives, DerivesAll, IsSentence, BeginsSentence, start_symbol, IsSymbolBelow, IsInRange}
 use Rattle.mh_grammar.specs.ItemSets.{given, added, moved}
-use Rattle.mh_items.specs.Shapes.{Automaton}
-use Rattle.mh_items.specs.Automaton.{IsTarget, kernel_of, closure_of, move_of as moves_of}
-use Rattle.mh_items.proofs.Following.{side_below, behind_below}
-use Rattle.mh_resolve.proofs.Closed.{closure_is_item}
+use Rattle.mh_kernels.specs.Shapes.{Automaton}
+use Rattle.mh_kernels.specs.Automaton.{IsTarget, kernel_of, closure_of, move_of as moves_of}
+use Rattle.mh_kernels.proofs.Sides.{side_below, behind_below}
+use Rattle.mh_cells.proofs.Closed.{closure_is_item}
 use Rattle.mh_tables.specs.Table.{TableData}
 use Rattle.mh_tables.specs.Facts.{Facts}
 use Rattle.mh_tables.specs.Run.{Config, Move, Accepts, Asks, Refuses, Shifts, Reduces, move_of, top_of, initial, after, VerdictOf, Overshot}

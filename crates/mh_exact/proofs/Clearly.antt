@@ -9,17 +9,17 @@ use Rattle.mh_grammar.specs.declared.types.Look.TheVariants.{Token, End}
 use Rattle.mh_grammar.specs.Plain.{PlainGrammar, plain_of, rhs_of, production_count, DerivesAll, IsInRange, IsSymbolBelow, IsLookBelow}
 use Rattle.mh_grammar.specs.ItemSets as items
 use Rattle.mh_grammar.specs.ItemSets.{MayBegin}
-use Rattle.mh_grammar.proofs.Begins.{first_of_from-derivations}
-use Rattle.mh_grammar.proofs.FirstSets.{first_of-below}
-use Rattle.mh_items.specs.Shapes.{Automaton}
-use Rattle.mh_items.specs.Kernels.{IsKernelItem}
-use Rattle.mh_items.specs.Automaton.{IsAutomaton, kernel_at, closure_of, leads_to}
-use Rattle.mh_items.proofs.Following.{behind_below}
-use Rattle.mh_resolve.specs.declared.kinds.Mode.{Mode}
-use Rattle.mh_resolve.specs.States.{Raw, state_of, IsTableOf}
-use Rattle.mh_resolve.specs.Clear.{HasNoConflicts, IsDefaultOf, ActsClearly}
-use Rattle.mh_resolve.proofs.Clear.{state_acts_clearly}
-use Rattle.mh_resolve.proofs.Closed.{closure_is_item, closure_within}
+use Rattle.mh_firsts.proofs.Begins.{first_of_from-derivations}
+use Rattle.mh_firsts.proofs.FirstSets.{first_of-below}
+use Rattle.mh_kernels.specs.Shapes.{Automaton}
+use Rattle.mh_kernels.specs.Kernels.{IsKernelItem}
+use Rattle.mh_kernels.specs.Automaton.{IsAutomaton, kernel_at, closure_of, leads_to}
+use Rattle.mh_kernels.proofs.Sides.{behind_below}
+use Rattle.mh_cells.specs.declared.kinds.Mode.{Mode}
+use Rattle.mh_cells.specs.States.{Raw, state_of, IsTableOf}
+use Rattle.mh_cells.specs.Clear.{HasNoConflicts, IsDefaultOf, ActsClearly}
+use Rattle.mh_cells.proofs.Clear.{state_acts_clearly}
+use Rattle.mh_cells.proofs.Closed.{closure_is_item, closure_within}
 use Rattle.mh_grammar.proofs.Lists.{recursion_contains}
 use Rattle.mh_tables.specs.declared.parts.Action.{Action}
 use Rattle.mh_tables.specs.declared.parts.Action.TheVariants as actions

@@ -8,9 +8,9 @@ use Rattle.mh_grammar.specs.declared.types.Look.TheVariants.{End}
 use Rattle.mh_grammar.specs.Derivations as trees
 use Rattle.mh_grammar.specs.Plain.{rhs_of, lhs_of, IsToken, Produces, Derives, DerivesAll, IsSentence}
 use Rattle.mh_grammar.specs.ItemSets.{MayBegin, passes, given, added, moved}
-use Rattle.mh_items.specs.Shapes.{Automaton}
-use Rattle.mh_items.specs.Automaton.{kernel_of, closure_of, leads_to}
-use Rattle.mh_resolve.proofs.Closed.{closure_within}
+use Rattle.mh_kernels.specs.Shapes.{Automaton}
+use Rattle.mh_kernels.specs.Automaton.{kernel_of, closure_of, leads_to}
+use Rattle.mh_cells.proofs.Closed.{closure_within}
 use Rattle.mh_tables.specs.Table.{TableData, edge_of}
 use Rattle.mh_tables.specs.Run.{Config, Accepts, Shifts, Reduces, move_of, top_of, reduce, initial, step, after, next_of, Goes, Accepted, VerdictOf}
 use Rattle.mh_tables.proofs.Reductions.{after-add, reduction_is, step_reduces}

@@ -16,20 +16,20 @@ use Rattle.mh_grammar.specs.First.{FirstOf}
 use Rattle.mh_grammar.specs.ItemSets as items
 use Rattle.mh_grammar.specs.ItemSets.{Close, given, added, Moved, moved, MayBegin}
 use Rattle.mh_grammar.specs.Plain.{PlainGrammar, plain_of, rhs_of, lhs_of, IsProductionFor, Derives, IsInRange}
-use Rattle.mh_items.specs.Shapes.{Kernel}
-use Rattle.mh_items.specs.Kernels.{Holds, HasPlace, IsKernel}
-use Rattle.mh_items.specs.Automaton.{IsAutomaton, Moves, IsTarget, kernel_at, edges_at, kernel_of, closure_of, move_of, leads_to, no_kernel, start_kernel}
+use Rattle.mh_kernels.specs.Shapes.{Kernel}
+use Rattle.mh_kernels.specs.Kernels.{Holds, HasPlace, IsItemList}
+use Rattle.mh_kernels.specs.Automaton.{IsAutomaton, Moves, IsTarget, kernel_at, edges_at, kernel_of, closure_of, move_of, leads_to, no_kernel, start_kernel}
 use Rattle.mh_tables.specs.declared.parts.Action.{Action}
 use Rattle.mh_tables.specs.declared.parts.Action.TheVariants.{Shift, Reduce, Refuse}
 use Rattle.mh_tables.specs.Table.{no_state}
-use Rattle.mh_resolve.specs.declared.kinds.Mode.TheVariants.{Canonical}
-use Rattle.mh_resolve.specs.States.{State, state_of, Raw, Keeps, HasDefault, IsCell, IsResolved, AreResolved, place_of}
-use Rattle.mh_resolve.specs.Clear.{IsClear}
-use Rattle.mh_resolve.proofs.Clear.{kept_raw}
-use Rattle.mh_resolve.proofs.Closed.{came_from, closure_within}
-use Rattle.mh_resolve.proofs.Once.{raw_taken}
-use Rattle.mh_resolve.proofs.Stating.{takes_raw, takes_stays}
-use Rattle.mh_resolve.proofs.Tabled.{facts}
+use Rattle.mh_cells.specs.declared.kinds.Mode.TheVariants.{Canonical}
+use Rattle.mh_cells.specs.States.{State, state_of, Raw, Keeps, HasDefault, IsCell, IsResolved, AreResolved, place_of}
+use Rattle.mh_cells.specs.Clear.{IsClear}
+use Rattle.mh_cells.proofs.Clear.{kept_raw}
+use Rattle.mh_cells.proofs.Closed.{came_from, closure_within}
+use Rattle.mh_cells.proofs.Once.{raw_taken}
+use Rattle.mh_cells.proofs.Stating.{takes_raw, takes_stays}
+use Rattle.mh_cells.proofs.Tabled.{facts}
 use Rattle.mh_exact.specs.Exactness.{AllProductive}
 use Rattle.mh_exact.specs.Example.{one_grammar, one_automaton, one_states, one_table, MeetsPremises}
 use Rattle.mh_exact.proofs.Standing.{IsAlone, kernel_with, with_holds, place_only, with_only}
@@ -286,16 +286,16 @@ each_clear (suc (suc zero)) lt = clear_by s_2 End (Reduce 0) only_2
 each_clear (suc (suc (suc s))) lt = absurd (omega arith)
 
 -- the automaton
-is_kernel : (q e : ℕ) → q < 2 → e ≤ length (rhs_of g q) → IsKernel g (kernel_with q e)
+is_kernel : (q e : ℕ) → q < 2 → e ≤ length (rhs_of g q) → IsItemList g (kernel_with q e)
 is_kernel q e lt le = record {
   items = (record { production = omega arith; dot = omega arith; looks = (tt, tt); rising = (tt, tt); some = omega arith }, tt);
   rising = (tt, tt);
 }
 
-each_kernel : (s : ℕ) → s < 3 → IsKernel g (kernel_at one_automaton s)
-each_kernel zero lt = subst (IsKernel g) (sym kernel_0) (is_kernel 0 0 (omega arith) (omega arith))
-each_kernel (suc zero) lt = let l = ap length rhs_1 in subst (IsKernel g) (sym kernel_1) (is_kernel 1 1 (omega arith) (omega arith))
-each_kernel (suc (suc zero)) lt = let l = ap length rhs_0 in subst (IsKernel g) (sym kernel_2) (is_kernel 0 1 (omega arith) (omega arith))
+each_kernel : (s : ℕ) → s < 3 → IsItemList g (kernel_at one_automaton s)
+each_kernel zero lt = subst (IsItemList g) (sym kernel_0) (is_kernel 0 0 (omega arith) (omega arith))
+each_kernel (suc zero) lt = let l = ap length rhs_1 in subst (IsItemList g) (sym kernel_1) (is_kernel 1 1 (omega arith) (omega arith))
+each_kernel (suc (suc zero)) lt = let l = ap length rhs_0 in subst (IsItemList g) (sym kernel_2) (is_kernel 0 1 (omega arith) (omega arith))
 each_kernel (suc (suc (suc s))) lt = absurd (omega arith)
 
 each_start : (i : ℕ) → i < 1 → kernel_at one_automaton i ≡ start_kernel i

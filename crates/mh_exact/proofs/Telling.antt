@@ -2,11 +2,11 @@
 use Rattle.std.proofs.Common.{◌≡◌, ◌↔◌, ℕ, ◌+◌, ◌<◌, List, length, take, sym, subst}
 use Rattle.mh_grammar.specs.declared.types.Grammar.{Grammar}
 use Rattle.mh_grammar.specs.Plain.{PlainGrammar, plain_of, IsSentence, BeginsSentence}
-use Rattle.mh_items.specs.Shapes.{Automaton}
-use Rattle.mh_items.specs.Automaton.{IsAutomaton}
-use Rattle.mh_resolve.specs.declared.kinds.Mode.{Mode}
-use Rattle.mh_resolve.specs.States.{IsTableOf}
-use Rattle.mh_resolve.specs.Clear.{HasNoConflicts}
+use Rattle.mh_kernels.specs.Shapes.{Automaton}
+use Rattle.mh_kernels.specs.Automaton.{IsAutomaton}
+use Rattle.mh_cells.specs.declared.kinds.Mode.{Mode}
+use Rattle.mh_cells.specs.States.{IsTableOf}
+use Rattle.mh_cells.specs.Clear.{HasNoConflicts}
 use Rattle.mh_tables.specs.Table.{TableData}
 use Rattle.mh_tables.specs.Facts.{Facts}
 use Rattle.mh_tables.specs.Run.{VerdictOf, Accepted, Overshot, Rejected}

@@ -4,16 +4,16 @@ use Rattle.mh_grammar.specs.declared.types.Symbol.TheVariants.{T, N}
 use Rattle.mh_grammar.specs.declared.types.Look.TheVariants.{End}
 use Rattle.mh_grammar.specs.declared.types.Grammar.{Grammar}
 use Rattle.mh_grammar.specs.Plain.{plain_of, IsInRange, IsSentence}
-use Rattle.mh_items.specs.Shapes.{Automaton}
-use Rattle.mh_items.specs.Automaton.{IsAutomaton}
+use Rattle.mh_kernels.specs.Shapes.{Automaton}
+use Rattle.mh_kernels.specs.Automaton.{IsAutomaton}
 use Rattle.mh_tables.specs.declared.parts.Action.TheVariants.{Shift, Refuse}
 use Rattle.mh_tables.specs.declared.parts.Fallback.TheVariants as fallbacks
 use Rattle.mh_tables.specs.declared.parts.StateParts.{StateParts}
 use Rattle.mh_tables.specs.Table.{TableData, table_data}
 use Rattle.mh_tables.specs.Facts.{Facts}
-use Rattle.mh_resolve.specs.declared.kinds.Mode.{Mode}
-use Rattle.mh_resolve.specs.States.{IsTableOf}
-use Rattle.mh_resolve.specs.Clear.{HasNoConflicts}
+use Rattle.mh_cells.specs.declared.kinds.Mode.{Mode}
+use Rattle.mh_cells.specs.States.{IsTableOf}
+use Rattle.mh_cells.specs.Clear.{HasNoConflicts}
 use Rattle.mh_exact.specs.Exactness.{AllProductive}
 
 -- `s: A`

@@ -1,23 +1,23 @@
 //! What the verdicts of a table say of the grammar's sentences (Knuth 1965): empty calls that tell it to contracts.
 ghost use Rattle.std.specs.Prelude.{◌≡◌, ◌↔◌, ◌<◌, ◌+◌, List, ℕ, length, take};
 ghost use Rattle.mh_grammar.specs.declared.types.Grammar.{Grammar};
-ghost use Rattle.mh_items.specs.Shapes.{Automaton as AutomatonOf};
+ghost use Rattle.mh_kernels.specs.Shapes.{Automaton as AutomatonOf};
 ghost use Rattle.mh_tables.specs.Table.{TableData};
-ghost use Rattle.mh_resolve.specs.declared.kinds.Mode.{Mode};
+ghost use Rattle.mh_cells.specs.declared.kinds.Mode.{Mode};
 ghost use Rattle.mh_exact.specs.Example.{MeetsPremises};
 ghost use Rattle.mh_grammar.specs.declared.types.Symbol.{Symbol};
 ghost use Rattle.mh_grammar.specs.Plain.{PlainGrammar, plain_of, Derives, IsSentence, BeginsSentence};
-ghost use Rattle.mh_items.specs.Automaton.{IsAutomaton};
-ghost use Rattle.mh_resolve.specs.Clear.{HasNoConflicts};
-ghost use Rattle.mh_resolve.specs.States.{IsTableOf};
+ghost use Rattle.mh_kernels.specs.Automaton.{IsAutomaton};
+ghost use Rattle.mh_cells.specs.Clear.{HasNoConflicts};
+ghost use Rattle.mh_cells.specs.States.{IsTableOf};
 ghost use Rattle.mh_tables.specs.Run.{VerdictOf, Accepted, Overshot, Rejected};
 ghost use Rattle.mh_tree.specs.Trees.{SyntaxTree, IsTreeFor, yield_of};
 ghost use Rattle.mh_tables.specs.TreeRuns.{IsTreeOfRead};
 ghost use Rattle.mh_exact.specs.Exactness.{IsPrefixSentence, AllProductive};
 
+use mh_cells::Mode;
 use mh_grammar::Grammar;
-use mh_items::Automaton;
-use mh_resolve::Mode;
+use mh_kernels::Automaton;
 use mh_tables::Table;
 
 /// Where the run of a start accepts, on any table, its one tree is a derivation's tree for the symbol of the start, and

@@ -10,8 +10,10 @@ use Rattle.mh_rules.specs.declared.joined.Applied.{Applied}
 use Rattle.mh_rules.specs.declared.joined.JoinedAlternative.{JoinedAlternative}
 use Rattle.mh_rules.specs.declared.joined.JoinedRule.{JoinedRule}
 use Rattle.mh_rules.specs.declared.joined.Joined.{Joined}
+use Rattle.mh_expand.specs.declared.search.TheConstants.{MAX_NAME}
 use Rattle.mh_expand.specs.declared.fault.ExpandFault.{ExpandFault}
 use Rattle.mh_expand.specs.declared.fault.ExpandFault.TheVariants.{Arity, Expansion, Memory}
+use Rattle.mh_rules.specs.declared.instances.TheConstants.{MAX_INSTANCES}
 use Rattle.mh_rules.specs.declared.instances.Part.{Part}
 use Rattle.mh_rules.specs.declared.instances.Part.TheVariants as parts
 use Rattle.mh_rules.specs.declared.instances.InstanceProduction.{InstanceProduction}
@@ -90,17 +92,17 @@ pub record IsNew (before : List Term) (t : Term) : Type 0 where
   pub instance : IsInstance t
   pub new : Contains before t → ⊥
 
--- 20,000 instances were found before
+-- as many instances as there may be were found before
 pub record IsFull (before : List Term) : Type 0 where
   pub some : List Term
   pub found : All (λ t. Contains before t × IsInstance t) some
   pub distinct : AreDistinct some
-  pub full : length some ≡ 20000
+  pub full : length some ≡ MAX_INSTANCES
 
 -- the fault of a term that is found behind others
 pub data IsFault (j : Joined) (before : List Term) (t : Term) : ExpandFault → Type 0 where
   count : (Fits j t → ⊥) → IsFault j before t (Arity (text j t))
-  long : Fits j t → IsNew before t → 1000 < length (text j t) → IsFault j before t (Expansion (head_name j (head_of t)))
+  long : Fits j t → IsNew before t → MAX_NAME < length (text j t) → IsFault j before t (Expansion (head_name j (head_of t)))
   full : Fits j t → IsNew before t → IsFull before → IsFault j before t (Expansion (head_name j (head_of t)))
 
 -- no term of the list has a fault

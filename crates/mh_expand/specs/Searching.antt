@@ -3,7 +3,9 @@ use Rattle.std.specs.Prelude.{◌≡◌, ◌<◌, ◌≤◌, ℕ, List, [], ◌�
 use Rattle.std.specs.List.{All, AllZip, Contains}
 use Rattle.mh_grammar.specs.Numbering.{AreDistinct, Names}
 use Rattle.mh_rules.specs.declared.joined.Joined.{Joined}
+use Rattle.mh_rules.specs.declared.instances.TheConstants.{MAX_INSTANCES}
 use Rattle.mh_rules.specs.declared.instances.Part.{Part}
+use Rattle.mh_expand.specs.declared.search.TheConstants.{MAX_NAME}
 use Rattle.mh_expand.specs.Terms.{Term, text}
 use Rattle.mh_rules.specs.declared.joined.Applied.{Applied}
 use Rattle.mh_rules.specs.declared.joined.JoinedAlternative.{JoinedAlternative}
@@ -81,7 +83,7 @@ pub record AddsRank (old new : ℕ → Option ℕ) (number rank : ℕ) : Type 0 
 pub record IsFit (j : Joined) (t : Term) : Type 0 where
   pub instance : IsInstance t
   pub fits : Fits j t
-  pub short : length (text j t) ≤ 1000
+  pub short : length (text j t) ≤ MAX_NAME
 
 -- a list of terms with more behind it
 pub record IsLonger (xs ys : List Term) : Type 0 where
@@ -90,7 +92,7 @@ pub record IsLonger (xs ys : List Term) : Type 0 where
 
 -- some instances are expanded
 pub record IsExpanding (j : Joined) (ts : List Term) (numbers : List ℕ) (instances : List Instance) (rank : ℕ → Option ℕ) : Type 0 where
-  pub few : length numbers ≤ 20000
+  pub few : length numbers ≤ MAX_INSTANCES
   pub within : length instances ≤ length numbers
   pub search : IsSearch j (finds j (take (length instances) (terms_at ts numbers))) ts numbers
   pub order : AreFirst j (take (length instances) (terms_at ts numbers))

@@ -14,13 +14,14 @@ ghost use Rattle.mh_expand.specs.Searching.{IsSearch, IsFit, AreRanks, WentStart
 use crate::fault::ExpandFault;
 use crate::ranks::{Ranks, rank_of, ranks_of};
 use crate::replacing::replace;
-use crate::search::{MAX_INSTANCES, MAX_NAME, find, find_instance};
+use crate::search::{MAX_NAME, find, find_instance};
 use crate::terms::{Application, Terms};
 use crate::texts::text_within;
 use indexmap::IndexSet;
 use mh_grammar::{Memory, Name, Sequence, TokenInfo};
 use mh_rules::{
     Expanded, Head, Instance, InstanceProduction, Joined, JoinedAlternative, JoinedRule,
+    MAX_INSTANCES,
 };
 use std::alloc::Global;
 

@@ -11,11 +11,8 @@ use crate::terms::Terms;
 use crate::texts::text_within;
 use indexmap::IndexSet;
 use mh_grammar::{Memory, Name};
-use mh_rules::{Head, Joined, JoinedRule, Part};
+use mh_rules::{Head, Joined, JoinedRule, MAX_INSTANCES, Part};
 use std::alloc::{AllocFailed, Global};
-
-/// The most instances that there may be.
-pub(crate) const MAX_INSTANCES: usize = 20_000;
 
 /// The most bytes that the name of an instance may have.
 pub(crate) const MAX_NAME: usize = 1000;

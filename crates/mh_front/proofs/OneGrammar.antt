@@ -9,7 +9,8 @@ use Rattle.mh_rules.specs.declared.modules.Module.{Module}
 use Rattle.mh_meanings.specs.declared.fault.JoinFault.{JoinFault}
 use Rattle.mh_meanings.specs.declared.fault.JoinFault.TheVariants as joining
 use Rattle.mh_rules.specs.declared.joined.Joined.{Joined}
-use Rattle.mh_meanings.specs.Names.{Text, files}
+use Rattle.mh_grammar.specs.Text.{Text}
+use Rattle.mh_meanings.specs.Names.{files}
 use Rattle.mh_meanings.specs.Faults.{meanings, undefined_in_file, errors_in_file, unlevelled_in_file, many_tokens, other_faults, duplicates, join_faults, first, has_some, unless}
 use Rattle.mh_meanings.specs.Joining.{Joins}
 use Rattle.mh_rules.specs.declared.joined.TheConstants.{MAX_TOKENS}

@@ -1,13 +1,8 @@
-pub mod Begins
 pub mod Costs
 pub mod EdgeOrder
-pub mod FirstSets
-pub mod Flags
-pub mod LeastMarks
 pub mod Lists
 pub mod Numbered
 pub mod OneNumbering
-pub mod Passes
 pub mod Pigeon
 pub mod Placing
 pub mod SameText

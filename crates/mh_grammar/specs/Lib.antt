@@ -2,12 +2,10 @@ pub mod Costs
 pub mod Derivations
 pub mod Edges
 pub mod First
-pub mod FirstFlags
-pub mod Grid
 pub mod ItemSets
-pub mod Marked
 pub mod Names
 pub mod Numbering
 pub mod Placed
 pub mod Plain
 pub mod formers
+pub mod Text

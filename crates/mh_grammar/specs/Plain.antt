@@ -8,7 +8,7 @@ use Rattle.mh_grammar.specs.declared.types.Look.{Look}
 use Rattle.mh_grammar.specs.declared.types.Look.TheVariants.{Token, End}
 use Rattle.mh_grammar.specs.declared.types.Production.{Production}
 use Rattle.mh_grammar.specs.declared.types.Grammar.{Grammar}
-use Rattle.mh_grammar.specs.declared.range.TheConstants.{MAX_NUMBERED}
+use Rattle.mh_grammar.specs.declared.types.TheConstants.{MAX_NUMBERED}
 use Rattle.mh_grammar.specs.Derivations.{Derivation, Derivations}
 
 -- the numbers of tokens and nonterminals, the nonterminal of each start, the ordinary productions

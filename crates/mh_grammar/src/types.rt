@@ -23,14 +23,14 @@ impl<T: Drop> From<AllocFailed<T>> for Memory {
 pub type Token = u16;
 
 /// A token or a nonterminal, by its number.
-#[derive(Clone, Copy, Debug, PartialEq, Eq, PartialOrd, Ord, Hash)]
+#[derive(Clone, Copy, Debug, PartialEq, Eq)]
 pub enum Symbol {
     T(Token),
     N(u16),
 }
 
 /// What may come behind an item: a token, or the end of the stream, which no lexer delivers.
-#[derive(Clone, Copy, Debug, PartialEq, Eq, PartialOrd, Ord, Hash)]
+#[derive(Clone, Copy, Debug, PartialEq, Eq)]
 pub enum Look {
     Token(Token),
     End,
@@ -55,6 +55,9 @@ pub struct Level {
     pub assoc: Assoc,
 }
 
+/// The most tokens, nonterminals or starts: each has a number of 16 bits.
+pub const MAX_NUMBERED: usize = 65_535;
+
 /// The highest cost of a token; the lowest is 1.
 pub const MAX_COST: u32 = 1000;
 
@@ -70,7 +73,7 @@ pub struct TokenInfo {
 }
 
 /// A nonterminal.
-#[derive(Clone, Debug, Drop, PartialEq, Eq)]
+#[derive(Debug, Drop)]
 pub struct NontermInfo {
     /// Its name, with its arguments where it is an instance.
     pub name: Name,
@@ -79,7 +82,7 @@ pub struct NontermInfo {
 }
 
 /// An ordinary production.
-#[derive(Clone, Debug, Drop, PartialEq, Eq)]
+#[derive(Debug, Drop)]
 pub struct Production {
     /// The nonterminal of its left side, by number.
     pub lhs: u16,
@@ -91,9 +94,9 @@ pub struct Production {
 
 /// A grammar. Production number i below the count of starts is that of start i, `S' -> S`; the ordinary productions
 /// of the list follow in order. Tokens, nonterminals and starts are at most 65,535 each, productions with the starts'
-/// are below 2^32, and so are the symbols of a right side; [`is_in_range`](crate::is_in_range) says whether a grammar
-/// keeps to this and each number in it names something.
-#[derive(Clone, Debug, Drop, PartialEq, Eq)]
+/// are below 2^32, and so are the symbols of a right side; `is_in_range` of mh_range says whether a grammar keeps to this and each
+/// number in it names something.
+#[derive(Debug, Drop)]
 pub struct Grammar {
     /// The tokens, by number.
     pub tokens: Sequence<TokenInfo>,
@@ -106,7 +109,7 @@ pub struct Grammar {
 }
 
 /// A start, by its number among the starts, and tokens.
-#[derive(Clone, Debug, Drop, PartialEq, Eq)]
+#[derive(Debug, Drop)]
 pub struct Sentence {
     pub start: u16,
     pub tokens: Sequence<Token>,

@@ -1,26 +1,21 @@
 -- Unfoldings of inline instances, each made from those of the instances that it is made of.
-use Rattle.std.proofs.Common.{◌≡◌, ℕ, zero, suc, ◌≤◌, true, List, [], ◌∷◌, Option, Some, take, length, sym, ◌∙◌, arith, subst}
+use Rattle.std.proofs.Common.{◌≡◌, ℕ, zero, suc, ◌≤◌, true, List, [], ◌∷◌, Option, Some, take, sym, ◌∙◌, arith, subst}
 use Rattle.std.specs.List.{slice_get}
 use Rattle.std.proofs.lemmas.Bool.{false≢true}
-use Rattle.std.proofs.lemmas.Option.{same_Some, none-some, slice_get_within, get_or_from_slice_get}
+use Rattle.std.proofs.lemmas.Option.{same_Some, none-some}
 use Rattle.mh_rules.specs.declared.instances.Part.TheVariants.{Instance as Applied}
 use Rattle.mh_rules.specs.declared.instances.Instance.{Instance}
-use Rattle.mh_rules.specs.declared.instances.Expanded.{Expanded}
 use Rattle.mh_grammar.proofs.Placing.{at_contains}
-use Rattle.mh_inline.specs.declared.unfoldings.Unfolding.{Unfolding}
-use Rattle.mh_inline.specs.declared.sizes.Size.{Size}
-use Rattle.mh_inline.specs.declared.sizes.Sizing.{Sizing}
-use Rattle.mh_inline.specs.Instances.{is_inlined, Inlines}
-use Rattle.mh_rules.specs.Ready.{IsExpandedReady, IsInstanceReady}
-use Rattle.mh_inline.specs.Unfoldings as unfoldings
-use Rattle.mh_inline.specs.Unfoldings.{UnfoldsPart, UnfoldsEach}
-use Rattle.mh_inline.specs.Sizes.{IsSize, IsSizing, AreSmall}
+use Rattle.mh_cycles.specs.declared.unfolding.Unfolding.{Unfolding}
+use Rattle.mh_cycles.specs.declared.sizes.Size.{Size}
+use Rattle.mh_cycles.specs.declared.sizes.Sizing.{Sizing}
+use Rattle.mh_cycles.specs.Instances.{is_inlined, Inlines}
+use Rattle.mh_cycles.specs.Unfoldings as unfoldings
+use Rattle.mh_cycles.specs.Unfoldings.{UnfoldsPart, UnfoldsEach}
+use Rattle.mh_cycles.specs.Sizes.{IsSize, IsSizing, AreSmall}
 use Rattle.mh_inline.specs.Known.{AreEachKnown, IsNext}
 use Rattle.mh_inline.specs.Uses.{AreLast, KnowsNeeded}
-use Rattle.mh_inline.proofs.Same.{AreSome, small_part, small_alternative}
-
-pub some_ready : (e : Expanded) → IsExpandedReady e → AreSome e.instances
-some_ready e r = record { some = λ n i at. (subst (IsInstanceReady (length e.tokens) (length e.instances)) (get_or_from_slice_get e.instances n i i at) (r.instances_ready n i (slice_get_within e.instances n i at))).has_some }
+use Rattle.mh_cycles.proofs.Same.{AreSome, small_part, small_alternative}
 
 pub small_size : (us : List Unfolding) (s : Size) → IsSize us s → s.count ≤ 20000 → s.longest ≤ 10000 → AreSmall us
 small_size us s z k l = let e = z.count in let f = z.longest in record { few = omega arith; short = omega arith }

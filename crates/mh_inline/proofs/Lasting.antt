@@ -8,14 +8,14 @@ use Rattle.std.proofs.lemmas.Option.{same_Some, slice_get_within, slice_get-get_
 use Rattle.mh_grammar.proofs.Lists.{contains_none, set_here, set_elsewhere}
 use Rattle.mh_rules.specs.declared.instances.Part.TheVariants.{Instance as Applied}
 use Rattle.mh_rules.specs.declared.instances.Instance.{Instance}
-use Rattle.mh_inline.specs.declared.unfoldings.Unfolding.{Unfolding}
-use Rattle.mh_inline.specs.declared.sizes.Sizing.{Sizing}
-use Rattle.mh_inline.specs.Instances.{is_inlined}
-use Rattle.mh_inline.specs.Unfoldings.{UnfoldsPart}
-use Rattle.mh_inline.specs.Sizes.{AreSmall, IsSizing}
-use Rattle.mh_inline.specs.Found.{IsMadeOf}
+use Rattle.mh_cycles.specs.declared.unfolding.Unfolding.{Unfolding}
+use Rattle.mh_cycles.specs.declared.sizes.Sizing.{Sizing}
+use Rattle.mh_cycles.specs.Instances.{is_inlined}
+use Rattle.mh_cycles.specs.Unfoldings.{UnfoldsPart}
+use Rattle.mh_cycles.specs.Sizes.{AreSmall, IsSizing}
+use Rattle.mh_cycles.specs.Found.{IsMadeOf}
 use Rattle.mh_inline.specs.Uses.{IsPartOfKept, PutsOff, AreLast, Forgets, KnowsNeeded, KnowsUsed}
-use Rattle.mh_inline.proofs.Knowing.{inline_instance}
+use Rattle.mh_cycles.proofs.Producers.{inline_instance}
 
 -- what stands in the order of sizes is an instance
 pub order_within : (is : List Instance) (s : Sizing) (order : List ℕ) → order ≡ s.order.items → IsSizing is s → (k d : ℕ) → k < length order → get_or order k d < length is

@@ -12,16 +12,16 @@ use Rattle.mh_rules.specs.declared.instances.Part.TheVariants.{Instance as Appli
 use Rattle.mh_rules.specs.declared.instances.InstanceProduction.{InstanceProduction}
 use Rattle.mh_rules.specs.declared.instances.Instance.{Instance}
 use Rattle.mh_inline.specs.declared.moving.LastUse.{LastUse}
-use Rattle.mh_inline.specs.declared.unfoldings.Unfolding.{Unfolding}
-use Rattle.mh_inline.specs.Instances.{is_inlined}
+use Rattle.mh_cycles.specs.declared.unfolding.Unfolding.{Unfolding}
+use Rattle.mh_cycles.specs.Instances.{is_inlined}
 use Rattle.mh_inline.specs.LastUse.{IsCandidate, IsLastIn, IsLastOf, IsLastUse, MayLack}
-use Rattle.mh_inline.specs.Unfoldings as unfoldings
-use Rattle.mh_inline.specs.Unfoldings.{own, choices, UnfoldsPart, Unfolds, UnfoldsEach}
+use Rattle.mh_cycles.specs.Unfoldings as unfoldings
+use Rattle.mh_cycles.specs.Unfoldings.{own, choices, UnfoldsPart, Unfolds, UnfoldsEach}
 use Rattle.mh_inline.specs.Known.{IsKnown, AreKnown, AreEachKnown}
 use Rattle.mh_inline.specs.Uses.{Forgets}
 use Rattle.mh_inline.proofs.Building.{get_taken}
-use Rattle.mh_inline.proofs.Choices.{choices-nothing_left, choices-nothing_right, choices_assoc}
-use Rattle.mh_inline.proofs.Knowing.{inline_some}
+use Rattle.mh_cycles.proofs.Choices.{choices-nothing_left, choices-nothing_right, choices_assoc}
+use Rattle.mh_cycles.proofs.Producers.{inline_some}
 
 pub own-absent : (us : List Unfolding) → us ≡ map (own Absent) us
 own-absent [] = refl

@@ -8,7 +8,9 @@ use Rattle.mh_rules.specs.declared.instances.Instance.{Instance}
 use Rattle.mh_rules.specs.declared.instances.Expanded.{Expanded}
 use Rattle.mh_inline.specs.declared.fault.InlineFault.{InlineFault}
 use Rattle.mh_inline.specs.declared.fault.InlineFault.TheVariants.{InlineCycle, InlineStart, TooManyProductions, EmptyLanguage, Memory}
-use Rattle.mh_inline.specs.Instances.{is_inlined, Reaches}
+use Rattle.mh_cycles.specs.declared.sizes.TheConstants.{MAX_PRODUCTIONS, MAX_SYMBOLS}
+use Rattle.mh_cycles.specs.Instances.{is_inlined}
+use Rattle.mh_cycles.specs.Cycles.{IsFirstCyclicAt, HasNoCycle}
 use Rattle.mh_inline.specs.Inlined.{IsInlined, number_of}
 
 -- the name of an instance
@@ -17,22 +19,11 @@ pub record IsNamed (e : Expanded) (n : ℕ) (name : List ℕ) : Type 0 where
   pub at : slice_get e.instances n ≡ Some instance
   pub is : instance.name ≡ name
 
--- an inline instance reaches itself through inline instances
-abbrev pub IsCyclic : Expanded → ℕ → Type 0
-IsCyclic e n = Reaches e.instances n n
-
--- the first found such
-pub record IsFirstCyclicAt (e : Expanded) (n : ℕ) : Type 0 where
-  pub cyclic : IsCyclic e n
-  pub first : (m : ℕ) → m < n → IsCyclic e m → ⊥
-
+-- the first instance that reaches itself
 pub record IsFirstCyclic (e : Expanded) (name : List ℕ) : Type 0 where
   pub number : ℕ
   pub named : IsNamed e number name
   pub first : IsFirstCyclicAt e number
-
-abbrev pub HasNoCycle : Expanded → Type 0
-HasNoCycle e = (n : ℕ) → IsCyclic e n → ⊥
 
 -- the first start that is inline
 pub record IsFirstInlineStartAt (e : Expanded) (n : ℕ) : Type 0 where
@@ -51,11 +42,11 @@ HasNoInlineStart e = All (λ s. is_inlined e.instances s ≡ false) e.starts
 
 -- within the limits
 pub record IsSmall (g : Grammar) : Type 0 where
-  pub few : length g.productions ≤ 20000
-  pub short : All (λ (p : Production). length p.rhs ≤ 10000) g.productions
+  pub few : length g.productions ≤ MAX_PRODUCTIONS
+  pub short : All (λ (p : Production). length p.rhs ≤ MAX_SYMBOLS) g.productions
 
 abbrev pub IsOver : Grammar → Type 0
-IsOver g = (20000 < length g.productions) ⊎ Any (λ (p : Production). 10000 < length p.rhs) g.productions
+IsOver g = (MAX_PRODUCTIONS < length g.productions) ⊎ Any (λ (p : Production). MAX_SYMBOLS < length p.rhs) g.productions
 
 -- the first start that has no finite tree
 pub record IsFirstEmptyAt (e : Expanded) (g : Grammar) (n : ℕ) : Type 0 where

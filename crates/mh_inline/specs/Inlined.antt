@@ -17,10 +17,10 @@ use Rattle.mh_rules.specs.declared.instances.Part.TheVariants.{Token, Instance a
 use Rattle.mh_rules.specs.declared.instances.InstanceProduction.{InstanceProduction}
 use Rattle.mh_rules.specs.declared.instances.Instance.{Instance}
 use Rattle.mh_rules.specs.declared.instances.Expanded.{Expanded}
-use Rattle.mh_inline.specs.declared.unfoldings.Unfolding.{Unfolding}
+use Rattle.mh_cycles.specs.declared.unfolding.Unfolding.{Unfolding}
 use Rattle.mh_inline.specs.declared.origins.Origin.{Origin}
-use Rattle.mh_inline.specs.Instances.{is_inlined, IsAlternative}
-use Rattle.mh_inline.specs.Unfoldings.{own, Unfolds}
+use Rattle.mh_cycles.specs.Instances.{is_inlined, IsAlternative}
+use Rattle.mh_cycles.specs.Unfoldings.{own, Unfolds}
 
 -- the nonterminals are the instances that are not inline, in order
 abbrev pub is_kept : Instance → Bool

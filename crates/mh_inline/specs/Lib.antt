@@ -1,13 +1,7 @@
 pub mod Faults
-pub mod Found
 pub mod Inlined
 pub mod LastUse
-pub mod Instances
 pub mod Known
 pub mod Making
 pub mod Sentences
-pub mod Sizes
-pub mod Unfoldings
 pub mod Uses
-pub mod Searching
-pub mod Ranks

@@ -1,5 +1,5 @@
 -- What the productions are made from: the numbers of instances, the origins so far, the size of what is made.
-use Rattle.std.specs.Prelude.{◌≡◌, ◌<◌, ◌≤◌, ◌↔◌, ◌⊎◌, ℕ, List, [], ◌∷◌, ◌++◌, Option, Some, length, map, min, max, slice_index}
+use Rattle.std.specs.Prelude.{◌≡◌, ◌+◌, ◌<◌, ◌≤◌, ◌↔◌, ◌⊎◌, ℕ, List, [], ◌∷◌, ◌++◌, Option, Some, length, map, min, max, slice_index}
 use Rattle.std.specs.List.{All, Contains}
 use Rattle.mh_grammar.specs.declared.types.TokenInfo.{TokenInfo}
 use Rattle.mh_grammar.specs.declared.types.Production.{Production}
@@ -10,12 +10,13 @@ use Rattle.mh_rules.specs.declared.instances.Part.{Part}
 use Rattle.mh_rules.specs.declared.instances.Part.TheVariants.{Token, Instance as Applied}
 use Rattle.mh_rules.specs.declared.instances.Instance.{Instance}
 use Rattle.mh_rules.specs.declared.instances.InstanceProduction.{InstanceProduction}
-use Rattle.mh_inline.specs.declared.unfoldings.Unfolding.{Unfolding}
+use Rattle.mh_cycles.specs.declared.unfolding.Unfolding.{Unfolding}
 use Rattle.mh_inline.specs.declared.origins.Origin.{Origin}
-use Rattle.mh_inline.specs.declared.sizes.Size.{Size}
-use Rattle.mh_inline.specs.Instances.{IsAlternative}
+use Rattle.mh_cycles.specs.declared.sizes.TheConstants.{MAX_PRODUCTIONS, MAX_SYMBOLS}
+use Rattle.mh_cycles.specs.declared.sizes.Size.{Size}
+use Rattle.mh_cycles.specs.Instances.{IsAlternative}
 use Rattle.mh_rules.specs.Ready.{IsPartBelow}
-use Rattle.mh_inline.specs.Unfoldings.{own, Unfolds}
+use Rattle.mh_cycles.specs.Unfoldings.{own, Unfolds}
 use Rattle.mh_inline.specs.Inlined.{number_of, level_of, production_of, IsOrigin, IsOriginBefore, AreProductions}
 
 -- the number of each instance, as a list
@@ -50,14 +51,14 @@ longest_side (p ∷ ps) = max (length p.rhs) (longest_side ps)
 pub record IsOriginsSize (tokens : List TokenInfo) (is : List Instance) (origins : List Origin) (z : Size) : Type 0 where
   pub productions : List Production
   pub made : AreProductions tokens is origins productions
-  pub count : z.count ≡ min (length productions) 20001
-  pub longest : z.longest ≡ min (longest_side productions) 10001
+  pub count : z.count ≡ min (length productions) (MAX_PRODUCTIONS + 1)
+  pub longest : z.longest ≡ min (longest_side productions) (MAX_SYMBOLS + 1)
 
 pub record AreOriginsSmall (tokens : List TokenInfo) (is : List Instance) (origins : List Origin) : Type 0 where
   pub productions : List Production
   pub made : AreProductions tokens is origins productions
-  pub few : length productions ≤ 20000
-  pub short : longest_side productions ≤ 10000
+  pub few : length productions ≤ MAX_PRODUCTIONS
+  pub short : longest_side productions ≤ MAX_SYMBOLS
 
 -- the productions of an origin behind others
 pub record AddsOrigin (tokens : List TokenInfo) (is : List Instance) (s : Origin) (old new : List Production) : Type 0 where

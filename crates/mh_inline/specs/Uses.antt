@@ -1,13 +1,13 @@
 -- Until when the unfoldings of inline instances are needed, as places in the order in which they are made.
-use Rattle.std.specs.Prelude.{◌≡◌, ◌<◌, ◌≤◌, ◌⊎◌, ℕ, false, List, Some, length, take, slice_get, slice_index_or}
+use Rattle.std.specs.Prelude.{◌≡◌, ◌<◌, ◌≤◌, ℕ, false, List, Some, length, take, slice_get, slice_index_or}
 use Rattle.std.specs.List.{Contains}
 use Rattle.mh_rules.specs.declared.instances.Part.TheVariants.{Instance as Applied}
 use Rattle.mh_rules.specs.declared.instances.Instance.{Instance}
-use Rattle.mh_inline.specs.declared.unfoldings.Unfolding.{Unfolding}
-use Rattle.mh_inline.specs.Instances.{is_inlined}
-use Rattle.mh_inline.specs.Unfoldings.{UnfoldsPart}
-use Rattle.mh_inline.specs.Sizes.{AreSmall}
-use Rattle.mh_inline.specs.Found.{IsMadeOf}
+use Rattle.mh_cycles.specs.declared.unfolding.Unfolding.{Unfolding}
+use Rattle.mh_cycles.specs.Instances.{is_inlined}
+use Rattle.mh_cycles.specs.Unfoldings.{UnfoldsPart}
+use Rattle.mh_cycles.specs.Sizes.{AreSmall}
+use Rattle.mh_cycles.specs.Found.{IsMadeOf}
 
 -- an instance that is not inline is made of it
 pub record IsUsed (is : List Instance) (m : ℕ) : Type 0 where
@@ -18,12 +18,6 @@ pub record IsUsed (is : List Instance) (m : ℕ) : Type 0 where
 -- an instance that is not inline, and what it is made of
 abbrev pub IsPartOfKept : List Instance → ℕ → ℕ → Type 0
 IsPartOfKept is n m = (is_inlined is n ≡ false) × IsMadeOf is n m
-
--- those of P were added to a list, perhaps more than once, and no others
-pub record Lists (P : ℕ → Type 0) (old new : List ℕ) : Type 0 where
-  pub kept : (m : ℕ) → Contains old m → Contains new m
-  pub origin : (m : ℕ) → Contains new m → Contains old m ⊎ P m
-  pub added : (m : ℕ) → P m → Contains new m
 
 -- the place of those of P became at least this one, and no place became less
 pub record PutsOff (P : ℕ → Type 0) (place : ℕ) (old new : List ℕ) : Type 0 where

@@ -2,19 +2,13 @@
 //! is numbered.
 #![tactic(auto)]
 
-mod cycles;
-mod depth;
-mod ends;
 mod fault;
 mod inlining;
-mod instances;
 mod laws;
 mod moving;
 mod nonterminals;
 mod origins;
 mod productions;
-mod ranks;
-mod sizes;
 mod unfoldings;
 mod uses;
 

@@ -2,15 +2,13 @@
 //! are not copied. So each link of a chain of inline instances costs what it adds.
 ghost use Rattle.std.specs.Prelude.{◌≡◌, ◌<◌, ◌≤◌, ◌⊎◌, ◌++◌, ◌+◌, [], ◌∷◌, Some, suc, true, false, length, map, drop, slice_get, slice_set, slice_index_or, take, IfOk, IfSome, OnOk};
 ghost use Rattle.mh_rules.specs.declared.instances.Instance.{Instance as Row};
-ghost use Rattle.mh_inline.specs.Instances.{is_inlined};
+ghost use Rattle.mh_cycles.specs.Instances.{is_inlined};
 ghost use Rattle.mh_inline.specs.Known.{AreEachKnown, AreKnown, IsKnown};
 ghost use Rattle.mh_inline.specs.LastUse.{IsCandidate, IsLastIn, IsLastOf, IsLastUse, MayLack};
-ghost use Rattle.mh_inline.specs.Unfoldings.{own, Unfolds, UnfoldsEach};
+ghost use Rattle.mh_cycles.specs.Unfoldings.{own, Unfolds, UnfoldsEach};
 
-use crate::instances::inline_part;
-use crate::unfoldings::{
-    Unfolding, add_own, unfold_alternatives, unfold_side, with_behind, with_in_front,
-};
+use crate::unfoldings::{add_own, unfold_alternatives, unfold_side, with_behind, with_in_front};
+use mh_cycles::{Unfolding, inline_part};
 use mh_grammar::{Memory, Sequence};
 use mh_rules::{Expanded, InstanceProduction, Part, Prec};
 use std::alloc::Global;

@@ -1,6 +1,8 @@
 //! The nonterminals of the grammar, and their numbers.
-ghost use Rattle.std.specs.Prelude.{◌≡◌, ◌<◌, ◌≤◌, length, map, filter, slice_index, IfOk};
+ghost use Rattle.std.specs.Prelude.{◌≡◌, ◌+◌, ◌<◌, ◌≤◌, length, map, filter, slice_index, IfOk};
 ghost use Rattle.std.specs.List.{All};
+ghost use Rattle.mh_grammar.specs.declared.types.TheConstants.{MAX_NUMBERED};
+ghost use Rattle.mh_rules.specs.declared.instances.TheConstants.{MAX_INSTANCES};
 ghost use Rattle.mh_rules.specs.Ready.{IsPartBelow};
 ghost use Rattle.mh_inline.specs.Inlined.{is_kept, nonterminal_of};
 ghost use Rattle.mh_inline.specs.Making.{symbol_by, AreNumbers};
@@ -11,7 +13,7 @@ use std::alloc::Global;
 
 /// For each instance, how many before it are not inline.
 pub(crate) fn numbers_of(alloc: Global, instances: &[Instance]) -> Result<Vec<u16>, Memory>
-    requires { length instances.now ≤ 20000 }
+    requires { length instances.now ≤ MAX_INSTANCES }
     ensures { IfOk result (λ v. AreNumbers instances.now v.items) }
 {
     let mut numbers = Vec::new(alloc);
@@ -50,7 +52,7 @@ pub(crate) fn nonterminals_of(
 }
 
 fn symbol(numbers: &[u16], part: Part) -> Symbol
-    requires { IsPartBelow 65536 (length numbers.now) part }
+    requires { IsPartBelow (MAX_NUMBERED + 1) (length numbers.now) part }
     ensures { result ≡ symbol_by numbers.now part }
 {
     match part {
@@ -60,7 +62,7 @@ fn symbol(numbers: &[u16], part: Part) -> Symbol
 }
 
 pub(crate) fn symbols(alloc: Global, numbers: &[u16], parts: &[Part]) -> Result<Vec<Symbol>, Memory>
-    requires { All (IsPartBelow 65536 (length numbers.now)) parts.now }
+    requires { All (IsPartBelow (MAX_NUMBERED + 1) (length numbers.now)) parts.now }
     ensures { IfOk result (λ v. v.items ≡ map (symbol_by numbers.now) parts.now) }
 {
     let mut symbols = Vec::new(alloc);

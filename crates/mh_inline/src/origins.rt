@@ -1,11 +1,12 @@
 //! The alternatives of the instances that are not inline, in the order of their productions.
 ghost use Rattle.std.specs.Prelude.{◌≡◌, ◌+◌, ◌<◌, ◌≤◌, false, length, IfOk, OnOk};
-ghost use Rattle.mh_inline.specs.Instances.{is_inlined};
+ghost use Rattle.mh_cycles.specs.Instances.{is_inlined};
+ghost use Rattle.mh_rules.specs.declared.instances.TheConstants.{MAX_INSTANCES};
 ghost use Rattle.mh_rules.specs.Ready.{IsExpandedReady};
 ghost use Rattle.mh_inline.specs.Inlined.{rank_of, AreOrigins};
 ghost use Rattle.mh_inline.specs.Making.{AreOriginsBelow};
 
-use crate::instances::is_inline;
+use mh_cycles::is_inline;
 use mh_grammar::Memory;
 use mh_rules::{Expanded, InstanceProduction};
 use std::alloc::{AllocError, Global};
@@ -45,7 +46,7 @@ fn add_origins(
     number: usize,
     origins: &mut BTreeSet<Origin>,
 ) -> Result<(), Memory>
-    requires few { length expanded.now.instances ≤ 20000 }
+    requires few { length expanded.now.instances ≤ MAX_INSTANCES }
     requires number { number < length expanded.now.instances }
     requires kept { is_inlined expanded.now.instances number ≡ false }
     requires below { AreOriginsBelow expanded.now.instances number 0 origins.old.keys }
@@ -65,7 +66,7 @@ fn in_order(alloc: Global, origins: BTreeSet<Origin>) -> Result<Vec<Origin>, All
 }
 
 pub(crate) fn origins_of(alloc: Global, expanded: &Expanded) -> Result<Vec<Origin>, Memory>
-    requires { length expanded.now.instances ≤ 20000 }
+    requires { length expanded.now.instances ≤ MAX_INSTANCES }
     ensures { IfOk result (λ v. AreOrigins expanded.now.instances v.items) }
 {
     let mut origins = BTreeSet::new(alloc);

@@ -1,18 +1,19 @@
 //! The productions of the grammar.
-ghost use Rattle.std.specs.Prelude.{◌≡◌, ◌++◌, length, map, IfOk, OnOk};
+ghost use Rattle.std.specs.Prelude.{◌≡◌, ◌+◌, ◌++◌, length, map, IfOk, OnOk};
 ghost use Rattle.std.specs.List.{All};
-ghost use Rattle.mh_inline.specs.Instances.{IsAlternative};
+ghost use Rattle.mh_grammar.specs.declared.types.TheConstants.{MAX_NUMBERED};
+ghost use Rattle.mh_cycles.specs.Instances.{IsAlternative};
 ghost use Rattle.mh_rules.specs.Ready.{IsExpandedReady};
-ghost use Rattle.mh_inline.specs.Unfoldings.{own};
+ghost use Rattle.mh_cycles.specs.Unfoldings.{own};
 ghost use Rattle.mh_inline.specs.Known.{IsOriginKnown};
-ghost use Rattle.mh_inline.specs.Sizes.{AreAllSized, IsSizing};
+ghost use Rattle.mh_cycles.specs.Sizes.{AreAllSized, IsSizing};
 ghost use Rattle.mh_inline.specs.Inlined.{last_token, level_of, token_level, AreProductions, IsOrigin};
 ghost use Rattle.mh_inline.specs.Making.{production_by, token_else, AddsOrigin, AreNumbers, IsOriginsSize, IsUnfoldingBelow};
 
 use crate::nonterminals::symbols;
 use crate::origins::Origin;
-use crate::sizes::{Size, Sizing, plus, size_of_side};
-use crate::unfoldings::{Unfolding, rightmost_prec, unfold_side};
+use crate::unfoldings::{rightmost_prec, unfold_side};
+use mh_cycles::{Size, Sizing, Unfolding, plus, size_of_side};
 use mh_grammar::{Level, Memory, Production, Sequence, Token, TokenInfo};
 use mh_rules::{Expanded, InstanceProduction, Part, Prec};
 use std::alloc::Global;
@@ -66,7 +67,7 @@ fn production(
     prec: Prec,
     choice: &Unfolding,
 ) -> Result<Production, Memory>
-    requires { IsUnfoldingBelow 65536 (length numbers.now) choice.now }
+    requires { IsUnfoldingBelow (MAX_NUMBERED + 1) (length numbers.now) choice.now }
     ensures { IfOk result (λ p. p ≡ production_by tokens.now numbers.now lhs (own prec choice.now)) }
 {
     let parts = choice.rhs.to_vec(alloc)?;
@@ -86,7 +87,7 @@ fn add_productions(
     unfoldings: &[Unfolding],
     productions: &mut Vec<Production>,
 ) -> Result<(), Memory>
-    requires { All (IsUnfoldingBelow 65536 (length numbers.now)) unfoldings.now }
+    requires { All (IsUnfoldingBelow (MAX_NUMBERED + 1) (length numbers.now)) unfoldings.now }
     ensures { OnOk result (productions.new.items ≡ productions.old.items ++ map (λ u. production_by tokens.now numbers.now lhs (own prec u)) unfoldings.now) }
 {
     for choice in unfoldings {

@@ -1,29 +1,20 @@
 //! What producers become when each inline one is replaced by one of its own alternatives.
 ghost use Rattle.std.specs.Prelude.{◌≡◌, ◌++◌, ◌∷◌, [], List, Some, map, IfOk, OnOk, IfSome, length, slice_get};
-ghost use Rattle.mh_inline.specs.declared.unfoldings.Unfolding.{Unfolding as Unfolded};
+ghost use Rattle.mh_cycles.specs.declared.unfolding.Unfolding.{Unfolding as Unfolded};
 ghost use Rattle.mh_rules.specs.Ready.{IsExpandedReady};
-ghost use Rattle.mh_inline.specs.Unfoldings.{choices, joined, nothing, only, own, rightmost, Unfolds, UnfoldsEach, UnfoldsPart};
+ghost use Rattle.mh_cycles.specs.Unfoldings.{choices, joined, nothing, only, own, rightmost, Unfolds, UnfoldsEach, UnfoldsPart};
 ghost use Rattle.mh_inline.specs.Known.{AreKnown, AreEachKnown, Extends, IsNext};
 ghost use Rattle.mh_inline.specs.LastUse.{IsLastOf, MayLack};
 ghost use Rattle.mh_rules.specs.declared.instances.Instance.{Instance as Row};
 ghost use Rattle.mh_inline.specs.Uses.{KnowsUsed};
-ghost use Rattle.mh_inline.specs.Sizes.{AreSmall, IsSizing};
+ghost use Rattle.mh_cycles.specs.Sizes.{AreSmall, IsSizing};
 
-use crate::ends::Ends;
-use crate::instances::inline_part;
 use crate::moving::{LastUse, last_use_of, unfold_with};
-use crate::sizes::{Sizing, is_small};
-use crate::uses::{forget, inlined_in, last_uses};
+use crate::uses::{forget, last_uses};
+use mh_cycles::{Ends, Sizing, Unfolding, inline_part, inlined_in, is_small};
 use mh_grammar::{Memory, Sequence};
 use mh_rules::{Expanded, InstanceProduction, Part, Prec};
 use std::alloc::Global;
-
-/// Producers none of which is inline, and the `%prec` that came with what was inlined.
-#[derive(Debug, Drop)]
-pub struct Unfolding {
-    pub rhs: Ends<Part>,
-    pub prec: Prec,
-}
 
 pub(crate) fn rightmost_prec(left: Prec, right: Prec) -> Prec
     ensures { result ≡ rightmost left right }

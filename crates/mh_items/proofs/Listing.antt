@@ -16,11 +16,11 @@ use Rattle.mh_grammar.specs.declared.types.Symbol.TheVariants.{N}
 use Rattle.mh_grammar.specs.Plain.{IsInRange, IsSymbolBelow, production_count, rhs_of}
 use Rattle.mh_grammar.proofs.Lists.{recursion_contains}
 use Rattle.mh_grammar.proofs.Numbered.{listed_from_for}
-use Rattle.mh_items.specs.Shapes.{KernelItem}
-use Rattle.mh_items.specs.Shapes.{Kernel}
+use Rattle.mh_kernels.specs.Shapes.{KernelItem}
+use Rattle.mh_kernels.specs.Shapes.{Kernel}
 use Rattle.mh_items.specs.declared.asked.Asked.{Asked}
-use Rattle.mh_items.specs.Kernels.{Holds, IsKernel, IsKernelItem}
-use Rattle.mh_items.proofs.Dotted.{drop_tail}
+use Rattle.mh_kernels.specs.Kernels.{Holds, IsItemList, IsKernelItem}
+use Rattle.mh_kernels.proofs.Dotted.{drop_tail}
 use Rattle.mh_items.specs.Added.{AreAdded, IsNumber}
 use Rattle.mh_items.specs.Merging.{IsUnion}
 use Rattle.mh_items.specs.Wanted as wanted
@@ -30,15 +30,15 @@ use Rattle.mh_sets.specs.Sets.{IsSet}
 use Rattle.mh_grammar.proofs.Lists.{same_at, contains_at, at_contains, recursion-from}
 use Rattle.mh_items.proofs.Merged.{kernel_push, holds_push, holds_cases}
 use Rattle.mh_items.proofs.Wanting.{asked_known}
-use Rattle.mh_items.proofs.Following.{behind_below}
-use Rattle.mh_grammar.proofs.FirstSets.{first_of-below}
+use Rattle.mh_kernels.proofs.Sides.{behind_below}
+use Rattle.mh_firsts.proofs.FirstSets.{first_of-below}
 
 abbrev of_items : List KernelItem → Kernel
 of_items items = record { items = items }
 
 -- ---- what a closure holds is in range
 
-module _ (g : PlainGrammar) (r : IsInRange g) (kernel : Kernel) (k : IsKernel g kernel) where
+module _ (g : PlainGrammar) (r : IsInRange g) (kernel : Kernel) (k : IsItemList g kernel) where
   begins_below : (y : List Symbol) (a b : Look) → All (IsSymbolBelow g.tokens g.nonterminals) y → IsLookBelow g.tokens a → MayBegin g y a b → IsLookBelow g.tokens b
   begins_below y a b all l (sets.MayBegin.begins {z = z} f) = first_of-below g g.tokens g.nonterminals r.productions z y f all
   begins_below y a b all l (sets.MayBegin.passes d) = l
@@ -92,7 +92,7 @@ queue_known g s n t size len c = let some = t.busy n c in asked_known g s size l
 
 -- the first items are those of the first numbers
 pub record AddedSoFar {W : ℕ} (g : PlainGrammar) (s : Asked W) (numbers : List ℕ) (items : List KernelItem) (upto : ℕ) : Type 0 where
-  pub kernel : IsKernel g (of_items items)
+  pub kernel : IsItemList g (of_items items)
   pub among : (x : KernelItem) → Contains items x → (k : ℕ) × (k < upto) × (slice_get numbers k ≡ Some x.production)
   pub first : (x : KernelItem) → Contains items x → x.dot ≡ 0
   pub sound : (p d : ℕ) (b : Look) → Holds (of_items items) p d b → (n : ℕ) × IsProductionFor g n p × IsAsked s n b
@@ -107,7 +107,7 @@ AddedSoFar-start g s numbers = record {
   complete = λ k p n b l. absurd (omega arith);
 }
 
-module _ {W : ℕ} (g : PlainGrammar) (r : IsInRange g) (kernel : Kernel) (valid : IsKernel g kernel) (s : Asked W) (t : IsTable s) (numbers : List ℕ) (items : List KernelItem) (i p n : ℕ) (w : AreWanted g kernel s) (rising : IsStrictlyIncreasing numbers)
+module _ {W : ℕ} (g : PlainGrammar) (r : IsInRange g) (kernel : Kernel) (valid : IsItemList g kernel) (s : Asked W) (t : IsTable s) (numbers : List ℕ) (items : List KernelItem) (i p n : ℕ) (w : AreWanted g kernel s) (rising : IsStrictlyIncreasing numbers)
     (h : AddedSoFar g s numbers items i) (at : slice_get numbers i ≡ Some p) (for : IsProductionFor g n p) (set : (b : Look) × IsAsked s n b)
     (looks : List Look) (is_set : IsSet W looks) (l : looks ≡ looks_at s n) where
   abbrev made : KernelItem

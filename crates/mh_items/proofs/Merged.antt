@@ -6,18 +6,18 @@ use Rattle.std.proofs.lemmas.List.Elements.{Contains-push, Contains-push_cases, 
 use Rattle.std.proofs.lemmas.Option.{slice_get_within, slice_get-get_or}
 use Rattle.mh_grammar.specs.declared.types.Look.{Look}
 use Rattle.mh_grammar.specs.Plain.{PlainGrammar}
-use Rattle.mh_items.specs.Shapes.{KernelItem}
-use Rattle.mh_items.specs.Shapes.{Kernel}
-use Rattle.mh_items.specs.Kernels.{Holds, IsKernel, IsKernelItem, IsItemBefore}
+use Rattle.mh_kernels.specs.Shapes.{KernelItem}
+use Rattle.mh_kernels.specs.Shapes.{Kernel}
+use Rattle.mh_kernels.specs.Kernels.{Holds, IsItemList, IsKernelItem, IsItemBefore}
 use Rattle.mh_items.specs.Merging.{IsUnion, IsMerged, IsJoined}
 use Rattle.mh_grammar.proofs.Lists.{same_at, contains_at, at_contains, recursion_at, recursion-push, rising_at, rising-push}
-use Rattle.mh_items.proofs.OneList.{item_along}
+use Rattle.mh_kernels.proofs.OneList.{item_along}
 
 abbrev of_items : List KernelItem → Kernel
 of_items items = record { items = items }
 
 -- an item pushed
-pub kernel_push : (g : PlainGrammar) (items : List KernelItem) (z : KernelItem) → IsKernel g (of_items items) → IsKernelItem g z → ((x : KernelItem) → Contains items x → IsItemBefore x z) → IsKernel g (of_items (items ++ z ∷ []))
+pub kernel_push : (g : PlainGrammar) (items : List KernelItem) (z : KernelItem) → IsItemList g (of_items items) → IsKernelItem g z → ((x : KernelItem) → Contains items x → IsItemBefore x z) → IsItemList g (of_items (items ++ z ∷ []))
 kernel_push g items z k i b = record { items = recursion-push (IsKernelItem g) items z k.items i; rising = rising-push IsItemBefore items z k.rising b }
 
 pub holds_push : (items : List KernelItem) (z : KernelItem) (p d : ℕ) (b : Look) → Holds (of_items items) p d b → Holds (of_items (items ++ z ∷ [])) p d b
@@ -73,7 +73,7 @@ module _ (g : PlainGrammar) (left right items : List KernelItem) (i j i' j' : �
     ];
   }
 
-module _ (g : PlainGrammar) (left right items : List KernelItem) (i j : ℕ) (lk : IsKernel g (of_items left)) (rk : IsKernel g (of_items right)) (h : IsMerged g left i right j items) where
+module _ (g : PlainGrammar) (left right items : List KernelItem) (i j : ℕ) (lk : IsItemList g (of_items left)) (rk : IsItemList g (of_items right)) (h : IsMerged g left i right j items) where
   pub IsMerged-left : (x : KernelItem) → slice_get left i ≡ Some x → ((y : KernelItem) → slice_get right j ≡ Some y → IsItemBefore x y) → IsMerged g left (i + 1) right j (items ++ x ∷ [])
   IsMerged-left x at first = IsMerged-push g left right items i j (i + 1) j x h (omega arith) (omega arith) (let l = slice_get_within left i x at in omega arith) h.in_right
       (recursion_at (IsKernelItem g) left lk.items i x at) (λ w c. h.before_left w x i c (omega arith) at)

@@ -1,12 +1,6 @@
 pub mod Added
 pub mod Asked
 pub mod Closer
-pub mod Collection
-pub mod Conflicts
-pub mod Empties
 pub mod Firsts
-pub mod Automaton
-pub mod Kernels
 pub mod Merging
-pub mod Shapes
 pub mod Wanted

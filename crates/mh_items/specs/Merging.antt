@@ -6,19 +6,19 @@ use Rattle.std.specs.declared.cmp.Ordering.TheVariants.{Less, Equal, Greater}
 use Rattle.mh_grammar.specs.declared.types.Look.{Look}
 use Rattle.mh_grammar.specs.Plain.{PlainGrammar}
 use Rattle.mh_grammar.specs.Edges.{IsRising, IsLookBefore}
-use Rattle.mh_items.specs.Shapes.{KernelItem}
-use Rattle.mh_items.specs.Kernels.{Holds, IsKernel, IsItemBefore}
+use Rattle.mh_kernels.specs.Shapes.{KernelItem}
+use Rattle.mh_kernels.specs.Kernels.{Holds, IsItemList, IsItemBefore}
 
 -- the items of both, and no others
 pub record IsUnion (g : PlainGrammar) (left right items : List KernelItem) : Type 0 where
-  pub kernel : IsKernel g (record { items = items })
+  pub kernel : IsItemList g (record { items = items })
   pub holds : (p d : ℕ) (b : Look) → Holds (record { items = items }) p d b ↔ (Holds (record { items = left }) p d b ⊎ Holds (record { items = right }) p d b)
 
 -- so far as the first i and j items
 pub record IsMerged (g : PlainGrammar) (left : List KernelItem) (i : ℕ) (right : List KernelItem) (j : ℕ) (items : List KernelItem) : Type 0 where
   pub in_left : i ≤ length left
   pub in_right : j ≤ length right
-  pub kernel : IsKernel g (record { items = items })
+  pub kernel : IsItemList g (record { items = items })
   pub before_left : (x y : KernelItem) (k : ℕ) → Contains items x → i ≤ k → slice_get left k ≡ Some y → IsItemBefore x y
   pub before_right : (x y : KernelItem) (k : ℕ) → Contains items x → j ≤ k → slice_get right k ≡ Some y → IsItemBefore x y
   pub origin : (p d : ℕ) (b : Look) → Holds (record { items = items }) p d b → Holds (record { items = left }) p d b ⊎ Holds (record { items = right }) p d b

@@ -3,8 +3,8 @@ ghost use Rattle.std.specs.Prelude.{◌≡◌, ◌≤◌, ◌↔◌, ℕ, vec_le
 ghost use Rattle.std.specs.List.{Contains};
 ghost use Rattle.std.specs.List.Sorted.{IsStrictlyIncreasing};
 ghost use Rattle.mh_grammar.specs.Plain.{plain_of, IsInRange};
-ghost use Rattle.mh_items.specs.Shapes.{Kernel as KernelOf};
-ghost use Rattle.mh_items.specs.Kernels.{IsKernel};
+ghost use Rattle.mh_kernels.specs.Shapes.{Kernel as KernelOf};
+ghost use Rattle.mh_kernels.specs.Kernels.{IsItemList};
 ghost use Rattle.mh_items.specs.Firsts.{AreFirsts};
 ghost use Rattle.mh_items.specs.Asked.{IsTable};
 ghost use Rattle.mh_items.specs.Wanted.{AreWanted};
@@ -12,8 +12,8 @@ ghost use Rattle.mh_items.specs.Added.{AreAdded, IsNumber};
 
 use crate::asked::Asked;
 use crate::first_sets::Firsts;
-use crate::kernels::KernelItem;
 use mh_grammar::{Grammar, Memory};
+use mh_kernels::KernelItem;
 use std::alloc::Global;
 
 /// The productions of the nonterminals that a closure asks for, rising, each with its looks.
@@ -28,8 +28,8 @@ pub(crate) fn added_items<const W: usize>(
     requires firsts { AreFirsts (plain_of grammar.now) firsts.now }
     requires table { IsTable set.now }
     requires size { vec_len set.now.looks ≡ length grammar.now.nonterminals }
-    requires wanted { (k : KernelOf) × IsKernel (plain_of grammar.now) k × AreWanted (plain_of grammar.now) k set.now }
-    ensures kernel { IfOk result (λ items. IsKernel (plain_of grammar.now) (record { items = items.items })) }
+    requires wanted { (k : KernelOf) × IsItemList (plain_of grammar.now) k × AreWanted (plain_of grammar.now) k set.now }
+    ensures kernel { IfOk result (λ items. IsItemList (plain_of grammar.now) (record { items = items.items })) }
     ensures exact { IfOk result (λ items. AreAdded (plain_of grammar.now) set.now items.items) }
 {
     let numbers = wanted_numbers(alloc, grammar, firsts, set)?;

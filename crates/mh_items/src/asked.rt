@@ -2,7 +2,7 @@
 ghost use Rattle.std.specs.Prelude.{◌≡◌, ◌<◌, ◌≤◌, ◌⊎◌, ◌↔◌, ℕ, true, List, length, vec_len, slice_get, Some, IfOk, OnOk};
 ghost use Rattle.std.specs.List.{All, Contains};
 ghost use Rattle.mh_grammar.specs.declared.types.Look.{Look as LookOf};
-ghost use Rattle.mh_grammar.specs.declared.range.TheConstants.{MAX_NUMBERED};
+ghost use Rattle.mh_grammar.specs.declared.types.TheConstants.{MAX_NUMBERED};
 ghost use Rattle.mh_items.specs.Asked.{IsTable, IsNothing, Adds, IsAt, IsStep, IsWaiting};
 
 use crate::links::Link;

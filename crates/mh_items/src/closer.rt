@@ -3,8 +3,8 @@ ghost use Rattle.std.specs.Prelude.{◌≡◌, ◌≤◌, ◌*◌, ℕ, false, S
 ghost use Rattle.mh_grammar.specs.declared.types.Symbol.TheVariants.{N};
 ghost use Rattle.mh_grammar.specs.Plain.{plain_of, rhs_of, IsInRange};
 ghost use Rattle.mh_grammar.specs.ItemSets.{AreSame, Close};
-ghost use Rattle.mh_items.specs.Kernels.{Holds, IsKernel, IsKernelItem};
-ghost use Rattle.mh_items.specs.Empties.{HasComplete};
+ghost use Rattle.mh_kernels.specs.Kernels.{Holds, IsItemList, IsKernelItem};
+ghost use Rattle.mh_kernels.specs.Empties.{HasComplete};
 ghost use Rattle.mh_items.specs.Closer.{IsCloser};
 
 use crate::asked::Asked;
@@ -12,9 +12,8 @@ use crate::closures::closure_over;
 use crate::empties::empties;
 use crate::first_sets::Firsts;
 use crate::gathering::firsts;
-use crate::kernels::{Closure, Kernel, KernelItem};
-use crate::places::symbol_at;
 use mh_grammar::{Grammar, Memory, Symbol};
+use mh_kernels::{Closure, Kernel, KernelItem, symbol_at};
 use std::alloc::Global;
 
 /// What the closures of one grammar's kernels are computed from, and a place to compute them in.
@@ -33,10 +32,12 @@ impl<const W: usize> Closer<W> {
         requires range { IsInRange (plain_of grammar.now) }
         ensures { IfOk result (IsCloser (plain_of grammar.now)) }
     {
+        let empties = empties(alloc, grammar)?;
+        let asked = Asked::new(alloc, grammar.nonterminals.len())?;
         Ok(Closer {
             firsts: firsts(alloc, grammar)?,
-            asked: Asked::new(alloc, grammar.nonterminals.len())?,
-            empties: empties(alloc, grammar)?,
+            asked,
+            empties,
         })
     }
 
@@ -51,8 +52,8 @@ impl<const W: usize> Closer<W> {
         requires width { length grammar.now.tokens ≤ 64 * W }
         requires range { IsInRange (plain_of grammar.now) }
         requires closer { IsCloser (plain_of grammar.now) self.old }
-        requires kernel { IsKernel (plain_of grammar.now) kernel.now }
-        ensures kernel { IfOk result (IsKernel (plain_of grammar.now)) }
+        requires kernel { IsItemList (plain_of grammar.now) kernel.now }
+        ensures kernel { IfOk result (IsItemList (plain_of grammar.now)) }
         ensures exact { IfOk result (λ c. AreSame (Holds c) (Close (plain_of grammar.now) (Holds kernel.now))) }
         ensures closer { IfOk result (λ _. IsCloser (plain_of grammar.now) self.new) }
     {
@@ -64,7 +65,7 @@ impl<const W: usize> Closer<W> {
         requires few { W ≤ 8 }
         requires range { IsInRange (plain_of grammar.now) }
         requires closer { IsCloser (plain_of grammar.now) self.now }
-        requires kernel { IsKernel (plain_of grammar.now) kernel.now }
+        requires kernel { IsItemList (plain_of grammar.now) kernel.now }
         ensures { result ≡ false → HasComplete (plain_of grammar.now) kernel.now kernel.now }
     {
         for item in kernel.items.as_slice() {

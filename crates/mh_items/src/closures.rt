@@ -5,19 +5,18 @@ ghost use Rattle.mh_grammar.specs.declared.types.Look.{Look as LookOf};
 ghost use Rattle.mh_grammar.specs.Plain.{plain_of, rhs_of, IsInRange};
 ghost use Rattle.mh_grammar.specs.ItemSets.{AreSame, Close};
 ghost use Rattle.mh_items.specs.Firsts.{AreFirsts, AreSets};
-ghost use Rattle.mh_items.specs.Kernels.{Holds, IsKernel, IsKernelItem};
+ghost use Rattle.mh_kernels.specs.Kernels.{Holds, IsItemList, IsKernelItem};
 ghost use Rattle.mh_items.specs.Asked.{IsTable, IsNothing, Adds};
 ghost use Rattle.mh_items.specs.Wanted.{Follows, IsItemSeed, IsSeedOf};
 
 use crate::added::added_items;
 use crate::asked::{Asked, passed_on};
 use crate::first_sets::{Firsts, Sets};
-use crate::kernels::{Closure, Kernel, KernelItem};
 use crate::links::rest_of;
 use crate::merging::merged;
-use crate::places::{behind, symbol_at};
 use crate::spreading::spread;
 use mh_grammar::{Grammar, Memory, Sequence, Symbol};
+use mh_kernels::{Closure, Kernel, KernelItem, behind, symbol_at};
 use mh_sets::TokenSet;
 use std::alloc::Global;
 
@@ -32,8 +31,8 @@ pub fn closure<const W: usize>(
     requires width { length grammar.now.tokens ≤ 64 * W }
     requires range { IsInRange (plain_of grammar.now) }
     requires firsts { AreFirsts (plain_of grammar.now) firsts.now }
-    requires kernel { IsKernel (plain_of grammar.now) kernel.now }
-    ensures kernel { IfOk result (IsKernel (plain_of grammar.now)) }
+    requires kernel { IsItemList (plain_of grammar.now) kernel.now }
+    ensures kernel { IfOk result (IsItemList (plain_of grammar.now)) }
     ensures exact { IfOk result (λ c. AreSame (Holds c) (Close (plain_of grammar.now) (Holds kernel.now))) }
 {
     let mut asked = Asked::new(alloc, grammar.nonterminals.len())?;
@@ -52,9 +51,9 @@ pub(crate) fn closure_over<const W: usize>(
     requires width { length grammar.now.tokens ≤ 64 * W }
     requires range { IsInRange (plain_of grammar.now) }
     requires firsts { AreFirsts (plain_of grammar.now) firsts.now }
-    requires kernel { IsKernel (plain_of grammar.now) kernel.now }
+    requires kernel { IsItemList (plain_of grammar.now) kernel.now }
     requires nothing { IsNothing (length grammar.now.nonterminals) asked.old }
-    ensures kernel { IfOk result (IsKernel (plain_of grammar.now)) }
+    ensures kernel { IfOk result (IsItemList (plain_of grammar.now)) }
     ensures exact { IfOk result (λ c. AreSame (Holds c) (Close (plain_of grammar.now) (Holds kernel.now))) }
     ensures nothing { IfOk result (λ _. IsNothing (length grammar.now.nonterminals) asked.new) }
 {

@@ -6,8 +6,8 @@ ghost use Rattle.mh_grammar.specs.declared.types.Look.{Look as LookOf};
 ghost use Rattle.mh_items.specs.Firsts.{AreSets, Begins, IsRest, IsLinkOf};
 
 use crate::first_sets::Sets;
-use crate::places::{rest_from, symbol_in};
 use mh_grammar::{Look, Symbol};
+use mh_kernels::{rest_from, symbol_in};
 use mh_sets::TokenSet;
 
 /// The tokens that a string of symbols may begin with, and whether it may derive the empty word.

@@ -1,11 +1,11 @@
 //! Two rising lists of items as one.
 ghost use Rattle.std.specs.Prelude.{◌≡◌, ◌<◌, ◌≤◌, ◌+◌, ◌⊎◌, length, IfOk};
 ghost use Rattle.mh_grammar.specs.Plain.{plain_of, IsInRange};
-ghost use Rattle.mh_items.specs.Kernels.{IsKernel};
+ghost use Rattle.mh_kernels.specs.Kernels.{IsItemList};
 ghost use Rattle.mh_items.specs.Merging.{IsUnion, IsMerged, IsJoined, IsTurn, place_order};
 
-use crate::kernels::KernelItem;
 use mh_grammar::{Grammar, Memory};
+use mh_kernels::KernelItem;
 use std::alloc::Global;
 use std::cmp::Ordering;
 
@@ -18,8 +18,8 @@ pub(crate) fn merged<const W: usize>(
 ) -> Result<Vec<KernelItem<W>>, Memory>
     requires few { W ≤ 8 }
     requires range { IsInRange (plain_of grammar.now) }
-    requires left { IsKernel (plain_of grammar.now) (record { items = left.now }) }
-    requires right { IsKernel (plain_of grammar.now) (record { items = right.now }) }
+    requires left { IsItemList (plain_of grammar.now) (record { items = left.now }) }
+    requires right { IsItemList (plain_of grammar.now) (record { items = right.now }) }
     ensures { IfOk result (λ items. IsUnion (plain_of grammar.now) left.now right.now items.items) }
 {
     let mut items = Vec::new(alloc);
@@ -44,8 +44,8 @@ fn add_next<const W: usize>(
 ) -> Result<(usize, usize), Memory>
     requires few { W ≤ 8 }
     requires range { IsInRange (plain_of grammar.now) }
-    requires left { IsKernel (plain_of grammar.now) (record { items = left.now }) }
-    requires right { IsKernel (plain_of grammar.now) (record { items = right.now }) }
+    requires left { IsItemList (plain_of grammar.now) (record { items = left.now }) }
+    requires right { IsItemList (plain_of grammar.now) (record { items = right.now }) }
     requires more { (i < length left.now) ⊎ (j < length right.now) }
     requires merged { IsMerged (plain_of grammar.now) left.now i right.now j items.old.items }
     ensures merged { IfOk result (λ at. IsMerged (plain_of grammar.now) left.now at.0 right.now at.1 items.new.items) }

@@ -2,11 +2,10 @@
 ghost use Rattle.std.specs.Prelude.{◌≡◌, ◌<◌, ◌≤◌, ◌+◌, ◌^◌, ◌↔◌, ℕ, Some, slice_get, IsTrue, IfOk};
 ghost use Rattle.mh_grammar.specs.Plain.{plain_of, rhs_of, production_count, IsInRange};
 ghost use Rattle.mh_grammar.specs.ItemSets.{AreSame, Moved};
-ghost use Rattle.mh_items.specs.Kernels.{Holds, IsKernel};
+ghost use Rattle.mh_kernels.specs.Kernels.{Holds, IsItemList};
 
-use crate::kernels::{Closure, Kernel, KernelItem};
-use crate::places::symbol_at;
 use mh_grammar::{Grammar, Memory, Sequence, Symbol};
+use mh_kernels::{Closure, Kernel, KernelItem, symbol_at};
 use std::alloc::Global;
 
 /// The items of a closure with the dot moved past the symbol, rising (Knuth 1965). It fails for want of memory alone.
@@ -18,8 +17,8 @@ pub fn moved<const W: usize>(
 ) -> Result<Kernel<W>, Memory>
     requires few { W ≤ 8 }
     requires range { IsInRange (plain_of grammar.now) }
-    requires kernel { IsKernel (plain_of grammar.now) closed.now }
-    ensures kernel { IfOk result (IsKernel (plain_of grammar.now)) }
+    requires kernel { IsItemList (plain_of grammar.now) closed.now }
+    ensures kernel { IfOk result (IsItemList (plain_of grammar.now)) }
     ensures exact { IfOk result (λ m. AreSame (Holds m) (Moved (plain_of grammar.now) (Holds closed.now) symbol)) }
 {
     let mut items = Vec::new(alloc);

@@ -20,7 +20,8 @@ use Rattle.mh_meanings.specs.declared.fault.JoinFault.TheVariants as faults
 use Rattle.mh_meanings.specs.declared.names.Names.{Names}
 use Rattle.mh_meanings.specs.declared.outlines.Outline.{Outline}
 use Rattle.mh_meanings.specs.Prelude.{prelude_rules}
-use Rattle.mh_meanings.specs.Names.{Text, same, files, formal_number, start_names, definitions, definitions_in, library_definitions, is_elsewhere, rules}
+use Rattle.mh_grammar.specs.Text.{Text}
+use Rattle.mh_meanings.specs.Names.{same, files, formal_number, start_names, definitions, definitions_in, library_definitions, is_elsewhere, rules}
 use Rattle.mh_meanings.specs.Faults.{Meanings, meant_by, refs, is_error, text_of, unless, undefined, undefined_in_actual, undefined_in_alternative, undefined_prec, undefined_in_rule, undefined_start, undefined_in_level, undefined_in_on_error, undefined_in_declarations, undefined_in_file, duplicates, has_some, error_token, errors_in_actual, errors_in_alternative, errors_in_rule, errors_in_file, unlevelled_in_file, many_tokens, other_faults, faults_by}
 use Rattle.mh_meanings.specs.Joining.{IsJoinedBy, IsJoined}
 use Rattle.mh_meanings.specs.Maps.{meanings_in, elsewhere_in, HasMeanings}

@@ -10,7 +10,8 @@ use Rattle.mh_rules.specs.declared.modules.TokenDecl.{TokenDecl}
 use Rattle.mh_rules.specs.declared.modules.Module.{Module}
 use Rattle.mh_rules.specs.declared.joined.Joined.{Joined}
 use Rattle.mh_rules.specs.Ready.{IsTokenReady, IsModuleReady, AreModulesReady}
-use Rattle.mh_meanings.specs.Names.{Text, same, given_cost, cost_by, costs, cost_of}
+use Rattle.mh_grammar.specs.Text.{Text}
+use Rattle.mh_meanings.specs.Names.{same, given_cost, cost_by, costs, cost_of}
 use Rattle.mh_meanings.specs.Faults.{meanings}
 use Rattle.mh_meanings.specs.Joining.{token_info, IsJoined}
 

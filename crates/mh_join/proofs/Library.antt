@@ -19,7 +19,8 @@ use Rattle.mh_rules.specs.declared.joined.Head.TheVariants as heads
 use Rattle.mh_meanings.specs.declared.outlines.Outline.{Outline}
 use Rattle.mh_meanings.specs.declared.fault.JoinFault.TheVariants as faults
 use Rattle.mh_meanings.specs.Prelude.{call, words, plain, optional, in_order, texts, prelude_rules, separated_items, list_rule, nonempty_list_rule, separated_list_rule, separated_nonempty_list_rule, option_rules, pair_rules, list_rules, other_rules}
-use Rattle.mh_meanings.specs.Names.{Text, same, files, formal_number, definitions, definitions_from, definitions_in, library_definitions, outline_of, same_owner, is_rule, same_rule, rules, rule_number, start_names}
+use Rattle.mh_grammar.specs.Text.{Text}
+use Rattle.mh_meanings.specs.Names.{same, files, formal_number, definitions, definitions_from, definitions_in, library_definitions, outline_of, same_owner, is_rule, same_rule, rules, rule_number, start_names}
 use Rattle.mh_meanings.specs.Faults.{Meanings, meant_by, refs, refs_step, unless, undefined, undefined_in_actual}
 use Rattle.mh_building.specs.Standing.{unresolved, unresolved_in_rule, unresolved_in_rules}
 use Rattle.mh_grammar.proofs.SameText.{same_is}

@@ -24,8 +24,8 @@ use Rattle.mh_lex.specs.Bodies.Body.{closes, passes}
 use Rattle.mh_lex.specs.Lexing.{Taken, LexesFrom, Lexes, piece, left_after}
 use Rattle.mh_lex.specs.Lexing.Taken.{short, long}
 use Rattle.mh_lex.specs.Lexing.LexesFrom.{ended, taken}
-use Rattle.mh_lex.specs.Texts.{Text, IsText, is_content, laid, places, one_of, count_of_percents}
-use Rattle.mh_lex.specs.Texts.Text.{word, mark, percents, keyword, quoted, empty_action, cost}
+use Rattle.mh_lex.specs.Texts.{LexemeText, IsText, is_content, laid, places, one_of, count_of_percents}
+use Rattle.mh_lex.specs.Texts.LexemeText.{word, mark, percents, keyword, quoted, empty_action, cost}
 use Rattle.mh_lex.proofs.Rows.{keyword_is_word}
 use Rattle.mh_lex.proofs.Tests.{both, third, fourth}
 
@@ -166,7 +166,7 @@ digits_body (d ∷ ds) rest h = passes (digit_step d h.0 ((ds ++ 93 ∷ []) ++ r
 before_space : (k : Kind) (t rest : List ℕ) → front (t ++ 32 ∷ rest) ≡ Short (Some k) (length t) → Taken (t ++ 32 ∷ rest) (Some k) (32 ∷ rest)
 before_space k t rest e = short e (sym (drop_all t (32 ∷ rest)))
 
-pub text_taken : (k : Kind) (t : List ℕ) → Text k t → (rest : List ℕ) → Taken (t ++ 32 ∷ rest) (Some k) (32 ∷ rest)
+pub text_taken : (k : Kind) (t : List ℕ) → LexemeText k t → (rest : List ℕ) → Taken (t ++ 32 ∷ rest) (Some k) (32 ∷ rest)
 text_taken k t (word {b = b} {bs = bs} h all) rest =
     before_space kinds.Word (b ∷ bs) rest (word_front b bs rest h (word_rest-append (b ∷ bs) rest (start_is_byte b h, all)))
 text_taken k t (mark {b = b} h) rest = before_space kinds.Mark (b ∷ []) rest (mark_front b h rest)

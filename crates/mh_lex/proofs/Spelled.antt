@@ -20,8 +20,8 @@ use Rattle.mh_lex.specs.Bodies.Body.{closes, passes, nests, remark}
 use Rattle.mh_lex.specs.Lexing.{Taken, LexesFrom, Lexes, kept}
 use Rattle.mh_lex.specs.Lexing.Taken.{short, long}
 use Rattle.mh_lex.specs.Lexing.LexesFrom.{ended, trailer, taken, fault}
-use Rattle.mh_lex.specs.Texts.{Text, is_content, bytes_of, HasText, IsSpelled}
-use Rattle.mh_lex.specs.Texts.Text.{word, mark, percents, keyword, quoted}
+use Rattle.mh_lex.specs.Texts.{LexemeText, is_content, bytes_of, HasText, IsSpelled}
+use Rattle.mh_lex.specs.Texts.LexemeText.{word, mark, percents, keyword, quoted}
 use Rattle.mh_lex.proofs.LaidOut.{drop_all, take_all}
 use Rattle.mh_lex.proofs.Tests.{both, front_is, two_are, three_are}
 
@@ -37,22 +37,22 @@ word_bytes (b ∷ bs) = by_cond (is_word_byte b) (word_rest bs + 1) 0 (word_rest
     (λ h e. rw (sym e, add-one) (h, word_bytes bs))
     (λ h e. rw (sym e) tt)
 
-word_text : (s : List ℕ) → is_word_start (byte_at s 0) ≡ true → Text kinds.Word (take (word_rest s) s)
+word_text : (s : List ℕ) → is_word_start (byte_at s 0) ≡ true → LexemeText kinds.Word (take (word_rest s) s)
 word_text [] h = absurd (cc)
 word_text (b ∷ bs) h =
     let byte : is_word_byte b ≡ true = rw h refl in
     rw (byte, add-one) (word h (word_bytes bs))
 
-mark_text : (s : List ℕ) → is_mark (byte_at s 0) ≡ true → Text kinds.Mark (take 1 s)
+mark_text : (s : List ℕ) → is_mark (byte_at s 0) ≡ true → LexemeText kinds.Mark (take 1 s)
 mark_text [] h = absurd (cc)
 mark_text (b ∷ bs) h = mark h
 
-percents_text : (s : List ℕ) → has s 0 37 ≡ true → has s 1 37 ≡ true → Text kinds.Percents (take 2 s)
+percents_text : (s : List ℕ) → has s 0 37 ≡ true → has s 1 37 ≡ true → LexemeText kinds.Percents (take 2 s)
 percents_text [] h k = absurd (cc)
 percents_text (a ∷ []) h k = absurd (cc)
 percents_text (a ∷ b ∷ bs) h k = rw ((Decides-eqb a 37).0 h, (Decides-eqb b 37).0 k) percents
 
-keyword_text : (s : List ℕ) → has s 0 37 ≡ true → is_keyword (take (word_rest (drop 1 s)) (drop 1 s)) ≡ true → Text kinds.Keyword (take (word_rest (drop 1 s) + 1) s)
+keyword_text : (s : List ℕ) → has s 0 37 ≡ true → is_keyword (take (word_rest (drop 1 s)) (drop 1 s)) ≡ true → LexemeText kinds.Keyword (take (word_rest (drop 1 s) + 1) s)
 keyword_text [] h k = absurd (cc)
 keyword_text (a ∷ bs) h k = rw (add-one, (Decides-eqb a 37).0 h) (keyword k)
 
@@ -72,11 +72,11 @@ string_split held (b ∷ bs) n e = by_cond (not held && b == 34) (Some 1) (more 
     (λ h d. let one : n ≡ 1 = cc in let two = both (not held) (b == 34) h in ([], rw (one, (Decides-eqb b 34).0 two.1) refl, two.0))
     (λ h d. string_longer held b bs n h (string_rest (not held && b == 92) bs) refl d (λ m q. string_split (not held && b == 92) bs m q))
 
-quoted_text : (s : List ℕ) (n : ℕ) → has s 0 34 ≡ true → string_rest false (drop 1 s) ≡ Some n → Text kinds.Quoted (take (n + 1) s)
+quoted_text : (s : List ℕ) (n : ℕ) → has s 0 34 ≡ true → string_rest false (drop 1 s) ≡ Some n → LexemeText kinds.Quoted (take (n + 1) s)
 quoted_text [] n h e = absurd (cc)
 quoted_text (a ∷ bs) n h e =
     let x = string_split false bs n e in
-    rw (add-one, (Decides-eqb a 34).0 h) (subst (λ k. Text kinds.Quoted (34 ∷ k)) (sym x.1) (quoted x.0 x.2))
+    rw (add-one, (Decides-eqb a 34).0 h) (subst (λ k. LexemeText kinds.Quoted (34 ∷ k)) (sym x.1) (quoted x.0 x.2))
 
 -- what is an opening and code
 abbrev pub holds_code : Kind → Bool

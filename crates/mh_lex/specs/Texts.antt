@@ -12,18 +12,18 @@ abbrev pub is_content : Bool → List ℕ → Bool
 is_content taken [] = not taken
 is_content taken (b ∷ bs) = not (not taken && b == 34) && is_content (not taken && b == 92) bs
 
--- Text k text: alone before a blank, this text is one lexeme of this kind.
-pub data Text : Kind → List ℕ → Type 0 where
-  word : {b : ℕ} {bs : List ℕ} → is_word_start b ≡ true → AllByRecursion (λ c. is_word_byte c ≡ true) bs → Text kinds.Word (b ∷ bs)
-  mark : {b : ℕ} → is_mark b ≡ true → Text kinds.Mark (b ∷ [])
-  percents : Text kinds.Percents (37 ∷ 37 ∷ [])
-  keyword : {w : List ℕ} → is_keyword w ≡ true → Text kinds.Keyword (37 ∷ w)
-  quoted : (s : List ℕ) → is_content false s ≡ true → Text kinds.Quoted (34 ∷ s ++ 34 ∷ [])
-  empty_action : Text kinds.Action (123 ∷ 125 ∷ [])
-  cost : (ds : List ℕ) → AllByRecursion (λ d. is_decimal d ≡ true) ds → Text kinds.Attribute (codes "[@cost " ++ (ds ++ 93 ∷ []))
+-- LexemeText k text: alone before a blank, this text is one lexeme of this kind.
+pub data LexemeText : Kind → List ℕ → Type 0 where
+  word : {b : ℕ} {bs : List ℕ} → is_word_start b ≡ true → AllByRecursion (λ c. is_word_byte c ≡ true) bs → LexemeText kinds.Word (b ∷ bs)
+  mark : {b : ℕ} → is_mark b ≡ true → LexemeText kinds.Mark (b ∷ [])
+  percents : LexemeText kinds.Percents (37 ∷ 37 ∷ [])
+  keyword : {w : List ℕ} → is_keyword w ≡ true → LexemeText kinds.Keyword (37 ∷ w)
+  quoted : (s : List ℕ) → is_content false s ≡ true → LexemeText kinds.Quoted (34 ∷ s ++ 34 ∷ [])
+  empty_action : LexemeText kinds.Action (123 ∷ 125 ∷ [])
+  cost : (ds : List ℕ) → AllByRecursion (λ d. is_decimal d ≡ true) ds → LexemeText kinds.Attribute (codes "[@cost " ++ (ds ++ 93 ∷ []))
 
 abbrev pub IsText : Kind × List ℕ → Type 0
-IsText t = Text t.0 t.1
+IsText t = LexemeText t.0 t.1
 
 -- each text with a space behind it
 abbrev pub laid : List (Kind × List ℕ) → List ℕ
@@ -57,11 +57,11 @@ bytes_of bytes l = take (l.end - l.start) (drop l.start bytes)
 
 -- what a lexeme of this kind spells; code and types are not looked into
 abbrev pub HasText : Kind → List ℕ → Type 0
-HasText kinds.Word t = Text kinds.Word t
-HasText kinds.Mark t = Text kinds.Mark t
-HasText kinds.Percents t = Text kinds.Percents t
-HasText kinds.Keyword t = Text kinds.Keyword t
-HasText kinds.Quoted t = Text kinds.Quoted t
+HasText kinds.Word t = LexemeText kinds.Word t
+HasText kinds.Mark t = LexemeText kinds.Mark t
+HasText kinds.Percents t = LexemeText kinds.Percents t
+HasText kinds.Keyword t = LexemeText kinds.Keyword t
+HasText kinds.Quoted t = LexemeText kinds.Quoted t
 HasText kinds.Header t = Unit {0}
 HasText kinds.Action t = Unit {0}
 HasText kinds.TypeText t = Unit {0}

@@ -2,13 +2,15 @@
 #![tactic(auto)]
 
 use mh_canon::canonical;
+use mh_cells::{Conflict, Mode};
 use mh_grammar::{
     Assoc, Grammar, Level, NontermInfo, Production, Sequence, Symbol, TokenInfo, from_bytes,
-    has_costs_in_range, is_in_range,
 };
-use mh_items::Automaton;
-use mh_resolve::{Conflict, Mode, resolve};
-use mh_tables::{Halting, Table, check_halts};
+use mh_halting::check_halts;
+use mh_kernels::Automaton;
+use mh_range::{has_costs_in_range, is_in_range};
+use mh_resolve::resolve;
+use mh_tables::{Halting, Table};
 use std::alloc::Global;
 use std::test::Fail;
 

@@ -14,7 +14,8 @@ use Rattle.indexmap.specs.IndexMap.{get}
 use Rattle.mh_grammar.proofs.Lists.{taken}
 use Rattle.mh_grammar.proofs.SameText.{same_is, same_self, same_cases}
 use Rattle.mh_meanings.specs.Puts.{Puts}
-use Rattle.mh_meanings.specs.Names.{Text, same}
+use Rattle.mh_grammar.specs.Text.{Text}
+use Rattle.mh_meanings.specs.Names.{same}
 
 -- LISTS
 

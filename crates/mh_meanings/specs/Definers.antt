@@ -4,7 +4,8 @@ use Rattle.indexmap.specs.IndexMap.{get}
 use Rattle.std.specs.HashMap.{HashMap}
 use Rattle.mh_meanings.specs.declared.names.Definers.{Definers}
 use Rattle.mh_meanings.specs.declared.names.Definers.TheVariants as definers
-use Rattle.mh_meanings.specs.Names.{Text, same}
+use Rattle.mh_grammar.specs.Text.{Text}
+use Rattle.mh_meanings.specs.Names.{same}
 
 -- a file other than file k defines the name of which these are the definers
 abbrev pub elsewhere_by : Option Definers → ℕ → Bool

@@ -20,7 +20,8 @@ use Rattle.mh_meanings.specs.declared.kinds.Kind.{Kind}
 use Rattle.mh_meanings.specs.declared.kinds.Kind.TheVariants as kinds
 use Rattle.mh_meanings.specs.declared.fault.JoinFault.{JoinFault}
 use Rattle.mh_meanings.specs.declared.fault.JoinFault.TheVariants as faults
-use Rattle.mh_meanings.specs.Names.{Text, same, Numbers, files, name_by, level_in, is_public, is_rule, formal_number, head_by, token_names, aliased, level_of, cost_of, start_names, rules, numbers_of}
+use Rattle.mh_grammar.specs.Text.{Text}
+use Rattle.mh_meanings.specs.Names.{same, Numbers, files, name_by, level_in, is_public, is_rule, formal_number, head_by, token_names, aliased, level_of, cost_of, start_names, rules, numbers_of}
 
 -- WHAT NAMES MEAN
 

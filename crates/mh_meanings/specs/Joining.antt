@@ -19,7 +19,8 @@ use Rattle.mh_rules.specs.declared.joined.Joined.{Joined}
 use Rattle.mh_meanings.specs.declared.outlines.Outline.{Outline}
 use Rattle.mh_meanings.specs.declared.fault.JoinFault.{JoinFault}
 use Rattle.mh_meanings.specs.declared.fault.JoinFault.TheVariants as faults
-use Rattle.mh_meanings.specs.Names.{Text, files, name_by, formal_number, is_elsewhere, Definition, definitions, rules}
+use Rattle.mh_grammar.specs.Text.{Text}
+use Rattle.mh_meanings.specs.Names.{files, name_by, formal_number, is_elsewhere, Definition, definitions, rules}
 use Rattle.mh_meanings.specs.Faults.{Meanings, meanings, meant_by, join_faults, first}
 
 -- these, where all are there

@@ -6,7 +6,8 @@ use Rattle.std.specs.HashMap.{HashMap}
 use Rattle.std.specs.HashSet.{HashSet}
 use Rattle.mh_rules.specs.declared.modules.Module.{Module}
 use Rattle.mh_meanings.specs.declared.names.Names.{Names}
-use Rattle.mh_meanings.specs.Names.{Text, same, Numbers, is_elsewhere, rules}
+use Rattle.mh_grammar.specs.Text.{Text}
+use Rattle.mh_meanings.specs.Names.{same, Numbers, is_elsewhere, rules}
 use Rattle.mh_meanings.specs.Faults.{Meanings, meanings}
 use Rattle.mh_meanings.specs.Definers.{elsewhere_by}
 use Rattle.mh_meanings.specs.Numbering.{number_in, IsNumbered}

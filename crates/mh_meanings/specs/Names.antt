@@ -18,9 +18,7 @@ use Rattle.mh_rules.specs.declared.joined.Head.{Head}
 use Rattle.mh_rules.specs.declared.joined.Head.TheVariants as heads
 use Rattle.mh_meanings.specs.declared.outlines.Outline.{Outline}
 use Rattle.mh_meanings.specs.Prelude.{prelude_rules}
-
-abbrev pub Text : Type 0
-Text = List ℕ
+use Rattle.mh_grammar.specs.Text.{Text}
 
 abbrev pub same : Text → Text → Bool
 same = pointwise ◌==◌

@@ -8,7 +8,8 @@ use Rattle.mh_rules.specs.declared.modules.Rule.{Rule}
 use Rattle.mh_rules.specs.declared.modules.Module.{Module}
 use Rattle.mh_meanings.specs.declared.outlines.Outline.{Outline}
 use Rattle.mh_meanings.specs.declared.numbering.Numbering.{Numbering}
-use Rattle.mh_meanings.specs.Names.{Text, same, firsts, files, is_rule, same_rule, same_owner, owner_in}
+use Rattle.mh_grammar.specs.Text.{Text}
+use Rattle.mh_meanings.specs.Names.{same, firsts, files, is_rule, same_rule, same_owner, owner_in}
 
 abbrev pub number_in : Numbering → Option ℕ → Text → Option ℕ
 number_in n None x = get same n.public x

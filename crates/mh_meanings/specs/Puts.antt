@@ -4,7 +4,8 @@ use Rattle.std.specs.Map.{lookup}
 use Rattle.std.specs.Option.{option_or}
 use Rattle.indexmap.specs.IndexMap.{get}
 use Rattle.std.specs.HashMap.{HashMap}
-use Rattle.mh_meanings.specs.Names.{Text, same}
+use Rattle.mh_grammar.specs.Text.{Text}
+use Rattle.mh_meanings.specs.Names.{same}
 
 -- new has what old has, and else the first of these values
 abbrev pub Puts : {V S : Type 0} → HashMap Text V S → List (Text × V) → HashMap Text V S → Type 0

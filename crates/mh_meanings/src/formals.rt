@@ -1,7 +1,8 @@
 //! The numbers of a rule's formals.
 ghost use Rattle.std.specs.Prelude.{◌≡◌, IfOk};
 ghost use Rattle.indexmap.specs.IndexMap.{get};
-ghost use Rattle.mh_meanings.specs.Names.{Text, same, formal_number};
+ghost use Rattle.mh_grammar.specs.Text.{Text};
+ghost use Rattle.mh_meanings.specs.Names.{same, formal_number};
 
 use crate::maps::put_first;
 use indexmap::IndexMap;

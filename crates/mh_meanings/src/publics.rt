@@ -2,7 +2,8 @@
 ghost use Rattle.std.specs.Prelude.{◌≡◌, ◌||◌, ◌&&◌, if◌then◌else◌, IfOk, OnOk};
 ghost use Rattle.std.specs.List.{list_any};
 ghost use Rattle.indexmap.specs.IndexSet.{contains};
-ghost use Rattle.mh_meanings.specs.Names.{Text, same, marks_public};
+ghost use Rattle.mh_grammar.specs.Text.{Text};
+ghost use Rattle.mh_meanings.specs.Names.{same, marks_public};
 
 use crate::maps::put_name;
 use indexmap::IndexSet;

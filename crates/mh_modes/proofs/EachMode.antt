@@ -12,32 +12,32 @@ use Rattle.mh_tables.specs.Table.{TableData}
 use Rattle.mh_check.specs.Compiling.{missing}
 use Rattle.mh_check.specs.Texts.{compiled_text}
 use Rattle.mh_msgfile.specs.Printed.{echo_text}
-use Rattle.mh_drive.specs.Text.{Text}
+use Rattle.mh_grammar.specs.Text.{Text}
 use Rattle.mh_drive.specs.Causes.{Staged, Go, Halt}
-use Rattle.mh_drive.specs.Ways.{Ending}
+use Rattle.mh_drive.specs.Ways.{Finish}
 use Rattle.mh_drive.specs.declared.stop.Cause.{Cause}
 use Rattle.mh_drive.specs.declared.stop.Cause.TheVariants.{Refused}
 use Rattle.mh_drive.proofs.Binding.{IsOne}
-use Rattle.mh_prepare.specs.FileStage.{IsFile, IsFound, loaded}
-use Rattle.mh_prepare.specs.Shapes.{Prepared}
-use Rattle.mh_modes.specs.Told.{ending_of}
-use Rattle.mh_modes.specs.Compared.{compared}
-use Rattle.mh_modes.specs.Files.{files_of_job, named}
-use Rattle.mh_modes.specs.Listing.{ListsErrors, Lists, TooLong, too_long}
-use Rattle.mh_modes.specs.MessagesStage.{AreBoth, AreMessages, IsMessagesFile, IsUpdatedFile, Messages}
-use Rattle.mh_modes.specs.Plan.{Answers, Automaton, End, Ends, EndsBy, EndsWith, Errors, Explains, IsPlanOfJob, Judges, Known, MessagesFor, Plan, Serves, halts, judges, plan_by, tables_of, tells, Sampled}
-use Rattle.mh_modes.specs.Verdicts.{Answering}
-use Rattle.mh_modes.specs.declared.modes.at_end.Told.{Told}
-use Rattle.mh_modes.specs.declared.modes.at_end.Told.TheVariants.{Said, Not}
-use Rattle.mh_modes.proofs.Answering.{one_once}
-use Rattle.mh_modes.proofs.Messaging.{checking, for_unread_halts, messages_for_once, messages_for_right, named_turn, some_checked, some_messages_for, some_spelled, spelling}
-use Rattle.mh_modes.proofs.Both.{two_files}
-use Rattle.mh_modes.proofs.Updating.{one_updated}
-use Rattle.mh_modes.proofs.Reading.{IsRead, Runs, StagedRight, one_file}
-use Rattle.mh_modes.proofs.Turning.{Turn, no_turn, turn_of_named}
-use Rattle.mh_modes.proofs.Refusals.{list_cause_once, list_out_once}
-use Rattle.mh_modes.proofs.Telling.{told_once}
-use Rattle.mh_modes.proofs.Sampling.{counts_cause_once, counts_out_once, counts_right}
+use Rattle.mh_files.specs.FileStage.{IsFile, IsFound, loaded}
+use Rattle.mh_prepared.specs.Shapes.{Prepared}
+use Rattle.mh_plans.specs.Told.{ending_of}
+use Rattle.mh_plans.specs.Compared.{compared}
+use Rattle.mh_plans.specs.Files.{files_of_job, named}
+use Rattle.mh_plans.specs.Listing.{ListsErrors, Lists, TooLong, too_long}
+use Rattle.mh_plans.specs.MessagesStage.{AreBoth, AreMessages, IsMessagesFile, IsUpdatedFile, Messages}
+use Rattle.mh_plans.specs.Plan.{Answers, Automaton, End, Ends, EndsBy, EndsWith, Errors, Explains, IsPlanOfJob, Judges, Known, MessagesFor, Plan, Serves, halts, judges, plan_by, tables_of, tells, Sampled}
+use Rattle.mh_plans.specs.Verdicts.{Answering}
+use Rattle.mh_plans.specs.declared.at_end.Told.{Told}
+use Rattle.mh_plans.specs.declared.at_end.Told.TheVariants.{Said, Not}
+use Rattle.mh_judging.proofs.Answering.{one_once}
+use Rattle.mh_plans.proofs.Messaging.{checking, for_unread_halts, messages_for_once, messages_for_right, named_turn, some_checked, some_messages_for, some_spelled, spelling}
+use Rattle.mh_keeping.proofs.Both.{two_files}
+use Rattle.mh_keeping.proofs.Updated.{one_updated}
+use Rattle.mh_plans.proofs.Reading.{IsRead, Runs, StagedRight, one_file}
+use Rattle.mh_plans.proofs.Turning.{Turn, no_turn, turn_of_named}
+use Rattle.mh_showing.proofs.Refusals.{list_cause_once, list_out_once}
+use Rattle.mh_judging.proofs.Telling.{told_once}
+use Rattle.mh_showing.proofs.Counting.{counts_cause_once, counts_out_once, counts_right}
 
 -- ---- for which causes a mode may end
 
@@ -144,19 +144,19 @@ facts_of (CompareErrors first second) p =
 -- ---- an end is one
 
 pub record EndFacts (end : End) : Type 1 where
-  pub cause : (x y : Ending) → EndsBy end x → EndsBy end y → x.cause ≡ y.cause
-  pub out : (x y : Ending) → EndsBy end x → EndsBy end y → x.out ≡ y.out
-  pub right : (Right : Cause → Type 0) → ((line : Text) → Right (Refused line)) → (e : Ending) → EndsRight Right (Ends end) → EndsBy end e → IsRight Right e.cause
+  pub cause : (x y : Finish) → EndsBy end x → EndsBy end y → x.cause ≡ y.cause
+  pub out : (x y : Finish) → EndsBy end x → EndsBy end y → x.out ≡ y.out
+  pub right : (Right : Cause → Type 0) → ((line : Text) → Right (Refused line)) → (e : Finish) → EndsRight Right (Ends end) → EndsBy end e → IsRight Right e.cause
 
-list_right : (p : Prepared) (Right : Cause → Type 0) → ((line : Text) → Right (Refused line)) → (e : Ending) → ListsErrors p.grammar p.tabled.automaton p.tabled.halting e.cause e.out → IsRight Right e.cause
+list_right : (p : Prepared) (Right : Cause → Type 0) → ((line : Text) → Right (Refused line)) → (e : Finish) → ListsErrors p.grammar p.tabled.automaton p.tabled.halting e.cause e.out → IsRight Right e.cause
 list_right p Right may e (Lists none cause list) = subst (IsRight Right) (sym cause) tt
 list_right p Right may e (TooLong s long cause out) = subst (IsRight Right) (sym cause) (may (too_long s))
 
 pub end_facts : (end : End) → EndFacts end
 end_facts (Known end) = record {
-  cause = λ x y is so. ap (λ (e : Ending). e.cause) (is ∙ sym so);
-  out = λ x y is so. ap (λ (e : Ending). e.out) (is ∙ sym so);
-  right = λ Right may e right is. subst (IsRight Right) (sym (ap (λ (x : Ending). x.cause) is)) right;
+  cause = λ x y is so. ap (λ (e : Finish). e.cause) (is ∙ sym so);
+  out = λ x y is so. ap (λ (e : Finish). e.out) (is ∙ sym so);
+  right = λ Right may e right is. subst (IsRight Right) (sym (ap (λ (x : Finish). x.cause) is)) right;
 }
 end_facts (Automaton p) = record {
   cause = λ x y is so. is.0 ∙ sym so.0;
@@ -184,20 +184,20 @@ module _ (line : Text) where
   answer_once (Serves g t branches) a c x y p q =
       let same = line_once g t branches line a c p.0 q.0 p.1 q.1 in (same.0, p.2 ∙ ap (λ (after : Branches). Serves g t after) same.1 ∙ sym q.2)
 
-explained_once : (p : Prepared) (line : Text) (x y : Ending) → EndsWith (Explains p line) x → EndsWith (Explains p line) y → x ≡ y
+explained_once : (p : Prepared) (line : Text) (x y : Finish) → EndsWith (Explains p line) x → EndsWith (Explains p line) y → x ≡ y
 explained_once p line x y is so = is.2 ∙ ap ending_of (told_once p line is.0 so.0 is.1 so.1) ∙ sym so.2
 
-pub cause_once : (plan : Plan) (x y : Ending) → EndsWith plan x → EndsWith plan y → x.cause ≡ y.cause
+pub cause_once : (plan : Plan) (x y : Finish) → EndsWith plan x → EndsWith plan y → x.cause ≡ y.cause
 cause_once (Ends end) x y is so = (end_facts end).cause x y is so
-cause_once (Judges by) x y is so = ap (λ (end : Ending). end.cause) (is ∙ sym so)
-cause_once (Explains p line) x y is so = ap (λ (end : Ending). end.cause) (explained_once p line x y is so)
-cause_once (Serves g t branches) x y is so = ap (λ (end : Ending). end.cause) (is ∙ sym so)
+cause_once (Judges by) x y is so = ap (λ (end : Finish). end.cause) (is ∙ sym so)
+cause_once (Explains p line) x y is so = ap (λ (end : Finish). end.cause) (explained_once p line x y is so)
+cause_once (Serves g t branches) x y is so = ap (λ (end : Finish). end.cause) (is ∙ sym so)
 
-pub out_once : (plan : Plan) (x y : Ending) → EndsWith plan x → EndsWith plan y → x.out ≡ y.out
+pub out_once : (plan : Plan) (x y : Finish) → EndsWith plan x → EndsWith plan y → x.out ≡ y.out
 out_once (Ends end) x y is so = (end_facts end).out x y is so
-out_once (Judges by) x y is so = ap (λ (end : Ending). end.out) (is ∙ sym so)
-out_once (Explains p line) x y is so = ap (λ (end : Ending). end.out) (explained_once p line x y is so)
-out_once (Serves g t branches) x y is so = ap (λ (end : Ending). end.out) (is ∙ sym so)
+out_once (Judges by) x y is so = ap (λ (end : Finish). end.out) (is ∙ sym so)
+out_once (Explains p line) x y is so = ap (λ (end : Finish). end.out) (explained_once p line x y is so)
+out_once (Serves g t branches) x y is so = ap (λ (end : Finish). end.out) (is ∙ sym so)
 
 -- ---- a mode ends for no other cause than it may
 
@@ -208,8 +208,8 @@ module _ (Right : Cause → Type 0) (may_refuse : (line : Text) → Right (Refus
   answer_right (Explains p old) line text next is right = subst (EndsRight Right) (sym is.1) tt
   answer_right (Serves g t branches) line text next is right = subst (EndsRight Right) (sym is.2) tt
 
-  pub ends_right : (plan : Plan) (e : Ending) → EndsRight Right plan → EndsWith plan e → IsRight Right e.cause
+  pub ends_right : (plan : Plan) (e : Finish) → EndsRight Right plan → EndsWith plan e → IsRight Right e.cause
   ends_right (Ends end) e right is = (end_facts end).right Right may_refuse e right is
-  ends_right (Judges by) e right is = subst (IsRight Right) (sym (ap (λ (x : Ending). x.cause) is)) tt
-  ends_right (Explains p line) e right is = subst (IsRight Right) (sym (ap (λ (x : Ending). x.cause) is.2)) (told_right Right may_refuse is.0)
-  ends_right (Serves g t branches) e right is = subst (IsRight Right) (sym (ap (λ (x : Ending). x.cause) is)) tt
+  ends_right (Judges by) e right is = subst (IsRight Right) (sym (ap (λ (x : Finish). x.cause) is)) tt
+  ends_right (Explains p line) e right is = subst (IsRight Right) (sym (ap (λ (x : Finish). x.cause) is.2)) (told_right Right may_refuse is.0)
+  ends_right (Serves g t branches) e right is = subst (IsRight Right) (sym (ap (λ (x : Finish). x.cause) is)) tt

@@ -5,7 +5,7 @@ use Rattle.std.specs.Prelude.{true, Result, Ok, Err}
 use Rattle.std.specs.Io.KnownBytes.{Appends}
 use Rattle.mh_outside.specs.Shelf.{Files}
 use Rattle.mh_opts.specs.declared.jobs.Job.{Job}
-use Rattle.mh_drive.specs.Text.{Text}
+use Rattle.mh_grammar.specs.Text.{Text}
 use Rattle.mh_drive.specs.Drive.{Ended, LeftIs, Ran}
 use Rattle.mh_drive.specs.Opening.{Driven, IsOpened}
 use Rattle.mh_drive.specs.Stages.{ShelfCounts}
@@ -15,10 +15,10 @@ use Rattle.mh_drive.specs.declared.stop.Cause.{Cause}
 use Rattle.mh_drive.specs.declared.stop.Stop.{Stop}
 use Rattle.mh_drive.specs.declared.stop.Stop.TheVariants.{Halted, ShelfFailed, InputFailed, WriteFailed, OutOfMemory}
 use Rattle.mh_drive.proofs.Opening.{ran_read}
-use Rattle.mh_prepare.specs.Shapes.{Prepared}
-use Rattle.mh_modes.specs.Files.{IsTurnOfJob}
-use Rattle.mh_modes.specs.Modes.{Followed, IsUnopened, Opens}
-use Rattle.mh_modes.specs.Plan.{Plan, by_plan, IsPlanOfJob, halts}
+use Rattle.mh_prepared.specs.Shapes.{Prepared}
+use Rattle.mh_plans.specs.Files.{IsTurnOfJob}
+use Rattle.mh_plans.specs.Modes.{Followed, IsUnopened, Opens}
+use Rattle.mh_plans.specs.Plan.{Plan, by_plan, IsPlanOfJob, halts}
 
 Appends-nil : (out : Option Text) → Appends out out []
 Appends-nil None = tt

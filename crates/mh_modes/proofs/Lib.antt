@@ -1,12 +1,2 @@
-pub mod Answering
-pub mod Turning
-pub mod Reading
-pub mod Messaging
-pub mod Telling
-pub mod Refusals
-pub mod Both
-pub mod Updating
-pub mod Sampling
 pub mod EachMode
 pub mod Following
-pub mod Listed

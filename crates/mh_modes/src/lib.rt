@@ -1,7 +1,6 @@
 //! The modes: what is done behind the table and the warnings, by the job.
 #![tactic(auto)]
 
-mod messages;
 mod modes;
 
 pub use modes::follow;

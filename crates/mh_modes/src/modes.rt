@@ -2,41 +2,20 @@
 ghost use Rattle.std.specs.Prelude.{◌≡◌, ◌≤◌};
 ghost use Rattle.std.specs.List.{All};
 ghost use Rattle.mh_drive.specs.Steps.{Counts, FileCounts};
-ghost use Rattle.mh_modes.specs.Files.{IsTurnOfJob, files_of_mode};
-ghost use Rattle.mh_modes.specs.Modes.{Followed};
-ghost use Rattle.mh_modes.specs.Plan.{IsPlanOfJob};
-ghost use Rattle.mh_prepare.specs.Prepared.{IsFit};
+ghost use Rattle.mh_plans.specs.Files.{IsTurnOfJob, files_of_mode};
+ghost use Rattle.mh_plans.specs.Modes.{Followed};
+ghost use Rattle.mh_plans.specs.Plan.{IsPlanOfJob};
+ghost use Rattle.mh_prepared.specs.Prepared.{IsFit};
 
-mod at_end;
-mod comparing;
-mod compiling;
-mod echoing;
-mod explaining;
-mod exporting;
-mod judging;
-mod listing;
-mod sampling;
-mod serving;
-mod showing;
-mod updating;
-
-use at_end::AtEnd;
-use comparing::compare_by;
-use compiling::compile_by;
-use echoing::echo_by;
-use explaining::explain_by;
-use exporting::Exporting;
-use judging::judge_by;
-use listing::Listing;
 use mh_drive::{Stop, drive, drive_opened};
+use mh_judging::{explain_by, judge_by, serve_on};
+use mh_keeping::{compare_by, compile_by, echo_by, update_by};
 use mh_opts::Job;
 use mh_outside::{Shelf, Sink, Source};
-use mh_prepare::Prepared;
-use sampling::Sampling;
-use serving::serve_on;
-use showing::Showing;
+use mh_plans::AtEnd;
+use mh_prepared::Prepared;
+use mh_showing::{Exporting, Listing, Sampling, Showing};
 use std::alloc::Global;
-use updating::update_by;
 
 /// Does what the job asks for. A mode that reads files of its own takes them from the shelf.
 pub fn follow<F: Shelf, I: Source, O: Sink, const W: usize>(

@@ -12,11 +12,11 @@ use Rattle.std.proofs.lemmas.Option.{slice_get_within, get_or_from_slice_get}
 use Rattle.mh_grammar.specs.declared.types.Symbol.{Symbol}
 use Rattle.mh_grammar.specs.declared.types.Symbol.TheVariants.{T, N}
 use Rattle.mh_grammar.specs.Plain.{PlainGrammar, IsInRange, IsSymbolBelow, production_count, rhs_of}
-use Rattle.mh_items.specs.Shapes.{KernelItem, Kernel}
-use Rattle.mh_items.specs.Kernels.{IsKernel, IsKernelItem}
-use Rattle.mh_items.proofs.Following.{side_below}
+use Rattle.mh_kernels.specs.Shapes.{KernelItem, Kernel}
+use Rattle.mh_kernels.specs.Kernels.{IsItemList, IsKernelItem}
+use Rattle.mh_kernels.proofs.Sides.{side_below}
 use Rattle.mh_grammar.proofs.Lists.{all_at, recursion_at}
-use Rattle.mh_items.proofs.Moving.{MovedSoFar, MovedSoFar-start, MovedSoFar-push, MovedSoFar-skip, moved_of}
+use Rattle.mh_items.proofs.Advancing.{MovedSoFar, MovedSoFar-start, MovedSoFar-push, MovedSoFar-skip, moved_of}
 use Rattle.mh_moves.specs.declared.rows.Rows.{Rows}
 use Rattle.mh_moves.specs.Rows.{place_of, row_at, AreEmpty, AreFilled, AreGathered, AreReady}
 
@@ -107,7 +107,7 @@ gathered-start g items r h = record {
   rows = λ X b. rw (h.none (place_of g.tokens X)) (MovedSoFar-start g X items);
 }
 
-module _ {W : ℕ} (g : PlainGrammar) (items : List KernelItem) (i : ℕ) (y : KernelItem) (old new : Rows W) (kernel : IsKernel g (of_items items)) (h : GatheredSoFar g items i old) (at : slice_get items i ≡ Some y) where
+module _ {W : ℕ} (g : PlainGrammar) (items : List KernelItem) (i : ℕ) (y : KernelItem) (old new : Rows W) (kernel : IsItemList g (of_items items)) (h : GatheredSoFar g items i old) (at : slice_get items i ≡ Some y) where
   pub gathered-push : (X : Symbol) (item : KernelItem) → IsInRange g → slice_get (rhs_of g y.production) y.dot ≡ Some X → item ≡ record { production = y.production; dot = y.dot + 1; looks = y.looks }
       → new.rows.items ≡ set old.rows.items (place_of g.tokens X) (row_at old (place_of g.tokens X) ++ item ∷ []) → (AreFilled old → AreFilled new) → GatheredSoFar g items (i + 1) new
   gathered-push X item range m is rows filled =

@@ -17,11 +17,11 @@ use Rattle.mh_grammar.specs.Plain.{PlainGrammar, IsInRange, IsSymbolBelow, rhs_o
 use Rattle.mh_grammar.specs.ItemSets as sets
 use Rattle.mh_grammar.specs.ItemSets.{Moved}
 use Rattle.mh_grammar.proofs.Lists.{at_contains, contains_push, contains_last, contains_none, contains_map, map_contains, some_item, recursion-from, recursion_contains}
-use Rattle.mh_items.specs.Shapes.{Items, KernelItem, Kernel}
-use Rattle.mh_items.specs.Kernels.{Holds, IsKernel, IsKernelItem}
-use Rattle.mh_items.proofs.Dotted.{drop_from-slice_get, slice_get_from-drop}
+use Rattle.mh_kernels.specs.Shapes.{Items, KernelItem, Kernel}
+use Rattle.mh_kernels.specs.Kernels.{Holds, IsItemList, IsKernelItem}
+use Rattle.mh_kernels.proofs.Dotted.{drop_from-slice_get, slice_get_from-drop}
 use Rattle.mh_moves.specs.declared.rows.Rows.{Rows}
-use Rattle.mh_items.specs.Collection.{IsBehindDot, IsMove}
+use Rattle.mh_kernels.specs.Collection.{IsBehindDot, IsMove}
 use Rattle.mh_moves.specs.Moves.{Move, AreMoves, symbols_of}
 use Rattle.mh_moves.specs.Rows.{place_of, symbol_of, row_at, AreEmpty, AreReady, move_from}
 use Rattle.mh_moves.proofs.Gathering.{symbol_below, place_within}
@@ -175,7 +175,7 @@ taken-all g old filled i new moves same ready past h = record {
 
 -- ---- they are the moves
 
-module _ {W : ℕ} (g : PlainGrammar) (range : IsInRange g) (closed : Items) (kernel : IsKernel g closed) (r : Rows W) (gathered : (X : Symbol) → IsSymbolBelow g.tokens g.nonterminals X → IsMove g closed X (record { items = row_at r (place_of g.tokens X) })) (ready : AreReady g r) where
+module _ {W : ℕ} (g : PlainGrammar) (range : IsInRange g) (closed : Items) (kernel : IsItemList g closed) (r : Rows W) (gathered : (X : Symbol) → IsSymbolBelow g.tokens g.nonterminals X → IsMove g closed X (record { items = row_at r (place_of g.tokens X) })) (ready : AreReady g r) where
   abbrev F : List ℕ
   F = r.filled.items
 
@@ -194,7 +194,7 @@ module _ {W : ℕ} (g : PlainGrammar) (range : IsInRange g) (closed : Items) (ke
   moved_from : (X : Symbol) (p d : ℕ) (a : Look) → Moved g (Holds closed) X p d a → IsBehindDot g closed X
   moved_from X p d a (sets.Moved.moved {p = q} {d = e} {y = y} held before) = record { production = q; dot = e; place = (held.0, held.1, held.2, held.3); behind = slice_get_from-drop (rhs_of g q) e X y before }
 
-  first_held : (k : Kernel) → IsKernel g k → (item : KernelItem) → Contains k.items item → Holds k item.production item.dot (get_or item.looks 0 End)
+  first_held : (k : Kernel) → IsItemList g k → (item : KernelItem) → Contains k.items item → Holds k item.production item.dot (get_or item.looks 0 End)
   first_held k is item c = (item, c, refl, refl, Contains-get_or item.looks 0 End (recursion_contains (IsKernelItem g) k.items is.items item c).some)
 
   behind_of : (n : ℕ) → Contains F n → IsBehindDot g closed (S n)

@@ -5,10 +5,10 @@ use Rattle.mh_grammar.specs.declared.types.Symbol.{Symbol}
 use Rattle.mh_grammar.specs.declared.types.Look.{Look}
 use Rattle.mh_grammar.specs.Plain.{PlainGrammar}
 use Rattle.mh_grammar.specs.Edges.{IsRising, IsSymbolBefore}
-use Rattle.mh_items.specs.Shapes.{Items, Kernel}
+use Rattle.mh_kernels.specs.Shapes.{Items, Kernel}
 use Rattle.mh_grammar.specs.ItemSets.{AreSame, Close}
-use Rattle.mh_items.specs.Kernels.{Holds, IsKernel}
-use Rattle.mh_items.specs.Collection.{IsBehindDot, IsMove}
+use Rattle.mh_kernels.specs.Kernels.{Holds, IsItemList}
+use Rattle.mh_kernels.specs.Collection.{IsBehindDot, IsMove}
 use Rattle.mh_moves.specs.declared.all_moves.MoveWith.{MoveWith}
 
 -- a move, whatever the width of its sets
@@ -27,6 +27,6 @@ pub record AreMoves (g : PlainGrammar) (closed : Items) (moves : List Move) : Ty
 -- the moves of a kernel, by its closure as the one list of its items
 pub record AreMovesOf (g : PlainGrammar) (kernel : Kernel) (moves : List Move) : Type 0 where
   pub closed : Kernel
-  pub valid : IsKernel g closed
+  pub valid : IsItemList g closed
   pub same : AreSame (Holds closed) (Close g (Holds kernel))
   pub are : AreMoves g closed moves

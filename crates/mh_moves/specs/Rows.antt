@@ -5,9 +5,9 @@ use Rattle.std.specs.List.Sorted.{IsStrictlyIncreasing}
 use Rattle.mh_grammar.specs.declared.types.Symbol.{Symbol}
 use Rattle.mh_grammar.specs.declared.types.Symbol.TheVariants.{T, N}
 use Rattle.mh_grammar.specs.Plain.{PlainGrammar, IsSymbolBelow}
-use Rattle.mh_items.specs.Shapes.{KernelItem}
+use Rattle.mh_kernels.specs.Shapes.{KernelItem}
 use Rattle.mh_moves.specs.declared.rows.Rows.{Rows}
-use Rattle.mh_items.specs.Collection.{IsMove}
+use Rattle.mh_kernels.specs.Collection.{IsMove}
 use Rattle.mh_moves.specs.Moves.{Move}
 
 -- where a symbol's row stands, and the symbol of a row

@@ -1,13 +1,13 @@
 //! All moves of a closure at once: each item is looked at once, and put into the row of the symbol at its dot.
 ghost use Rattle.std.specs.Prelude.{◌≡◌, ◌<◌, ◌≤◌, ◌+◌, ◌^◌, ℕ, map, length, IfOk, OnOk};
 ghost use Rattle.mh_grammar.specs.Plain.{plain_of, IsInRange};
-ghost use Rattle.mh_items.specs.Kernels.{IsKernel};
+ghost use Rattle.mh_kernels.specs.Kernels.{IsItemList};
 ghost use Rattle.mh_moves.specs.Rows.{AreEmpty, AreGathered, AreReady, move_from, symbol_of};
 ghost use Rattle.mh_moves.specs.Moves.{AreMoves};
 
 use crate::rows::{Rows, place};
 use mh_grammar::{Grammar, Memory, Sequence, Symbol};
-use mh_items::{Closure, ItemsWith, KernelItem, symbol_at};
+use mh_kernels::{Closure, ItemsWith, KernelItem, symbol_at};
 use mh_sets::TokenSet;
 use std::alloc::Global;
 use std::mem;
@@ -32,7 +32,7 @@ pub fn moves<const W: usize>(
 ) -> Result<Vec<Move<W>>, Memory>
     requires few { W ≤ 8 }
     requires range { IsInRange (plain_of grammar.now) }
-    requires kernel { IsKernel (plain_of grammar.now) closed.now }
+    requires kernel { IsItemList (plain_of grammar.now) closed.now }
     requires empty { AreEmpty (plain_of grammar.now) rows.old }
     ensures moves { IfOk result (λ v. AreMoves (plain_of grammar.now) closed.now v.items) }
     ensures empty { IfOk result (λ _. AreEmpty (plain_of grammar.now) rows.new) }
@@ -51,7 +51,7 @@ fn gather<const W: usize>(
 ) -> Result<(), Memory>
     requires few { W ≤ 8 }
     requires range { IsInRange (plain_of grammar.now) }
-    requires kernel { IsKernel (plain_of grammar.now) (record { items = items.now }) }
+    requires kernel { IsItemList (plain_of grammar.now) (record { items = items.now }) }
     requires empty { AreEmpty (plain_of grammar.now) rows.old }
     ensures { OnOk result (AreGathered (plain_of grammar.now) items.now rows.new) }
 {

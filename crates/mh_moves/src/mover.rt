@@ -1,14 +1,15 @@
 //! The moves of many kernels of one grammar.
 ghost use Rattle.std.specs.Prelude.{◌≡◌, ◌≤◌, ◌*◌, length, IfOk};
 ghost use Rattle.mh_grammar.specs.Plain.{plain_of, IsInRange};
-ghost use Rattle.mh_items.specs.Kernels.{IsKernel};
+ghost use Rattle.mh_kernels.specs.Kernels.{IsItemList};
 ghost use Rattle.mh_moves.specs.Moves.{AreMovesOf};
 ghost use Rattle.mh_moves.specs.Mover.{IsMover};
 
 use crate::all_moves::{Move, moves};
 use crate::rows::Rows;
 use mh_grammar::{Grammar, Memory};
-use mh_items::{Closer, Kernel};
+use mh_items::Closer;
+use mh_kernels::Kernel;
 use std::alloc::Global;
 
 /// What the moves of one grammar's kernels are computed from, and a place to compute them in.
@@ -44,7 +45,7 @@ impl<const W: usize> Mover<W> {
         requires width { length grammar.now.tokens ≤ 64 * W }
         requires range { IsInRange (plain_of grammar.now) }
         requires mover { IsMover (plain_of grammar.now) self.old }
-        requires kernel { IsKernel (plain_of grammar.now) kernel.now }
+        requires kernel { IsItemList (plain_of grammar.now) kernel.now }
         ensures moves { IfOk result (λ v. AreMovesOf (plain_of grammar.now) kernel.now v.items) }
         ensures mover { IfOk result (λ _. IsMover (plain_of grammar.now) self.new) }
     {

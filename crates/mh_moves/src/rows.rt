@@ -4,7 +4,7 @@ ghost use Rattle.mh_grammar.specs.Plain.{plain_of, IsInRange, IsSymbolBelow};
 ghost use Rattle.mh_moves.specs.Rows.{AreEmpty, AreFilled, IsListed, place_of, row_at};
 
 use mh_grammar::{Grammar, Memory, Sequence, Symbol};
-use mh_items::KernelItem;
+use mh_kernels::KernelItem;
 use std::alloc::Global;
 
 /// A row of items for each token, then one for each nonterminal; and the places of the rows that have items. It is used

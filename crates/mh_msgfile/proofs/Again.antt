@@ -6,7 +6,8 @@ use Rattle.std.proofs.lemmas.List.{map-append}
 use Rattle.std.proofs.lemmas.Grind.{flat_map-append}
 use Rattle.mh_grammar.specs.declared.types.Grammar.{Grammar}
 use Rattle.mh_grammar.proofs.Lists.{contains_here, contains_there}
-use Rattle.mh_msgfile.specs.Sentences.{Text, vocabulary_of, put_first, fields, has_items, runs, is_blank, LineFound, IsSentence, IsUnreadable, NamesNoStart, LacksStart, NamesUnknown, sentence_in}
+use Rattle.mh_grammar.specs.Text.{Text}
+use Rattle.mh_msgfile.specs.Sentences.{vocabulary_of, put_first, fields, has_items, runs, is_blank, LineFound, IsSentence, IsUnreadable, NamesNoStart, LacksStart, NamesUnknown, sentence_in}
 use Rattle.mh_msgfile.specs.Messages.{HasNoEnd, AreLines, line_at, numbers_from, is_taken_out, is_kept, kept_lines, blocks, message_of, FaultFound, BadShape, fault_at, sentence_at, faults_of, sentences_of, first_number, faults_in, entries_in, MsgSpells}
 use Rattle.mh_msgfile.specs.Printed.{sentence_text, sentence_line, sentence_lines, entry_text, file_text, HasNames, content_of, entry_content, HaveSameContent, HasNoCr}
 use Rattle.mh_msgfile.specs.declared.messages.MsgSentence.{MsgSentence}

@@ -8,7 +8,8 @@ use Rattle.mh_lex.specs.Words.{is_word}
 use Rattle.mh_grammar.specs.declared.types.Sentence.{Sentence}
 use Rattle.mh_grammar.specs.declared.types.Grammar.{Grammar}
 use Rattle.mh_grammar.specs.Plain.{PlainGrammar, plain_of}
-use Rattle.mh_msgfile.specs.Sentences.{Text, Vocabulary, vocabulary_of, token_names, start_name, start_names, TokensFound, Tokens, Unknown, StartFound, StartIs, NoSuchStart, NoStart, IsSentence, IsUnreadable, put_token, number_of, only_one, tokens_of, start_or, only_or, start_by, with_start, sole, colon_place, pieces, sentence_from, sentence_behind, sentence_in, FindsStart, ReadsSentence}
+use Rattle.mh_grammar.specs.Text.{Text}
+use Rattle.mh_msgfile.specs.Sentences.{Vocabulary, vocabulary_of, token_names, start_name, start_names, TokensFound, Tokens, Unknown, StartFound, StartIs, NoSuchStart, NoStart, IsSentence, IsUnreadable, put_token, number_of, only_one, tokens_of, start_or, only_or, start_by, with_start, sole, colon_place, pieces, sentence_from, sentence_behind, sentence_in, FindsStart, ReadsSentence}
 use Rattle.mh_msgfile.specs.declared.sentence.SentenceFault.{SentenceFault}
 use Rattle.mh_msgfile.specs.declared.sentence.SentenceFault.TheVariants as faults
 

@@ -16,7 +16,8 @@ use Rattle.mh_grammar.specs.declared.types.Grammar.{Grammar}
 use Rattle.mh_grammar.specs.declared.types.TokenInfo.{TokenInfo}
 use Rattle.mh_grammar.specs.declared.types.NontermInfo.{NontermInfo}
 use Rattle.mh_grammar.specs.Names.{token_name, start_name, nonterminal_name}
-use Rattle.mh_msgfile.specs.Sentences.{Text, vocabulary_of, token_names, start_names, start_name as name_of_start, number_of, put_first, fields, has_items, runs, pieces, is_blank, Tokens, tokens_of, IsSentence, sole, colon_place, sentence_from, sentence_in}
+use Rattle.mh_grammar.specs.Text.{Text}
+use Rattle.mh_msgfile.specs.Sentences.{vocabulary_of, token_names, start_names, start_name as name_of_start, number_of, put_first, fields, has_items, runs, pieces, is_blank, Tokens, tokens_of, IsSentence, sole, colon_place, sentence_from, sentence_in}
 use Rattle.bstr.specs.Text.{no_cr}
 use Rattle.mh_msgfile.specs.Messages.{HasNoEnd, is_taken_out}
 use Rattle.mh_msgfile.specs.Printed.{names_after, sentence_text, HasNames}

@@ -6,7 +6,7 @@ use Rattle.std.proofs.lemmas.List.{length-take-le, take_all}
 use Rattle.std.proofs.Math.Seq.{take-suc}
 use Rattle.std.proofs.lemmas.Bool.Decides.{nat_tests}
 use Rattle.bstr.specs.Text.{no_cr}
-use Rattle.mh_msgfile.specs.Sentences.{Text}
+use Rattle.mh_grammar.specs.Text.{Text}
 use Rattle.mh_msgfile.specs.Messages.{HasNoEnd, AreLines, NoLine, LastLine, EndedLine}
 use Rattle.mh_msgfile.proofs.Canonical.{and_left, and_right}
 

@@ -7,7 +7,8 @@ use Rattle.mh_lex.specs.Words.{is_word}
 use Rattle.mh_grammar.specs.declared.types.Sentence.{Sentence}
 use Rattle.mh_grammar.specs.declared.types.Grammar.{Grammar}
 use Rattle.mh_grammar.specs.Plain.{plain_of}
-use Rattle.mh_msgfile.specs.Sentences.{Text, Vocabulary, vocabulary_of, is_blank, put_first, fields, has_items, runs, pieces, TokensFound, Tokens, Unknown, StartFound, StartIs, NoSuchStart, NoStart, LineFound, IsSentence, IsUnreadable, NamesNoStart, LacksStart, NamesUnknown, put_token, tokens_of, start_by, with_start, sole, colon_place, sentence_from, sentence_behind, sentence_in}
+use Rattle.mh_grammar.specs.Text.{Text}
+use Rattle.mh_msgfile.specs.Sentences.{Vocabulary, vocabulary_of, is_blank, put_first, fields, has_items, runs, pieces, TokensFound, Tokens, Unknown, StartFound, StartIs, NoSuchStart, NoStart, LineFound, IsSentence, IsUnreadable, NamesNoStart, LacksStart, NamesUnknown, put_token, tokens_of, start_by, with_start, sole, colon_place, sentence_from, sentence_behind, sentence_in}
 use Rattle.mh_msgfile.specs.Messages.{AreLines, NoLine, LastLine, EndedLine, line_at, sentence_at, sentences_of, entries_in, blocks, MsgSpells, IsOf, AreOf}
 use Rattle.mh_msgfile.specs.declared.messages.MsgSentence.{MsgSentence}
 use Rattle.mh_msgfile.specs.declared.messages.Entry.{Entry}

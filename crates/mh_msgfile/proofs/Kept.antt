@@ -1,6 +1,6 @@
 -- The numbers of the lines that are kept, one after another.
 use Rattle.std.proofs.Common.{◌≡◌, ◌+◌, ◌-◌, ◌<◌, ◌≤◌, ℕ, suc, Bool, true, false, List, [], ◌∷◌, ◌++◌, filter, length, refl, sym, ap, ◌∙◌, arith, append_assoc, append-nil}
-use Rattle.mh_msgfile.specs.Sentences.{Text}
+use Rattle.mh_grammar.specs.Text.{Text}
 use Rattle.mh_msgfile.specs.Messages.{numbers_from, is_kept, kept_lines}
 
 numbers_step : (n p : ℕ) → p < n → numbers_from (p + 1) (n - p) ≡ (p + 1) ∷ numbers_from (p + 1 + 1) (n - (p + 1))

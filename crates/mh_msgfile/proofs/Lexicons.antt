@@ -9,7 +9,7 @@ use Rattle.std.specs.List.{position_from, All}
 use Rattle.std.specs.Map.{lookup}
 use Rattle.std.specs.Str.{bytes_eq}
 use Rattle.std.specs.declared.alloc.Global.{Global}
-use Rattle.mh_msgfile.specs.Sentences.{Text}
+use Rattle.mh_grammar.specs.Text.{Text}
 
 position_on : (t : Text → Bool) (i : ℕ) (x : Text) (xs : List Text) (y : Text) (c : Bool) → t x ≡ c → position_from t (i + 1) (xs ++ y ∷ []) ≡ or_else (position_from t (i + 1) xs) (if t y then Some (i + 1 + length xs) else None)
     → position_from t i ((x ∷ xs) ++ y ∷ []) ≡ or_else (position_from t i (x ∷ xs)) (if t y then Some (i + length (x ∷ xs)) else None)

@@ -8,7 +8,8 @@ use Rattle.mh_lex.specs.Bytes.{is_word_byte}
 use Rattle.mh_lex.specs.Words.{is_word}
 use Rattle.mh_grammar.specs.declared.types.Grammar.{Grammar}
 use Rattle.mh_grammar.specs.Names.{start_name, token_name}
-use Rattle.mh_msgfile.specs.Sentences.{Text, vocabulary_of, is_blank, pieces, sole, colon_place, sentence_from, sentence_in, IsSentence}
+use Rattle.mh_grammar.specs.Text.{Text}
+use Rattle.mh_msgfile.specs.Sentences.{vocabulary_of, is_blank, pieces, sole, colon_place, sentence_from, sentence_in, IsSentence}
 use Rattle.mh_msgfile.specs.Printed.{HasNames}
 use Rattle.mh_msgfile.specs.Spaced as spaced
 use Rattle.mh_msgfile.specs.Spaced.{Spaced, IsLineOf}

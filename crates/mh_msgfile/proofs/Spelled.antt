@@ -2,7 +2,8 @@
 use Rattle.std.proofs.Common.{◌≡◌, ◌⊎◌, List, [], ◌∷◌, map, refl, sym, ◌∙◌, ap, inl, inr}
 use Rattle.bstr.specs.Text.{lines_of, without_terminator}
 use Rattle.mh_grammar.specs.declared.types.Grammar.{Grammar}
-use Rattle.mh_msgfile.specs.Sentences.{Text, vocabulary_of}
+use Rattle.mh_grammar.specs.Text.{Text}
+use Rattle.mh_msgfile.specs.Sentences.{vocabulary_of}
 use Rattle.mh_msgfile.specs.Messages.{FaultFound, faults_in, entries_in, blocks, MsgSpells, HasFault}
 use Rattle.mh_msgfile.specs.declared.messages.MsgFile.{MsgFile}
 use Rattle.mh_msgfile.proofs.Lines.{lines_once, are_lines}

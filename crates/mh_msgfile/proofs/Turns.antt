@@ -2,7 +2,8 @@
 use Rattle.std.proofs.Common.{◌≡◌, ◌<◌, ℕ, suc, List, [], ◌∷◌, ◌++◌, length, drop, get_or, sym, ap, ◌∙◌}
 use Rattle.std.specs.Prelude.{Ok, Err}
 use Rattle.mh_grammar.specs.declared.types.Grammar.{Grammar}
-use Rattle.mh_msgfile.specs.Sentences.{Text, Vocabulary, vocabulary_of, sentence_in}
+use Rattle.mh_grammar.specs.Text.{Text}
+use Rattle.mh_msgfile.specs.Sentences.{Vocabulary, vocabulary_of, sentence_in}
 use Rattle.mh_msgfile.specs.Messages.{AreLines, line_at, FaultFound, fault_at, faults_of, faults_in, entries_in, blocks, MsgSpells, HasFault, Tells, Begins, ReadsEntries, TellsLine}
 use Rattle.mh_msgfile.specs.declared.messages.Entry.{Entry}
 use Rattle.mh_msgfile.specs.declared.messages.MsgFault.{MsgFault}

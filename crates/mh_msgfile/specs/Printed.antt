@@ -4,7 +4,7 @@ use Rattle.std.specs.List.{Contains}
 use Rattle.mh_lex.specs.Words.{is_word}
 use Rattle.mh_grammar.specs.declared.types.Grammar.{Grammar}
 use Rattle.mh_grammar.specs.Names.{start_name, token_name}
-use Rattle.mh_msgfile.specs.Sentences.{Text}
+use Rattle.mh_grammar.specs.Text.{Text}
 use Rattle.mh_msgfile.specs.declared.messages.MsgSentence.{MsgSentence}
 use Rattle.mh_msgfile.specs.declared.messages.Entry.{Entry}
 use Rattle.mh_msgfile.specs.declared.messages.MsgFile.{MsgFile}

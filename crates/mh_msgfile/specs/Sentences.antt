@@ -15,9 +15,7 @@ use Rattle.mh_msgfile.specs.declared.sentence.Pieces.{Pieces}
 use Rattle.mh_msgfile.specs.declared.sentence.Pieces.TheVariants.{NotNames, NotKnown, Known}
 use Rattle.mh_msgfile.specs.declared.sentence.SentenceFault.{SentenceFault}
 use Rattle.mh_msgfile.specs.declared.sentence.SentenceFault.TheVariants as faults
-
-abbrev pub Text : Type 0
-Text = List ℕ
+use Rattle.mh_grammar.specs.Text.{Text}
 
 -- ---- names
 

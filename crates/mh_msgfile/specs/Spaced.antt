@@ -2,7 +2,8 @@
 use Rattle.std.specs.Prelude.{◌≡◌, ℕ, true, List, [], ◌∷◌, ◌++◌, map}
 use Rattle.mh_grammar.specs.declared.types.Grammar.{Grammar}
 use Rattle.mh_grammar.specs.Names.{start_name, token_name}
-use Rattle.mh_msgfile.specs.Sentences.{Text, is_blank}
+use Rattle.mh_grammar.specs.Text.{Text}
+use Rattle.mh_msgfile.specs.Sentences.{is_blank}
 
 -- Names in a text, in their order: a blank stands between each two of them, and blanks stand before, between and behind as one likes.
 pub data Spaced : List Text → Text → Type 0 where

@@ -1,7 +1,7 @@
 //! The numbers that the names of a grammar's starts and tokens stand for.
 ghost use Rattle.std.specs.Prelude.{◌≡◌, ◌≤◌, length, map, IfOk, OnOk};
 ghost use Rattle.mh_grammar.specs.Plain.{plain_of, IsInRange};
-ghost use Rattle.mh_grammar.specs.declared.range.TheConstants.{MAX_NUMBERED};
+ghost use Rattle.mh_grammar.specs.declared.types.TheConstants.{MAX_NUMBERED};
 ghost use Rattle.mh_msgfile.specs.Sentences.{AreNumbers, PutsName, start_names, only_one, vocabulary_of, vocabulary_in};
 
 use indexmap::IndexMap;

@@ -4,7 +4,8 @@ use Rattle.std.specs.Prelude.{◌&&◌, ◌||◌, ◌==◌, not}
 use Rattle.std.specs.HashMap.{HashMap}
 use Rattle.indexmap.specs.IndexMap.{get}
 use Rattle.mh_meanings.specs.declared.names.Definers.{Definers}
-use Rattle.mh_meanings.specs.Names.{Text, same}
+use Rattle.mh_grammar.specs.Text.{Text}
+use Rattle.mh_meanings.specs.Names.{same}
 use Rattle.mh_meanings.specs.Definers.{elsewhere_by, Defines}
 use Rattle.mh_grammar.proofs.SameText.{same_cases, same_self}
 

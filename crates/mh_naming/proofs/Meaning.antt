@@ -10,7 +10,8 @@ use Rattle.mh_rules.specs.declared.modules.Rule.{Rule}
 use Rattle.mh_rules.specs.declared.modules.Module.{Module}
 use Rattle.mh_meanings.specs.declared.names.Names.{Names}
 use Rattle.mh_meanings.specs.Prelude.{prelude_rules}
-use Rattle.mh_meanings.specs.Names.{Text, same, files, token_names, token_number, aliased, levels_in, level_of, cost_of, is_elsewhere, start_names, definitions_from, definitions_in, library_definitions, outline_of, owner_in, is_rule, same_rule, firsts, rules, rule_number}
+use Rattle.mh_grammar.specs.Text.{Text}
+use Rattle.mh_meanings.specs.Names.{same, files, token_names, token_number, aliased, levels_in, level_of, cost_of, is_elsewhere, start_names, definitions_from, definitions_in, library_definitions, outline_of, owner_in, is_rule, same_rule, firsts, rules, rule_number}
 use Rattle.mh_meanings.specs.Faults.{kind_of}
 use Rattle.mh_meanings.specs.Definers.{elsewhere_by}
 use Rattle.mh_meanings.specs.Numbering.{outline_by, outlines_in, outlines_of, number_in, IsNumbered}

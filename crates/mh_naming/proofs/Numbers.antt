@@ -15,7 +15,8 @@ use Rattle.std.proofs.lemmas.Iterator.Adapters.{position_from-zero}
 use Rattle.mh_grammar.proofs.Lists.{taken}
 use Rattle.mh_meanings.specs.declared.outlines.Outline.{Outline}
 use Rattle.mh_meanings.specs.declared.numbering.Numbering.{Numbering}
-use Rattle.mh_meanings.specs.Names.{Text, same, same_owner, is_rule, same_rule}
+use Rattle.mh_grammar.specs.Text.{Text}
+use Rattle.mh_meanings.specs.Names.{same, same_owner, is_rule, same_rule}
 use Rattle.mh_meanings.specs.Numbering.{number_in, IsNumbered, IsOwner, AddsNumber, Numbers}
 use Rattle.mh_meanings.proofs.Lists.{position-push, enumerate-push, length-take_in}
 

@@ -2,7 +2,8 @@
 ghost use Rattle.std.specs.Prelude.{◌≡◌, IfOk, OnOk};
 ghost use Rattle.std.specs.List.{flat_map};
 ghost use Rattle.indexmap.specs.IndexMap.{get};
-ghost use Rattle.mh_meanings.specs.Names.{Text, same, cost_of, given_cost};
+ghost use Rattle.mh_grammar.specs.Text.{Text};
+ghost use Rattle.mh_meanings.specs.Names.{same, cost_of, given_cost};
 ghost use Rattle.mh_meanings.specs.Puts.{Puts};
 
 use indexmap::IndexMap;

@@ -2,7 +2,8 @@
 ghost use Rattle.std.specs.Prelude.{◌≡◌, ◌==◌, ◌&&◌, ◌||◌, ℕ, not, IfOk, OnOk};
 ghost use Rattle.std.specs.List.{list_any};
 ghost use Rattle.indexmap.specs.IndexMap.{get};
-ghost use Rattle.mh_meanings.specs.Names.{Text, same, is_elsewhere};
+ghost use Rattle.mh_grammar.specs.Text.{Text};
+ghost use Rattle.mh_meanings.specs.Names.{same, is_elsewhere};
 ghost use Rattle.mh_meanings.specs.Definers.{elsewhere_by, Defines};
 
 use indexmap::IndexMap;

@@ -4,7 +4,8 @@ ghost use Rattle.std.specs.List.{flat_map, enumerate_from};
 ghost use Rattle.std.specs.Map.{lookup};
 ghost use Rattle.indexmap.specs.IndexMap.{get};
 ghost use Rattle.mh_meanings.specs.Names as spec;
-ghost use Rattle.mh_meanings.specs.Names.{Text, same, with_level, levels_by, levels_in};
+ghost use Rattle.mh_grammar.specs.Text.{Text};
+ghost use Rattle.mh_meanings.specs.Names.{same, with_level, levels_by, levels_in};
 ghost use Rattle.mh_meanings.specs.Puts.{Puts};
 
 use indexmap::IndexMap;

@@ -3,13 +3,13 @@ use Rattle.std.proofs.Common.{◌↔◌, ◌^◌, ◌<◌, ℕ, List, [], length
 use Rattle.mh_grammar.specs.declared.types.Symbol.{Symbol}
 use Rattle.mh_grammar.specs.Plain.{PlainGrammar}
 use Rattle.mh_grammar.specs.ItemSets.{ItemSet, Reach}
-use Rattle.mh_items.specs.Shapes.{Automaton}
-use Rattle.mh_items.specs.Automaton.{kernel_at, kernel_of}
-use Rattle.mh_canon.specs.Canonical.{HasItem, IsCanonical}
-use Rattle.mh_canon.proofs.Sets.{close_has}
-use Rattle.mh_items.specs.Conflicts.{HasConflict, shift_reduce, reduce_reduce, shift, reduce, HasEither}
+use Rattle.mh_kernels.specs.Shapes.{Automaton}
+use Rattle.mh_kernels.specs.Automaton.{kernel_at, kernel_of}
+use Rattle.mh_knuth.specs.Canonical.{HasItem, IsCanonical}
+use Rattle.mh_knuth.proofs.Sets.{close_has}
+use Rattle.mh_kernels.specs.Conflicts.{HasConflict, shift_reduce, reduce_reduce, shift, reduce, HasEither}
 use Rattle.mh_pager.specs.Steps.{IsMerged}
-use Rattle.mh_items.specs.Conflicts.{IsConflicting, IsFaulty}
+use Rattle.mh_kernels.specs.Conflicts.{IsConflicting, IsFaulty}
 use Rattle.mh_pager.specs.Paths.{CoversPaths}
 use Rattle.mh_pager.proofs.Covering.{covers_paths}
 use Rattle.mh_pager.proofs.Leaving.{old_number, IsAutomaton-merged}

@@ -5,8 +5,8 @@ use Rattle.std.proofs.lemmas.Bool.{cases_eq}
 use Rattle.std.proofs.lemmas.Option.{slice_get_read, slice_get-get_or, slice_get_within}
 use Rattle.mh_grammar.specs.Plain.{PlainGrammar}
 use Rattle.mh_grammar.proofs.Lists.{contains_at}
-use Rattle.mh_items.specs.Shapes.{Kernel}
-use Rattle.mh_items.specs.Kernels.{Holds, IsKernel}
+use Rattle.mh_kernels.specs.Shapes.{Kernel}
+use Rattle.mh_kernels.specs.Kernels.{Holds, IsItemList}
 use Rattle.mh_pager.specs.Weak.{OneCore}
 use Rattle.mh_pager.specs.Indexed.{AreCandidates}
 use Rattle.mh_pager.specs.Steps.{IsFirst, HasNone}
@@ -22,8 +22,8 @@ pub record Search : Type 0 where
   pub kernels : List Kernel
   pub move : Kernel
   pub states : List ℕ
-  pub each : (n : ℕ) (k : Kernel) → slice_get kernels n ≡ Some k → IsKernel g k
-  pub valid : IsKernel g move
+  pub each : (n : ℕ) (k : Kernel) → slice_get kernels n ≡ Some k → IsItemList g k
+  pub valid : IsItemList g move
   pub candidates : AreCandidates kernels move states
 
 abbrev pub number_at : Search → ℕ → ℕ
@@ -33,7 +33,7 @@ number_at s i = get_or s.states i 0
 pub record Seen (s : Search) (i : ℕ) (k : Kernel) : Type 0 where
   pub here : slice_get s.states i ≡ Some (number_at s i)
   pub at : slice_get s.kernels (number_at s i) ≡ Some k
-  pub valid : IsKernel s.g k
+  pub valid : IsItemList s.g k
   pub core : OneCore (Holds k) (Holds s.move)
 
 module _ (s : Search) where

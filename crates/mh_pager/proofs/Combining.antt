@@ -2,8 +2,8 @@
 use Rattle.std.proofs.Common.{◌≡◌, ◌<◌, ℕ, [], ◌∷◌, ◌++◌, Some, Result, Ok, Err, IfOk, length, refl, sym, ◌∙◌, arith, inl, inr}
 use Rattle.std.proofs.lemmas.List.{length_push}
 use Rattle.mh_grammar.specs.Plain.{PlainGrammar}
-use Rattle.mh_items.specs.Shapes.{Kernel}
-use Rattle.mh_items.specs.Kernels.{Holds}
+use Rattle.mh_kernels.specs.Shapes.{Kernel}
+use Rattle.mh_kernels.specs.Kernels.{Holds}
 use Rattle.mh_pager.specs.Weak.{IsJoin}
 use Rattle.mh_pager.specs.Listing.{TakesIn, AppendsIn}
 use Rattle.mh_pager.specs.Steps.{Work, Keeps, Takes, IsFirst, HasNone, Puts}

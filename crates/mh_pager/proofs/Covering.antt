@@ -2,9 +2,9 @@
 use Rattle.std.proofs.Common.{[], ◌∷◌, refl, arith}
 use Rattle.mh_grammar.specs.Plain.{PlainGrammar}
 use Rattle.mh_grammar.specs.ItemSets.{Close, Reach}
-use Rattle.mh_items.specs.Shapes.{Automaton}
-use Rattle.mh_items.specs.Automaton.{kernel_of, move_of, IsAutomaton}
-use Rattle.mh_canon.proofs.Sets.{moved_within, close_within, reach_has, start_holds}
+use Rattle.mh_kernels.specs.Shapes.{Automaton}
+use Rattle.mh_kernels.specs.Automaton.{kernel_of, move_of, IsAutomaton}
+use Rattle.mh_knuth.proofs.Sets.{moved_within, close_within, reach_has, start_holds}
 use Rattle.mh_pager.specs.Weak.{Covers}
 use Rattle.mh_pager.specs.Paths.{CoversPaths}
 

@@ -7,12 +7,12 @@ use Rattle.std.proofs.lemmas.Option.{slice_get_within}
 use Rattle.mh_grammar.specs.declared.types.Symbol.{Symbol}
 use Rattle.mh_grammar.specs.Plain.{PlainGrammar}
 use Rattle.mh_grammar.proofs.Lists.{contains_none, has_place, zip_length}
-use Rattle.mh_items.specs.Shapes.{Kernel}
-use Rattle.mh_items.specs.Shapes.{Automaton}
-use Rattle.mh_items.specs.Automaton.{start_kernel, IsAutomaton}
-use Rattle.mh_canon.specs.Canonical.{targets_of, IsCanonical}
-use Rattle.mh_canon.specs.declared.collection.TheConstants.{MAX_STATES}
-use Rattle.mh_items.specs.Conflicts.{IsConflicting, IsFaulty}
+use Rattle.mh_kernels.specs.Shapes.{Kernel}
+use Rattle.mh_kernels.specs.Shapes.{Automaton}
+use Rattle.mh_kernels.specs.Automaton.{start_kernel, IsAutomaton}
+use Rattle.mh_knuth.specs.Canonical.{targets_of, IsCanonical}
+use Rattle.mh_knuth.specs.declared.limits.TheConstants.{MAX_STATES}
+use Rattle.mh_kernels.specs.Conflicts.{IsConflicting, IsFaulty}
 use Rattle.mh_pager.specs.Paths.{CoversPaths}
 use Rattle.mh_pager.specs.Numbered.{AreBelow, AreReached, AreClosed}
 use Rattle.mh_pager.specs.Steps.{Work, symbols_of, IsList, IsMerged, IsSwollen}

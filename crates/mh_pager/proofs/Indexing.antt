@@ -10,8 +10,8 @@ use Rattle.mh_grammar.specs.Plain.{PlainGrammar}
 use Rattle.mh_grammar.proofs.Lists.{get_left, get_last, get_cases, at_contains, contains_here, contains_none, contains_push, has_place, set_here, set_elsewhere, set_cases, rising_at}
 use Rattle.mh_grammar.proofs.Placing.{AreDistinct-push}
 use Rattle.mh_grammar.specs.Placed.{Placed}
-use Rattle.mh_items.specs.Shapes.{Kernel}
-use Rattle.mh_items.specs.Kernels.{Holds, IsKernel}
+use Rattle.mh_kernels.specs.Shapes.{Kernel}
+use Rattle.mh_kernels.specs.Kernels.{Holds, IsItemList}
 use Rattle.mh_pager.specs.Weak.{OneCore, IsJoin}
 use Rattle.mh_pager.proofs.Putting.{join_extends}
 use Rattle.mh_pager.specs.Indexed.{core_of, IsBefore, AreCandidates, IsGroup, IsIndexed}
@@ -23,18 +23,18 @@ use Rattle.mh_pager.proofs.Paired.{bare_paired, lists_same, paired_core}
 pub core_paired_with : (k m : Kernel) → core_of k ≡ core_of m → ArePaired k.items m.items
 core_paired_with k m e = bare_paired k.items m.items (ap (λ (c : Kernel). c.items) e)
 
-pub one_core : (g : PlainGrammar) (k m : Kernel) → IsKernel g k → IsKernel g m → core_of k ≡ core_of m → OneCore (Holds k) (Holds m)
+pub one_core : (g : PlainGrammar) (k m : Kernel) → IsItemList g k → IsItemList g m → core_of k ≡ core_of m → OneCore (Holds k) (Holds m)
 one_core g k m of_k of_m e = paired_core g k m of_k of_m (core_paired_with k m e)
 
 -- kernels of one core have one list of places
-pub core_same : (g : PlainGrammar) (k m : Kernel) → IsKernel g k → IsKernel g m → OneCore (Holds k) (Holds m) → core_of k ≡ core_of m
+pub core_same : (g : PlainGrammar) (k m : Kernel) → IsItemList g k → IsItemList g m → OneCore (Holds k) (Holds m) → core_of k ≡ core_of m
 core_same g k m of_k of_m core = let same = lists_same g k m of_k of_m core in λ i. record { items = same i }
 
 -- a join has the core of what is joined
-pub joined_core : (g : PlainGrammar) (k move joined : Kernel) → IsKernel g k → IsKernel g joined → OneCore (Holds k) (Holds move) → IsJoin (Holds k) (Holds move) (Holds joined) → core_of joined ≡ core_of k
+pub joined_core : (g : PlainGrammar) (k move joined : Kernel) → IsItemList g k → IsItemList g joined → OneCore (Holds k) (Holds move) → IsJoin (Holds k) (Holds move) (Holds joined) → core_of joined ≡ core_of k
 joined_core g k move joined of_k of_joined core join = sym (core_same g k joined of_k of_joined (join_extends (Holds k) (Holds move) (Holds joined) core join).0.0)
 
-module _ (g : PlainGrammar) (kernels : List Kernel) (move : Kernel) (candidates : List ℕ) (valid : (n : ℕ) (k : Kernel) → slice_get kernels n ≡ Some k → IsKernel g k) (of_move : IsKernel g move) (c : AreCandidates kernels move candidates)
+module _ (g : PlainGrammar) (kernels : List Kernel) (move : Kernel) (candidates : List ℕ) (valid : (n : ℕ) (k : Kernel) → slice_get kernels n ≡ Some k → IsItemList g k) (of_move : IsItemList g move) (c : AreCandidates kernels move candidates)
     (P : Kernel → Type 0) (one : (k : Kernel) → P k → OneCore (Holds k) (Holds move)) where
   place : (n : ℕ) (k : Kernel) → slice_get kernels n ≡ Some k → P k → (i : ℕ) × (slice_get candidates i ≡ Some n)
   place n k at p = at_contains candidates n (c.all n k at (core_same g k move (valid n k at) of_move (one k p)))

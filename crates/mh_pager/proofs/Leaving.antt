@@ -11,14 +11,14 @@ use Rattle.mh_grammar.specs.Plain.{PlainGrammar}
 use Rattle.mh_grammar.specs.Numbering.{Names}
 use Rattle.mh_grammar.proofs.Lists.{contains_none, zip_left, zip_right, zip_length}
 use Rattle.mh_grammar.proofs.OneNumbering.{take_place}
-use Rattle.mh_items.specs.Shapes.{Kernel}
-use Rattle.mh_items.specs.Shapes.{Automaton}
-use Rattle.mh_items.specs.Kernels.{HasPlace}
-use Rattle.mh_items.specs.Automaton.{kernel_at, edges_at, leads_to, start_kernel, Moves, IsTarget, IsAutomaton}
-use Rattle.mh_canon.specs.Canonical.{targets_of}
-use Rattle.mh_canon.proofs.Edging.{rising_edges, found_edge}
-use Rattle.mh_canon.proofs.Finished.{kernel_get, kernel_got, edges_get, items_within, edges_within}
-use Rattle.mh_canon.proofs.Sets.{place_holds}
+use Rattle.mh_kernels.specs.Shapes.{Kernel}
+use Rattle.mh_kernels.specs.Shapes.{Automaton}
+use Rattle.mh_kernels.specs.Kernels.{HasPlace}
+use Rattle.mh_kernels.specs.Automaton.{kernel_at, edges_at, leads_to, start_kernel, Moves, IsTarget, IsAutomaton}
+use Rattle.mh_knuth.specs.Canonical.{targets_of}
+use Rattle.mh_knuth.proofs.Edging.{rising_edges, found_edge}
+use Rattle.mh_knuth.proofs.Finished.{kernel_get, kernel_got, edges_get, items_within, edges_within}
+use Rattle.mh_knuth.proofs.Sets.{place_holds}
 use Rattle.mh_pager.specs.Steps.{symbols_of, IsMerged, IsOnSymbolsOf, start_numbers}
 use Rattle.mh_pager.proofs.Renaming.{renamed_to, renamed_from}
 use Rattle.mh_pager.proofs.Settling.{IsRowFor, IsSettled, found_target}

@@ -7,9 +7,9 @@ use Rattle.std.proofs.lemmas.List.Elements.{All-from_recursion}
 use Rattle.std.proofs.lemmas.Option.{slice_get_within}
 use Rattle.mh_grammar.proofs.Lists.{zip_length}
 use Rattle.mh_grammar.specs.Plain.{PlainGrammar, IsInRange}
-use Rattle.mh_items.specs.Shapes.{Kernel, Automaton}
-use Rattle.mh_items.specs.Collection.{targets_of}
-use Rattle.mh_canon.specs.declared.collection.TheConstants.{MAX_STATES}
+use Rattle.mh_kernels.specs.Shapes.{Kernel, Automaton}
+use Rattle.mh_kernels.specs.Collection.{targets_of}
+use Rattle.mh_knuth.specs.declared.limits.TheConstants.{MAX_STATES}
 use Rattle.mh_pager.specs.Numbered.{AreBelow}
 use Rattle.mh_pager.specs.Steps.{Work, Steps, none, more, symbols_of, IsBegun, IsMerged, IsSwollen}
 use Rattle.mh_pager.proofs.Reaching.{below_few}

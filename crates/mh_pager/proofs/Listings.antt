@@ -8,9 +8,9 @@ use Rattle.std.proofs.lemmas.Option.{slice_get_within}
 use Rattle.mh_grammar.specs.declared.edges.Edge.{Edge}
 use Rattle.mh_grammar.specs.Plain.{PlainGrammar, IsInRange}
 use Rattle.mh_grammar.proofs.Lists.{get_left, get_last, at_contains}
-use Rattle.mh_items.specs.Shapes.{Kernel}
-use Rattle.mh_items.specs.Automaton.{start_kernel}
-use Rattle.mh_canon.specs.declared.collection.TheConstants.{MAX_STATES}
+use Rattle.mh_kernels.specs.Shapes.{Kernel}
+use Rattle.mh_kernels.specs.Automaton.{start_kernel}
+use Rattle.mh_knuth.specs.declared.limits.TheConstants.{MAX_STATES}
 use Rattle.mh_pager.specs.Steps.{Work, IsStep, Steps, none, more, IsBegun, AreBegun, IsList, IsReady, Overruns, IsSwollen, start_numbers}
 use Rattle.mh_pager.proofs.Readying.{step_ready}
 use Rattle.mh_pager.proofs.Sound.{begun_running, start_numbers_at}

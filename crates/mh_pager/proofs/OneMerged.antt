@@ -6,10 +6,10 @@ use Rattle.mh_grammar.specs.Plain.{PlainGrammar}
 use Rattle.mh_grammar.specs.Numbering.{IsNumbering}
 use Rattle.mh_grammar.proofs.Lists.{same_at, zip_one}
 use Rattle.mh_grammar.proofs.OneNumbering.{one_numbering}
-use Rattle.mh_items.specs.Shapes.{Automaton}
-use Rattle.mh_canon.specs.Canonical.{targets_of}
+use Rattle.mh_kernels.specs.Shapes.{Automaton}
+use Rattle.mh_knuth.specs.Canonical.{targets_of}
 use Rattle.mh_pager.specs.Steps.{Work, symbols_of, Steps, Leads, IsOnSymbolsOf, IsMerged, start_numbers}
-use Rattle.mh_canon.proofs.Only.{edges_same}
+use Rattle.mh_knuth.proofs.Only.{edges_same}
 use Rattle.mh_pager.proofs.Only.{begun_one, end_one}
 
 leads_one : (rows : List (List Edge)) (n : ℕ) (a b : List ℕ) → Leads rows n a → Leads rows n b → a ≡ b

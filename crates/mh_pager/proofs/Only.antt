@@ -10,12 +10,12 @@ use Rattle.mh_grammar.specs.Plain.{PlainGrammar}
 use Rattle.mh_grammar.specs.Edges.{IsSymbolBefore}
 use Rattle.mh_grammar.specs.ItemSets.{ItemSet, Close, Moved}
 use Rattle.mh_grammar.proofs.OneNumbering.{same_places}
-use Rattle.mh_items.specs.Shapes.{Kernel}
-use Rattle.mh_items.specs.Kernels.{Holds, IsKernel}
-use Rattle.mh_items.proofs.OneList.{kernel_same}
-use Rattle.mh_canon.proofs.Only.{edges_same}
-use Rattle.mh_canon.specs.Canonical.{targets_of}
-use Rattle.mh_canon.proofs.Sets.{same_sym, same_trans}
+use Rattle.mh_kernels.specs.Shapes.{Kernel}
+use Rattle.mh_kernels.specs.Kernels.{Holds, IsItemList}
+use Rattle.mh_kernels.proofs.OneList.{kernel_same}
+use Rattle.mh_knuth.proofs.Only.{edges_same}
+use Rattle.mh_knuth.specs.Canonical.{targets_of}
+use Rattle.mh_knuth.proofs.Sets.{same_sym, same_trans}
 use Rattle.mh_pager.specs.Weak.{IsJoin}
 use Rattle.mh_pager.specs.Steps.{Work, Keeps, Takes, IsFirst, Queues, Puts, IsMoveOf, AllPut, AreMoving, symbols_of, IsStep, Steps, none, more, IsBegun, Overruns, IsSwollen}
 
@@ -41,7 +41,7 @@ queues_one old new other n (inl q) (inr r) = absurd (r.0 q.0)
 queues_one old new other n (inr q) (inl r) = absurd (q.0 r.0)
 queues_one old new other n (inr q) (inr r) = q.1 ∙ sym r.1
 
-join_one : (g : PlainGrammar) (A B : ItemSet) (j k : Kernel) → IsKernel g j → IsKernel g k → IsJoin A B (Holds j) → IsJoin A B (Holds k) → j ≡ k
+join_one : (g : PlainGrammar) (A B : ItemSet) (j k : Kernel) → IsItemList g j → IsItemList g k → IsJoin A B (Holds j) → IsJoin A B (Holds k) → j ≡ k
 join_one g A B j k valid_j valid_k a b = kernel_same g j k valid_j valid_k (λ p d x. ((λ h. (b p d x).1 ((a p d x).0 h)), (λ h. (a p d x).1 ((b p d x).0 h))))
 
 module _ (g : PlainGrammar) where

@@ -8,10 +8,10 @@ use Rattle.mh_grammar.specs.declared.types.Look.{Look}
 use Rattle.mh_grammar.specs.Plain.{PlainGrammar}
 use Rattle.mh_grammar.specs.Edges.{IsRising}
 use Rattle.mh_grammar.proofs.Lists.{contains_at, at_contains, recursion_at, rising_at, contains_here, rising_same, has_place}
-use Rattle.mh_items.specs.Shapes.{KernelItem}
-use Rattle.mh_items.specs.Shapes.{Kernel}
-use Rattle.mh_items.specs.Kernels.{Holds, IsKernelItem, IsKernel, IsItemBefore}
-use Rattle.mh_items.proofs.OneList.{place_never, item_never}
+use Rattle.mh_kernels.specs.Shapes.{KernelItem}
+use Rattle.mh_kernels.specs.Shapes.{Kernel}
+use Rattle.mh_kernels.specs.Kernels.{Holds, IsKernelItem, IsItemList, IsItemBefore}
+use Rattle.mh_kernels.proofs.OneList.{place_never, item_never}
 use Rattle.mh_pager.specs.Weak.{HasPair, OneCore, Covers, Meet, AreCompatible}
 use Rattle.mh_pager.specs.Indexed.{bare}
 use Rattle.mh_pager.specs.Kernels.{ArePaired, AreWithin, Common, Fit, AllFit}
@@ -31,7 +31,7 @@ pub holding : (k : Kernel) (p d i : ℕ) (x : KernelItem) (a : Look) → IsItem 
 holding k p d i x a is c = (x, contains_at k.items i x is.at, is.production, is.dot, c)
 
 -- a place stands once
-pub item_one : (g : PlainGrammar) (k : Kernel) → IsKernel g k → (p d i j : ℕ) (x y : KernelItem) → IsItem k p d i x → IsItem k p d j y → (i ≡ j) × (x ≡ y)
+pub item_one : (g : PlainGrammar) (k : Kernel) → IsItemList g k → (p d i j : ℕ) (x y : KernelItem) → IsItem k p d i x → IsItem k p d j y → (i ≡ j) × (x ≡ y)
 item_one g k is p d i j x y a b = (place, same)
   where
     never : (m n : ℕ) (u v : KernelItem) → m < n → IsItem k p d m u → IsItem k p d n v → ⊥
@@ -50,7 +50,7 @@ some_look : (looks : List Look) → 0 < length looks → (a : Look) × Contains 
 some_look [] l = absurd (omega arith)
 some_look (a ∷ looks) l = (a, contains_here a looks)
 
-pub item_pair : (g : PlainGrammar) (k : Kernel) → IsKernel g k → (p d i : ℕ) (x : KernelItem) → IsItem k p d i x → HasPair (Holds k) p d
+pub item_pair : (g : PlainGrammar) (k : Kernel) → IsItemList g k → (p d i : ℕ) (x : KernelItem) → IsItem k p d i x → HasPair (Holds k) p d
 item_pair g k is p d i x item =
     let valid = recursion_at (IsKernelItem g) k.items is.items i x item.at in
     let a = some_look x.looks valid.some in
@@ -81,7 +81,7 @@ find (x ∷ xs) p d = elim (cases_eq x.production p) [
   | inr s ↦ found_later x xs p d (λ u v. s u) (find xs p d)
 ]
 
-module _ (g : PlainGrammar) (k m : Kernel) (of_k : IsKernel g k) (of_m : IsKernel g m) where
+module _ (g : PlainGrammar) (k m : Kernel) (of_k : IsItemList g k) (of_m : IsItemList g m) where
   module _ (paired : ArePaired k.items m.items) where
     -- the item at the same place of the other list
     pub other : (p d i : ℕ) (x : KernelItem) → IsItem k p d i x → (y : KernelItem) × IsItem m p d i y
@@ -122,13 +122,13 @@ module _ (g : PlainGrammar) (k m : Kernel) (of_k : IsKernel g k) (of_m : IsKerne
     common_meet : (p d q e i j : ℕ) (j1 j2 : Kernel) (x y : KernelItem) → IsItem j1 p d i x → IsItem j2 q e j y → Common x.looks y.looks → Meet (Holds j1) p d (Holds j2) q e
     common_meet p d q e i j j1 j2 x y a b c = (c.0, holding j1 p d i x c.0 a c.1, holding j2 q e j y c.0 b c.2)
 
-    look_of : (j1 : Kernel) → IsKernel g j1 → (p d i : ℕ) (x : KernelItem) (a : Look) → IsItem j1 p d i x → Holds j1 p d a → Contains x.looks a
+    look_of : (j1 : Kernel) → IsItemList g j1 → (p d i : ℕ) (x : KernelItem) (a : Look) → IsItem j1 p d i x → Holds j1 p d a → Contains x.looks a
     look_of j1 is p d i x a item h =
         let z = held j1 p d a h in
         let one = item_one g j1 is p d z.0 i z.1 x z.2 item in
         rw one.1 at z.3
 
-    meet_common : (p d q e i j : ℕ) (j1 j2 : Kernel) → IsKernel g j1 → IsKernel g j2 → (x y : KernelItem) → IsItem j1 p d i x → IsItem j2 q e j y → Meet (Holds j1) p d (Holds j2) q e → Common x.looks y.looks
+    meet_common : (p d q e i j : ℕ) (j1 j2 : Kernel) → IsItemList g j1 → IsItemList g j2 → (x y : KernelItem) → IsItem j1 p d i x → IsItem j2 q e j y → Meet (Holds j1) p d (Holds j2) q e → Common x.looks y.looks
     meet_common p d q e i j j1 j2 is1 is2 x y a b m = (m.0, look_of j1 is1 p d i x m.0 a m.1, look_of j2 is2 q e j y m.0 b m.2)
 
     module _ (p d q e i j : ℕ) (a b c f : KernelItem) (at_a : IsItem k p d i a) (at_b : IsItem m p d i b) (at_c : IsItem k q e j c) (at_f : IsItem m q e j f) where
@@ -217,9 +217,9 @@ bare_paired xs ys same = (
       (ap (λ (z : KernelItem). z.production) is, ap (λ (z : KernelItem). z.dot) is),
 )
 
-module _ (g : PlainGrammar) (k m : Kernel) (of_k : IsKernel g k) (of_m : IsKernel g m) (core : OneCore (Holds k) (Holds m)) where
+module _ (g : PlainGrammar) (k m : Kernel) (of_k : IsItemList g k) (of_m : IsItemList g m) (core : OneCore (Holds k) (Holds m)) where
   -- the places of one are those of the other
-  bare_in : (j1 j2 : Kernel) → IsKernel g j1 → ((p d : ℕ) → HasPair (Holds j1) p d → HasPair (Holds j2) p d) → (y : KernelItem) → Contains (map bare j1.items) y → Contains (map bare j2.items) y
+  bare_in : (j1 j2 : Kernel) → IsItemList g j1 → ((p d : ℕ) → HasPair (Holds j1) p d → HasPair (Holds j2) p d) → (y : KernelItem) → Contains (map bare j1.items) y → Contains (map bare j2.items) y
   bare_in j1 j2 is h y c =
       let at = at_contains (map bare j1.items) y c in
       let x = bare_from j1.items at.0 y at.1 in

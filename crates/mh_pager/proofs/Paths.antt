@@ -3,10 +3,10 @@ use Rattle.std.proofs.Common.{◌≡◌, ℕ, List, [], ◌∷◌, ◌++◌, ref
 use Rattle.mh_grammar.specs.declared.types.Symbol.{Symbol}
 use Rattle.mh_grammar.specs.Plain.{PlainGrammar}
 use Rattle.mh_grammar.specs.ItemSets.{ItemSet, Close, Moved, StartItems, Reach}
-use Rattle.mh_canon.proofs.Sets.{moved_within, close_within}
+use Rattle.mh_knuth.proofs.Sets.{moved_within, close_within}
 use Rattle.mh_pager.specs.Weak.{Covers}
-use Rattle.mh_items.specs.Collection.{After}
-use Rattle.mh_items.specs.Conflicts.{ShiftsOn, HasConflict, shift_reduce, reduce_reduce, HasStreamConflict, shift, reduce, HasEither, LeadsTo}
+use Rattle.mh_kernels.specs.Collection.{After}
+use Rattle.mh_kernels.specs.Conflicts.{ShiftsOn, HasConflict, shift_reduce, reduce_reduce, HasStreamConflict, shift, reduce, HasEither, LeadsTo}
 
 pub after_covers : (g : PlainGrammar) (I J : ItemSet) → Covers I J → (path : List Symbol) → Covers (After g I path) (After g J path)
 after_covers g I J h [] = h

@@ -9,8 +9,8 @@ use Rattle.mh_grammar.specs.declared.edges.Edge.{Edge}
 use Rattle.mh_grammar.specs.Plain.{PlainGrammar}
 use Rattle.mh_grammar.specs.ItemSets.{ItemSet, AreSame}
 use Rattle.mh_grammar.proofs.Lists.{get_left, get_last, get_cases, contains_here, set_here, set_elsewhere, set_cases}
-use Rattle.mh_items.specs.Shapes.{Kernel}
-use Rattle.mh_items.specs.Kernels.{Holds, IsKernel}
+use Rattle.mh_kernels.specs.Shapes.{Kernel}
+use Rattle.mh_kernels.specs.Kernels.{Holds, IsItemList}
 use Rattle.mh_pager.specs.Weak.{OneCore, Covers, IsJoin}
 use Rattle.mh_pager.specs.Steps.{Work, Takes, Queues, Joins, Appends, Puts}
 
@@ -56,7 +56,7 @@ grows_trans old mid new h k n i at =
 -- where a kernel of the new list comes from
 pub data Came (g : PlainGrammar) (move : Kernel) (old new : Work) (n : ℕ) (k : Kernel) : Type 0 where
   stays : slice_get old.kernels n ≡ Some k → Came g move old new n k
-  joins : (j : Kernel) → slice_get old.kernels n ≡ Some j → Takes move j → IsKernel g k → IsJoin (Holds j) (Holds move) (Holds k) → Contains new.queue n → Came g move old new n k
+  joins : (j : Kernel) → slice_get old.kernels n ≡ Some j → Takes move j → IsItemList g k → IsJoin (Holds j) (Holds move) (Holds k) → Contains new.queue n → Came g move old new n k
   fresh : n ≡ length old.kernels → k ≡ move → Contains new.queue n → Came g move old new n k
 
 queued : (old new : List ℕ) (n : ℕ) → Queues old n new → Contains new n

@@ -13,10 +13,10 @@ use Rattle.mh_grammar.specs.Placed.{Placed, AllPlaced}
 use Rattle.mh_grammar.proofs.Lists.{get_cases, contains_at}
 use Rattle.mh_grammar.proofs.Placing.{AllPlaced-push, AllPlaced-distinct, AllPlaced-each, AllPlaced-kept, Walking, Walking-start, Walking-step, IsNumbering-done}
 use Rattle.mh_grammar.proofs.Pigeon.{length-distinct_in}
-use Rattle.mh_items.specs.Shapes.{Kernel}
-use Rattle.mh_items.specs.Kernels.{Holds, IsKernel}
-use Rattle.mh_items.proofs.OneList.{kernel_same}
-use Rattle.mh_canon.specs.Canonical.{targets_of}
+use Rattle.mh_kernels.specs.Shapes.{Kernel}
+use Rattle.mh_kernels.specs.Kernels.{Holds, IsItemList}
+use Rattle.mh_kernels.proofs.OneList.{kernel_same}
+use Rattle.mh_knuth.specs.Canonical.{targets_of}
 use Rattle.mh_pager.specs.Numbered.{AreBelow, IsRenamed, AreReached}
 use Rattle.mh_pager.specs.Steps.{symbols_of, Leads, IsOnSymbolsOf}
 use Rattle.mh_pager.proofs.Listings.{range_push}
@@ -126,7 +126,7 @@ module _ (starts : ℕ) (rows : List (List Edge)) (states : List ℕ) (edges : L
           rw all at c
 
 -- the join of a kernel with itself
-pub join_itself : (g : PlainGrammar) (k j : Kernel) → IsKernel g k → IsKernel g j → ((p d : ℕ) (a : Look) → Holds j p d a ↔ (Holds k p d a ⊎ Holds k p d a)) → j ≡ k
+pub join_itself : (g : PlainGrammar) (k j : Kernel) → IsItemList g k → IsItemList g j → ((p d : ℕ) (a : Look) → Holds j p d a ↔ (Holds k p d a ⊎ Holds k p d a)) → j ≡ k
 join_itself g k j of_k of_j h = kernel_same g j k of_j of_k (λ p d a. ((λ x. elim ((h p d a).0 x) [ inl y ↦ y | inr y ↦ y ]), (λ x. (h p d a).1 (inl x))))
 
 pub target_below : (count : ℕ) (row : List Edge) (i : ℕ) (d : Edge) → i < length row → All (λ t. t < count) (targets_of row) → (get_or row i d).target < count

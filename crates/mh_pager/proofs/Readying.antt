@@ -8,17 +8,17 @@ use Rattle.mh_grammar.specs.declared.types.Symbol.{Symbol}
 use Rattle.mh_grammar.specs.declared.edges.Edge.{Edge}
 use Rattle.mh_grammar.specs.Plain.{PlainGrammar}
 use Rattle.mh_grammar.proofs.Lists.{contains_cases, contains_none, contains_there}
-use Rattle.mh_items.specs.Shapes.{Kernel}
-use Rattle.mh_items.specs.Kernels.{IsKernel}
-use Rattle.mh_canon.specs.Canonical.{targets_of}
+use Rattle.mh_kernels.specs.Shapes.{Kernel}
+use Rattle.mh_kernels.specs.Kernels.{IsItemList}
+use Rattle.mh_knuth.specs.Canonical.{targets_of}
 use Rattle.mh_pager.specs.Steps.{Work, Queues, Puts, IsMoveOf, AllPut, symbols_of, IsStep, IsReady}
 use Rattle.mh_pager.proofs.Putting.{Came, stays, joins, fresh, came, put_length}
 
 one_of : (n m : ℕ) → Contains (n ∷ []) m → n ≡ m
 one_of n m c = elim (contains_cases n [] m c) [ inl e ↦ e | inr d ↦ absurd (contains_none m d) ]
 
-module _ (g : PlainGrammar) (move : Kernel) (old new : Work) (n : ℕ) (valid : IsKernel g move) (ready : IsReady g old) where
-  of_came : (m : ℕ) (k : Kernel) → Came g move old new m k → IsKernel g k
+module _ (g : PlainGrammar) (move : Kernel) (old new : Work) (n : ℕ) (valid : IsItemList g move) (ready : IsReady g old) where
+  of_came : (m : ℕ) (k : Kernel) → Came g move old new m k → IsItemList g k
   of_came m k (stays e) = ready.valid m k e
   of_came m k (joins j e takes is join q) = is
   of_came m k (fresh e same q) = rw same valid

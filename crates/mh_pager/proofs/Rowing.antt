@@ -9,17 +9,17 @@ use Rattle.mh_grammar.specs.Plain.{PlainGrammar, rhs_of}
 use Rattle.mh_grammar.specs.Edges.{IsRising, IsSymbolBefore}
 use Rattle.mh_grammar.specs.ItemSets as items
 use Rattle.mh_grammar.specs.ItemSets.{AreSame, Close, Moved}
-use Rattle.mh_items.specs.Shapes.{Items, Kernel}
-use Rattle.mh_items.specs.Kernels.{Holds, IsKernel}
-use Rattle.mh_canon.specs.Canonical.{HasItem, targets_of}
-use Rattle.mh_items.specs.Collection.{IsBehindDot}
-use Rattle.mh_canon.proofs.Sets.{same_sym, same_trans, has_same, moved_same, place_holds, drop_from_get, get_from_drop}
+use Rattle.mh_kernels.specs.Shapes.{Items, Kernel}
+use Rattle.mh_kernels.specs.Kernels.{Holds, IsItemList}
+use Rattle.mh_knuth.specs.Canonical.{HasItem, targets_of}
+use Rattle.mh_kernels.specs.Collection.{IsBehindDot}
+use Rattle.mh_knuth.proofs.Sets.{same_sym, same_trans, has_same, moved_same, place_holds, drop_from_get, get_from_drop}
 use Rattle.mh_pager.specs.Listing.{RowIn, OverIn}
 use Rattle.mh_pager.specs.Steps.{Work, Puts, IsMoveOf, AllPut, AreMoving, IsStep, Overruns, IsReady}
 use Rattle.mh_pager.proofs.Readying.{all_put_push, all_put_ready}
 
 -- a move of a closure is one of the kernel that it was made of
-module _ (g : PlainGrammar) (closed : Items) (move : Kernel) (X : Symbol) (valid : IsKernel g move) (same : AreSame (Holds move) (Moved g (Holds closed) X)) (some : HasItem (Moved g (Holds closed) X)) where
+module _ (g : PlainGrammar) (closed : Items) (move : Kernel) (X : Symbol) (valid : IsItemList g move) (same : AreSame (Holds move) (Moved g (Holds closed) X)) (some : HasItem (Moved g (Holds closed) X)) where
   pub of_kernel : (k : Kernel) → AreSame (Holds closed) (Close g (Holds k)) → IsMoveOf g k X move
   of_kernel k is = record {
     valid = valid;
@@ -44,7 +44,7 @@ pub RowIn-none : (g : PlainGrammar) (closed : Items) (old : Work) → RowIn g cl
 RowIn-none g closed old = record { on = refl; put = λ k is. refl }
 
 -- what stands behind a dot moves
-pub behind_has : (g : PlainGrammar) (closed : Items) (X : Symbol) → IsKernel g closed → IsBehindDot g closed X → HasItem (Moved g (Holds closed) X)
+pub behind_has : (g : PlainGrammar) (closed : Items) (X : Symbol) → IsItemList g closed → IsBehindDot g closed X → HasItem (Moved g (Holds closed) X)
 behind_has g closed X is b =
     let look = place_holds g closed is b.production b.dot b.place in
     record { production = b.production; dot = suc b.dot; look = look.0; holds = items.Moved.moved look.1 (drop_from_get (rhs_of g b.production) b.dot X b.behind) }
@@ -56,7 +56,7 @@ pub has_behind : (g : PlainGrammar) (closed : Items) (X : Symbol) → HasItem (M
 has_behind g closed X h = moved_behind g closed X h.production h.dot h.look h.holds
 
 -- the symbols behind the dots of a closure are those that move
-module _ (g : PlainGrammar) (k : Kernel) (closed : Items) (is : IsKernel g closed) (same : AreSame (Holds closed) (Close g (Holds k))) (symbols : List Symbol) (rising : IsRising IsSymbolBefore symbols) (exact : (X : Symbol) → Contains symbols X ↔ IsBehindDot g closed X) where
+module _ (g : PlainGrammar) (k : Kernel) (closed : Items) (is : IsItemList g closed) (same : AreSame (Holds closed) (Close g (Holds k))) (symbols : List Symbol) (rising : IsRising IsSymbolBefore symbols) (exact : (X : Symbol) → Contains symbols X ↔ IsBehindDot g closed X) where
   pub are_moving : AreMoving g k symbols
   are_moving = record {
     rising = rising;

@@ -10,11 +10,11 @@ use Rattle.mh_grammar.specs.Plain.{PlainGrammar}
 use Rattle.mh_grammar.specs.Edges.{IsRising, IsSymbolBefore, same_symbol, find_edge}
 use Rattle.mh_grammar.specs.ItemSets.{AreSame, Close, Moved}
 use Rattle.mh_grammar.proofs.Lists.{contains_cases, contains_here, contains_there, has_place, set_here, set_elsewhere}
-use Rattle.mh_items.specs.Shapes.{Kernel}
-use Rattle.mh_items.specs.Kernels.{Holds}
-use Rattle.mh_canon.specs.Canonical.{HasItem, targets_of}
-use Rattle.mh_canon.proofs.Edging.{symbol_true}
-use Rattle.mh_canon.proofs.Sets.{same_sym}
+use Rattle.mh_kernels.specs.Shapes.{Kernel}
+use Rattle.mh_kernels.specs.Kernels.{Holds}
+use Rattle.mh_knuth.specs.Canonical.{HasItem, targets_of}
+use Rattle.mh_knuth.proofs.Edging.{symbol_true}
+use Rattle.mh_knuth.proofs.Sets.{same_sym}
 use Rattle.mh_pager.specs.Steps.{Work, Puts, AllPut, symbols_of, IsStep}
 use Rattle.mh_pager.proofs.Putting.{Extends, extends_self, extends_same, extends_trans, Grows, grows_trans, Came, stays, joins, fresh, came, put_grows, put_target, put_queue, put_rows, put_length}
 

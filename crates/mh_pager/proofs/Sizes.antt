@@ -6,9 +6,9 @@ use Rattle.mh_grammar.specs.declared.types.Look.{Look}
 use Rattle.mh_grammar.specs.declared.types.Look.TheVariants.{Token, End}
 use Rattle.mh_grammar.specs.Plain.{PlainGrammar, production_count, rhs_of, IsLookBelow}
 use Rattle.mh_grammar.proofs.Lists.{contains_here, contains_there, contains_cases, contains_none, recursion_contains}
-use Rattle.mh_items.specs.Shapes.{KernelItem}
-use Rattle.mh_items.specs.Shapes.{Kernel}
-use Rattle.mh_items.specs.Kernels.{Holds, IsKernelItem, IsKernel}
+use Rattle.mh_kernels.specs.Shapes.{KernelItem}
+use Rattle.mh_kernels.specs.Shapes.{Kernel}
+use Rattle.mh_kernels.specs.Kernels.{Holds, IsKernelItem, IsItemList}
 use Rattle.mh_pager.specs.Weak.{Covers}
 use Rattle.mh_pager.proofs.Sums.{sum_below, sum_le, sum_same, bit, bit_le, bit_back, bit_one}
 
@@ -99,13 +99,13 @@ pub size_full : (g : PlainGrammar) (k : Kernel) → size g k ≤ full g
 unfolding size full
 size_full g k = counted_le g (λ p d a. bit (holds k p d a)) (λ p d a. 1) (λ p d a. bit_one (holds k p d a))
 
-held_below : (g : PlainGrammar) (k : Kernel) → IsKernel g k → (p d : ℕ) (a : Look) → Holds k p d a → (p < production_count g) × (d ≤ length (rhs_of g p)) × IsLookBelow g.tokens a
+held_below : (g : PlainGrammar) (k : Kernel) → IsItemList g k → (p d : ℕ) (a : Look) → Holds k p d a → (p < production_count g) × (d ≤ length (rhs_of g p)) × IsLookBelow g.tokens a
 held_below g k is p d a h =
     let item = recursion_contains (IsKernelItem g) k.items is.items h.0 h.1 in
     (rw h.2 at item.production, rw (h.2, h.3) at item.dot, recursion_contains (IsLookBelow g.tokens) h.0.looks item.looks a h.4)
 
 -- a kernel that holds all that another one does, and no more of it, is held by that one
-pub size_covers : (g : PlainGrammar) (j k : Kernel) → IsKernel g j → Covers (Holds j) (Holds k) → size g j ≤ size g k → Covers (Holds k) (Holds j)
+pub size_covers : (g : PlainGrammar) (j k : Kernel) → IsItemList g j → Covers (Holds j) (Holds k) → size g j ≤ size g k → Covers (Holds k) (Holds j)
 unfolding size
 size_covers g j k is covers s p d a h =
     let in-range = held_below g j is p d a h in

@@ -12,12 +12,12 @@ use Rattle.mh_grammar.specs.Plain.{PlainGrammar}
 use Rattle.mh_grammar.specs.ItemSets as items
 use Rattle.mh_grammar.specs.ItemSets.{ItemSet, Close, Moved, StartItems}
 use Rattle.mh_grammar.proofs.Lists.{contains_at}
-use Rattle.mh_items.specs.Shapes.{Kernel}
-use Rattle.mh_items.specs.Kernels.{Holds, IsKernel}
-use Rattle.mh_items.specs.Automaton.{start_kernel}
-use Rattle.mh_canon.specs.Canonical.{HasItem, targets_of}
-use Rattle.mh_canon.proofs.Building.{IsKernel-start}
-use Rattle.mh_canon.proofs.Sets.{start_holds, moved_dot}
+use Rattle.mh_kernels.specs.Shapes.{Kernel}
+use Rattle.mh_kernels.specs.Kernels.{Holds, IsItemList}
+use Rattle.mh_kernels.specs.Automaton.{start_kernel}
+use Rattle.mh_knuth.specs.Canonical.{HasItem, targets_of}
+use Rattle.mh_knuth.proofs.Building.{IsItemList-start}
+use Rattle.mh_knuth.proofs.Sets.{start_holds, moved_dot}
 use Rattle.mh_pager.specs.Weak.{HasPair, IsJoin}
 use Rattle.mh_pager.specs.Steps.{Work, Takes, Puts, IsMoveOf, AllPut, symbols_of, IsStep, Steps, none, more, IsBegun, start_numbers}
 use Rattle.mh_pager.proofs.Putting.{Came, stays, joins, fresh, came, put_grows, join_extends}
@@ -29,7 +29,7 @@ IsAtEnd g I = (p d : ℕ) (a : Look) → I p d a → p < length g.starts → a �
 
 -- a kernel that some state may have
 pub record IsSound (g : PlainGrammar) (k : Kernel) : Type 0 where
-  pub valid : IsKernel g k
+  pub valid : IsItemList g k
   pub some : HasItem (Holds k)
   pub at_end : IsAtEnd g (Holds k)
 
@@ -71,7 +71,7 @@ start_takes_none i move t h dots =
     zero_dot p d a items.StartItems.begin l = omega arith
 
 module _ (g : PlainGrammar) where
-  joined_sound : (j move k : Kernel) → IsKernel g k → IsJoin (Holds j) (Holds move) (Holds k) → IsSound g j → IsSound g move → IsSound g k
+  joined_sound : (j move k : Kernel) → IsItemList g k → IsJoin (Holds j) (Holds move) (Holds k) → IsSound g j → IsSound g move → IsSound g k
   joined_sound j move k valid join s t = record {
     valid = valid;
     some = record { production = s.some.production; dot = s.some.dot; look = s.some.look; holds = (join s.some.production s.some.dot s.some.look).1 (inl s.some.holds) };
@@ -132,7 +132,7 @@ step_running g old new s r = record {
 
 start_sound : (g : PlainGrammar) (i : ℕ) → i < length g.starts → IsSound g (start_kernel i)
 start_sound g i l = record {
-  valid = IsKernel-start g i l;
+  valid = IsItemList-start g i l;
   some = record { production = i; dot = 0; look = End; holds = (start_holds i i 0 End).1 items.StartItems.begin };
   at_end = λ p d a h m. alone p d a ((start_holds i p d a).0 h);
 }

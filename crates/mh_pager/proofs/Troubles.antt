@@ -5,14 +5,14 @@ use Rattle.std.proofs.lemmas.Option.{slice_get_within}
 use Rattle.mh_grammar.specs.declared.types.Symbol.{Symbol}
 use Rattle.mh_grammar.specs.Plain.{PlainGrammar}
 use Rattle.mh_grammar.specs.ItemSets.{ItemSet, Close, Moved, StartItems}
-use Rattle.mh_items.specs.Shapes.{Kernel}
-use Rattle.mh_items.specs.Kernels.{Holds}
-use Rattle.mh_items.specs.Automaton.{start_kernel}
-use Rattle.mh_canon.specs.Canonical.{targets_of}
-use Rattle.mh_canon.proofs.Sets.{start_holds}
+use Rattle.mh_kernels.specs.Shapes.{Kernel}
+use Rattle.mh_kernels.specs.Kernels.{Holds}
+use Rattle.mh_kernels.specs.Automaton.{start_kernel}
+use Rattle.mh_knuth.specs.Canonical.{targets_of}
+use Rattle.mh_knuth.proofs.Sets.{start_holds}
 use Rattle.mh_pager.specs.Weak.{OneCore, Covers, AreCompatible, IsJoin}
-use Rattle.mh_items.specs.Collection.{After}
-use Rattle.mh_items.specs.Conflicts.{HasConflict, HasEither, LeadsTo}
+use Rattle.mh_kernels.specs.Collection.{After}
+use Rattle.mh_kernels.specs.Conflicts.{HasConflict, HasEither, LeadsTo}
 use Rattle.mh_pager.specs.Steps.{Work, Puts, IsMoveOf, AllPut, symbols_of, IsStep, Steps, none, more, IsBegun}
 use Rattle.mh_pager.proofs.Joining.{clash_joined, fault_joined}
 use Rattle.mh_pager.proofs.Paths.{after_covers, more_clashes, more_faults, move_troubled}

@@ -6,9 +6,9 @@ use Rattle.mh_grammar.specs.declared.edges.Edge.{Edge}
 use Rattle.mh_grammar.specs.Plain.{PlainGrammar}
 use Rattle.mh_grammar.specs.ItemSets.{Moved}
 use Rattle.mh_grammar.proofs.Lists.{all_at, contains_map}
-use Rattle.mh_items.specs.Shapes.{Items}
-use Rattle.mh_items.specs.Kernels.{Holds, IsKernel}
-use Rattle.mh_items.specs.Collection.{HasItem, IsMove}
+use Rattle.mh_kernels.specs.Shapes.{Items}
+use Rattle.mh_kernels.specs.Kernels.{Holds, IsItemList}
+use Rattle.mh_kernels.specs.Collection.{HasItem, IsMove}
 use Rattle.mh_moves.specs.Moves.{Move, AreMoves}
 use Rattle.mh_pager.specs.Listing.{RowIn, OverIn}
 use Rattle.mh_pager.specs.Steps.{Work, Puts}
@@ -18,7 +18,7 @@ abbrev pub symbols_in : List Move → List Symbol
 symbols_in moves = map (λ (m : Move). m.symbol) moves
 
 abbrev pub PutSoFar : PlainGrammar → List Move → List Move → Work → Work → List Edge → Type 0
-PutSoFar g moves front old new row = (closed : Items) → IsKernel g closed → AreMoves g closed moves → RowIn g closed (symbols_in front) row old new
+PutSoFar g moves front old new row = (closed : Items) → IsItemList g closed → AreMoves g closed moves → RowIn g closed (symbols_in front) row old new
 
 pub put-start : (g : PlainGrammar) (moves : List Move) (work : Work) → PutSoFar g moves [] work work []
 put-start g moves work closed is are = RowIn-none g closed work
@@ -27,7 +27,7 @@ module _ (g : PlainGrammar) (moves front : List Move) (old mid new : Work) (row 
   move : (closed : Items) → AreMoves g closed moves → IsMove g closed found.symbol found.kernel
   move closed are = all_at (λ (m : Move). IsMove g closed m.symbol m.kernel) moves (length front) found are.each turn.0 turn.1
 
-  some : (closed : Items) → IsKernel g closed → AreMoves g closed moves → HasItem (Moved g (Holds closed) found.symbol)
+  some : (closed : Items) → IsItemList g closed → AreMoves g closed moves → HasItem (Moved g (Holds closed) found.symbol)
   some closed is are = behind_has g closed found.symbol is ((are.exact found.symbol).0 (contains_map (λ (m : Move). m.symbol) moves found (length front, turn.0, sym turn.1)))
 
   more : symbols_in (front ++ found ∷ []) ≡ symbols_in front ++ found.symbol ∷ []
@@ -36,7 +36,7 @@ module _ (g : PlainGrammar) (moves front : List Move) (old mid new : Work) (row 
   pub put-more : PutSoFar g moves (front ++ found ∷ []) old new (row ++ record { symbol = found.symbol; target = n } ∷ [])
   put-more closed is are = rw more (RowIn-push g closed found.kernel found.symbol (move closed are).kernel (move closed are).same (some closed is are) (symbols_in front) row old mid new (h closed is are) n put)
 
-  pub put-over : front ≡ take (length front) moves → (limit : ℕ) → limit < length new.kernels → (closed : Items) → IsKernel g closed → AreMoves g closed moves → OverIn g closed (symbols_in moves) old limit
+  pub put-over : front ≡ take (length front) moves → (limit : ℕ) → limit < length new.kernels → (closed : Items) → IsItemList g closed → AreMoves g closed moves → OverIn g closed (symbols_in moves) old limit
   put-over begins limit over closed is are =
       let count = length front in
       let first : take (count + 1) moves ≡ front ++ found ∷ [] = take_more moves count found turn.0 ∙ ap (λ ms. ms ++ get_or moves count found ∷ []) (sym begins) ∙ ap (λ (m : Move). front ++ m ∷ []) (sym turn.1) in
@@ -44,5 +44,5 @@ module _ (g : PlainGrammar) (moves front : List Move) (old mid new : Work) (row 
       let all : symbols_in moves ≡ (symbols_in front ++ found.symbol ∷ []) ++ symbols_in (drop (count + 1) moves) = ap symbols_in whole ∙ map-append (λ (m : Move). m.symbol) (front ++ found ∷ []) (drop (count + 1) moves) ∙ ap (λ xs. xs ++ symbols_in (drop (count + 1) moves)) more in
       OverIn-push g closed found.kernel found.symbol (move closed are).kernel (move closed are).same (some closed is are) (symbols_in front) row old mid new (h closed is are) n put (symbols_in (drop (count + 1) moves)) (symbols_in moves) all limit over
 
-pub found-valid : (g : PlainGrammar) (moves : List Move) (n : ℕ) (found : Move) → (n < length moves) × (found ≡ get_or moves n found) → (closed : Items) × IsKernel g closed × AreMoves g closed moves → IsKernel g found.kernel
+pub found-valid : (g : PlainGrammar) (moves : List Move) (n : ℕ) (found : Move) → (n < length moves) × (found ≡ get_or moves n found) → (closed : Items) × IsItemList g closed × AreMoves g closed moves → IsItemList g found.kernel
 found-valid g moves n found turn h = (all_at (λ (m : Move). IsMove g h.0 m.symbol m.kernel) moves n found h.2.each turn.0 turn.1).kernel

@@ -7,8 +7,8 @@ use Rattle.mh_grammar.specs.declared.types.Look.{Look}
 use Rattle.mh_grammar.specs.Plain.{PlainGrammar, IsLookBelow, rhs_of}
 use Rattle.mh_grammar.specs.Edges.{IsRising}
 use Rattle.mh_grammar.proofs.Lists.{contains_at, at_contains, get_cases, recursion-from, recursion_at, recursion_contains, has_place}
-use Rattle.mh_items.specs.Shapes.{KernelItem, Kernel}
-use Rattle.mh_items.specs.Kernels.{Holds, IsKernel, IsKernelItem, IsItemBefore}
+use Rattle.mh_kernels.specs.Shapes.{KernelItem, Kernel}
+use Rattle.mh_kernels.specs.Kernels.{Holds, IsItemList, IsKernelItem, IsItemBefore}
 use Rattle.mh_items.specs.Merging.{IsJoined}
 use Rattle.mh_pager.specs.Kernels.{ArePaired}
 use Rattle.mh_pager.specs.Weak.{IsJoin}
@@ -52,7 +52,7 @@ rising_places (u ∷ xs) (w ∷ zs) len same rises =
     let here = same 0 u w refl refl in
     (below_places u w xs zs here.0 here.1 (omega arith) (λ k a b. same (suc k) a b) rises.0, rising_places xs zs (omega arith) (λ k a b. same (suc k) a b) rises.1)
 
-module _ (g : PlainGrammar) (k m j : Kernel) (of_k : IsKernel g k) (of_m : IsKernel g m) (paired : ArePaired k.items m.items) (n : ℕ) (whole : n ≡ length k.items) (h : JoinedSoFar k.items m.items j.items n) where
+module _ (g : PlainGrammar) (k m j : Kernel) (of_k : IsItemList g k) (of_m : IsItemList g m) (paired : ArePaired k.items m.items) (n : ℕ) (whole : n ≡ length k.items) (h : JoinedSoFar k.items m.items j.items n) where
   len : length j.items ≡ length k.items
   len = h.len ∙ whole
 
@@ -88,7 +88,7 @@ module _ (g : PlainGrammar) (k m j : Kernel) (of_k : IsKernel g k) (of_m : IsKer
         some = some_one z a.0 ((is.looks a.0).1 (inl (contains_at x.0.looks 0 a.0 a.1)));
       }
 
-  pub joined_kernel : IsKernel g j
+  pub joined_kernel : IsItemList g j
   joined_kernel = record {
     items = recursion-from (IsKernelItem g) j.items (λ z c. let at = at_contains j.items z c in item_valid at.0 z at.1);
     rising = rising_places k.items j.items len same_place of_k.rising;

@@ -1,7 +1,7 @@
 -- What a move may ask of a state that has its core.
 use Rattle.mh_grammar.specs.ItemSets.{ItemSet}
-use Rattle.mh_items.specs.Shapes.{Kernel}
-use Rattle.mh_items.specs.Kernels.{Holds}
+use Rattle.mh_kernels.specs.Shapes.{Kernel}
+use Rattle.mh_kernels.specs.Kernels.{Holds}
 use Rattle.mh_pager.specs.Weak.{OneCore, Covers, AreCompatible}
 use Rattle.mh_pager.specs.declared.finding.Fit.{Fit}
 use Rattle.mh_pager.specs.declared.finding.Fit.TheVariants as fits

@@ -3,8 +3,8 @@ use Rattle.std.specs.Prelude.{◌≡◌, ◌<◌, ℕ, List, [], Some, length, m
 use Rattle.std.specs.List.{All, Contains}
 use Rattle.mh_grammar.specs.Edges.{IsRising}
 use Rattle.mh_grammar.specs.Numbering.{AreDistinct}
-use Rattle.mh_items.specs.Shapes.{KernelItem}
-use Rattle.mh_items.specs.Shapes.{Kernel}
+use Rattle.mh_kernels.specs.Shapes.{KernelItem}
+use Rattle.mh_kernels.specs.Shapes.{Kernel}
 
 -- an item without its looks
 abbrev pub bare : KernelItem → KernelItem

@@ -2,7 +2,7 @@
 use Rattle.std.specs.Prelude.{◌≡◌, ◌⊎◌, ◌<◌, ℕ, List, Some, length, slice_get}
 use Rattle.std.specs.List.{Contains}
 use Rattle.mh_grammar.specs.declared.types.Look.{Look}
-use Rattle.mh_items.specs.Shapes.{KernelItem}
+use Rattle.mh_kernels.specs.Shapes.{KernelItem}
 
 -- two lists have a look in common
 abbrev pub Common : List Look → List Look → Type 0

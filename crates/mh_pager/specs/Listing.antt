@@ -4,14 +4,14 @@ use Rattle.mh_grammar.specs.declared.types.Symbol.{Symbol}
 use Rattle.mh_grammar.specs.declared.edges.Edge.{Edge}
 use Rattle.mh_grammar.specs.Plain.{PlainGrammar}
 use Rattle.mh_grammar.specs.ItemSets.{AreSame, Close}
-use Rattle.mh_items.specs.Shapes.{Items, Kernel}
-use Rattle.mh_items.specs.Kernels.{Holds, IsKernel}
+use Rattle.mh_kernels.specs.Shapes.{Items, Kernel}
+use Rattle.mh_kernels.specs.Kernels.{Holds, IsItemList}
 use Rattle.mh_moves.specs.Moves.{Move, AreMoves}
 use Rattle.mh_pager.specs.declared.listing.Listing.{Listing}
 use Rattle.mh_pager.specs.Weak.{OneCore, IsJoin}
 use Rattle.mh_pager.specs.Queued.{AreFlagged}
 use Rattle.mh_pager.specs.Indexed.{core_of, IsGroup, IsIndexed}
-use Rattle.mh_canon.specs.Canonical.{targets_of}
+use Rattle.mh_knuth.specs.Canonical.{targets_of}
 use Rattle.mh_pager.specs.Steps.{Work, Queues, AllPut, symbols_of}
 
 abbrev pub work_of : {W : ℕ} → Listing W → Work
@@ -36,7 +36,7 @@ pub record TakesIn (g : PlainGrammar) (move : Kernel) (old new : Work) (n : ℕ)
   pub kernel : Kernel
   pub joined : Kernel
   pub at : slice_get old.kernels n ≡ Some kernel
-  pub valid : IsKernel g joined
+  pub valid : IsItemList g joined
   pub join : IsJoin (Holds kernel) (Holds move) (Holds joined)
   pub kernels : new.kernels ≡ set old.kernels n joined
   pub rows : new.rows ≡ old.rows
@@ -70,7 +70,7 @@ pub record OverIn (g : PlainGrammar) (closed : Items) (symbols : List Symbol) (o
 
 -- all moves were put somewhere, or the list came to hold too many states, whatever closure they are of
 abbrev pub PutsAll : PlainGrammar → List Move → Work → Work → List Edge → Type 0
-PutsAll g moves old new row = (closed : Items) → IsKernel g closed → AreMoves g closed moves → RowIn g closed (map (λ (m : Move). m.symbol) moves) row old new
+PutsAll g moves old new row = (closed : Items) → IsItemList g closed → AreMoves g closed moves → RowIn g closed (map (λ (m : Move). m.symbol) moves) row old new
 
 abbrev pub OverrunsAll : PlainGrammar → List Move → Work → ℕ → Type 0
-OverrunsAll g moves old limit = (closed : Items) → IsKernel g closed → AreMoves g closed moves → OverIn g closed (map (λ (m : Move). m.symbol) moves) old limit
+OverrunsAll g moves old limit = (closed : Items) → IsItemList g closed → AreMoves g closed moves → OverIn g closed (map (λ (m : Move). m.symbol) moves) old limit

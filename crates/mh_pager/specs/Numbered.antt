@@ -4,7 +4,7 @@ use Rattle.std.specs.List.{All, AllZip, range_with_len}
 use Rattle.mh_grammar.specs.declared.edges.Edge.{Edge}
 use Rattle.mh_grammar.specs.Numbering.{AreDistinct, IsNumbering}
 use Rattle.mh_grammar.specs.Placed.{AllPlaced}
-use Rattle.mh_canon.specs.Canonical.{targets_of}
+use Rattle.mh_knuth.specs.Canonical.{targets_of}
 use Rattle.mh_pager.specs.Steps.{symbols_of, Leads, IsOnSymbolsOf}
 
 -- different numbers below a bound

@@ -3,9 +3,9 @@ use Rattle.std.specs.Prelude.{◌<◌, ℕ, List, length}
 use Rattle.mh_grammar.specs.declared.types.Symbol.{Symbol}
 use Rattle.mh_grammar.specs.Plain.{PlainGrammar}
 use Rattle.mh_grammar.specs.ItemSets.{Reach}
-use Rattle.mh_items.specs.Shapes.{Automaton}
-use Rattle.mh_items.specs.Automaton.{kernel_of}
-use Rattle.mh_items.specs.Collection.{HasItem, LeadsBy}
+use Rattle.mh_kernels.specs.Shapes.{Automaton}
+use Rattle.mh_kernels.specs.Automaton.{kernel_of}
+use Rattle.mh_kernels.specs.Collection.{HasItem, LeadsBy}
 use Rattle.mh_pager.specs.Weak.{Covers}
 
 -- each path of the canonical collection is one of the automaton, and its states contain the collection's looks

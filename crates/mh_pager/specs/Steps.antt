@@ -7,11 +7,11 @@ use Rattle.mh_grammar.specs.Plain.{PlainGrammar}
 use Rattle.mh_grammar.specs.Edges.{IsRising, IsSymbolBefore}
 use Rattle.mh_grammar.specs.ItemSets.{AreSame, Close, Moved}
 use Rattle.mh_grammar.specs.Numbering.{IsNumbering}
-use Rattle.mh_items.specs.Shapes.{Kernel}
-use Rattle.mh_items.specs.Shapes.{Automaton}
-use Rattle.mh_items.specs.Kernels.{Holds, IsKernel}
-use Rattle.mh_canon.specs.Canonical.{HasItem, targets_of}
-use Rattle.mh_canon.specs.Moves.{AreStarts}
+use Rattle.mh_kernels.specs.Shapes.{Kernel}
+use Rattle.mh_kernels.specs.Shapes.{Automaton}
+use Rattle.mh_kernels.specs.Kernels.{Holds, IsItemList}
+use Rattle.mh_knuth.specs.Canonical.{HasItem, targets_of}
+use Rattle.mh_knuth.specs.Found.{AreStarts}
 use Rattle.mh_pager.specs.Weak.{OneCore, Covers, AreCompatible, IsJoin}
 
 -- the list of states, the edges that each was given last, and the states that wait, the oldest first
@@ -53,7 +53,7 @@ pub record Joins (g : PlainGrammar) (move : Kernel) (old new : Work) (n : ℕ) :
   pub joined : Kernel
   pub unkept : HasNone (Keeps move) old.kernels
   pub first : IsFirst (Takes move) old.kernels n kernel
-  pub valid : IsKernel g joined
+  pub valid : IsItemList g joined
   pub join : IsJoin (Holds kernel) (Holds move) (Holds joined)
   pub kernels : new.kernels ≡ set old.kernels n joined
   pub rows : new.rows ≡ old.rows
@@ -74,7 +74,7 @@ Puts g move old new n = Finds move old new n ⊎ (Joins g move old new n ⊎ App
 
 -- the kernel of the move of a kernel's closure
 pub record IsMoveOf (g : PlainGrammar) (k : Kernel) (X : Symbol) (move : Kernel) : Type 0 where
-  pub valid : IsKernel g move
+  pub valid : IsItemList g move
   pub some : HasItem (Holds move)
   pub same : AreSame (Holds move) (Moved g (Close g (Holds k)) X)
 
@@ -168,7 +168,7 @@ pub record IsSwollen (g : PlainGrammar) (limit : ℕ) : Type 0 where
 
 -- the kernels of the list are kernels, each has a row, and those that wait are there
 pub record IsReady (g : PlainGrammar) (w : Work) : Type 0 where
-  pub valid : (n : ℕ) (k : Kernel) → slice_get w.kernels n ≡ Some k → IsKernel g k
+  pub valid : (n : ℕ) (k : Kernel) → slice_get w.kernels n ≡ Some k → IsItemList g k
   pub len : length w.rows ≡ length w.kernels
   pub queued : (n : ℕ) → Contains w.queue n → n < length w.kernels
 

@@ -2,7 +2,7 @@
 ghost use Rattle.std.specs.Prelude.{◌≡◌, ◌<◌, ◌≤◌, ◌↔◌, length, IsTrue};
 ghost use Rattle.mh_pager.specs.Kernels.{AreWithin, Fit, FitAt, FitBefore, AllFit, Common, Within};
 
-use mh_items::KernelItem;
+use mh_kernels::KernelItem;
 
 /// Whether the looks of the first list are in the second, place by place.
 pub(crate) fn are_within<const W: usize>(left: &[KernelItem<W>], right: &[KernelItem<W>]) -> bool

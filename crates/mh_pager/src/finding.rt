@@ -1,8 +1,8 @@
 //! The state that a move goes to.
 ghost use Rattle.std.specs.Prelude.{◌≡◌, ◌<◌, ◌≤◌, ◌↔◌, ℕ, Some, slice_get, IsTrue, MatchOption};
 ghost use Rattle.mh_grammar.specs.Plain.{PlainGrammar, plain_of};
-ghost use Rattle.mh_items.specs.Shapes.{Kernel as KernelOf};
-ghost use Rattle.mh_items.specs.Kernels.{Holds, IsKernel};
+ghost use Rattle.mh_kernels.specs.Shapes.{Kernel as KernelOf};
+ghost use Rattle.mh_kernels.specs.Kernels.{Holds, IsItemList};
 ghost use Rattle.mh_pager.specs.Indexed.{AreCandidates};
 ghost use Rattle.mh_pager.specs.Weak.{OneCore, Covers, AreCompatible};
 ghost use Rattle.mh_pager.specs.Fits.{IsFit, HasFit};
@@ -10,7 +10,7 @@ ghost use Rattle.mh_pager.specs.Steps.{IsFirst, HasNone};
 
 use crate::compatible::{are_compatible, are_within};
 use mh_grammar::Grammar;
-use mh_items::Kernel;
+use mh_kernels::Kernel;
 
 /// What a move may ask of a state that has its core.
 #[derive(Clone, Copy)]
@@ -25,7 +25,7 @@ pub(crate) enum Fit {
 /// kernel's stands at the other place of the other kernel, or one of the kernels has a look at both places.
 pub fn weakly_compatible<const W: usize>(left: &Kernel<W>, right: &Kernel<W>) -> bool
     requires few { W ≤ 8 }
-    requires kernels { (g : PlainGrammar) × IsKernel g left.now × IsKernel g right.now }
+    requires kernels { (g : PlainGrammar) × IsItemList g left.now × IsItemList g right.now }
     requires core { OneCore (Holds left.now) (Holds right.now) }
     ensures { IsTrue result ↔ AreCompatible (Holds left.now) (Holds right.now) }
 {
@@ -35,8 +35,8 @@ pub fn weakly_compatible<const W: usize>(left: &Kernel<W>, right: &Kernel<W>) ->
 /// Whether a state contains the looks of a move of its core.
 fn covers<const W: usize>(grammar: &Grammar, state: &Kernel<W>, kernel: &Kernel<W>) -> bool
     requires few { W ≤ 8 }
-    requires state { IsKernel (plain_of grammar.now) state.now }
-    requires kernel { IsKernel (plain_of grammar.now) kernel.now }
+    requires state { IsItemList (plain_of grammar.now) state.now }
+    requires kernel { IsItemList (plain_of grammar.now) kernel.now }
     requires core { OneCore (Holds state.now) (Holds kernel.now) }
     ensures { IsTrue result ↔ Covers (Holds state.now) (Holds kernel.now) }
 {
@@ -47,8 +47,8 @@ fn covers<const W: usize>(grammar: &Grammar, state: &Kernel<W>, kernel: &Kernel<
 /// Whether a state of the move's core fits it.
 fn fits<const W: usize>(grammar: &Grammar, fit: Fit, state: &Kernel<W>, kernel: &Kernel<W>) -> bool
     requires few { W ≤ 8 }
-    requires state { IsKernel (plain_of grammar.now) state.now }
-    requires kernel { IsKernel (plain_of grammar.now) kernel.now }
+    requires state { IsItemList (plain_of grammar.now) state.now }
+    requires kernel { IsItemList (plain_of grammar.now) kernel.now }
     requires core { OneCore (Holds state.now) (Holds kernel.now) }
     ensures { IsTrue result ↔ IsFit fit (Holds state.now) (Holds kernel.now) }
 {
@@ -67,8 +67,8 @@ pub(crate) fn first_fitting<const W: usize>(
     fit: Fit,
 ) -> Option<u32>
     requires few { W ≤ 8 }
-    requires kernels { (n : ℕ) (k : KernelOf) → slice_get kernels.now n ≡ Some k → IsKernel (plain_of grammar.now) k }
-    requires kernel { IsKernel (plain_of grammar.now) kernel.now }
+    requires kernels { (n : ℕ) (k : KernelOf) → slice_get kernels.now n ≡ Some k → IsItemList (plain_of grammar.now) k }
+    requires kernel { IsItemList (plain_of grammar.now) kernel.now }
     requires states { AreCandidates kernels.now kernel.now states.now }
     ensures { MatchOption result (HasNone (HasFit fit kernel.now) kernels.now) (λ n. (k : KernelOf) × IsFirst (HasFit fit kernel.now) kernels.now n k) }
 {

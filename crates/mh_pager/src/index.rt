@@ -1,12 +1,12 @@
 //! The states of each core: those of other cores can neither keep nor take a move.
 ghost use Rattle.std.specs.Prelude.{◌≡◌, ◌≤◌, List, [], length, IfOk, OnOk};
 ghost use Rattle.mh_grammar.specs.Placed.{Placed};
-ghost use Rattle.mh_items.specs.Shapes.{Kernel as KernelOf};
+ghost use Rattle.mh_kernels.specs.Shapes.{Kernel as KernelOf};
 ghost use Rattle.mh_pager.specs.Indexed.{bare, core_of, IsGroup, IsIndexed};
 
 use indexmap::IndexSet;
 use mh_grammar::{Memory, Sequence};
-use mh_items::{ItemWith, Kernel, KernelItem};
+use mh_kernels::{ItemWith, Kernel, KernelItem};
 use mh_sets::TokenSet;
 use std::alloc::{AllocFailed, Global};
 

@@ -1,12 +1,12 @@
 //! What holds of every automaton of a grammar, and of every merged one.
 ghost use Rattle.std.specs.Prelude.{◌≡◌};
 ghost use Rattle.mh_grammar.specs.Plain.{plain_of};
-ghost use Rattle.mh_items.specs.Automaton.{IsAutomaton};
+ghost use Rattle.mh_kernels.specs.Automaton.{IsAutomaton};
 ghost use Rattle.mh_pager.specs.Paths.{CoversPaths};
 ghost use Rattle.mh_pager.specs.Steps.{IsMerged};
 
 use mh_grammar::Grammar;
-use mh_items::Automaton;
+use mh_kernels::Automaton;
 
 /// Each path of the canonical collection is one of any automaton of the grammar, and the state at its end contains the
 /// collection's items.

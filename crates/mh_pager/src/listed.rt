@@ -6,9 +6,9 @@ ghost use Rattle.mh_pager.specs.Steps.{AreBegun, IsList, IsSwollen};
 
 use crate::listing::{Listing, empty, push_start};
 use crate::stepping::step;
-use mh_canon::MAX_STATES;
 use mh_grammar::{Grammar, Memory};
-use mh_items::{StatesFault, start_kernel};
+use mh_kernels::{StatesFault, start_kernel};
+use mh_knuth::MAX_STATES;
 use mh_moves::Mover;
 use std::alloc::Global;
 

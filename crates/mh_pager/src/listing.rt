@@ -1,7 +1,7 @@
 //! The list of states while the steps are made.
 ghost use Rattle.std.specs.Prelude.{◌≡◌, ◌<◌, ◌≤◌, ◌^◌, ◌++◌, ◌∷◌, [], ℕ, length, set, Err, IfOk, OnOk, IsTrue, ◌↔◌};
 ghost use Rattle.mh_grammar.specs.Plain.{plain_of, IsInRange};
-ghost use Rattle.mh_items.specs.Kernels.{IsKernel};
+ghost use Rattle.mh_kernels.specs.Kernels.{IsItemList};
 ghost use Rattle.mh_pager.specs.Listing.{work_of, IsKept, IsGroupIn, TakesIn, AppendsIn, OneCoreAt};
 ghost use Rattle.mh_pager.specs.Steps.{Work, Keeps, HasNone, Puts, IsReady};
 
@@ -9,9 +9,9 @@ use crate::finding::{Fit, first_fitting};
 use crate::index::Index;
 use crate::queue::Queue;
 use crate::unions::joined;
-use mh_canon::MAX_STATES;
 use mh_grammar::{Edge, Grammar, Memory, Sequence};
-use mh_items::{Kernel, StatesFault};
+use mh_kernels::{Kernel, StatesFault};
+use mh_knuth::MAX_STATES;
 use std::alloc::Global;
 
 /// The states by their kernels, the edges that each was given last, the states that wait, and the states of each core.
@@ -46,7 +46,7 @@ pub(crate) fn put<const W: usize>(
 ) -> Result<u32, StatesFault>
     requires small { W ≤ 8 }
     requires range { IsInRange (plain_of grammar.now) }
-    requires kernel { IsKernel (plain_of grammar.now) kernel }
+    requires kernel { IsItemList (plain_of grammar.now) kernel }
     requires ready { IsReady (plain_of grammar.now) (work_of listing.old) }
     requires few { length listing.old.kernels.items ≤ MAX_STATES }
     requires kept { IsKept listing.old }
@@ -78,7 +78,7 @@ fn put_unkept<const W: usize>(
 ) -> Result<u32, StatesFault>
     requires small { W ≤ 8 }
     requires range { IsInRange (plain_of grammar.now) }
-    requires kernel { IsKernel (plain_of grammar.now) kernel }
+    requires kernel { IsItemList (plain_of grammar.now) kernel }
     requires ready { IsReady (plain_of grammar.now) (work_of listing.old) }
     requires few { length listing.old.kernels.items ≤ MAX_STATES }
     requires kept { IsKept listing.old }
@@ -114,7 +114,7 @@ fn take<const W: usize>(
 ) -> Result<(), Memory>
     requires small { W ≤ 8 }
     requires range { IsInRange (plain_of grammar.now) }
-    requires kernel { IsKernel (plain_of grammar.now) kernel.now }
+    requires kernel { IsItemList (plain_of grammar.now) kernel.now }
     requires ready { IsReady (plain_of grammar.now) (work_of listing.old) }
     requires within { state < length listing.old.kernels.items }
     requires core { OneCoreAt kernel.now listing.old.kernels.items state }

@@ -1,10 +1,10 @@
 //! The merged automaton: the states of the last list that the starts reach, numbered anew.
 ghost use Rattle.std.specs.Prelude.{◌≡◌, ◌↔◌, ◌≤◌, ◌*◌, [], length, Err, IfOk};
 ghost use Rattle.mh_grammar.specs.Plain.{plain_of, IsInRange};
-ghost use Rattle.mh_items.specs.Shapes.{Automaton as AutomatonOf};
-ghost use Rattle.mh_items.specs.Automaton.{IsAutomaton};
-ghost use Rattle.mh_canon.specs.Canonical.{IsCanonical};
-ghost use Rattle.mh_items.specs.Conflicts.{IsConflicting, IsFaulty};
+ghost use Rattle.mh_kernels.specs.Shapes.{Automaton as AutomatonOf};
+ghost use Rattle.mh_kernels.specs.Automaton.{IsAutomaton};
+ghost use Rattle.mh_knuth.specs.Canonical.{IsCanonical};
+ghost use Rattle.mh_kernels.specs.Conflicts.{IsConflicting, IsFaulty};
 ghost use Rattle.mh_pager.specs.Paths.{CoversPaths};
 ghost use Rattle.mh_pager.specs.Listing.{work_of};
 ghost use Rattle.mh_pager.specs.Steps.{IsList, IsMerged, IsSwollen};
@@ -12,9 +12,9 @@ ghost use Rattle.mh_pager.specs.Steps.{IsList, IsMerged, IsSwollen};
 use crate::listed::listed;
 use crate::listing::Listing;
 use crate::numbering::{picked, reached};
-use mh_canon::MAX_STATES;
 use mh_grammar::{Grammar, Memory, Sequence};
-use mh_items::{Automaton, StatesFault};
+use mh_kernels::{Automaton, StatesFault};
+use mh_knuth::MAX_STATES;
 use std::alloc::Global;
 
 /// Pager's merged automaton of a grammar (Pager 1977). `TooManyStates` comes exactly where the list of its steps comes to

@@ -2,16 +2,16 @@
 ghost use Rattle.std.specs.Prelude.{◌≡◌, ◌<◌, ◌≤◌, ℕ, Some, length, slice_get, IfOk, OnOk};
 ghost use Rattle.std.specs.List.{All, AllZip};
 ghost use Rattle.mh_grammar.specs.Placed.{Placed};
-ghost use Rattle.mh_canon.specs.Canonical.{targets_of};
+ghost use Rattle.mh_knuth.specs.Canonical.{targets_of};
 ghost use Rattle.mh_pager.specs.Numbered.{AreBelow, IsRenamed, AreReached, AreClosed};
 ghost use Rattle.mh_pager.specs.Steps.{start_numbers};
 ghost use Rattle.std.specs.List.{range_with_len};
 
 use crate::unions::copied;
 use indexmap::IndexSet;
-use mh_canon::MAX_STATES;
 use mh_grammar::{Edge, Memory, Sequence};
-use mh_items::Kernel;
+use mh_kernels::Kernel;
+use mh_knuth::MAX_STATES;
 use std::alloc::{AllocFailed, Global};
 
 /// The states that the starts reach, by their old numbers in the order of the new ones, and their edges.

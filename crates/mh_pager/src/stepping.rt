@@ -1,17 +1,17 @@
 //! One step: the oldest state that waits gets its edges.
 ghost use Rattle.std.specs.Prelude.{◌≡◌, ◌<◌, ◌≤◌, ◌*◌, ◌∷◌, ℕ, length, Err, IfOk, OnOk};
 ghost use Rattle.mh_grammar.specs.Plain.{plain_of, IsInRange};
-ghost use Rattle.mh_items.specs.Shapes.{Kernel as KernelOf};
-ghost use Rattle.mh_items.specs.Kernels.{IsKernel};
+ghost use Rattle.mh_kernels.specs.Shapes.{Kernel as KernelOf};
+ghost use Rattle.mh_kernels.specs.Kernels.{IsItemList};
 ghost use Rattle.mh_moves.specs.Moves.{AreMoves};
 ghost use Rattle.mh_moves.specs.Mover.{IsMover};
 ghost use Rattle.mh_pager.specs.Listing.{work_of, with_first, IsKept, PutsAll, OverrunsAll};
 ghost use Rattle.mh_pager.specs.Steps.{IsReady, IsStep, Overruns};
 
 use crate::listing::{Listing, put};
-use mh_canon::MAX_STATES;
 use mh_grammar::{Edge, Grammar, Sequence};
-use mh_items::StatesFault;
+use mh_kernels::StatesFault;
+use mh_knuth::MAX_STATES;
 use mh_moves::{Move, Mover};
 use std::alloc::Global;
 
@@ -55,7 +55,7 @@ fn put_all<const W: usize>(
 ) -> Result<Sequence<Edge>, StatesFault>
     requires small { W ≤ 8 }
     requires range { IsInRange (plain_of grammar.now) }
-    requires moves { (closed : KernelOf) × IsKernel (plain_of grammar.now) closed × AreMoves (plain_of grammar.now) closed moves.items }
+    requires moves { (closed : KernelOf) × IsItemList (plain_of grammar.now) closed × AreMoves (plain_of grammar.now) closed moves.items }
     requires ready { IsReady (plain_of grammar.now) (work_of listing.old) }
     requires few { length listing.old.kernels.items ≤ MAX_STATES }
     requires kept { IsKept listing.old }

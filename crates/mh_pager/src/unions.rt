@@ -1,12 +1,12 @@
 //! Two kernels of one core as one.
 ghost use Rattle.std.specs.Prelude.{◌≡◌, ◌<◌, ◌≤◌, length, IfOk};
 ghost use Rattle.mh_grammar.specs.Plain.{PlainGrammar, plain_of};
-ghost use Rattle.mh_items.specs.Kernels.{Holds, IsKernel};
+ghost use Rattle.mh_kernels.specs.Kernels.{Holds, IsItemList};
 ghost use Rattle.mh_items.specs.Merging.{IsJoined};
 ghost use Rattle.mh_pager.specs.Weak.{OneCore, IsJoin};
 
 use mh_grammar::{Grammar, Memory, Sequence};
-use mh_items::{Kernel, KernelItem};
+use mh_kernels::{Kernel, KernelItem};
 use std::alloc::Global;
 
 /// The kernel that has the looks of two kernels of one core.
@@ -17,10 +17,10 @@ pub(crate) fn joined<const W: usize>(
     right: &Kernel<W>,
 ) -> Result<Kernel<W>, Memory>
     requires few { W ≤ 8 }
-    requires left { IsKernel (plain_of grammar.now) left.now }
-    requires right { IsKernel (plain_of grammar.now) right.now }
+    requires left { IsItemList (plain_of grammar.now) left.now }
+    requires right { IsItemList (plain_of grammar.now) right.now }
     requires core { OneCore (Holds left.now) (Holds right.now) }
-    ensures kernel { IfOk result (IsKernel (plain_of grammar.now)) }
+    ensures kernel { IfOk result (IsItemList (plain_of grammar.now)) }
     ensures exact { IfOk result (λ j. IsJoin (Holds left.now) (Holds right.now) (Holds j)) }
 {
     let _grammar = grammar;

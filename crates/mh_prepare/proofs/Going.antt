@@ -1,84 +1,36 @@
--- How the work goes on up to the table.
+-- How the work goes on from the grammar to the table.
 use Rattle.std.proofs.Common.{◌≡◌, ◌≤◌, ◌<◌, ◌^◌, ℕ, Bool, true, false, List, length, Option, Some, None, refl, subst, sym, ap, ◌∙◌, arith}
 use Rattle.std.specs.Prelude.{Result, Ok, Err, IfOk}
 use Rattle.mh_grammar.specs.declared.types.Grammar.{Grammar}
 use Rattle.mh_opts.specs.declared.order.Order.{Order}
 use Rattle.mh_outside.specs.Shelf.{Files}
-use Rattle.mh_rules.specs.declared.modules.Module.{Module}
-use Rattle.mh_drive.specs.Text.{Text}
-use Rattle.mh_drive.specs.Causes.{Staged, Go, Halt, On, Then, Gives}
+use Rattle.mh_grammar.specs.Text.{Text}
+use Rattle.mh_drive.specs.Causes.{Staged, Go, Halt, On, Gives}
 use Rattle.mh_drive.specs.Stages.{FilesGive, Halts, ShelfCounts, StageHas}
 use Rattle.mh_drive.specs.declared.stop.Cause.TheVariants.{Refused}
-use Rattle.mh_drive.specs.declared.stop.Cause.{Cause}
 use Rattle.mh_drive.specs.declared.stop.Stop.{Stop}
 use Rattle.mh_drive.specs.declared.stop.Stop.TheVariants.{Halted, ShelfFailed, InputFailed, WriteFailed, OutOfMemory}
 use Rattle.mh_drive.proofs.Binding.{names_wider, no_names, then_on, then_stops}
-use Rattle.mh_prepare.specs.Order.{order_of}
-use Rattle.mh_prepare.specs.Modules.{AreModules, grammar_files}
-use Rattle.mh_prepare.specs.Turns.{IsGrammarTurn, IsTurn}
-use Rattle.mh_prepare.specs.GrammarStage.{IsGrammarStage}
 use Rattle.mh_grammar.specs.Plain.{plain_of}
-use Rattle.mh_items.specs.Automaton.{IsAutomaton}
-use Rattle.mh_items.specs.Shapes.{Automaton}
-use Rattle.mh_resolve.specs.declared.kinds.Mode.{Mode}
+use Rattle.mh_kernels.specs.Automaton.{IsAutomaton}
+use Rattle.mh_kernels.specs.Shapes.{Automaton}
+use Rattle.mh_cells.specs.declared.kinds.Mode.{Mode}
 use Rattle.mh_tables.specs.declared.parts.StateParts.{StateParts}
-use Rattle.mh_tabfile.specs.declared.types.RawTable.{RawTable}
+use Rattle.mh_tabform.specs.declared.types.RawTable.{RawTable}
 use Rattle.mh_valid.specs.declared.reason.Reason.{Reason}
 use Rattle.mh_valid.specs.Valid.{IsInvalidAt, IsValidFor}
 use Rattle.mh_validate.specs.declared.fault.ValidFault.{ValidFault}
 use Rattle.mh_validate.specs.declared.fault.ValidFault.TheVariants as tables
 use Rattle.mh_prepare.specs.Faults.{RejectsBy}
-use Rattle.mh_prepare.specs.FileStage.{IsFile, IsModule}
+use Rattle.mh_files.specs.FileStage.{IsFile}
 use Rattle.mh_prepare.specs.TableFile.{IsBuilt, IsNumbered, IsTableFile}
 use Rattle.mh_prepare.specs.TableStage.{IsAutomatonStage, IsResolvedStage, IsSource, IsSourceBy, IsTableStage, built_by, mode_of}
-use Rattle.mh_prepare.specs.Texts.{invalid_line}
-use Rattle.mh_prepare.specs.Preparing.{IsFront, IsTabledFrom, IsTabledFront}
-use Rattle.mh_prepare.specs.Shapes.{Prepared, Tabled}
+use Rattle.mh_prepare.specs.TableTexts.{invalid_line}
+use Rattle.mh_loading.specs.declared.front.Front.{Front}
+use Rattle.mh_prepare.specs.Preparing.{IsTabledFrom, IsTabledFront}
+use Rattle.mh_prepared.specs.Shapes.{Prepared, Tabled}
 use Rattle.mh_prepare.specs.declared.tabled.Source.{Source}
 use Rattle.mh_prepare.specs.declared.tabled.Source.TheVariants.{File}
-use Rattle.mh_prepare.specs.declared.prepared.Front.{Front}
-
--- ---- up to the grammar
-
-module _ (words : List Text) (files : Option Files) where
-  abbrev Due : Text → Type 0
-  Due = IsGrammarTurn words files
-
-  abbrev AfterModules : Order → List Module → Staged Front → Type 0
-  AfterModules order modules = Then (IsGrammarStage order.stdlib modules) (λ grammar. Gives (record { order = order; grammar = grammar }))
-
-  abbrev AfterOrder : Order → Staged Front → Type 0
-  AfterOrder order = Then (AreModules files order) (AfterModules order)
-
-  -- behind the order
-  behind : (order : Order) (r : Result Front Stop) → order_of words ≡ Go order → FilesGive (AfterOrder order) Due r → FilesGive (IsFront words files) Due r
-  behind order r on has = subst (λ (o : Staged Order). FilesGive (λ s. On o AfterOrder s) Due r) (sym on) has
-
-  halts_first : (cause : Cause) → order_of words ≡ Halt cause → IsFront words files (Halt cause)
-  halts_first cause is = subst (λ (o : Staged Order). On o AfterOrder (Halt cause)) (sym is) refl
-
-  pub order_stops : (stop : Stop) → StageHas {A = Order} (λ s. order_of words ≡ s) (Err stop) → FilesGive {A = Front} (IsFront words files) Due (Err stop)
-  order_stops (Halted cause) has = halts_first cause has
-  order_stops (ShelfFailed name) has = absurd has
-  order_stops OutOfMemory has = tt
-  order_stops InputFailed has = absurd has
-  order_stops WriteFailed has = absurd has
-
-  pub files_stop : (order : Order) (stop : Stop) → order_of words ≡ Go order → FilesGive {A = List Module} (AreModules files order) (IsTurn files IsModule (grammar_files order)) (Err stop) → FilesGive {A = Front} (IsFront words files) Due (Err stop)
-  files_stop order stop on has =
-      behind order (Err stop) on
-      (then_stops (AreModules files order) (AfterModules order) Due stop (names_wider (AreModules files order) (IsTurn files IsModule (grammar_files order)) Due (Err stop) (λ name turn. (order, on, turn)) has))
-
-  pub grammar_stops : (order : Order) (modules : List Module) (stop : Stop) → order_of words ≡ Go order → AreModules files order (Go modules) → StageHas (IsGrammarStage order.stdlib modules) (Err stop) → FilesGive {A = Front} (IsFront words files) Due (Err stop)
-  grammar_stops order modules stop on are has =
-      behind order (Err stop) on
-      (then_on (AreModules files order) (AfterModules order) Due modules (Err stop) are
-      (then_stops (IsGrammarStage order.stdlib modules) (λ grammar. Gives (record { order = order; grammar = grammar })) Due stop (no_names (IsGrammarStage order.stdlib modules) Due (Err stop) has)))
-
-  pub front_made : (order : Order) (modules : List Module) (grammar : Grammar) → order_of words ≡ Go order → AreModules files order (Go modules) → IsGrammarStage order.stdlib modules (Go grammar) → IsFront words files (Go (record { order = order; grammar = grammar }))
-  front_made order modules grammar on are is = behind order (Ok (record { order = order; grammar = grammar })) on (Go modules, are, (Go grammar, is, refl))
-
--- ---- the table
 
 -- the automaton of the named file
 pub file_source : (files : Option Files) (name : Text) (canonical : Bool) (raw : RawTable) → IsFile files IsTableFile name (Go raw) → IsSourceBy (Some name) canonical files (Go (File name raw))

@@ -1,10 +1,4 @@
-pub mod Loads
-pub mod Turns
 pub mod Tabling
-pub mod Refusing
-pub mod Sampling
 pub mod Going
-pub mod Ready
-pub mod Apart
-pub mod Fronts
-pub mod Once
+pub mod Made
+pub mod OnePrepared

@@ -2,21 +2,21 @@
 use Rattle.std.proofs.Common.{◌≡◌, List, Option, ℕ, refl, sym, subst}
 use Rattle.std.specs.Prelude.{Err}
 use Rattle.mh_grammar.specs.declared.types.Grammar.{Grammar}
-use Rattle.mh_items.specs.Shapes.{Automaton}
-use Rattle.mh_resolve.specs.States.{IsTableOf}
-use Rattle.mh_resolve.specs.Conflicts.{AreConflicts}
-use Rattle.mh_resolve.specs.declared.conflicts.Conflict.{Conflict}
-use Rattle.mh_resolve.specs.declared.kinds.Mode.{Mode}
+use Rattle.mh_kernels.specs.Shapes.{Automaton}
+use Rattle.mh_cells.specs.States.{IsTableOf}
+use Rattle.mh_cells.specs.Conflicts.{AreConflicts}
+use Rattle.mh_cells.specs.declared.conflicts.Conflict.{Conflict}
+use Rattle.mh_cells.specs.declared.kinds.Mode.{Mode}
 use Rattle.mh_tables.specs.Table.{TableData}
 use Rattle.mh_tables.specs.Halting.{AlwaysHalts, LoopsAt}
 use Rattle.mh_msgfile.specs.Sentences.{token_names}
 use Rattle.mh_drive.specs.Stages.{StageHas, Halts as HaltsWith}
 use Rattle.mh_prepare.specs.TableStage.{AreTabled, IsResolvedStage}
-use Rattle.mh_prepare.specs.Texts.{loops_line}
+use Rattle.mh_prepare.specs.TableTexts.{loops_line}
 use Rattle.mh_drive.specs.declared.stop.Cause.TheVariants.{Refused}
 use Rattle.mh_drive.specs.declared.stop.Stop.{Stop}
 use Rattle.mh_drive.specs.declared.stop.Stop.TheVariants.{Halted, ShelfFailed, InputFailed, WriteFailed, OutOfMemory}
-use Rattle.mh_prepare.specs.Shapes.{Tabled}
+use Rattle.mh_prepared.specs.Shapes.{Tabled}
 
 module _ (mode : Mode) (g : Grammar) (a : Automaton) (t : TableData) (table : IsTableOf g a mode t) where
   pub halts_too : (h : TableData) (found conflicts : List Conflict) → h ≡ t → conflicts ≡ found → AreConflicts g a found → AlwaysHalts t → AreTabled mode g a (record { automaton = a; halting = h; conflicts = conflicts; mode = mode })

@@ -1,27 +1,13 @@
--- What faults of the layers below come to.
+-- What a fault of a table file comes to.
 use Rattle.std.specs.Prelude.{◌≡◌}
-use Rattle.mh_front.specs.declared.fault.GrammarFault.{GrammarFault}
-use Rattle.mh_front.specs.declared.fault.GrammarFault.TheVariants as modules
-use Rattle.mh_opts.specs.declared.order.UsageFault.{UsageFault}
-use Rattle.mh_opts.specs.declared.order.UsageFault.TheVariants as words
-use Rattle.mh_drive.specs.Text.{Text}
+use Rattle.mh_grammar.specs.Text.{Text}
 use Rattle.mh_drive.specs.Stages.{Halts}
-use Rattle.mh_drive.specs.declared.stop.Cause.TheVariants.{Refused, Misused}
+use Rattle.mh_drive.specs.declared.stop.Cause.TheVariants.{Refused}
 use Rattle.mh_drive.specs.declared.stop.Stop.{Stop}
 use Rattle.mh_drive.specs.declared.stop.Stop.TheVariants.{OutOfMemory}
 use Rattle.mh_validate.specs.declared.fault.ValidFault.{ValidFault}
 use Rattle.mh_validate.specs.declared.fault.ValidFault.TheVariants as tables
-use Rattle.mh_prepare.specs.Texts.{invalid_line, refusal, usage_line}
-
--- what a usage fault comes to: its line, or want of memory
-abbrev pub HaltsBy : UsageFault → Stop → Type 0
-HaltsBy words.Memory stop = stop ≡ OutOfMemory
-HaltsBy fault stop = Halts (Misused (usage_line fault)) stop
-
--- what a fault of the modules comes to: its line, or want of memory
-abbrev pub RefusesBy : GrammarFault → Stop → Type 0
-RefusesBy modules.Memory stop = stop ≡ OutOfMemory
-RefusesBy fault stop = Halts (Refused (refusal fault)) stop
+use Rattle.mh_prepare.specs.TableTexts.{invalid_line}
 
 -- what a table file that is not valid comes to: its line, or want of memory
 abbrev pub RejectsBy : Text → ValidFault → Stop → Type 0

@@ -1,12 +1,6 @@
-pub mod Texts
-pub mod Order
-pub mod FileStage
-pub mod Modules
-pub mod GrammarStage
+pub mod TableTexts
 pub mod TableFile
 pub mod TableStage
-pub mod Shapes
-pub mod Prepared
 pub mod Preparing
-pub mod Turns
+pub mod TableTurns
 pub mod Faults

@@ -1,18 +1,18 @@
 -- Table files: what one says, and whether it is valid for the grammar.
 use Rattle.std.specs.Prelude.{◌≡◌, ◌<◌, ◌^◌, ℕ, Option, length, ⊤}
 use Rattle.mh_grammar.specs.declared.types.Grammar.{Grammar}
-use Rattle.mh_tabfile.specs.declared.types.RawTable.{RawTable}
-use Rattle.mh_tabfile.specs.declared.reading.TabFault.{TabFault}
-use Rattle.mh_tabfile.specs.declared.reading.TabFault.TheVariants.{Version, TabShape, Memory}
-use Rattle.mh_tabfile.specs.Form.{IsFileOf}
-use Rattle.mh_tabfile.specs.Reading.{IsOtherVersion, IsBadLine}
+use Rattle.mh_tabform.specs.declared.types.RawTable.{RawTable}
+use Rattle.mh_tabreader.specs.declared.reading.TabFault.{TabFault}
+use Rattle.mh_tabreader.specs.declared.reading.TabFault.TheVariants.{Version, TabShape, Memory}
+use Rattle.mh_tabform.specs.Form.{IsFileOf}
+use Rattle.mh_tabreader.specs.Reading.{IsOtherVersion, IsBadLine}
 use Rattle.mh_valid.specs.declared.reason.Reason.{Reason}
 use Rattle.mh_valid.specs.Valid.{IsInvalidAt}
-use Rattle.mh_drive.specs.Text.{Text}
+use Rattle.mh_grammar.specs.Text.{Text}
 use Rattle.mh_drive.specs.Causes.{Staged, Go, Halt}
 use Rattle.mh_drive.specs.declared.stop.Cause.{Cause}
 use Rattle.mh_drive.specs.declared.stop.Cause.TheVariants.{Refused}
-use Rattle.mh_prepare.specs.Texts.{invalid_line, table_line}
+use Rattle.mh_prepare.specs.TableTexts.{invalid_line, table_line}
 use Rattle.mh_prepare.specs.declared.tabled.Source.{Source}
 use Rattle.mh_prepare.specs.declared.tabled.Source.TheVariants.{Canonical, Merged, File}
 

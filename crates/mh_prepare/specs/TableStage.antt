@@ -2,24 +2,24 @@
 use Rattle.std.specs.Prelude.{if◌then◌else◌, ◌≡◌, ℕ, Bool, List, Option, None, Some, Result, Ok, Err}
 use Rattle.mh_grammar.specs.declared.types.Grammar.{Grammar}
 use Rattle.mh_grammar.specs.Plain.{plain_of}
-use Rattle.mh_items.specs.Shapes.{Automaton}
-use Rattle.mh_canon.specs.Canonical.{IsCanonical, IsOver}
+use Rattle.mh_kernels.specs.Shapes.{Automaton}
+use Rattle.mh_knuth.specs.Canonical.{IsCanonical, IsOver}
 use Rattle.mh_pager.specs.Steps.{IsMerged, IsSwollen}
-use Rattle.mh_canon.specs.declared.collection.TheConstants.{MAX_STATES}
-use Rattle.mh_resolve.specs.States.{IsTableOf}
-use Rattle.mh_resolve.specs.Conflicts.{AreConflicts}
-use Rattle.mh_resolve.specs.declared.kinds.Mode.{Mode}
-use Rattle.mh_resolve.specs.declared.kinds.Mode.TheVariants as modes
+use Rattle.mh_knuth.specs.declared.limits.TheConstants.{MAX_STATES}
+use Rattle.mh_cells.specs.States.{IsTableOf}
+use Rattle.mh_cells.specs.Conflicts.{AreConflicts}
+use Rattle.mh_cells.specs.declared.kinds.Mode.{Mode}
+use Rattle.mh_cells.specs.declared.kinds.Mode.TheVariants as modes
 use Rattle.mh_tables.specs.Table.{TableData}
 use Rattle.mh_tables.specs.declared.parts.StateParts.{StateParts}
 use Rattle.mh_tables.specs.Halting.{AlwaysHalts, LoopsAt}
-use Rattle.mh_prepare.specs.Texts.{loops_line, too_many_states}
-use Rattle.mh_tabfile.specs.declared.types.RawTable.{RawTable}
+use Rattle.mh_prepare.specs.TableTexts.{loops_line, too_many_states}
+use Rattle.mh_tabform.specs.declared.types.RawTable.{RawTable}
 use Rattle.mh_valid.specs.Valid.{IsValidFor}
 use Rattle.mh_validate.specs.Outcome.{Gives as IsValidGiven}
 use Rattle.mh_validate.specs.declared.validation.Valid.{Valid}
 use Rattle.mh_outside.specs.Shelf.{Files}
-use Rattle.mh_drive.specs.Text.{Text}
+use Rattle.mh_grammar.specs.Text.{Text}
 use Rattle.mh_drive.specs.Causes.{Staged, Go, Halt, Then, Gives}
 use Rattle.mh_msgfile.specs.Sentences.{token_names}
 use Rattle.mh_opts.specs.declared.order.Order.{Order}
@@ -29,9 +29,9 @@ use Rattle.mh_drive.specs.Stages.{StageHas}
 use Rattle.mh_drive.specs.declared.stop.Stop.{Stop}
 use Rattle.mh_prepare.specs.declared.tabled.Source.{Source}
 use Rattle.mh_prepare.specs.declared.tabled.Source.TheVariants.{Canonical, Merged, File}
-use Rattle.mh_prepare.specs.FileStage.{IsFile}
+use Rattle.mh_files.specs.FileStage.{IsFile}
 use Rattle.mh_prepare.specs.TableFile.{IsInvalid, IsTableFile}
-use Rattle.mh_prepare.specs.Shapes.{Tabled}
+use Rattle.mh_prepared.specs.Shapes.{Tabled}
 
 -- ---- where the automaton comes from
 

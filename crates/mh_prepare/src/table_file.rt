@@ -5,17 +5,18 @@ ghost use Rattle.mh_drive.specs.declared.stop.Cause.TheVariants.{Refused};
 ghost use Rattle.mh_prepare.specs.Faults.{RejectsBy};
 ghost use Rattle.mh_prepare.specs.TableFile.{IsNumbered, IsTableFile};
 ghost use Rattle.mh_prepare.specs.TableStage.{IsSource, IsSourceBy, built_by};
-ghost use Rattle.mh_prepare.specs.Texts.{invalid_line, reason_name as reason_name_of, table_line, test_text};
-ghost use Rattle.mh_prepare.specs.Turns.{AsksForTables};
-ghost use Rattle.mh_tabfile.specs.declared.reading.TabFault.TheVariants.{TabShape};
+ghost use Rattle.mh_prepare.specs.TableTexts.{invalid_line, reason_name as reason_name_of, table_line, test_text};
+ghost use Rattle.mh_prepare.specs.TableTurns.{AsksForTables};
+ghost use Rattle.mh_tabreader.specs.declared.reading.TabFault.TheVariants.{TabShape};
 
-use crate::files::{Spelling, read_file};
 use crate::tabled::Source;
 use mh_drive::{Stop, refused};
+use mh_files::{Spelling, read_file};
 use mh_grammar::from_bytes;
 use mh_opts::Order;
 use mh_outside::Shelf;
-use mh_tabfile::{RawTable, TabFault, read_tables};
+use mh_tabform::RawTable;
+use mh_tabreader::{TabFault, read_tables};
 use mh_validate::{Reason, ValidFault};
 use std::alloc::{AllocError, Global};
 

@@ -2,28 +2,30 @@
 ghost use Rattle.std.specs.Prelude.{◌≡◌, ◌<◌, ◌≤◌, ◌*◌, ◌^◌, length, IfOk, string_bytes, MatchOption, ⊤};
 ghost use Rattle.mh_grammar.specs.Costs.{HaveCosts};
 ghost use Rattle.mh_grammar.specs.Plain.{plain_of, IsInRange};
-ghost use Rattle.mh_items.specs.Automaton.{IsAutomaton};
+ghost use Rattle.mh_kernels.specs.Automaton.{IsAutomaton};
 ghost use Rattle.mh_prepare.specs.TableStage.{IsAutomatonStage, IsResolvedStage, IsTableStage, IsValidated};
-ghost use Rattle.mh_prepare.specs.Texts.{loop_place, look_text, loops_line, too_many_states as too_many_states_line};
+ghost use Rattle.mh_prepare.specs.TableTexts.{loop_place, look_text, loops_line, too_many_states as too_many_states_line};
 ghost use Rattle.mh_drive.specs.Stages.{Halts, StageHas};
 ghost use Rattle.mh_msgfile.specs.Sentences.{token_names};
 ghost use Rattle.mh_prepare.specs.declared.tabled.Source.TheVariants.{Canonical, File, Merged};
 ghost use Rattle.mh_prepare.specs.TableFile.{IsNumbered};
-ghost use Rattle.mh_resolve.specs.States.{IsTableOf};
-ghost use Rattle.mh_resolve.specs.Conflicts.{AreConflicts};
+ghost use Rattle.mh_cells.specs.States.{IsTableOf};
+ghost use Rattle.mh_cells.specs.Conflicts.{AreConflicts};
 ghost use Rattle.mh_valid.specs.Valid.{AreNamesApart};
 ghost use Rattle.mh_drive.specs.declared.stop.Cause.TheVariants.{Refused};
 
 use crate::table_file::not_valid;
 use mh_canon::canonical;
+use mh_cells::{Conflict, Mode};
 use mh_drive::{Stop, refused};
 use mh_grammar::{Grammar, Name, Sequence, Token};
-use mh_items::{Automaton, AutomatonWith, StatesFault};
+use mh_halting::{HaltFault, check_halts};
+use mh_kernels::{Automaton, StatesFault};
 use mh_pager::merged;
-use mh_resolve::{Conflict, Mode, resolve};
-use mh_sets::TokenSet;
-use mh_tabfile::RawTable;
-use mh_tables::{HaltFault, Halting, Table, check_halts};
+use mh_prepared::{Tabled, TabledWith};
+use mh_resolve::resolve;
+use mh_tabform::RawTable;
+use mh_tables::Table;
 use mh_validate::{Valid, validate};
 use std::alloc::{AllocError, Global};
 
@@ -37,19 +39,6 @@ pub enum Source {
     /// It is that of the named file, which says this.
     File { name: Name, raw: RawTable },
 }
-
-/// The automaton of a grammar, its table, and the list of its conflicts.
-#[derive(Drop)]
-pub struct TabledWith<L> {
-    pub automaton: AutomatonWith<L>,
-    pub halting: Halting,
-    pub conflicts: Sequence<Conflict>,
-    /// The one that its table was resolved in.
-    pub mode: Mode,
-}
-
-/// One whose sets of tokens have a width.
-pub type Tabled<const W: usize> = TabledWith<TokenSet<W>>;
 
 fn too_many_states(alloc: Global) -> Stop
     ensures { Halts (Refused too_many_states_line) result }

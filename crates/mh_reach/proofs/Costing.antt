@@ -16,23 +16,23 @@ use Rattle.mh_least.specs.Orders as orders
 use Rattle.mh_least.proofs.Least.{fails_candidate, closed_reached, candidate_fails}
 use Rattle.mh_least.proofs.Best.{closes_all_at}
 use Rattle.mh_tables.proofs.WordOrder.{lex_same}
-use Rattle.mh_search.specs.declared.classes.Classes.{Classes}
-use Rattle.mh_search.specs.declared.settling.Found.{Found}
-use Rattle.mh_search.proofs.Numbers.{all_numbered}
-use Rattle.mh_reach.specs.declared.arrivals.Spot.{Spot}
-use Rattle.mh_reach.specs.declared.arrivals.Arrival.{Arrival}
+use Rattle.mh_past.specs.declared.classes.Classes.{Classes}
+use Rattle.mh_found.specs.declared.found.Found.{Found}
+use Rattle.mh_found.proofs.Telling.{all_numbered}
+use Rattle.mh_arrivals.specs.declared.arrivals.Spot.{Spot}
+use Rattle.mh_arrivals.specs.declared.arrivals.Arrival.{Arrival}
 use Rattle.mh_reach.specs.declared.sentences.Best.{Best}
-use Rattle.mh_search.specs.Classes.{rep_of}
-use Rattle.mh_search.specs.Tales.{NoLater, capped, weigh}
-use Rattle.mh_search.specs.Good.{WaysIn}
-use Rattle.mh_reach.specs.Arriving.{NoLaterAt, Spots, LabelBy, HasArrived, arrival_at, labels_at, ArrivedIn}
-use Rattle.mh_reach.specs.Comparing.{IsTold, numbers_of}
+use Rattle.mh_past.specs.Classes.{rep_of}
+use Rattle.mh_past.specs.Tales.{NoLater, capped, weigh}
+use Rattle.mh_found.specs.Found.{WaysIn}
+use Rattle.mh_arrivals.specs.Arriving.{NoLaterAt, Spots, LabelBy, HasArrived, arrival_at, labels_at, ArrivedIn}
+use Rattle.mh_arrivals.specs.Comparing.{IsTold, numbers_of}
 use Rattle.mh_reach.specs.Reaching.{AreCheap, InOrderOr, Leads, IsFirstOf, IsFirstOfBoth, BestOn, BestBelow, best_for, step_of, spot_of, BestOk, BestAt, AreBest, IsReach, LeastCost}
-use Rattle.mh_search.proofs.Wording.{capped_one, weigh_word, order_laws, min_cap, some_is}
-use Rattle.mh_reach.proofs.Labelling.{label_laws, by_numbers, cheaper_at, both_over}
-use Rattle.mh_reach.proofs.Spots.{label_one}
-use Rattle.mh_reach.proofs.Tracing.{precedes_after}
-use Rattle.mh_reach.proofs.Walking.{arrived_at}
+use Rattle.mh_past.proofs.Wording.{capped_one, weigh_word, order_laws, min_cap, some_is}
+use Rattle.mh_arrivals.proofs.Labelling.{label_laws, by_numbers, cheaper_at, both_over}
+use Rattle.mh_arrivals.proofs.Spots.{label_one}
+use Rattle.mh_arrivals.proofs.Tracing.{precedes_after}
+use Rattle.mh_arrivals.proofs.Walking.{arrived_at}
 
 below_next : (z n : ℕ) → z < n + 1 → (z < n) ⊎ (z ≡ n)
 below_next z n lt = elim (cases_lt z n) [ inl l ↦ inl l | inr le ↦ inr (omega arith) ]

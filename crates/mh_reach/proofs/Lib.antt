@@ -1,11 +1,3 @@
-mod Arriving
 mod Costing
 mod First
-mod Labelling
-mod Levels
 mod Spelled
-mod Spots
-mod Spotting
-mod Stepping
-mod Tracing
-mod Walking

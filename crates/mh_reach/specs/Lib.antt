@@ -1,4 +1,2 @@
-pub mod Arriving
-pub mod Comparing
 pub mod Reaching
 pub mod Spelling

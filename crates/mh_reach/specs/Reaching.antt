@@ -8,15 +8,15 @@ use Rattle.mh_facts.specs.Stored.{Facts}
 use Rattle.mh_least.specs.Least.{Label}
 use Rattle.mh_least.specs.Orders.{cap}
 use Rattle.mh_reach.specs.declared.sentences.Best.{Best}
-use Rattle.mh_search.specs.Tales.{Tale}
-use Rattle.mh_reach.specs.declared.arrivals.Spot.{Spot}
-use Rattle.mh_reach.specs.declared.arrivals.Step.{Step}
-use Rattle.mh_reach.specs.declared.arrivals.Step.TheVariants as steps
-use Rattle.mh_reach.specs.declared.arrivals.Arrival.{Arrival}
-use Rattle.mh_search.specs.declared.classes.Classes.{Classes}
-use Rattle.mh_search.specs.Classes.{rep_of}
-use Rattle.mh_reach.specs.Arriving.{Spots, Journey, arrival_at, spot}
-use Rattle.mh_reach.specs.Comparing.{Precedes}
+use Rattle.mh_past.specs.Tales.{Tale}
+use Rattle.mh_arrivals.specs.declared.arrivals.Spot.{Spot}
+use Rattle.mh_arrivals.specs.declared.arrivals.Step.{Step}
+use Rattle.mh_arrivals.specs.declared.arrivals.Step.TheVariants as steps
+use Rattle.mh_arrivals.specs.declared.arrivals.Arrival.{Arrival}
+use Rattle.mh_past.specs.declared.classes.Classes.{Classes}
+use Rattle.mh_past.specs.Classes.{rep_of}
+use Rattle.mh_arrivals.specs.Arriving.{Spots, Journey, arrival_at, spot}
+use Rattle.mh_arrivals.specs.Comparing.{Precedes}
 
 -- no sentence fails in the state, or this is the least cost of one that does, up to the highest
 abbrev pub LeastCost : TableData → ℕ → Option ℕ → Type 0

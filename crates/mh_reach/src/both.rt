@@ -1,16 +1,17 @@
 //! Both searches, and the best way to fail in each state.
 ghost use Rattle.std.specs.Prelude.{◌≡◌, ◌<◌, IfOk, IfSome, length};
-ghost use Rattle.mh_search.specs.Classes.{IsClasses};
-ghost use Rattle.mh_reach.specs.Arriving.{HasArrived};
-ghost use Rattle.mh_reach.specs.Comparing.{ComesLater, IsTold};
+ghost use Rattle.mh_past.specs.Classes.{IsClasses};
+ghost use Rattle.mh_arrivals.specs.Arriving.{HasArrived};
+ghost use Rattle.mh_arrivals.specs.Comparing.{ComesLater, IsTold};
 ghost use Rattle.mh_reach.specs.Reaching.{AreCheap, BestOn, BestBelow, AreBest, IsFirstOf, IsFirstOfBoth, step_of};
 
-use crate::arrivals::{Arrivals, Spot, Step, arrival_of};
-use crate::arrive::arrive;
-use crate::comparing::comes_later;
 use crate::sentences::{Best, Reach};
+use mh_arrivals::arrive::arrive;
+use mh_arrivals::{Arrivals, Spot, Step, arrival_of, comes_later};
+use mh_found::Found;
 use mh_grammar::{Memory, Token};
-use mh_search::{Classes, Found, add_token, class_of, classes_of, search};
+use mh_past::{Classes, add_token, class_of, classes_of};
+use mh_search::search;
 use mh_tables::{Choice, Halting, Table, choose};
 use std::alloc::Global;
 

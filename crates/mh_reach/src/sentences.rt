@@ -4,8 +4,8 @@ ghost use Rattle.mh_tables.specs.Failing.{FailsFirst, FailsCheaply};
 ghost use Rattle.mh_reach.specs.Spelling.{HasLabel, Walks};
 ghost use Rattle.mh_reach.specs.Reaching.{LeastCost};
 
-use crate::arrivals::{Arrivals, Spot, Step, arrival_of};
 use crate::spell::spell;
+use mh_arrivals::{Arrivals, Spot, Step, arrival_of};
 use mh_facts::FactStore;
 use mh_grammar::{Memory, Sentence, Sequence, Token};
 use mh_tables::{Halting, Table};
@@ -13,7 +13,7 @@ use std::alloc::Global;
 use std::marker::Model;
 
 /// The best way to fail in a state: the token is refused behind the spot.
-#[derive(Clone, Copy, Debug, Drop)]
+#[derive(Clone, Copy, Drop)]
 pub struct Best {
     pub cost: u32,
     pub spot: Spot,

@@ -3,8 +3,8 @@ ghost use Rattle.std.specs.Prelude.{◌≡◌, OnOk};
 ghost use Rattle.mh_reach.specs.Spelling.{HasWord, Spells, SpellsOne, SpellsNext};
 
 use mh_facts::{Back, FactKey, FactStore};
+use mh_found::token_before;
 use mh_grammar::{Memory, Token};
-use mh_search::token_before;
 use mh_tables::Table;
 use std::alloc::Global;
 

@@ -13,24 +13,24 @@ use Rattle.mh_lex.specs.Texts.{bytes_of}
 use Rattle.mh_rules.specs.declared.modules.Ref.{Ref}
 use Rattle.mh_rules.specs.declared.modules.Actual.{Actual}
 use Rattle.mh_rules.specs.declared.modules.Module.{Module}
-use Rattle.mh_reader.specs.declared.signs.Sign.{Sign}
-use Rattle.mh_reader.specs.declared.signs.Sign.TheVariants as signs
-use Rattle.mh_reader.specs.declared.places.Pending.{Pending}
-use Rattle.mh_reader.specs.declared.places.Listing.{Listing}
-use Rattle.mh_reader.specs.declared.places.Listing.TheVariants as lists
-use Rattle.mh_reader.specs.declared.places.Purpose.{Purpose}
-use Rattle.mh_reader.specs.declared.places.Purpose.TheVariants as purposes
-use Rattle.mh_reader.specs.declared.places.Place.{Place}
-use Rattle.mh_reader.specs.declared.places.Place.TheVariants as places
-use Rattle.mh_reader.specs.declared.places.Reader.{Reader}
-use Rattle.mh_reader.specs.Costs.{cost_of}
-use Rattle.mh_reader.specs.Signs.{Read, reads_of, kept, sign_by, text_by, cost_along, cost_behind}
+use Rattle.mh_places.specs.declared.signs.Sign.{Sign}
+use Rattle.mh_places.specs.declared.signs.Sign.TheVariants as signs
+use Rattle.mh_places.specs.declared.places.Pending.{Pending}
+use Rattle.mh_places.specs.declared.places.Listing.{Listing}
+use Rattle.mh_places.specs.declared.places.Listing.TheVariants as lists
+use Rattle.mh_places.specs.declared.places.Purpose.{Purpose}
+use Rattle.mh_places.specs.declared.places.Purpose.TheVariants as purposes
+use Rattle.mh_places.specs.declared.places.Place.{Place}
+use Rattle.mh_places.specs.declared.places.Place.TheVariants as places
+use Rattle.mh_places.specs.declared.places.Reader.{Reader}
+use Rattle.mh_places.specs.Costs.{cost_of}
+use Rattle.mh_places.specs.Signs.{Read, reads_of, kept, sign_by, text_by, cost_along, cost_behind}
 use Rattle.mh_rules.specs.Modules.{applied, no_module}
-use Rattle.mh_reader.specs.Spelling.{File, Spells, Begins}
+use Rattle.mh_places.specs.Spelling.{File, Spells, Begins}
 use Rattle.mh_reader.specs.Limits.{IsShallow}
 use Rattle.mh_reader.specs.Faults.{IsHalt, IsSyntaxLine, Stops, Refuses}
 use Rattle.mh_reader.specs.Faults.IsHalt.{unexpected, unfinished}
-use Rattle.mh_reader.specs.Machine.{at, next_at, finish_at, run, go_on, start, taken, costed, costed_place}
+use Rattle.mh_places.specs.Machine.{at, next_at, finish_at, run, go_on, start, taken, costed, costed_place}
 use Rattle.mh_reader.proofs.Again.{again-file, option_or-none}
 use Rattle.mh_reader.proofs.Sound.{sound, Safe, next_safe, costed_shallow}
 

@@ -14,8 +14,8 @@ use Rattle.mh_rules.specs.declared.modules.Module.{Module}
 use Rattle.mh_rules.specs.Modules.{no_module}
 use Rattle.mh_rules.specs.Depth.{IsActualShallow, AreProducersShallow}
 use Rattle.mh_rules.specs.Ready.{IsTokenReady, IsModuleReady, AreModulesReady}
-use Rattle.mh_reader.specs.Signs.{reads_of}
-use Rattle.mh_reader.specs.Spelling.{File, Spells}
+use Rattle.mh_places.specs.Signs.{reads_of}
+use Rattle.mh_places.specs.Spelling.{File, Spells}
 use Rattle.mh_reader.proofs.Fitting.{FitsToken, FitsRule, lexemes_fit, spelled_fitting}
 use Rattle.mh_reader.proofs.Shallow.{rules_shallow, lists_shallow}
 

@@ -12,7 +12,7 @@ use Rattle.mh_lex.specs.declared.kinds.Kind.TheVariants as kinds
 use Rattle.mh_lex.specs.declared.kinds.Lexeme.{Lexeme}
 use Rattle.mh_lex.specs.Keywords.{keyword_named}
 use Rattle.mh_lex.specs.Texts as texts
-use Rattle.mh_lex.specs.Texts.{Text, is_content, HasText, IsSpelled, bytes_of, one_of}
+use Rattle.mh_lex.specs.Texts.{LexemeText, is_content, HasText, IsSpelled, bytes_of, one_of}
 use Rattle.mh_lex.specs.Bytes.{byte_at, is_mark}
 use Rattle.mh_lex.proofs.LaidOut.{take_all}
 use Rattle.mh_rules.specs.declared.modules.Ref.{Ref}
@@ -24,23 +24,23 @@ use Rattle.mh_rules.specs.declared.modules.Rule.{Rule}
 use Rattle.mh_rules.specs.declared.modules.TokenDecl.{TokenDecl}
 use Rattle.mh_rules.specs.declared.modules.LevelDecl.{LevelDecl}
 use Rattle.mh_rules.specs.declared.modules.Module.{Module}
-use Rattle.mh_reader.specs.declared.signs.Sign.{Sign}
-use Rattle.mh_reader.specs.declared.signs.Sign.TheVariants as signs
-use Rattle.mh_reader.specs.Costs.{cost_of}
-use Rattle.mh_reader.specs.Signs.{Read, cost_along, cost_behind, kept, sign_by, text_by, mark_sign, sign_of_keyword, sign_or_unknown, reads_of, read_of, is_capital}
-use Rattle.mh_reader.specs.Spelling as spelling
+use Rattle.mh_places.specs.declared.signs.Sign.{Sign}
+use Rattle.mh_places.specs.declared.signs.Sign.TheVariants as signs
+use Rattle.mh_places.specs.Costs.{cost_of}
+use Rattle.mh_places.specs.Signs.{Read, cost_along, cost_behind, kept, sign_by, text_by, mark_sign, sign_of_keyword, sign_or_unknown, reads_of, read_of, is_capital}
+use Rattle.mh_places.specs.Spelling as spelling
 use Rattle.mh_rules.specs.Modules.{applied, alternative, no_module}
 use Rattle.mh_rules.specs.Ready.{IsTokenReady}
-use Rattle.mh_reader.specs.Spelling.{ref_by, ref_of, suffix_of, with_prec, own_or, Suffixed, Base, Args, IsActual, Limited, ListOf, IsAlias, IsToken, IsWord, IsRef, MayType, Declaration, Semicolons, IsProducer, Producers, IsPrec, Productions, Groups, Modifiers, Formals, MayFormals, MayBar, IsRule, Rules, File}
+use Rattle.mh_places.specs.Spelling.{ref_by, ref_of, suffix_of, with_prec, own_or, Suffixed, Base, Args, IsActual, Limited, ListOf, IsAlias, IsToken, IsWord, IsRef, MayType, Declaration, Semicolons, IsProducer, Producers, IsPrec, Productions, Groups, Modifiers, Formals, MayFormals, MayBar, IsRule, Rules, File}
 use Rattle.mh_grammar.specs.Costs.{IsCost}
-use Rattle.mh_reader.proofs.Priced.{cost_ready}
-use Rattle.mh_reader.specs.Printed.{Piece, mark, ref_piece, bracketed, bracket_end, actual_pieces}
+use Rattle.mh_places.proofs.Priced.{cost_ready}
+use Rattle.mh_reader.specs.Pieces.{Piece, mark, ref_piece, bracketed, bracket_end, actual_pieces}
 
 -- LEXEMES
 
 -- a word or a string of a file
 abbrev pub fits : Sign → List ℕ → Type 0
-fits signs.Word t = Text kinds.Word t
+fits signs.Word t = LexemeText kinds.Word t
 fits signs.Quoted t = is_content false t ≡ true
 fits _ t = Unit {0}
 
@@ -93,14 +93,14 @@ content_again s =
     let n : length (34 ∷ s ++ 34 ∷ []) - 2 ≡ length s = omega (arith, length-append s (34 ∷ [])) in
     ap (λ k. take k (s ++ 34 ∷ [])) n ∙ take_all s (34 ∷ [])
 
-text_fits : (k : Kind) (t : List ℕ) → Text k t → k ≡ kinds.Quoted → is_content false (text_by kinds.Quoted t) ≡ true
-text_fits k t (texts.Text.word h all) e = absurd (cc)
-text_fits k t (texts.Text.mark h) e = absurd (cc)
-text_fits k t texts.Text.percents e = absurd (cc)
-text_fits k t (texts.Text.keyword h) e = absurd (cc)
-text_fits k t (texts.Text.quoted s h) e = subst (λ l. is_content false l ≡ true) (sym (content_again s)) h
-text_fits k t texts.Text.empty_action e = absurd (cc)
-text_fits k t (texts.Text.cost ds h) e = absurd (cc)
+text_fits : (k : Kind) (t : List ℕ) → LexemeText k t → k ≡ kinds.Quoted → is_content false (text_by kinds.Quoted t) ≡ true
+text_fits k t (texts.LexemeText.word h all) e = absurd (cc)
+text_fits k t (texts.LexemeText.mark h) e = absurd (cc)
+text_fits k t texts.LexemeText.percents e = absurd (cc)
+text_fits k t (texts.LexemeText.keyword h) e = absurd (cc)
+text_fits k t (texts.LexemeText.quoted s h) e = subst (λ l. is_content false l ≡ true) (sym (content_again s)) h
+text_fits k t texts.LexemeText.empty_action e = absurd (cc)
+text_fits k t (texts.LexemeText.cost ds h) e = absurd (cc)
 
 spelled_fits : (k : Kind) (t : List ℕ) (c : Option ℕ) → HasText k t → IfSome c IsCost → AllFit (kept (sign_by k t) (text_by k t) c)
 spelled_fits kinds.Word t c h i = ((h, i), tt)
@@ -138,7 +138,7 @@ lexemes_fit bytes (l ∷ ls) h =
 -- NAMES
 
 abbrev pub FitsRef : Ref → Type 0
-FitsRef (Plain t) = Text kinds.Word t
+FitsRef (Plain t) = LexemeText kinds.Word t
 FitsRef (Alias s) = is_content false s ≡ true
 
 abbrev pub FitsContent : Option (List ℕ) → Type 0
@@ -170,7 +170,7 @@ is_plain _ = true
 
 -- alone before a space it is one lexeme of its kind, which is plain
 abbrev pub FitsPiece : Piece → Type 0
-FitsPiece t = Text t.0 t.1 × (is_plain t.0 ≡ true)
+FitsPiece t = LexemeText t.0 t.1 × (is_plain t.0 ≡ true)
 
 abbrev pub Printable : List Piece → Type 0
 Printable = AllByRecursion FitsPiece
@@ -198,7 +198,7 @@ ref_again (Alias s) = ap (λ k. Some (Alias k)) (content_again s)
 
 pub ref_printable : (r : Ref) → FitsRef r → FitsPiece (ref_piece r)
 ref_printable (Plain t) h = (h, refl)
-ref_printable (Alias s) h = (texts.Text.quoted s h, refl)
+ref_printable (Alias s) h = (texts.LexemeText.quoted s h, refl)
 
 -- ACTUALS
 
@@ -216,7 +216,7 @@ record PrintsArgs (done : List Actual) (m : ℕ) (all : List Actual) (d : ℕ) :
   again : (rest : List Read) → Args done m (reads (actual_pieces first ++ bracket_end (map actual_pieces others)) rest) rest all d
 
 pub mark_printable : (b : ℕ) → is_mark b ≡ true → FitsPiece (mark b)
-mark_printable b h = (texts.Text.mark h, refl)
+mark_printable b h = (texts.LexemeText.mark h, refl)
 
 roll_pieces : (r : Ref) (ks : List Actual) → actual_pieces (applied r ks) ≡ ref_piece r ∷ bracketed (map actual_pieces ks)
 roll_pieces r ks = fold-roll-Actual (List Piece) (λ l. ref_piece l.head ∷ bracketed l.args) (record { head = r; args = ks })
@@ -259,12 +259,12 @@ prints_more done all m a d e p q =
       again = λ rest. subst (λ xs. Args done m xs rest all e) (sym (reads-append (actual_pieces a) later rest)) (spelling.Args.more (p.again _) refl (q.again rest));
     }
 
-suffix_word : (g : Sign) (n : List ℕ) → suffix_of g ≡ Some n → Text kinds.Word n
-suffix_word signs.Question n e = let same : 111 ∷ 112 ∷ 116 ∷ 105 ∷ 111 ∷ 110 ∷ [] ≡ n = cc in subst (λ k. Text kinds.Word k) same (texts.Text.word refl (refl, (refl, (refl, (refl, (refl, tt))))))
-suffix_word signs.Star n e = let same : 108 ∷ 105 ∷ 115 ∷ 116 ∷ [] ≡ n = cc in subst (λ k. Text kinds.Word k) same (texts.Text.word refl (refl, (refl, (refl, tt))))
+suffix_word : (g : Sign) (n : List ℕ) → suffix_of g ≡ Some n → LexemeText kinds.Word n
+suffix_word signs.Question n e = let same : 111 ∷ 112 ∷ 116 ∷ 105 ∷ 111 ∷ 110 ∷ [] ≡ n = cc in subst (λ k. LexemeText kinds.Word k) same (texts.LexemeText.word refl (refl, (refl, (refl, (refl, (refl, tt))))))
+suffix_word signs.Star n e = let same : 108 ∷ 105 ∷ 115 ∷ 116 ∷ [] ≡ n = cc in subst (λ k. LexemeText kinds.Word k) same (texts.LexemeText.word refl (refl, (refl, (refl, tt))))
 suffix_word signs.Plus n e =
     let same : 110 ∷ 111 ∷ 110 ∷ 101 ∷ 109 ∷ 112 ∷ 116 ∷ 121 ∷ 95 ∷ 108 ∷ 105 ∷ 115 ∷ 116 ∷ [] ≡ n = cc in
-    subst (λ k. Text kinds.Word k) same (texts.Text.word refl (refl, (refl, (refl, (refl, (refl, (refl, (refl, (refl, (refl, (refl, (refl, (refl, tt)))))))))))))
+    subst (λ k. LexemeText kinds.Word k) same (texts.LexemeText.word refl (refl, (refl, (refl, (refl, (refl, (refl, (refl, (refl, (refl, (refl, (refl, (refl, tt)))))))))))))
 suffix_word _ n e = absurd (cc)
 
 Suffixed-prints : {xs rest : List Read} {a b : Actual} {d e : ℕ} → Suffixed a d xs rest b e → Prints a d → AllFit xs → Prints b e × AllFit rest
@@ -297,7 +297,7 @@ Limited-fits (spelling.Limited.limited b l) h =
 -- MODULES
 
 pub record FitsToken (t : TokenDecl) : Type 0 where
-  pub name : Text kinds.Word t.name
+  pub name : LexemeText kinds.Word t.name
   pub capital : is_capital t.name ≡ true
   pub alias : FitsContent t.alias
   pub cost : IsTokenReady t
@@ -307,8 +307,8 @@ pub record FitsAlternative (a : Alternative) : Type 0 where
   pub prec : FitsPrec a.prec
 
 pub record FitsRule (r : Rule) : Type 0 where
-  pub name : Text kinds.Word r.name
-  pub formals : AllByRecursion (Text kinds.Word) r.formals
+  pub name : LexemeText kinds.Word r.name
+  pub formals : AllByRecursion (LexemeText kinds.Word) r.formals
   pub some : r.alternatives ≢ []
   pub alternatives : AllByRecursion FitsAlternative r.alternatives
 
@@ -317,7 +317,7 @@ FitsLevel l = AllByRecursion FitsRef l.names
 
 pub record FitsModule (m : Module) : Type 0 where
   pub tokens : AllByRecursion FitsToken m.tokens
-  pub starts : AllByRecursion (Text kinds.Word) m.starts
+  pub starts : AllByRecursion (LexemeText kinds.Word) m.starts
   pub levels : AllByRecursion FitsLevel m.levels
   pub on_error : AllByRecursion (AllByRecursion FitsActual) m.on_error
   pub rules : AllByRecursion FitsRule m.rules
@@ -333,7 +333,7 @@ Token-fits : (xs rest : List Read) (t : TokenDecl) → IsToken xs rest t → All
 Token-fits xs rest t (spelling.IsToken.token {x = x} {c = d} e c a) h =
     let p = Alias-fits a h.1 in (record { name = sign_fits x signs.Word e h.0; capital = c; alias = p.0; cost = first_ready x.cost d h.0.1 p.1 }, p.2)
 
-Word-fits : (xs rest : List Read) (n : List ℕ) → IsWord xs rest n → AllFit xs → Text kinds.Word n × AllFit rest
+Word-fits : (xs rest : List Read) (n : List ℕ) → IsWord xs rest n → AllFit xs → LexemeText kinds.Word n × AllFit rest
 Word-fits xs rest n (spelling.IsWord.word {x = x} e) h = (sign_fits x signs.Word e h.0, h.1)
 
 Ref-fits : (xs rest : List Read) (r : Ref) → IsRef xs rest r → AllFit xs → FitsRef r × AllFit rest
@@ -356,7 +356,7 @@ Declaration-fits : {m n : Module} {xs rest : List Read} → Declaration m xs res
 Declaration-fits (spelling.Declaration.header e) h k = (k, h.1)
 Declaration-fits (spelling.Declaration.semicolon e) h k = (k, h.1)
 Declaration-fits (spelling.Declaration.tokens e t l) h k = let p = List-fits FitsToken Token-fits l (MayType-fits t h.1) k.tokens in (record { tokens = p.0; starts = k.starts; levels = k.levels; on_error = k.on_error; rules = k.rules }, p.1)
-Declaration-fits (spelling.Declaration.starts e t l) h k = let p = List-fits (Text kinds.Word) Word-fits l (MayType-fits t h.1) k.starts in (record { tokens = k.tokens; starts = p.0; levels = k.levels; on_error = k.on_error; rules = k.rules }, p.1)
+Declaration-fits (spelling.Declaration.starts e t l) h k = let p = List-fits (LexemeText kinds.Word) Word-fits l (MayType-fits t h.1) k.starts in (record { tokens = k.tokens; starts = p.0; levels = k.levels; on_error = k.on_error; rules = k.rules }, p.1)
 Declaration-fits (spelling.Declaration.types e f l) h k = let p = List-fits FitsActual Listed-fits l h.1.1 tt in (k, p.1)
 Declaration-fits (spelling.Declaration.levels {m = m} {g = g} {ks = ks} e l) h k =
     let p = List-fits FitsRef Ref-fits l h.1 tt in (record { tokens = k.tokens; starts = k.starts; levels = all_more FitsLevel m.levels (record { assoc = g; names = ks }) k.levels p.0; on_error = k.on_error; rules = k.rules }, p.1)
@@ -429,13 +429,13 @@ Modifiers-fit spelling.Modifiers.none h = h
 Modifiers-fit (spelling.Modifiers.public e t) h = Modifiers-fit t h.1
 Modifiers-fit (spelling.Modifiers.inlined e t) h = Modifiers-fit t h.1
 
-Formals-fit : {done all : List (List ℕ)} {xs rest : List Read} → Formals done xs rest all → AllFit xs → AllByRecursion (Text kinds.Word) done →
-    AllByRecursion (Text kinds.Word) all × AllFit rest
-Formals-fit (spelling.Formals.last {done = done} {x = x} e f) h k = (all_more (Text kinds.Word) done x.text k (sign_fits x signs.Word e h.0), h.1.1)
-Formals-fit (spelling.Formals.more {done = done} {x = x} e f t) h k = Formals-fit t h.1.1 (all_more (Text kinds.Word) done x.text k (sign_fits x signs.Word e h.0))
+Formals-fit : {done all : List (List ℕ)} {xs rest : List Read} → Formals done xs rest all → AllFit xs → AllByRecursion (LexemeText kinds.Word) done →
+    AllByRecursion (LexemeText kinds.Word) all × AllFit rest
+Formals-fit (spelling.Formals.last {done = done} {x = x} e f) h k = (all_more (LexemeText kinds.Word) done x.text k (sign_fits x signs.Word e h.0), h.1.1)
+Formals-fit (spelling.Formals.more {done = done} {x = x} e f t) h k = Formals-fit t h.1.1 (all_more (LexemeText kinds.Word) done x.text k (sign_fits x signs.Word e h.0))
 
-MayFormals-fit : {done all : List (List ℕ)} {xs rest : List Read} → MayFormals done xs rest all → AllFit xs → AllByRecursion (Text kinds.Word) done →
-    AllByRecursion (Text kinds.Word) all × AllFit rest
+MayFormals-fit : {done all : List (List ℕ)} {xs rest : List Read} → MayFormals done xs rest all → AllFit xs → AllByRecursion (LexemeText kinds.Word) done →
+    AllByRecursion (LexemeText kinds.Word) all × AllFit rest
 MayFormals-fit spelling.MayFormals.absent h k = (k, h)
 MayFormals-fit (spelling.MayFormals.empty e f) h k = (k, h.1.1)
 MayFormals-fit (spelling.MayFormals.given e t) h k = Formals-fit t h.1 k

@@ -4,11 +4,11 @@ use Rattle.mh_rules.specs.declared.modules.Ref.{Ref}
 use Rattle.mh_rules.specs.declared.modules.Actual.{Actual}
 use Rattle.mh_rules.specs.declared.modules.Rule.{Rule}
 use Rattle.mh_rules.specs.declared.modules.Module.{Module}
-use Rattle.mh_reader.specs.declared.signs.Sign.{Sign}
-use Rattle.mh_reader.specs.declared.signs.Sign.TheVariants as signs
-use Rattle.mh_reader.specs.Signs.{Read}
-use Rattle.mh_reader.specs.Spelling as spelling
-use Rattle.mh_reader.specs.Spelling.{ref_by, ref_of, suffix_of, Suffixed, Base, Args, IsActual, Limited, ListOf, IsAlias, IsToken, IsWord, IsRef, MayType, Declaration, Semicolons, IsProducer, Producers, IsPrec, Productions, Groups, Modifiers, Formals, MayFormals, MayBar, IsRule, Rules, File}
+use Rattle.mh_places.specs.declared.signs.Sign.{Sign}
+use Rattle.mh_places.specs.declared.signs.Sign.TheVariants as signs
+use Rattle.mh_places.specs.Signs.{Read}
+use Rattle.mh_places.specs.Spelling as spelling
+use Rattle.mh_places.specs.Spelling.{ref_by, ref_of, suffix_of, Suffixed, Base, Args, IsActual, Limited, ListOf, IsAlias, IsToken, IsWord, IsRef, MayType, Declaration, Semicolons, IsProducer, Producers, IsPrec, Productions, Groups, Modifiers, Formals, MayFormals, MayBar, IsRule, Rules, File}
 
 abbrev pub IsHead : (Sign → Bool) → List Read → Type 0
 IsHead p [] = Unit {0}

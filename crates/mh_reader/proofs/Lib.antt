@@ -1,11 +1,8 @@
-pub mod Priced
 pub mod Heads
 pub mod Again
 pub mod Sound
 pub mod Exact
-pub mod Laid
 pub mod Fitting
-pub mod Reprinted
 pub mod Lines
 pub mod Short
 pub mod Shallow

@@ -4,8 +4,8 @@ use Rattle.mh_lex.specs.declared.kinds.Lexeme.{Lexeme}
 use Rattle.mh_lex.specs.Lexing.{line_at}
 use Rattle.mh_lex.proofs.Takes.{LexesFrom-once}
 use Rattle.mh_rules.specs.declared.modules.Module.{Module}
-use Rattle.mh_reader.specs.Signs.{reads_of}
-use Rattle.mh_reader.specs.Spelling.{Spells, Begins}
+use Rattle.mh_places.specs.Signs.{reads_of}
+use Rattle.mh_places.specs.Spelling.{Spells, Begins}
 use Rattle.mh_reader.specs.Faults.{IsHalt, IsSyntaxLine}
 use Rattle.mh_reader.specs.Faults.IsHalt.{unexpected, unfinished}
 use Rattle.mh_reader.specs.Faults.IsSyntaxLine.{lexical, syntactic}

@@ -9,9 +9,9 @@ use Rattle.mh_rules.specs.declared.modules.Alternative.{Alternative}
 use Rattle.mh_rules.specs.declared.modules.Rule.{Rule}
 use Rattle.mh_rules.specs.Depth.{actual_depth, IsActualShallow, AreProducersShallow}
 use Rattle.mh_rules.proofs.Depth.{depth_within}
-use Rattle.mh_reader.specs.Signs.{Read}
-use Rattle.mh_reader.specs.Spelling as spelling
-use Rattle.mh_reader.specs.Spelling.{Suffixed, Base, Args, IsActual, Limited}
+use Rattle.mh_places.specs.Signs.{Read}
+use Rattle.mh_places.specs.Spelling as spelling
+use Rattle.mh_places.specs.Spelling.{Suffixed, Base, Args, IsActual, Limited}
 use Rattle.mh_reader.proofs.Fitting.{FitsActual, FitsAlternative, FitsRule, all_joined}
 
 raised : (m n : ℕ) → m ≤ n → (ks : List Actual) → AllByRecursion (λ k. actual_depth k ≤ m) ks → AllByRecursion (λ k. actual_depth k ≤ n) ks

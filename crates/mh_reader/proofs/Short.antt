@@ -11,10 +11,10 @@ use Rattle.mh_rules.specs.declared.modules.Alternative.{Alternative}
 use Rattle.mh_rules.specs.declared.modules.Rule.{Rule}
 use Rattle.mh_rules.specs.declared.modules.TokenDecl.{TokenDecl}
 use Rattle.mh_rules.specs.declared.modules.Module.{Module}
-use Rattle.mh_reader.specs.declared.signs.Sign.{Sign}
-use Rattle.mh_reader.specs.Signs.{cost_behind, Read, reads_of, read_of, kept, sign_by, text_by}
+use Rattle.mh_places.specs.declared.signs.Sign.{Sign}
+use Rattle.mh_places.specs.Signs.{cost_behind, Read, reads_of, read_of, kept, sign_by, text_by}
 use Rattle.mh_rules.specs.Modules.{alternative, no_module}
-use Rattle.mh_reader.specs.Spelling.{Suffixed, Base, Args, IsActual, Limited, ListOf, IsAlias, IsToken, IsWord, IsRef, MayType, Declaration, Semicolons, IsProducer, Producers, IsPrec, Productions, Groups, with_prec, Modifiers, Formals, MayFormals, MayBar, IsRule, Rules, File, Spells}
+use Rattle.mh_places.specs.Spelling.{Suffixed, Base, Args, IsActual, Limited, ListOf, IsAlias, IsToken, IsWord, IsRef, MayType, Declaration, Semicolons, IsProducer, Producers, IsPrec, Productions, Groups, with_prec, Modifiers, Formals, MayFormals, MayBar, IsRule, Rules, File, Spells}
 
 abbrev Short : ℕ → List Alternative → Type 0
 Short n ks = All (λ k. length k.producers ≤ n) ks

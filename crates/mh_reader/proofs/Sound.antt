@@ -11,24 +11,24 @@ use Rattle.mh_rules.specs.declared.modules.Alternative.{Alternative}
 use Rattle.mh_rules.specs.declared.modules.Rule.{Rule}
 use Rattle.mh_rules.specs.declared.modules.TokenDecl.{TokenDecl}
 use Rattle.mh_rules.specs.declared.modules.Module.{Module}
-use Rattle.mh_reader.specs.declared.signs.Sign.{Sign}
-use Rattle.mh_reader.specs.declared.signs.Sign.TheVariants as signs
-use Rattle.mh_reader.specs.declared.places.Pending.{Pending}
-use Rattle.mh_reader.specs.declared.places.Draft.{Draft}
-use Rattle.mh_reader.specs.declared.places.Listing.{Listing}
-use Rattle.mh_reader.specs.declared.places.Listing.TheVariants as lists
-use Rattle.mh_reader.specs.declared.places.Purpose.{Purpose}
-use Rattle.mh_reader.specs.declared.places.Purpose.TheVariants as purposes
-use Rattle.mh_reader.specs.declared.places.Place.{Place}
-use Rattle.mh_reader.specs.declared.places.Place.TheVariants as places
-use Rattle.mh_reader.specs.declared.places.Reader.{Reader}
-use Rattle.mh_reader.specs.Signs.{Read, is_capital}
-use Rattle.mh_reader.specs.Spelling as spelling
+use Rattle.mh_places.specs.declared.signs.Sign.{Sign}
+use Rattle.mh_places.specs.declared.signs.Sign.TheVariants as signs
+use Rattle.mh_places.specs.declared.places.Pending.{Pending}
+use Rattle.mh_places.specs.declared.places.Draft.{Draft}
+use Rattle.mh_places.specs.declared.places.Listing.{Listing}
+use Rattle.mh_places.specs.declared.places.Listing.TheVariants as lists
+use Rattle.mh_places.specs.declared.places.Purpose.{Purpose}
+use Rattle.mh_places.specs.declared.places.Purpose.TheVariants as purposes
+use Rattle.mh_places.specs.declared.places.Place.{Place}
+use Rattle.mh_places.specs.declared.places.Place.TheVariants as places
+use Rattle.mh_places.specs.declared.places.Reader.{Reader}
+use Rattle.mh_places.specs.Signs.{Read, is_capital}
+use Rattle.mh_places.specs.Spelling as spelling
 use Rattle.mh_rules.specs.Modules.{applied, alternative}
-use Rattle.mh_reader.specs.Spelling.{ref_by, ref_of, suffix_of, with_prec, starts_with_bar, is_bar, Suffixed, Base, Args, IsActual, Limited, ListOf, IsAlias, IsToken, IsWord, IsRef, MayType, Declaration, Semicolons, IsProducer, Producers, IsPrec, Productions, Groups, Modifiers, Formals, MayFormals, MayBar, IsRule, Rules, File}
+use Rattle.mh_places.specs.Spelling.{ref_by, ref_of, suffix_of, with_prec, starts_with_bar, is_bar, Suffixed, Base, Args, IsActual, Limited, ListOf, IsAlias, IsToken, IsWord, IsRef, MayType, Declaration, Semicolons, IsProducer, Producers, IsPrec, Productions, Groups, Modifiers, Formals, MayFormals, MayBar, IsRule, Rules, File}
 use Rattle.mh_reader.specs.Limits.{Deep, IsShallow}
-use Rattle.mh_reader.specs.Machine as machine
-use Rattle.mh_reader.specs.Machine.{at, next_at, finish_at, run, go_on, costed, costed_place, fits, close, token_of, with_token, with_formal, named, drafted, produced, with_producer, with_argument, grouped, grouped_with, ruled}
+use Rattle.mh_places.specs.Machine as machine
+use Rattle.mh_places.specs.Machine.{at, next_at, finish_at, run, go_on, costed, costed_place, fits, close, token_of, with_token, with_formal, named, drafted, produced, with_producer, with_argument, grouped, grouped_with, ruled}
 use Rattle.mh_reader.proofs.Again.{map_none, option_or-none}
 
 abbrev with_alternatives : Rule → List Alternative → Rule

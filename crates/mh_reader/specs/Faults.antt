@@ -5,9 +5,9 @@ use Rattle.mh_lex.specs.declared.kinds.SyntaxFault.{SyntaxFault}
 use Rattle.mh_lex.specs.declared.kinds.SyntaxFault.TheVariants.{Syntax, Memory}
 use Rattle.mh_lex.specs.Lexing.{Lexes, line_at}
 use Rattle.mh_rules.specs.declared.modules.Module.{Module}
-use Rattle.mh_reader.specs.Signs.{reads_of}
+use Rattle.mh_places.specs.Signs.{reads_of}
 use Rattle.mh_rules.specs.Modules.{no_module}
-use Rattle.mh_reader.specs.Spelling.{File, Spells, Begins}
+use Rattle.mh_places.specs.Spelling.{File, Spells, Begins}
 
 -- Where these lexemes of a file stop being how some file begins: at the first lexeme with which those so far are how no
 -- file begins; where the file ends too early, behind all its line feeds.

@@ -1,9 +1,9 @@
 -- No actual that is being read is too deep.
 use Rattle.std.specs.Prelude.{◌≤◌, ◌+◌, List, [], ◌∷◌, length}
 use Rattle.mh_rules.specs.declared.modules.TheConstants.{MAX_DEPTH}
-use Rattle.mh_reader.specs.declared.places.Pending.{Pending}
-use Rattle.mh_reader.specs.declared.places.Place.{Place}
-use Rattle.mh_reader.specs.declared.places.Place.TheVariants as places
+use Rattle.mh_places.specs.declared.places.Pending.{Pending}
+use Rattle.mh_places.specs.declared.places.Place.{Place}
+use Rattle.mh_places.specs.declared.places.Place.TheVariants as places
 
 -- the arguments so far of each bracket, the newest first
 abbrev pub Deep : List Pending → Type 0

@@ -2,20 +2,17 @@
 ghost use Rattle.std.specs.Prelude.{◌≡◌, ◌+◌, ◌≤◌, ◌∷◌, ◌++◌, [], suc, IfOk, length, nat_le, max};
 ghost use Rattle.mh_rules.specs.declared.modules.Ref.TheVariants.{Plain};
 ghost use Rattle.mh_rules.specs.Modules.{applied};
-ghost use Rattle.mh_reader.specs.declared.places.Place.TheVariants as places;
-ghost use Rattle.mh_reader.specs.Spelling.{ref_by};
-ghost use Rattle.mh_reader.specs.Machine as machine;
-ghost use Rattle.mh_reader.specs.Machine.{Refers, with_argument, with_producer};
+ghost use Rattle.mh_places.specs.declared.places.Place.TheVariants as places;
+ghost use Rattle.mh_places.specs.Spelling.{ref_by};
+ghost use Rattle.mh_places.specs.Machine as machine;
+ghost use Rattle.mh_places.specs.Machine.{Refers, with_argument, with_producer};
 ghost use Rattle.mh_reader.specs.Limits.{Deep};
 
-use crate::declarations::at_items;
-use crate::places::{
-    Draft, Listing, Pending, Place, Purpose, Reader, Refusal, go_to, no_memory, unexpected,
-};
-use crate::rules::{at_spaced, reference};
-use crate::signs::Sign;
-use crate::stack::Stack;
 use mh_grammar::{Memory, Name, Sequence, from_bytes};
+use mh_places::{
+    Draft, Listing, Pending, Place, Purpose, Reader, Refusal, Sign, Stack, at_items, at_spaced,
+    go_to, no_memory, reference, unexpected,
+};
 use mh_rules::{Actual, MAX_DEPTH, Module, Ref};
 use std::alloc::Global;
 

@@ -1,23 +1,19 @@
 //! One lexeme more.
-ghost use Rattle.mh_reader.specs.Machine as machine;
-ghost use Rattle.mh_reader.specs.Machine.{Refers};
+ghost use Rattle.mh_places.specs.Machine as machine;
+ghost use Rattle.mh_places.specs.Machine.{Refers};
 ghost use Rattle.mh_reader.specs.Limits.{IsShallow};
 
 use crate::actuals::{Measured, after, at_argument, at_head, at_named};
-use crate::declarations::{
-    at_aliased, at_comma, at_items, at_opening, at_parameter, at_token, at_type, declare,
+use mh_places::{
+    Place, Reader, Refusal, Sign, at_aliased, at_begin, at_closed, at_comma, at_formal_comma,
+    at_formal_read, at_formals_closed, at_formals_open, at_group, at_group_prec, at_items,
+    at_modified, at_opening, at_parameter, at_prec, at_rule_end, at_rule_named, at_spaced,
+    at_token, at_type, behind_group, declare, in_production, in_rules,
 };
-use crate::places::{Place, Reader, Refusal};
-use crate::rules::{
-    at_begin, at_closed, at_formal_comma, at_formal_read, at_formals_closed, at_formals_open,
-    at_group, at_group_prec, at_modified, at_prec, at_rule_end, at_rule_named, at_spaced,
-    behind_group, in_production, in_rules,
-};
-use crate::signs::Sign;
 use std::alloc::Global;
 
 /// The reader behind one lexeme more.
-#[tactic(auto, unfolding(crate::specs::Machine::next_at))]
+#[tactic(auto, unfolding(mh_places::specs::Machine::next_at))]
 pub(crate) fn advance(
     alloc: Global,
     reader: Reader,

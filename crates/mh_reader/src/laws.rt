@@ -1,9 +1,9 @@
 //! What holds of bytes and the module that they spell.
 ghost use Rattle.std.specs.Prelude.{◌≡◌, ◌↔◌, ℕ, List, Some};
 ghost use Rattle.mh_rules.specs.declared.modules.Module.{Module};
-ghost use Rattle.mh_reader.specs.Spelling.{Spells};
+ghost use Rattle.mh_places.specs.Spelling.{Spells};
 ghost use Rattle.mh_reader.specs.Faults.{IsSyntaxLine};
-ghost use Rattle.mh_reader.specs.Costs.{IsCostText, cost_of};
+ghost use Rattle.mh_places.specs.Costs.{IsCostText, cost_of};
 
 use mh_lex::lexed_once;
 

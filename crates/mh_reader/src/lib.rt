@@ -3,17 +3,9 @@
 
 mod actuals;
 mod advance;
-mod costs;
-mod declarations;
 mod laws;
-mod places;
-mod printing;
 mod reading;
-mod rules;
-mod signs;
-mod stack;
 
 pub use laws::{cost_is_spelled, line_once, spelled_once};
 pub use mh_rules::{Actual, Alternative, LevelDecl, Module, Ref, Rule, TokenDecl};
-pub use printing::print_module;
 pub use reading::read_module;

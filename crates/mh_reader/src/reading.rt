@@ -5,22 +5,21 @@ ghost use Rattle.mh_lex.specs.Lexing.{IsWithin, line_at};
 ghost use Rattle.mh_lex.specs.Texts.{bytes_of};
 ghost use Rattle.mh_rules.specs.declared.modules.Module.{Module};
 ghost use Rattle.mh_rules.specs.Ready.{IsModuleReady};
-ghost use Rattle.mh_reader.specs.Signs.{reads_of, sign_by, text_by};
+ghost use Rattle.mh_places.specs.Signs.{reads_of, sign_by, text_by};
 ghost use Rattle.mh_reader.specs.Limits.{IsShallow};
 ghost use Rattle.mh_rules.specs.Modules.{no_module};
-ghost use Rattle.mh_reader.specs.Spelling.{File, Spells};
-ghost use Rattle.mh_reader.specs.Machine.{Refers, costed, finish_at, start, taken};
-ghost use Rattle.mh_reader.specs.Costs as spec;
+ghost use Rattle.mh_places.specs.Spelling.{File, Spells};
+ghost use Rattle.mh_places.specs.Machine.{Refers, costed, finish_at, start, taken};
+ghost use Rattle.mh_places.specs.Costs as spec;
 ghost use Rattle.std.specs.Option.{option_or};
 ghost use Rattle.mh_reader.specs.Faults.{Refuses, Stops};
 
 use crate::advance::advance;
-use crate::costs::cost_of;
-use crate::places::{Place, Reader, Refusal, no_memory, unexpected};
-use crate::rules::{add_rule, group_of};
-use crate::signs::{Sign, content_of, sign_of};
 use mh_grammar::Sequence;
 use mh_lex::{Lexeme, SyntaxFault, lex, lexed_once, line_of};
+use mh_places::{
+    Place, Reader, Refusal, add_rule, content_of, cost_of, group_of, no_memory, sign_of, unexpected,
+};
 use mh_rules::{Module, TokenDecl};
 use std::alloc::Global;
 
@@ -41,7 +40,7 @@ fn fresh(alloc: Global) -> Reader
 }
 
 /// The module, where the file may end here.
-#[tactic(auto, unfolding(crate::specs::Machine::finish_at))]
+#[tactic(auto, unfolding(mh_places::specs::Machine::finish_at))]
 fn ended(reader: Reader) -> Result<Module, Refusal>
     ensures { Refers (finish_at reader.made reader.place) result }
 {

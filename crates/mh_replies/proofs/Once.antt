@@ -3,7 +3,7 @@ use Rattle.std.proofs.Common.{◌≡◌, sym, ap, ◌∙◌, inl, inr}
 use Rattle.mh_grammar.specs.declared.types.Grammar.{Grammar}
 use Rattle.mh_tables.specs.Table.{TableData}
 use Rattle.mh_msgfile.specs.Sentences.{vocabulary_of}
-use Rattle.mh_session.specs.Names.{Text}
+use Rattle.mh_grammar.specs.Text.{Text}
 use Rattle.mh_session.specs.Answers.{Branches}
 use Rattle.mh_session.proofs.Spelling.{says_once}
 use Rattle.mh_replies.specs.Replies.{AnswersLine, said_text, behind_said}

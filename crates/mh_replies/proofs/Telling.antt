@@ -7,7 +7,7 @@ use Rattle.mh_grammar.specs.declared.types.Memory.{Memory}
 use Rattle.mh_msgfile.specs.Sentences.{Vocabulary, vocabulary_of}
 use Rattle.mh_session.specs.declared.command.Command.{Command}
 use Rattle.mh_session.specs.declared.command.SessionFault.TheVariants as faults
-use Rattle.mh_session.specs.Names.{Text}
+use Rattle.mh_grammar.specs.Text.{Text}
 use Rattle.mh_session.specs.Moments.{Moment}
 use Rattle.mh_session.specs.Answers.{Branches, Answer, next}
 use Rattle.mh_session.specs.Standing.{StandsFor}

@@ -16,7 +16,7 @@ use Rattle.mh_session.specs.declared.command.SessionFault.{SessionFault}
 use Rattle.mh_session.specs.declared.command.SessionFault.TheVariants as faults
 use Rattle.mh_session.specs.Answers.{Branches, Answer, answer, next}
 use Rattle.mh_session.specs.Lines.{Form, HasForm, Said, Asks, NamesNoStart, LacksStart, NamesNoToken, LineSays}
-use Rattle.mh_session.specs.Names.{Text}
+use Rattle.mh_grammar.specs.Text.{Text}
 
 -- the word for a phase
 abbrev pub phase_word : Phase → Text

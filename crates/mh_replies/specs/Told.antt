@@ -4,7 +4,7 @@ use Rattle.std.specs.declared.alloc.Global.{Global}
 use Rattle.mh_grammar.specs.declared.types.Grammar.{Grammar}
 use Rattle.mh_grammar.specs.declared.types.Memory.{Memory}
 use Rattle.mh_session.specs.declared.command.SessionFault.TheVariants as faults
-use Rattle.mh_session.specs.Names.{Text}
+use Rattle.mh_grammar.specs.Text.{Text}
 use Rattle.mh_session.specs.Moments.{Moment}
 use Rattle.mh_session.specs.Answers.{Branches, Answer}
 use Rattle.mh_session.specs.Standing.{StandsFor}

@@ -2,7 +2,7 @@
 ghost use Rattle.std.specs.Prelude.{◌≡◌};
 ghost use Rattle.mh_grammar.specs.declared.types.Grammar.{Grammar};
 ghost use Rattle.mh_tables.specs.Table.{TableData};
-ghost use Rattle.mh_session.specs.Names.{Text};
+ghost use Rattle.mh_grammar.specs.Text.{Text};
 ghost use Rattle.mh_session.specs.Answers.{Branches};
 ghost use Rattle.mh_replies.specs.Replies.{AnswersLine};
 

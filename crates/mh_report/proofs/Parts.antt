@@ -6,14 +6,14 @@ use Rattle.std.proofs.lemmas.List.Elements.{All-from_recursion}
 use Rattle.mh_grammar.specs.declared.types.Grammar.{Grammar}
 use Rattle.mh_grammar.specs.declared.edges.Edge.{Edge}
 use Rattle.mh_grammar.specs.Plain.{plain_of}
-use Rattle.mh_items.specs.Shapes.{Kernel}
-use Rattle.mh_items.specs.Shapes.{KernelItem}
-use Rattle.mh_items.specs.Shapes.{Automaton}
-use Rattle.mh_items.specs.Kernels.{IsKernelItem}
-use Rattle.mh_items.specs.Automaton.{IsAutomaton, kernel_at, edges_at}
+use Rattle.mh_kernels.specs.Shapes.{Kernel}
+use Rattle.mh_kernels.specs.Shapes.{KernelItem}
+use Rattle.mh_kernels.specs.Shapes.{Automaton}
+use Rattle.mh_kernels.specs.Kernels.{IsKernelItem}
+use Rattle.mh_kernels.specs.Automaton.{IsAutomaton, kernel_at, edges_at}
 use Rattle.mh_tables.specs.Table.{TableData, fallback_of}
-use Rattle.mh_resolve.proofs.Resolving.{kernel_is, edges_are, items_of}
-use Rattle.mh_report.specs.Items.{Text}
+use Rattle.mh_cells.proofs.Resolving.{kernel_is, edges_are, items_of}
+use Rattle.mh_grammar.specs.Text.{Text}
 use Rattle.mh_report.specs.Automata.{head_line, kernel_lines, goto_lines, AreActionLines, IsStateText, AreStateTexts, Adds}
 
 pub kernel_items : (g : Grammar) (a : Automaton) → IsAutomaton (plain_of g) a → (n : ℕ) (kernel : Kernel) (items : List KernelItem) → n < length a.kernels → kernel ≡ get_or a.kernels n kernel → items ≡ kernel.items → All (IsKernelItem (plain_of g)) items

@@ -5,23 +5,20 @@ use Rattle.mh_grammar.specs.declared.types.Symbol.{Symbol}
 use Rattle.mh_grammar.specs.declared.types.Symbol.TheVariants.{T, N}
 use Rattle.mh_grammar.specs.declared.edges.Edge.{Edge}
 use Rattle.mh_grammar.specs.Names.{token_name, nonterminal_name}
-use Rattle.mh_items.specs.Shapes.{KernelItem}
-use Rattle.mh_items.specs.Shapes.{Automaton}
-use Rattle.mh_items.specs.Automaton.{kernel_at, edges_at}
+use Rattle.mh_kernels.specs.Shapes.{KernelItem}
+use Rattle.mh_kernels.specs.Shapes.{Automaton}
+use Rattle.mh_kernels.specs.Automaton.{kernel_at, edges_at}
 use Rattle.mh_tables.specs.declared.parts.Action.{Action}
 use Rattle.mh_tables.specs.declared.parts.Action.TheVariants.{Shift, Reduce, Refuse}
 use Rattle.mh_tables.specs.declared.parts.Fallback.{Fallback}
 use Rattle.mh_tables.specs.declared.parts.Fallback.TheVariants as fallbacks
 use Rattle.mh_tables.specs.Table.{TableData, cell_of, fallback_of}
-use Rattle.mh_resolve.specs.declared.kinds.Mode.{Mode}
-use Rattle.mh_resolve.specs.declared.kinds.Mode.TheVariants.{Merged, Canonical}
-use Rattle.mh_resolve.specs.States.{state_of}
-use Rattle.mh_resolve.specs.Holes.{AreHoles}
-use Rattle.mh_report.specs.Items.{Text, production_text, item_lines}
-
-abbrev pub mode_name : Mode → Text
-mode_name Merged = codes "merged"
-mode_name Canonical = codes "canonical"
+use Rattle.mh_cells.specs.Names.{mode_name}
+use Rattle.mh_cells.specs.declared.kinds.Mode.{Mode}
+use Rattle.mh_cells.specs.States.{state_of}
+use Rattle.mh_cells.specs.Holes.{AreHoles}
+use Rattle.mh_grammar.specs.Text.{Text}
+use Rattle.mh_report.specs.Items.{production_text, item_lines}
 
 abbrev pub title : Mode → ℕ → Text
 title mode states = mode_name mode ++ codes ": " ++ decimal states ++ codes " states\n"

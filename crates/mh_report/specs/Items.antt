@@ -3,13 +3,11 @@ use Rattle.std.specs.Prelude.{ℕ, List, [], ◌∷◌, ◌++◌, length, nat_lt
 use Rattle.mh_grammar.specs.declared.types.Symbol.{Symbol}
 use Rattle.mh_grammar.specs.declared.types.Grammar.{Grammar}
 use Rattle.mh_grammar.specs.declared.types.Look.{Look}
-use Rattle.mh_grammar.specs.declared.types.Look.TheVariants.{Token, End}
 use Rattle.mh_grammar.specs.Plain.{plain_of, rhs_of}
-use Rattle.mh_grammar.specs.Names.{token_name, symbol_name, left_side_name, start_name}
-use Rattle.mh_items.specs.Shapes.{KernelItem}
-
-abbrev pub Text : Type 0
-Text = List ℕ
+use Rattle.mh_cells.specs.Names.{look_name}
+use Rattle.mh_grammar.specs.Names.{symbol_name, left_side_name, start_name}
+use Rattle.mh_kernels.specs.Shapes.{KernelItem}
+use Rattle.mh_grammar.specs.Text.{Text}
 
 -- symbols, each after one space
 abbrev pub names_after : Grammar → List Symbol → Text
@@ -28,11 +26,6 @@ left_side g p = if nat_lt p (length g.starts) then start_name g p ++ codes "'" e
 -- a production: its left side, an arrow, and its right side
 abbrev pub production_text : Grammar → ℕ → Text
 production_text g p = left_side g p ++ codes " ->" ++ names_after g (rhs_of (plain_of g) p)
-
--- the end of the stream is `#`
-abbrev pub look_name : Grammar → Look → Text
-look_name g (Token z) = token_name g z
-look_name g End = codes "#"
 
 -- looks, each after one space
 abbrev pub looks_after : Grammar → List Look → Text

@@ -2,10 +2,11 @@
 use Rattle.std.specs.Prelude.{ℕ, List, [], ◌∷◌, ◌++◌, codes, decimal}
 use Rattle.mh_grammar.specs.declared.types.Grammar.{Grammar}
 use Rattle.mh_grammar.specs.declared.types.Look.{Look}
-use Rattle.mh_resolve.specs.declared.kinds.ConflictKind.{ConflictKind}
-use Rattle.mh_resolve.specs.declared.kinds.ConflictKind.TheVariants.{Solved, Unsolved, Stream}
-use Rattle.mh_resolve.specs.declared.conflicts.Conflict.{Conflict}
-use Rattle.mh_report.specs.Items.{Text, look_name}
+use Rattle.mh_cells.specs.declared.kinds.ConflictKind.{ConflictKind}
+use Rattle.mh_cells.specs.declared.kinds.ConflictKind.TheVariants.{Solved, Unsolved, Stream}
+use Rattle.mh_cells.specs.declared.conflicts.Conflict.{Conflict}
+use Rattle.mh_grammar.specs.Text.{Text}
+use Rattle.mh_cells.specs.Names.{look_name}
 
 unfoldable pub conflict_place : ℕ → Text
 conflict_place s = codes "menhir: warning: conflict in state " ++ decimal s ++ codes " on "

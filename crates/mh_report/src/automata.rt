@@ -2,17 +2,18 @@
 ghost use Rattle.std.specs.Prelude.{◌≡◌, ◌<◌, ◌≤◌, ◌++◌, length, codes, decimal, IfOk, OnOk};
 ghost use Rattle.std.specs.List.{All};
 ghost use Rattle.mh_grammar.specs.Plain.{plain_of, IsInRange};
-ghost use Rattle.mh_items.specs.Kernels.{IsKernelItem};
-ghost use Rattle.mh_items.specs.Automaton.{IsAutomaton, kernel_at, edges_at};
+ghost use Rattle.mh_kernels.specs.Kernels.{IsKernelItem};
+ghost use Rattle.mh_kernels.specs.Automaton.{IsAutomaton, kernel_at, edges_at};
 ghost use Rattle.mh_tables.specs.Table.{cell_of, fallback_of};
-ghost use Rattle.mh_resolve.specs.declared.kinds.Mode.{Mode as ModeOf};
-ghost use Rattle.mh_resolve.specs.States.{IsTableOf};
-ghost use Rattle.mh_report.specs.Automata.{mode_name, title, kernel_lines, cell_line, cell_lines, goto_line, goto_lines, default_line, head_line, AreActionLines, IsStateText, IsAutomatonText, Adds};
+ghost use Rattle.mh_cells.specs.declared.kinds.Mode.{Mode as ModeOf};
+ghost use Rattle.mh_cells.specs.States.{IsTableOf};
+ghost use Rattle.mh_cells.specs.Names.{mode_name};
+ghost use Rattle.mh_report.specs.Automata.{title, kernel_lines, cell_line, cell_lines, goto_line, goto_lines, default_line, head_line, AreActionLines, IsStateText, IsAutomatonText, Adds};
 
 use crate::items::{write_item_lines, write_number, write_production};
+use mh_cells::{Mode, holes_of};
 use mh_grammar::{Edge, Grammar, Memory, Symbol, Token, nonterminal_name, token_name};
-use mh_items::{Automaton, KernelItem};
-use mh_resolve::{Mode, holes_of};
+use mh_kernels::{Automaton, KernelItem};
 use mh_tables::{Action, Fallback, Halting, Table};
 use std::alloc::Global;
 

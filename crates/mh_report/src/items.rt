@@ -2,13 +2,14 @@
 ghost use Rattle.std.specs.Prelude.{◌≡◌, ◌≤◌, ◌++◌, length, decimal, MatchOption, OnOk, ⊤};
 ghost use Rattle.std.specs.List.{All};
 ghost use Rattle.mh_grammar.specs.Plain.{plain_of, rhs_of};
-ghost use Rattle.mh_items.specs.Kernels.{IsKernelItem};
-ghost use Rattle.mh_report.specs.Items.{names_after, symbols_text, left_side, production_text, look_name, looks_after, kernel_text, item_line, item_lines};
+ghost use Rattle.mh_kernels.specs.Kernels.{IsKernelItem};
+ghost use Rattle.mh_cells.specs.Names.{look_name};
+ghost use Rattle.mh_report.specs.Items.{names_after, symbols_text, left_side, production_text, looks_after, kernel_text, item_line, item_lines};
 
 use mh_grammar::{
     Grammar, Look, Memory, Symbol, left_side_name, nonterminal_name, symbol_name, token_name,
 };
-use mh_items::KernelItem;
+use mh_kernels::KernelItem;
 use mh_sets::TokenSet;
 use std::alloc::Global;
 

@@ -10,22 +10,22 @@ use Rattle.mh_grammar.specs.declared.types.Look.{Look}
 use Rattle.mh_grammar.specs.declared.types.Look.TheVariants.{Token, End}
 use Rattle.mh_grammar.specs.declared.edges.Edge.{Edge}
 use Rattle.mh_grammar.specs.Plain.{plain_of, IsLookBelow}
-use Rattle.mh_items.specs.Empties.{HasComplete}
-use Rattle.mh_items.specs.Shapes.{Items, Kernel}
-use Rattle.mh_items.specs.Shapes.{KernelItem}
-use Rattle.mh_items.specs.Kernels.{IsKernel, IsKernelItem}
+use Rattle.mh_kernels.specs.Empties.{HasComplete}
+use Rattle.mh_kernels.specs.Shapes.{Items, Kernel}
+use Rattle.mh_kernels.specs.Shapes.{KernelItem}
+use Rattle.mh_kernels.specs.Kernels.{IsItemList, IsKernelItem}
 use Rattle.mh_tables.specs.declared.parts.Action.{Action}
 use Rattle.mh_tables.specs.declared.parts.Action.TheVariants.{Shift, Reduce, Refuse}
 use Rattle.mh_tables.specs.declared.parts.StateParts.{StateParts}
-use Rattle.mh_resolve.specs.declared.kinds.Mode.{Mode}
-use Rattle.mh_resolve.specs.declared.cells.Cell.{Cell}
-use Rattle.mh_resolve.specs.States.{Raw, IsCandidate, IsForErrors, place_of, IsResolved}
-use Rattle.mh_resolve.specs.code.Rows.{listed, AreCells, IsDecidedOn, IsStreamIn, IsDefaultIn, IsLooked, no_cell}
-use Rattle.mh_resolve.specs.code.Whole.{closed_state, kept_of, IsFiller, filled_with, fallback_for, IsKnown, IsRow, AreEdgesKnown}
-use Rattle.mh_resolve.specs.code.Counting.{AreLooksKnown}
+use Rattle.mh_cells.specs.declared.kinds.Mode.{Mode}
+use Rattle.mh_cells.specs.declared.cells.Cell.{Cell}
+use Rattle.mh_cells.specs.States.{Raw, IsCandidate, IsForErrors, place_of, IsResolved}
+use Rattle.mh_cells.specs.code.Rows.{listed, AreCells, IsDecidedOn, IsStreamIn, IsDefaultIn, IsLooked, no_cell}
+use Rattle.mh_cells.specs.code.Whole.{closed_state, kept_of, IsFiller, filled_with, fallback_for, IsKnown, IsRow, AreEdgesKnown}
+use Rattle.mh_cells.specs.code.Counting.{AreLooksKnown}
 use Rattle.mh_resolve.proofs.Same.{AreAlike, decided_same}
 use Rattle.mh_grammar.proofs.Lists.{recursion_contains}
-use Rattle.mh_resolve.proofs.Stating.{stream_to, stream_from, found, fallback_is, cell_is}
+use Rattle.mh_cells.proofs.Stating.{stream_to, stream_from, found, fallback_is, cell_is}
 
 -- the complete items of the closure are listed
 abbrev pub IsListed : Grammar → Kernel → Kernel → Type 0
@@ -102,7 +102,7 @@ parts_is g kernel closed edges mode e k row slice last stream r same default fil
       core = core;
     }
 
-pub known_is : (g : Grammar) (kernel : Kernel) (closed : Items) (edges : List Edge) → IsKernel (plain_of g) closed → IsListed g kernel closed → AreEdgesKnown (length g.tokens) edges → IsKnown (closed_state g kernel edges)
+pub known_is : (g : Grammar) (kernel : Kernel) (closed : Items) (edges : List Edge) → IsItemList (plain_of g) closed → IsListed g kernel closed → AreEdgesKnown (length g.tokens) edges → IsKnown (closed_state g kernel edges)
 known_is g kernel closed edges h e k = record { known = known }
   where
     known : (look : Look) (a : Action) → Raw (closed_state g kernel edges) look a → IsLookBelow (length g.tokens) look
@@ -114,8 +114,8 @@ known_is g kernel closed edges h e k = record { known = known }
         recursion_contains (IsLookBelow (length g.tokens)) held.0.looks is.looks (Token z) held.4
     known (Token z) Refuse r = absurd r
 
-pub looked_is : (g : Grammar) (closed : Items) → IsKernel (plain_of g) closed → All IsLooked closed.items
+pub looked_is : (g : Grammar) (closed : Items) → IsItemList (plain_of g) closed → All IsLooked closed.items
 looked_is g closed h = All-weaker (IsKernelItem (plain_of g)) IsLooked (λ item is. is.some) closed.items (All-from_recursion (IsKernelItem (plain_of g)) closed.items h.items)
 
-pub looks_known : (g : Grammar) (closed : Items) → IsKernel (plain_of g) closed → All (AreLooksKnown (length g.tokens)) closed.items
+pub looks_known : (g : Grammar) (closed : Items) → IsItemList (plain_of g) closed → All (AreLooksKnown (length g.tokens)) closed.items
 looks_known g closed h = All-weaker (IsKernelItem (plain_of g)) (AreLooksKnown (length g.tokens)) (λ item is. is.looks) closed.items (All-from_recursion (IsKernelItem (plain_of g)) closed.items h.items)

@@ -1,17 +1,2 @@
 pub mod Assembling
-pub mod Bridging
-pub mod Clear
-pub mod Closed
-pub mod Counted
-pub mod Deciding
-pub mod Listing
-pub mod Once
-pub mod Ranking
-pub mod Refusing
-pub mod Resolving
-pub mod Rowing
 pub mod Same
-pub mod Shifting
-pub mod Stating
-pub mod Tabled
-pub mod Tallying

@@ -1,30 +1,31 @@
 //! The table of an automaton, and its conflicts.
-ghost use Rattle.std.specs.Prelude.{◌≡◌, ◌≤◌, ◌*◌, ◌<◌, ◌↔◌, ℕ, [], length, IfOk, Some};
+ghost use Rattle.std.specs.Prelude.{◌≡◌, ◌≤◌, ◌*◌, ◌<◌, ◌↔◌, ℕ, [], length, IfOk, OnOk, Some};
 ghost use Rattle.mh_grammar.specs.Costs.{HaveCosts};
 ghost use Rattle.mh_grammar.specs.Plain.{plain_of, IsInRange};
 ghost use Rattle.mh_grammar.specs.Edges.{IsRising, IsEdgeBefore};
 ghost use Rattle.mh_items.specs.Closer.{IsCloser};
-ghost use Rattle.mh_items.specs.Kernels.{IsKernel};
-ghost use Rattle.mh_items.specs.Empties.{HasComplete};
-ghost use Rattle.mh_items.specs.Automaton.{IsAutomaton};
+ghost use Rattle.mh_kernels.specs.Kernels.{IsItemList};
+ghost use Rattle.mh_kernels.specs.Empties.{HasComplete};
+ghost use Rattle.mh_kernels.specs.Automaton.{IsAutomaton};
 ghost use Rattle.mh_tables.specs.Table.{table_data, state_at};
 ghost use Rattle.mh_tables.specs.Facts.{Facts};
-ghost use Rattle.mh_resolve.specs.States.{state_of, IsResolved, AreResolved, IsTableOf};
-ghost use Rattle.mh_resolve.specs.Conflicts.{AreConflicts};
-ghost use Rattle.mh_items.specs.Conflicts.{IsConflicting, IsFaulty};
-ghost use Rattle.mh_resolve.specs.Clear.{HasNoConflicts, HasRawConflict, ActsWithin, ActsClearly};
-ghost use Rattle.mh_resolve.specs.code.Whole.{closed_state, IsRow, AreEdgesKnown};
+ghost use Rattle.mh_cells.specs.States.{state_of, IsResolved, AreResolved, IsTableOf};
+ghost use Rattle.mh_cells.specs.Conflicts.{AreConflicts};
+ghost use Rattle.mh_kernels.specs.Conflicts.{IsConflicting, IsFaulty};
+ghost use Rattle.mh_cells.specs.Clear.{HasNoConflicts, HasRawConflict, ActsWithin, ActsClearly};
+ghost use Rattle.mh_cells.specs.code.Whole.{closed_state, IsRow, AreEdgesKnown};
 
-use crate::conflicts::{Conflict, add_conflicts};
-use crate::kinds::Mode;
+use crate::found::add_conflicts;
 use crate::states::{Row, parts_of, row_of};
+use mh_cells::{Conflict, Mode};
 use mh_grammar::{Edge, Grammar, Memory};
-use mh_items::{Automaton, Closer, Closure, Kernel};
+use mh_items::Closer;
+use mh_kernels::{Automaton, Closure, Kernel};
 use mh_tables::{StateParts, Table, table_of};
 use std::alloc::Global;
 
 // A state of the table, and what was found of it.
-#[derive(Debug, Drop)]
+#[derive(Drop)]
 struct Resolved {
     parts: StateParts,
     row: Row,
@@ -42,7 +43,7 @@ fn resolve_state<const W: usize>(
     requires width { length grammar.now.tokens ≤ 64 * W }
     requires range { IsInRange (plain_of grammar.now) }
     requires closer { IsCloser (plain_of grammar.now) closer.old }
-    requires kernel { IsKernel (plain_of grammar.now) kernel.now }
+    requires kernel { IsItemList (plain_of grammar.now) kernel.now }
     requires rising { IsRising IsEdgeBefore edges.now }
     requires known { AreEdgesKnown (length grammar.now.tokens) edges.now }
     ensures parts { IfOk result (λ r. IsResolved mode (closed_state grammar.now kernel.now edges.now) kernel.now r.parts) }
@@ -69,7 +70,7 @@ pub fn resolve_one<const W: usize>(
     requires width { length grammar.now.tokens ≤ 64 * W }
     requires range { IsInRange (plain_of grammar.now) }
     requires closer { IsCloser (plain_of grammar.now) closer.old }
-    requires kernel { IsKernel (plain_of grammar.now) kernel.now }
+    requires kernel { IsItemList (plain_of grammar.now) kernel.now }
     requires rising { IsRising IsEdgeBefore edges.now }
     requires known { AreEdgesKnown (length grammar.now.tokens) edges.now }
     ensures parts { IfOk result (IsResolved mode (closed_state grammar.now kernel.now edges.now) kernel.now) }
@@ -89,7 +90,7 @@ fn resolve_listed<const W: usize>(
     mode: Mode,
 ) -> Result<Resolved, Memory>
     requires few { W ≤ 8 }
-    requires closed { IsKernel (plain_of grammar.now) closed.now }
+    requires closed { IsItemList (plain_of grammar.now) closed.now }
     requires exact { HasComplete (plain_of grammar.now) kernel.now closed.now }
     requires rising { IsRising IsEdgeBefore edges.now }
     requires known { AreEdgesKnown (length grammar.now.tokens) edges.now }
@@ -99,6 +100,70 @@ fn resolve_listed<const W: usize>(
     let row = row_of(alloc, grammar, kernel, closed, edges)?;
     let parts = parts_of(alloc, grammar, kernel, closed, edges, mode, &row)?;
     Ok(Resolved { parts, row })
+}
+
+// Both lists, into places that the caller owns.
+fn all_states<const W: usize>(
+    alloc: Global,
+    grammar: &Grammar,
+    automaton: &Automaton<W>,
+    mode: Mode,
+    states: &mut Vec<StateParts>,
+    conflicts: &mut Vec<Conflict>,
+) -> Result<(), Memory>
+    requires few { W ≤ 8 }
+    requires width { length grammar.now.tokens ≤ 64 * W }
+    requires range { IsInRange (plain_of grammar.now) }
+    requires costs { HaveCosts grammar.now.tokens }
+    requires automaton { IsAutomaton (plain_of grammar.now) automaton.now }
+    requires none { states.old.items ≡ [] }
+    requires free { conflicts.old.items ≡ [] }
+    ensures states { OnOk result (AreResolved grammar.now automaton.now mode states.new.items) }
+    ensures facts { OnOk result (Facts (table_data grammar.now states.new.items)) }
+    ensures conflicts { OnOk result (AreConflicts grammar.now automaton.now conflicts.new.items) }
+{
+    let mut closer = Closer::new(alloc, grammar)?;
+    add_states(
+        alloc,
+        grammar,
+        &mut closer,
+        automaton,
+        mode,
+        states,
+        conflicts,
+    )
+}
+
+// State after state.
+fn add_states<const W: usize>(
+    alloc: Global,
+    grammar: &Grammar,
+    closer: &mut Closer<W>,
+    automaton: &Automaton<W>,
+    mode: Mode,
+    states: &mut Vec<StateParts>,
+    conflicts: &mut Vec<Conflict>,
+) -> Result<(), Memory>
+    requires few { W ≤ 8 }
+    requires width { length grammar.now.tokens ≤ 64 * W }
+    requires range { IsInRange (plain_of grammar.now) }
+    requires costs { HaveCosts grammar.now.tokens }
+    requires automaton { IsAutomaton (plain_of grammar.now) automaton.now }
+    requires closer { IsCloser (plain_of grammar.now) closer.old }
+    requires none { states.old.items ≡ [] }
+    requires free { conflicts.old.items ≡ [] }
+    ensures states { OnOk result (AreResolved grammar.now automaton.now mode states.new.items) }
+    ensures facts { OnOk result (Facts (table_data grammar.now states.new.items)) }
+    ensures conflicts { OnOk result (AreConflicts grammar.now automaton.now conflicts.new.items) }
+{
+    for state in 0..automaton.kernels.len() {
+        let kernel = &automaton.kernels[state];
+        let edges = automaton.edges[state].as_slice();
+        let resolved = resolve_state(alloc, grammar, closer, kernel, edges, mode)?;
+        add_conflicts(conflicts, state as u32, &resolved.row)?;
+        states.push(resolved.parts)?;
+    }
+    Ok(())
 }
 
 /// The states of the table of an automaton, and the list of its conflicts, as `resolve` gives them. Fails for want of
@@ -118,16 +183,9 @@ pub fn resolve_states<const W: usize>(
     ensures facts { IfOk result (λ r. Facts (table_data grammar.now r.0.items)) }
     ensures conflicts { IfOk result (λ r. AreConflicts grammar.now automaton.now r.1.items) }
 {
-    let mut closer = Closer::new(alloc, grammar)?;
     let mut states = Vec::with_capacity(alloc, automaton.kernels.len())?;
     let mut conflicts = Vec::new(alloc);
-    for state in 0..automaton.kernels.len() {
-        let kernel = &automaton.kernels[state];
-        let edges = automaton.edges[state].as_slice();
-        let resolved = resolve_state(alloc, grammar, &mut closer, kernel, edges, mode)?;
-        add_conflicts(&mut conflicts, state as u32, &resolved.row)?;
-        states.push(resolved.parts)?;
-    }
+    all_states(alloc, grammar, automaton, mode, &mut states, &mut conflicts)?;
     Ok((states, conflicts))
 }
 

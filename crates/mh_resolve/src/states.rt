@@ -3,34 +3,27 @@ ghost use Rattle.std.specs.Prelude.{◌≡◌, ◌<◌, ◌≤◌, length, map, 
 ghost use Rattle.std.specs.List.{All};
 ghost use Rattle.mh_grammar.specs.Plain.{plain_of};
 ghost use Rattle.mh_grammar.specs.Edges.{IsRising, IsEdgeBefore};
-ghost use Rattle.mh_items.specs.Kernels.{IsKernel};
-ghost use Rattle.mh_items.specs.Empties.{HasComplete};
-ghost use Rattle.mh_resolve.specs.States.{place_of, IsResolved};
-ghost use Rattle.mh_resolve.specs.code.Rows.{listed, IsLooked};
-ghost use Rattle.mh_resolve.specs.code.Whole.{closed_state, kept_of, IsFiller, filled_with, fallback_for, AreEdgesKnown, IsRow};
+ghost use Rattle.mh_kernels.specs.Kernels.{IsItemList};
+ghost use Rattle.mh_kernels.specs.Empties.{HasComplete};
+ghost use Rattle.mh_cells.specs.States.{place_of, IsResolved};
+ghost use Rattle.mh_cells.specs.code.Rows.{listed, IsLooked};
+ghost use Rattle.mh_cells.specs.code.Whole.{closed_state, IsFiller, filled_with, fallback_for, AreEdgesKnown, IsRow};
 
-use crate::cells::{Cell, settle};
-use crate::counting::{shifts_of, tallies_of};
-use crate::errors::for_errors;
-use crate::kinds::Mode;
-use crate::row::{cells_of, default_of, is_stream_conflict};
+use mh_cells::{
+    Cell, Mode, cells_of, default_of, for_errors, is_stream_conflict, kept_action, settle,
+    shifts_of, tallies_of,
+};
 use mh_grammar::{Edge, Grammar, Memory, Sequence};
-use mh_items::{Closure, Kernel, KernelItem};
+use mh_kernels::{Closure, Kernel, KernelItem};
 use mh_tables::{Action, CoreItem, Fallback, StateParts};
 use std::alloc::Global;
 
 /// What was found of a state: the cells of the tokens and of the end of the stream, and whether they conflict.
-#[derive(Debug, Drop)]
+#[derive(Drop)]
 pub(crate) struct Row {
     pub cells: Sequence<Cell>,
     pub last: Cell,
     pub stream: bool,
-}
-
-fn kept_action(stream: bool, last: Action) -> Action
-    ensures { result ≡ kept_of stream last }
-{
-    if stream { Action::Refuse } else { last }
 }
 
 fn filler_of<const W: usize>(
@@ -115,7 +108,7 @@ pub(crate) fn row_of<const W: usize>(
     edges: &[Edge],
 ) -> Result<Row, Memory>
     requires few { W ≤ 8 }
-    requires kernel { IsKernel (plain_of grammar.now) closed.now }
+    requires kernel { IsItemList (plain_of grammar.now) closed.now }
     requires exact { HasComplete (plain_of grammar.now) kernel.now closed.now }
     requires rising { IsRising IsEdgeBefore edges.now }
     requires known { AreEdgesKnown (length grammar.now.tokens) edges.now }
@@ -145,7 +138,7 @@ pub(crate) fn parts_of<const W: usize>(
     row: &Row,
 ) -> Result<StateParts, Memory>
     requires few { W ≤ 8 }
-    requires closed { IsKernel (plain_of grammar.now) closed.now }
+    requires closed { IsItemList (plain_of grammar.now) closed.now }
     requires exact { HasComplete (plain_of grammar.now) kernel.now closed.now }
     requires row { IsRow (closed_state grammar.now kernel.now edges.now) row.now.cells row.now.last row.now.stream }
     ensures { IfOk result (IsResolved mode (closed_state grammar.now kernel.now edges.now) kernel.now) }

@@ -1,6 +1,7 @@
 -- What each stage gives the next: of the modules that are read, of the joined rules, and of the instances.
 use Rattle.std.specs.Prelude.{◌<◌, ◌≤◌, ◌≢◌, ℕ, List, length, AllPairs, IfSome}
 use Rattle.std.specs.List.{All}
+use Rattle.mh_grammar.specs.declared.types.TheConstants.{MAX_NUMBERED}
 use Rattle.mh_grammar.specs.Costs.{IsCost, HaveCosts}
 use Rattle.mh_rules.specs.declared.modules.Rule.{Rule}
 use Rattle.mh_rules.specs.declared.modules.TokenDecl.{TokenDecl}
@@ -12,6 +13,7 @@ use Rattle.mh_rules.specs.declared.joined.Applied.{Applied}
 use Rattle.mh_rules.specs.declared.joined.Applied.TheFolds.{every-Applied}
 use Rattle.mh_rules.specs.declared.joined.JoinedRule.{JoinedRule}
 use Rattle.mh_rules.specs.declared.joined.Joined.{Joined}
+use Rattle.mh_rules.specs.declared.instances.TheConstants.{MAX_INSTANCES}
 use Rattle.mh_rules.specs.declared.instances.Part.{Part}
 use Rattle.mh_rules.specs.declared.instances.Part.TheVariants as parts
 use Rattle.mh_rules.specs.declared.instances.InstanceProduction.{InstanceProduction}
@@ -77,9 +79,9 @@ pub record IsInstanceReady (tokens instances : ℕ) (i : Instance) : Type 0 wher
 
 -- All numbers and costs are in range, each instance has an alternative, no start stands twice, and there are few tokens and instances.
 pub record IsExpandedReady (e : Expanded) : Type 0 where
-  pub few_tokens : length e.tokens ≤ 65535
+  pub few_tokens : length e.tokens ≤ MAX_NUMBERED
   pub costs : HaveCosts e.tokens
-  pub few_instances : length e.instances ≤ 20000
+  pub few_instances : length e.instances ≤ MAX_INSTANCES
   pub starts_below : All (λ s. s < length e.instances) e.starts
   pub starts_distinct : AllPairs (λ a b. a ≢ b) e.starts
   pub instances_ready : All (IsInstanceReady (length e.tokens) (length e.instances)) e.instances

@@ -2,15 +2,18 @@
 use crate::joined::Prec;
 use mh_grammar::{Name, Sequence, Token, TokenInfo};
 
+/// The most instances that a grammar may have.
+pub const MAX_INSTANCES: usize = 20_000;
+
 /// A producer: a token, or an instance by its number, each from 0.
-#[derive(Clone, Copy, Debug, PartialEq, Eq, Hash)]
+#[derive(Clone, Copy, Debug)]
 pub enum Part {
     Token(Token),
     Instance(u32),
 }
 
 /// An alternative of an instance.
-#[derive(Clone, Debug, Drop, PartialEq, Eq)]
+#[derive(Debug, Drop)]
 pub struct InstanceProduction {
     /// The number of its file: the files count from 1, and the standard library is file 0.
     pub file: u64,
@@ -21,7 +24,7 @@ pub struct InstanceProduction {
 }
 
 /// A rule applied to actuals.
-#[derive(Clone, Debug, Drop, PartialEq, Eq)]
+#[derive(Debug, Drop)]
 pub struct Instance {
     /// Its rule's printed name, with its arguments in `(`, `,` and `)` where it has some; at most 1,000 bytes.
     pub name: Name,
@@ -32,7 +35,7 @@ pub struct Instance {
 }
 
 /// The instances in order of finding, the starts by their numbers, and the tokens.
-#[derive(Clone, Debug, Drop, PartialEq, Eq)]
+#[derive(Debug, Drop)]
 pub struct Expanded {
     pub tokens: Sequence<TokenInfo>,
     pub starts: Sequence<u32>,

@@ -21,7 +21,7 @@ pub struct Applied {
 }
 
 /// Whether a production has a `%prec`, and the level of its name, where that has one.
-#[derive(Clone, Copy, Debug, PartialEq, Eq)]
+#[derive(Clone, Copy, Debug)]
 pub enum Prec {
     Absent,
     Given(Option<Level>),

@@ -5,6 +5,6 @@ mod instances;
 mod joined;
 mod modules;
 
-pub use instances::{Expanded, Instance, InstanceProduction, Part};
+pub use instances::{Expanded, Instance, InstanceProduction, MAX_INSTANCES, Part};
 pub use joined::{Applied, Head, Joined, JoinedAlternative, JoinedRule, MAX_TOKENS, Prec};
 pub use modules::{Actual, Alternative, LevelDecl, MAX_DEPTH, Module, Ref, Rule, TokenDecl};

@@ -5,7 +5,7 @@ use mh_grammar::{Assoc, Name, Sequence};
 pub const MAX_DEPTH: usize = 1000;
 
 /// A name, or a string that is to be an alias: the bytes between its quotes.
-#[derive(Clone, Debug, Drop, PartialEq, Eq)]
+#[derive(Debug, Drop)]
 pub enum Ref {
     Plain(Name),
     Alias(Name),

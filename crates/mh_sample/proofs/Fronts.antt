@@ -3,7 +3,8 @@ use Rattle.std.proofs.Common.{◌≡◌, ℕ, zero, suc, ◌+◌, ◌-◌, ◌*�
 use Rattle.std.specs.Prelude.{codes, decimal}
 use Rattle.std.proofs.lemmas.Nat.{mod_below}
 use Rattle.std.proofs.lemmas.Fmt.{length-decimal-le}
-use Rattle.mh_sample.specs.Texts.{Text, times, each_from, operator_at, operand_text, opened, closed, sentence_text, operators_of, token_line, level_line, last_level_line, grammar_text}
+use Rattle.mh_grammar.specs.Text.{Text}
+use Rattle.mh_sample.specs.Texts.{times, each_from, operator_at, operand_text, opened, closed, sentence_text, operators_of, token_line, level_line, last_level_line, grammar_text}
 
 -- one more time
 times_suc : (n : ℕ) (text : Text) → times (suc n) text ≡ times n text ++ text

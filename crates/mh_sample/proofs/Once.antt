@@ -12,7 +12,8 @@ use Rattle.mh_tables.proofs.Ending.{one_ending, has_verdict}
 use Rattle.mh_grammar.specs.Plain.{plain_of}
 use Rattle.mh_msgfile.specs.Sentences.{vocabulary_of, LineFound, IsSentence, IsUnreadable, NamesNoStart, LacksStart, NamesUnknown, sentence_in}
 use Rattle.mh_msgfile.proofs.Below.{sentence_below, start_known}
-use Rattle.mh_sample.specs.Texts.{Text, each_from, operators_of, sentence_text}
+use Rattle.mh_grammar.specs.Text.{Text}
+use Rattle.mh_sample.specs.Texts.{each_from, operators_of, sentence_text}
 use Rattle.mh_sample.specs.Counts.{HaveEndings, sample_sentences, sentences_of, sentences_at, counts_line, IsSampleLine}
 
 module _ (t : TableData) where

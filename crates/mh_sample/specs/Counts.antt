@@ -9,7 +9,8 @@ use Rattle.mh_tables.specs.Run.{VerdictOf, Ending, Accepted, Overshot, Rejected}
 use Rattle.mh_msgfile.specs.Sentences.{Vocabulary, vocabulary_of, vocabulary_in, LineFound, IsSentence, sentence_in}
 use Rattle.mh_msgfile.specs.declared.lexicon.Lexicon.{Lexicon}
 use Rattle.mh_sample.specs.declared.texts.TheConstants.{SENTENCES}
-use Rattle.mh_sample.specs.Texts.{Text, each_from, operators_of, sentence_text}
+use Rattle.mh_grammar.specs.Text.{Text}
+use Rattle.mh_sample.specs.Texts.{each_from, operators_of, sentence_text}
 
 -- ---- the sentences that are run
 

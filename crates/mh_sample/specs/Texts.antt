@@ -2,9 +2,7 @@
 -- parenthesis. All of it is this project's own.
 use Rattle.std.specs.Prelude.{ℕ, zero, suc, ◌+◌, ◌-◌, ◌*◌, ◌%◌, List, [], ◌∷◌, ◌++◌, nat_eq, if◌then◌else◌, codes, decimal}
 use Rattle.mh_sample.specs.declared.texts.TheConstants.{SENTENCES}
-
-abbrev pub Text : Type 0
-Text = List ℕ
+use Rattle.mh_grammar.specs.Text.{Text}
 
 -- a text so many times
 unfoldable pub times : ℕ → Text → Text

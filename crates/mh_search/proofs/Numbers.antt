@@ -22,12 +22,13 @@ use Rattle.mh_words.specs.declared.made.Last.{Last}
 use Rattle.mh_words.specs.declared.made.Last.TheVariants as lasts
 use Rattle.mh_words.specs.Words.{Word, Words, empty_word, IsBook, Before, IsFront, letters_in, group_in, letters_of, group_of}
 use Rattle.mh_words.specs.Numbered.{AreBelowGroup, AreEven, AreKnown, Numbers}
-use Rattle.mh_search.specs.declared.work.Item.{Item}
-use Rattle.mh_search.specs.declared.numbering.Numbering.{Numbering}
-use Rattle.mh_search.specs.Tales.{NoLater, capped, weigh, WordBy, Tale, before_dot}
-use Rattle.mh_search.specs.Numbering.{StandsFor, IsNumbered, IsPlaced, IsLast, Spells, IsMade, AreMade, AreEmpty, AreToNumber, AreNumbered, AllNumbered}
-use Rattle.mh_search.proofs.Putting.{fact_same}
-use Rattle.mh_search.proofs.Wording.{some_is, order_laws, free_part, free_word, fact_of_word, one_tale}
+use Rattle.mh_past.specs.declared.work.Item.{Item}
+use Rattle.mh_found.specs.declared.numbers.Numbering.{Numbering}
+use Rattle.mh_past.specs.Tales.{NoLater, capped, weigh, WordBy, Tale, before_dot}
+use Rattle.mh_found.specs.Numbers.{StandsFor, IsNumbered, IsPlaced}
+use Rattle.mh_search.specs.Numbering.{IsLast, Spells, IsMade, AreMade, AreEmpty, AreToNumber, AreNumbered}
+use Rattle.mh_past.proofs.Putting.{fact_same}
+use Rattle.mh_past.proofs.Wording.{some_is, order_laws, free_part, free_word, fact_of_word}
 
 -- a number stands for the same word where more words are behind
 stands_at : (old new : Words) (m cost : ℕ) (w : List ℕ) (x : Word) → slice_get old m ≡ Some x → slice_get new m ≡ Some x → StandsFor old m cost w → StandsFor new m cost w
@@ -284,11 +285,3 @@ numbered_higher facts words low high numbering le h = record { long = h.long; ea
 
 pub some_level : (level : ℕ) → 0 < level → max 1 level ≤ level
 some_level level lt = grind (arith, common_steps, lt)
-
--- numbers by one tale are numbers by each
-pub all_numbered : (t : TableData) (facts : Facts) (numbering : Numbering) (tale : Tale t facts) → IsNumbered facts tale.words (cap + 1) numbering → AllNumbered t facts numbering
-all_numbered t facts numbering tale h other = record {
-  long = h.long;
-  each = λ n m k f w at num is lt. h.each n m k f w at num (one_tale t facts other tale k w is) lt;
-  below = h.below;
-}

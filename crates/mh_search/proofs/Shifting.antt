@@ -5,29 +5,23 @@ use Rattle.std.specs.Global.{Vec}
 use Rattle.mh_grammar.specs.declared.types.Symbol.{Symbol}
 use Rattle.mh_grammar.specs.declared.types.Symbol.TheVariants.{T}
 use Rattle.mh_grammar.specs.Plain.{rhs_of}
-use Rattle.mh_tables.specs.Table.{TableData, edge_of, cost_of_token}
+use Rattle.mh_tables.specs.Table.{TableData, cost_of_token}
 use Rattle.mh_tables.specs.Facts.{Facts}
 use Rattle.mh_tables.specs.Run.{Shifts, move_of}
-use Rattle.mh_tables.proofs.Reductions.{shifts_from_move}
 use Rattle.mh_facts.specs.declared.store.Back.TheVariants as backs
 use Rattle.mh_least.specs.Orders.{cap}
-use Rattle.mh_search.specs.declared.work.Item.{Item}
-use Rattle.mh_search.specs.declared.work.Path.{Path}
-use Rattle.mh_search.specs.declared.classes.Classes.{Classes}
-use Rattle.mh_search.specs.Rows.{Gains, Among}
-use Rattle.mh_search.specs.Classes.{IsClasses, rep_of, list_at}
-use Rattle.mh_search.specs.Rules.{FollowsShift, further}
+use Rattle.mh_past.specs.declared.work.Item.{Item}
+use Rattle.mh_past.specs.declared.work.Path.{Path}
+use Rattle.mh_past.specs.declared.classes.Classes.{Classes}
+use Rattle.mh_past.specs.Rows.{Gains, Among}
+use Rattle.mh_past.specs.Classes.{IsClasses, rep_of, list_at}
+use Rattle.mh_past.specs.Rules.{FollowsShift, further}
 use Rattle.mh_search.specs.Adding.{WithNext, with_next}
-use Rattle.mh_search.proofs.Gaining.{gains_by}
+use Rattle.mh_past.proofs.Edging.{one_shift, shift_target}
+use Rattle.mh_past.proofs.Gaining.{gains_by}
 
 one_token : (o : Symbol) (x y : ℕ) → T x ≡ T y → x ≡ y
 one_token o x y e = cc
-
-pub one_shift : (x y : ℕ) → Shifts x ≡ Shifts y → x ≡ y
-one_shift x y e = cc
-
-pub shift_target : (t : TableData) (f : Facts t) (s x end : ℕ) → move_of t s (x ∷ []) ≡ Shifts end → edge_of t s (T x) ≡ Some end
-shift_target t f s x end move = f.shifts s x end (shifts_from_move t s x [] end move)
 
 module _ (t : TableData) (f : Facts t) (c : Classes) (cls : IsClasses t c) (p : Path) (token end cost : ℕ) (item : Item) (symbol : slice_get (rhs_of t.grammar p.key.production) p.key.dot ≡ Some (T token)) (like : rep_of c p.end token ≡ p.key.next)
     (move : move_of t p.end (token ∷ []) ≡ Shifts end) (cost_is : cost ≡ min (p.cost + cost_of_token t token) cap) (form : (z : ℕ) → with_next item z ≡ record { key = further p.key z; end = end; back = backs.Shifted p.key }) where

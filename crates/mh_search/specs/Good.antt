@@ -1,31 +1,24 @@
 -- The search between two of its turns.
-use Rattle.std.specs.Prelude.{◌≡◌, ℕ, List, [], ◌∷◌, ◌++◌, slice_get, Option, Some, None, ◌<◌, ◌≤◌, ◌+◌, length}
+use Rattle.std.specs.Prelude.{◌≡◌, ℕ, List, [], ◌∷◌, ◌++◌, slice_get, Option, Some, None, ◌≤◌}
 use Rattle.std.specs.List.{Contains}
 use Rattle.mh_grammar.specs.declared.types.Symbol.TheVariants.{N}
 use Rattle.mh_grammar.specs.Plain.{rhs_of}
-use Rattle.mh_tables.specs.Table.{TableData, edge_of}
+use Rattle.mh_tables.specs.Table.{TableData}
 use Rattle.mh_facts.specs.declared.store.FactKey.{FactKey}
-use Rattle.mh_facts.specs.declared.store.Fact.{Fact}
 use Rattle.mh_facts.specs.Stored.{Facts, fact_at, last_of}
-use Rattle.mh_least.specs.Least.{IsEnd, Frontier, SoundAt, SoundWay, Complete, Closes, Holds}
-use Rattle.mh_least.specs.Orders.{cap}
-use Rattle.mh_search.specs.declared.work.Item.{Item}
-use Rattle.mh_search.specs.declared.work.Path.{Path}
-use Rattle.mh_search.specs.declared.work.Whole.{Whole}
-use Rattle.mh_search.specs.declared.work.Way.{Way}
-use Rattle.mh_search.specs.declared.work.Work.{Work}
-use Rattle.mh_search.specs.declared.classes.Classes.{Classes}
-use Rattle.mh_search.specs.declared.settling.Found.{Found}
-use Rattle.mh_search.specs.Rows.{Waits, Beside}
-use Rattle.mh_search.specs.Drawn.{DrawsOne, DrawsNone, Keeps, DrawsSome, DrawsAll}
-use Rattle.mh_search.specs.Classes.{rep_of, place_of}
-use Rattle.mh_search.specs.Rules.{InRange, path_of, way_of, queue_of, paths_at, wholes_at, Knows, IsReady}
-use Rattle.mh_search.specs.Tales.{NoLater, capped, WordBy, Tale}
-use Rattle.mh_search.specs.Numbering.{IsNumbered}
-
--- some fact is stored for the key
-abbrev pub IsStored : Facts → FactKey → Type 0
-IsStored facts k = (f : Fact) × (fact_at facts k ≡ Some f)
+use Rattle.mh_least.specs.Least.{IsEnd, Frontier, SoundAt}
+use Rattle.mh_past.specs.declared.work.Item.{Item}
+use Rattle.mh_past.specs.declared.work.Path.{Path}
+use Rattle.mh_past.specs.declared.work.Whole.{Whole}
+use Rattle.mh_past.specs.declared.work.Way.{Way}
+use Rattle.mh_past.specs.declared.work.Work.{Work}
+use Rattle.mh_past.specs.declared.classes.Classes.{Classes}
+use Rattle.mh_past.specs.Rows.{Waits, Beside}
+use Rattle.mh_found.specs.Drawn.{DrawsOne, DrawsNone, Keeps, DrawsSome, DrawsAll}
+use Rattle.mh_past.specs.Classes.{rep_of, place_of}
+use Rattle.mh_past.specs.Rules.{InRange, path_of, way_of, queue_of, paths_at, wholes_at, Knows, IsReady}
+use Rattle.mh_past.specs.Tales.{NoLater, capped, WordBy, Tale}
+use Rattle.mh_found.specs.Found.{IsStored, WaysIn, WholeOk}
 
 abbrev pub IsDone : Facts → Item → Type 0
 IsDone facts i = IsStored facts i.key
@@ -50,10 +43,6 @@ InQueue t words waits k u = (cost : ℕ) × (i : Item) × waits cost i × (i.key
 abbrev pub Waiting : Work → ℕ → List Item → ℕ → Item → Type 0
 Waiting work level beside cost i = Beside (queue_of work) level beside cost i
 
--- the ways that are filed, with their words
-abbrev pub WaysIn : Classes → (FactKey → Option (List ℕ)) → Work → (from nonterminal first next : ℕ) → List ℕ → Type 0
-WaysIn c words work s n y x v = (w : Whole) × Contains (wholes_at work (place_of c s y)) w × (way_of w ≡ record { from = s; nonterminal = n; first = y; next = x }) × (words w.inner ≡ Some v)
-
 -- what is known of an item that waits
 pub record ItemOk (t : TableData) (rep : ℕ → ℕ → ℕ) (words : FactKey → Option (List ℕ)) (cost : ℕ) (i : Item) : Type 0 where
   pub range : InRange t (path_of cost i)
@@ -70,19 +59,6 @@ pub record PathOk (t : TableData) (words : FactKey → Option (List ℕ)) (p : P
   pub stored : words p.key ≡ Some word
   pub cost_is : p.cost ≡ capped t word
   pub short : p.cost ≡ 0 → word ≡ []
-
--- what is known of a way that is filed
-pub record WholeOk (t : TableData) (rep : ℕ → ℕ → ℕ) (words : FactKey → Option (List ℕ)) (level : ℕ) (w : Whole) : Type 0 where
-  pub few : w.cost ≤ cap
-  pub low : w.cost ≤ level
-  pub from : w.inner.from < length t.states
-  pub edge : edge_of t w.inner.from (N w.nonterminal) ≡ Some w.target
-  pub next : w.next < t.grammar.tokens
-  pub word : List ℕ
-  pub stored : words w.inner ≡ Some word
-  pub cost_is : w.cost ≡ capped t word
-  pub short : w.cost ≡ 0 → word ≡ []
-  pub sound : SoundWay t rep w.inner.from w.nonterminal w.inner.first w.next w.target word
 
 -- All that is cheaper than the level is settled. Some items of the level's cost may wait beside the queue.
 pub record Good (t : TableData) (c : Classes) (facts : Facts) (work : Work) (level : ℕ) (beside : List Item) : Type 0 where
@@ -124,14 +100,3 @@ AllNew facts old new cost all = DrawsSome (IsDone facts) old new cost all
 -- none of them is left
 abbrev pub AllTaken : Facts → List (Rattle.std.specs.Global.Vec Item) → List (Rattle.std.specs.Global.Vec Item) → ℕ → List Item → Type 0
 AllTaken facts old new cost all = DrawsAll (IsDone facts) old new cost all
-
--- What the search leaves. A path that a run goes along is stored with a word that the run reads on it, and no other such word comes
--- before that one: the stored cost is the least.
-pub record IsFound (t : TableData) (c : Classes) (found : Found) : Type 0 where
-  pub tale : Tale t found.store
-  pub sound : (k : FactKey) (u : List ℕ) → tale.words k ≡ Some u → SoundAt t (rep_of c) k u
-  pub rows : length found.work.wholes.items ≡ c.places
-  pub closed : Closes t (rep_of c) (NoLater t) tale.words (WaysIn c tale.words found.work) (Holds (NoLater t) tale.words)
-  pub complete : Complete t (rep_of c) (NoLater t) tale.words
-  pub wholes : (n : ℕ) (w : Whole) → Contains (wholes_at found.work n) w → WholeOk t (rep_of c) tale.words cap w
-  pub numbered : IsNumbered found.store tale.words (cap + 1) found.numbering

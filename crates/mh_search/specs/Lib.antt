@@ -1,14 +1,5 @@
 pub mod Adding
 pub mod Begins
-pub mod Classes
-pub mod Classing
-pub mod Drawn
 pub mod Good
-pub mod Left
 pub mod Numbering
-pub mod Past
 pub mod Ranking
-pub mod Rows
-pub mod Rules
-pub mod Tails
-pub mod Tales

@@ -1,34 +1,18 @@
--- The words of settled facts by numbers.
-use Rattle.std.specs.Prelude.{◌≡◌, ◌<◌, ◌≤◌, ◌+◌, ℕ, List, ◌++◌, length, max, slice_get, Option, Some}
+-- How words of settled facts get their numbers.
+use Rattle.std.specs.Prelude.{◌≡◌, ◌<◌, ◌≤◌, ◌+◌, ℕ, List, ◌++◌, length, max, slice_get, Some}
 use Rattle.std.specs.List.{Contains}
 use Rattle.mh_tables.specs.Table.{TableData}
 use Rattle.mh_facts.specs.declared.store.FactKey.{FactKey}
-use Rattle.mh_facts.specs.declared.store.Fact.{Fact}
-use Rattle.mh_facts.specs.Stored.{Facts, fact_at}
+use Rattle.mh_facts.specs.Stored.{Facts}
 use Rattle.mh_least.specs.Orders.{cap}
 use Rattle.mh_words.specs.declared.made.Last.{Last}
 use Rattle.mh_words.specs.declared.made.Made.{Made}
-use Rattle.mh_words.specs.Words.{Words, IsBook, IsLastBelow, Knows, letters_of, group_of, last_of, spelled}
+use Rattle.mh_words.specs.Words.{Words, IsBook, IsLastBelow, Knows, last_of, spelled}
 use Rattle.mh_words.specs.Numbered.{AreBelowGroup}
-use Rattle.mh_search.specs.declared.work.Item.{Item}
-use Rattle.mh_search.specs.declared.numbering.Numbering.{Numbering}
-use Rattle.mh_search.specs.Tales.{capped, WordBy, Tale, before_dot}
-
--- the number of a word that has this cost
-pub record StandsFor (book : Words) (number cost : ℕ) (w : List ℕ) : Type 0 where
-  pub known : number < length book
-  pub group : group_of book number ≡ cost
-  pub letters : letters_of book number ≡ w
-
--- Each settled fact that costs less than the highest has the number of its word. All words are cheaper than the level.
-pub record IsNumbered (facts : Facts) (words : FactKey → Option (List ℕ)) (level : ℕ) (numbering : Numbering) : Type 0 where
-  pub long : length numbering.numbers.items ≡ length facts
-  pub each : (n m : ℕ) (k : FactKey) (f : Fact) (w : List ℕ) → slice_get facts n ≡ Some (k, f) → slice_get numbering.numbers.items n ≡ Some m → words k ≡ Some w → f.cost < cap → StandsFor numbering.book m f.cost w
-  pub below : AreBelowGroup numbering.book level
-
--- the number beside the entry of a key that is stored
-abbrev pub IsPlaced : Facts → Numbering → FactKey → ℕ → Type 0
-IsPlaced facts numbering k m = (f : Fact) → fact_at facts k ≡ Some f → length numbering.numbers.items ≡ length facts → (n : ℕ) × (slice_get facts n ≡ Some (k, f)) × (slice_get numbering.numbers.items n ≡ Some m)
+use Rattle.mh_past.specs.declared.work.Item.{Item}
+use Rattle.mh_past.specs.Tales.{capped, WordBy, Tale, before_dot}
+use Rattle.mh_found.specs.declared.numbers.Numbering.{Numbering}
+use Rattle.mh_found.specs.Numbers.{StandsFor, IsNumbered}
 
 -- the token before the dot, if there is one
 abbrev pub IsLast : TableData → FactKey → Last → Type 0
@@ -67,7 +51,3 @@ pub record AreNumbered (t : TableData) (facts : Facts) (old new : Numbering) (co
   pub grown : new.book ≡ old.book ++ added
   pub below : AreBelowGroup old.book (max 1 cost) → AreBelowGroup new.book (cost + 1)
   pub each : (tale : Tale t facts) (n m : ℕ) (i : Item) (w : List ℕ) → IsNumbered facts tale.words (max 1 cost) old → slice_get items n ≡ Some i → slice_get numbers n ≡ Some m → WordBy t tale.words i.key i.back w → cost ≡ capped t w → cost < cap → StandsFor new.book m cost w
-
--- by each tale of the store the facts have the numbers of their words
-abbrev pub AllNumbered : TableData → Facts → Numbering → Type 0
-AllNumbered t facts numbering = (tale : Tale t facts) → IsNumbered facts tale.words (cap + 1) numbering

@@ -6,15 +6,15 @@ use Rattle.mh_tables.specs.Table.{TableData}
 use Rattle.mh_facts.specs.declared.store.FactKey.{FactKey}
 use Rattle.mh_least.specs.Orders.{cap}
 use Rattle.mh_words.specs.Words.{Words}
-use Rattle.mh_search.specs.declared.work.Item.{Item}
-use Rattle.mh_search.specs.declared.classes.Classes.{Classes}
+use Rattle.mh_past.specs.declared.work.Item.{Item}
+use Rattle.mh_past.specs.declared.classes.Classes.{Classes}
 use Rattle.mh_search.specs.declared.ranking.Ranked.{Ranked}
-use Rattle.mh_search.specs.declared.settling.Found.{Found}
-use Rattle.mh_search.specs.Rows.{Waits}
-use Rattle.mh_search.specs.Rules.{queue_of}
-use Rattle.mh_search.specs.Tales.{WordBy}
+use Rattle.mh_found.specs.declared.found.Found.{Found}
+use Rattle.mh_past.specs.Rows.{Waits}
+use Rattle.mh_past.specs.Rules.{queue_of}
+use Rattle.mh_past.specs.Tales.{WordBy}
 use Rattle.mh_search.specs.Good.{Good, InOrder, LevelReady}
-use Rattle.mh_search.specs.Numbering.{StandsFor, IsNumbered}
+use Rattle.mh_found.specs.Numbers.{StandsFor, IsNumbered}
 
 -- an item and its number from one place
 pub record IsPaired (items : List Item) (words : List ℕ) (n : ℕ) (r : Ranked) : Type 0 where

@@ -2,51 +2,26 @@
 ghost use Rattle.std.specs.Prelude.{◌≡◌, ◌<◌, ◌≤◌, ◌↔◌, ◌+◌, ◌∷◌, [], IsTrue, IfOk, OnOk, false, min, length, slice_get, Some};
 ghost use Rattle.mh_grammar.specs.declared.types.Symbol.TheVariants.{T, N};
 ghost use Rattle.mh_grammar.specs.Plain.{rhs_of, lhs_of};
-ghost use Rattle.mh_tables.specs.Table.{edge_of, cost_of_token};
+ghost use Rattle.mh_tables.specs.Table.{edge_of};
 ghost use Rattle.mh_least.specs.Orders.{cap};
 ghost use Rattle.std.specs.List.{Contains};
-ghost use Rattle.mh_search.specs.declared.work.Whole.{Whole};
-ghost use Rattle.mh_search.specs.declared.work.Path.{Path};
-ghost use Rattle.mh_search.specs.Rows.{Gains, Among, IsOne, Files};
-ghost use Rattle.mh_search.specs.Classes.{IsClasses, rep_of, place_of};
-ghost use Rattle.mh_search.specs.Rules.{InRange, FollowsShift, FollowsWay, OnlyAt, HasRows, IsReady, Expanded, whole_of, wholes_at};
+ghost use Rattle.mh_past.specs.declared.work.Whole.{Whole};
+ghost use Rattle.mh_past.specs.declared.work.Path.{Path};
+ghost use Rattle.mh_past.specs.Rows.{Gains, Among, IsOne, Files};
+ghost use Rattle.mh_past.specs.Classes.{IsClasses, rep_of, place_of};
+ghost use Rattle.mh_past.specs.Rules.{InRange, FollowsShift, FollowsWay, OnlyAt, HasRows, IsReady, Expanded, whole_of, wholes_at};
 ghost use Rattle.mh_search.specs.Adding.{WithNext, Adds, MeetsOn};
-ghost use Rattle.mh_search.specs.Past.{Collects};
+ghost use Rattle.mh_past.specs.Past.{Collects};
 ghost use Rattle.mh_tables.specs.Run.{Reduces, move_of};
-ghost use Rattle.mh_search.specs.Classes.{list_at};
+ghost use Rattle.mh_past.specs.Classes.{list_at};
 
-use crate::classes::{Classes, class_of, list_of};
-use crate::queue::{Queue, push};
-use crate::work::{Item, Path, Way, Whole, Work};
 use indexmap::IndexSet;
 use mh_facts::{Back, FactKey};
 use mh_grammar::{Memory, Symbol, Token};
+use mh_past::queue::{Queue, push};
+use mh_past::{Classes, Item, Path, Way, Whole, Work, add_costs, add_token, class_of, list_of};
 use mh_tables::{Choice, Table, choose};
 use std::alloc::Global;
-
-/// Costs end here.
-pub const CAP: u32 = 1_000_001;
-
-/// The sum of two costs, up to the highest.
-pub fn add_costs(left: u32, right: u32) -> u32
-    requires left { left ≤ cap }
-    requires right { right ≤ cap }
-    ensures { result ≡ min (left + right) cap }
-{
-    let sum = left + right;
-    if sum < CAP { sum } else { CAP }
-}
-
-/// The cost of a word that one token more stands behind, up to the highest.
-#[tactic(auto, using(crate::proofs::Wording::token_cheap))]
-pub fn add_token(table: &Table, cost: u32, token: Token) -> u32
-    requires cost { cost ≤ cap }
-    requires token { token < table.now.grammar.tokens }
-    ensures { result ≡ min (cost + cost_of_token table.now token) cap }
-{
-    table.facts();
-    add_costs(cost, table.token_cost(token))
-}
 
 /// Puts an item in with each of some tokens after.
 fn push_each(

@@ -1,59 +1,15 @@
-//! The words of settled facts by numbers, so that no two words are compared that were compared before.
+//! Words of settled facts get numbers, so that no two words are compared that were compared before.
 ghost use Rattle.std.specs.Prelude.{◌≡◌, ◌↔◌, ◌⊎◌, IsTrue, IfOk, length};
 ghost use Rattle.mh_least.specs.Orders.{cap};
-ghost use Rattle.mh_search.specs.Numbering.{AreEmpty, AreMade, AreNumbered, AreToNumber, IsLast, IsMade, IsPlaced};
-ghost use Rattle.mh_search.specs.Tales.{before_dot, listed};
+ghost use Rattle.mh_search.specs.Numbering.{AreEmpty, AreMade, AreNumbered, AreToNumber, IsLast, IsMade};
 
-use crate::joins::CAP;
-use crate::work::Item;
 use mh_facts::{Back, FactKey, FactStore};
-use mh_grammar::{Memory, Symbol, Token};
+use mh_found::{EMPTY, Numbering, number_of, token_before};
+use mh_grammar::Memory;
+use mh_past::{CAP, Item};
 use mh_tables::Table;
-use mh_words::{Book, Last, Made};
+use mh_words::{Last, Made};
 use std::alloc::Global;
-
-/// The number of the empty word.
-const EMPTY: usize = 0;
-
-/// The words of the settled facts.
-#[derive(Drop)]
-pub struct Numbering {
-    /// For each settled fact, in their order, the number of its word. Words that are too dear have none.
-    pub numbers: Vec<usize>,
-    /// The words. Their groups are their costs.
-    pub book: Book,
-}
-
-/// The token before the dot.
-#[tactic(auto, unfolding(mh_grammar::specs::Plain::rhs_of))]
-pub fn token_before(table: &Table, key: FactKey) -> Option<Token>
-    ensures { listed result ≡ before_dot table.now key }
-{
-    if key.production >= table.productions() {
-        return None;
-    }
-    let place = if key.dot == 0 { 0 } else { key.dot - 1 };
-    if place >= table.length_of(key.production) {
-        return None;
-    }
-    match table.symbol_of(key.production, place) {
-        Symbol::T(token) => Some(token),
-        Symbol::N(_) => None,
-    }
-}
-
-/// The number of a settled fact's word.
-pub fn number_of(store: &FactStore, numbering: &Numbering, key: &FactKey) -> usize
-    ensures { IsPlaced store.now numbering.now key.now result }
-{
-    match store.place(key) {
-        None => EMPTY,
-        Some(place) => match numbering.numbers.get(place) {
-            None => EMPTY,
-            Some(number) => *number,
-        },
-    }
-}
 
 /// The token before the dot, with which a word ends; none stands for nothing.
 fn last_before(table: &Table, key: FactKey) -> Last

@@ -2,12 +2,12 @@
 ghost use Rattle.std.specs.Prelude.{◌≡◌, IfOk, length};
 ghost use Rattle.mh_search.specs.Ranking.{ArePaired, IsRanked};
 
-use crate::work::Item;
 use mh_grammar::Memory;
+use mh_past::Item;
 use std::alloc::Global;
 
 /// An item with the number of its word.
-#[derive(Clone, Copy, Debug, Drop)]
+#[derive(Clone, Copy, Drop)]
 pub struct Ranked {
     pub item: Item,
     pub word: usize,

@@ -2,30 +2,23 @@
 ghost use Rattle.std.specs.Prelude.{◌≡◌, ◌↔◌, IsTrue, ◌≤◌, ◌<◌, ◌+◌, [], OnOk, IfOk, Some, drop, length, slice_get};
 ghost use Rattle.mh_facts.specs.Stored.{last_of};
 ghost use Rattle.mh_least.specs.Orders.{cap};
-ghost use Rattle.mh_search.specs.Classes.{IsClasses};
-ghost use Rattle.mh_search.specs.Good.{SettlesNext, KeepsNew, AllTaken, IsFound};
+ghost use Rattle.mh_past.specs.Classes.{IsClasses};
+ghost use Rattle.mh_found.specs.Found.{IsFound};
+ghost use Rattle.mh_search.specs.Good.{SettlesNext, KeepsNew, AllTaken};
 ghost use Rattle.mh_search.specs.Ranking.{BeforeLevel, InLevel};
 
 use crate::begins::begin;
-use crate::classes::Classes;
-use crate::joins::{CAP, expand};
-use crate::numbering::{Numbering, numbers_of};
-use crate::queue::{Queue, push, take};
+use crate::joins::expand;
+use crate::numbering::numbers_of;
 use crate::ranking::{Ranked, in_order};
-use crate::work::{Item, Path, Work};
 use mh_facts::FactStore;
+use mh_found::{Found, Numbering};
 use mh_grammar::Memory;
+use mh_past::queue::{Queue, push, take};
+use mh_past::{CAP, Classes, Item, Path};
 use mh_tables::Table;
 use mh_words::Book;
 use std::alloc::Global;
-
-/// The settled facts, the ways over nonterminals, and the words of the facts.
-#[derive(Drop)]
-pub struct Found {
-    pub store: FactStore,
-    pub work: Work,
-    pub numbering: Numbering,
-}
 
 /// Takes the next item of a cost that is not stored, and stores it; those that are stored are dropped.
 fn settle_next(
@@ -77,7 +70,7 @@ fn all_new(
 }
 
 /// Items of one cost, in their order.
-#[derive(Clone, Copy, Debug, Drop)]
+#[derive(Clone, Copy, Drop)]
 struct Level<'a> {
     cost: u32,
     items: &'a [Ranked],
@@ -189,8 +182,8 @@ pub fn search(alloc: Global, table: &Table, classes: &Classes) -> Result<Found, 
     ensures { IfOk result (λ found. IsFound table.now classes.now found) }
 {
     table.facts();
-    let store = FactStore::new(alloc);
     let work = begin(alloc, table, classes)?;
+    let store = FactStore::new(alloc);
     let numbering = Numbering {
         numbers: Vec::new(alloc),
         book: Book::new(alloc),

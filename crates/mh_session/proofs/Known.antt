@@ -8,7 +8,7 @@ use Rattle.mh_msgfile.specs.Sentences.{Vocabulary, vocabulary_of, start_name, st
 use Rattle.mh_msgfile.proofs.Below.{bounded}
 use Rattle.mh_session.specs.declared.command.Command.{Command}
 use Rattle.mh_session.specs.declared.command.Command.TheVariants as commands
-use Rattle.mh_session.specs.Names.{Text}
+use Rattle.mh_grammar.specs.Text.{Text}
 use Rattle.mh_session.specs.Answers.{IsKnown}
 use Rattle.mh_session.specs.Lines.{Form, BeginOnly, BeginAt, OfferTo, ResumeOf, ForkTo, ShowOf, TreeOf, ForgetOf, Said, Asks, NamesNoStart, LacksStart, NamesNoToken, at_only, at_start, with_token_of, said_by, LineSays}
 

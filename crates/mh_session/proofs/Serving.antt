@@ -19,7 +19,8 @@ use Rattle.mh_session.specs.declared.command.Reply.{Reply}
 use Rattle.mh_session.specs.declared.command.Reply.TheVariants as replies
 use Rattle.mh_session.specs.declared.command.SessionFault.{SessionFault}
 use Rattle.mh_session.specs.declared.command.SessionFault.TheVariants as faults
-use Rattle.mh_session.specs.Names.{Text, at_name, without, with_name}
+use Rattle.mh_grammar.specs.Text.{Text}
+use Rattle.mh_session.specs.Names.{at_name, without, with_name}
 use Rattle.mh_session.specs.Moments.{Moment}
 use Rattle.mh_session.specs.Answers.{Branches, Answer, answer, changed, next, next_by, phase_at, shown, of_held, of_fresh, to_offer, to_resume, step_or_deep, put_held}
 use Rattle.mh_session.specs.Standing.{Fits, StandsFor}

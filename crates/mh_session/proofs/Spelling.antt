@@ -7,7 +7,8 @@ use Rattle.mh_msgfile.specs.Sentences.{Vocabulary, pieces}
 use Rattle.mh_session.specs.declared.command.Command.{Command}
 use Rattle.mh_session.specs.declared.fault.CommandFault.{CommandFault}
 use Rattle.mh_session.specs.declared.fault.CommandFault.TheVariants as faults
-use Rattle.mh_session.specs.Names.{Text, same}
+use Rattle.mh_grammar.specs.Text.{Text}
+use Rattle.mh_session.specs.Names.{same}
 use Rattle.mh_session.specs.Lines.{Form, BeginOnly, BeginAt, OfferTo, ResumeOf, ForkTo, ShowOf, TreeOf, ForgetOf, words_of, HasForm, Said, said_by, LineSays, ReadsCommand}
 use Rattle.mh_session.specs.Forms.{of_one, of_two, of_words, form_of, ReadsSaid}
 use Rattle.mh_grammar.proofs.SameText.{same_is}

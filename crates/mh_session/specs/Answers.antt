@@ -14,7 +14,8 @@ use Rattle.mh_session.specs.declared.command.Reply.{Reply}
 use Rattle.mh_session.specs.declared.command.Reply.TheVariants as replies
 use Rattle.mh_session.specs.declared.command.SessionFault.{SessionFault}
 use Rattle.mh_session.specs.declared.command.SessionFault.TheVariants as faults
-use Rattle.mh_session.specs.Names.{Text, at_name, without, with_name}
+use Rattle.mh_grammar.specs.Text.{Text}
+use Rattle.mh_session.specs.Names.{at_name, without, with_name}
 
 -- names with their branches
 abbrev pub Branches : Type 0

@@ -7,7 +7,7 @@ use Rattle.mh_session.specs.declared.command.Command.{Command}
 use Rattle.mh_session.specs.declared.command.Command.TheVariants as commands
 use Rattle.mh_session.specs.declared.fault.CommandFault.{CommandFault}
 use Rattle.mh_session.specs.declared.fault.CommandFault.TheVariants as faults
-use Rattle.mh_session.specs.Names.{Text}
+use Rattle.mh_grammar.specs.Text.{Text}
 
 -- the forms that a line may have, with the names in it
 pub data Form : Type 0 where

@@ -3,7 +3,8 @@ use Rattle.std.specs.Prelude.{◌≡◌, Option, Some, None}
 use Rattle.mh_tables.specs.Table.{TableData}
 use Rattle.mh_engine.specs.Positions.{Position}
 use Rattle.mh_engine.specs.Branches.{Branch, StandsAt}
-use Rattle.mh_session.specs.Names.{Text, at_name}
+use Rattle.mh_grammar.specs.Text.{Text}
+use Rattle.mh_session.specs.Names.{at_name}
 use Rattle.mh_session.specs.Moments.{Moment}
 use Rattle.mh_session.specs.Answers.{Branches}
 

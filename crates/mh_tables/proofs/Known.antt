@@ -1,8 +1,9 @@
--- The symbols of a table's productions are known, and so is the first pair of a core.
+-- The symbols of a table's productions are known, and so are the first pair of a core and the state that an edge begins in.
 use Rattle.std.proofs.Common.{◌≡◌, ℕ, zero, suc, ◌<◌, ◌≤◌, ◌-◌, List, [], ◌∷◌, length, get_or, Some, None, Option, lt-ltb, le-ltb, refl, arith, inl, inr}
 use Rattle.std.specs.List.{slice_get, slice_index}
 use Rattle.std.specs.Option.{option_map, unwrap_or}
 use Rattle.std.proofs.lemmas.Bool.{cases_lt}
+use Rattle.std.proofs.lemmas.List.{get_or_past}
 use Rattle.std.proofs.lemmas.List.Elements.{All-contains, All-get_or, Contains-get_or}
 use Rattle.mh_grammar.specs.declared.types.Production.{Production}
 use Rattle.mh_grammar.specs.declared.types.Symbol.{Symbol}
@@ -10,7 +11,7 @@ use Rattle.mh_grammar.specs.declared.types.Symbol.TheVariants.{N}
 use Rattle.mh_grammar.specs.Plain.{PlainGrammar, rhs_of, lhs_of, production_count, IsInRange, IsSymbolBelow, IsProductionBelow}
 use Rattle.mh_grammar.proofs.Lists.{contains_at}
 use Rattle.mh_tables.specs.declared.parts.CoreItem.{CoreItem}
-use Rattle.mh_tables.specs.Table.{TableData, state_at}
+use Rattle.mh_tables.specs.Table.{TableData, state_at, no_state, edge_of}
 use Rattle.mh_tables.specs.Facts.{InCore}
 
 -- a symbol of a right side
@@ -47,3 +48,12 @@ left_below g h p ordinary known =
 pub first_in : (t : TableData) (s : ℕ) (places : List CoreItem) (d : CoreItem) → places ≡ (state_at t s).core → 0 < length (state_at t s).core → InCore t s (get_or places 0 d).production (get_or places 0 d).dot
 unfolding InCore
 first_in t s places d is some = rw (← is) (Contains-get_or places 0 d (rw is some))
+
+-- only known states have edges
+pub edge_source : (t : TableData) (r u : ℕ) (x : Symbol) → edge_of t r x ≡ Some u → r < length t.states
+unfolding edge_of
+edge_source t r u x e =
+    elim (cases_lt r (length t.states)) [
+      | inl lt ↦ lt
+      | inr le ↦ absurd (let past = get_or_past t.states r no_state le in let none : None ≡ Some u = rw past at e in cc)
+    ]

@@ -4,16 +4,13 @@ pub mod Catalogues
 pub mod Cut
 pub mod Depth
 pub mod Ending
-pub mod Finding
 pub mod Known
 pub mod Longer
+pub mod OneLoop
 pub mod OneTreeEnding
-pub mod Passing
 pub mod Path
 pub mod Reductions
 pub mod Refusing
 pub mod Settling
 pub mod Trees
-pub mod Trying
-pub mod Waiting
 pub mod WordOrder

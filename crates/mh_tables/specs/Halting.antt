@@ -4,9 +4,7 @@ use Rattle.mh_grammar.specs.declared.types.Symbol.{Symbol}
 use Rattle.mh_tables.specs.Table.{TableData, edge_of}
 use Rattle.mh_tables.specs.Facts.{Facts}
 use Rattle.mh_tables.specs.Run.{reductions}
-use Rattle.mh_tables.specs.declared.relative.HaltFault.{HaltFault}
-use Rattle.mh_tables.specs.declared.relative.HaltFault.TheVariants as faults
-use Rattle.mh_tables.specs.declared.relative.TheConstants.{MAX_REDUCTIONS}
+use Rattle.mh_tables.specs.declared.halting.TheConstants.{MAX_REDUCTIONS}
 
 -- a relative run begins in a start state alone, or in a state above another that has an edge to it
 abbrev pub IsBeginning : TableData → Option ℕ → ℕ → Type 0
@@ -62,17 +60,3 @@ pub record LoopsAt (t : TableData) (below : Option ℕ) (s : ℕ) (look : Option
   pub no_lower : (b : Option ℕ) (s' : ℕ) → Before b below → IsBeginning t b s' → Clear t b s'
   pub no_state : (s' : ℕ) → s' < s → IsBeginning t below s' → Clear t below s'
   pub no_look : (look' : Option ℕ) → Before look' look → IsLook t look' → Loops t below s look' → ⊥
-
--- all relative runs were tried
-abbrev pub NoneLoops : TableData → Type 0
-NoneLoops t = (below : Option ℕ) (s : ℕ) → IsBeginning t below s → Clear t below s
-
--- the fault of a table that doesn't halt: the first relative run that loops
-abbrev pub FaultOf : TableData → HaltFault → Type 0
-FaultOf t (faults.Loops below s look) = LoopsAt t below s look
-FaultOf t faults.Memory = Unit {0}
-
--- a table with such a fault doesn't halt
-abbrev pub IsRefused : TableData → HaltFault → Type 0
-IsRefused t (faults.Loops below s look) = AlwaysHalts t → ⊥
-IsRefused t faults.Memory = Unit {0}

@@ -7,4 +7,3 @@ pub mod Run
 pub mod RunTrees
 pub mod Table
 pub mod TreeRuns
-pub mod code

@@ -4,11 +4,11 @@ use Rattle.std.proofs.lemmas.List.{append-nil}
 use Rattle.std.specs.Io.KnownBytes.{Appends}
 use Rattle.mh_outside.specs.Faults.{Rose, IsCalm}
 use Rattle.mh_outside.specs.Shelf.{Files}
-use Rattle.mh_drive.specs.Text.{Text}
+use Rattle.mh_grammar.specs.Text.{Text}
 use Rattle.mh_drive.specs.Causes.{Halt}
 use Rattle.mh_drive.specs.Statuses.{status_of}
-use Rattle.mh_prepare.specs.Order.{order_of}
-use Rattle.mh_modes.specs.Plan.{Plan, asks_of, by_plan}
+use Rattle.mh_loading.specs.Order.{staged_order}
+use Rattle.mh_plans.specs.Plan.{Plan, asks_of, by_plan}
 use Rattle.mh_drive.specs.Ways.{AnswersAll, AsksFor, EndsBehind, Outcome, Yields}
 use Rattle.mh_top.specs.Work.{Work, IsWork}
 use Rattle.mh_drive.specs.Drive.{AreFirst, Partly, GotAt, CutAt, WantsAt, IsOfEnd, IsOfLine}
@@ -50,7 +50,7 @@ four_not (Some LongInput) is = absurd (omega arith)
 -- ---- a work that was done
 
 module _ (words : List Text) (files : Option Files) (w : Work) (input : Option Text) where
-  misuse_cause : (cause : Option Cause) → AccountsOn words files w input cause → status_of cause ≡ 2 → (line : Text) × (order_of words ≡ Halt (Misused line)) × (cause ≡ Some (Misused line))
+  misuse_cause : (cause : Option Cause) → AccountsOn words files w input cause → status_of cause ≡ 2 → (line : Text) × (staged_order words ≡ Halt (Misused line)) × (cause ≡ Some (Misused line))
   misuse_cause (Some (Misused line)) is two = (line, is, refl)
   misuse_cause None is two = absurd (omega arith)
   misuse_cause (Some (Refused line)) is two = absurd (omega arith)
@@ -190,11 +190,11 @@ module _ (words : List Text) (b a : World) (status : ℕ) where
     status_so : (n : ℕ) → status ≡ n → status_of does.outcome.cause ≡ n
     status_so n is = sym does.status_is ∙ is
 
-    no_warnings : (line : Text) → order_of words ≡ Halt (Misused line) → does.outcome.cause ≡ Some (Misused line) → Appends b.err a.err line
+    no_warnings : (line : Text) → staged_order words ≡ Halt (Misused line) → does.outcome.cause ≡ Some (Misused line) → Appends b.err a.err line
     no_warnings line on cause =
         subst (λ (t : Text). Appends b.err a.err t) (misused_says words b.files does.work does.outcome line on cause does.is_asked) does.on_err
 
-    misuse_at : status ≡ 2 → (line : Text) × (order_of words ≡ Halt (Misused line)) × Appends b.err a.err line
+    misuse_at : status ≡ 2 → (line : Text) × (staged_order words ≡ Halt (Misused line)) × Appends b.err a.err line
     misuse_at two = let p = misuse_cause words b.files does.work b.left does.outcome.cause accounts (status_so 2 two) in (p.0, p.1, no_warnings p.0 p.1 p.2)
 
     absent_at : status ≡ 3 → IsAbsent words b.files

@@ -1,16 +1,16 @@
 -- The answer of each line in a text, and that there is some work.
 use Rattle.std.proofs.Common.{◌≡◌, Bool, true, false, ◌&&◌, List, [], ◌∷◌, ◌++◌, Option, refl, sym, ◌∙◌, ap, subst, append_assoc}
 use Rattle.mh_outside.specs.Shelf.{Files}
-use Rattle.mh_drive.specs.Text.{Text}
+use Rattle.mh_grammar.specs.Text.{Text}
 use Rattle.mh_drive.specs.Causes.{Staged, Go, Halt}
-use Rattle.mh_modes.specs.Verdicts.{Answering}
-use Rattle.mh_modes.specs.Plan.{Plan, Judges, Answers, by_plan}
+use Rattle.mh_plans.specs.Verdicts.{Answering}
+use Rattle.mh_plans.specs.Plan.{Plan, Judges, Answers, by_plan}
 use Rattle.mh_drive.specs.Ways.{AnswersAll}
 use Rattle.mh_top.specs.AtLine.{IsAnsweredAt, HasVerdictAt}
 use Rattle.mh_top.specs.Work.{Work, IsPlanUnless, IsWork, IsWorkOf, has_warning}
 use Rattle.mh_prepare.specs.Preparing.{IsPrepared}
-use Rattle.mh_prepare.specs.Shapes.{Prepared}
-use Rattle.mh_modes.proofs.Reading.{Runs}
+use Rattle.mh_prepared.specs.Shapes.{Prepared}
+use Rattle.mh_plans.proofs.Reading.{Runs}
 use Rattle.mh_modes.proofs.EachMode.{facts_of}
 use Rattle.mh_top.proofs.Exactly.{prepared_runs}
 

@@ -10,35 +10,38 @@ use Rattle.mh_opts.specs.Orders as spelled
 use Rattle.mh_opts.specs.declared.order.Order.{Order}
 use Rattle.mh_opts.specs.declared.order.UsageFault.{UsageFault}
 use Rattle.std.specs.Prelude.{Result, Ok, Err}
-use Rattle.mh_drive.specs.Text.{Text}
-use Rattle.mh_prepare.specs.Texts.{usage_line}
+use Rattle.mh_grammar.specs.Text.{Text}
+use Rattle.mh_loading.specs.Texts.{usage_line}
 use Rattle.mh_drive.specs.Causes.{Staged, Go, Halt, On, Then, Gives}
 use Rattle.mh_drive.specs.Statuses.{said}
-use Rattle.mh_prepare.specs.Order.{order_of, staged}
-use Rattle.mh_prepare.specs.FileStage.{AreFiles, IsFile, IsFound, IsLoaded, IsModule, loaded}
-use Rattle.mh_prepare.specs.Modules.{AreModules, AreModulesBy, grammar_files, names_by, sample_file, sample_of}
-use Rattle.mh_prepare.specs.Turns.{IsSpelled, IsTablesTurn, IsTurn}
-use Rattle.mh_prepare.specs.GrammarStage.{IsGrammarStage}
-use Rattle.mh_tabfile.specs.declared.types.RawTable.{RawTable}
+use Rattle.mh_loading.specs.Order.{staged_order, staged}
+use Rattle.mh_files.specs.FileStage.{AreFiles, IsFile, IsFound, IsLoaded, loaded}
+use Rattle.mh_loading.specs.GrammarFile.{IsModule}
+use Rattle.mh_loading.specs.Modules.{AreModules, AreModulesBy, grammar_files, names_by, sample_file, sample_of}
+use Rattle.mh_files.specs.Turns.{IsSpelled, IsTurn}
+use Rattle.mh_prepare.specs.TableTurns.{IsTablesTurn}
+use Rattle.mh_loading.specs.GrammarStage.{IsGrammarStage}
+use Rattle.mh_tabform.specs.declared.types.RawTable.{RawTable}
 use Rattle.mh_prepare.specs.TableFile.{IsTableFile}
 use Rattle.mh_prepare.specs.TableStage.{IsAutomatonStage, IsResolvedStage, IsSource, IsSourceBy, IsTableStage, mode_of}
-use Rattle.mh_drive.specs.Ways.{Ending, AnswersAll, AsksFor, EndsBehind, Outcome, Yields}
-use Rattle.mh_modes.specs.Plan.{Plan, EndsWith, asks_of, halts, by_plan}
+use Rattle.mh_drive.specs.Ways.{Finish, AnswersAll, AsksFor, EndsBehind, Outcome, Yields}
+use Rattle.mh_plans.specs.Plan.{Plan, EndsWith, asks_of, halts, by_plan}
 use Rattle.mh_top.specs.Work.{Work, IsPlanUnless, IsWork, IsWorkOf, has_warning, warnings_of}
-use Rattle.mh_prepare.specs.Preparing.{IsFront, IsPrepared, IsTabledFrom, IsTabledFront}
+use Rattle.mh_loading.specs.FrontStage.{IsFront}
+use Rattle.mh_prepare.specs.Preparing.{IsPrepared, IsTabledFrom, IsTabledFront}
 use Rattle.mh_top.specs.Run.{err_of, IsDue, OfGrammar, OfTables, OfMode, IsTurnBehind, IsTurnUnless}
 use Rattle.mh_top.specs.Claims.{AsksLines, HoldsFile, IsPast}
 use Rattle.mh_drive.specs.declared.driving.Asks.{Asks}
 use Rattle.mh_drive.specs.declared.driving.Asks.TheVariants.{NoLine, FirstLine, EachLine}
-use Rattle.mh_prepare.specs.declared.prepared.Front.{Front}
-use Rattle.mh_prepare.specs.Shapes.{Prepared, Tabled}
+use Rattle.mh_loading.specs.declared.front.Front.{Front}
+use Rattle.mh_prepared.specs.Shapes.{Prepared, Tabled}
 use Rattle.mh_drive.specs.declared.stop.Cause.{Cause}
 use Rattle.mh_drive.specs.declared.stop.Cause.TheVariants.{Refused, Misused, Missing, LongFile, LongInput}
 use Rattle.mh_prepare.specs.declared.tabled.Source.{Source}
 use Rattle.mh_prepare.specs.declared.tabled.Source.TheVariants.{Canonical, File, Merged}
-use Rattle.mh_prepare.proofs.Turns.{turn_first, turn_later}
-use Rattle.mh_prepare.proofs.Once.{prepared_once}
-use Rattle.mh_modes.proofs.Turning.{nil_not}
+use Rattle.mh_files.proofs.Turns.{turn_first, turn_later}
+use Rattle.mh_prepare.proofs.OnePrepared.{prepared_once}
+use Rattle.mh_plans.proofs.Turning.{nil_not}
 use Rattle.mh_modes.proofs.EachMode.{EndsRight, IsRight, answer_right, ends_right, facts_of}
 
 -- a cause that no words, no file and no input have to account for
@@ -52,7 +55,7 @@ module _ (words : List Text) (files : Option Files) where
   -- what accounts for a cause
   abbrev pub Accounts : Cause → Type 0
   Accounts (Refused line) = ⊤
-  Accounts (Misused line) = order_of words ≡ Halt (Misused line)
+  Accounts (Misused line) = staged_order words ≡ Halt (Misused line)
   Accounts (Missing name) = HoldsFile words NoFile files
   Accounts (LongFile name) = HoldsFile words Long files
   Accounts LongInput = ⊥
@@ -67,13 +70,13 @@ module _ (words : List Text) (files : Option Files) where
   refused_so : (cause : Cause) (line : Text) → cause ≡ Refused line → Accounts cause
   refused_so cause line is = subst Accounts (sym is) tt
 
-  usage_so : (given : Result Order UsageFault) (cause : Cause) → staged given ≡ Halt cause → order_of words ≡ Halt cause → Accounts cause
+  usage_so : (given : Result Order UsageFault) (cause : Cause) → staged given ≡ Halt cause → staged_order words ≡ Halt cause → Accounts cause
   usage_so (Ok order) cause is on = absurd (cc)
   usage_so (Err fault) cause is on =
       let same : Misused (usage_line fault) ≡ cause = cc in
       subst Accounts same (on ∙ ap Halt (sym same))
 
-  module _ (order : Order) (on : order_of words ≡ Go order) where
+  module _ (order : Order) (on : staged_order words ≡ Go order) where
     of_found : (name : Text) → IsTurn files IsModule (grammar_files order) name → (what : Found) → IsFound files name what → (cause : Cause) → Halt cause ≡ loaded name what → Accounts cause
     of_found name turn NoFile is cause from = let same : Missing name ≡ cause = cc in subst Accounts same ([], name, OfGrammar order on turn refl, is)
     of_found name turn Long is cause from = let same : LongFile name ≡ cause = cc in subst Accounts same ([], name, OfGrammar order on turn refl, is)
@@ -118,9 +121,9 @@ module _ (words : List Text) (files : Option Files) where
     of_modules (Halt cause') are cause same = let one : cause' ≡ cause = cc in subst Accounts one (by_sample (sample_of order.job) (λ name turn. turn) cause' are)
 
   of_front : (cause : Cause) → IsFront words files (Halt cause) → Accounts cause
-  of_front cause is = at (order_of words) refl is
+  of_front cause is = at (staged_order words) refl is
     where
-      at : (s : Staged Order) → order_of words ≡ s → On {B = Front} s (λ order. Then (AreModules files order) (λ modules. Then (IsGrammarStage order.stdlib modules) (λ grammar. Gives (record { order = order; grammar = grammar })))) (Halt cause) → Accounts cause
+      at : (s : Staged Order) → staged_order words ≡ s → On {B = Front} s (λ order. Then (AreModules files order) (λ modules. Then (IsGrammarStage order.stdlib modules) (λ grammar. Gives (record { order = order; grammar = grammar })))) (Halt cause) → Accounts cause
       at (Go order) on rest = of_modules order on rest.0 rest.1 cause rest.2
       at (Halt cause') on same = let one : cause' ≡ cause = cc in subst Accounts one (usage_so (spelled.order_of words) cause' on on)
 
@@ -220,19 +223,19 @@ module _ (words : List Text) (files : Option Files) where
       (answers_right w.plan yields.lines yields.text yields.last yields.answers (work_right asked.0 w asked.1 asked.2)) yields.ends
 
   -- misuse says its line alone
-  misused_work : (line : Text) → order_of words ≡ Halt (Misused line) → (s : Staged Prepared) → IsPrepared words files s → (w : Work) → IsWorkOf files s w → w.warnings ≡ []
+  misused_work : (line : Text) → staged_order words ≡ Halt (Misused line) → (s : Staged Prepared) → IsPrepared words files s → (w : Work) → IsWorkOf files s w → w.warnings ≡ []
   misused_work line on (Halt cause) prepared w is = ap (λ (x : Work). x.warnings) is
   misused_work line on (Go p) prepared w is = absurd (no_front prepared.0 prepared.1 prepared.2)
     where
-      no_order : (s : Staged Order) → order_of words ≡ s → (front : Front) → On {B = Front} s (λ order. Then (AreModules files order) (λ modules. Then (IsGrammarStage order.stdlib modules) (λ grammar. Gives (record { order = order; grammar = grammar })))) (Go front) → ⊥
+      no_order : (s : Staged Order) → staged_order words ≡ s → (front : Front) → On {B = Front} s (λ order. Then (AreModules files order) (λ modules. Then (IsGrammarStage order.stdlib modules) (λ grammar. Gives (record { order = order; grammar = grammar })))) (Go front) → ⊥
       no_order (Go order) at front rest = let same : Halt (Misused line) ≡ Go order = sym on ∙ at in absurd (cc)
       no_order (Halt cause) at front rest = absurd (cc)
 
       no_front : (s : Staged Front) → IsFront words files s → On s (IsTabledFront files) (Go p) → ⊥
-      no_front (Go front) is rest = no_order (order_of words) refl front is
+      no_front (Go front) is rest = no_order (staged_order words) refl front is
       no_front (Halt cause) is rest = absurd (cc)
 
-  pub misused_says : (w : Work) (o : Outcome) (line : Text) → order_of words ≡ Halt (Misused line) → o.cause ≡ Some (Misused line) → IsWork words files w → err_of w o ≡ line
+  pub misused_says : (w : Work) (o : Outcome) (line : Text) → staged_order words ≡ Halt (Misused line) → o.cause ≡ Some (Misused line) → IsWork words files w → err_of w o ≡ line
   misused_says w o line on cause asked =
       ap (λ (t : Text). t ++ said o.cause) (misused_work line on asked.0 asked.1 w asked.2) ∙ ap said cause
 
@@ -242,7 +245,7 @@ module _ (words : List Text) (files : Option Files) where
 halts_gives : (cause : Cause) (input : Option Text) (lines : List Text) (whole : Bool) (text : Text) (last : Plan) (given : Option Cause) (out : Text) → AsksFor NoLine input lines whole → AnswersAll by_plan (halts cause) lines text last → EndsBehind by_plan whole last text given out → given ≡ Some cause
 halts_gives cause input [] true text last given out asks all ends =
     let end : EndsWith (halts cause) ends.0 = subst (λ (l : Plan). EndsWith l ends.0) all.1 ends.1 in
-    ends.2 ∙ ap (λ (e : Ending). e.cause) end
+    ends.2 ∙ ap (λ (e : Finish). e.cause) end
 halts_gives cause input [] false text last given out asks all ends = let same : false ≡ true = asks.1 in absurd (cc)
 halts_gives cause input (line ∷ lines) whole text last given out asks all ends = let same : line ∷ lines ≡ [] = asks.0 in absurd (cc)
 
@@ -264,7 +267,7 @@ module _ (words : List Text) (files : Files) where
   modules_halt None names name turn cause is = subst (λ (l : List Text). AreFiles (Some files) IsModule l (Halt cause)) (sym turn.names_are) (files_halt name turn.after cause is turn.before turn.spelled)
   modules_halt (Some number) names name turn cause is = absurd (nil_not turn.before turn.after name turn.names_are)
 
-  prepared_halts : (order : Order) → order_of words ≡ Go order → (name : Text) → IsTurn (Some files) IsModule (grammar_files order) name → (cause : Cause) → IsFile (Some files) IsModule name (Halt cause) → IsPrepared words (Some files) (Halt cause)
+  prepared_halts : (order : Order) → staged_order words ≡ Go order → (name : Text) → IsTurn (Some files) IsModule (grammar_files order) name → (cause : Cause) → IsFile (Some files) IsModule name (Halt cause) → IsPrepared words (Some files) (Halt cause)
   prepared_halts order on name turn cause is =
       let are : AreModules (Some files) order (Halt cause) = modules_halt (sample_of order.job) order.grammars name turn cause is in
       let front : IsFront words (Some files) (Halt cause) = subst (λ (o : Staged Order). On {B = Front} o (λ x. Then (AreModules (Some files) x) (λ modules. Then (IsGrammarStage x.stdlib modules) (λ grammar. Gives (record { order = x; grammar = grammar })))) (Halt cause)) (sym on) (Halt cause, are, refl) in

@@ -8,19 +8,19 @@ use Rattle.mh_outside.specs.Shelf.{Files}
 use Rattle.mh_drive.specs.Causes.{Staged, Go, Halt}
 use Rattle.mh_drive.specs.Statuses.{said, status_of}
 use Rattle.mh_top.specs.ErrorLists.{AnsweredErrors, AsksForErrors, Listed, ListsErrorsExactly, Refused}
-use Rattle.mh_modes.specs.Listing.{ListsErrors, Lists, TooLong}
-use Rattle.mh_drive.specs.Ways.{Ending, AnswersAll, AsksFor, EndsBehind, Outcome, Yields}
-use Rattle.mh_modes.specs.Plan.{Plan, EndsBy, EndsWith, IsPlanOfJob, Ends, Errors, by_plan}
+use Rattle.mh_plans.specs.Listing.{ListsErrors, Lists, TooLong}
+use Rattle.mh_drive.specs.Ways.{Finish, AnswersAll, AsksFor, EndsBehind, Outcome, Yields}
+use Rattle.mh_plans.specs.Plan.{Plan, EndsBy, EndsWith, IsPlanOfJob, Ends, Errors, by_plan}
 use Rattle.mh_top.specs.Run.{World, Does, err_of}
 use Rattle.mh_top.specs.Run as runs
-use Rattle.mh_prepare.specs.Shapes.{Prepared}
-use Rattle.mh_drive.specs.Text.{Text}
+use Rattle.mh_prepared.specs.Shapes.{Prepared}
+use Rattle.mh_grammar.specs.Text.{Text}
 use Rattle.mh_top.specs.Work.{Work, IsPlanUnless, IsWork, IsWorkOf, has_warning, warnings_of}
 use Rattle.mh_prepare.specs.Preparing.{IsPrepared}
 use Rattle.mh_drive.specs.declared.driving.Asks.TheVariants.{NoLine}
 use Rattle.mh_drive.specs.declared.stop.Cause.{Cause}
 use Rattle.mh_top.proofs.Claims.{completes}
-use Rattle.mh_prepare.proofs.Once.{prepared_once}
+use Rattle.mh_prepare.proofs.OnePrepared.{prepared_once}
 
 -- the mode that is asked for
 plan_of : (refused : Bool) (files : Option Files) (p : Prepared) (plan : Plan) → refused ≡ false → p.order.job ≡ ListErrors → IsPlanUnless refused files p plan → plan ≡ Ends (Errors p)
@@ -47,7 +47,7 @@ ends_alone p lines text last whole cause out asks answers ends =
     let is : EndsWith (Ends (Errors p)) e = subst (λ (l : Plan). EndsWith l e) none.1 all.1 in
     let out_is : out ≡ e.out = all.3 ∙ ap (λ (t : Text). t ++ e.out) none.0 in
     let same : e ≡ record { cause = cause; out = out } = (λ i. record { cause = sym all.2 i; out = sym out_is i }) in
-    subst (λ (x : Ending). EndsBy (Errors p) x) same is
+    subst (λ (x : Finish). EndsBy (Errors p) x) same is
 
 yields_end : (p : Prepared) (input : Option Text) (o : Outcome) → Yields by_plan (Ends (Errors p)) input o → EndsBy (Errors p) (record { cause = o.cause; out = o.out })
 yields_end p input o y = ends_alone p y.lines y.text y.last y.whole o.cause o.out y.asks y.answers y.ends

@@ -7,22 +7,22 @@ use Rattle.mh_grammar.specs.declared.types.Grammar.{Grammar}
 use Rattle.mh_grammar.specs.declared.types.Sentence.{Sentence}
 use Rattle.mh_grammar.specs.Costs.{HaveCosts}
 use Rattle.mh_grammar.specs.Plain.{PlainGrammar, plain_of, start_symbol, IsInRange, BeginsSentence}
-use Rattle.mh_items.specs.Shapes.{Automaton, Kernel}
-use Rattle.mh_items.specs.Automaton.{IsAutomaton, kernel_at}
-use Rattle.mh_canon.specs.Canonical.{IsCanonical, IsOver}
-use Rattle.mh_canon.specs.declared.collection.TheConstants.{MAX_STATES}
-use Rattle.mh_canon.specs.Moves.{IsState, AreStates}
-use Rattle.mh_canon.proofs.Finished.{kernel_got}
-use Rattle.mh_canon.proofs.Meaning.{IsAutomaton-canonical}
-use Rattle.mh_canon.proofs.Only.{one_canonical}
-use Rattle.mh_canon.proofs.States.{IsOver-states}
+use Rattle.mh_kernels.specs.Shapes.{Automaton, Kernel}
+use Rattle.mh_kernels.specs.Automaton.{IsAutomaton, kernel_at}
+use Rattle.mh_knuth.specs.Canonical.{IsCanonical, IsOver}
+use Rattle.mh_knuth.specs.declared.limits.TheConstants.{MAX_STATES}
+use Rattle.mh_knuth.specs.Found.{IsState, AreStates}
+use Rattle.mh_knuth.proofs.Finished.{kernel_got}
+use Rattle.mh_knuth.proofs.Meaning.{IsAutomaton-canonical}
+use Rattle.mh_knuth.proofs.Only.{one_canonical}
+use Rattle.mh_knuth.proofs.States.{IsOver-states}
 use Rattle.mh_pager.proofs.Finishing.{merged_automaton}
 use Rattle.mh_pager.proofs.Limits.{merged_few}
 use Rattle.mh_top.proofs.Merging.{merged_clear}
 use Rattle.mh_top.proofs.Unwarned.{unwarned_clear}
-use Rattle.mh_resolve.specs.Clear.{HasNoConflicts}
-use Rattle.mh_resolve.specs.States.{IsTableOf}
-use Rattle.mh_resolve.proofs.Resolving.{facts_of}
+use Rattle.mh_cells.specs.Clear.{HasNoConflicts}
+use Rattle.mh_cells.specs.States.{IsTableOf}
+use Rattle.mh_cells.proofs.Resolving.{facts_of}
 use Rattle.mh_tables.specs.Table.{TableData, table_data}
 use Rattle.mh_tables.specs.Facts.{Facts}
 use Rattle.mh_tables.specs.Run.{Ending as Ended, Accepted, Overshot, Rejected, VerdictOf, initial}
@@ -35,28 +35,28 @@ use Rattle.mh_exact.proofs.AcceptedSentence.{accepted_sentence}
 use Rattle.mh_exact.proofs.Telling.{overshoots, tells_prefix, tells_refused}
 use Rattle.mh_outside.specs.Shelf.{Files}
 use Rattle.std.proofs.lemmas.List.Elements.{All-cons, All-head, All-nil}
-use Rattle.mh_drive.specs.Text.{Text}
+use Rattle.mh_grammar.specs.Text.{Text}
 use Rattle.mh_drive.specs.Causes.{Staged, Go, Halt, On, Then, Gives}
 use Rattle.mh_prepare.specs.TableStage.{IsAutomatonStage, IsResolvedStage, mode_of}
 use Rattle.mh_prepare.specs.TableFile.{IsBuilt, IsNumbered}
-use Rattle.mh_prepare.proofs.Fronts.{IsMade, made}
+use Rattle.mh_prepare.proofs.Made.{IsMade, made}
 use Rattle.mh_valid.proofs.Giving.{automaton_of}
-use Rattle.mh_resolve.specs.declared.kinds.Mode.{Mode}
+use Rattle.mh_cells.specs.declared.kinds.Mode.{Mode}
 use Rattle.mh_msgfile.specs.Sentences.{LineFound}
 use Rattle.mh_msgfile.proofs.Below.{sentence_start}
-use Rattle.mh_modes.specs.Verdicts.{Answering, FoundBy, SentenceText, behind_refusal, verdict_text, outcome_text}
-use Rattle.mh_modes.specs.MessagesStage.{Messages}
-use Rattle.mh_modes.specs.Plan.{Judges, halts}
+use Rattle.mh_plans.specs.Verdicts.{Answering, FoundBy, SentenceText, behind_refusal, verdict_text, outcome_text}
+use Rattle.mh_plans.specs.MessagesStage.{Messages}
+use Rattle.mh_plans.specs.Plan.{Judges, halts}
 use Rattle.mh_top.specs.Work.{Work, IsPlanUnless, IsWork, IsWorkOf, has_warning, warnings_of}
 use Rattle.mh_prepare.specs.Preparing.{IsPrepared}
 use Rattle.mh_top.specs.Exact.{IsClear, IsClearTable, IsLR1, NameNoTables, AnswersSentence, Accepts, Rejects, IsTooDeepText, ShowsTree, AcceptsExactly, RejectsRightly, OvershootsRightly, AcceptsRightly, TooDeepExactly, HasNoLevels, ClearWhereUnwarned}
-use Rattle.mh_prepare.specs.Prepared.{IsFit}
-use Rattle.mh_prepare.specs.Shapes.{Prepared}
+use Rattle.mh_prepared.specs.Prepared.{IsFit}
+use Rattle.mh_prepared.specs.Shapes.{Prepared}
 use Rattle.mh_drive.specs.declared.stop.Cause.{Cause}
 use Rattle.mh_prepare.specs.declared.tabled.Source.{Source}
 use Rattle.mh_prepare.specs.declared.tabled.Source.TheVariants.{Canonical, File, Merged}
 use Rattle.mh_tables.specs.Halting.{AlwaysHalts}
-use Rattle.mh_modes.proofs.Reading.{Runs}
+use Rattle.mh_plans.proofs.Reading.{Runs}
 use Rattle.mh_modes.proofs.EachMode.{facts_of as job_facts}
 
 -- ---- the grammar and the table that verdicts go by

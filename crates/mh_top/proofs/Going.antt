@@ -4,24 +4,25 @@ use Rattle.std.proofs.lemmas.List.{append-nil}
 use Rattle.std.specs.Prelude.{Result, Ok, Err}
 use Rattle.std.specs.Io.KnownBytes.{Appends}
 use Rattle.mh_outside.specs.Shelf.{Files}
-use Rattle.mh_drive.specs.Text.{Text}
+use Rattle.mh_grammar.specs.Text.{Text}
 use Rattle.mh_drive.specs.Causes.{Staged, Go, Halt, Then, Gives}
-use Rattle.mh_prepare.specs.Order.{order_of}
-use Rattle.mh_prepare.specs.Turns.{IsGrammarTurn}
-use Rattle.mh_modes.specs.Plan.{Plan, IsPlanOfJob, halts, by_plan}
-use Rattle.mh_modes.specs.Files.{IsTurnOfJob}
+use Rattle.mh_loading.specs.Order.{staged_order}
+use Rattle.mh_loading.specs.GrammarTurns.{IsGrammarTurn}
+use Rattle.mh_plans.specs.Plan.{Plan, IsPlanOfJob, halts, by_plan}
+use Rattle.mh_plans.specs.Files.{IsTurnOfJob}
 use Rattle.mh_modes.proofs.Following.{ended_halts}
 use Rattle.mh_drive.specs.Stages.{FilesGive, ShelfCounts, StageHas, Halts as HaltsWith}
-use Rattle.mh_prepare.specs.Preparing.{IsFront, IsPrepared, IsTabledFront}
+use Rattle.mh_loading.specs.FrontStage.{IsFront}
+use Rattle.mh_prepare.specs.Preparing.{IsPrepared, IsTabledFront}
 use Rattle.mh_top.specs.Work.{IsPlanOf, IsPlanUnless, Work, has_warning, warnings_of}
 use Rattle.mh_drive.specs.Ways.{left_behind}
 use Rattle.mh_drive.specs.Drive.{Ended, LeftIs, Ran}
 use Rattle.mh_drive.specs.Steps.{Counts, FileCounts, OutCounts}
-use Rattle.mh_modes.specs.Modes.{Followed, IsUnopened}
+use Rattle.mh_plans.specs.Modes.{Followed, IsUnopened}
 use Rattle.mh_top.specs.Saying.{Warned, Worked}
 use Rattle.mh_top.specs.Run.{World, Behind, Nothing, Warned as Said, Begun, IsDue, OfGrammar, OfTables, OfMode, IsStill, IsTurnBehind, IsTurnUnless}
-use Rattle.mh_prepare.specs.declared.prepared.Front.{Front}
-use Rattle.mh_prepare.specs.Shapes.{Prepared}
+use Rattle.mh_loading.specs.declared.front.Front.{Front}
+use Rattle.mh_prepared.specs.Shapes.{Prepared}
 use Rattle.mh_drive.specs.declared.stop.Cause.{Cause}
 use Rattle.mh_drive.specs.declared.stop.Cause.TheVariants.{Refused}
 use Rattle.mh_drive.specs.declared.stop.Stop.{Stop}

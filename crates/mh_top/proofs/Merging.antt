@@ -5,18 +5,18 @@ use Rattle.mh_grammar.specs.declared.types.Symbol.TheVariants.{T}
 use Rattle.mh_grammar.specs.declared.types.Look.TheVariants.{Token, End}
 use Rattle.mh_grammar.specs.Plain.{plain_of}
 use Rattle.mh_grammar.specs.ItemSets as items
-use Rattle.mh_items.specs.Shapes.{Automaton}
-use Rattle.mh_items.specs.Automaton.{kernel_of}
-use Rattle.mh_items.specs.Conflicts.{ShiftsOn, HasConflict, shift_reduce, reduce_reduce, HasStreamConflict, shift, reduce, HasEither, IsFaulty}
-use Rattle.mh_canon.specs.Canonical.{IsCanonical}
-use Rattle.mh_canon.specs.declared.collection.TheConstants.{MAX_STATES}
+use Rattle.mh_kernels.specs.Shapes.{Automaton}
+use Rattle.mh_kernels.specs.Automaton.{kernel_of}
+use Rattle.mh_kernels.specs.Conflicts.{ShiftsOn, HasConflict, shift_reduce, reduce_reduce, HasStreamConflict, shift, reduce, HasEither, IsFaulty}
+use Rattle.mh_knuth.specs.Canonical.{IsCanonical}
+use Rattle.mh_knuth.specs.declared.limits.TheConstants.{MAX_STATES}
 use Rattle.mh_pager.specs.Steps.{IsMerged}
 use Rattle.mh_pager.proofs.Finishing.{merged_automaton, merged_faults}
 use Rattle.mh_tables.specs.declared.parts.Action.TheVariants.{Shift, Reduce}
-use Rattle.mh_resolve.specs.Clear.{HasNoConflicts}
-use Rattle.mh_resolve.specs.States.{state_of, Raw}
-use Rattle.mh_resolve.proofs.Bridging.{clear_are}
-use Rattle.mh_resolve.proofs.Once.{raw_taken}
+use Rattle.mh_cells.specs.Clear.{HasNoConflicts}
+use Rattle.mh_cells.specs.States.{state_of, Raw}
+use Rattle.mh_cells.proofs.Bridging.{clear_are}
+use Rattle.mh_cells.proofs.Once.{raw_taken}
 
 -- no matter how many states the canonical automaton has
 module _ (g : Grammar) (c : Automaton) (is : IsCanonical (plain_of g) c) (clear : HasNoConflicts g c) (s : ℕ) (l : s < length c.kernels) where

@@ -1,18 +1,18 @@
 -- The work that the words ask for is one, as each of its stages gives one thing; and so is its outcome on an input.
 use Rattle.std.proofs.Common.{◌≡◌, ◌≤◌, ℕ, Bool, true, false, ◌&&◌, List, [], ◌∷◌, ◌++◌, Option, Some, sym, ◌∙◌, ap, ap₂, subst, arith}
 use Rattle.mh_outside.specs.Shelf.{Files}
-use Rattle.mh_drive.specs.Text.{Text}
+use Rattle.mh_grammar.specs.Text.{Text}
 use Rattle.mh_drive.specs.Causes.{Staged, Go, Halt}
-use Rattle.mh_modes.specs.Plan.{Plan, asks_of, by_plan}
+use Rattle.mh_plans.specs.Plan.{Plan, asks_of, by_plan}
 use Rattle.mh_drive.specs.Ways.{AnswersAll, AsksFor, EndsBehind, Outcome, Yields, left_behind}
 use Rattle.mh_top.specs.Work.{Work, IsPlanUnless, IsWork, IsWorkOf, has_warning}
 use Rattle.mh_prepare.specs.Preparing.{IsPrepared}
 use Rattle.mh_drive.specs.declared.driving.Asks.{Asks}
 use Rattle.mh_drive.specs.declared.driving.Asks.TheVariants.{NoLine, FirstLine, EachLine}
-use Rattle.mh_prepare.specs.Shapes.{Prepared}
+use Rattle.mh_prepared.specs.Shapes.{Prepared}
 use Rattle.mh_drive.specs.declared.stop.Cause.{Cause}
 use Rattle.mh_drive.proofs.Binding.{IsOne}
-use Rattle.mh_prepare.proofs.Once.{prepared_once}
+use Rattle.mh_prepare.proofs.OnePrepared.{prepared_once}
 use Rattle.mh_modes.proofs.EachMode.{answer_once, cause_once, out_once, facts_of}
 
 -- ---- the work

@@ -7,7 +7,8 @@ use Rattle.mh_outside.specs.Faults.{Rose}
 use Rattle.mh_outside.specs.Sink.{AppendsPrefix, WritesWhole}
 use Rattle.mh_outside.specs.declared.sink.WriteFault.{WriteFault}
 use Rattle.mh_outside.proofs.Pieces.{Appends-append}
-use Rattle.mh_drive.specs.Text.{Text, cannot_read, cannot_read_input, out_of_memory}
+use Rattle.mh_grammar.specs.Text.{Text}
+use Rattle.mh_drive.specs.Text.{cannot_read, cannot_read_input, out_of_memory}
 use Rattle.mh_drive.specs.Statuses.{code_of, line_of, said, status_of}
 use Rattle.mh_top.specs.Work.{Work, warnings_of}
 use Rattle.mh_top.specs.Run.{World, Ran, Finished, CannotReadFile, CannotReadInput, CannotWarn, CannotWrite, CannotSay, NoMemory, Behind, Done, Nothing, Warned, Begun, OfCause, OfFile, OfInput, OfMemory, IsQuiet}

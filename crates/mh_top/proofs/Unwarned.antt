@@ -10,19 +10,20 @@ use Rattle.mh_grammar.specs.declared.types.TokenInfo.{TokenInfo}
 use Rattle.mh_grammar.specs.declared.types.Look.{Look}
 use Rattle.mh_grammar.specs.declared.types.Look.TheVariants.{Token, End}
 use Rattle.mh_grammar.specs.ItemSets.{ItemSet}
-use Rattle.mh_items.specs.Shapes.{Automaton}
-use Rattle.mh_report.specs.Items.{Text, look_name}
+use Rattle.mh_kernels.specs.Shapes.{Automaton}
+use Rattle.mh_cells.specs.Names.{look_name}
+use Rattle.mh_grammar.specs.Text.{Text}
 use Rattle.mh_report.specs.Warnings.{conflict_place, unsolved_line, warning_line, warning_lines}
 use Rattle.mh_tables.specs.declared.parts.Action.{Action}
 use Rattle.mh_tables.specs.declared.parts.Action.TheVariants.{Shift, Reduce, Refuse}
-use Rattle.mh_resolve.specs.declared.conflicts.Conflict.{Conflict}
-use Rattle.mh_resolve.specs.declared.kinds.ConflictKind.{ConflictKind}
-use Rattle.mh_resolve.specs.declared.kinds.ConflictKind.TheVariants.{Solved, Unsolved, Stream}
-use Rattle.mh_resolve.specs.Cells.{HasTwo, IsConflict, IsUnsolved}
-use Rattle.mh_resolve.specs.Clear.{HasNoConflicts}
-use Rattle.mh_resolve.specs.Conflicts.{AreConflicts, IsConflictOf}
-use Rattle.mh_resolve.specs.Levels.{compared, comparison, look_level, production_level}
-use Rattle.mh_resolve.specs.States.{Raw, RawOf, shift_on, state_of}
+use Rattle.mh_cells.specs.declared.conflicts.Conflict.{Conflict}
+use Rattle.mh_cells.specs.declared.kinds.ConflictKind.{ConflictKind}
+use Rattle.mh_cells.specs.declared.kinds.ConflictKind.TheVariants.{Solved, Unsolved, Stream}
+use Rattle.mh_cells.specs.Cells.{HasTwo, IsConflict, IsUnsolved}
+use Rattle.mh_cells.specs.Clear.{HasNoConflicts}
+use Rattle.mh_cells.specs.Conflicts.{AreConflicts, IsConflictOf}
+use Rattle.mh_cells.specs.Levels.{compared, comparison, look_level, production_level}
+use Rattle.mh_cells.specs.States.{Raw, RawOf, shift_on, state_of}
 use Rattle.mh_grammar.proofs.Lists.{at_contains}
 use Rattle.mh_top.specs.Exact.{HasNoLevels}
 

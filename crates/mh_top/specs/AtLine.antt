@@ -1,8 +1,8 @@
 -- From a text to the line of each answer in it: the text is a front, the answer of the line, and the rest.
 use Rattle.std.specs.Prelude.{◌≡◌, List, ◌++◌}
-use Rattle.mh_drive.specs.Text.{Text}
-use Rattle.mh_modes.specs.Verdicts.{Answering, AnswersOne}
-use Rattle.mh_modes.specs.Plan.{Plan, Judges, Answers, by_plan}
+use Rattle.mh_grammar.specs.Text.{Text}
+use Rattle.mh_plans.specs.Verdicts.{Answering, AnswersOne}
+use Rattle.mh_plans.specs.Plan.{Plan, Judges, Answers, by_plan}
 use Rattle.mh_drive.specs.Ways.{AnswersAll}
 
 -- the lines before this one are answered by the front, and those behind it by the rest

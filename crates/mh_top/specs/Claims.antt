@@ -4,12 +4,13 @@ use Rattle.std.specs.Io.KnownBytes.{Appends}
 use Rattle.mh_outside.specs.Faults.{Rose, IsCalm}
 use Rattle.mh_outside.specs.Shelf.{Files, Found, NoFile, Long}
 use Rattle.mh_outside.specs.Sink.{AppendsPrefix}
-use Rattle.mh_drive.specs.Text.{Text, cannot_read, cannot_read_input, out_of_memory}
+use Rattle.mh_grammar.specs.Text.{Text}
+use Rattle.mh_drive.specs.Text.{cannot_read, cannot_read_input, out_of_memory}
 use Rattle.mh_drive.specs.Lines.{split, is_small}
 use Rattle.mh_drive.specs.Causes.{Go, Halt}
-use Rattle.mh_prepare.specs.Order.{order_of}
-use Rattle.mh_prepare.specs.FileStage.{IsFound}
-use Rattle.mh_modes.specs.Plan.{Plan, asks_of, by_plan}
+use Rattle.mh_loading.specs.Order.{staged_order}
+use Rattle.mh_files.specs.FileStage.{IsFound}
+use Rattle.mh_plans.specs.Plan.{Plan, asks_of, by_plan}
 use Rattle.mh_top.specs.Work.{Work, IsWork}
 use Rattle.mh_drive.specs.declared.driving.TheConstants.{LINE_LIMIT}
 use Rattle.mh_drive.specs.Ways.{most, wanted}
@@ -65,7 +66,7 @@ Finishes words before now status = IsDone status → IsQuiet before now × Does 
 
 -- Misuse is that of the words, and its line is written.
 abbrev pub MisuseHasCause : List Text → World → World → ℕ → Type 0
-MisuseHasCause words before now status = status ≡ 2 → (line : Text) × (order_of words ≡ Halt (Misused line)) × Appends before.err now.err line
+MisuseHasCause words before now status = status ≡ 2 → (line : Text) × (staged_order words ≡ Halt (Misused line)) × Appends before.err now.err line
 
 -- A read fault has its cause: the shelf's count rose at a file whose turn it was, and nothing was done but that it was named, behind
 -- what stood on err; or the order's file whose turn it is is absent; or the input's count rose, and out holds exactly the text of

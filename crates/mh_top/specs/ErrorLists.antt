@@ -6,10 +6,10 @@ use Rattle.mh_outside.specs.Shelf.{Files}
 use Rattle.mh_tables.specs.Failing.{TooLongAt}
 use Rattle.mh_drive.specs.Causes.{Go}
 use Rattle.mh_top.specs.Claims.{AllCalm}
-use Rattle.mh_modes.specs.Listing.{IsCatalogueText, too_long}
+use Rattle.mh_plans.specs.Listing.{IsCatalogueText, too_long}
 use Rattle.mh_top.specs.Run.{World}
-use Rattle.mh_prepare.specs.Shapes.{Prepared}
-use Rattle.mh_drive.specs.Text.{Text}
+use Rattle.mh_prepared.specs.Shapes.{Prepared}
+use Rattle.mh_grammar.specs.Text.{Text}
 use Rattle.mh_prepare.specs.Preparing.{IsPrepared}
 use Rattle.mh_top.specs.Work.{has_warning, warnings_of}
 

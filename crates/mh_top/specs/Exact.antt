@@ -4,12 +4,12 @@ use Rattle.std.specs.List.{All}
 use Rattle.mh_grammar.specs.declared.types.Grammar.{Grammar}
 use Rattle.mh_grammar.specs.declared.types.Sentence.{Sentence}
 use Rattle.mh_grammar.specs.Plain.{plain_of, start_symbol, BeginsSentence}
-use Rattle.mh_items.specs.Shapes.{Automaton}
-use Rattle.mh_items.specs.Automaton.{IsAutomaton}
-use Rattle.mh_canon.specs.Canonical.{IsCanonical}
-use Rattle.mh_resolve.specs.States.{IsTableOf}
-use Rattle.mh_resolve.specs.declared.kinds.Mode.{Mode}
-use Rattle.mh_resolve.specs.Clear.{HasNoConflicts}
+use Rattle.mh_kernels.specs.Shapes.{Automaton}
+use Rattle.mh_kernels.specs.Automaton.{IsAutomaton}
+use Rattle.mh_knuth.specs.Canonical.{IsCanonical}
+use Rattle.mh_cells.specs.States.{IsTableOf}
+use Rattle.mh_cells.specs.declared.kinds.Mode.{Mode}
+use Rattle.mh_cells.specs.Clear.{HasNoConflicts}
 use Rattle.mh_tables.specs.Table.{TableData}
 use Rattle.mh_tree.specs.Trees.{SyntaxTree, IsTreeFor, text_of, yield_of}
 use Rattle.mh_exact.specs.Exactness.{IsPrefixSentence, AllProductive}
@@ -17,12 +17,12 @@ use Rattle.mh_tables.specs.TreeRuns.{IsTooDeep}
 use Rattle.mh_opts.specs.declared.order.Order.{Order}
 use Rattle.mh_outside.specs.Shelf.{Files}
 use Rattle.mh_drive.specs.Causes.{Go}
-use Rattle.mh_prepare.specs.Order.{order_of}
-use Rattle.mh_drive.specs.Text.{Text}
+use Rattle.mh_loading.specs.Order.{staged_order}
+use Rattle.mh_grammar.specs.Text.{Text}
 use Rattle.mh_msgfile.specs.Sentences.{IsSentence, sentence_in, vocabulary_of}
-use Rattle.mh_modes.specs.MessagesStage.{Messages}
-use Rattle.mh_modes.specs.Verdicts.{AnswersOne}
-use Rattle.mh_modes.specs.Plan.{Judges}
+use Rattle.mh_plans.specs.MessagesStage.{Messages}
+use Rattle.mh_plans.specs.Verdicts.{AnswersOne}
+use Rattle.mh_plans.specs.Plan.{Judges}
 use Rattle.mh_top.specs.Work.{IsWork}
 
 -- The grammar is LR(1) (Knuth 1965): its canonical automaton has no conflict, that with the end of the stream included.
@@ -41,7 +41,7 @@ pub record IsClearTable (g : Grammar) (t : TableData) : Type 0 where
 
 -- the words name no table file
 abbrev pub NameNoTables : List Text → Type 0
-NameNoTables words = (order : Order) → order_of words ≡ Go order → order.tables ≡ None
+NameNoTables words = (order : Order) → staged_order words ≡ Go order → order.tables ≡ None
 
 -- Verdicts go by no conflict: the table is built, and the grammar is LR(1); or the table, which may be that of a file, is clear.
 abbrev pub IsClear : List Text → Grammar → TableData → Type 0

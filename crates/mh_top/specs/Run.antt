@@ -5,20 +5,22 @@ use Rattle.mh_outside.specs.Faults.{Rose}
 use Rattle.mh_outside.specs.Shelf.{Files}
 use Rattle.mh_outside.specs.Sink.{AppendsPrefix}
 use Rattle.mh_opts.specs.declared.order.Order.{Order}
-use Rattle.mh_drive.specs.Text.{Text, cannot_read, cannot_read_input, out_of_memory}
+use Rattle.mh_grammar.specs.Text.{Text}
+use Rattle.mh_drive.specs.Text.{cannot_read, cannot_read_input, out_of_memory}
 use Rattle.mh_drive.specs.Causes.{Go}
 use Rattle.mh_drive.specs.Statuses.{status_of, line_of, said}
-use Rattle.mh_prepare.specs.Order.{order_of}
-use Rattle.mh_prepare.specs.FileStage.{IsModule}
-use Rattle.mh_prepare.specs.Modules.{grammar_files}
-use Rattle.mh_prepare.specs.Turns.{IsTablesTurn, IsTurn}
+use Rattle.mh_loading.specs.Order.{staged_order}
+use Rattle.mh_loading.specs.GrammarFile.{IsModule}
+use Rattle.mh_loading.specs.Modules.{grammar_files}
+use Rattle.mh_files.specs.Turns.{IsTurn}
+use Rattle.mh_prepare.specs.TableTurns.{IsTablesTurn}
 use Rattle.mh_drive.specs.Ways.{Outcome, Yields}
 use Rattle.mh_top.specs.Work.{Work, IsWork, has_warning, warnings_of}
 use Rattle.mh_prepare.specs.Preparing.{IsPrepared}
-use Rattle.mh_modes.specs.Files.{IsTurnOfJob}
-use Rattle.mh_modes.specs.Plan.{by_plan}
+use Rattle.mh_plans.specs.Files.{IsTurnOfJob}
+use Rattle.mh_plans.specs.Plan.{by_plan}
 use Rattle.mh_drive.specs.Drive.{Partly, GotAt, CutAt, WantsAt, LeftIs, Ended}
-use Rattle.mh_prepare.specs.Shapes.{Prepared}
+use Rattle.mh_prepared.specs.Shapes.{Prepared}
 use Rattle.mh_drive.specs.declared.stop.Cause.{Cause}
 
 -- the outside of a call at one moment: what it tells, and its counts of faults
@@ -57,7 +59,7 @@ IsTurnBehind files p name = IsTurnUnless (p.order.strict && has_warning p.tabled
 
 -- the turn of the file of this name has come: of the order's grammar files; of its table file; or, behind the warnings, of those that the mode reads
 pub data IsDue (words : List Text) (files : Option Files) (front name : Text) : Type 0 where
-  OfGrammar : (order : Order) → order_of words ≡ Go order → IsTurn files IsModule (grammar_files order) name → front ≡ [] → IsDue words files front name
+  OfGrammar : (order : Order) → staged_order words ≡ Go order → IsTurn files IsModule (grammar_files order) name → front ≡ [] → IsDue words files front name
   OfTables : IsTablesTurn words files name → front ≡ [] → IsDue words files front name
   OfMode : (p : Prepared) → IsPrepared words files (Go p) → IsTurnBehind files p name → front ≡ warnings_of p → IsDue words files front name
 

@@ -3,7 +3,8 @@ use Rattle.std.specs.Prelude.{◌≡◌, ◌⊎◌, ℕ, List, Option, None, Som
 use Rattle.std.specs.Io.KnownBytes.{Appends}
 use Rattle.mh_outside.specs.Faults.{Rose}
 use Rattle.mh_outside.specs.Sink.{AppendsPrefix}
-use Rattle.mh_drive.specs.Text.{Text, cannot_read, cannot_read_input, out_of_memory}
+use Rattle.mh_grammar.specs.Text.{Text}
+use Rattle.mh_drive.specs.Text.{cannot_read, cannot_read_input, out_of_memory}
 use Rattle.mh_drive.specs.Statuses.{code_of, line_of}
 use Rattle.mh_drive.specs.declared.stop.Stop.{Stop}
 use Rattle.mh_drive.specs.declared.stop.Stop.TheVariants.{Halted, ShelfFailed, InputFailed, WriteFailed, OutOfMemory}

@@ -1,17 +1,17 @@
 -- The whole work: what the words ask for over files and an input.
 use Rattle.std.specs.Prelude.{◌≡◌, Bool, true, false, ◌&&◌, List, [], Option}
 use Rattle.std.specs.List.{list_any}
-use Rattle.mh_resolve.specs.declared.kinds.ConflictKind.{ConflictKind}
-use Rattle.mh_resolve.specs.declared.kinds.ConflictKind.TheVariants.{Solved}
-use Rattle.mh_resolve.specs.declared.conflicts.Conflict.{Conflict}
+use Rattle.mh_cells.specs.declared.kinds.ConflictKind.{ConflictKind}
+use Rattle.mh_cells.specs.declared.kinds.ConflictKind.TheVariants.{Solved}
+use Rattle.mh_cells.specs.declared.conflicts.Conflict.{Conflict}
 use Rattle.mh_report.specs.Warnings.{warning_lines}
 use Rattle.mh_outside.specs.Shelf.{Files}
-use Rattle.mh_drive.specs.Text.{Text}
+use Rattle.mh_grammar.specs.Text.{Text}
 use Rattle.mh_drive.specs.Causes.{Staged, Go, Halt}
 use Rattle.mh_drive.specs.declared.stop.Cause.TheVariants.{Refused}
 use Rattle.mh_prepare.specs.Preparing.{IsPrepared}
-use Rattle.mh_prepare.specs.Shapes.{Prepared}
-use Rattle.mh_modes.specs.Plan.{Plan, IsPlanOfJob, halts}
+use Rattle.mh_prepared.specs.Shapes.{Prepared}
+use Rattle.mh_plans.specs.Plan.{Plan, IsPlanOfJob, halts}
 
 -- what stands first on err, and then the mode
 pub record Work : Type 0 where

@@ -4,13 +4,13 @@ ghost use Rattle.mh_outside.specs.Shelf.{Files};
 ghost use Rattle.mh_top.specs.AtLine.{IsAnsweredAt, HasVerdictAt};
 ghost use Rattle.mh_top.specs.Exact.{ClearWhereUnwarned};
 ghost use Rattle.mh_drive.specs.Causes.{Staged};
-ghost use Rattle.mh_modes.specs.Plan.{Plan, Judges, by_plan};
+ghost use Rattle.mh_plans.specs.Plan.{Plan, Judges, by_plan};
 ghost use Rattle.mh_drive.specs.Ways.{AnswersAll, Outcome, Yields};
-ghost use Rattle.mh_drive.specs.Text.{Text};
-ghost use Rattle.mh_modes.specs.Verdicts.{Answering};
+ghost use Rattle.mh_grammar.specs.Text.{Text};
+ghost use Rattle.mh_plans.specs.Verdicts.{Answering};
 ghost use Rattle.mh_top.specs.Work.{Work, IsWork};
 ghost use Rattle.mh_prepare.specs.Preparing.{IsPrepared};
-ghost use Rattle.mh_prepare.specs.Shapes.{Prepared};
+ghost use Rattle.mh_prepared.specs.Shapes.{Prepared};
 
 /// Over given files the words ask for one work, and a mode has one outcome on a given input.
 pub fn work_is_one()

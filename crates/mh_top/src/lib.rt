@@ -1,10 +1,12 @@
 //! The top call: all that the program does, over any shelf, input and output.
 #![tactic(auto)]
 
+mod exit;
 mod laws;
 mod top;
 mod warning;
 
+pub use exit::run;
 pub use laws::{
     lines_are_answered, runs_are_one, some_work_is_asked, unwarned_is_clear, work_is_one,
 };

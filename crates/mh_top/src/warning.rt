@@ -2,19 +2,19 @@
 ghost use Rattle.std.specs.Prelude.{◌≡◌, ◌≤◌, ◌&&◌};
 ghost use Rattle.std.specs.List.{All};
 ghost use Rattle.mh_drive.specs.Steps.{Counts, FileCounts, OutCounts};
-ghost use Rattle.mh_modes.specs.Files.{files_of_mode};
-ghost use Rattle.mh_modes.specs.Modes.{Followed};
-ghost use Rattle.mh_prepare.specs.Prepared.{IsFit};
+ghost use Rattle.mh_plans.specs.Files.{files_of_mode};
+ghost use Rattle.mh_plans.specs.Modes.{Followed};
+ghost use Rattle.mh_prepared.specs.Prepared.{IsFit};
 ghost use Rattle.mh_top.specs.Run.{IsTurnBehind};
 ghost use Rattle.mh_top.specs.Saying.{Warned};
 ghost use Rattle.mh_top.specs.Work.{IsPlanOf, has_warning as has_warning_in, is_warned as is_warned_of, warnings_of};
 
+use mh_cells::{Conflict, ConflictKind};
 use mh_drive::{Stop, refused, write_text};
 use mh_modes::follow;
 use mh_outside::{Shelf, Sink, Source};
-use mh_prepare::Prepared;
+use mh_prepared::Prepared;
 use mh_report::warning_text;
-use mh_resolve::{Conflict, ConflictKind};
 use std::alloc::Global;
 
 /// Whether a conflict is warned of: levels do not solve it.

@@ -1,7 +1,8 @@
 -- Two files with the same kept lines are right together, and have the same content.
 use Rattle.std.proofs.Common.{◌≡◌, ℕ, Bool, true, false, List, [], ◌∷◌, ◌++◌, map, filter, not, refl, sym, ◌∙◌, ap, subst, if◌then◌else◌}
 use Rattle.std.specs.List.{list_all, AllZip}
-use Rattle.mh_msgfile.specs.Sentences.{Text, Vocabulary, put_first, fields, has_items, runs, is_blank, LineFound, IsSentence, IsUnreadable, NamesNoStart, LacksStart, NamesUnknown, sentence_in}
+use Rattle.mh_grammar.specs.Text.{Text}
+use Rattle.mh_msgfile.specs.Sentences.{Vocabulary, put_first, fields, has_items, runs, is_blank, LineFound, IsSentence, IsUnreadable, NamesNoStart, LacksStart, NamesUnknown, sentence_in}
 use Rattle.mh_msgfile.specs.Messages.{line_at, is_taken_out, kept_lines, is_blank_line, blocks, message_of, FaultFound, BadShape, fault_at, sentence_at, faults_of, sentences_of, first_number, faults_in, entries_in}
 use Rattle.mh_msgfile.specs.Printed.{content_of, entry_content}
 use Rattle.std.proofs.lemmas.List.{map-append}

@@ -4,13 +4,14 @@ use Rattle.std.specs.Prelude.{slice_index_or}
 use Rattle.std.specs.List.{list_all}
 use Rattle.std.proofs.lemmas.Grind.{flat_map-append}
 use Rattle.mh_grammar.specs.declared.types.Grammar.{Grammar}
-use Rattle.mh_msgfile.specs.Sentences.{Text, Vocabulary, vocabulary_of, put_first, fields, has_items, is_blank, LineFound, IsSentence, IsUnreadable, NamesNoStart, LacksStart, NamesUnknown, sentence_in}
+use Rattle.mh_grammar.specs.Text.{Text}
+use Rattle.mh_msgfile.specs.Sentences.{Vocabulary, vocabulary_of, put_first, fields, has_items, is_blank, LineFound, IsSentence, IsUnreadable, NamesNoStart, LacksStart, NamesUnknown, sentence_in}
 use Rattle.mh_msgfile.specs.Messages.{line_at, numbers_from, is_taken_out, is_kept, is_blank_line, blocks, FaultFound, BadShape, sentence_at, faults_of, sentences_of, first_number, faults_in, entries_in, MsgSpells}
 use Rattle.mh_msgfile.specs.declared.messages.MsgSentence.{MsgSentence}
 use Rattle.mh_msgfile.specs.declared.messages.Entry.{Entry}
 use Rattle.mh_msgfile.specs.declared.messages.MsgFile.{MsgFile}
 use Rattle.mh_check.specs.Checks.{sentences_of as all_sentences}
-use Rattle.mh_update.proofs.Walks.{Place, Outside, Sentences, Behind, Message, Kind, Blank, Words, kind_by, next, told, put, sentences}
+use Rattle.mh_update.proofs.Walks.{LinePlace, Outside, Sentences, Behind, Message, Kind, Blank, Words, kind_by, next, told, put, sentences}
 
 -- ---- blocks by turns
 
@@ -30,7 +31,7 @@ odd_on block [] = sym (append-nil block)
 odd_on block (message ∷ rest) = refl
 
 -- the numbers of sentence lines among fields, of which the first belongs to a place
-abbrev read : Place → List (List ℕ) → List ℕ
+abbrev read : LinePlace → List (List ℕ) → List ℕ
 read Outside fs = odd (filter has_items fs)
 read Sentences [] = []
 read Sentences (f ∷ fs) = f ++ even (filter has_items fs)
@@ -38,20 +39,20 @@ read Behind fs = even (filter has_items fs)
 read Message [] = []
 read Message (f ∷ fs) = odd (filter has_items fs)
 
-read_blank : (place : Place) (fs : List (List ℕ)) → read place ([] ∷ fs) ≡ read (next Blank place) fs
+read_blank : (place : LinePlace) (fs : List (List ℕ)) → read place ([] ∷ fs) ≡ read (next Blank place) fs
 read_blank Outside fs = refl
 read_blank Sentences fs = refl
 read_blank Behind fs = refl
 read_blank Message fs = refl
 
 -- the number of a line, if it is a sentence there
-abbrev number_at : Place → ℕ → List ℕ
+abbrev number_at : LinePlace → ℕ → List ℕ
 number_at Outside n = n ∷ []
 number_at Sentences n = n ∷ []
 number_at Behind n = []
 number_at Message n = []
 
-read_words : (place : Place) (n : ℕ) (fs : List (List ℕ)) → read place (put_first n fs) ≡ number_at place n ++ read (next Words place) fs
+read_words : (place : LinePlace) (n : ℕ) (fs : List (List ℕ)) → read place (put_first n fs) ≡ number_at place n ++ read (next Words place) fs
 read_words Outside n [] = refl
 read_words Outside n (f ∷ fs) = odd_on (n ∷ f) (filter has_items fs)
 read_words Sentences n [] = refl
@@ -61,7 +62,7 @@ read_words Behind n (f ∷ fs) = refl
 read_words Message n [] = refl
 read_words Message n (f ∷ fs) = refl
 
-read_none : (place : Place) → read place ([] ∷ []) ≡ []
+read_none : (place : LinePlace) → read place ([] ∷ []) ≡ []
 read_none Outside = refl
 read_none Sentences = refl
 read_none Behind = refl
@@ -126,21 +127,21 @@ module _ (lines : List Text) where
     put_found n LacksStart xs = refl
     put_found n (NamesUnknown name) xs = refl
 
-    words_at : (place : Place) (n : ℕ) (ns : List ℕ) (xs : List MsgSentence) → flat_map found_at ns ≡ xs → flat_map found_at (number_at place n ++ ns) ≡ put n (told Words place (sentence_in v (line_at lines n))) xs
+    words_at : (place : LinePlace) (n : ℕ) (ns : List ℕ) (xs : List MsgSentence) → flat_map found_at ns ≡ xs → flat_map found_at (number_at place n ++ ns) ≡ put n (told Words place (sentence_in v (line_at lines n))) xs
     words_at Outside n ns xs is = ap (λ (l : List MsgSentence). found_at n ++ l) is ∙ put_found n (sentence_in v (line_at lines n)) xs
     words_at Sentences n ns xs is = ap (λ (l : List MsgSentence). found_at n ++ l) is ∙ put_found n (sentence_in v (line_at lines n)) xs
     words_at Behind n ns xs is = is
     words_at Message n ns xs is = is
 
     -- the definition's sentences of the lines from a place on
-    abbrev IsRead : Place → ℕ → List Text → Type 0
+    abbrev IsRead : LinePlace → ℕ → List Text → Type 0
     IsRead place k xs = flat_map found_at (read place (fields_from k xs)) ≡ sentences v place k xs
 
-    abbrev sentences_by : Kind → Place → ℕ → Text → List Text → List MsgSentence
+    abbrev sentences_by : Kind → LinePlace → ℕ → Text → List Text → List MsgSentence
     sentences_by kind place k x xs = put (k + 1) (told kind place (sentence_in v x)) (sentences v (next kind place) (k + 1) xs)
 
-    read_on : (place : Place) (k : ℕ) (x : Text) (xs : List Text) (taken blank : Bool) → is_taken_out x ≡ taken → list_all is_blank x ≡ blank → line_at lines (k + 1) ≡ x
-        → ((p : Place) → IsRead p (k + 1) xs) → flat_map found_at (read place (fields_from k (x ∷ xs))) ≡ sentences_by (kind_by taken blank) place k x xs
+    read_on : (place : LinePlace) (k : ℕ) (x : Text) (xs : List Text) (taken blank : Bool) → is_taken_out x ≡ taken → list_all is_blank x ≡ blank → line_at lines (k + 1) ≡ x
+        → ((p : LinePlace) → IsRead p (k + 1) xs) → flat_map found_at (read place (fields_from k (x ∷ xs))) ≡ sentences_by (kind_by taken blank) place k x xs
     read_on place k x xs true blank out is here more =
         let gone : is_kept lines (k + 1) ≡ false = ap (λ (l : Text). not (is_taken_out l)) here ∙ ap not out in
         ap (λ (ns : List ℕ). flat_map found_at (read place (fields (is_blank_line lines) ns))) (kept_on (k + 1) (numbers_from (k + 1 + 1) (length xs)) false gone) ∙ more place
@@ -159,7 +160,7 @@ module _ (lines : List Text) where
         ∙ words_at place (k + 1) (read (next Words place) (fields_from (k + 1) xs)) (sentences v (next Words place) (k + 1) xs) (more (next Words place))
         ∙ ap (λ (l : Text). put (k + 1) (told Words place (sentence_in v l)) (sentences v (next Words place) (k + 1) xs)) here
 
-    all_read : (k : ℕ) (xs : List Text) → drop k lines ≡ xs → (place : Place) → IsRead place k xs
+    all_read : (k : ℕ) (xs : List Text) → drop k lines ≡ xs → (place : LinePlace) → IsRead place k xs
     all_read k [] is place = ap (flat_map found_at) (read_none place)
     all_read k (x ∷ xs) is place = let l = line_of lines k x xs is in read_on place k x xs (is_taken_out x) (list_all is_blank x) refl refl l.line (all_read (k + 1) xs l.rest)
 

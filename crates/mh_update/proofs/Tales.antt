@@ -19,15 +19,17 @@ use Rattle.mh_grammar.specs.declared.types.Look.{Look}
 use Rattle.mh_grammar.specs.declared.types.Look.TheVariants.{Token, End}
 use Rattle.mh_grammar.specs.Plain.{plain_of, rhs_of}
 use Rattle.mh_grammar.specs.Names.{nonterminal_name, symbol_name, left_side_name, start_name}
-use Rattle.mh_items.specs.Shapes.{KernelItem, Automaton}
-use Rattle.mh_items.specs.Automaton.{kernel_at}
+use Rattle.mh_kernels.specs.Shapes.{KernelItem, Automaton}
+use Rattle.mh_kernels.specs.Automaton.{kernel_at}
 use Rattle.mh_tables.specs.Table.{TableData}
 use Rattle.mh_tables.specs.Facts.{Facts}
-use Rattle.mh_report.specs.Items.{names_after, left_side, production_text, look_name, looks_after, kernel_text, item_line}
+use Rattle.mh_cells.specs.Names.{look_name}
+use Rattle.mh_report.specs.Items.{names_after, left_side, production_text, looks_after, kernel_text, item_line}
 use Rattle.mh_msgfile.proofs.Endings.{with_ends, IsWhole, ends_in_cr}
 use Rattle.mh_tables.proofs.Refusing.{state_refused}
 use Rattle.mh_comments.specs.Comments.{before_dot, ends_in, kernel_comments, suffix_follows, suffix_comment, reduced_before, reduced_comment, reduced_comments, comments, IsCommentText}
-use Rattle.mh_update.specs.Updates.{Text, is_made}
+use Rattle.mh_grammar.specs.Text.{Text}
+use Rattle.mh_update.specs.Updates.{is_made}
 use Rattle.mh_update.specs.Lines.{is_inner, IsInLine, HasLineNames}
 use Rattle.mh_update.proofs.Walks.{IsMadeLine}
 

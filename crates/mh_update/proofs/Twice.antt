@@ -3,7 +3,7 @@ use Rattle.std.proofs.Common.{◌≡◌, ℕ, ◌+◌, Bool, true, false, List, 
 use Rattle.std.specs.List.{AllByRecursion, Contains}
 use Rattle.mh_grammar.proofs.Lists.{contains_here, contains_there, zip_one}
 use Rattle.mh_grammar.specs.declared.types.Grammar.{Grammar}
-use Rattle.mh_items.specs.Shapes.{Automaton}
+use Rattle.mh_kernels.specs.Shapes.{Automaton}
 use Rattle.mh_tables.specs.Table.{TableData}
 use Rattle.mh_tables.specs.Facts.{Facts}
 use Rattle.mh_msgfile.specs.Sentences.{Vocabulary, vocabulary_of, sentence_in}
@@ -16,9 +16,10 @@ use Rattle.mh_check.specs.Checks.{sentences_of}
 use Rattle.mh_comments.specs.Comments.{IsCommentText}
 use Rattle.mh_comments.proofs.OneText.{comments_once}
 use Rattle.mh_update.specs.declared.comments.Comment.{Comment}
-use Rattle.mh_update.specs.Updates.{Text, is_made, IsComment, AreComments, updated, IsUpdated}
+use Rattle.mh_grammar.specs.Text.{Text}
+use Rattle.mh_update.specs.Updates.{is_made, IsComment, AreComments, updated, IsUpdated}
 use Rattle.mh_update.specs.Lines.{HasLineNames, HasNoCrAtEnds}
-use Rattle.mh_update.proofs.Walks.{Place, Outside, Kind, kind_of, next, Content, told, put, sentences, made_remark, Walk, Ended, Dropped, Silent, Telling, grown, text_of, tales_of, again, grown_text, again_text, grown_whole, grown_kept, text_is}
+use Rattle.mh_update.proofs.Walks.{LinePlace, Outside, Kind, kind_of, next, Content, told, put, sentences, made_remark, Walk, Ended, Dropped, Silent, Telling, grown, text_of, tales_of, again, grown_text, again_text, grown_whole, grown_kept, text_is}
 use Rattle.mh_update.proofs.Found.{sentences_are}
 use Rattle.mh_update.proofs.Alike.{alike}
 use Rattle.mh_update.proofs.Tales.{IsTale, comment_tale}
@@ -41,16 +42,16 @@ module _ (g : Grammar) (a : Automaton) (t : TableData) where
 
   -- ---- a walk over the lines of a file whose sentences have comments
 
-  record WalkFound (place : Place) (before : ℕ) (lines : List Text) (cs : List Comment) : Type 0 where
+  record WalkFound (place : LinePlace) (before : ℕ) (lines : List Text) (cs : List Comment) : Type 0 where
     tales : List (List Text)
     walk : Walk v IsTold place lines tales
     are : tales_of v IsTold before place lines tales walk ≡ cs
 
   module _ (tale : (start : ℕ) (w : List ℕ) (text : Text) → IsCommentText g a t start w text → IsTale text) where
-    abbrev Finds : Place → ℕ → List Text → Type 0
+    abbrev Finds : LinePlace → ℕ → List Text → Type 0
     Finds place before lines = (cs : List Comment) → AreComments g a t (sentences v place before lines) cs → WalkFound place before lines cs
 
-    telling : (place : Place) (before : ℕ) (x : Text) (xs : List Text) (content : Content) (cs : List Comment) → is_made x ≡ false → told (kind_of x) place (sentence_in v x) ≡ Some content
+    telling : (place : LinePlace) (before : ℕ) (x : Text) (xs : List Text) (content : Content) (cs : List Comment) → is_made x ≡ false → told (kind_of x) place (sentence_in v x) ≡ Some content
         → Finds (next (kind_of x) place) (before + 1) xs → AreComments g a t (put (before + 1) (Some content) (sentences v (next (kind_of x) place) (before + 1) xs)) cs → WalkFound place before (x ∷ xs) cs
     telling place before x xs content [] own some finds are = absurd are
     telling place before x xs content (d ∷ cs) own some finds are =
@@ -63,8 +64,8 @@ module _ (g : Grammar) (a : Automaton) (t : TableData) where
           are = (let same = later.are in λ i. record { line = sym line i; text = sym text i } ∷ same i);
         }
 
-    walk_on : (place : Place) (before : ℕ) (x : Text) (xs : List Text) (cs : List Comment) (made : Bool) → is_made x ≡ made → (o : Option Content) → told (kind_of x) place (sentence_in v x) ≡ o
-        → ((p : Place) → Finds p (before + 1) xs) → AreComments g a t (sentences v place before (x ∷ xs)) cs → WalkFound place before (x ∷ xs) cs
+    walk_on : (place : LinePlace) (before : ℕ) (x : Text) (xs : List Text) (cs : List Comment) (made : Bool) → is_made x ≡ made → (o : Option Content) → told (kind_of x) place (sentence_in v x) ≡ o
+        → ((p : LinePlace) → Finds p (before + 1) xs) → AreComments g a t (sentences v place before (x ∷ xs)) cs → WalkFound place before (x ∷ xs) cs
     walk_on place before x xs cs true made o is finds are =
         let later = finds place cs (subst (λ (k : Kind). AreComments g a t (put (before + 1) (told k place (sentence_in v x)) (sentences v (next k place) (before + 1) xs)) cs) (made_remark x made) are) in record {
           tales = later.tales;
@@ -80,13 +81,13 @@ module _ (g : Grammar) (a : Automaton) (t : TableData) where
     walk_on place before x xs cs false own (Some content) is finds are =
         telling place before x xs content cs own is (finds (next (kind_of x) place)) (subst (λ (o : Option Content). AreComments g a t (put (before + 1) o (sentences v (next (kind_of x) place) (before + 1) xs)) cs) is are)
 
-    walk_from : (lines : List Text) (before : ℕ) (place : Place) → Finds place before lines
+    walk_from : (lines : List Text) (before : ℕ) (place : LinePlace) → Finds place before lines
     walk_from [] before place [] are = record { tales = []; walk = Ended place; are = refl }
     walk_from [] before place (c ∷ cs) are = absurd are
     walk_from (x ∷ xs) before place cs are = walk_on place before x xs cs (is_made x) refl (told (kind_of x) place (sentence_in v x)) refl (walk_from xs (before + 1)) are
 
   -- what a walk tells are the comments of the file's sentences
-  told_are : (before : ℕ) (place : Place) (lines : List Text) (tales : List (List Text)) (walk : Walk v IsTold place lines tales) → AreComments g a t (sentences v place before lines) (tales_of v IsTold before place lines tales walk)
+  told_are : (before : ℕ) (place : LinePlace) (lines : List Text) (tales : List (List Text)) (walk : Walk v IsTold place lines tales) → AreComments g a t (sentences v place before lines) (tales_of v IsTold before place lines tales walk)
   told_are before place lines tales (Ended p) = tt
   told_are before place lines tales (Dropped p x xs ls made walk) =
       subst (λ (k : Kind). AreComments g a t (put (before + 1) (told k p (sentence_in v x)) (sentences v (next k p) (before + 1) xs)) (tales_of v IsTold (before + 1) p xs ls walk)) (sym (made_remark x made)) (told_are (before + 1) p xs ls walk)

@@ -7,8 +7,8 @@ use Rattle.std.proofs.lemmas.List.Elements.{recursion_from_All}
 use Rattle.mh_grammar.proofs.Lists.{contains_cases, contains_here, contains_there, contains_none}
 use Rattle.mh_grammar.specs.declared.types.Grammar.{Grammar}
 use Rattle.mh_grammar.specs.Plain.{plain_of}
-use Rattle.mh_items.specs.Shapes.{Automaton}
-use Rattle.mh_items.specs.Automaton.{IsAutomaton, kernel_at}
+use Rattle.mh_kernels.specs.Shapes.{Automaton}
+use Rattle.mh_kernels.specs.Automaton.{IsAutomaton, kernel_at}
 use Rattle.mh_tables.specs.Table.{TableData}
 use Rattle.mh_tables.specs.Halting.{HaltingFacts}
 use Rattle.mh_tables.specs.Run.{Ending, VerdictOf, Accepted, Overshot, Rejected, initial}
@@ -25,7 +25,8 @@ use Rattle.mh_check.proofs.Known.{one_verdict}
 use Rattle.mh_comments.specs.Comments.{comments}
 use Rattle.mh_comments.proofs.Farthest.{some_farthest}
 use Rattle.mh_update.specs.declared.comments.Comment.{Comment}
-use Rattle.mh_update.specs.Updates.{Text, IsComment, AreComments, updated, IsUpdated, FirstUnfit}
+use Rattle.mh_grammar.specs.Text.{Text}
+use Rattle.mh_update.specs.Updates.{IsComment, AreComments, updated, IsUpdated, FirstUnfit}
 
 module _ (t : TableData) where
   -- ---- one fault

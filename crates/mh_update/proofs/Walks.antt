@@ -11,16 +11,17 @@ use Rattle.mh_msgfile.specs.Messages.{is_taken_out}
 use Rattle.mh_msgfile.specs.declared.messages.MsgSentence.{MsgSentence}
 use Rattle.mh_msgfile.proofs.Endings.{with_ends, IsWhole}
 use Rattle.mh_update.specs.declared.comments.Comment.{Comment}
-use Rattle.mh_update.specs.Updates.{Text, is_made, own_text, own_texts, updated_from}
+use Rattle.mh_grammar.specs.Text.{Text}
+use Rattle.mh_update.specs.Updates.{is_made, own_text, own_texts, updated_from}
 
 -- ---- places
 
 -- where a line stands
-pub data Place : Type 0 where
-  Outside : Place
-  Sentences : Place
-  Behind : Place
-  Message : Place
+pub data LinePlace : Type 0 where
+  Outside : LinePlace
+  Sentences : LinePlace
+  Behind : LinePlace
+  Message : LinePlace
 
 -- what a line is
 pub data Kind : Type 0 where
@@ -37,7 +38,7 @@ abbrev pub kind_of : Text → Kind
 kind_of line = kind_by (is_taken_out line) (list_all is_blank line)
 
 -- where the next line stands
-abbrev pub next : Kind → Place → Place
+abbrev pub next : Kind → LinePlace → LinePlace
 next Remark place = place
 next Blank Outside = Outside
 next Blank Sentences = Behind
@@ -60,7 +61,7 @@ content_in LacksStart = None
 content_in (NamesUnknown name) = None
 
 -- of a line that stands there
-abbrev pub told : Kind → Place → LineFound → Option Content
+abbrev pub told : Kind → LinePlace → LineFound → Option Content
 told Remark place found = None
 told Blank place found = None
 told Words Outside found = content_in found
@@ -73,7 +74,7 @@ put number None xs = xs
 put number (Some c) xs = record { line = number; start = c.0; tokens = c.1 } ∷ xs
 
 -- the sentences of lines behind so many
-abbrev pub sentences : Vocabulary → Place → ℕ → List Text → List MsgSentence
+abbrev pub sentences : Vocabulary → LinePlace → ℕ → List Text → List MsgSentence
 sentences v place before [] = []
 sentences v place before (line ∷ lines) = put (before + 1) (told (kind_of line) place (sentence_in v line)) (sentences v (next (kind_of line) place) (before + 1) lines)
 
@@ -101,37 +102,37 @@ made_remark line is = ap (λ (b : Bool). kind_by b (list_all is_blank line)) (ma
 -- ---- walks
 
 -- The lines of a file from a place on, with the lines that are told behind its sentences: those that are made anew are dropped.
-pub data Walk (v : Vocabulary) (IsTold : Content → Text → Type 0) : Place → List Text → List (List Text) → Type 0 where
-  Ended : (place : Place) → Walk v IsTold place [] []
-  Dropped : (place : Place) (line : Text) (lines : List Text) (tales : List (List Text)) → is_made line ≡ true → Walk v IsTold place lines tales → Walk v IsTold place (line ∷ lines) tales
-  Silent : (place : Place) (line : Text) (lines : List Text) (tales : List (List Text)) → is_made line ≡ false → told (kind_of line) place (sentence_in v line) ≡ None
+pub data Walk (v : Vocabulary) (IsTold : Content → Text → Type 0) : LinePlace → List Text → List (List Text) → Type 0 where
+  Ended : (place : LinePlace) → Walk v IsTold place [] []
+  Dropped : (place : LinePlace) (line : Text) (lines : List Text) (tales : List (List Text)) → is_made line ≡ true → Walk v IsTold place lines tales → Walk v IsTold place (line ∷ lines) tales
+  Silent : (place : LinePlace) (line : Text) (lines : List Text) (tales : List (List Text)) → is_made line ≡ false → told (kind_of line) place (sentence_in v line) ≡ None
       → Walk v IsTold (next (kind_of line) place) lines tales → Walk v IsTold place (line ∷ lines) tales
-  Telling : (place : Place) (line : Text) (lines : List Text) (content : Content) (tale : List Text) (tales : List (List Text)) → is_made line ≡ false → told (kind_of line) place (sentence_in v line) ≡ Some content
+  Telling : (place : LinePlace) (line : Text) (lines : List Text) (content : Content) (tale : List Text) (tales : List (List Text)) → is_made line ≡ false → told (kind_of line) place (sentence_in v line) ≡ Some content
       → IsTold content (with_ends tale) → AllByRecursion IsMadeLine tale → Walk v IsTold (next (kind_of line) place) lines tales → Walk v IsTold place (line ∷ lines) (tale ∷ tales)
 
 module _ (v : Vocabulary) (IsTold : Content → Text → Type 0) where
   -- the lines of the file that is brought up to date
-  abbrev pub grown : (place : Place) (lines : List Text) (tales : List (List Text)) → Walk v IsTold place lines tales → List Text
+  abbrev pub grown : (place : LinePlace) (lines : List Text) (tales : List (List Text)) → Walk v IsTold place lines tales → List Text
   grown place lines tales (Ended p) = []
   grown place lines tales (Dropped p x xs ls made walk) = grown p xs ls walk
   grown place lines tales (Silent p x xs ls own none walk) = x ∷ grown (next (kind_of x) p) xs ls walk
   grown place lines tales (Telling p x xs c l ls own some is all walk) = x ∷ (l ++ grown (next (kind_of x) p) xs ls walk)
 
   -- its text
-  abbrev pub text_of : (place : Place) (lines : List Text) (tales : List (List Text)) → Walk v IsTold place lines tales → Text
+  abbrev pub text_of : (place : LinePlace) (lines : List Text) (tales : List (List Text)) → Walk v IsTold place lines tales → Text
   text_of place lines tales (Ended p) = []
   text_of place lines tales (Dropped p x xs ls made walk) = text_of p xs ls walk
   text_of place lines tales (Silent p x xs ls own none walk) = (x ++ 10 ∷ []) ++ text_of (next (kind_of x) p) xs ls walk
   text_of place lines tales (Telling p x xs c l ls own some is all walk) = (x ++ 10 ∷ []) ++ (with_ends l ++ text_of (next (kind_of x) p) xs ls walk)
 
   -- what is told, by the numbers of the sentences' lines behind so many
-  abbrev pub tales_of : (before : ℕ) (place : Place) (lines : List Text) (tales : List (List Text)) → Walk v IsTold place lines tales → List Comment
+  abbrev pub tales_of : (before : ℕ) (place : LinePlace) (lines : List Text) (tales : List (List Text)) → Walk v IsTold place lines tales → List Comment
   tales_of before place lines tales (Ended p) = []
   tales_of before place lines tales (Dropped p x xs ls made walk) = tales_of (before + 1) p xs ls walk
   tales_of before place lines tales (Silent p x xs ls own none walk) = tales_of (before + 1) (next (kind_of x) p) xs ls walk
   tales_of before place lines tales (Telling p x xs c l ls own some is all walk) = record { line = before + 1; text = with_ends l } ∷ tales_of (before + 1) (next (kind_of x) p) xs ls walk
 
-  pub grown_text : (place : Place) (lines : List Text) (tales : List (List Text)) (walk : Walk v IsTold place lines tales) → with_ends (grown place lines tales walk) ≡ text_of place lines tales walk
+  pub grown_text : (place : LinePlace) (lines : List Text) (tales : List (List Text)) (walk : Walk v IsTold place lines tales) → with_ends (grown place lines tales walk) ≡ text_of place lines tales walk
   grown_text place lines tales (Ended p) = refl
   grown_text place lines tales (Dropped p x xs ls made walk) = grown_text p xs ls walk
   grown_text place lines tales (Silent p x xs ls own none walk) = ap (λ (l : Text). (x ++ 10 ∷ []) ++ l) (grown_text (next (kind_of x) p) xs ls walk)
@@ -142,15 +143,15 @@ module _ (v : Vocabulary) (IsTold : Content → Text → Type 0) where
   -- ---- a second time
 
   -- lines that were made anew are dropped
-  abbrev pub drops : (place : Place) (tale lines : List Text) (tales : List (List Text)) → AllByRecursion IsMadeLine tale → Walk v IsTold place lines tales → Walk v IsTold place (tale ++ lines) tales
+  abbrev pub drops : (place : LinePlace) (tale lines : List Text) (tales : List (List Text)) → AllByRecursion IsMadeLine tale → Walk v IsTold place lines tales → Walk v IsTold place (tale ++ lines) tales
   drops place [] lines tales all walk = walk
   drops place (line ∷ tale) lines tales all walk = Dropped place line (tale ++ lines) tales all.0.0 (drops place tale lines tales all.1 walk)
 
-  drops_text : (place : Place) (tale lines : List Text) (tales : List (List Text)) (all : AllByRecursion IsMadeLine tale) (walk : Walk v IsTold place lines tales) → text_of place (tale ++ lines) tales (drops place tale lines tales all walk) ≡ text_of place lines tales walk
+  drops_text : (place : LinePlace) (tale lines : List Text) (tales : List (List Text)) (all : AllByRecursion IsMadeLine tale) (walk : Walk v IsTold place lines tales) → text_of place (tale ++ lines) tales (drops place tale lines tales all walk) ≡ text_of place lines tales walk
   drops_text place [] lines tales all walk = refl
   drops_text place (line ∷ tale) lines tales all walk = drops_text place tale lines tales all.1 walk
 
-  abbrev pub again : (place : Place) (lines : List Text) (tales : List (List Text)) (walk : Walk v IsTold place lines tales) → Walk v IsTold place (grown place lines tales walk) tales
+  abbrev pub again : (place : LinePlace) (lines : List Text) (tales : List (List Text)) (walk : Walk v IsTold place lines tales) → Walk v IsTold place (grown place lines tales walk) tales
   again place lines tales (Ended p) = Ended p
   again place lines tales (Dropped p x xs ls made walk) = again p xs ls walk
   again place lines tales (Silent p x xs ls own none walk) = Silent p x (grown (next (kind_of x) p) xs ls walk) ls own none (again (next (kind_of x) p) xs ls walk)
@@ -158,7 +159,7 @@ module _ (v : Vocabulary) (IsTold : Content → Text → Type 0) where
       Telling p x (l ++ grown (next (kind_of x) p) xs ls walk) c l ls own some is all (drops (next (kind_of x) p) l (grown (next (kind_of x) p) xs ls walk) ls all (again (next (kind_of x) p) xs ls walk))
 
   -- changes no byte
-  pub again_text : (place : Place) (lines : List Text) (tales : List (List Text)) (walk : Walk v IsTold place lines tales) → text_of place (grown place lines tales walk) tales (again place lines tales walk) ≡ text_of place lines tales walk
+  pub again_text : (place : LinePlace) (lines : List Text) (tales : List (List Text)) (walk : Walk v IsTold place lines tales) → text_of place (grown place lines tales walk) tales (again place lines tales walk) ≡ text_of place lines tales walk
   again_text place lines tales (Ended p) = refl
   again_text place lines tales (Dropped p x xs ls made walk) = again_text p xs ls walk
   again_text place lines tales (Silent p x xs ls own none walk) = ap (λ (l : Text). (x ++ 10 ∷ []) ++ l) (again_text (next (kind_of x) p) xs ls walk)
@@ -176,7 +177,7 @@ module _ (v : Vocabulary) (IsTold : Content → Text → Type 0) where
   made_whole [] all = tt
   made_whole (line ∷ lines) all = (all.0.1, made_whole lines all.1)
 
-  pub grown_whole : (place : Place) (lines : List Text) (tales : List (List Text)) (walk : Walk v IsTold place lines tales) → AllByRecursion IsWhole lines → AllByRecursion IsWhole (grown place lines tales walk)
+  pub grown_whole : (place : LinePlace) (lines : List Text) (tales : List (List Text)) (walk : Walk v IsTold place lines tales) → AllByRecursion IsWhole lines → AllByRecursion IsWhole (grown place lines tales walk)
   grown_whole place lines tales (Ended p) all = tt
   grown_whole place lines tales (Dropped p x xs ls made walk) all = grown_whole p xs ls walk all.1
   grown_whole place lines tales (Silent p x xs ls own none walk) all = (all.0, grown_whole (next (kind_of x) p) xs ls walk all.1)
@@ -202,7 +203,7 @@ module _ (v : Vocabulary) (IsTold : Content → Text → Type 0) where
   tale_out (x ∷ tale) lines all = made_out x (tale ++ lines) all.0.0 ∙ tale_out tale lines all.1
 
   -- those that are not taken out stay
-  pub grown_kept : (place : Place) (lines : List Text) (tales : List (List Text)) (walk : Walk v IsTold place lines tales) → filter is_kept_text (grown place lines tales walk) ≡ filter is_kept_text lines
+  pub grown_kept : (place : LinePlace) (lines : List Text) (tales : List (List Text)) (walk : Walk v IsTold place lines tales) → filter is_kept_text (grown place lines tales walk) ≡ filter is_kept_text lines
   grown_kept place lines tales (Ended p) = refl
   grown_kept place lines tales (Dropped p x xs ls made walk) = grown_kept p xs ls walk ∙ sym (made_out x xs made)
   grown_kept place lines tales (Silent p x xs ls own none walk) = one_more x (grown (next (kind_of x) p) xs ls walk) xs (grown_kept (next (kind_of x) p) xs ls walk)
@@ -254,7 +255,7 @@ module _ (v : Vocabulary) (IsTold : Content → Text → Type 0) where
         },
       )
 
-  pub text_is : (all : List Text) (written before : ℕ) (waiting : List Text) (place : Place) (lines : List Text) (tales : List (List Text)) (walk : Walk v IsTold place lines tales) → Waits all written before waiting lines
+  pub text_is : (all : List Text) (written before : ℕ) (waiting : List Text) (place : LinePlace) (lines : List Text) (tales : List (List Text)) (walk : Walk v IsTold place lines tales) → Waits all written before waiting lines
       → own_texts waiting ++ text_of place lines tales walk ≡ updated_from written all (tales_of before place lines tales walk)
   text_is all written before waiting place lines tales (Ended p) w =
       append-nil (own_texts waiting) ∙ ap own_texts (sym (w.rest ∙ append-nil waiting))

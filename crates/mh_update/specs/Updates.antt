@@ -3,7 +3,7 @@
 use Rattle.std.specs.Prelude.{◌≡◌, ℕ, ◌-◌, Bool, List, [], ◌∷◌, ◌++◌, take, drop, flat_map, codes, Result, Ok, Err, nat_eq, if◌then◌else◌}
 use Rattle.std.specs.List.{AllZip, Contains, starts_with}
 use Rattle.mh_grammar.specs.declared.types.Grammar.{Grammar}
-use Rattle.mh_items.specs.Shapes.{Automaton}
+use Rattle.mh_kernels.specs.Shapes.{Automaton}
 use Rattle.mh_tables.specs.Table.{TableData}
 use Rattle.mh_msgfile.specs.declared.messages.MsgSentence.{MsgSentence}
 use Rattle.mh_msgfile.specs.declared.messages.MsgFile.{MsgFile}
@@ -12,9 +12,7 @@ use Rattle.mh_check.specs.Checks.{Breaks, FailsIn, FaultFound, sentences_of}
 use Rattle.mh_check.specs.Compiling.{Tells}
 use Rattle.mh_check.specs.declared.compiling.CheckFault.{CheckFault}
 use Rattle.mh_update.specs.declared.comments.Comment.{Comment}
-
-abbrev pub Text : Type 0
-Text = List ℕ
+use Rattle.mh_grammar.specs.Text.{Text}
 
 -- ---- comment lines
 

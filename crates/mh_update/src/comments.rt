@@ -2,7 +2,7 @@
 ghost use Rattle.std.specs.Prelude.{◌≡◌, ◌≤◌, ◌++◌, ◌∷◌, [], ℕ, List, flat_map, length, IfOk, MatchResult};
 ghost use Rattle.std.specs.List.{AllByRecursion};
 ghost use Rattle.mh_grammar.specs.Plain.{plain_of};
-ghost use Rattle.mh_items.specs.Automaton.{IsAutomaton};
+ghost use Rattle.mh_kernels.specs.Automaton.{IsAutomaton};
 ghost use Rattle.mh_msgfile.specs.Messages.{IsOf};
 ghost use Rattle.mh_msgfile.specs.declared.messages.MsgSentence.{MsgSentence as MsgSentence'};
 ghost use Rattle.mh_check.specs.Checks.{Breaks, FailsIn, sentences_of};
@@ -12,7 +12,7 @@ ghost use Rattle.mh_update.specs.Updates.{AreComments, FirstUnfit, IsComment, Co
 use mh_check::CheckFault;
 use mh_comments::comment_lines;
 use mh_grammar::{Grammar, Memory, Sequence};
-use mh_items::Automaton;
+use mh_kernels::Automaton;
 use mh_msgfile::{Entry, MsgSentence};
 use mh_run::{Verdict, verdict};
 use mh_tables::Halting;

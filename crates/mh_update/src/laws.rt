@@ -1,7 +1,7 @@
 //! What readers may rely on of messages files that were brought up to date. The calls do nothing; each clause is a theorem.
 ghost use Rattle.std.specs.Prelude.{◌≡◌, ◌⊎◌, List, ℕ, length};
 ghost use Rattle.mh_grammar.specs.Plain.{plain_of};
-ghost use Rattle.mh_items.specs.Automaton.{IsAutomaton};
+ghost use Rattle.mh_kernels.specs.Automaton.{IsAutomaton};
 ghost use Rattle.mh_msgfile.specs.Messages.{AreOf, MsgSpells};
 ghost use Rattle.mh_check.specs.Checks.{FaultFound, sentences_of};
 ghost use Rattle.mh_msgfile.specs.Printed.{HaveSameContent};
@@ -11,7 +11,7 @@ ghost use Rattle.mh_update.specs.Updates.{FirstUnfit, IsUpdated};
 ghost use Rattle.mh_msgfile.specs.declared.messages.MsgSentence.{MsgSentence};
 
 use mh_grammar::Grammar;
-use mh_items::Automaton;
+use mh_kernels::Automaton;
 use mh_tables::Halting;
 
 /// What a file becomes is one text. Where no name holds an LF or a CR and no line of the file ends in a CR, that text reads as a file

@@ -1,7 +1,7 @@
 //! The text of a messages file that is brought up to date.
 ghost use Rattle.std.specs.Prelude.{◌≡◌, ◌≤◌, ◌-◌, ◌++◌, length, take, drop, IfOk, OnOk, MatchResult};
 ghost use Rattle.mh_grammar.specs.Plain.{plain_of};
-ghost use Rattle.mh_items.specs.Automaton.{IsAutomaton};
+ghost use Rattle.mh_kernels.specs.Automaton.{IsAutomaton};
 ghost use Rattle.mh_msgfile.specs.Messages.{AreOf};
 ghost use Rattle.mh_check.specs.Checks.{sentences_of};
 ghost use Rattle.mh_check.specs.Compiling.{Tells};
@@ -10,7 +10,7 @@ ghost use Rattle.mh_update.specs.Updates.{FirstUnfit, IsUpdated, is_made as is_m
 use crate::comments::{Comment, all_comments};
 use mh_check::CheckFault;
 use mh_grammar::{Grammar, Memory, Name};
-use mh_items::Automaton;
+use mh_kernels::Automaton;
 use mh_msgfile::MsgFile;
 use mh_tables::Halting;
 use std::alloc::Global;

@@ -9,18 +9,18 @@ use Rattle.mh_grammar.specs.declared.types.Grammar.{Grammar}
 use Rattle.mh_grammar.specs.declared.edges.Edge.{Edge}
 use Rattle.mh_grammar.specs.Plain.{plain_of}
 use Rattle.mh_grammar.specs.Edges.{IsRising, IsLookBefore}
-use Rattle.mh_items.specs.Shapes.{KernelItem}
-use Rattle.mh_items.specs.Shapes.{Kernel}
-use Rattle.mh_items.specs.Shapes.{Automaton}
-use Rattle.mh_items.specs.Kernels.{IsKernelItem}
-use Rattle.mh_items.specs.Automaton.{IsAutomaton, kernel_at, edges_at, IsTarget, no_kernel}
+use Rattle.mh_kernels.specs.Shapes.{KernelItem}
+use Rattle.mh_kernels.specs.Shapes.{Kernel}
+use Rattle.mh_kernels.specs.Shapes.{Automaton}
+use Rattle.mh_kernels.specs.Kernels.{IsKernelItem}
+use Rattle.mh_kernels.specs.Automaton.{IsAutomaton, kernel_at, edges_at, IsTarget, no_kernel}
 use Rattle.mh_tables.specs.declared.parts.StateParts.{StateParts}
 use Rattle.mh_tables.specs.Table.{no_state}
-use Rattle.mh_resolve.specs.declared.kinds.Mode.{Mode}
-use Rattle.mh_resolve.specs.States.{AreResolved}
-use Rattle.mh_tabfile.specs.declared.types.RawState.{RawState}
+use Rattle.mh_cells.specs.declared.kinds.Mode.{Mode}
+use Rattle.mh_cells.specs.States.{AreResolved}
+use Rattle.mh_tabform.specs.declared.types.RawState.{RawState}
 use Rattle.mh_valid.specs.Valid.{IsValidFor, AreEdgesAt, IsKernelAt, IsAtEnd, of_kernels, no_raw_state}
-use Rattle.mh_tabfile.specs.Written.{raw_state_of, raw_states, raw_of}
+use Rattle.mh_tabform.specs.Written.{raw_state_of, raw_states, raw_of}
 use Rattle.mh_valid.proofs.Giving.{moves_to, moves_from, all_contains}
 
 state_at : (g : Grammar) (ks : List Kernel) (rows : List (List Edge)) (parts : List StateParts) → length rows ≡ length ks → length parts ≡ length ks → (s : ℕ) → s < length ks →

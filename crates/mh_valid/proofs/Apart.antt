@@ -6,20 +6,20 @@ use Rattle.std.proofs.lemmas.List.{same_lists, get_or_default}
 use Rattle.mh_grammar.specs.declared.types.Symbol.{Symbol}
 use Rattle.mh_grammar.specs.declared.types.Grammar.{Grammar}
 use Rattle.mh_grammar.specs.declared.edges.Edge.{Edge}
-use Rattle.mh_items.specs.Shapes.{Kernel, Automaton}
-use Rattle.mh_items.specs.Automaton.{no_kernel}
+use Rattle.mh_kernels.specs.Shapes.{Kernel, Automaton}
+use Rattle.mh_kernels.specs.Automaton.{no_kernel}
 use Rattle.mh_tables.specs.declared.parts.StateParts.{StateParts}
-use Rattle.mh_tabfile.specs.declared.types.RawEdge.{RawEdge}
-use Rattle.mh_tabfile.specs.declared.types.RawTable.{RawTable}
-use Rattle.mh_tabfile.specs.Written.{raw_edge}
+use Rattle.mh_tabform.specs.declared.types.RawEdge.{RawEdge}
+use Rattle.mh_tabform.specs.declared.types.RawTable.{RawTable}
+use Rattle.mh_tabform.specs.Written.{raw_edge}
 use Rattle.mh_valid.specs.declared.reason.Reason.{Reason}
 use Rattle.mh_valid.specs.declared.reason.Reason.TheVariants as reasons
 use Rattle.mh_valid.specs.Valid.{AreNamesApart, AreKernels, HasEdges, IsRight, IsWrong, IsValid, IsInvalidAt, IsValidFor}
 use Rattle.mh_valid.proofs.OneKernel.{kernel_is_one}
 use Rattle.mh_valid.proofs.Edged.{on_symbol, has_symbol, same_symbols, rows_same}
-use Rattle.mh_items.specs.Collection.{edge_symbols, targets_of}
+use Rattle.mh_kernels.specs.Collection.{edge_symbols, targets_of}
 use Rattle.mh_tables.specs.Table.{no_state}
-use Rattle.mh_resolve.proofs.Once.{resolved_once}
+use Rattle.mh_cells.proofs.Once.{resolved_once}
 
 -- kernels that the states of a file spell are one list
 pub same_kernels : (g : Grammar) → AreNamesApart g → (raw : RawTable) (ks ls : List Kernel) → AreKernels g raw ks → AreKernels g raw ls → ks ≡ ls

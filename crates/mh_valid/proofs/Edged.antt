@@ -8,7 +8,7 @@ use Rattle.mh_grammar.specs.declared.edges.Edge.{Edge}
 use Rattle.mh_grammar.specs.Edges.{IsRising, IsSymbolBefore, IsEdgeBefore, find_edge, same_symbol}
 use Rattle.mh_grammar.proofs.Lists.{cons_same, contains_there, at_contains, contains_map, map_contains, rising_same, recursion-from, recursion_contains}
 use Rattle.mh_grammar.proofs.EdgeOrder.{edge_found, same_is}
-use Rattle.mh_items.specs.Collection.{edge_symbols, targets_of}
+use Rattle.mh_kernels.specs.Collection.{edge_symbols, targets_of}
 
 pub found_in : (es : List Edge) (x : Symbol) (u : ℕ) → find_edge es x ≡ Some u → Contains es (record { symbol = x; target = u })
 found_in [] x u h = cc

@@ -10,13 +10,13 @@ use Rattle.mh_grammar.specs.declared.types.Look.TheVariants.{End}
 use Rattle.mh_grammar.specs.declared.types.Grammar.{Grammar}
 use Rattle.mh_grammar.specs.Plain.{plain_of}
 use Rattle.mh_grammar.specs.Edges.{find_edge}
-use Rattle.mh_items.specs.Shapes.{KernelItem}
-use Rattle.mh_items.specs.Shapes.{Kernel}
-use Rattle.mh_items.specs.Shapes.{Automaton}
-use Rattle.mh_items.specs.Automaton.{IsAutomaton, kernel_at, edges_at, leads_to, Moves, IsTarget, no_kernel}
+use Rattle.mh_kernels.specs.Shapes.{KernelItem}
+use Rattle.mh_kernels.specs.Shapes.{Kernel}
+use Rattle.mh_kernels.specs.Shapes.{Automaton}
+use Rattle.mh_kernels.specs.Automaton.{IsAutomaton, kernel_at, edges_at, leads_to, Moves, IsTarget, no_kernel}
 use Rattle.mh_tables.specs.declared.parts.StateParts.{StateParts}
-use Rattle.mh_resolve.specs.States.{AreResolved}
-use Rattle.mh_tabfile.specs.declared.types.RawTable.{RawTable}
+use Rattle.mh_cells.specs.States.{AreResolved}
+use Rattle.mh_tabform.specs.declared.types.RawTable.{RawTable}
 use Rattle.mh_valid.specs.Valid.{IsValidFor, HasStates, AreKernels, AreEdgesAt, HasEdges, IsKernelAt, IsAtEnd, of_kernels}
 
 pub resolved_of : (g : Grammar) (raw : RawTable) (a : Automaton) (parts : List StateParts) → IsValidFor g raw a parts → AreResolved g a raw.mode parts

@@ -4,11 +4,11 @@ use Rattle.std.specs.Prelude.{slice_index_or}
 use Rattle.std.proofs.lemmas.List.{same_lists, get_or_default}
 use Rattle.mh_grammar.specs.declared.types.Grammar.{Grammar}
 use Rattle.mh_grammar.specs.declared.edges.Edge.{Edge}
-use Rattle.mh_items.specs.Shapes.{Kernel, Automaton}
+use Rattle.mh_kernels.specs.Shapes.{Kernel, Automaton}
 use Rattle.mh_tables.specs.declared.parts.StateParts.{StateParts}
-use Rattle.mh_tabfile.specs.declared.types.RawTable.{RawTable}
-use Rattle.mh_tabfile.specs.Written.{raw_cells}
-use Rattle.mh_resolve.proofs.Once.{resolved_once}
+use Rattle.mh_tabform.specs.declared.types.RawTable.{RawTable}
+use Rattle.mh_tabform.specs.Written.{raw_cells}
+use Rattle.mh_cells.proofs.Once.{resolved_once}
 use Rattle.mh_valid.specs.declared.reason.Reason.{Reason}
 use Rattle.mh_valid.specs.declared.reason.Reason.TheVariants as reasons
 use Rattle.mh_valid.specs.Valid.{AreNamesApart, AreKernels, HasEdges, HasHeader, HasKernel, HasNoKernel, HasStates, IsInvalidAt, IsRight, IsRightBefore, IsValidFor, IsWrong, raw_state, reason_of}

@@ -5,14 +5,14 @@ use Rattle.mh_grammar.specs.declared.types.Look.{Look}
 use Rattle.mh_grammar.specs.declared.types.Look.TheVariants.{Token, End}
 use Rattle.mh_grammar.specs.declared.types.Grammar.{Grammar}
 use Rattle.mh_grammar.specs.Plain.{plain_of, IsLookBelow}
-use Rattle.mh_items.specs.Shapes.{KernelItem}
-use Rattle.mh_items.specs.Shapes.{Kernel}
-use Rattle.mh_items.specs.Kernels.{IsKernelItem}
-use Rattle.mh_tabfile.specs.declared.types.RawItem.{RawItem}
-use Rattle.mh_tabfile.specs.declared.types.RawTable.{RawTable}
+use Rattle.mh_kernels.specs.Shapes.{KernelItem}
+use Rattle.mh_kernels.specs.Shapes.{Kernel}
+use Rattle.mh_kernels.specs.Kernels.{IsKernelItem}
+use Rattle.mh_tabform.specs.declared.types.RawItem.{RawItem}
+use Rattle.mh_tabform.specs.declared.types.RawTable.{RawTable}
 use Rattle.mh_valid.specs.Valid.{HasKernel, AreNamesApart}
-use Rattle.mh_report.specs.Items.{look_name}
-use Rattle.mh_tabfile.specs.Written.{raw_item}
+use Rattle.mh_cells.specs.Names.{look_name}
+use Rattle.mh_tabform.specs.Written.{raw_item}
 
 pub same_look : (g : Grammar) → AreNamesApart g → (l m : Look) → IsLookBelow (length g.tokens) l → IsLookBelow (length g.tokens) m → look_name g l ≡ look_name g m → l ≡ m
 same_look g n (Token y) (Token z) h k e = ap Token (n.apart y z h k e)

@@ -10,21 +10,21 @@ use Rattle.mh_grammar.specs.declared.edges.Edge.{Edge}
 use Rattle.mh_grammar.specs.Plain.{plain_of}
 use Rattle.mh_grammar.specs.Names.{token_name, nonterminal_name}
 use Rattle.mh_grammar.specs.Costs.{costs_of}
-use Rattle.mh_tabfile.specs.Written.{raw_production, raw_item, raw_edge, raw_cells}
+use Rattle.mh_tabform.specs.Written.{raw_production, raw_item, raw_edge, raw_cells}
 use Rattle.mh_grammar.specs.Edges.{IsRising, IsEdgeBefore, find_edge}
-use Rattle.mh_items.specs.Shapes.{KernelItem}
-use Rattle.mh_items.specs.Shapes.{Kernel}
-use Rattle.mh_items.specs.Shapes.{Automaton}
-use Rattle.mh_items.specs.Kernels.{IsKernel}
-use Rattle.mh_items.specs.Automaton.{start_kernel, no_kernel, Moves, IsTarget}
+use Rattle.mh_kernels.specs.Shapes.{KernelItem}
+use Rattle.mh_kernels.specs.Shapes.{Kernel}
+use Rattle.mh_kernels.specs.Shapes.{Automaton}
+use Rattle.mh_kernels.specs.Kernels.{IsItemList}
+use Rattle.mh_kernels.specs.Automaton.{start_kernel, no_kernel, Moves, IsTarget}
 use Rattle.mh_tables.specs.declared.parts.StateParts.{StateParts}
 use Rattle.mh_tables.specs.Table.{no_state}
-use Rattle.mh_resolve.specs.States.{IsResolved}
-use Rattle.mh_resolve.specs.code.Whole.{closed_state}
-use Rattle.mh_tabfile.specs.declared.types.RawCells.{RawCells}
-use Rattle.mh_tabfile.specs.declared.types.RawCells.TheVariants as cells
-use Rattle.mh_tabfile.specs.declared.types.RawState.{RawState}
-use Rattle.mh_tabfile.specs.declared.types.RawTable.{RawTable}
+use Rattle.mh_cells.specs.States.{IsResolved}
+use Rattle.mh_cells.specs.code.Whole.{closed_state}
+use Rattle.mh_tabform.specs.declared.types.RawCells.{RawCells}
+use Rattle.mh_tabform.specs.declared.types.RawCells.TheVariants as cells
+use Rattle.mh_tabform.specs.declared.types.RawState.{RawState}
+use Rattle.mh_tabform.specs.declared.types.RawTable.{RawTable}
 use Rattle.mh_valid.specs.declared.reason.Reason.{Reason}
 use Rattle.mh_valid.specs.declared.reason.Reason.TheVariants as reasons
 
@@ -60,7 +60,7 @@ IsAtEnd g item = item.production < length g.starts → item.looks ≡ End ∷ []
 
 -- a kernel that state s may have
 pub record IsKernelAt (g : Grammar) (s : ℕ) (k : Kernel) : Type 0 where
-  pub kernel : IsKernel (plain_of g) k
+  pub kernel : IsItemList (plain_of g) k
   pub filled : 0 < length k.items
   pub at_end : AllByRecursion (IsAtEnd g) k.items
   pub start : s < length g.starts → k ≡ start_kernel s

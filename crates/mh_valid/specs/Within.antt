@@ -2,7 +2,7 @@
 use Rattle.std.specs.Prelude.{◌≡◌}
 use Rattle.std.specs.List.{AllZip, Contains}
 use Rattle.mh_grammar.specs.declared.types.Look.{Look}
-use Rattle.mh_items.specs.Shapes.{KernelItem, Kernel}
+use Rattle.mh_kernels.specs.Shapes.{KernelItem, Kernel}
 
 pub record IsItemWithin (inner outer : KernelItem) : Type 0 where
   pub production : inner.production ≡ outer.production

@@ -1,18 +1,18 @@
 //! Laws of validity: each is an empty call that says it to contracts.
 ghost use Rattle.std.specs.Prelude.{◌≡◌, ◌<◌, ◌^◌, ℕ, List, Option, length};
 ghost use Rattle.mh_grammar.specs.Plain.{plain_of};
-ghost use Rattle.mh_items.specs.Shapes.{Automaton as AutomatonOf};
-ghost use Rattle.mh_items.specs.Automaton.{IsAutomaton};
+ghost use Rattle.mh_kernels.specs.Shapes.{Automaton as AutomatonOf};
+ghost use Rattle.mh_kernels.specs.Automaton.{IsAutomaton};
 ghost use Rattle.mh_tables.specs.declared.parts.StateParts.{StateParts};
-ghost use Rattle.mh_resolve.specs.States.{AreResolved};
-ghost use Rattle.mh_tabfile.specs.Written.{raw_of};
+ghost use Rattle.mh_cells.specs.States.{AreResolved};
+ghost use Rattle.mh_tabform.specs.Written.{raw_of};
 ghost use Rattle.mh_valid.specs.declared.reason.Reason.{Reason as ReasonOf};
 ghost use Rattle.mh_valid.specs.Valid.{IsValid, IsValidFor, IsInvalidAt, AreNamesApart};
 
+use mh_cells::Mode;
 use mh_grammar::Grammar;
-use mh_items::Automaton;
-use mh_resolve::Mode;
-use mh_tabfile::RawTable;
+use mh_kernels::Automaton;
+use mh_tabform::RawTable;
 
 /// A valid file spells an automaton of the grammar, with what the resolution gives for its states.
 pub fn valid_is_automaton(grammar: &Grammar, raw: &RawTable)

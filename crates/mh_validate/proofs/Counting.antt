@@ -7,18 +7,18 @@ use Rattle.mh_grammar.proofs.Lists.{read_again}
 use Rattle.mh_grammar.specs.declared.types.Grammar.{Grammar}
 use Rattle.mh_tables.specs.declared.parts.Action.{Action}
 use Rattle.mh_tables.specs.declared.parts.Action.TheVariants.{Shift, Reduce, Refuse}
-use Rattle.mh_tabfile.specs.declared.types.RawCell.{RawCell}
-use Rattle.mh_tabfile.specs.declared.types.RawEdge.{RawEdge}
-use Rattle.mh_tabfile.specs.declared.types.RawCells.TheVariants as lines
-use Rattle.mh_tabfile.specs.Written.{raw_cell, raw_row, raw_cells}
+use Rattle.mh_tabform.specs.declared.types.RawCell.{RawCell}
+use Rattle.mh_tabform.specs.declared.types.RawEdge.{RawEdge}
+use Rattle.mh_tabform.specs.declared.types.RawCells.TheVariants as lines
+use Rattle.mh_tabform.specs.Written.{raw_cell, raw_row, raw_cells}
 use Rattle.mh_moves.specs.Moves.{Move}
 use Rattle.mh_valid.specs.Valid.{HasKernel, HasEdges, has_lines, raw_state}
 use Rattle.mh_grammar.specs.declared.edges.Edge.{Edge}
-use Rattle.mh_items.specs.Shapes.{Kernel}
-use Rattle.mh_items.specs.Automaton.{no_kernel}
+use Rattle.mh_kernels.specs.Shapes.{Kernel}
+use Rattle.mh_kernels.specs.Automaton.{no_kernel}
 use Rattle.mh_tables.specs.declared.parts.StateParts.{StateParts}
 use Rattle.mh_tables.specs.Table.{no_state}
-use Rattle.mh_tabfile.specs.declared.types.RawTable.{RawTable}
+use Rattle.mh_tabform.specs.declared.types.RawTable.{RawTable}
 use Rattle.mh_validate.specs.Leading.{edges_on}
 use Rattle.mh_validate.specs.Comparing.{AreFirstKernels, AreFirstRows, AreFirstCells}
 

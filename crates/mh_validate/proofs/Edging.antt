@@ -13,15 +13,15 @@ use Rattle.mh_grammar.specs.Edges.{IsRising, IsSymbolBefore, IsEdgeBefore}
 use Rattle.mh_grammar.specs.ItemSets as items
 use Rattle.mh_grammar.specs.ItemSets.{AreSame, Close, Moved}
 use Rattle.mh_grammar.proofs.Lists.{contains_here, contains_there, contains_cases, at_contains, contains_map, recursion-from, recursion_contains}
-use Rattle.mh_items.specs.Shapes.{Kernel}
-use Rattle.mh_items.specs.Kernels.{Holds, IsKernel}
-use Rattle.mh_items.specs.Automaton.{no_kernel, kernel_at, move_of, Moves, IsTarget}
-use Rattle.mh_items.specs.Collection.{IsBehindDot, IsMove, edge_symbols}
+use Rattle.mh_kernels.specs.Shapes.{Kernel}
+use Rattle.mh_kernels.specs.Kernels.{Holds, IsItemList}
+use Rattle.mh_kernels.specs.Automaton.{no_kernel, kernel_at, move_of, Moves, IsTarget}
+use Rattle.mh_kernels.specs.Collection.{IsBehindDot, IsMove, edge_symbols}
 use Rattle.mh_moves.specs.Moves.{Move, AreMovesOf, symbols_of}
-use Rattle.mh_canon.proofs.Sets.{same_trans, moved_same, place_holds, drop_from_get, get_from_drop}
-use Rattle.mh_tabfile.specs.declared.types.RawEdge.{RawEdge}
-use Rattle.mh_tabfile.specs.declared.types.RawTable.{RawTable}
-use Rattle.mh_tabfile.specs.Written.{raw_edge}
+use Rattle.mh_knuth.proofs.Sets.{same_trans, moved_same, place_holds, drop_from_get, get_from_drop}
+use Rattle.mh_tabform.specs.declared.types.RawEdge.{RawEdge}
+use Rattle.mh_tabform.specs.declared.types.RawTable.{RawTable}
+use Rattle.mh_tabform.specs.Written.{raw_edge}
 use Rattle.mh_valid.specs.Valid.{AreKernels, HasEdges, of_kernels, raw_state}
 use Rattle.mh_valid.proofs.Edged.{found_in, on_symbol, has_symbol, one_symbols, symbols_rise}
 use Rattle.mh_grammar.specs.Names.{symbol_name}
@@ -76,7 +76,7 @@ module _ (g : Grammar) (raw : RawTable) (ks : List Kernel) (s : ℕ) (moves : Li
   P = plain_of g
 
   -- what a move carries
-  carried : (m : Move) → Contains moves m → IsKernel P m.kernel × AreSame (Holds m.kernel) (move_of P (of_kernels ks) s m.symbol)
+  carried : (m : Move) → Contains moves m → IsItemList P m.kernel × AreSame (Holds m.kernel) (move_of P (of_kernels ks) s m.symbol)
   unfolding kernel_at
   carried m c =
       let is : IsMove P of.closed m.symbol m.kernel = All-contains (λ (x : Move). IsMove P of.closed x.symbol x.kernel) moves m of.are.each c in
@@ -122,7 +122,7 @@ module _ (g : Grammar) (raw : RawTable) (ks : List Kernel) (s : ℕ) (moves : Li
 
   -- ---- edges that are right are those of the moves, which lead
 
-  leads_of : (m : Move) → Contains moves m → (e : Edge) → m.symbol ≡ e.symbol → ((u : ℕ) → u < length ks → IsKernel P (slice_index_or ks u no_kernel)) → IsTarget P (of_kernels ks) s e.symbol e.target → Leads g ks m (raw_edge g e)
+  leads_of : (m : Move) → Contains moves m → (e : Edge) → m.symbol ≡ e.symbol → ((u : ℕ) → u < length ks → IsItemList P (slice_index_or ks u no_kernel)) → IsTarget P (of_kernels ks) s e.symbol e.target → Leads g ks m (raw_edge g e)
   unfolding kernel_at
   leads_of m c e is kernels t =
       let (kernel, same) = carried m c in
@@ -133,7 +133,7 @@ module _ (g : Grammar) (raw : RawTable) (ks : List Kernel) (s : ℕ) (moves : Li
       }
 
   zip_leads : (ms : List Move) (es : List Edge) → symbols_of ms ≡ edge_symbols es → ((m : Move) → Contains ms m → Contains moves m) → ((e : Edge) → Contains es e → IsTarget P (of_kernels ks) s e.symbol e.target)
-      → ((u : ℕ) → u < length ks → IsKernel P (slice_index_or ks u no_kernel)) → AllZip (Leads g ks) ms (map (raw_edge g) es)
+      → ((u : ℕ) → u < length ks → IsItemList P (slice_index_or ks u no_kernel)) → AllZip (Leads g ks) ms (map (raw_edge g) es)
   zip_leads [] [] on ins ts kernels = tt
   zip_leads [] (e ∷ es) on ins ts kernels = absurd (nil_cons e.symbol (edge_symbols es) on)
   zip_leads (m ∷ ms) [] on ins ts kernels = absurd (nil_cons m.symbol (symbols_of ms) (sym on))
@@ -160,5 +160,5 @@ module _ (g : Grammar) (raw : RawTable) (ks : List Kernel) (s : ℕ) (moves : Li
 pub moves_at : (g : Grammar) (ks : List Kernel) (s : ℕ) (k : Kernel) (moves : List Move) → s < length ks → k ≡ get_or ks s k → AreMovesOf (plain_of g) k moves → AreMovesOf (plain_of g) (slice_index_or ks s no_kernel) moves
 moves_at g ks s k moves lt e of = subst (λ (x : Kernel). AreMovesOf (plain_of g) x moves) (e ∙ get_or_default ks s k no_kernel lt) of
 
-pub kernel_right : (g : Grammar) (raw : RawTable) (ks : List Kernel) → AreKernels g raw ks → (s : ℕ) (k : Kernel) → s < length ks → k ≡ get_or ks s k → IsKernel (plain_of g) k
-kernel_right g raw ks are s k lt e = subst (IsKernel (plain_of g)) (sym (e ∙ get_or_default ks s k no_kernel lt)) (are.each s (let n = are.count in omega (arith, n, lt))).kernel.kernel
+pub kernel_right : (g : Grammar) (raw : RawTable) (ks : List Kernel) → AreKernels g raw ks → (s : ℕ) (k : Kernel) → s < length ks → k ≡ get_or ks s k → IsItemList (plain_of g) k
+kernel_right g raw ks are s k lt e = subst (IsItemList (plain_of g)) (sym (e ∙ get_or_default ks s k no_kernel lt)) (are.each s (let n = are.count in omega (arith, n, lt))).kernel.kernel

@@ -14,12 +14,12 @@ use Rattle.mh_grammar.proofs.Lists.{contains_push, contains_last, at_contains, c
 use Rattle.mh_grammar.proofs.Numbered.{rhs_of-ordinary, rhs_of-start}
 use Rattle.mh_sets.specs.Sets.{IsSet}
 use Rattle.mh_grammar.proofs.EdgeOrder.{look_never}
-use Rattle.mh_items.specs.Shapes.{KernelItem}
-use Rattle.mh_items.specs.Kernels.{IsKernelItem, IsItemBefore}
-use Rattle.mh_items.proofs.OneList.{item_along}
-use Rattle.mh_tabfile.specs.declared.types.RawItem.{RawItem}
-use Rattle.mh_report.specs.Items.{look_name}
-use Rattle.mh_tabfile.specs.Written.{raw_item}
+use Rattle.mh_kernels.specs.Shapes.{KernelItem}
+use Rattle.mh_kernels.specs.Kernels.{IsKernelItem, IsItemBefore}
+use Rattle.mh_kernels.proofs.OneList.{item_along}
+use Rattle.mh_tabform.specs.declared.types.RawItem.{RawItem}
+use Rattle.mh_cells.specs.Names.{look_name}
+use Rattle.mh_tabform.specs.Written.{raw_item}
 use Rattle.mh_valid.specs.Valid.{AreNamesApart}
 use Rattle.mh_valid.proofs.OneKernel.{same_look, same_item}
 use Rattle.mh_validate.specs.Looking.{IsLookOf, AreLooksOf, IsItemOf, AreItemsOf, IsLast, Behind}

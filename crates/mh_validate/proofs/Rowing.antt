@@ -2,8 +2,8 @@
 use Rattle.std.proofs.Common.{◌≡◌, ◌↔◌, ◌≤◌, ℕ, List, [], length, drop, nat_eq, IsTrue, sym, ap, ◌∙◌, arith, drop_of_length-le, length-drop, eqb-true, eq-eqb}
 use Rattle.mh_grammar.specs.declared.types.Grammar.{Grammar}
 use Rattle.mh_tables.specs.declared.parts.Action.{Action}
-use Rattle.mh_tabfile.specs.declared.types.RawCell.{RawCell}
-use Rattle.mh_tabfile.specs.Written.{raw_row}
+use Rattle.mh_tabform.specs.declared.types.RawCell.{RawCell}
+use Rattle.mh_tabform.specs.Written.{raw_row}
 
 pub row_end : (g : Grammar) (raws : List RawCell) (row : List Action) (next token : ℕ) → length row ≤ token → next ≤ length raws → ((drop next raws ≡ raw_row g token (drop token row)) ↔ (raws ≡ raw_row g 0 row)) → IsTrue (nat_eq next (length raws)) ↔ (raws ≡ raw_row g 0 row)
 row_end g raws row next token past within h =

@@ -5,10 +5,10 @@ use Rattle.std.specs.List.{AllByRecursion}
 use Rattle.std.proofs.lemmas.Bool.{cases_lt}
 use Rattle.mh_grammar.specs.declared.types.Grammar.{Grammar}
 use Rattle.mh_grammar.proofs.Lists.{recursion-weaker, recursion_contains, recursion-from}
-use Rattle.mh_items.specs.Shapes.{KernelItem, Kernel}
-use Rattle.mh_items.specs.Automaton.{start_kernel}
-use Rattle.mh_tabfile.specs.declared.types.RawItem.{RawItem}
-use Rattle.mh_tabfile.specs.declared.types.RawTable.{RawTable}
+use Rattle.mh_kernels.specs.Shapes.{KernelItem, Kernel}
+use Rattle.mh_kernels.specs.Automaton.{start_kernel}
+use Rattle.mh_tabform.specs.declared.types.RawItem.{RawItem}
+use Rattle.mh_tabform.specs.declared.types.RawTable.{RawTable}
 use Rattle.mh_valid.proofs.OneKernel.{same_items}
 use Rattle.mh_valid.specs.Valid.{AreNamesApart, HasKernel, IsAtEnd, raw_state}
 use Rattle.mh_validate.specs.Looking.{AreItemsOf, MayHave, IsMovedItem}

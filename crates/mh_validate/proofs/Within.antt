@@ -7,13 +7,13 @@ use Rattle.mh_grammar.specs.Plain.{PlainGrammar}
 use Rattle.mh_grammar.specs.Edges.{IsRising}
 use Rattle.mh_grammar.specs.ItemSets.{AreSame}
 use Rattle.mh_grammar.proofs.Lists.{contains_here, contains_there, contains_cases, contains_none, at_contains, contains_at, recursion_contains, some_item, zip_left, zip_right}
-use Rattle.mh_items.specs.Shapes.{KernelItem, Kernel, Automaton}
-use Rattle.mh_items.specs.Kernels.{Holds, HasPlace, IsKernel, IsKernelItem, IsItemBefore}
-use Rattle.mh_items.specs.Automaton.{kernel_at, move_of, IsTarget}
-use Rattle.mh_items.proofs.OneList.{place_never, item_along, heads, of_items}
+use Rattle.mh_kernels.specs.Shapes.{KernelItem, Kernel, Automaton}
+use Rattle.mh_kernels.specs.Kernels.{Holds, HasPlace, IsItemList, IsKernelItem, IsItemBefore}
+use Rattle.mh_kernels.specs.Automaton.{kernel_at, move_of, IsTarget}
+use Rattle.mh_kernels.proofs.OneList.{place_never, item_along, heads, of_items}
 use Rattle.mh_valid.specs.Within.{IsItemWithin, IsKernelWithin}
 
-pub target_of : (g : PlainGrammar) (a : Automaton) (s : ℕ) (X : Symbol) (u : ℕ) (m : Kernel) → IsKernel g m → AreSame (Holds m) (move_of g a s X) → u < length a.kernels → IsKernelWithin m (kernel_at a u) → IsTarget g a s X u
+pub target_of : (g : PlainGrammar) (a : Automaton) (s : ℕ) (X : Symbol) (u : ℕ) (m : Kernel) → IsItemList g m → AreSame (Holds m) (move_of g a s X) → u < length a.kernels → IsKernelWithin m (kernel_at a u) → IsTarget g a s X u
 target_of g a s X u m k same known h = record {
   known = known;
   core = λ p d (item, c, e, f).
@@ -85,7 +85,7 @@ module _ (g : PlainGrammar) where
       moved_to k i v (inr h) p d = let e = h.0 in let l = h.1 in inr (h.0 ∙ p, omega arith)
 
 -- a state to which an edge of the move may lead holds it
-pub holds_move : (g : PlainGrammar) (a : Automaton) (s : ℕ) (X : Symbol) (u : ℕ) (m : Kernel) → IsKernel g m → IsKernel g (kernel_at a u) → AreSame (Holds m) (move_of g a s X) → IsTarget g a s X u → IsKernelWithin m (kernel_at a u)
+pub holds_move : (g : PlainGrammar) (a : Automaton) (s : ℕ) (X : Symbol) (u : ℕ) (m : Kernel) → IsItemList g m → IsItemList g (kernel_at a u) → AreSame (Holds m) (move_of g a s X) → IsTarget g a s X u → IsKernelWithin m (kernel_at a u)
 holds_move g a s X u m k n same t = within_of g m.items (kernel_at a u).items k.items k.rising n.rising
     (λ p d l h. t.looks p d l ((same p d l).0 h))
     (λ p d h. let (l, on) = t.core p d h in let (item, c, e, f, x) = (same p d l).1 on in (item, c, e, f))

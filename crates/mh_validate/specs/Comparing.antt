@@ -2,12 +2,12 @@
 use Rattle.std.specs.Prelude.{◌≡◌, ◌<◌, ◌≤◌, ℕ, List, [], length, slice_index_or}
 use Rattle.mh_grammar.specs.declared.types.Grammar.{Grammar}
 use Rattle.mh_grammar.specs.declared.edges.Edge.{Edge}
-use Rattle.mh_items.specs.Shapes.{Kernel}
-use Rattle.mh_items.specs.Automaton.{no_kernel}
+use Rattle.mh_kernels.specs.Shapes.{Kernel}
+use Rattle.mh_kernels.specs.Automaton.{no_kernel}
 use Rattle.mh_tables.specs.declared.parts.StateParts.{StateParts}
 use Rattle.mh_tables.specs.Table.{no_state}
-use Rattle.mh_tabfile.specs.declared.types.RawTable.{RawTable}
-use Rattle.mh_tabfile.specs.Written.{raw_cells}
+use Rattle.mh_tabform.specs.declared.types.RawTable.{RawTable}
+use Rattle.mh_tabform.specs.Written.{raw_cells}
 use Rattle.mh_valid.specs.Valid.{HasKernel, HasEdges, IsResolvedAt, raw_state}
 
 -- the kernels of the first states, up to the first that has none

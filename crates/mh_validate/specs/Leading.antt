@@ -4,10 +4,10 @@ use Rattle.std.specs.List.{AllZip}
 use Rattle.mh_grammar.specs.declared.types.Grammar.{Grammar}
 use Rattle.mh_grammar.specs.declared.edges.Edge.{Edge}
 use Rattle.mh_grammar.specs.Names.{symbol_name}
-use Rattle.mh_items.specs.Shapes.{Kernel}
-use Rattle.mh_items.specs.Automaton.{no_kernel}
+use Rattle.mh_kernels.specs.Shapes.{Kernel}
+use Rattle.mh_kernels.specs.Automaton.{no_kernel}
 use Rattle.mh_moves.specs.Moves.{Move}
-use Rattle.mh_tabfile.specs.declared.types.RawEdge.{RawEdge}
+use Rattle.mh_tabform.specs.declared.types.RawEdge.{RawEdge}
 use Rattle.mh_valid.specs.Within.{IsKernelWithin}
 
 -- a raw edge is that of a move, and leads to a state that holds what is moved

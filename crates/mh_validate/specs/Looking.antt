@@ -5,12 +5,12 @@ use Rattle.mh_grammar.specs.declared.types.Grammar.{Grammar}
 use Rattle.mh_grammar.specs.declared.types.Look.{Look}
 use Rattle.mh_grammar.specs.Edges.{IsRising, IsLookBefore}
 use Rattle.mh_grammar.specs.Plain.{plain_of, IsLookBelow}
-use Rattle.mh_items.specs.Shapes.{KernelItem}
-use Rattle.mh_items.specs.Kernels.{IsKernelItem, IsItemBefore}
-use Rattle.mh_items.specs.Automaton.{start_kernel}
-use Rattle.mh_tabfile.specs.declared.types.RawItem.{RawItem}
-use Rattle.mh_report.specs.Items.{look_name}
-use Rattle.mh_tabfile.specs.Written.{raw_item}
+use Rattle.mh_kernels.specs.Shapes.{KernelItem}
+use Rattle.mh_kernels.specs.Kernels.{IsKernelItem, IsItemBefore}
+use Rattle.mh_kernels.specs.Automaton.{start_kernel}
+use Rattle.mh_tabform.specs.declared.types.RawItem.{RawItem}
+use Rattle.mh_cells.specs.Names.{look_name}
+use Rattle.mh_tabform.specs.Written.{raw_item}
 use Rattle.mh_valid.specs.Valid.{IsAtEnd}
 
 -- what is found is such a thing, and where nothing is found there is none

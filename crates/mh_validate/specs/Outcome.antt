@@ -1,9 +1,9 @@
 -- What validating answers.
 use Rattle.std.specs.Prelude.{◌≡◌, ℕ, Result, Ok, Err}
 use Rattle.mh_grammar.specs.declared.types.Grammar.{Grammar}
-use Rattle.mh_resolve.specs.States.{IsTableOf}
-use Rattle.mh_resolve.specs.Conflicts.{AreConflicts}
-use Rattle.mh_tabfile.specs.declared.types.RawTable.{RawTable}
+use Rattle.mh_cells.specs.States.{IsTableOf}
+use Rattle.mh_cells.specs.Conflicts.{AreConflicts}
+use Rattle.mh_tabform.specs.declared.types.RawTable.{RawTable}
 use Rattle.mh_valid.specs.Valid.{IsInvalidAt, IsValidFor}
 use Rattle.mh_validate.specs.declared.fault.ValidFault.{ValidFault}
 use Rattle.mh_validate.specs.declared.fault.ValidFault.TheVariants.{Invalid, Memory}

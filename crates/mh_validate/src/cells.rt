@@ -1,13 +1,13 @@
 //! The cells and the default of a state.
 ghost use Rattle.std.specs.Prelude.{◌≡◌, ◌<◌, ◌≤◌, ◌↔◌, ◌∷◌, ℕ, [], IsTrue, length, slice_index_or};
 ghost use Rattle.mh_tables.specs.Table.{no_state};
-ghost use Rattle.mh_tabfile.specs.declared.types.RawCells.TheVariants as lines;
-ghost use Rattle.mh_tabfile.specs.Written.{raw_cell, raw_row, raw_cells};
+ghost use Rattle.mh_tabform.specs.declared.types.RawCells.TheVariants as lines;
+ghost use Rattle.mh_tabform.specs.Written.{raw_cell, raw_row, raw_cells};
 ghost use Rattle.mh_valid.specs.Valid.{has_lines, reason_of, raw_state};
 ghost use Rattle.mh_validate.specs.Comparing.{AreFirstCells};
 
 use mh_grammar::{Grammar, Token, token_name};
-use mh_tabfile::{RawCell, RawCells, RawTable};
+use mh_tabform::{RawCell, RawCells, RawTable};
 use mh_tables::{Action, StateParts};
 use mh_valid::Reason;
 

@@ -6,9 +6,9 @@ ghost use Rattle.mh_validate.specs.Leading.{Leads, IsRowOf, edges_on as edges_of
 use crate::header::is_named;
 use crate::targets::is_kernel_within;
 use mh_grammar::{Edge, Grammar, Memory, Sequence, symbol_name};
-use mh_items::Kernel;
+use mh_kernels::Kernel;
 use mh_moves::Move;
-use mh_tabfile::RawEdge;
+use mh_tabform::RawEdge;
 use std::alloc::Global;
 
 fn leads<const W: usize>(

@@ -2,13 +2,13 @@
 ghost use Rattle.std.specs.Prelude.{◌≡◌, ◌↔◌, map, IsTrue};
 ghost use Rattle.mh_grammar.specs.Names.{nonterminal_name as name_of_nonterminal, symbol_name as name_of_symbol};
 ghost use Rattle.mh_grammar.specs.Costs.{costs_of};
-ghost use Rattle.mh_tabfile.specs.Written.{raw_production};
+ghost use Rattle.mh_tabform.specs.Written.{raw_production};
 ghost use Rattle.mh_valid.specs.Valid.{AreCostsOf, HasHeader};
 
 use mh_grammar::{
     Grammar, Name, Production, Sequence, Symbol, TokenInfo, nonterminal_name, symbol_name,
 };
-use mh_tabfile::{RawProduction, RawTable};
+use mh_tabform::{RawProduction, RawTable};
 
 pub(crate) fn is_named(name: &Name, bytes: &[u8]) -> bool
     ensures { IsTrue result ↔ (name.now ≡ bytes.now) }

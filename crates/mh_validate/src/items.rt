@@ -3,17 +3,17 @@ ghost use Rattle.std.specs.Prelude.{◌≡◌, ◌<◌, ◌≤◌, ◌*◌, ◌+
 ghost use Rattle.mh_grammar.specs.Plain.{plain_of, rhs_of, IsInRange};
 ghost use Rattle.std.specs.List.{Contains};
 ghost use Rattle.mh_grammar.specs.Edges.{IsRising};
-ghost use Rattle.mh_items.specs.Shapes.{KernelItem as ItemOf};
-ghost use Rattle.mh_items.specs.Kernels.{IsItemBefore};
+ghost use Rattle.mh_kernels.specs.Shapes.{KernelItem as ItemOf};
+ghost use Rattle.mh_kernels.specs.Kernels.{IsItemBefore};
 ghost use Rattle.mh_msgfile.specs.Sentences.{vocabulary_in, vocabulary_of};
 ghost use Rattle.mh_valid.specs.Valid.{AreNamesApart};
 ghost use Rattle.mh_validate.specs.Looking.{Finds, IsItemOf, AreItemsOf};
 
 use crate::looks::looks_of;
 use mh_grammar::{Grammar, Memory, Sequence};
-use mh_items::KernelItem;
+use mh_kernels::KernelItem;
 use mh_msgfile::Lexicon;
-use mh_tabfile::RawItem;
+use mh_tabform::RawItem;
 use std::alloc::Global;
 
 /// How many symbols a production has.

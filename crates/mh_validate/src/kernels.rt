@@ -3,7 +3,7 @@ ghost use Rattle.std.specs.Prelude.{◌≡◌, ◌<◌, ◌≤◌, ◌*◌, ◌�
 ghost use Rattle.std.specs.List.{AllByRecursion};
 ghost use Rattle.mh_grammar.specs.declared.types.Look.TheVariants.{End};
 ghost use Rattle.mh_grammar.specs.Plain.{plain_of, IsInRange};
-ghost use Rattle.mh_items.specs.Automaton.{start_kernel};
+ghost use Rattle.mh_kernels.specs.Automaton.{start_kernel};
 ghost use Rattle.mh_msgfile.specs.Sentences.{vocabulary_in, vocabulary_of};
 ghost use Rattle.mh_valid.specs.Valid.{AreNamesApart, HasKernel, raw_state};
 ghost use Rattle.mh_validate.specs.Looking.{Finds, IsMovedItem, MayHave};
@@ -11,10 +11,10 @@ ghost use Rattle.mh_validate.specs.Comparing.{AreFirstKernels};
 
 use crate::items::items_of;
 use mh_grammar::{Grammar, Look, Memory, Sequence};
-use mh_items::{Kernel, KernelItem};
+use mh_kernels::{Kernel, KernelItem};
 use mh_msgfile::Lexicon;
 use mh_sets::TokenSet;
-use mh_tabfile::{RawItem, RawTable};
+use mh_tabform::{RawItem, RawTable};
 use std::alloc::Global;
 
 /// The lines of a state's items.

@@ -8,9 +8,9 @@ ghost use Rattle.mh_validate.specs.Comparing.{AreFirstRows};
 
 use crate::edges::row_of;
 use mh_grammar::{Edge, Grammar, Memory, Sequence};
-use mh_items::Kernel;
+use mh_kernels::Kernel;
 use mh_moves::Mover;
-use mh_tabfile::{RawEdge, RawTable};
+use mh_tabform::{RawEdge, RawTable};
 use std::alloc::Global;
 
 /// The lines of a state's edges.

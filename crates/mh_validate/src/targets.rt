@@ -3,7 +3,7 @@ ghost use Rattle.std.specs.Prelude.{◌≤◌, ◌↔◌, IsTrue};
 ghost use Rattle.std.specs.List.{AllZip};
 ghost use Rattle.mh_valid.specs.Within.{IsItemWithin, IsKernelWithin};
 
-use mh_items::{Kernel, KernelItem};
+use mh_kernels::{Kernel, KernelItem};
 
 fn is_item_within<const W: usize>(inner: &KernelItem<W>, outer: &KernelItem<W>) -> bool
     requires few { W ≤ 8 }

@@ -1,7 +1,7 @@
 use Rattle.std.proofs.Common.{ℕ, [], ◌++◌, ◌≡◌, Some, Option, map, sym, subst}
 use Rattle.std.specs.Prelude.{OnOk}
 use Rattle.std.specs.List.{flat_map, enumerate_from}
-use Rattle.mh_meanings.specs.Names.{Text}
+use Rattle.mh_grammar.specs.Text.{Text}
 use Rattle.mh_meanings.specs.Faults.{meant_by}
 use Rattle.mh_meanings.specs.Joining.{alternative_by}
 use Rattle.mh_building.specs.Standing.{unresolved}

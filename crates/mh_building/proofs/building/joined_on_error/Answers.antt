@@ -1,6 +1,6 @@
 use Rattle.std.proofs.Common.{ℕ, [], ◌++◌, ◌≡◌, Some, Option, map, sym, subst, arith, ◌+◌}
 use Rattle.std.specs.List.{flat_map}
-use Rattle.mh_meanings.specs.Names.{Text}
+use Rattle.mh_grammar.specs.Text.{Text}
 use Rattle.mh_meanings.specs.Faults.{meant_by, undefined_in_on_error}
 use Rattle.mh_meanings.specs.Joining.{all_resolved, on_error_in}
 use Rattle.mh_building.specs.Standing.{unresolved_on_error}

@@ -1,7 +1,8 @@
 use Rattle.std.proofs.Common.{Bool, [], ap, subst}
 use Rattle.std.specs.Prelude.{◌||◌}
 use Rattle.indexmap.specs.IndexSet.{contains}
-use Rattle.mh_meanings.specs.Names.{Text, same}
+use Rattle.mh_grammar.specs.Text.{Text}
+use Rattle.mh_meanings.specs.Names.{same}
 use Rattle.mh_meanings.specs.Faults.{Finds, repeats, own_names}
 use Rattle.mh_meanings.proofs.Lists.{fun_ext}
 use Rattle.mh_duplicates.proofs.duplicates.check_own.Goals as goal

@@ -1,6 +1,6 @@
 use Rattle.std.proofs.Common.{ℕ, Option, subst}
 use Rattle.std.specs.List.{flat_map}
-use Rattle.mh_meanings.specs.Names.{Text}
+use Rattle.mh_grammar.specs.Text.{Text}
 use Rattle.mh_meanings.specs.Faults.{Finds, meant_by, undefined_in_alternative}
 use Rattle.mh_meanings.specs.Maps.{meanings_in}
 use Rattle.mh_meanings.proofs.Lists.{fun_ext}

@@ -1,5 +1,5 @@
 use Rattle.std.proofs.Common.{◌≡◌, ◌++◌, map}
-use Rattle.mh_inline.specs.Unfoldings.{own}
+use Rattle.mh_cycles.specs.Unfoldings.{own}
 use Rattle.mh_inline.proofs.unfoldings.add_own.Given as goal
 
 abbrev pub invariant-loop-choice : goal.invariant-loop-choice

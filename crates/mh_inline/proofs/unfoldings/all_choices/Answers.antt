@@ -1,7 +1,7 @@
 use Rattle.std.proofs.Common.{◌++◌, ◌∷◌, [], take, map, sym, ap, ◌∙◌}
 use Rattle.std.proofs.lemmas.List.{take_more}
-use Rattle.mh_inline.specs.Unfoldings.{choices, joined}
-use Rattle.mh_inline.proofs.Choices.{choices-push}
+use Rattle.mh_cycles.specs.Unfoldings.{choices, joined}
+use Rattle.mh_cycles.proofs.Choices.{choices-push}
 use Rattle.mh_inline.proofs.unfoldings.all_choices.Goals as goal
 
 pub loop-first-preserved : goal.loop-first-preserved

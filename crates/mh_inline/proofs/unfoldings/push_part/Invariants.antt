@@ -1,5 +1,5 @@
 use Rattle.std.proofs.Common.{◌≡◌, ◌++◌, map, take, drop}
-use Rattle.mh_inline.specs.Unfoldings.{joined, only}
+use Rattle.mh_cycles.specs.Unfoldings.{joined, only}
 use Rattle.mh_inline.proofs.unfoldings.push_part.Given as goal
 
 abbrev pub invariant-loop-choice : goal.invariant-loop-choice

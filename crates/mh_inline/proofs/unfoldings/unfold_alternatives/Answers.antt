@@ -1,6 +1,6 @@
 use Rattle.std.proofs.Common.{length, refl}
 use Rattle.std.proofs.lemmas.Option.{slice_get_read}
-use Rattle.mh_inline.specs.Unfoldings as unfoldings
+use Rattle.mh_cycles.specs.Unfoldings as unfoldings
 use Rattle.mh_inline.proofs.Knowing.{UnfoldsEach-more}
 use Rattle.mh_inline.proofs.unfoldings.unfold_alternatives.Goals as goal
 

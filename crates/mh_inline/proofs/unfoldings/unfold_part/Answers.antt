@@ -1,7 +1,7 @@
 use Rattle.std.proofs.Common.{◌≡◌, sym, ap, ◌∙◌, ◌∷◌, []}
 use Rattle.std.proofs.lemmas.Option.{slice_get_within}
 use Rattle.std.proofs.lemmas.Result.{IfOk-weaker}
-use Rattle.mh_inline.specs.Unfoldings.{choices, only}
+use Rattle.mh_cycles.specs.Unfoldings.{choices, only}
 use Rattle.mh_inline.specs.Known.{Extends}
 use Rattle.mh_inline.proofs.Knowing.{known_part, extends_known, extends_kept}
 use Rattle.mh_inline.proofs.unfoldings.unfold_part.Goals as goal

@@ -1,7 +1,7 @@
 use Rattle.std.proofs.Common.{◌≡◌, length, drop, map, sym, ap, ◌∙◌, arith}
 use Rattle.std.proofs.lemmas.List.{take_at}
-use Rattle.mh_inline.specs.Unfoldings.{joined}
-use Rattle.mh_inline.proofs.Choices.{choices-one_right}
+use Rattle.mh_cycles.specs.Unfoldings.{joined}
+use Rattle.mh_cycles.proofs.Choices.{choices-one_right}
 use Rattle.mh_inline.proofs.unfoldings.with_one_behind.Goals as goal
 
 pub returns : goal.returns

@@ -1,6 +1,6 @@
 use Rattle.std.proofs.Common.{◌≡◌, length, drop, map, sym, ap, ◌∙◌, arith}
 use Rattle.std.proofs.lemmas.List.{take_at, append-nil}
-use Rattle.mh_inline.specs.Unfoldings.{joined}
+use Rattle.mh_cycles.specs.Unfoldings.{joined}
 use Rattle.mh_inline.proofs.unfoldings.with_one_in_front.Goals as goal
 
 pub returns : goal.returns

@@ -3,7 +3,8 @@ use Rattle.std.specs.List.{slice_get}
 use Rattle.std.proofs.lemmas.Result.{on_ok_weaker}
 use Rattle.mh_grammar.specs.declared.types.Symbol.TheVariants.{N}
 use Rattle.mh_grammar.specs.Plain.{plain_of, rhs_of}
-use Rattle.mh_items.proofs.Following.{target_below, item_adds}
+use Rattle.mh_kernels.proofs.Sides.{target_below}
+use Rattle.mh_items.proofs.Seeding.{item_adds}
 use Rattle.mh_items.proofs.closures.add_item.Goals as goal
 
 pub add-requires : goal.add-requires

@@ -1,12 +1,12 @@
 use Rattle.std.proofs.Common.{List, take, sym, subst, ◌∙◌, rules}
 use Rattle.mh_grammar.specs.Plain.{plain_of}
-use Rattle.mh_items.specs.Shapes.{KernelItem}
-use Rattle.mh_items.specs.Kernels.{IsKernelItem}
+use Rattle.mh_kernels.specs.Shapes.{KernelItem}
+use Rattle.mh_kernels.specs.Kernels.{IsKernelItem}
 use Rattle.mh_items.specs.Asked.{Adds}
 use Rattle.mh_items.specs.Wanted.{IsSeedOf}
 use Rattle.mh_grammar.proofs.Lists.{taken, all_at}
 use Rattle.mh_items.proofs.Growing.{Adds-none}
-use Rattle.mh_items.proofs.Following.{seeds_none, seeds_step}
+use Rattle.mh_items.proofs.Seeding.{seeds_none, seeds_step}
 use Rattle.mh_items.proofs.closures.add_seeds.Goals as goal
 
 pub loop-item-init : goal.loop-item-init

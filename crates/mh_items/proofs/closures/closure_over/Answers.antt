@@ -1,12 +1,12 @@
 use Rattle.std.proofs.Common.{◌∙◌, arith, rules}
 use Rattle.mh_grammar.specs.Plain.{plain_of}
-use Rattle.mh_items.specs.Shapes.{Kernel}
-use Rattle.mh_items.specs.Kernels.{IsKernel}
+use Rattle.mh_kernels.specs.Shapes.{Kernel}
+use Rattle.mh_kernels.specs.Kernels.{IsItemList}
 use Rattle.mh_items.specs.Added.{AreAdded}
 use Rattle.mh_items.specs.Merging.{IsUnion}
 use Rattle.mh_items.specs.Asked.{Adds, AreQueued, AreAwake}
 use Rattle.mh_items.specs.Wanted.{IsSeedOf, AreWanted}
-use Rattle.mh_items.proofs.Following.{seeds_are, seeds_awake}
+use Rattle.mh_items.proofs.Seeding.{seeds_are, seeds_awake}
 use Rattle.mh_items.proofs.Listing.{closure_of_union}
 use Rattle.mh_items.proofs.closures.closure_over.Goals as goal
 
@@ -28,7 +28,7 @@ added_items-requires _ c =
     let table = c.in_ok-spread.ensures.table in
     let size = c.in_ok-spread.ensures.size ∙ h.size ∙ c.requires.nothing.size in
     let w : AreWanted g kernel c.spread.new.set = c.in_ok-spread.ensures.wanted kernel (seeds_are g kernel c.args.asked.now c.add_seeds.new.set c.requires.nothing.empty h) in
-    let all : (k : Kernel) × IsKernel g k × AreWanted g k c.spread.new.set = (kernel, c.requires.kernel, w) in
+    let all : (k : Kernel) × IsItemList g k × AreWanted g k c.spread.new.set = (kernel, c.requires.kernel, w) in
     search rules
 
 pub returns-clause-exact : goal.returns-clause-exact

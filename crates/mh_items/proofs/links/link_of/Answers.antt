@@ -1,6 +1,6 @@
 use Rattle.std.proofs.Common.{suc, Some, drop, sym, ap, ◌∙◌}
 use Rattle.mh_grammar.specs.declared.types.Symbol.TheVariants.{N}
-use Rattle.mh_items.proofs.Dotted.{drop_from-slice_get}
+use Rattle.mh_kernels.proofs.Dotted.{drop_from-slice_get}
 use Rattle.mh_items.proofs.links.link_of.Goals as goal
 
 pub returns-in-Some-N : goal.returns-in-Some-N

@@ -3,9 +3,10 @@ use Rattle.std.specs.List.{slice_get}
 use Rattle.std.proofs.lemmas.Bool.{false≢true}
 use Rattle.std.proofs.lemmas.Option.{slice_get_read, slice_get_within}
 use Rattle.mh_grammar.specs.Plain.{plain_of, rhs_of}
-use Rattle.mh_items.specs.Kernels.{IsKernelItem}
+use Rattle.mh_kernels.specs.Kernels.{IsKernelItem}
 use Rattle.mh_grammar.proofs.Lists.{recursion_at}
-use Rattle.mh_items.proofs.Moving.{MovedSoFar-push, MovedSoFar-skip, moved_of, short_rhs}
+use Rattle.mh_kernels.proofs.Sides.{short_rhs}
+use Rattle.mh_items.proofs.Advancing.{MovedSoFar-push, MovedSoFar-skip, moved_of}
 use Rattle.mh_items.proofs.moves.moved.Goals as goal
 use Rattle.mh_items.proofs.moves.moved.Goals.{then-is_before+in_ok-push, else-is_before}
 

@@ -1,5 +1,6 @@
 use Rattle.std.proofs.Common.{refl}
-use Rattle.mh_meanings.specs.Names.{Text, same}
+use Rattle.mh_grammar.specs.Text.{Text}
+use Rattle.mh_meanings.specs.Names.{same}
 use Rattle.mh_meanings.proofs.Lists.{position_more}
 use Rattle.mh_meanings.proofs.formals.formals_of.Goals as goal
 

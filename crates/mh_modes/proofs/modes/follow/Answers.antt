@@ -1,7 +1,7 @@
 use Rattle.std.proofs.Common.{refl, sym, ap, ap₂, ◌∙◌}
 use Rattle.mh_opts.specs.declared.jobs.Job.TheVariants.{Interpret, InterpretError, Session, ShowAutomaton, WriteTables, ListErrors, CompileErrors, CompareErrors, EchoErrors, UpdateErrors}
 use Rattle.mh_drive.proofs.Opening.{ran_read}
-use Rattle.mh_modes.specs.Plan.{by_plan}
+use Rattle.mh_plans.specs.Plan.{by_plan}
 use Rattle.mh_modes.proofs.Following.{job_followed, opened_calm, opened_followed, opened_read, opened_still}
 use Rattle.mh_modes.proofs.modes.follow.Goals as goal
 

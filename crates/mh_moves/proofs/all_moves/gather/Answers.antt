@@ -3,8 +3,8 @@ use Rattle.std.specs.List.{slice_get}
 use Rattle.std.proofs.lemmas.Option.{slice_get_read, slice_get_within}
 use Rattle.mh_grammar.specs.Plain.{plain_of, rhs_of}
 use Rattle.mh_grammar.proofs.Lists.{recursion_at}
-use Rattle.mh_items.specs.Kernels.{IsKernelItem}
-use Rattle.mh_items.proofs.Moving.{short_rhs}
+use Rattle.mh_kernels.specs.Kernels.{IsKernelItem}
+use Rattle.mh_kernels.proofs.Sides.{short_rhs}
 use Rattle.mh_moves.proofs.Gathering.{symbol_below, gathered-start, gathered-push, gathered-skip, gathered-all}
 use Rattle.mh_moves.proofs.all_moves.gather.Goals as goal
 use Rattle.mh_moves.proofs.all_moves.gather.Goals.{in-Some+in_ok-add, in_default}

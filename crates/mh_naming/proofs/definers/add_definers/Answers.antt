@@ -1,7 +1,8 @@
 use Rattle.std.proofs.Common.{◌+◌, take}
 use Rattle.std.specs.List.{list_any}
 use Rattle.mh_rules.specs.declared.modules.Rule.{Rule}
-use Rattle.mh_meanings.specs.Names.{Text, same}
+use Rattle.mh_grammar.specs.Text.{Text}
+use Rattle.mh_meanings.specs.Names.{same}
 use Rattle.mh_meanings.proofs.Lists.{any_more}
 use Rattle.mh_naming.proofs.Defining.{Defines-none, Defines-both}
 use Rattle.mh_naming.proofs.definers.add_definers.Goals as goal

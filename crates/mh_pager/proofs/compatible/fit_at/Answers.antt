@@ -1,7 +1,7 @@
 use Rattle.std.proofs.Common.{◌≡◌, ℕ, List, Some, length, refl, sym, ◌∙◌}
 use Rattle.std.specs.List.{slice_get}
 use Rattle.std.proofs.lemmas.Option.{slice_get_read}
-use Rattle.mh_items.specs.Shapes.{KernelItem}
+use Rattle.mh_kernels.specs.Shapes.{KernelItem}
 use Rattle.mh_pager.specs.Kernels.{Fit, FitAt}
 use Rattle.mh_pager.proofs.compatible.fit_at.Goals as goal
 

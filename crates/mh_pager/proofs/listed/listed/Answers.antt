@@ -1,6 +1,6 @@
 use Rattle.std.proofs.Common.{◌≡◌, ◌∷◌, ◌∙◌, rules}
 use Rattle.mh_grammar.specs.Plain.{plain_of}
-use Rattle.mh_canon.specs.declared.collection.TheConstants.{MAX_STATES}
+use Rattle.mh_knuth.specs.declared.limits.TheConstants.{MAX_STATES}
 use Rattle.mh_pager.specs.Listing.{work_of}
 use Rattle.mh_pager.proofs.Listings.{IsList-start, IsList-step, list_ready, list_weight, few_starts}
 use Rattle.mh_pager.proofs.listed.listed.Goals as goal

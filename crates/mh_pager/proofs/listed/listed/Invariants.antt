@@ -1,6 +1,6 @@
 use Rattle.std.proofs.Common.{◌≤◌, length}
 use Rattle.mh_grammar.specs.Plain.{plain_of}
-use Rattle.mh_canon.specs.declared.collection.TheConstants.{MAX_STATES}
+use Rattle.mh_knuth.specs.declared.limits.TheConstants.{MAX_STATES}
 use Rattle.mh_pager.specs.Listing.{work_of, IsKept}
 use Rattle.mh_pager.specs.Steps.{IsList}
 use Rattle.mh_moves.specs.Mover.{IsMover}

@@ -1,5 +1,5 @@
 use Rattle.mh_grammar.specs.Plain.{plain_of}
-use Rattle.mh_canon.specs.declared.collection.TheConstants.{MAX_STATES}
+use Rattle.mh_knuth.specs.declared.limits.TheConstants.{MAX_STATES}
 use Rattle.mh_pager.specs.Listing.{work_of}
 use Rattle.mh_pager.proofs.Finishing.{not_over, merged_automaton, merged_paths, merged_clashes, merged_faults}
 use Rattle.mh_pager.proofs.merging.merged.Goals as goal

@@ -3,9 +3,9 @@ use Rattle.std.specs.List.{slice_get}
 use Rattle.std.proofs.lemmas.Option.{slice_get_read}
 use Rattle.mh_grammar.specs.Plain.{plain_of}
 use Rattle.mh_grammar.proofs.Lists.{contains_here}
-use Rattle.mh_items.specs.Collection.{targets_of}
-use Rattle.mh_items.specs.declared.kernels.StatesFault.TheVariants.{TooManyStates}
-use Rattle.mh_canon.specs.declared.collection.TheConstants.{MAX_STATES}
+use Rattle.mh_kernels.specs.Collection.{targets_of}
+use Rattle.mh_kernels.specs.declared.kernels.StatesFault.TheVariants.{TooManyStates}
+use Rattle.mh_knuth.specs.declared.limits.TheConstants.{MAX_STATES}
 use Rattle.mh_pager.specs.Listing.{work_of, with_first}
 use Rattle.mh_pager.proofs.Only.{all_put_longer}
 use Rattle.mh_pager.proofs.Readying.{taken_ready}

@@ -1,9 +1,9 @@
 use Rattle.std.proofs.Common.{◌≡◌, ◌++◌, Some}
 use Rattle.std.specs.Prelude.{reverse}
 use Rattle.mh_least.specs.Least.{Label}
-use Rattle.mh_search.specs.Tales.{Tale}
-use Rattle.mh_reach.specs.Arriving.{Journey, heights_of}
-use Rattle.mh_reach.proofs.Walking.{LeadsTo}
+use Rattle.mh_past.specs.Tales.{Tale}
+use Rattle.mh_arrivals.specs.Arriving.{Journey, heights_of}
+use Rattle.mh_arrivals.proofs.Walking.{LeadsTo}
 use Rattle.mh_reach.proofs.sentences.walk.Given as goal
 
 abbrev pub invariant-spots : goal.invariant-spots

@@ -1,4 +1,4 @@
-use Rattle.mh_reader.proofs.Priced.{cost_again, cost_text}
+use Rattle.mh_places.proofs.Priced.{cost_again, cost_text}
 use Rattle.mh_reader.proofs.laws.cost_is_spelled.Goals as goal
 
 pub returns : goal.returns

@@ -1,6 +1,6 @@
 use Rattle.std.proofs.Common.{take}
 use Rattle.mh_reader.specs.Limits.{IsShallow}
-use Rattle.mh_reader.specs.Signs.{reads_of}
+use Rattle.mh_places.specs.Signs.{reads_of}
 use Rattle.mh_reader.proofs.Exact.{Goes}
 use Rattle.mh_reader.proofs.reading.read_lexemes.Given as goal
 

@@ -1,5 +1,5 @@
 use Rattle.std.proofs.Common.{◌≡◌, ◌++◌, length}
-use Rattle.mh_report.specs.Items.{Text}
+use Rattle.mh_grammar.specs.Text.{Text}
 use Rattle.mh_report.specs.Automata.{title, AreStateTexts}
 use Rattle.mh_report.proofs.automata.automaton_text.Given as goal
 

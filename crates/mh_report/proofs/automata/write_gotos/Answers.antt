@@ -1,5 +1,5 @@
 use Rattle.std.proofs.Common.{◌≡◌, ◌++◌}
-use Rattle.mh_items.specs.Automaton.{edges_at}
+use Rattle.mh_kernels.specs.Automaton.{edges_at}
 use Rattle.mh_report.specs.Automata.{goto_lines}
 use Rattle.mh_report.proofs.Parts.{goto_text_is, on_ok}
 use Rattle.mh_report.proofs.automata.write_gotos.Goals as goal

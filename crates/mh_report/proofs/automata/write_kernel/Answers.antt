@@ -1,5 +1,5 @@
 use Rattle.std.proofs.Common.{◌≡◌, ◌++◌, rules}
-use Rattle.mh_items.specs.Automaton.{kernel_at}
+use Rattle.mh_kernels.specs.Automaton.{kernel_at}
 use Rattle.mh_report.specs.Automata.{kernel_lines}
 use Rattle.mh_report.proofs.Parts.{kernel_items, kernel_text_is, on_ok}
 use Rattle.mh_report.proofs.automata.write_kernel.Goals as goal

@@ -1,5 +1,5 @@
 use Rattle.mh_search.specs.Good.{IsDone}
-use Rattle.mh_search.proofs.Queueing.{drawn_none, drawn_more, drawn_all}
+use Rattle.mh_found.proofs.Queueing.{drawn_none, drawn_more, drawn_all}
 use Rattle.mh_search.proofs.settling.all_new.Goals as goal
 
 pub items-init : goal.items-init

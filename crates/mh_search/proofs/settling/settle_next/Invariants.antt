@@ -1,7 +1,7 @@
 use Rattle.std.proofs.Common.{◌≡◌, length}
-use Rattle.mh_search.specs.Rows.{row_of}
+use Rattle.mh_past.specs.Rows.{row_of}
 use Rattle.mh_search.specs.Good.{IsDone}
-use Rattle.mh_search.proofs.Queueing.{Thinned}
+use Rattle.mh_found.proofs.Queueing.{Thinned}
 use Rattle.mh_search.proofs.settling.settle_next.Given as goal
 
 pub record Turn (l : goal.Live-items) : Type 0 where

@@ -1,5 +1,5 @@
 use Rattle.std.proofs.Common.{sym, ◌∙◌, true≢false}
-use Rattle.mh_tabfile.specs.Written.{raw_row}
+use Rattle.mh_tabform.specs.Written.{raw_row}
 use Rattle.mh_validate.proofs.Counting.{row_acts_or}
 use Rattle.mh_validate.proofs.cells.acts.Goals as goal
 

@@ -1,5 +1,5 @@
 use Rattle.std.proofs.Common.{◌≡◌, drop}
-use Rattle.mh_tabfile.specs.Written.{raw_row}
+use Rattle.mh_tabform.specs.Written.{raw_row}
 use Rattle.mh_validate.proofs.cells.acts.Given as goal
 
 abbrev pub invariant-loop-cell : goal.invariant-loop-cell

@@ -1,5 +1,5 @@
 use Rattle.std.proofs.Common.{◌≡◌, ◌↔◌, ◌≤◌, drop, length}
-use Rattle.mh_tabfile.specs.Written.{raw_row}
+use Rattle.mh_tabform.specs.Written.{raw_row}
 use Rattle.mh_validate.proofs.cells.are_cells.Given as goal
 
 abbrev pub invariant-loop-token : goal.invariant-loop-token

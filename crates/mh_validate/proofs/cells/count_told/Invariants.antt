@@ -1,7 +1,7 @@
 use Rattle.std.proofs.Common.{◌≡◌, ◌<◌, ℕ}
 use Rattle.std.specs.Prelude.{slice_index_or}
 use Rattle.mh_tables.specs.Table.{no_state}
-use Rattle.mh_tabfile.specs.Written.{raw_cells}
+use Rattle.mh_tabform.specs.Written.{raw_cells}
 use Rattle.mh_valid.specs.Valid.{raw_state}
 use Rattle.mh_validate.proofs.cells.count_told.Given as goal
 

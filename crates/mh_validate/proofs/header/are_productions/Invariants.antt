@@ -1,5 +1,5 @@
 use Rattle.std.proofs.Common.{◌≡◌, ◌↔◌, drop, map, length}
-use Rattle.mh_tabfile.specs.Written.{raw_production}
+use Rattle.mh_tabform.specs.Written.{raw_production}
 use Rattle.mh_validate.proofs.header.are_productions.Given as goal
 
 abbrev pub invariant-loop-at : goal.invariant-loop-at

@@ -1,7 +1,7 @@
 use Rattle.std.proofs.Common.{sym, ◌∙◌, subst, true≢false}
 use Rattle.std.specs.List.{Contains}
-use Rattle.mh_items.specs.Shapes.{KernelItem}
-use Rattle.mh_items.specs.Kernels.{IsItemBefore}
+use Rattle.mh_kernels.specs.Shapes.{KernelItem}
+use Rattle.mh_kernels.specs.Kernels.{IsItemBefore}
 use Rattle.mh_validate.proofs.Itemed.{items_more, items_never, one_item}
 use Rattle.mh_validate.proofs.items.items_of.Goals as goal
 

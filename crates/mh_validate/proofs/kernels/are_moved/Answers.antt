@@ -1,5 +1,5 @@
 use Rattle.std.proofs.Common.{◌↔◌, IsTrue, subst}
-use Rattle.mh_items.specs.Shapes.{KernelItem}
+use Rattle.mh_kernels.specs.Shapes.{KernelItem}
 use Rattle.mh_validate.specs.Looking.{IsMovedItem}
 use Rattle.mh_validate.proofs.Reading.{failing}
 use Rattle.mh_validate.proofs.kernels.are_moved.Goals as goal

@@ -1,5 +1,5 @@
 use Rattle.std.proofs.Common.{arith}
-use Rattle.mh_items.specs.Automaton.{no_kernel}
+use Rattle.mh_kernels.specs.Automaton.{no_kernel}
 use Rattle.mh_valid.specs.Valid.{HasKernel}
 use Rattle.mh_validate.proofs.Counting.{count_more, pushed, kernels_stop, kernels_end}
 use Rattle.mh_validate.proofs.kernels.first_kernels.Goals as goal

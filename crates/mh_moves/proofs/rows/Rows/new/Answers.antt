@@ -1,6 +1,6 @@
 use Rattle.std.proofs.Common.{◌≡◌, [], List, refl, rules}
 use Rattle.std.proofs.lemmas.List.Elements.{All-push}
-use Rattle.mh_items.specs.Shapes.{KernelItem}
+use Rattle.mh_kernels.specs.Shapes.{KernelItem}
 use Rattle.mh_moves.proofs.rows.Rows.new.Goals as goal
 
 pub loop-preserved : goal.loop-preserved

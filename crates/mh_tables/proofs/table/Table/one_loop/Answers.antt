@@ -1,4 +1,4 @@
-use Rattle.mh_tables.proofs.Finding.{one_loop as same}
+use Rattle.mh_tables.proofs.OneLoop.{one_loop as same}
 use Rattle.mh_tables.proofs.table.Table.one_loop.Goals as goal
 
 pub returns : goal.returns

@@ -1,0 +1,21 @@
+use Rattle.std.proofs.Common.{◌≤◌, List, arith, length, subst}
+use Rattle.std.proofs.Math.ListN.{drop_of_length-le}
+use Rattle.mh_arrivals.specs.declared.arrivals.Coming.{Coming}
+use Rattle.mh_arrivals.specs.Arriving.{ReadyIn}
+use Rattle.mh_arrivals.proofs.Levels.{level_done}
+use Rattle.mh_words.proofs.Listing.{rest_after}
+use Rattle.mh_arrivals.proofs.arrive.arrive_each.Goals as goal
+
+pub loop-place-preserved : goal.loop-place-preserved
+loop-place-preserved c =
+    subst (λ (l : List Coming). ReadyIn c.args.table.now c.args.classes.now c.args.found.now c.arrive_one.new.second.arrivals.spots.entries c.arrive_one.new.second.queue.buckets.items c.args.level.now.cost l) (rest_after c.args.level.now.comings.now c.loop-place.place) c.in_ok-arrive_one.ensures
+
+pub returns : goal.returns
+returns c =
+    let items = c.args.level.now.comings.now in
+    let le : length items ≤ c.loop-place.place = (let a = c.loop-place-test.false in omega arith) in
+    let g = c.loop-place.invariant in
+    record {
+      found_is = g.found_is;
+      good = level_done c.args.table.now c.facts.ensures c.args.classes.now c.requires.classes g.found_is.tale.words c.args.found.now.work g.found_is.wholes c.loop-place.second.arrivals.spots.entries c.loop-place.second.queue.buckets.items c.args.level.now.cost (rw (drop_of_length-le items le) at g.ready);
+    }

@@ -1,0 +1,71 @@
+//! How states are reached, each with a token to come.
+ghost use Rattle.std.specs.Prelude.{◌≡◌, None, [], ◌∷◌, ◌++◌, OnOk};
+ghost use Rattle.mh_arrivals.specs.Arriving.{arrival_at};
+
+use indexmap::IndexMap;
+use mh_facts::FactKey;
+use mh_grammar::{Memory, Token};
+use std::alloc::Global;
+
+/// A state, and a representative of the tokens that may come.
+#[derive(Clone, Copy, Debug, PartialEq, Eq, Hash, Drop)]
+pub struct Spot {
+    pub state: u32,
+    pub next: Token,
+}
+
+/// How a spot is reached.
+#[derive(Clone, Copy, Debug, Drop)]
+pub enum Step {
+    /// The run of this start begins there.
+    Begin(u16),
+    /// From another spot the token is shifted.
+    Shift { from: Spot, token: Token },
+    /// From another spot the run goes over a nonterminal, by this whole path.
+    Way { from: Spot, inner: FactKey },
+}
+
+/// A spot that is reached: at which cost, and how.
+#[derive(Clone, Copy, Debug, Drop)]
+pub struct Arrival {
+    pub cost: u32,
+    pub step: Step,
+}
+
+/// An arrival that waits.
+#[derive(Clone, Copy, Drop)]
+pub struct Coming {
+    pub spot: Spot,
+    pub step: Step,
+}
+
+/// The spots that are reached.
+#[derive(Drop)]
+pub struct Arrivals {
+    pub spots: IndexMap<Spot, Arrival>,
+}
+
+/// None yet.
+pub fn no_arrivals(alloc: Global) -> Arrivals
+    ensures { result.spots.entries ≡ [] }
+{
+    Arrivals {
+        spots: IndexMap::new(alloc),
+    }
+}
+
+/// How a spot is reached, where it is.
+pub fn arrival_of(arrivals: &Arrivals, spot: Spot) -> Option<Arrival>
+    ensures { result ≡ arrival_at arrivals.now.spots.entries spot }
+{
+    arrivals.spots.get(&spot).copied()
+}
+
+/// Stores the arrival at a spot that was not reached before.
+pub fn arrive_at(arrivals: &mut Arrivals, spot: Spot, arrival: Arrival) -> Result<(), Memory>
+    requires { arrival_at arrivals.old.spots.entries spot ≡ None }
+    ensures { OnOk result (arrivals.new.spots.entries ≡ arrivals.old.spots.entries ++ (spot, arrival) ∷ []) }
+{
+    arrivals.spots.insert(spot, arrival)?;
+    Ok(())
+}

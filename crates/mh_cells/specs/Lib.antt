@@ -1,0 +1,8 @@
+pub mod Cells
+pub mod Clear
+pub mod Conflicts
+pub mod Holes
+pub mod Levels
+pub mod Names
+pub mod States
+pub mod code

@@ -1,0 +1,6 @@
+use Rattle.std.proofs.Common.{take}
+use Rattle.mh_cycles.specs.Found.{Adds, IsIn}
+use Rattle.mh_cycles.proofs.cycles.add_alternatives.Given as goal
+
+abbrev pub invariant-loop-production : goal.invariant-loop-production
+invariant-loop-production l = Adds (IsIn l.expanded.instances (take l.production-index l.productions)) l.initial.found l.found

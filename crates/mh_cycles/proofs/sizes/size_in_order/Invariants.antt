@@ -1,0 +1,5 @@
+use Rattle.mh_cycles.specs.Sizes.{IsSizing}
+use Rattle.mh_cycles.proofs.sizes.size_in_order.Given as goal
+
+abbrev pub invariant-loop-number : goal.invariant-loop-number
+invariant-loop-number l = IsSizing l.expanded.instances l.sizing

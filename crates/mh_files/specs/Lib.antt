@@ -1,0 +1,2 @@
+pub mod FileStage
+pub mod Turns

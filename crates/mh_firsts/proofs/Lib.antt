@@ -1,0 +1,5 @@
+pub mod Begins
+pub mod FirstSets
+pub mod Flags
+pub mod LeastMarks
+pub mod Passes

@@ -1,0 +1,3 @@
+pub mod FirstFlags
+pub mod Grid
+pub mod Marked

@@ -1,0 +1,8 @@
+use Rattle.std.proofs.Common.{refl, ap, sym, ◌∙◌}
+use Rattle.mh_found.specs.declared.tails.Part.TheVariants as parts
+use Rattle.mh_found.proofs.Compared.{same_parts}
+use Rattle.mh_found.proofs.tails.turn.Goals as goal
+
+pub returns-then-one-two : goal.returns-then-one-two
+returns-then-one-two c tale a b u v h g p q =
+    same_parts c.args.table.now c.args.store.now tale c.args.rests.now _ a b u v p q c.args.left c.args.right (c.in-Token-Token.is-0 ∙ ap parts.Token c.if-one-two.true ∙ sym c.in-Token-Token.is-1) h g refl

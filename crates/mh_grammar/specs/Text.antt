@@ -1,0 +1,5 @@
+-- Texts, as bytes one after another.
+use Rattle.std.specs.Prelude.{ℕ, List}
+
+abbrev pub Text : Type 0
+Text = List ℕ

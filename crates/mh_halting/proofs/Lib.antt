@@ -1,0 +1,4 @@
+pub mod Finding
+pub mod Passing
+pub mod Trying
+pub mod Waiting

@@ -1,7 +1,0 @@
-use Rattle.std.proofs.Common.{take}
-use Rattle.mh_inline.specs.Found.{IsAmong}
-use Rattle.mh_inline.specs.Uses.{Lists}
-use Rattle.mh_inline.proofs.uses.list_side.Given as goal
-
-abbrev pub invariant-loop-part : goal.invariant-loop-part
-invariant-loop-part l = Lists (IsAmong l.expanded.instances (take l.part-index l.producers)) l.initial.list.items l.list.items

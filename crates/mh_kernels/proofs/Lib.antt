@@ -1,0 +1,4 @@
+pub mod Dotted
+pub mod Exact
+pub mod OneList
+pub mod Sides

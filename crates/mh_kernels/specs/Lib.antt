@@ -1,0 +1,6 @@
+pub mod Automaton
+pub mod Collection
+pub mod Conflicts
+pub mod Empties
+pub mod Kernels
+pub mod Shapes

@@ -1,0 +1,14 @@
+//! LR(1) kernels, what stands at their dots, and what every layer needs of an automaton.
+#![tactic(auto)]
+
+mod kernels;
+mod laws;
+mod places;
+mod starts;
+
+pub use kernels::{
+    Automaton, AutomatonWith, Closure, ItemWith, ItemsWith, Kernel, KernelItem, StatesFault,
+};
+pub use laws::{are_equal, one_list};
+pub use places::{behind, rest_from, symbol_at, symbol_in};
+pub use starts::start_kernel;

@@ -1,0 +1,7 @@
+pub mod Refusing
+pub mod Sampling
+pub mod Going
+pub mod Ready
+pub mod Apart
+pub mod Fronts
+pub mod OneFront

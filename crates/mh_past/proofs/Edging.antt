@@ -1,0 +1,83 @@
+-- Edges of a state, one by one.
+use Rattle.std.proofs.Common.{◌≡◌, ℕ, zero, suc, ◌<◌, ◌-◌, get_or, nat_lt, List, [], ◌∷◌, Bool, true, false, cond, length, Some, None, Option, refl, arith}
+use Rattle.std.specs.Prelude.{slice_get, slice_index, if◌then◌else◌}
+use Rattle.std.specs.Option.{option_map, unwrap_or}
+use Rattle.std.specs.List.{Contains, All}
+use Rattle.mh_grammar.specs.declared.types.Production.{Production}
+use Rattle.mh_grammar.specs.declared.types.Symbol.{Symbol}
+use Rattle.mh_grammar.specs.declared.types.Symbol.TheVariants.{T, N}
+use Rattle.mh_grammar.specs.declared.edges.Edge.{Edge}
+use Rattle.mh_grammar.specs.Edges.{find_edge, same_symbol}
+use Rattle.mh_grammar.specs.Plain.{rhs_of, IsSymbolBelow, IsProductionBelow}
+use Rattle.mh_grammar.proofs.EdgeOrder.{edge_found, same_is}
+use Rattle.mh_grammar.proofs.Placing.{at_contains}
+use Rattle.mh_tables.specs.Table.{TableData, state_at, edge_of}
+use Rattle.mh_tables.specs.Facts.{Facts}
+use Rattle.mh_tables.specs.Run.{Shifts, move_of}
+use Rattle.mh_tables.proofs.Reductions.{shifts_from_move}
+
+pub found_in : (es : List Edge) (x : Symbol) (u : ℕ) → find_edge es x ≡ Some u → Contains es (record { symbol = x; target = u })
+found_in [] x u e = absurd (let y : None ≡ Some u = e in cc)
+found_in (d ∷ es) x u e = by (same_symbol d.symbol x) refl e (λ h. found_in es x u h)
+  where
+    by : (b : Bool) → same_symbol d.symbol x ≡ b → cond b (Some d.target) (find_edge es x) ≡ Some u → (find_edge es x ≡ Some u → Contains es (record { symbol = x; target = u })) → Contains (d ∷ es) (record { symbol = x; target = u })
+    by true s h on =
+        let sx : d.symbol ≡ x = same_is d.symbol x s in
+        let tu : d.target ≡ u = (let y : Some d.target ≡ Some u = h in cc) in
+        let a : Edge = record { symbol = d.symbol; target = d.target } in
+        let b : Edge = record { symbol = x; target = u } in
+        let whole : a ≡ b = rw (sx, tu) refl in
+        (0, omega arith, whole)
+    by false s h on = let r = on h in (suc r.0, (let l = r.1 in omega arith), r.2)
+
+-- each edge of a state leads where it says
+pub edge_leads : (t : TableData) (f : Facts t) (s : ℕ) (e : Edge) → Contains (state_at t s).edges e → edge_of t s e.symbol ≡ Some e.target
+unfolding edge_of
+edge_leads t f s e there = let at = at_contains (state_at t s).edges e there in edge_found (state_at t s).edges at.0 e (f.ranges.order s) at.1
+
+pub edge_there : (t : TableData) (s : ℕ) (x : Symbol) (u : ℕ) → edge_of t s x ≡ Some u → Contains (state_at t s).edges (record { symbol = x; target = u })
+unfolding edge_of
+edge_there t s x u e = found_in (state_at t s).edges x u e
+
+pub known_nonterminal : (t : TableData) (f : Facts t) (s n u : ℕ) → edge_of t s (N n) ≡ Some u → n < t.grammar.nonterminals
+known_nonterminal t f s n u e = f.ranges.each_symbol s (N n) u e
+
+pub known_token : (t : TableData) (f : Facts t) (s z u : ℕ) → edge_of t s (T z) ≡ Some u → z < t.grammar.tokens
+known_token t f s z u e = f.ranges.each_symbol s (T z) u e
+
+pub one_shift : (x y : ℕ) → Shifts x ≡ Shifts y → x ≡ y
+one_shift x y e = cc
+
+pub shift_target : (t : TableData) (f : Facts t) (s x end : ℕ) → move_of t s (x ∷ []) ≡ Shifts end → edge_of t s (T x) ≡ Some end
+shift_target t f s x end move = f.shifts s x end (shifts_from_move t s x [] end move)
+
+all_get : {X : Type 0} (P : X → Type 0) (xs : List X) (n : ℕ) (x : X) → All P xs → slice_get xs n ≡ Some x → P x
+all_get P [] n x h e = absurd (let y : None ≡ Some x = e in cc)
+all_get P (y ∷ xs) n x h e = by n e
+  where
+    get : {X : Type 0} (xs : List X) (n : ℕ) (x : X) → slice_get xs n ≡ Some x → (n < length xs) × (get_or xs n x ≡ x)
+    get [] n x e = absurd (let y : None ≡ Some x = e in cc)
+    get (y ∷ xs) zero x e = (omega arith, (let z : Some y ≡ Some x = e in cc))
+    get (y ∷ xs) (suc n) x e = let r = get xs n x e in ((let l = r.0 in omega arith), r.1)
+
+    by : (n : ℕ) → slice_get (y ∷ xs) n ≡ Some x → P x
+    by n e = let g = get (y ∷ xs) n x e in let p : P (get_or (y ∷ xs) n x) = h n x g.0 in rw g.1 at p
+
+-- a token of a right side is known
+pub symbol_token : (t : TableData) (f : Facts t) (p d z : ℕ) → slice_get (rhs_of t.grammar p) d ≡ Some (T z) → z < t.grammar.tokens
+unfolding rhs_of
+symbol_token t f p d z e = by (nat_lt p (length t.grammar.starts)) e
+  where
+    one : (d n : ℕ) → slice_get (N n ∷ []) d ≡ Some (T z) → ⊥
+    one zero n h = (let y : Some (N n) ≡ Some (T z) = h in let w : N n ≡ T z = cc in cc)
+    one (suc d) n h = (let y : None ≡ Some (T z) = h in cc)
+
+    some : (o : Option Production) → slice_get t.grammar.productions (p - length t.grammar.starts) ≡ o → slice_get (unwrap_or (option_map (λ (q : Production). q.rhs) o) []) d ≡ Some (T z) → z < t.grammar.tokens
+    some None g h = absurd (let y : None ≡ Some (T z) = h in cc)
+    some (Some q) g h =
+        let ok = all_get (IsProductionBelow t.grammar.tokens t.grammar.nonterminals) t.grammar.productions (p - length t.grammar.starts) q f.ranges.grammar.productions g in
+        all_get (IsSymbolBelow t.grammar.tokens t.grammar.nonterminals) q.rhs d (T z) ok.rhs h
+
+    by : (b : Bool) → slice_get (if b then N (slice_index t.grammar.starts p) ∷ [] else unwrap_or (option_map (λ (q : Production). q.rhs) (slice_get t.grammar.productions (p - length t.grammar.starts))) []) d ≡ Some (T z) → z < t.grammar.tokens
+    by true h = absurd (one d (slice_index t.grammar.starts p) h)
+    by false h = some (slice_get t.grammar.productions (p - length t.grammar.starts)) refl h

@@ -1,0 +1,6 @@
+use Rattle.mh_past.specs.Past.{Collects, PastOne}
+use Rattle.mh_past.proofs.Collecting.{FirstOf}
+use Rattle.mh_past.proofs.past.note_each.Given as goal
+
+abbrev pub invariant-loop-production : goal.invariant-loop-production
+invariant-loop-production l = Collects (FirstOf (λ p r. PastOne l.table l.from l.target p r) l.productions l.production-index) l.fn.past.keys l.past.keys

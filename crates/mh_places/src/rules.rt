@@ -1,0 +1,498 @@
+//! Rules but for their actuals.
+ghost use Rattle.std.specs.Prelude.{◌≡◌, ◌∷◌, ◌++◌, [], IfOk, Some, map};
+ghost use Rattle.mh_places.specs.Spelling as spelling;
+ghost use Rattle.mh_places.specs.Spelling.{ref_by, with_prec};
+ghost use Rattle.mh_places.specs.Machine as machine;
+ghost use Rattle.mh_places.specs.Machine.{Refers, ruled, grouped, grouped_with, produced, drafted, named, with_formal};
+
+use crate::places::{Draft, Place, Purpose, Reader, Refusal, go_to, no_memory, unexpected};
+use crate::signs::Sign;
+use crate::stack::Stack;
+use mh_grammar::{Memory, Name, Sequence, from_bytes};
+use mh_rules::{Alternative, Module, Ref, Rule};
+use std::alloc::Global;
+use std::mem;
+
+/// What a word or a string refers to.
+pub fn reference(alloc: Global, sign: Sign, text: &[u8]) -> Result<Ref, Refusal>
+    ensures { Refers (ref_by sign text.now) result }
+{
+    let name = from_bytes(alloc, text)?;
+    match sign {
+        Sign::Word => Ok(Ref::Plain(name)),
+        Sign::Quoted => Ok(Ref::Alias(name)),
+        _ => Err(Refusal::Unexpected),
+    }
+}
+
+/// A rule of this name begins.
+fn name_rule(
+    alloc: Global,
+    made: Module,
+    public: bool,
+    inlined: bool,
+    text: &[u8],
+) -> Result<Reader, Refusal>
+    ensures { Refers (machine.goes made (machine.name_place public inlined text.now)) result }
+{
+    match from_bytes(alloc, text) {
+        Ok(name) => go_to(
+            made,
+            Place::RuleNamed(Rule {
+                public,
+                inlined,
+                name,
+                formals: Sequence::new(alloc),
+                alternatives: Sequence::new(alloc),
+            }),
+        ),
+        Err(_) => no_memory(made),
+    }
+}
+
+/// Where a rule may begin.
+pub fn in_rules(alloc: Global, made: Module, sign: Sign, text: &[u8]) -> Result<Reader, Refusal>
+    ensures { Refers (machine.in_rules made sign text.now) result }
+{
+    match sign {
+        Sign::Word => name_rule(alloc, made, false, false, text),
+        Sign::Public => go_to(made, Place::Modified(true, false)),
+        Sign::Inline => go_to(made, Place::Modified(false, true)),
+        Sign::Percents => go_to(made, Place::Ended),
+        _ => unexpected(made),
+    }
+}
+
+/// Behind modifiers.
+pub fn at_modified(
+    alloc: Global,
+    made: Module,
+    public: bool,
+    inlined: bool,
+    sign: Sign,
+    text: &[u8],
+) -> Result<Reader, Refusal>
+    ensures { Refers (machine.at_modified made public inlined sign text.now) result }
+{
+    match sign {
+        Sign::Word => name_rule(alloc, made, public, inlined, text),
+        Sign::Public => go_to(made, Place::Modified(true, inlined)),
+        Sign::Inline => go_to(made, Place::Modified(public, true)),
+        _ => unexpected(made),
+    }
+}
+
+/// Behind a rule's name.
+pub fn at_rule_named(made: Module, rule: Rule, sign: Sign) -> Result<Reader, Refusal>
+    ensures { Refers (machine.at_rule_named made rule sign) result }
+{
+    match sign {
+        Sign::Open => go_to(made, Place::FormalsOpen(rule)),
+        Sign::Colon => go_to(made, Place::Begin(rule)),
+        _ => unexpected((made, rule)),
+    }
+}
+
+/// The rule with one more formal.
+fn with_formal_of(alloc: Global, rule: Rule, text: &[u8]) -> Result<Rule, Memory>
+    ensures { IfOk result (λ r. r ≡ with_formal rule text.now) }
+{
+    let mut rule = rule;
+    let name = from_bytes(alloc, text)?;
+    rule.formals.push(name)?;
+    Ok(rule)
+}
+
+/// A formal.
+fn add_formal(alloc: Global, made: Module, rule: Rule, text: &[u8]) -> Result<Reader, Refusal>
+    ensures { Refers (machine.goes made (machine.formal_place rule text.now)) result }
+{
+    match with_formal_of(alloc, rule, text) {
+        Ok(rule) => go_to(made, Place::FormalRead(rule)),
+        Err(_) => no_memory(made),
+    }
+}
+
+/// Behind the bracket of formals.
+pub fn at_formals_open(
+    alloc: Global,
+    made: Module,
+    rule: Rule,
+    sign: Sign,
+    text: &[u8],
+) -> Result<Reader, Refusal>
+    ensures { Refers (machine.at_formals_open made rule sign text.now) result }
+{
+    match sign {
+        Sign::Word => add_formal(alloc, made, rule, text),
+        Sign::Close => go_to(made, Place::FormalsClosed(rule)),
+        _ => unexpected((made, rule)),
+    }
+}
+
+/// Behind a formal.
+pub fn at_formal_read(made: Module, rule: Rule, sign: Sign) -> Result<Reader, Refusal>
+    ensures { Refers (machine.at_formal_read made rule sign) result }
+{
+    match sign {
+        Sign::Comma => go_to(made, Place::FormalComma(rule)),
+        Sign::Close => go_to(made, Place::FormalsClosed(rule)),
+        _ => unexpected((made, rule)),
+    }
+}
+
+/// Behind a comma of formals.
+pub fn at_formal_comma(
+    alloc: Global,
+    made: Module,
+    rule: Rule,
+    sign: Sign,
+    text: &[u8],
+) -> Result<Reader, Refusal>
+    ensures { Refers (machine.at_formal_comma made rule sign text.now) result }
+{
+    match sign {
+        Sign::Word => add_formal(alloc, made, rule, text),
+        _ => unexpected((made, rule)),
+    }
+}
+
+/// Behind formals.
+pub fn at_formals_closed(made: Module, rule: Rule, sign: Sign) -> Result<Reader, Refusal>
+    ensures { Refers (machine.at_formals_closed made rule sign) result }
+{
+    match sign {
+        Sign::Colon => go_to(made, Place::Begin(rule)),
+        _ => unexpected((made, rule)),
+    }
+}
+
+/// A group begins.
+fn draft_of(alloc: Global, rule: Rule) -> Draft
+    ensures { result ≡ drafted rule }
+{
+    Draft {
+        rule,
+        productions: Sequence::new(alloc),
+        producers: Sequence::new(alloc),
+    }
+}
+
+/// A production ends.
+fn end_production(alloc: Global, draft: Draft, prec: Option<Ref>) -> Result<Draft, Memory>
+    ensures { IfOk result (λ d. d ≡ produced draft prec) }
+{
+    let mut draft = draft;
+    let producers = mem::replace(&mut draft.producers, Sequence::new(alloc));
+    draft.productions.push(Alternative { producers, prec })?;
+    Ok(draft)
+}
+
+/// A production ends at a bar.
+fn end_at_bar(alloc: Global, made: Module, draft: Draft) -> Result<Reader, Refusal>
+    ensures { Refers (machine.goes made (machine.bar_place draft)) result }
+{
+    match end_production(alloc, draft, None) {
+        Ok(draft) => go_to(made, Place::Production(draft)),
+        Err(_) => no_memory(made),
+    }
+}
+
+/// A production ends at the action of its group.
+fn end_at_action(alloc: Global, made: Module, draft: Draft) -> Result<Reader, Refusal>
+    ensures { Refers (machine.goes made (machine.action_place draft)) result }
+{
+    match end_production(alloc, draft, None) {
+        Ok(draft) => go_to(made, Place::Group(draft)),
+        Err(_) => no_memory(made),
+    }
+}
+
+/// In a production.
+pub fn in_production(
+    alloc: Global,
+    made: Module,
+    draft: Draft,
+    sign: Sign,
+    text: &[u8],
+) -> Result<Reader, Refusal>
+    ensures { Refers (machine.in_production made draft sign text.now) result }
+{
+    match sign {
+        Sign::Word => match from_bytes(alloc, text) {
+            Ok(name) => go_to(made, Place::Named(draft, name)),
+            Err(_) => no_memory((made, draft)),
+        },
+        Sign::Quoted => match from_bytes(alloc, text) {
+            Ok(name) => {
+                let purpose = Purpose::Producer(draft);
+                let head = Ref::Alias(name);
+                go_to(made, Place::Head(purpose, Stack::new(alloc), head))
+            }
+            Err(_) => no_memory((made, draft)),
+        },
+        Sign::Prec => go_to(made, Place::Prec(draft)),
+        Sign::Bar => end_at_bar(alloc, made, draft),
+        Sign::Action => end_at_action(alloc, made, draft),
+        _ => unexpected((made, draft)),
+    }
+}
+
+/// Behind a rule's colon.
+pub fn at_begin(
+    alloc: Global,
+    made: Module,
+    rule: Rule,
+    sign: Sign,
+    text: &[u8],
+) -> Result<Reader, Refusal>
+    ensures { Refers (machine.at_begin made rule sign text.now) result }
+{
+    let begun = draft_of(alloc, rule);
+    match sign {
+        Sign::Bar => go_to(made, Place::Production(begun)),
+        _ => in_production(alloc, made, begun, sign, text),
+    }
+}
+
+/// Behind a producer.
+pub fn at_spaced(
+    alloc: Global,
+    made: Module,
+    draft: Draft,
+    sign: Sign,
+    text: &[u8],
+) -> Result<Reader, Refusal>
+    ensures { Refers (machine.at_spaced made draft sign text.now) result }
+{
+    match sign {
+        Sign::Semicolon => go_to(made, Place::Spaced(draft)),
+        _ => in_production(alloc, made, draft, sign, text),
+    }
+}
+
+/// Behind a production's `%prec`.
+pub fn at_prec(
+    alloc: Global,
+    made: Module,
+    draft: Draft,
+    sign: Sign,
+    text: &[u8],
+) -> Result<Reader, Refusal>
+    ensures { Refers (machine.at_prec made draft (ref_by sign text.now)) result }
+{
+    match reference(alloc, sign, text) {
+        Ok(prec) => {
+            match end_production(alloc, draft, Some(prec)) {
+                Ok(draft) => go_to(made, Place::Closed(draft)),
+                Err(_) => no_memory(made),
+            }
+        }
+        Err(Refusal::Unexpected) => unexpected((made, draft)),
+        Err(Refusal::Memory) => no_memory((made, draft)),
+    }
+}
+
+/// Behind a production that has a `%prec`.
+pub fn at_closed(alloc: Global, made: Module, draft: Draft, sign: Sign) -> Result<Reader, Refusal>
+    ensures { Refers (machine.at_closed made draft sign) result }
+{
+    match sign {
+        Sign::Bar => go_to(
+            made,
+            Place::Production(Draft {
+                producers: Sequence::new(alloc),
+                ..draft
+            }),
+        ),
+        Sign::Action => go_to(made, Place::Group(draft)),
+        _ => unexpected((made, draft)),
+    }
+}
+
+/// Adds alternatives behind others.
+fn joined(
+    all: Sequence<Alternative>,
+    more: Sequence<Alternative>,
+) -> Result<Sequence<Alternative>, Memory>
+    ensures { IfOk result (λ s. s ≡ all ++ more) }
+{
+    let mut items = all.into_vec();
+    let mut last = more.into_vec();
+    items.append(&mut last)?;
+    Ok(Sequence::from_vec(items))
+}
+
+/// The rule with a group of these productions.
+fn with_group(rule: Rule, productions: Sequence<Alternative>) -> Result<Rule, Memory>
+    ensures { IfOk result (λ r. r ≡ record rule { alternatives = rule.alternatives ++ productions }) }
+{
+    let alternatives = joined(rule.alternatives, productions)?;
+    Ok(Rule {
+        public: rule.public,
+        inlined: rule.inlined,
+        name: rule.name,
+        formals: rule.formals,
+        alternatives,
+    })
+}
+
+/// The rule with the group that ends here.
+pub fn group_of(draft: Draft) -> Result<Rule, Memory>
+    ensures { IfOk result (λ r. r ≡ grouped draft) }
+{
+    with_group(draft.rule, draft.productions)
+}
+
+/// The module with the rule that ends here.
+pub fn add_rule(made: Module, rule: Rule) -> Result<Module, Memory>
+    ensures { IfOk result (λ m. m ≡ ruled made rule) }
+{
+    let mut made = made;
+    made.rules.push(rule)?;
+    Ok(made)
+}
+
+/// Behind a group.
+pub fn behind_group(
+    alloc: Global,
+    made: Module,
+    rule: Rule,
+    sign: Sign,
+    text: &[u8],
+) -> Result<Reader, Refusal>
+    ensures { Refers (machine.behind_group made rule sign text.now) result }
+{
+    match sign {
+        Sign::Bar => go_to(made, Place::Production(draft_of(alloc, rule))),
+        Sign::Semicolon => {
+            let made = add_rule(made, rule)?;
+            go_to(made, Place::RuleEnd)
+        }
+        _ => {
+            let made = add_rule(made, rule)?;
+            in_rules(alloc, made, sign, text)
+        }
+    }
+}
+
+/// Behind a group's action, where its `%prec` may stand.
+pub fn at_group(
+    alloc: Global,
+    made: Module,
+    draft: Draft,
+    sign: Sign,
+    text: &[u8],
+) -> Result<Reader, Refusal>
+    ensures { Refers (machine.at_group made draft sign text.now) result }
+{
+    match sign {
+        Sign::Prec => go_to(made, Place::GroupPrec(draft)),
+        _ => {
+            match group_of(draft) {
+                Ok(rule) => behind_group(alloc, made, rule, sign, text),
+                Err(_) => no_memory(made),
+            }
+        }
+    }
+}
+
+fn copied(alloc: Global, name: &Name) -> Result<Name, Memory>
+    ensures { IfOk result (λ copy. copy ≡ name.now) }
+{
+    from_bytes(alloc, name.as_slice())
+}
+
+fn copied_ref(alloc: Global, found: &Ref) -> Result<Ref, Memory>
+    ensures { IfOk result (λ copy. copy ≡ found.now) }
+{
+    match found {
+        Ref::Plain(name) => {
+            let copy = copied(alloc, name)?;
+            Ok(Ref::Plain(copy))
+        }
+        Ref::Alias(name) => {
+            let copy = copied(alloc, name)?;
+            Ok(Ref::Alias(copy))
+        }
+    }
+}
+
+/// A production's own level, else its group's.
+fn own_or(alloc: Global, group: &Ref, prec: Option<Ref>) -> Result<Option<Ref>, Memory>
+    ensures { IfOk result (λ own. own ≡ spelling.own_or (Some group.now) prec) }
+{
+    match prec {
+        Some(own) => Ok(Some(own)),
+        None => {
+            let copy = copied_ref(alloc, group)?;
+            Ok(Some(copy))
+        }
+    }
+}
+
+/// The group's level goes to a production without its own.
+fn levelled_one(alloc: Global, production: Alternative, group: &Ref) -> Result<Alternative, Memory>
+    ensures { IfOk result (λ p. p ≡ with_prec (Some group.now) production) }
+{
+    let prec = own_or(alloc, group, production.prec)?;
+    Ok(Alternative {
+        producers: production.producers,
+        prec,
+    })
+}
+
+/// The group's level goes to each production without its own.
+fn levelled(
+    alloc: Global,
+    productions: Sequence<Alternative>,
+    group: &Ref,
+) -> Result<Sequence<Alternative>, Memory>
+    ensures { IfOk result (λ all. all ≡ map (with_prec (Some group.now)) productions) }
+{
+    let mut all = Sequence::new(alloc);
+    for production in productions.into_vec() {
+        all.push(levelled_one(alloc, production, group)?)?;
+    }
+    Ok(all)
+}
+
+/// The rule with a group of this level.
+fn levelled_group(alloc: Global, draft: Draft, group: &Ref) -> Result<Rule, Memory>
+    ensures { IfOk result (λ r. r ≡ grouped_with draft group.now) }
+{
+    let productions = levelled(alloc, draft.productions, group)?;
+    with_group(draft.rule, productions)
+}
+
+/// Behind a group's `%prec`.
+pub fn at_group_prec(
+    alloc: Global,
+    made: Module,
+    draft: Draft,
+    sign: Sign,
+    text: &[u8],
+) -> Result<Reader, Refusal>
+    ensures { Refers (machine.at_group_prec made draft (ref_by sign text.now)) result }
+{
+    match reference(alloc, sign, text) {
+        Ok(prec) => {
+            match levelled_group(alloc, draft, &prec) {
+                Ok(rule) => go_to(made, Place::GroupClosed(rule)),
+                Err(_) => no_memory(made),
+            }
+        }
+        Err(Refusal::Unexpected) => unexpected((made, draft)),
+        Err(Refusal::Memory) => no_memory((made, draft)),
+    }
+}
+
+/// Behind a rule that a semicolon ended.
+pub fn at_rule_end(alloc: Global, made: Module, sign: Sign, text: &[u8]) -> Result<Reader, Refusal>
+    ensures { Refers (machine.at_rule_end made sign text.now) result }
+{
+    match sign {
+        Sign::Semicolon => go_to(made, Place::RuleEnd),
+        _ => in_rules(alloc, made, sign, text),
+    }
+}

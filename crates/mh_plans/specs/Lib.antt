@@ -1,0 +1,10 @@
+pub mod Verdicts
+pub mod Told
+pub mod Compared
+pub mod Explained
+pub mod MessagesStage
+pub mod Listing
+pub mod Sampled
+pub mod Plan
+pub mod Files
+pub mod Modes

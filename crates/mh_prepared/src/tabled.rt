@@ -1,0 +1,19 @@
+//! The automaton of a grammar with its table, and the list of its conflicts.
+use mh_cells::{Conflict, Mode};
+use mh_grammar::Sequence;
+use mh_kernels::AutomatonWith;
+use mh_sets::TokenSet;
+use mh_tables::Halting;
+
+/// The automaton of a grammar, its table, and the list of its conflicts.
+#[derive(Drop)]
+pub struct TabledWith<L> {
+    pub automaton: AutomatonWith<L>,
+    pub halting: Halting,
+    pub conflicts: Sequence<Conflict>,
+    /// The one that its table was resolved in.
+    pub mode: Mode,
+}
+
+/// One whose sets of tokens have a width.
+pub type Tabled<const W: usize> = TabledWith<TokenSet<W>>;

@@ -1,7 +1,0 @@
-use Rattle.mh_grammar.specs.Plain.{plain_of}
-use Rattle.mh_items.specs.Closer.{IsCloser}
-use Rattle.mh_resolve.proofs.Resolving.{Front, Collected}
-use Rattle.mh_resolve.proofs.resolution.resolve_states.Given as goal
-
-abbrev pub invariant-loop-state : goal.invariant-loop-state
-invariant-loop-state g l = Front l.grammar l.automaton l.mode l.state l.states.items × Collected l.grammar l.automaton l.state l.conflicts.items × IsCloser (plain_of l.grammar) l.closer

@@ -1,0 +1,52 @@
+//! The list of conflicts, state after state.
+ghost use Rattle.std.specs.Prelude.{◌≡◌, ◌<◌, ◌^◌, ◌++◌, length, OnOk, OnErr};
+ghost use Rattle.mh_cells.specs.Conflicts.{found_on, row_conflicts};
+
+use crate::states::Row;
+use mh_cells::{Conflict, ConflictKind};
+use mh_grammar::{Look, Memory};
+
+fn add_found(
+    conflicts: &mut Vec<Conflict>,
+    state: u32,
+    look: Look,
+    kind: Option<ConflictKind>,
+) -> Result<(), Memory>
+    ensures { OnOk result (conflicts.new.items ≡ conflicts.old.items ++ found_on state look kind) }
+{
+    match kind {
+        Some(kind) => match conflicts.push(Conflict { state, look, kind }) {
+            Ok(()) => Ok(()),
+            Err(_) => Err(Memory),
+        },
+        None => Ok(()),
+    }
+}
+
+fn stream_kind(stream: bool) -> Option<ConflictKind>
+    ensures { result ≡ Rattle.mh_cells.specs.Conflicts.stream_kind stream }
+{
+    if stream {
+        Some(ConflictKind::Stream)
+    } else {
+        None
+    }
+}
+
+/// Adds the conflicts of a state: by token, at the end of the stream, and the conflict of the end.
+pub(crate) fn add_conflicts(
+    conflicts: &mut Vec<Conflict>,
+    state: u32,
+    row: &Row,
+) -> Result<(), Memory>
+    requires { length row.now.cells < 2 ^ 16 }
+    ensures { OnOk result (conflicts.new.items ≡ conflicts.old.items ++ row_conflicts state row.now.cells row.now.last row.now.stream) }
+{
+    for token in 0..row.cells.len() {
+        let kind = row.cells[token].kind;
+        add_found(conflicts, state, Look::Token(token as u16), kind)?;
+    }
+    add_found(conflicts, state, Look::End, row.last.kind)?;
+    add_found(conflicts, state, Look::End, stream_kind(row.stream))?;
+    Ok(())
+}

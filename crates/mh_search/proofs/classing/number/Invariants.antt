@@ -1,6 +1,0 @@
-use Rattle.std.proofs.Common.{◌≡◌, []}
-use Rattle.mh_search.proofs.Parting.{NumberedTo}
-use Rattle.mh_search.proofs.classing.number.Given as goal
-
-abbrev pub invariant-loop-state : goal.invariant-loop-state
-invariant-loop-state l = NumberedTo l.table (l.given ≡ []) l.rows.items l.lists.items l.state l.places

@@ -1,6 +1,0 @@
-use Rattle.mh_search.specs.Past.{Collects, PastOne}
-use Rattle.mh_search.proofs.Collecting.{FirstOf}
-use Rattle.mh_search.proofs.past.note_each.Given as goal
-
-abbrev pub invariant-loop-production : goal.invariant-loop-production
-invariant-loop-production l = Collects (FirstOf (λ p r. PastOne l.table l.from l.target p r) l.productions l.production-index) l.fn.past.keys l.past.keys

@@ -1,0 +1,51 @@
+//! The table as a file of its own.
+ghost use Rattle.std.specs.Prelude.{◌≡◌, ◌≤◌, IfOk};
+ghost use Rattle.mh_prepared.specs.Prepared.{IsFit};
+ghost use Rattle.mh_plans.specs.Plan.{tables_of};
+
+use mh_drive::{Stop, write_text};
+use mh_grammar::{Memory, Sequence};
+use mh_outside::Sink;
+use mh_plans::Writer;
+use mh_prepared::Prepared;
+use mh_tabwriter::write_tables;
+use std::alloc::Global;
+
+/// What writes the table file.
+#[derive(Drop)]
+pub struct Exporting<'a, const W: usize> {
+    pub prepared: &'a Prepared<W>,
+}
+
+/// The text of the table file.
+fn exported<const W: usize>(alloc: Global, prepared: &Prepared<W>) -> Result<Sequence<u8>, Memory>
+    requires few { W ≤ 8 }
+    requires fit { IsFit prepared.now }
+    ensures { IfOk result (λ text. text ≡ tables_of prepared.now) }
+{
+    let text = write_tables(
+        alloc,
+        &prepared.grammar,
+        &prepared.tabled.automaton,
+        prepared.tabled.halting.table(),
+        prepared.tabled.mode,
+    )?;
+    Ok(Sequence::from_vec(text))
+}
+
+impl<const W: usize> Writer for Exporting<'_, W> {
+    ghost use Rattle.std.specs.Prelude.{◌≤◌};
+    ghost use Rattle.mh_plans.specs.Plan.{Known, tables_of};
+    ghost use Rattle.mh_plans.specs.Told.{ending_of};
+    ghost use Rattle.mh_plans.specs.declared.at_end.Told.TheVariants.{Said};
+    ghost use Rattle.mh_prepared.specs.Prepared.{IsFit};
+
+    ghost is_ready = { λ s. (W ≤ 8) × IsFit s.prepared.now };
+
+    ghost end = { λ s. Known (ending_of (Said (tables_of s.prepared.now))) };
+
+    fn write<O: Sink>(self, alloc: Global, out: &mut O) -> Result<(), Stop> {
+        let text = exported(alloc, self.prepared)?;
+        write_text(out, text.as_slice())
+    }
+}

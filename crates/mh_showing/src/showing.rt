@@ -1,0 +1,50 @@
+//! The automaton as text.
+ghost use Rattle.std.specs.Prelude.{◌≤◌, IfOk};
+ghost use Rattle.mh_report.specs.Automata.{IsAutomatonText};
+ghost use Rattle.mh_prepared.specs.Prepared.{IsFit};
+
+use mh_drive::{Stop, write_text};
+use mh_grammar::{Memory, Sequence};
+use mh_outside::Sink;
+use mh_plans::Writer;
+use mh_prepared::Prepared;
+use mh_report::automaton_text;
+use std::alloc::Global;
+
+/// What writes the automaton.
+#[derive(Drop)]
+pub struct Showing<'a, const W: usize> {
+    pub prepared: &'a Prepared<W>,
+}
+
+/// The text of the automaton.
+fn shown<const W: usize>(alloc: Global, prepared: &Prepared<W>) -> Result<Sequence<u8>, Memory>
+    requires few { W ≤ 8 }
+    requires fit { IsFit prepared.now }
+    ensures { IfOk result (λ text. IsAutomatonText prepared.now.grammar prepared.now.tabled.automaton
+        prepared.now.tabled.mode prepared.now.tabled.halting text) }
+{
+    let text = automaton_text(
+        alloc,
+        &prepared.grammar,
+        &prepared.tabled.automaton,
+        &prepared.tabled.halting,
+        prepared.tabled.mode,
+    )?;
+    Ok(Sequence::from_vec(text))
+}
+
+impl<'a, const W: usize> Writer for Showing<'a, W> {
+    ghost use Rattle.std.specs.Prelude.{◌≤◌};
+    ghost use Rattle.mh_plans.specs.Plan.{Automaton as Automaton'};
+    ghost use Rattle.mh_prepared.specs.Prepared.{IsFit};
+
+    ghost is_ready = { λ s. (W ≤ 8) × IsFit s.prepared.now };
+
+    ghost end = { λ s. Automaton' s.prepared.now };
+
+    fn write<O: Sink>(self, alloc: Global, out: &mut O) -> Result<(), Stop> {
+        let text = shown(alloc, self.prepared)?;
+        write_text(out, text.as_slice())
+    }
+}

@@ -1,4 +1,0 @@
-pub mod Form
-pub mod Reading
-pub mod Written
-pub mod code

@@ -1,4 +1,0 @@
-pub mod Lines
-pub mod Machine
-pub mod Texts
-pub mod Words

@@ -1,0 +1,7 @@
+pub mod Again
+pub mod Cuts
+pub mod Exact
+pub mod OneFault
+pub mod Only
+pub mod Sound
+pub mod Tellings

@@ -1,0 +1,11 @@
+//! Table files, read: the table that a file spells, or its first line that is not of the form.
+#![tactic(auto)]
+
+mod advance;
+mod laws;
+mod places;
+mod reading;
+mod words;
+
+pub use laws::{content_is_one, fault_is_one};
+pub use reading::{TabFault, read_tables};

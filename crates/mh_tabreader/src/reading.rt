@@ -1,0 +1,182 @@
+//! Table files, read.
+ghost use Rattle.std.specs.Prelude.{◌≡◌, ◌<◌, ◌≤◌, ◌+◌, ◌^◌, ◌==◌, ℕ, max, map, length, IfOk, Err, Ok, ◌⊎◌};
+ghost use Rattle.std.specs.List.{slice_split};
+ghost use Rattle.mh_tabform.specs.declared.types.RawTable.{RawTable as Raw};
+ghost use Rattle.mh_tabform.specs.Form.{IsFileOf};
+ghost use Rattle.mh_tabreader.specs.Reading.{IsOtherVersion, IsReading};
+ghost use Rattle.mh_tabreader.specs.code.Machine.{start, finish};
+ghost use Rattle.mh_tabreader.specs.code.Words;
+ghost use Rattle.mh_tabreader.specs.code.Lines;
+ghost use Rattle.mh_tabreader.specs.code.Lines.{lines_in, Reaches, EndsAt, is_other_head as is_head_of_other};
+
+use crate::advance::{Refusal, advance};
+use crate::places::{Place, Reader};
+use crate::words::{is_word, mode_in, number_of};
+use mh_cells::Mode;
+use mh_grammar::Sequence;
+use mh_tabform::RawTable;
+use std::alloc::{AllocError, Global};
+
+/// Why bytes are no table file.
+#[derive(Clone, Copy, Debug, Drop, PartialEq, Eq)]
+pub enum TabFault {
+    /// The file is of another version.
+    Version,
+    /// The first line that is not of the form that its place demands, counted from 1.
+    TabShape { line: u32 },
+    /// Memory ran out.
+    Memory,
+}
+
+/// The parts between separators.
+fn cut(alloc: Global, bytes: &[u8], separator: u8) -> Result<Vec<&[u8]>, AllocError>
+    ensures { IfOk result (λ v. map (λ x. x.now) v.items ≡ slice_split (λ b. b == separator) bytes.now) }
+{
+    bytes.split(|byte| *byte == separator).collect(alloc)
+}
+
+fn is_other_number(word: &[u8]) -> bool
+    ensures { result ≡ Lines.is_other_number (Words.number_of word.now) }
+{
+    match number_of(word) {
+        None => false,
+        Some(number) => number != 1 && number != 2,
+    }
+}
+
+fn is_mode(word: &[u8]) -> bool
+    ensures { result ≡ Lines.is_mode (Words.mode_of word.now) }
+{
+    mode_in(word).is_some()
+}
+
+fn are_other(word: &[u8], version: &[u8], mode: &[u8]) -> bool
+    ensures { result ≡ Lines.are_other word.now version.now mode.now }
+{
+    if is_word(word, b"menhir-tables") {
+        if is_other_number(version) {
+            is_mode(mode)
+        } else {
+            false
+        }
+    } else {
+        false
+    }
+}
+
+#[tactic(auto, unfolding(crate::specs::code::Lines::is_other_head))]
+fn is_other_head(words: &[&[u8]]) -> bool
+    ensures { result ≡ is_head_of_other (map (λ w. w.now) words.now) }
+{
+    match words {
+        [word, version, mode] => are_other(word, version, mode),
+        _ => false,
+    }
+}
+
+fn fresh(alloc: Global) -> Reader
+    ensures { result ≡ start }
+{
+    Reader {
+        mode: Mode::Merged,
+        tokens: Sequence::new(alloc),
+        costs: None,
+        starts: Sequence::new(alloc),
+        productions: Sequence::new(alloc),
+        states: Sequence::new(alloc),
+        items: Sequence::new(alloc),
+        edges: Sequence::new(alloc),
+        cells: Sequence::new(alloc),
+        place: Place::Head,
+    }
+}
+
+/// Reads lines.
+fn read_lines(alloc: Global, parts: &[&[u8]]) -> Result<Reader, TabFault>
+    requires { length parts.now < 2 ^ 32 }
+    ensures { Reaches (lines_in (map (λ x. x.now) parts.now)) result }
+{
+    let mut reader = fresh(alloc);
+    for (at, part) in parts.iter().enumerate() {
+        let Ok(words) = cut(alloc, part, b' ') else {
+            return Err(TabFault::Memory);
+        };
+        match advance(alloc, &mut reader, words.as_slice()) {
+            Ok(()) => {}
+            Err(Refusal::Unexpected) => {
+                return Err(TabFault::TabShape {
+                    line: at as u32 + 1,
+                });
+            }
+            Err(Refusal::Memory) => return Err(TabFault::Memory),
+        }
+    }
+    Ok(reader)
+}
+
+/// The table, where the file may end here.
+#[tactic(auto, unfolding(crate::specs::code::Machine::finish))]
+fn ended(reader: Reader, line: u32) -> Result<RawTable, TabFault>
+    ensures { EndsAt (finish reader) line result }
+{
+    match reader.place {
+        Place::Ended => Ok(RawTable {
+            mode: reader.mode,
+            tokens: reader.tokens,
+            costs: reader.costs,
+            starts: reader.starts,
+            productions: reader.productions,
+            states: reader.states,
+        }),
+        _ => Err(TabFault::TabShape { line }),
+    }
+}
+
+/// The table of a file that is cut into its lines and what stands behind the last LF.
+fn read_parts(alloc: Global, bytes: &[u8], parts: &[&[u8]]) -> Result<RawTable, TabFault>
+    requires cut { map (λ x. x.now) parts.now ≡ slice_split (λ b. b == 10) bytes.now }
+    requires some { 0 < length parts.now }
+    requires few { length parts.now < 2 ^ 32 }
+    ensures reading { IsReading bytes.now result }
+    ensures other { IsOtherVersion bytes.now → (result ≡ Err TabFault.Version) ⊎ (result ≡ Err TabFault.Memory) }
+{
+    let _bytes = bytes;
+    let count = parts.len() - 1;
+    let Ok(head) = cut(alloc, parts[0], b' ') else {
+        return Err(TabFault::Memory);
+    };
+    if is_other_head(head.as_slice()) {
+        return Err(TabFault::Version);
+    }
+    let reader = match read_lines(alloc, &parts[..count]) {
+        Ok(reader) => reader,
+        Err(fault) => return Err(fault),
+    };
+    if parts[count].len() > 0 {
+        return Err(TabFault::TabShape {
+            line: count as u32 + 1,
+        });
+    }
+    ended(reader, line_of(count as u32))
+}
+
+/// The last line of so many, and 1 where there is none.
+fn line_of(count: u32) -> u32
+    ensures { result ≡ max 1 count }
+{
+    if count == 0 { 1 } else { count }
+}
+
+/// What a table file says; or that it is of another version; or the first of its lines that is not of the form that its
+/// place demands.
+pub fn read_tables(alloc: Global, bytes: &[u8]) -> Result<RawTable, TabFault>
+    requires { length bytes.now < 2 ^ 31 }
+    ensures reading { IsReading bytes.now result }
+    ensures other { IsOtherVersion bytes.now → (result ≡ Err TabFault.Version) ⊎ (result ≡ Err TabFault.Memory) }
+    ensures only { (raw : Raw) → IsFileOf bytes.now raw → (result ≡ Ok raw) ⊎ (result ≡ Err TabFault.Memory) }
+{
+    let Ok(parts) = cut(alloc, bytes, b'\n') else {
+        return Err(TabFault::Memory);
+    };
+    read_parts(alloc, bytes, parts.as_slice())
+}
