@@ -80,11 +80,6 @@ state 0
 menhir: warning: end-of-stream conflict in state 7
 ";
 
-#[test]
-fn merged_automata(rt: HostRuntime) -> Result<(), Fail> {
-    check_cases(&rt, rt.alloc(), MERGED)
-}
-
 const TEXTS: &str = "0 --show-automaton --canonical g.mly
 ~
 g.mly
@@ -212,11 +207,6 @@ state 11
   default: reduce q -> x B
 ~
 ";
-
-#[test]
-fn texts_of_automata(rt: HostRuntime) -> Result<(), Fail> {
-    check_cases(&rt, rt.alloc(), TEXTS)
-}
 
 // A token that a level refuses; a production that is reduced on errors, and the same where none is; the end of the stream,
 // given up for a token.
@@ -367,11 +357,6 @@ state 4
 ~
 menhir: warning: end-of-stream conflict in state 2
 ";
-
-#[test]
-fn cells_of_automata(rt: HostRuntime) -> Result<(), Fail> {
-    check_cases(&rt, rt.alloc(), CELLS)
-}
 
 // Two uses of one rule before different tokens; sums by rules and by levels; branches by levels; a file as users write
 // it.
@@ -561,7 +546,11 @@ state 0
 "#;
 
 #[test]
-fn counts_of_states(rt: HostRuntime) -> Result<(), Fail> {
-    check_cases(&rt, rt.alloc(), COUNTS)?;
-    check_cases(&rt, rt.alloc(), MERGED_COUNTS)
+fn texts_of_automata(rt: HostRuntime) -> Result<(), Fail> {
+    let alloc = rt.alloc();
+    check_cases(&rt, alloc, MERGED)?;
+    check_cases(&rt, alloc, TEXTS)?;
+    check_cases(&rt, alloc, CELLS)?;
+    check_cases(&rt, alloc, COUNTS)?;
+    check_cases(&rt, alloc, MERGED_COUNTS)
 }

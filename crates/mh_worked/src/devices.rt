@@ -2,9 +2,11 @@
 ghost use Rattle.std.specs.Prelude.{None};
 ghost use Rattle.mh_outside.specs.Fakes.{source_calls};
 
-use crate::runs::{Fails, ONE_SENTENCE, check_cases_with, run, shelf_of, words_of};
-use mh_outside::{Failed, MemSink, MemSource, Source};
+use crate::runs::{beside, check_cases_with, copied, given_files, release, shelf_of, words_of};
+use mh_outside::{Failed, MemShelf, MemSink, MemSource, Source};
 use mh_top::menhir;
+use std::alloc::Global;
+use std::process::Abort;
 use std::test::Fail;
 
 /// The file that each case has.
@@ -65,11 +67,6 @@ merged: 4 states
 ~
 ";
 
-#[test]
-fn files_and_inputs_that_cannot_be_read(rt: HostRuntime) -> Result<(), Fail> {
-    check_cases_with(&rt, rt.alloc(), FILE, READS)
-}
-
 // What stands on out is a front of the text, and nothing is said.
 const WRITES: &str = "4 --interpret g.mly
 out 1
@@ -104,11 +101,6 @@ out 1
 ~
 ~
 ";
-
-#[test]
-fn outputs_that_cannot_be_written(rt: HostRuntime) -> Result<(), Fail> {
-    check_cases_with(&rt, rt.alloc(), FILE, WRITES)
-}
 
 // Where the line that says why the work ends cannot be written, the status is that of a write fault.
 const LAST_LINES: &str = "4 --interpret --what g.mly
@@ -162,40 +154,102 @@ ACCEPT
 ~
 ";
 
-#[test]
-fn last_lines_that_cannot_be_written(rt: HostRuntime) -> Result<(), Fail> {
-    check_cases_with(&rt, rt.alloc(), FILE, LAST_LINES)
-}
-
 // Each read fails in turn: out holds the answers to the lines that came whole.
-#[test]
-fn each_read_fails_in_turn(rt: HostRuntime) -> Result<(), Fail> {
-    let alloc = rt.alloc();
-    for read in 1..11 {
-        let mut fails = Fails::none(alloc);
-        fails.input.push(read)?;
-        let mut files = Vec::new(alloc);
-        files.push((b"g.mly".to_vec(alloc)?, ONE_SENTENCE.to_vec(alloc)?))?;
-        let input = b"A EOF\nA\n".to_vec(alloc)?;
-        let got = run(&rt, alloc, "--interpret g.mly", files, input, fails)?;
-        let text = if read <= 6 {
-            "".as_bytes()
-        } else if read <= 8 {
-            "ACCEPT\n".as_bytes()
-        } else {
-            "ACCEPT\nOVERSHOOT\n".as_bytes()
-        };
-        assert_eq!(rt; got.out.as_slice(), text, "at {read}");
-        assert_eq!(rt; got.status, if read <= 9 { 3 } else { 0 }, "at {read}");
-        let said = if read <= 9 {
-            b"menhir: cannot read the input\n".as_slice()
-        } else {
-            b"".as_slice()
-        };
-        assert_eq!(rt; got.err.as_slice(), said, "at {read}");
-    }
-    Ok(())
-}
+const READS_IN_TURN: &str = "3 --interpret g.mly
+input 1
+~
+A EOF
+A
+~
+~
+menhir: cannot read the input
+^
+3 --interpret g.mly
+input 2
+~
+A EOF
+A
+~
+~
+menhir: cannot read the input
+^
+3 --interpret g.mly
+input 3
+~
+A EOF
+A
+~
+~
+menhir: cannot read the input
+^
+3 --interpret g.mly
+input 4
+~
+A EOF
+A
+~
+~
+menhir: cannot read the input
+^
+3 --interpret g.mly
+input 5
+~
+A EOF
+A
+~
+~
+menhir: cannot read the input
+^
+3 --interpret g.mly
+input 6
+~
+A EOF
+A
+~
+~
+menhir: cannot read the input
+^
+3 --interpret g.mly
+input 7
+~
+A EOF
+A
+~
+ACCEPT
+~
+menhir: cannot read the input
+^
+3 --interpret g.mly
+input 8
+~
+A EOF
+A
+~
+ACCEPT
+~
+menhir: cannot read the input
+^
+3 --interpret g.mly
+input 9
+~
+A EOF
+A
+~
+ACCEPT
+OVERSHOOT
+~
+menhir: cannot read the input
+^
+0 --interpret g.mly
+input 10
+~
+A EOF
+A
+~
+ACCEPT
+OVERSHOOT
+~
+";
 
 /// An input that counts its reads, and tells nothing.
 #[derive(Drop)]
@@ -224,23 +278,64 @@ impl Source for Counted {
     }
 }
 
+/// The status, and how many reads there were of an input of three lines, where a write fails.
+fn status_and_reads(
+    alloc: Global,
+    words: &[String],
+    mut shelf: MemShelf,
+    mut input: Counted,
+    fails: Vec<u64>,
+) -> (u8, u64) {
+    let mut out = MemSink::new(alloc, fails);
+    let mut err = MemSink::new(alloc, Vec::new(alloc));
+    let status = menhir(alloc, words, &mut shelf, &mut input, &mut out, &mut err);
+    let reads = input.reads;
+    release(shelf);
+    release(input);
+    release(out);
+    release(err);
+    (status, reads)
+}
+
+fn answers_by(
+    rt: &impl Abort,
+    alloc: Global,
+    words: &[String],
+    fail: u64,
+) -> Result<(u8, u64), Fail> {
+    let shelf = shelf_of(rt, given_files(alloc, None, &[FILE])?, Vec::new(alloc));
+    let (shelf, lines) = beside(shelf, copied(alloc, b"A EOF\nA EOF\nA EOF\n"))?;
+    let input = Counted::new(lines, Vec::new(alloc));
+    let ((shelf, input), fails) = beside((shelf, input), calls_of(alloc, fail))?;
+    Ok(status_and_reads(alloc, words, shelf, input, fails))
+}
+
+fn calls_of(alloc: Global, fail: u64) -> Result<Vec<u64>, Fail> {
+    Ok([fail].to_vec(alloc)?)
+}
+
+fn check_answers(rt: &impl Abort, alloc: Global, words: &[String]) -> Result<(), Fail> {
+    for (fail, wanted) in [(1, (4, 6)), (2, (4, 12)), (3, (4, 18)), (4, (0, 19))] {
+        assert_eq!(rt; answers_by(rt, alloc, words, fail)?, wanted, "at {fail}");
+    }
+    Ok(())
+}
+
 // The answer to a line is written before the next is asked for, byte by byte: where the second cannot be written, the third line
 // was not asked for.
 #[test]
 fn no_line_is_taken_after_a_fault(rt: HostRuntime) -> Result<(), Fail> {
+    let words = words_of(rt.alloc(), "--interpret g.mly")?;
+    let result = check_answers(&rt, rt.alloc(), &words);
+    release(words);
+    result
+}
+
+#[test]
+fn devices_that_fail(rt: HostRuntime) -> Result<(), Fail> {
     let alloc = rt.alloc();
-    for (fail, reads) in [(1, 6), (2, 12), (3, 18), (4, 19)] {
-        let mut files = Vec::new(alloc);
-        files.push((b"g.mly".to_vec(alloc)?, ONE_SENTENCE.to_vec(alloc)?))?;
-        let mut shelf = shelf_of(&rt, files, Vec::new(alloc));
-        let lines = b"A EOF\nA EOF\nA EOF\n".to_vec(alloc)?;
-        let mut input = Counted::new(lines, Vec::new(alloc));
-        let mut out = MemSink::new(alloc, [fail].to_vec(alloc)?);
-        let mut err = MemSink::new(alloc, Vec::new(alloc));
-        let words = words_of(alloc, "--interpret g.mly")?;
-        let status = menhir(alloc, &words, &mut shelf, &mut input, &mut out, &mut err);
-        assert_eq!(rt; status, if fail < 4 { 4 } else { 0 }, "at {fail}");
-        assert_eq!(rt; input.reads, reads, "at {fail}");
-    }
-    Ok(())
+    check_cases_with(&rt, alloc, FILE, READS)?;
+    check_cases_with(&rt, alloc, FILE, WRITES)?;
+    check_cases_with(&rt, alloc, FILE, LAST_LINES)?;
+    check_cases_with(&rt, alloc, FILE, READS_IN_TURN)
 }

@@ -1,5 +1,5 @@
 //! Lists of errors, by merged automata, and by canonical ones where the words say so. Their sentences are of least length.
-use crate::runs::{check_cases, run_on};
+use crate::runs::{Outcome, check_cases, check_cases_with, release, run_on};
 use std::alloc::Global;
 use std::fmt::Write;
 use std::process::Abort;
@@ -122,12 +122,25 @@ menhir: usage: no grammar
 ";
 
 // One nonterminal stands for 1,048,576 tokens.
-const LONG: &[u8] =
-    b"%token A B %start main %% main: x20 B {} x20: x19 x19 {} x19: x18 x18 {} x18: x17 x17 {} x17: x16 x16 {} x16: x15 x15 {} x15: x14 x14 {} x14: x13 x13 {} x13: x12 x12 {} x12: x11 x11 {} x11: x10 x10 {} x10: x9 x9 {} x9: x8 x8 {} x8: x7 x7 {} x7: x6 x6 {} x6: x5 x5 {} x5: x4 x4 {} x4: x3 x3 {} x3: x2 x2 {} x2: x1 x1 {} x1: x0 x0 {} x0: A {}";
+const LONG: &str =
+    "g.mly\n%token A B %start main %% main: x20 B {} x20: x19 x19 {} x19: x18 x18 {} x18: x17 x17 {} x17: x16 x16 {} x16: x15 x15 {} x15: x14 x14 {} x14: x13 x13 {} x13: x12 x12 {} x12: x11 x11 {} x11: x10 x10 {} x10: x9 x9 {} x9: x8 x8 {} x8: x7 x7 {} x7: x6 x6 {} x6: x5 x5 {} x5: x4 x4 {} x4: x3 x3 {} x3: x2 x2 {} x2: x1 x1 {} x1: x0 x0 {} x0: A {}";
+
+const TOO_LONG: &str = "1 --list-errors g.mly
+~
+~
+~
+menhir: too long: state 3
+^
+1 --canonical --list-errors g.mly
+~
+~
+~
+menhir: too long: state 82
+";
 
 // Neither EQ may follow the other: where one is refused behind a sum, an INT was reduced before.
-const COMPARISONS: &[u8] =
-    b"%token INT EQ EOF %nonassoc EQ %start main %% main: e EOF {} e: INT {} | e EQ e {}";
+const COMPARISONS: &str =
+    "%token INT EQ EOF %nonassoc EQ %start main %% main: e EOF {} e: INT {} | e EQ e {}";
 
 const REFUSED_EQ: &str = "main: INT EQ INT EQ
 ##
@@ -190,13 +203,14 @@ fn state_of(line: &str) -> Option<&str> {
         .strip_suffix(".")
 }
 
-/// What a list of errors says: each state, with the count of tokens of its sentence.
-fn rows_of(alloc: Global, list: &str) -> Result<String, Fail> {
-    let mut rows = String::new(alloc);
+/// Adds what a list of errors says: each state, with the count of tokens of its sentence.
+fn put_rows(rows: &mut String, list: &str) {
     let mut tokens = 0usize;
     for line in list.lines() {
         match state_of(line) {
-            Some(state) => write!(rows, "{state} {tokens}, ")?,
+            Some(state) => {
+                let _ = write!(rows, "{state} {tokens}, ");
+            }
             None => {
                 if let Some((_, words)) = line.split_once(':') {
                     tokens = count_words(words);
@@ -204,109 +218,97 @@ fn rows_of(alloc: Global, list: &str) -> Result<String, Fail> {
             }
         }
     }
-    Ok(rows)
 }
 
-/// What a list of errors says: each sentence with its state.
-fn sentences_of(alloc: Global, list: &str) -> Result<String, Fail> {
-    let mut rows = String::new(alloc);
+/// Adds what a list of errors says: each sentence with its state.
+fn put_sentences(rows: &mut String, list: &str) {
     for line in list.lines() {
         match state_of(line) {
-            Some(state) => write!(rows, "{state}, ")?,
+            Some(state) => {
+                let _ = write!(rows, "{state}, ");
+            }
             None => {
                 if !line.starts_with('#') && line.split_once(':').is_some() {
-                    write!(rows, "{line} ")?;
+                    let _ = write!(rows, "{line} ");
                 }
             }
         }
     }
-    Ok(rows)
-}
-
-/// The text that the list of errors of a grammar is.
-fn list_of(rt: &impl Abort, alloc: Global, words: &str, grammar: &[u8]) -> Result<Vec<u8>, Fail> {
-    let got = run_on(rt, alloc, words, grammar, Vec::new(alloc))?;
-    assert_eq!(rt; got.status, 0);
-    assert_eq!(rt; got.err.as_slice(), b"".as_slice());
-    Ok(got.out)
 }
 
 #[test]
 fn texts(rt: HostRuntime) -> Result<(), Fail> {
-    check_cases(&rt, rt.alloc(), TEXTS)
+    check_cases(&rt, rt.alloc(), TEXTS)?;
+    check_cases_with(&rt, rt.alloc(), LONG, TOO_LONG)
 }
 
-fn check_rows(rt: &impl Abort, alloc: Global, words: &str, cases: &str) -> Result<(), Fail> {
-    for case in cases.lines() {
-        let (grammar, wanted) = case.split_once('=').ok_or("a case without rows")?;
-        let list = list_of(rt, alloc, words, grammar.as_bytes())?;
-        let rows = rows_of(alloc, str::from_utf8(&list)?)?;
-        assert_eq!(rt;
-            rows.as_str().trim_ascii(),
-            wanted.trim_ascii(),
-            "{grammar}"
-        );
+/// Compares what the list of errors of a grammar says.
+fn check_list(
+    rt: &impl Abort,
+    alloc: Global,
+    got: &Outcome,
+    has_sentences: bool,
+    wanted: &str,
+) -> Result<(), Fail> {
+    assert!(rt; got.status == 0 && got.err.is_empty());
+    let list = str::from_utf8(&got.out)?;
+    let mut rows = String::new(alloc);
+    if has_sentences {
+        put_sentences(&mut rows, list);
+    } else {
+        put_rows(&mut rows, list);
     }
+    assert_eq!(rt; rows.as_str().trim_ascii(), wanted.trim_ascii());
     Ok(())
 }
 
-fn check_sentences(rt: &impl Abort, alloc: Global, case: &str) -> Result<(), Fail> {
+/// Compares what is said of a grammar, which stands before a `=`.
+fn check_row(
+    rt: &impl Abort,
+    alloc: Global,
+    words: &str,
+    has_sentences: bool,
+    case: &str,
+) -> Result<(), Fail> {
     let (grammar, wanted) = case.split_once('=').ok_or("a case without rows")?;
-    let list = list_of(rt, alloc, "--list-errors g.mly", grammar.as_bytes())?;
-    let rows = sentences_of(alloc, str::from_utf8(&list)?)?;
-    assert_eq!(rt;
-        rows.as_str().trim_ascii(),
-        wanted.trim_ascii(),
-        "{grammar}"
-    );
-    Ok(())
+    let got = run_on(rt, alloc, words, grammar)?;
+    let result = check_list(rt, alloc, &got, has_sentences, wanted);
+    release(got);
+    result
 }
 
-#[test]
-fn first_sentences(rt: HostRuntime) -> Result<(), Fail> {
-    for case in SENTENCES.lines() {
-        check_sentences(&rt, rt.alloc(), case)?;
+fn check_rows(
+    rt: &impl Abort,
+    alloc: Global,
+    words: &str,
+    has_sentences: bool,
+    cases: &str,
+) -> Result<(), Fail> {
+    for case in cases.lines() {
+        check_row(rt, alloc, words, has_sentences, case)?;
     }
     Ok(())
 }
 
 #[test]
-fn states_and_lengths(rt: HostRuntime) -> Result<(), Fail> {
-    check_rows(&rt, rt.alloc(), "--list-errors g.mly", MERGED_ROWS)
-}
-
-#[test]
-fn canonical_states_and_lengths(rt: HostRuntime) -> Result<(), Fail> {
-    check_rows(&rt, rt.alloc(), "--canonical --list-errors g.mly", ROWS)
-}
-
-#[test]
-fn a_sentence_is_too_long(rt: HostRuntime) -> Result<(), Fail> {
+fn states_with_lengths_or_sentences(rt: HostRuntime) -> Result<(), Fail> {
     let alloc = rt.alloc();
-    for (words, said) in [
-        ("--list-errors g.mly", "menhir: too long: state 3\n"),
-        (
-            "--canonical --list-errors g.mly",
-            "menhir: too long: state 82\n",
-        ),
-    ] {
-        let got = run_on(&rt, alloc, words, LONG, Vec::new(alloc))?;
-        assert_eq!(rt; got.status, 1);
-        assert_eq!(rt; got.out.as_slice(), b"".as_slice());
-        assert_eq!(rt; str::from_utf8(&got.err)?, said);
-    }
+    check_rows(&rt, alloc, "--list-errors g.mly", true, SENTENCES)?;
+    check_rows(&rt, alloc, "--list-errors g.mly", false, MERGED_ROWS)?;
+    check_rows(&rt, alloc, "--canonical --list-errors g.mly", false, ROWS)
+}
+
+fn check_contents(rt: &impl Abort, list: &[u8]) -> Result<(), Fail> {
+    let list = str::from_utf8(list)?;
+    assert!(rt; list.contains(REFUSED_EQ), "{list}");
     Ok(())
 }
 
 #[test]
 fn reductions_before_the_error(rt: HostRuntime) -> Result<(), Fail> {
-    let list = list_of(
-        &rt,
-        rt.alloc(),
-        "--canonical --list-errors g.mly",
-        COMPARISONS,
-    )?;
-    let list = str::from_utf8(&list)?;
-    assert!(rt; list.contains(REFUSED_EQ), "{list}");
-    Ok(())
+    let words = "--canonical --list-errors g.mly";
+    let got = run_on(&rt, rt.alloc(), words, COMPARISONS)?;
+    let result = check_contents(&rt, &got.out);
+    release(got);
+    result
 }

@@ -124,11 +124,8 @@ menhir: input: missing start
 ";
 
 #[test]
-fn first_lines(rt: HostRuntime) -> Result<(), Fail> {
-    check_cases_with(&rt, rt.alloc(), ONE_SENTENCE_FILE, CASES)
-}
-
-#[test]
-fn grammars(rt: HostRuntime) -> Result<(), Fail> {
-    check_cases(&rt, rt.alloc(), GRAMMARS)
+fn explained(rt: HostRuntime) -> Result<(), Fail> {
+    let alloc = rt.alloc();
+    check_cases_with(&rt, alloc, ONE_SENTENCE_FILE, CASES)?;
+    check_cases(&rt, alloc, GRAMMARS)
 }

@@ -7,7 +7,9 @@ ghost use Rattle.mh_outside.specs.Faults.{Counts};
 ghost use Rattle.mh_outside.specs.Fakes.{sink_calls};
 
 use crate::devices::Counted;
-use crate::runs::{Fails, given_files, shelf_of, words_of};
+use crate::runs::{
+    Fails, beside, copied, filled, given_files, parts_of, release, shelf_of, words_of,
+};
 use mh_outside::{Failed, MemShelf, MemSink, MemSource, Sink};
 use mh_top::menhir;
 use std::alloc::Global;
@@ -99,13 +101,8 @@ fn front_of<'a>(text: &'a str, much: &str, call: usize) -> Result<&'a str, Fail>
     Ok(text.get(..count).ok_or("a text is too short")?)
 }
 
-fn read_row(alloc: Global, line: &str) -> Result<Row<'_>, Fail> {
-    let (marks, said) = line.split_once("; ").unwrap_or((line, ""));
-    let mut words = Vec::new(alloc);
-    for word in marks.split_ascii_whitespace() {
-        words.push(word)?;
-    }
-    match words.as_slice() {
+fn row_of<'a>(words: &[&'a str], said: &'a str) -> Result<Row<'a>, Fail> {
+    match words {
         [status, device, calls, out, err, reads] => Ok(Row {
             status: *status,
             device: *device,
@@ -119,6 +116,30 @@ fn read_row(alloc: Global, line: &str) -> Result<Row<'_>, Fail> {
     }
 }
 
+fn add_marks<'a>(words: &mut Vec<&'a str>, marks: &'a str) -> Result<(), Fail> {
+    for word in marks.split_ascii_whitespace() {
+        words.push(word)?;
+    }
+    Ok(())
+}
+
+fn read_row(alloc: Global, line: &str) -> Result<Row<'_>, Fail> {
+    let (marks, said) = line.split_once("; ").unwrap_or((line, ""));
+    let mut words = Vec::new(alloc);
+    let row = match add_marks(&mut words, marks) {
+        Ok(()) => row_of(words.as_slice(), said),
+        Err(fail) => Err(fail),
+    };
+    release(words);
+    row
+}
+
+fn fails_of(alloc: Global, device: &str, call: usize) -> Result<Fails, Fail> {
+    let mut fails = Fails::none(alloc);
+    let pushed = fails.push(device, call as u64);
+    filled(fails, pushed)
+}
+
 /// The devices of a case, of which one fails at one call.
 fn devices_of(
     rt: &impl Abort,
@@ -127,10 +148,9 @@ fn devices_of(
     device: &str,
     call: usize,
 ) -> Result<Devices, Fail> {
-    let mut fails = Fails::none(alloc);
-    fails.push(device, call as u64)?;
-    let files = given_files(alloc, None, &FILES)?;
-    let input = case.input.as_bytes().to_vec(alloc)?;
+    let fails = fails_of(alloc, device, call)?;
+    let given = beside(fails, given_files(alloc, None, &FILES))?;
+    let ((fails, files), input) = beside(given, copied(alloc, case.input.as_bytes()))?;
     Ok(Devices {
         shelf: shelf_of(rt, files, fails.shelf),
         input: Counted::new(input, fails.input),
@@ -143,6 +163,32 @@ fn devices_of(
     })
 }
 
+/// The status of the work over these devices.
+fn status_of(alloc: Global, words: &[String], devices: &mut Devices) -> u8 {
+    menhir(
+        alloc,
+        words,
+        &mut devices.shelf,
+        &mut devices.input,
+        &mut devices.out,
+        &mut devices.err,
+    )
+}
+
+/// Compares what the devices have with what is wanted.
+fn check_devices(
+    rt: &impl Abort,
+    devices: &Devices,
+    out: &[u8],
+    err: &[u8],
+    said: &[u8],
+    reads: usize,
+) {
+    assert_eq!(rt; devices.out.sink.written(), out);
+    assert_eq!(rt; devices.err.sink.written().strip_prefix(err), Some(said));
+    assert_eq!(rt; devices.input.reads, reads as u64);
+}
+
 /// Runs a case where one call of one device fails.
 fn check_call(
     rt: &impl Abort,
@@ -151,30 +197,22 @@ fn check_call(
     row: Row,
     call: usize,
 ) -> Result<(), Fail> {
-    let out = front_of(case.out, row.out, call)?;
-    let err = front_of(case.err, row.err, call)?;
+    let out = front_of(case.out, row.out, call)?.as_bytes();
+    let err = front_of(case.err, row.err, call)?.as_bytes();
     let reads = count_of(case.input, row.reads, call)?;
     let status: u8 = row.status.parse()?;
     let words = words_of(alloc, case.words)?;
-    let mut devices = devices_of(rt, alloc, case, row.device, call)?;
-    let got = menhir(
-        alloc,
-        &words,
-        &mut devices.shelf,
-        &mut devices.input,
-        &mut devices.out,
-        &mut devices.err,
-    );
+    let (words, mut devices) = beside(words, devices_of(rt, alloc, case, row.device, call))?;
+    let got = status_of(alloc, &words, &mut devices);
+    release(words);
     assert_eq!(rt;
         got,
         status,
         "call {} of {}, {}",
         call, row.device, case.words
     );
-    assert_eq!(rt; devices.out.sink.written(), out.as_bytes());
-    let said = devices.err.sink.written().strip_prefix(err.as_bytes());
-    assert_eq!(rt; said, Some(row.said.as_bytes()));
-    assert_eq!(rt; devices.input.reads, reads as u64);
+    check_devices(rt, &devices, out, err, row.said.as_bytes(), reads);
+    release(devices);
     Ok(())
 }
 
@@ -194,13 +232,15 @@ fn check_row(rt: &impl Abort, alloc: Global, case: Case, line: &str) -> Result<(
     Ok(())
 }
 
-/// Runs a case by its own rows and these.
-fn check_case(rt: &impl Abort, alloc: Global, case: &str, rows: &str) -> Result<(), Fail> {
-    let mut parts = Vec::new(alloc);
-    for part in case.split("~\n") {
-        parts.push(part)?;
+fn check_rows(rt: &impl Abort, alloc: Global, case: Case, rows: &str) -> Result<(), Fail> {
+    for line in rows.split_inclusive('\n') {
+        check_row(rt, alloc, case, line)?;
     }
-    let [words, input, out, err, own] = parts.as_slice() else {
+    Ok(())
+}
+
+fn check_parts(rt: &impl Abort, alloc: Global, parts: &[&str], rows: &str) -> Result<(), Fail> {
+    let [words, input, out, err, own] = parts else {
         return Err(Fail::from("a case has five parts"));
     };
     let case = Case {
@@ -209,13 +249,16 @@ fn check_case(rt: &impl Abort, alloc: Global, case: &str, rows: &str) -> Result<
         out: *out,
         err: *err,
     };
-    for line in own.split_inclusive('\n') {
-        check_row(rt, alloc, case, line)?;
-    }
-    for line in rows.split_inclusive('\n') {
-        check_row(rt, alloc, case, line)?;
-    }
-    Ok(())
+    check_rows(rt, alloc, case, *own)?;
+    check_rows(rt, alloc, case, rows)
+}
+
+/// Runs a case by its own rows and these.
+fn check_case(rt: &impl Abort, alloc: Global, case: &str, rows: &str) -> Result<(), Fail> {
+    let parts = parts_of(alloc, case)?;
+    let result = check_parts(rt, alloc, parts.as_slice(), rows);
+    release(parts);
+    result
 }
 
 /// Runs each case of a text by its own rows and these. Lines `^` stand between cases, and lines `~` between their parts: the words;

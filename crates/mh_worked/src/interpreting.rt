@@ -1,5 +1,6 @@
 //! Verdicts on the lines of the input.
-use crate::runs::{check_cases, push_times, run_on};
+use crate::runs::{Outcome, check_cases, put, release, run_with};
+use std::process::Abort;
 use std::test::Fail;
 
 const VERDICTS: &str = "0 --interpret g.mly
@@ -132,11 +133,6 @@ REJECT
 ~
 ";
 
-#[test]
-fn verdicts_of_lines(rt: HostRuntime) -> Result<(), Fail> {
-    check_cases(&rt, rt.alloc(), VERDICTS)
-}
-
 // Two starts: the line names its own. Of the faults of a line the first in this order is told: its form, its start, its
 // tokens.
 const STARTS: &str = "0 --interpret g.mly
@@ -203,11 +199,6 @@ ERROR unknown start A
 ACCEPT
 ~
 ";
-
-#[test]
-fn lines_that_name_their_start(rt: HostRuntime) -> Result<(), Fail> {
-    check_cases(&rt, rt.alloc(), STARTS)
-}
 
 // What is read past: actions with strings, characters, quoted strings and comments in them, headers, types, attributes,
 // trailers, names of producers.
@@ -299,11 +290,6 @@ REJECT
 ~
 "#;
 
-#[test]
-fn files_as_users_write_them(rt: HostRuntime) -> Result<(), Fail> {
-    check_cases(&rt, rt.alloc(), FORMS)
-}
-
 // Where levels refuse a token, where they decide, and where an error is found behind a reduction.
 const LEVELS: &str = "0 --interpret g.mly
 ~
@@ -348,12 +334,7 @@ ACCEPT
 ~
 ";
 
-#[test]
-fn verdicts_by_levels(rt: HostRuntime) -> Result<(), Fail> {
-    check_cases(&rt, rt.alloc(), LEVELS)
-}
-
-const SUMS: &[u8] = b"%token EOF LP RP INT
+const SUMS: &str = "%token EOF LP RP INT
 %token OP1
 %token OP2
 %start main
@@ -364,27 +345,34 @@ e2: e2 OP2 a {} | a {}
 a: INT {} | LP e1 RP {}
 ";
 
-/// A sum in parentheses, one of which lacks its end in every third line, but where there are none.
-fn push_sum(text: &mut Vec<u8>, number: u32) -> Result<(), Fail> {
-    let depth = (number % 17) as usize;
-    push_times(text, b"LP ", depth)?;
-    text.extend_from_slice(b"INT ")?;
+/// Adds a sum in parentheses, one of which lacks its end in every third line, but where there are none.
+fn push_sum(text: &mut Vec<u8>, number: u32) {
+    let depth = number % 17;
+    put_times(text, b"LP ", depth);
+    put(text, b"INT ");
     for place in 1..=number % 5 {
-        let sign = if number % 2 == 0 || place % 2 == 0 {
-            b"OP1 INT "
-        } else {
-            b"OP2 INT "
-        };
-        text.extend_from_slice(sign)?;
+        put(
+            text,
+            if number % 2 == 0 || place % 2 == 0 {
+                b"OP1 INT "
+            } else {
+                b"OP2 INT "
+            },
+        );
     }
     let closed = if number % 3 == 0 && depth > 0 {
         depth - 1
     } else {
         depth
     };
-    push_times(text, b"RP ", closed)?;
-    text.extend_from_slice(b"EOF\n")?;
-    Ok(())
+    put_times(text, b"RP ", closed);
+    put(text, b"EOF\n");
+}
+
+fn put_times(text: &mut Vec<u8>, part: &[u8], count: u32) {
+    for _ in 0..count {
+        put(text, part);
+    }
 }
 
 /// How many lines are this one.
@@ -394,18 +382,31 @@ fn count_lines(text: &[u8], line: &[u8]) -> usize {
         .count()
 }
 
-// 1,000 of the numbers are multiples of 3, and 59 of these are multiples of 17.
-#[test]
-fn three_thousand_sums(rt: HostRuntime) -> Result<(), Fail> {
-    let alloc = rt.alloc();
-    let mut input = Vec::new(alloc);
-    for number in 0..3000 {
-        push_sum(&mut input, number)?;
-    }
-    let got = run_on(&rt, alloc, "--interpret g.mly", SUMS, input)?;
+fn check_sums(rt: &impl Abort, got: &Outcome) {
     assert_eq!(rt; got.status, 0);
     assert_eq!(rt; count_lines(&got.out, b"ACCEPT"), 2059);
     assert_eq!(rt; count_lines(&got.out, b"REJECT"), 941);
     assert_eq!(rt; got.out.len(), 3000 * 7);
+}
+
+// 1,000 of the numbers are multiples of 3, and 59 of these are multiples of 17.
+#[test]
+fn three_thousand_sums(rt: HostRuntime) -> Result<(), Fail> {
+    let mut input = Vec::new(rt.alloc());
+    for number in 0..3000 {
+        push_sum(&mut input, number);
+    }
+    let got = run_with(&rt, rt.alloc(), "--interpret g.mly", SUMS, &input);
+    release(input);
+    check_sums(&rt, &got?);
     Ok(())
+}
+
+#[test]
+fn verdicts_of_lines(rt: HostRuntime) -> Result<(), Fail> {
+    let alloc = rt.alloc();
+    check_cases(&rt, alloc, VERDICTS)?;
+    check_cases(&rt, alloc, STARTS)?;
+    check_cases(&rt, alloc, FORMS)?;
+    check_cases(&rt, alloc, LEVELS)
 }

@@ -445,16 +445,9 @@ M
 ";
 
 #[test]
-fn echoed(rt: HostRuntime) -> Result<(), Fail> {
-    check_cases_with(&rt, rt.alloc(), ONE_SENTENCE_FILE, ECHOED)
-}
-
-#[test]
-fn compared(rt: HostRuntime) -> Result<(), Fail> {
-    check_cases_with(&rt, rt.alloc(), ONE_SENTENCE_FILE, COMPARED)
-}
-
-#[test]
-fn updated(rt: HostRuntime) -> Result<(), Fail> {
-    check_cases_with(&rt, rt.alloc(), ONE_SENTENCE_FILE, UPDATED)
+fn kept_files(rt: HostRuntime) -> Result<(), Fail> {
+    let alloc = rt.alloc();
+    check_cases_with(&rt, alloc, ONE_SENTENCE_FILE, ECHOED)?;
+    check_cases_with(&rt, alloc, ONE_SENTENCE_FILE, COMPARED)?;
+    check_cases_with(&rt, alloc, ONE_SENTENCE_FILE, UPDATED)
 }

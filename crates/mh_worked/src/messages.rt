@@ -1,5 +1,8 @@
 //! Messages files: compiled, and said of what is refused.
-use crate::runs::{Fails, ONE_SENTENCE_FILE, check_cases, check_cases_with, run, run_on};
+use crate::runs::{
+    ONE_SENTENCE_FILE, Outcome, check_cases, check_cases_with, filled, push_file, put, release,
+    run_files, run_on,
+};
 use std::alloc::Global;
 use std::process::Abort;
 use std::test::Fail;
@@ -285,55 +288,93 @@ menhir: usage: misplaced --messages
 ";
 
 /// A list of errors with a message put in for each place.
-fn with_messages(alloc: Global, list: &str) -> Result<Vec<u8>, Fail> {
+fn with_messages(alloc: Global, list: &str) -> Vec<u8> {
     let mut text = Vec::new(alloc);
     for line in list.lines() {
         let said = match line {
             "<YOUR SYNTAX ERROR MESSAGE HERE>" => "Something else was expected here.",
             other => other,
         };
-        text.extend_from_slice(said.as_bytes())?;
-        text.push(b'\n')?;
+        put(&mut text, said.as_bytes());
+        put(&mut text, b"\n");
     }
-    Ok(text)
+    text
 }
 
 /// The states of a list of errors, or of compiled messages, a line each.
-fn states_of(alloc: Global, text: &str, front: &str) -> Result<String, Fail> {
-    let mut states = String::new(alloc);
+fn states_of(alloc: Global, text: &str, front: &str) -> Vec<u8> {
+    let mut states = Vec::new(alloc);
     for line in text.lines() {
         if let Some(rest) = line.strip_prefix(front) {
-            for letter in rest.chars().take_while(char::is_ascii_digit) {
-                states.push(letter)?;
-            }
-            states.push('\n')?;
+            put_digits(&mut states, rest);
         }
     }
-    Ok(states)
+    states
 }
 
-/// What the list of errors of a grammar, with messages put in, comes to: exactly its states.
-fn check_round(rt: &impl Abort, alloc: Global, grammar: &[u8]) -> Result<(), Fail> {
-    let list = run_on(rt, alloc, "--list-errors g.mly", grammar, Vec::new(alloc))?;
-    let list = str::from_utf8(&list.out)?;
+/// Adds the digits in front of a text, and the end of a line.
+fn put_digits(states: &mut Vec<u8>, text: &str) {
+    let count = text.bytes().take_while(u8::is_ascii_digit).count();
+    put(states, text.as_bytes().get(..count).unwrap_or(b""));
+    put(states, b"\n");
+}
+
+/// What a messages file comes to, which stands beside a grammar.
+fn compiled_of(
+    rt: &impl Abort,
+    alloc: Global,
+    grammar: &str,
+    messages: &[u8],
+) -> Result<Outcome, Fail> {
     let mut files = Vec::new(alloc);
-    files.push((b"g.mly".to_vec(alloc)?, grammar.to_vec(alloc)?))?;
-    files.push((b"m".to_vec(alloc)?, with_messages(alloc, list)?))?;
-    let fails = Fails::none(alloc);
-    let got = run(
+    let added = add_both(alloc, &mut files, grammar, messages);
+    run_files(
         rt,
         alloc,
         "--compile-errors m g.mly",
-        files,
-        Vec::new(alloc),
-        fails,
-    )?;
+        filled(files, added)?,
+        &[],
+    )
+}
+
+fn add_both(
+    alloc: Global,
+    files: &mut Vec<(Vec<u8>, Vec<u8>)>,
+    grammar: &str,
+    messages: &[u8],
+) -> Result<(), Fail> {
+    push_file(alloc, files, "g.mly", grammar.as_bytes())?;
+    push_file(alloc, files, "m", messages)
+}
+
+fn check_compiled(rt: &impl Abort, alloc: Global, list: &str, got: &Outcome) -> Result<(), Fail> {
     assert_eq!(rt; str::from_utf8(&got.err)?, "");
     assert_eq!(rt; got.status, 0);
-    let listed = states_of(alloc, list, "## Ends in an error in state: ")?;
-    let compiled = states_of(alloc, str::from_utf8(&got.out)?, "state ")?;
-    assert_eq!(rt; compiled.as_str(), listed.as_str());
+    let listed = states_of(alloc, list, "## Ends in an error in state: ");
+    let compiled = states_of(alloc, str::from_utf8(&got.out)?, "state ");
+    assert_eq!(rt; compiled.as_slice(), listed.as_slice());
     Ok(())
+}
+
+fn check_list(rt: &impl Abort, alloc: Global, grammar: &str, list: &str) -> Result<(), Fail> {
+    let messages = with_messages(alloc, list);
+    let got = compiled_of(rt, alloc, grammar, &messages);
+    release(messages);
+    let got = got?;
+    let result = check_compiled(rt, alloc, list, &got);
+    release(got);
+    result
+}
+
+/// What the list of errors of a grammar, with messages put in, comes to: exactly its states.
+fn check_round(rt: &impl Abort, alloc: Global, grammar: &str) -> Result<(), Fail> {
+    let list = run_on(rt, alloc, "--list-errors g.mly", grammar)?;
+    let result = match str::from_utf8(&list.out) {
+        Ok(text) => check_list(rt, alloc, grammar, text),
+        Err(_) => Err(Fail::from("no text")),
+    };
+    release(list);
+    result
 }
 
 /// Grammars of the worked examples, one a line.
@@ -346,24 +387,17 @@ pub const ROUNDS: &str = "%token A EOF %start s %% s: A EOF {}
 %token A %start s %% s: {}";
 
 #[test]
-fn compiled(rt: HostRuntime) -> Result<(), Fail> {
-    check_cases_with(&rt, rt.alloc(), ONE_SENTENCE_FILE, COMPILED)
-}
-
-#[test]
-fn grammars(rt: HostRuntime) -> Result<(), Fail> {
-    check_cases(&rt, rt.alloc(), GRAMMARS)
-}
-
-#[test]
-fn said_of_refusals(rt: HostRuntime) -> Result<(), Fail> {
-    check_cases_with(&rt, rt.alloc(), ONE_SENTENCE_FILE, SAID)
-}
-
-#[test]
 fn lists_compile_to_their_states(rt: HostRuntime) -> Result<(), Fail> {
     for grammar in ROUNDS.lines() {
-        check_round(&rt, rt.alloc(), grammar.as_bytes())?;
+        check_round(&rt, rt.alloc(), grammar)?;
     }
     Ok(())
+}
+
+#[test]
+fn messages_files(rt: HostRuntime) -> Result<(), Fail> {
+    let alloc = rt.alloc();
+    check_cases_with(&rt, alloc, ONE_SENTENCE_FILE, COMPILED)?;
+    check_cases(&rt, alloc, GRAMMARS)?;
+    check_cases_with(&rt, alloc, ONE_SENTENCE_FILE, SAID)
 }

@@ -1,6 +1,5 @@
 //! Grammars that are refused, each with its line.
-use crate::runs::{Fails, check_cases, push_times, run, run_on};
-use std::alloc::Global;
+use crate::runs::check_cases;
 use std::test::Fail;
 
 // Nothing is written on out, and the input is not read.
@@ -259,11 +258,6 @@ s: A? {}
 menhir: undefined: option
 "#;
 
-#[test]
-fn grammars_with_a_fault(rt: HostRuntime) -> Result<(), Fail> {
-    check_cases(&rt, rt.alloc(), FAULTS)
-}
-
 // A name that stands for nothing: of a rule, of a start, an alias, and in a declaration.
 const UNDEFINED: &str = r#"1 --interpret g.mly
 ~
@@ -329,11 +323,6 @@ u(X): X {}
 ~
 menhir: undefined: X
 "#;
-
-#[test]
-fn names_that_stand_for_nothing(rt: HostRuntime) -> Result<(), Fail> {
-    check_cases(&rt, rt.alloc(), UNDEFINED)
-}
 
 // A token and a rule; an alias of two tokens; two formals of one name; public rules that differ in their formals or in
 // `%inline`; two levels of one name, an alias counting as its token.
@@ -433,11 +422,6 @@ ACCEPT
 ~
 "#;
 
-#[test]
-fn names_that_stand_twice(rt: HostRuntime) -> Result<(), Fail> {
-    check_cases(&rt, rt.alloc(), DUPLICATES)
-}
-
 // Counts of arguments, and inline rules with arguments.
 const INSTANCES: &str = "1 --interpret g.mly
 ~
@@ -502,11 +486,6 @@ t: t A {}
 ~
 menhir: empty language: t
 ";
-
-#[test]
-fn instances_that_are_refused(rt: HostRuntime) -> Result<(), Fail> {
-    check_cases(&rt, rt.alloc(), INSTANCES)
-}
 
 // The first of several faults: undefined, duplicate, no start, the error token, an unknown level; a wrong count of
 // arguments before an inline cycle, and that before an inline start.
@@ -610,11 +589,6 @@ t: t A {}
 menhir: inline start: s
 ";
 
-#[test]
-fn the_first_of_several_faults(rt: HostRuntime) -> Result<(), Fail> {
-    check_cases(&rt, rt.alloc(), FIRST_FAULTS)
-}
-
 // Levels that make a state reduce again and again: the start state, and a state above it.
 const LOOPS: &str = "1 --interpret g.mly
 ~
@@ -681,78 +655,74 @@ b: %prec HIGH {}
 menhir: loops: state 1 above state 0 on A
 ";
 
-#[test]
-fn tables_that_loop(rt: HostRuntime) -> Result<(), Fail> {
-    check_cases(&rt, rt.alloc(), LOOPS)
-}
+// A grammar has at most 512 tokens. Those of all files are counted together, each name once. `A` and 1,000 `?` behind it are 1,001
+// deep; 1,000 is the most.
+const LIMITS: &str = "0 --interpret g.mly
+~
+g.mly
+%token`000..512  T@`
+%start s
+%%
+s: T000 {}
+~
+T000
+~
+ACCEPT
+~
+^
+1 --interpret g.mly
+~
+g.mly
+%token`000..513  T@`
+%start s
+%%
+s: T000 {}
+~
+T000
+~
+~
+menhir: too many tokens: 513
+^
+1 --interpret a.mly b.mly
+~
+a.mly
+%token`000..512  T@`
+%start s
+%%
+s: T000 {}
+~
+b.mly
+%token T000 B
+%%
+~
+T000
+~
+~
+menhir: too many tokens: 513
+^
+1 --interpret g.mly
+~
+g.mly
+%token A
+%start s
+%%
+s: A`0..1000 ?`
+{}
+~
+A
+~
+~
+menhir: g.mly:4: syntax error
+";
 
-/// A grammar of so many tokens, up to 999, whose one sentence is the first of them.
-fn with_tokens(alloc: Global, count: u16) -> Result<Vec<u8>, Fail> {
-    let mut text = b"%token".to_vec(alloc)?;
-    for number in 0..count {
-        text.extend_from_slice(b" T")?;
-        for unit in [100, 10, 1] {
-            text.push(b'0' + (number / unit % 10) as u8)?;
-        }
-    }
-    text.extend_from_slice(b"\n%start s\n%%\ns: T000 {}\n")?;
-    Ok(text)
-}
-
 #[test]
-fn tokens_up_to_a_limit(rt: HostRuntime) -> Result<(), Fail> {
+fn refused_grammars(rt: HostRuntime) -> Result<(), Fail> {
     let alloc = rt.alloc();
-    let words = "--interpret g.mly";
-    let most = with_tokens(alloc, 512)?;
-    let got = run_on(&rt, alloc, words, &most, b"T000\n".to_vec(alloc)?)?;
-    assert_eq!(rt; got.status, 0);
-    assert_eq!(rt; got.out.as_slice(), b"ACCEPT\n".as_slice());
-    let more = with_tokens(alloc, 513)?;
-    let got = run_on(&rt, alloc, words, &more, b"T000\n".to_vec(alloc)?)?;
-    assert_eq!(rt; got.status, 1);
-    assert_eq!(rt;
-        got.err.as_slice(),
-        b"menhir: too many tokens: 513\n".as_slice()
-    );
-    Ok(())
-}
-
-// The tokens of all files are counted together, each name once.
-#[test]
-fn too_many_tokens_of_two_files(rt: HostRuntime) -> Result<(), Fail> {
-    let alloc = rt.alloc();
-    let mut files = Vec::new(alloc);
-    files.push((b"a.mly".to_vec(alloc)?, with_tokens(alloc, 512)?))?;
-    files.push((
-        b"b.mly".to_vec(alloc)?,
-        b"%token T000 B\n%%\n".to_vec(alloc)?,
-    ))?;
-    let words = "--interpret a.mly b.mly";
-    let input = b"T000\n".to_vec(alloc)?;
-    let got = run(&rt, alloc, words, files, input, Fails::none(alloc))?;
-    assert_eq!(rt; got.status, 1);
-    assert_eq!(rt; got.out.as_slice(), b"".as_slice());
-    assert_eq!(rt;
-        got.err.as_slice(),
-        b"menhir: too many tokens: 513\n".as_slice()
-    );
-    Ok(())
-}
-
-// `A` and 1,000 `?` behind it are 1,001 deep; 1,000 is the most.
-#[test]
-fn an_actual_that_is_too_deep(rt: HostRuntime) -> Result<(), Fail> {
-    let alloc = rt.alloc();
-    let mut grammar = b"%token A\n%start s\n%%\ns: A".to_vec(alloc)?;
-    push_times(&mut grammar, b"?", 1000)?;
-    grammar.extend_from_slice(b"\n{}\n")?;
-    let input = b"A\n".to_vec(alloc)?;
-    let got = run_on(&rt, alloc, "--interpret g.mly", &grammar, input)?;
-    assert_eq!(rt; got.status, 1);
-    assert_eq!(rt; got.out.as_slice(), b"".as_slice());
-    assert_eq!(rt;
-        got.err.as_slice(),
-        b"menhir: g.mly:4: syntax error\n".as_slice()
-    );
-    Ok(())
+    check_cases(&rt, alloc, FAULTS)?;
+    check_cases(&rt, alloc, UNDEFINED)?;
+    check_cases(&rt, alloc, DUPLICATES)?;
+    check_cases(&rt, alloc, INSTANCES)?;
+    check_cases(&rt, alloc, FIRST_FAULTS)?;
+    check_cases(&rt, alloc, LOOPS)?;
+    check_cases(&rt, alloc, LIMITS)
 }

@@ -5,13 +5,11 @@ ghost use Rattle.mh_outside.specs.Shelf.{file_at, files_of, HasDistinctNames};
 use mh_outside::{MemShelf, MemSink, MemSource};
 use mh_top::menhir;
 use std::alloc::Global;
+use std::fmt::Write;
 use std::process::Abort;
 use std::test::Fail;
 
-/// A grammar of one sentence, `A EOF`.
-pub const ONE_SENTENCE: &[u8] = b"%token A EOF\n%start s\n%%\ns: A EOF {}\n";
-
-/// It again, as the file `g.mly` that stands beside those of each case.
+/// A grammar of one sentence, `A EOF`, as the file `g.mly` that stands beside those of each case.
 pub const ONE_SENTENCE_FILE: &str = "g.mly\n%token A EOF\n%start s\n%%\ns: A EOF {}\n";
 
 /// The status, and the texts on out and err.
@@ -47,6 +45,14 @@ impl Fails {
         self.push(device, call.parse()?)
     }
 
+    /// Adds lines, each of a device and the number of a call.
+    fn add_all(&mut self, lines: &str) -> Result<(), Fail> {
+        for line in lines.lines() {
+            self.add(line)?;
+        }
+        Ok(())
+    }
+
     /// Adds a call of a device.
     pub fn push(&mut self, device: &str, call: u64) -> Result<(), Fail> {
         match device {
@@ -61,12 +67,20 @@ impl Fails {
 }
 
 /// Lets a value go. Where its type is known, each way out that lets it go would be long to prove.
-fn release<T: Drop>(_value: T) {}
+pub fn release<T: Drop>(_value: T) {}
 
 /// A value that was filled, where filling it did not fail.
-fn filled<T: Drop>(value: T, filling: Result<(), Fail>) -> Result<T, Fail> {
+pub fn filled<T: Drop>(value: T, filling: Result<(), Fail>) -> Result<T, Fail> {
     match filling {
         Ok(()) => Ok(value),
+        Err(fail) => Err(fail),
+    }
+}
+
+/// A value and another, where making that one did not fail.
+pub fn beside<A: Drop, B>(value: A, other: Result<B, Fail>) -> Result<(A, B), Fail> {
+    match other {
+        Ok(other) => Ok((value, other)),
         Err(fail) => Err(fail),
     }
 }
@@ -164,35 +178,114 @@ pub fn run(
     }
 }
 
-/// Runs the tool on the file `g.mly` with this text.
-pub fn run_on(
+/// Runs the tool on the file `g.mly` with this text, and no input.
+pub fn run_on(rt: &impl Abort, alloc: Global, words: &str, grammar: &str) -> Result<Outcome, Fail> {
+    run_with(rt, alloc, words, grammar, &[])
+}
+
+/// Runs the tool on the file `g.mly` with this text, and on this input.
+pub fn run_with(
     rt: &impl Abort,
     alloc: Global,
     words: &str,
-    grammar: &[u8],
-    input: Vec<u8>,
+    grammar: &str,
+    input: &[u8],
 ) -> Result<Outcome, Fail> {
     let mut files = Vec::new(alloc);
-    files.push((b"g.mly".to_vec(alloc)?, grammar.to_vec(alloc)?))?;
+    let added = push_file(alloc, &mut files, "g.mly", grammar.as_bytes());
+    run_files(rt, alloc, words, filled(files, added)?, input)
+}
+
+/// Runs the tool on these files and this input.
+pub fn run_files(
+    rt: &impl Abort,
+    alloc: Global,
+    words: &str,
+    files: Vec<(Vec<u8>, Vec<u8>)>,
+    input: &[u8],
+) -> Result<Outcome, Fail> {
+    let (files, input) = beside(files, copied(alloc, input))?;
     run(rt, alloc, words, files, input, Fails::none(alloc))
 }
 
-/// Compares a text with the one that is wanted, or with its front where the last line of that is `...`.
-fn check_text(rt: &impl Abort, found: &[u8], wanted: &str, case: &str) -> Result<(), Fail> {
-    let found = str::from_utf8(found)?;
-    match wanted.strip_suffix("...\n") {
-        Some(front) => assert!(rt; found.starts_with(front), "{found}\nin\n{case}"),
-        None => assert_eq!(rt; found, wanted, "in\n{case}"),
+/// Adds bytes to a text. One that finds no memory lacks them, and is not what is wanted.
+pub fn put(text: &mut Vec<u8>, bytes: &[u8]) {
+    let _ = text.extend_from_slice(bytes);
+}
+
+pub fn copied(alloc: Global, bytes: &[u8]) -> Result<Vec<u8>, Fail> {
+    Ok(bytes.to_vec(alloc)?)
+}
+
+/// Adds a file of this name and text.
+pub fn push_file(
+    alloc: Global,
+    files: &mut Vec<(Vec<u8>, Vec<u8>)>,
+    name: &str,
+    text: &[u8],
+) -> Result<(), Fail> {
+    let name = copied(alloc, name.as_bytes())?;
+    files.push(beside(name, copied(alloc, text))?)?;
+    Ok(())
+}
+
+/// Adds a number, with at least three digits where the other number has three.
+fn put_number(text: &mut String, number: u32, like: &str) {
+    let _ = if like.len() == 3 {
+        write!(text, "{number:03}")
+    } else {
+        write!(text, "{number}")
+    };
+}
+
+/// Adds a part, in which `@` stands for a number and `@+` for the next.
+fn put_numbered(text: &mut String, part: &str, number: u32, like: &str) {
+    for (place, piece) in part.split('@').enumerate() {
+        if place > 0 {
+            let is_next = piece.starts_with('+');
+            put_number(text, number.saturating_add(u32::from(is_next)), like);
+        }
+        let _ = text.push_str(piece.trim_start_matches('+'));
+    }
+}
+
+/// Adds a part once for each of some numbers, which stand in front of it.
+fn push_repeated(text: &mut String, repeated: &str) -> Result<(), Fail> {
+    let (numbers, part) = repeated.split_once(' ').ok_or("numbers without a part")?;
+    let (first, end) = numbers.split_once("..").ok_or("a part without numbers")?;
+    for number in first.parse::<u32>()?..end.parse::<u32>()? {
+        put_numbered(text, part, number, first);
     }
     Ok(())
 }
 
+fn push_spelled(text: &mut String, short: &str) -> Result<(), Fail> {
+    for (place, part) in short.split('`').enumerate() {
+        if place % 2 == 0 {
+            text.push_str(part)?;
+        } else {
+            push_repeated(text, part)?;
+        }
+    }
+    Ok(())
+}
+
+/// The text that a short one stands for. Between two backquotes there are `FIRST..END`, a space and a part, which stands for this part
+/// once for each number from the first to the one before the end, with the number for each `@` in it, and the next number for `@+`.
+/// Where the first has three digits, so has each.
+pub fn spelled(alloc: Global, short: &str) -> Result<Vec<u8>, Fail> {
+    let mut text = String::new(alloc);
+    let added = push_spelled(&mut text, short);
+    Ok(filled(text, added)?.into_bytes())
+}
+
 /// Adds a file, whose text stands behind a line with its name.
 fn add_file(alloc: Global, files: &mut Vec<(Vec<u8>, Vec<u8>)>, file: &str) -> Result<(), Fail> {
-    let (name, text) = file.split_once('\n').ok_or("a file without a name")?;
-    let name = name.as_bytes().to_vec(alloc)?;
-    files.push((name, text.as_bytes().to_vec(alloc)?))?;
-    Ok(())
+    let (name, short) = file.split_once('\n').ok_or("a file without a name")?;
+    let text = spelled(alloc, short)?;
+    let added = push_file(alloc, files, name, text.as_slice());
+    release(text);
+    added
 }
 
 fn add_files(
@@ -221,38 +314,139 @@ pub fn given_files(
     filled(files, added)
 }
 
+fn add_parts<'a>(parts: &mut Vec<&'a str>, case: &'a str) -> Result<(), Fail> {
+    for part in case.split("~\n") {
+        parts.push(part)?;
+    }
+    Ok(())
+}
+
+/// The parts of a case, between which lines `~` stand.
+pub fn parts_of(alloc: Global, case: &str) -> Result<Vec<&str>, Fail> {
+    let mut parts = Vec::new(alloc);
+    let added = add_parts(&mut parts, case);
+    filled(parts, added)
+}
+
+/// Which calls of the devices fail, a line for each.
+fn fails_of(alloc: Global, lines: &str) -> Result<Fails, Fail> {
+    let mut fails = Fails::none(alloc);
+    let added = fails.add_all(lines);
+    filled(fails, added)
+}
+
+/// Whether a text is the one that is wanted; or begins with it, or ends with it, where the last or the first line of that is `...`.
+fn is_wanted(found: &[u8], wanted: &[u8]) -> bool {
+    if let Some(front) = wanted.strip_suffix(b"...\n") {
+        return found.starts_with(front);
+    }
+    match wanted.strip_prefix(b"...\n") {
+        Some(end) => found.ends_with(end),
+        None => found == wanted,
+    }
+}
+
+/// As much of a text as is told where another is wanted.
+fn front_of(text: &[u8]) -> &str {
+    str::from_utf8(text.get(..5_000).unwrap_or(text)).unwrap_or("no text")
+}
+
+/// Compares a text with the one that is wanted.
+fn check_text(
+    rt: &impl Abort,
+    alloc: Global,
+    found: &[u8],
+    wanted: &str,
+    case: &str,
+) -> Result<(), Fail> {
+    let wanted = spelled(alloc, wanted)?;
+    let is_wanted = is_wanted(found, wanted.as_slice());
+    release(wanted);
+    assert!(rt; is_wanted, "{}\nin\n{case}", front_of(found));
+    Ok(())
+}
+
+/// Compares what a run comes to with what is wanted.
+fn check_outcome(
+    rt: &impl Abort,
+    alloc: Global,
+    got: &Outcome,
+    wanted: (u8, &str, &str),
+    case: &str,
+) -> Result<(), Fail> {
+    check_text(rt, alloc, &got.err, wanted.2, case)?;
+    check_text(rt, alloc, &got.out, wanted.1, case)?;
+    assert_eq!(rt; got.status, wanted.0, "in\n{case}");
+    Ok(())
+}
+
+/// The status and the words of a case, and which calls fail.
+#[derive(Clone, Copy)]
+struct Head<'a> {
+    status: u8,
+    words: &'a str,
+    calls: &'a str,
+}
+
+fn head_of(text: &str) -> Result<Head<'_>, Fail> {
+    let (order, calls) = text.split_once('\n').ok_or("a case without words")?;
+    let (status, words) = order.split_once(' ').unwrap_or((order, ""));
+    Ok(Head {
+        status: status.parse()?,
+        words,
+        calls,
+    })
+}
+
+/// What a case comes to.
+fn run_case(
+    rt: &impl Abort,
+    alloc: Global,
+    head: Head,
+    shared: Option<&str>,
+    named: &[&str],
+    input: &str,
+) -> Result<Outcome, Fail> {
+    let files = given_files(alloc, shared, named)?;
+    let given = beside(files, fails_of(alloc, head.calls))?;
+    let ((files, fails), input) = beside(given, spelled(alloc, input))?;
+    run(rt, alloc, head.words, files, input, fails)
+}
+
 /// Runs one case of a text.
+fn check_parts(
+    rt: &impl Abort,
+    alloc: Global,
+    shared: Option<&str>,
+    parts: &[&str],
+    case: &str,
+) -> Result<(), Fail> {
+    let [head, named @ .., input, out, err] = parts else {
+        return Err(Fail::from("a case lacks a part"));
+    };
+    let head = head_of(*head)?;
+    let got = run_case(rt, alloc, head, shared, named, *input)?;
+    let result = check_outcome(rt, alloc, &got, (head.status, *out, *err), case);
+    release(got);
+    result
+}
+
 fn check_case(
     rt: &impl Abort,
     alloc: Global,
     shared: Option<&str>,
     case: &str,
 ) -> Result<(), Fail> {
-    let mut parts = Vec::new(alloc);
-    for part in case.split("~\n") {
-        parts.push(part)?;
-    }
-    let [head, named @ .., input, out, err] = parts.as_slice() else {
-        return Err(Fail::from("a case lacks a part"));
-    };
-    let (order, calls) = head.split_once('\n').ok_or("a case without words")?;
-    let (status, words) = order.split_once(' ').unwrap_or((order, ""));
-    let mut fails = Fails::none(alloc);
-    for line in calls.lines() {
-        fails.add(line)?;
-    }
-    let files = given_files(alloc, shared, named)?;
-    let input = input.as_bytes().to_vec(alloc)?;
-    let got = run(rt, alloc, words, files, input, fails)?;
-    check_text(rt, &got.err, *err, case)?;
-    check_text(rt, &got.out, *out, case)?;
-    assert_eq!(rt; got.status, status.parse()?, "in\n{case}");
-    Ok(())
+    let parts = parts_of(alloc, case)?;
+    let result = check_parts(rt, alloc, shared, parts.as_slice(), case);
+    release(parts);
+    result
 }
 
 /// Runs each case of a text. Lines `^` stand between cases, and lines `~` between their parts. These are: the status and
 /// the words, with a line for each call of a device that is to fail; each file, behind a line with its name; the input;
-/// what is written on out; and what is written on err. Of a text that ends with the line `...` the front alone is told.
+/// what is written on out; and what is written on err. Of a text that ends with the line `...` the front alone is told, and of one
+/// that begins with it the end.
 pub fn check_cases(rt: &impl Abort, alloc: Global, cases: &str) -> Result<(), Fail> {
     for case in cases.split("^\n") {
         check_case(rt, alloc, None, case)?;
@@ -269,14 +463,6 @@ pub fn check_cases_with(
 ) -> Result<(), Fail> {
     for case in cases.split("^\n") {
         check_case(rt, alloc, Some(file), case)?;
-    }
-    Ok(())
-}
-
-/// Adds a part to a text so many times.
-pub fn push_times(text: &mut Vec<u8>, part: &[u8], count: usize) -> Result<(), Fail> {
-    for _ in 0..count {
-        text.extend_from_slice(part)?;
     }
     Ok(())
 }

@@ -89,26 +89,11 @@ menhir: usage: bad words
 ";
 
 #[test]
-fn merged(rt: HostRuntime) -> Result<(), Fail> {
-    check_cases(&rt, rt.alloc(), MERGED)
-}
-
-#[test]
-fn canonical(rt: HostRuntime) -> Result<(), Fail> {
-    check_cases(&rt, rt.alloc(), CANONICAL)
-}
-
-#[test]
-fn more_levels(rt: HostRuntime) -> Result<(), Fail> {
-    check_cases(&rt, rt.alloc(), MORE_LEVELS)
-}
-
-#[test]
-fn unwritten(rt: HostRuntime) -> Result<(), Fail> {
-    check_cases(&rt, rt.alloc(), UNWRITTEN)
-}
-
-#[test]
-fn words(rt: HostRuntime) -> Result<(), Fail> {
-    check_cases(&rt, rt.alloc(), WORDS)
+fn samples(rt: HostRuntime) -> Result<(), Fail> {
+    let alloc = rt.alloc();
+    check_cases(&rt, alloc, MERGED)?;
+    check_cases(&rt, alloc, CANONICAL)?;
+    check_cases(&rt, alloc, MORE_LEVELS)?;
+    check_cases(&rt, alloc, UNWRITTEN)?;
+    check_cases(&rt, alloc, WORDS)
 }

@@ -1,6 +1,5 @@
 //! Sessions.
-use crate::runs::{check_cases, push_times, run_on};
-use std::alloc::Global;
+use crate::runs::{check_cases, check_cases_with};
 use std::test::Fail;
 
 const REPLIES: &str = "0 --session g.mly
@@ -125,44 +124,58 @@ fn each_reply_is_that_of_its_branch(rt: HostRuntime) -> Result<(), Fail> {
 }
 
 /// A list with its items in front.
-const CHAIN: &[u8] = b"%token A B\n%start s\n%%\ns: A s {} | B {}\n";
+const CHAIN: &str = "g.mly
+%token A B
+%start s
+%%
+s: A s {} | B {}
+";
 
-/// Commands that shift so many tokens `A`.
-fn shifts(alloc: Global, count: usize) -> Result<Vec<u8>, Fail> {
-    let mut commands = b"begin a\n".to_vec(alloc)?;
-    push_times(&mut commands, b"offer a A\nresume a\n", count)?;
-    Ok(commands)
-}
+// Behind 4,000 tokens one more is too deep.
+const DEEP: &str = "0 --session g.mly
+~
+begin a
+`0..4000 offer a A
+resume a
+`offer a A
+resume a
+show a
+~
+...
+
+a input-needed 1
+a shifting 1 A
+error: too deep
+a shifting 1 A
+~
+";
 
 #[test]
 fn a_step_may_be_too_deep(rt: HostRuntime) -> Result<(), Fail> {
-    let alloc = rt.alloc();
-    let mut commands = shifts(alloc, 4000)?;
-    commands.extend_from_slice(b"offer a A\nresume a\nshow a\n")?;
-    let got = run_on(&rt, alloc, "--session g.mly", CHAIN, commands)?;
-    assert_eq!(rt; got.status, 0);
-    assert!(rt;
-        got.out.ends_with(b"\na input-needed 1\na shifting 1 A\nerror: too deep\na shifting 1 A\n")
-    );
-    Ok(())
+    check_cases_with(&rt, rt.alloc(), CHAIN, DEEP)
 }
 
 // Copied stacks would be 2,000,000,000 cells.
+const FORKS: &str = "0 --session g.mly
+~
+begin a
+`0..4000 offer a A
+resume a
+``1..500001 fork a n@
+`forget a
+show n1
+show n500000
+~
+...
+
+n500000 input-needed 1
+a forgotten
+n1 input-needed 1
+n500000 input-needed 1
+~
+";
+
 #[test]
 fn half_a_million_forks_of_a_deep_stack(rt: HostRuntime) -> Result<(), Fail> {
-    let alloc = rt.alloc();
-    let mut commands = shifts(alloc, 4000)?;
-    for number in 1..=500_000u32 {
-        let line = format!(in alloc; "fork a n{number}\n")?;
-        commands.extend_from_slice(line.as_bytes())?;
-    }
-    commands.extend_from_slice(b"forget a\nshow n1\nshow n500000\n")?;
-    let got = run_on(&rt, alloc, "--session g.mly", CHAIN, commands)?;
-    assert_eq!(rt; got.status, 0);
-    assert!(rt;
-        got.out.ends_with(
-            b"\nn500000 input-needed 1\na forgotten\nn1 input-needed 1\nn500000 input-needed 1\n"
-        )
-    );
-    Ok(())
+    check_cases_with(&rt, rt.alloc(), CHAIN, FORKS)
 }

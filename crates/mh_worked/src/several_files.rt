@@ -88,11 +88,6 @@ ACCEPT
 ~
 "#;
 
-#[test]
-fn files_that_are_joined(rt: HostRuntime) -> Result<(), Fail> {
-    check_cases(&rt, rt.alloc(), JOINED)
-}
-
 // A file's own rule goes before the public one, and that before the standard library's. Where a file defines a rule of
 // the library, the library's has `@0` behind its name.
 const SHADOWED: &str = r#"0 --interpret --interpret-show-cst a.mly b.mly
@@ -160,11 +155,6 @@ ACCEPT
 ~
 "#;
 
-#[test]
-fn rules_that_hide_others(rt: HostRuntime) -> Result<(), Fail> {
-    check_cases(&rt, rt.alloc(), SHADOWED)
-}
-
 // Levels of two files are not compared, so the token is shifted, with a warning. A file that stands twice is two files,
 // whose own rules are apart.
 const APART: &str = "0 --interpret --interpret-show-cst a.mly b.mly
@@ -227,11 +217,6 @@ ACCEPT
 ~
 menhir: warning: conflict in state 1 on EOF
 ";
-
-#[test]
-fn files_with_things_of_their_own(rt: HostRuntime) -> Result<(), Fail> {
-    check_cases(&rt, rt.alloc(), APART)
-}
 
 const REFUSED: &str = r#"1 --interpret a.mly b.mly
 ~
@@ -332,11 +317,6 @@ t: A {}
 menhir: no start symbol
 "#;
 
-#[test]
-fn files_that_do_not_go_together(rt: HostRuntime) -> Result<(), Fail> {
-    check_cases(&rt, rt.alloc(), REFUSED)
-}
-
 // Each file is read and spelled before the next, and all of them before they are joined.
 const IN_TURN: &str = "3 --interpret a.mly b.mly
 ~
@@ -388,6 +368,11 @@ menhir: b.mly:2: syntax error
 ";
 
 #[test]
-fn one_file_after_another(rt: HostRuntime) -> Result<(), Fail> {
-    check_cases(&rt, rt.alloc(), IN_TURN)
+fn several_files(rt: HostRuntime) -> Result<(), Fail> {
+    let alloc = rt.alloc();
+    check_cases(&rt, alloc, JOINED)?;
+    check_cases(&rt, alloc, SHADOWED)?;
+    check_cases(&rt, alloc, APART)?;
+    check_cases(&rt, alloc, REFUSED)?;
+    check_cases(&rt, alloc, IN_TURN)
 }

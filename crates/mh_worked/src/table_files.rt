@@ -1,6 +1,9 @@
 //! Table files that the program writes, and tables that come from files.
 use crate::messages::ROUNDS;
-use crate::runs::{Fails, ONE_SENTENCE_FILE, Outcome, check_cases, check_cases_with, run, run_on};
+use crate::runs::{
+    ONE_SENTENCE_FILE, Outcome, check_cases, check_cases_with, filled, push_file, release,
+    run_files, run_on,
+};
 use std::alloc::Global;
 use std::process::Abort;
 use std::test::Fail;
@@ -139,17 +142,8 @@ menhir: usage: two modes
 menhir: usage: no grammar
 ";
 
-#[test]
-fn written(rt: HostRuntime) -> Result<(), Fail> {
-    check_cases(&rt, rt.alloc(), WRITTEN)
-}
-
-#[test]
-fn around(rt: HostRuntime) -> Result<(), Fail> {
-    check_cases(&rt, rt.alloc(), AROUND)
-}
-
-// Beside the files of each case stands the grammar of one sentence. The last table is of version 1.
+// A table that comes from a file is worked with like one that is built. Beside the files of each case stands the grammar of one
+// sentence. The last table is of version 1.
 const TAKEN: &str = "0 --list-errors --tables t g.mly
 ~
 t
@@ -327,12 +321,6 @@ end
 ~
 ";
 
-/// A table that comes from a file is worked with like one that is built.
-#[test]
-fn taken(rt: HostRuntime) -> Result<(), Fail> {
-    check_cases_with(&rt, rt.alloc(), ONE_SENTENCE_FILE, TAKEN)
-}
-
 // The file is read behind the grammar. Beside what builds a table of its own, or none, the word has no meaning.
 const REFUSED: &str = "3 --interpret --tables t g.mly
 ~
@@ -444,31 +432,37 @@ menhir: usage: no mode
 menhir: usage: no grammar
 ";
 
-#[test]
-fn refused(rt: HostRuntime) -> Result<(), Fail> {
-    check_cases_with(&rt, rt.alloc(), ONE_SENTENCE_FILE, REFUSED)
-}
-
 /// A table file with its lines `old` as `new`, or without them.
-fn changed(alloc: Global, file: &str, old: &str, new: &str) -> Result<String, Fail> {
+fn changed(alloc: Global, file: &str, old: &str, new: &str) -> String {
     let mut text = String::new(alloc);
     for line in file.lines() {
         let line = if line == old { new } else { line };
         if !line.is_empty() {
-            text.push_str(line)?;
-            text.push('\n')?;
+            let _ = text.push_str(line);
+            let _ = text.push('\n');
         }
     }
-    Ok(text)
+    text
 }
 
-/// The files `g.mly` and `t`.
-fn with_table(alloc: Global, grammar: &str, table: &[u8]) -> Result<Vec<(Vec<u8>, Vec<u8>)>, Fail> {
-    let mut files = Vec::new(alloc);
-    let grammar = grammar.as_bytes().to_vec(alloc)?;
-    files.push((b"g.mly".to_vec(alloc)?, grammar))?;
-    files.push((b"t".to_vec(alloc)?, table.to_vec(alloc)?))?;
-    Ok(files)
+/// Changes a table file: an old and a new line, perhaps two more.
+fn change(alloc: Global, table: &mut String, changes: &str) -> Result<(), Fail> {
+    for pair in changes.split(" & ") {
+        let (old, new) = pair.split_once("; ").ok_or("a change without a new line")?;
+        *table = changed(alloc, table, old, new);
+    }
+    Ok(())
+}
+
+/// Adds the files `g.mly` and `t`.
+fn push_both(
+    alloc: Global,
+    files: &mut Vec<(Vec<u8>, Vec<u8>)>,
+    grammar: &str,
+    table: &[u8],
+) -> Result<(), Fail> {
+    push_file(alloc, files, "g.mly", grammar.as_bytes())?;
+    push_file(alloc, files, "t", table)
 }
 
 /// What the words come to on a grammar with a table file beside it.
@@ -479,11 +473,34 @@ fn run_beside(
     grammar: &str,
     table: &[u8],
 ) -> Result<Outcome, Fail> {
-    let files = with_table(alloc, grammar, table)?;
-    run(rt, alloc, words, files, Vec::new(alloc), Fails::none(alloc))
+    let mut files = Vec::new(alloc);
+    let added = push_both(alloc, &mut files, grammar, table);
+    run_files(rt, alloc, words, filled(files, added)?, &[])
 }
 
-/// Changes a table file as a line tells: an old and a new line, perhaps two more, and what is told of the file then.
+fn check_told(rt: &impl Abort, got: &Outcome, told: &str, table: &str) -> Result<(), Fail> {
+    assert_eq!(rt; str::from_utf8(&got.err)?, told, "of\n{table}");
+    assert_eq!(rt; got.status, 1);
+    assert_eq!(rt; got.out.len(), 0);
+    Ok(())
+}
+
+/// Compares what is told of a table file.
+fn check_table(
+    rt: &impl Abort,
+    alloc: Global,
+    grammar: &str,
+    table: &str,
+    told: &str,
+) -> Result<(), Fail> {
+    let words = "--interpret --tables t g.mly";
+    let got = run_beside(rt, alloc, words, grammar, table.as_bytes())?;
+    let result = check_told(rt, &got, told, table);
+    release(got);
+    result
+}
+
+/// Changes a table file as a line tells, and behind that what is told of the file then.
 fn check_change(
     rt: &impl Abort,
     alloc: Global,
@@ -491,22 +508,27 @@ fn check_change(
     file: &str,
     line: &str,
 ) -> Result<(), Fail> {
-    let (change, told) = line.rsplit_once("; ").ok_or("nothing is told")?;
+    let (changes, told) = line.rsplit_once("; ").ok_or("nothing is told")?;
     let mut table = String::from_str(alloc, file)?;
-    for pair in change.split(" & ") {
-        let (old, new) = pair.split_once("; ").ok_or("a change without a new line")?;
-        table = changed(alloc, &table, old, new)?;
+    let result = match change(alloc, &mut table, changes) {
+        Ok(()) => check_table(rt, alloc, grammar, &table, told),
+        Err(fail) => Err(fail),
+    };
+    release(table);
+    result
+}
+
+fn check_lines(
+    rt: &impl Abort,
+    alloc: Global,
+    grammar: &str,
+    file: &[u8],
+    changes: &str,
+) -> Result<(), Fail> {
+    let file = str::from_utf8(file)?;
+    for line in changes.split_inclusive('\n') {
+        check_change(rt, alloc, grammar, file, line)?;
     }
-    let got = run_beside(
-        rt,
-        alloc,
-        "--interpret --tables t g.mly",
-        grammar,
-        table.as_bytes(),
-    )?;
-    assert_eq!(rt; str::from_utf8(&got.err)?, told, "of\n{table}");
-    assert_eq!(rt; got.status, 1);
-    assert_eq!(rt; got.out.len(), 0);
     Ok(())
 }
 
@@ -518,11 +540,10 @@ fn check_changes(
     words: &str,
     changes: &str,
 ) -> Result<(), Fail> {
-    let written = run_on(rt, alloc, words, grammar.as_bytes(), Vec::new(alloc))?;
-    for line in changes.split_inclusive('\n') {
-        check_change(rt, alloc, grammar, str::from_utf8(&written.out)?, line)?;
-    }
-    Ok(())
+    let written = run_on(rt, alloc, words, grammar)?;
+    let result = check_lines(rt, alloc, grammar, &written.out, changes);
+    release(written);
+    result
 }
 
 // Another version comes before each fault of form, a fault of form before each test of what the file says, and each kernel before
@@ -607,10 +628,10 @@ fn run_built(
     mode: &str,
     job: &str,
 ) -> Result<Outcome, Fail> {
-    let mut words = String::from_str(alloc, mode)?;
-    words.push_str(job)?;
-    words.push_str(" g.mly")?;
-    run_on(rt, alloc, &words, grammar.as_bytes(), Vec::new(alloc))
+    let words = format!(in alloc; "{mode}{job} g.mly")?;
+    let got = run_on(rt, alloc, &words, grammar);
+    release(words);
+    got
 }
 
 /// What it comes to on a table file.
@@ -621,9 +642,10 @@ fn run_read(
     table: &[u8],
     job: &str,
 ) -> Result<Outcome, Fail> {
-    let mut words = String::from_str(alloc, "--tables t g.mly ")?;
-    words.push_str(job)?;
-    run_beside(rt, alloc, &words, grammar, table)
+    let words = format!(in alloc; "--tables t g.mly {job}")?;
+    let got = run_beside(rt, alloc, &words, grammar, table);
+    release(words);
+    got
 }
 
 fn check_same(rt: &impl Abort, got: &Outcome, wanted: &Outcome) {
@@ -642,6 +664,7 @@ fn check_read(
 ) -> Result<(), Fail> {
     let got = run_read(rt, alloc, grammar, table, job)?;
     check_same(rt, &got, wanted);
+    release(got);
     Ok(())
 }
 
@@ -654,7 +677,9 @@ fn check_job(
     job: &str,
 ) -> Result<(), Fail> {
     let wanted = run_built(rt, alloc, grammar, mode, job)?;
-    check_read(rt, alloc, grammar, table, job, &wanted)
+    let result = check_read(rt, alloc, grammar, table, job, &wanted);
+    release(wanted);
+    result
 }
 
 /// Each job comes to the same on the automaton that is built and on its table file.
@@ -681,7 +706,9 @@ fn check_file(
 ) -> Result<(), Fail> {
     let written = run_built(rt, alloc, grammar, mode, "--write-tables")?;
     assert!(rt; written.out.starts_with(first.as_bytes()));
-    check_jobs(rt, alloc, grammar, mode, &written.out)
+    let result = check_jobs(rt, alloc, grammar, mode, &written.out);
+    release(written);
+    result
 }
 
 /// Two grammars with conflicts, one of them at the end of a stream, and one whose costs are not one.
@@ -710,6 +737,7 @@ fn written_and_read_again(rt: HostRuntime) -> Result<(), Fail> {
 fn check_shown(rt: &impl Abort, alloc: Global, grammar: &str, table: &[u8]) -> Result<(), Fail> {
     let shown = run_read(rt, alloc, grammar, table, "--show-automaton")?;
     assert!(rt; shown.out.starts_with(b"canonical: 10 states\n"));
+    release(shown);
     Ok(())
 }
 
@@ -718,5 +746,16 @@ fn check_shown(rt: &impl Abort, alloc: Global, grammar: &str, table: &[u8]) -> R
 fn mode_of_the_file(rt: HostRuntime) -> Result<(), Fail> {
     let grammar = "%token C D %start s %% s: c c {} c: C c {} | D {}";
     let written = run_built(&rt, rt.alloc(), grammar, "--canonical ", "--write-tables")?;
-    check_shown(&rt, rt.alloc(), grammar, &written.out)
+    let result = check_shown(&rt, rt.alloc(), grammar, &written.out);
+    release(written);
+    result
+}
+
+#[test]
+fn table_files(rt: HostRuntime) -> Result<(), Fail> {
+    let alloc = rt.alloc();
+    check_cases(&rt, alloc, WRITTEN)?;
+    check_cases(&rt, alloc, AROUND)?;
+    check_cases_with(&rt, alloc, ONE_SENTENCE_FILE, TAKEN)?;
+    check_cases_with(&rt, alloc, ONE_SENTENCE_FILE, REFUSED)
 }

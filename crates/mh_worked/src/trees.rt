@@ -1,6 +1,5 @@
 //! Trees of what is accepted.
-use crate::runs::{check_cases, push_times, run_on};
-use std::alloc::Global;
+use crate::runs::{check_cases, check_cases_with};
 use std::test::Fail;
 
 const TREES: &str = "0 --interpret --interpret-show-cst g.mly
@@ -59,11 +58,6 @@ ACCEPT
 [p: [x: C D] A]
 ~
 ";
-
-#[test]
-fn trees_of_lines(rt: HostRuntime) -> Result<(), Fail> {
-    check_cases(&rt, rt.alloc(), TREES)
-}
 
 // An ELSE goes to the inner IF, since a shift goes before a reduction, with a warning, and since its level is higher,
 // without one.
@@ -129,11 +123,6 @@ ACCEPT
 ~
 ";
 
-#[test]
-fn a_branch_of_two(rt: HostRuntime) -> Result<(), Fail> {
-    check_cases(&rt, rt.alloc(), BRANCHES)
-}
-
 // Left and right, higher and lower levels; a sign that is inlined gives its level; the sign of a number binds most.
 const LEVELS: &str = r#"0 --interpret --interpret-show-cst --strict g.mly
 ~
@@ -167,11 +156,6 @@ ACCEPT
 [main: [e: [e: INT] ARROW [e: [e: INT] ARROW [e: [e: INT] PLUS [e: INT]]]] EOF]
 ~
 "#;
-
-#[test]
-fn levels_of_signs(rt: HostRuntime) -> Result<(), Fail> {
-    check_cases(&rt, rt.alloc(), LEVELS)
-}
 
 // The rules of the standard library, those that are inlined leaving nothing.
 const LIBRARY: &str = "0 --interpret --interpret-show-cst g.mly
@@ -223,43 +207,50 @@ ACCEPT
 ~
 ";
 
+// B makes a tree of height 2, and each A one that is higher by 1; 4,000 is the greatest height. A verdict has no such limit.
+const NESTED: &str = "g.mly
+%token A B
+%start s
+%%
+s: A s {} | B {}
+";
+
+const HEIGHTS: &str = "0 --interpret --interpret-show-cst g.mly
+~
+`0..3998 A `B
+~
+ACCEPT
+`0..3998 [s: A `[s: B]`0..3998 ]`
+~
+^
+0 --interpret --interpret-show-cst g.mly
+~
+`0..3999 A `B
+~
+TOODEEP
+~
+^
+0 --interpret g.mly
+~
+`0..3998 A `B
+~
+ACCEPT
+~
+^
+0 --interpret g.mly
+~
+`0..3999 A `B
+~
+ACCEPT
+~
+";
+
 #[test]
-fn rules_of_the_standard_library(rt: HostRuntime) -> Result<(), Fail> {
-    check_cases(&rt, rt.alloc(), LIBRARY)
-}
-
-/// A line of so many times `A`, then `B`.
-fn nested(alloc: Global, count: usize) -> Result<Vec<u8>, Fail> {
-    let mut line = Vec::new(alloc);
-    push_times(&mut line, b"A ", count)?;
-    line.extend_from_slice(b"B\n")?;
-    Ok(line)
-}
-
-const NESTED: &[u8] = b"%token A B\n%start s\n%%\ns: A s {} | B {}\n";
-
-// B makes a tree of height 2, and each A one that is higher by 1; 4,000 is the greatest height. A verdict has no such
-// limit.
-#[test]
-fn trees_have_a_greatest_height(rt: HostRuntime) -> Result<(), Fail> {
+fn trees_of_lines(rt: HostRuntime) -> Result<(), Fail> {
     let alloc = rt.alloc();
-    let mut text = b"ACCEPT\n".to_vec(alloc)?;
-    push_times(&mut text, b"[s: A ", 3998)?;
-    text.extend_from_slice(b"[s: B]")?;
-    push_times(&mut text, b"]", 3998)?;
-    text.push(b'\n')?;
-    let shown = "--interpret --interpret-show-cst g.mly";
-    let got = run_on(&rt, alloc, shown, NESTED, nested(alloc, 3998)?)?;
-    assert_eq!(rt; got.status, 0);
-    assert_eq!(rt; got.out.as_slice(), text.as_slice());
-    let got = run_on(&rt, alloc, shown, NESTED, nested(alloc, 3999)?)?;
-    assert_eq!(rt; got.status, 0);
-    assert_eq!(rt; got.out.as_slice(), b"TOODEEP\n".as_slice());
-    for count in [3998, 3999] {
-        let input = nested(alloc, count)?;
-        let got = run_on(&rt, alloc, "--interpret g.mly", NESTED, input)?;
-        assert_eq!(rt; got.status, 0);
-        assert_eq!(rt; got.out.as_slice(), b"ACCEPT\n".as_slice());
-    }
-    Ok(())
+    check_cases(&rt, alloc, TREES)?;
+    check_cases(&rt, alloc, BRANCHES)?;
+    check_cases(&rt, alloc, LEVELS)?;
+    check_cases(&rt, alloc, LIBRARY)?;
+    check_cases_with(&rt, alloc, NESTED, HEIGHTS)
 }

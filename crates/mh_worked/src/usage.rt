@@ -112,11 +112,6 @@ menhir: usage: misplaced --interpret-show-cst
 menhir: usage: misplaced --interpret-show-cst
 ";
 
-#[test]
-fn words_that_are_refused(rt: HostRuntime) -> Result<(), Fail> {
-    check_cases(&rt, rt.alloc(), MISUSES)
-}
-
 // Files stand between options; behind `--` every word is a file, and so is `-`.
 const ORDERS: &str = "0 g.mly --interpret
 ~
@@ -170,6 +165,8 @@ menhir: cannot read --interpret
 ";
 
 #[test]
-fn words_in_other_places(rt: HostRuntime) -> Result<(), Fail> {
-    check_cases(&rt, rt.alloc(), ORDERS)
+fn words(rt: HostRuntime) -> Result<(), Fail> {
+    let alloc = rt.alloc();
+    check_cases(&rt, alloc, MISUSES)?;
+    check_cases(&rt, alloc, ORDERS)
 }

@@ -2,16 +2,17 @@
 ghost use Rattle.std.specs.Prelude.{◌≡◌, ◌≤◌, length};
 ghost use Rattle.mh_grammar.specs.Costs.{HaveCosts};
 ghost use Rattle.mh_grammar.specs.Plain.{plain_of, IsInRange};
-ghost use Rattle.mh_items.specs.Automaton.{IsAutomaton};
+ghost use Rattle.mh_kernels.specs.Automaton.{IsAutomaton};
 
-use crate::facts::{automaton_of, is_small, table_of};
+use crate::facts::{automaton_of, is_small, release, table_of};
 use mh_catalogue::catalogue;
 use mh_grammar::Grammar;
-use mh_items::Automaton;
+use mh_kernels::Automaton;
 use mh_made::grammar_of;
 use mh_sample::{sample, sample_grammar, sample_line};
 use mh_tables::Halting;
 use std::alloc::Global;
+use std::process::Abort;
 use std::test::Fail;
 
 /// The grammar of the number 0, with two operators.
@@ -42,7 +43,9 @@ fn by_table(alloc: Global, number: u32, grammar: &Grammar, table: &Halting) -> R
     let Ok(rows) = catalogue(alloc, table) else {
         return Err(Fail::from("no catalogue"));
     };
-    Ok(sample_line(alloc, number, grammar, table, rows.len())?)
+    let listed = rows.len();
+    release(rows);
+    Ok(sample_line(alloc, number, grammar, table, listed)?)
 }
 
 fn by_automaton(
@@ -57,7 +60,9 @@ fn by_automaton(
     requires automaton { IsAutomaton (plain_of grammar.now) automaton.now }
 {
     let table = table_of(alloc, grammar, automaton)?;
-    by_table(alloc, number, grammar, &table)
+    let line = by_table(alloc, number, grammar, &table);
+    release(table);
+    line
 }
 
 /// The line of a sample by this grammar.
@@ -66,7 +71,9 @@ fn line_of(alloc: Global, number: u32, grammar: &Grammar) -> Result<Vec<u8>, Fai
         return Err(Fail::from("out of range"));
     }
     let automaton = automaton_of(alloc, grammar)?;
-    by_automaton(alloc, number, grammar, &automaton)
+    let line = by_automaton(alloc, number, grammar, &automaton);
+    release(automaton);
+    line
 }
 
 #[test]
@@ -79,12 +86,17 @@ fn grammars(rt: HostRuntime) -> Result<(), Fail> {
 
 #[test]
 fn sentences(rt: HostRuntime) -> Result<(), Fail> {
-    let alloc = rt.alloc();
-    let sample = sample(alloc, 0)?;
-    assert!(rt; sample.sentences.starts_with(FIRST.as_bytes()));
+    let sample = sample(rt.alloc(), 0)?;
+    check_sentences(&rt, &sample.sentences);
+    release(sample);
+    Ok(())
+}
+
+fn check_sentences(rt: &impl Abort, sentences: &[u8]) {
+    assert!(rt; sentences.starts_with(FIRST.as_bytes()));
     let mut count = 0u32;
     let mut last: &[u8] = b"";
-    for line in sample.sentences.split(|byte| *byte == b'\n') {
+    for line in sentences.split(|byte| *byte == b'\n') {
         if !line.is_empty() {
             count = count.wrapping_add(1);
             last = line;
@@ -92,14 +104,13 @@ fn sentences(rt: HostRuntime) -> Result<(), Fail> {
     }
     assert_eq!(rt; count, 3_000);
     assert_eq!(rt; last, LAST.as_bytes());
-    Ok(())
 }
 
 #[test]
 fn counts(rt: HostRuntime) -> Result<(), Fail> {
-    let alloc = rt.alloc();
-    let grammar = grammar_of(alloc, SAME)?;
-    let line = line_of(alloc, 0, &grammar)?;
-    assert_eq!(rt; line.as_slice(), LINE.as_bytes());
+    let grammar = grammar_of(rt.alloc(), SAME)?;
+    let line = line_of(rt.alloc(), 0, &grammar);
+    release(grammar);
+    assert_eq!(rt; line?.as_slice(), LINE.as_bytes());
     Ok(())
 }

@@ -3,20 +3,21 @@
 ghost use Rattle.std.specs.Prelude.{◌≡◌, ◌≤◌, length, IfOk};
 ghost use Rattle.mh_grammar.specs.Costs.{HaveCosts};
 ghost use Rattle.mh_grammar.specs.Plain.{plain_of, IsInRange};
-ghost use Rattle.mh_items.specs.Automaton.{IsAutomaton};
-ghost use Rattle.mh_resolve.specs.States.{IsTableOf};
-ghost use Rattle.mh_resolve.specs.declared.kinds.Mode.TheVariants.{Canonical};
+ghost use Rattle.mh_kernels.specs.Automaton.{IsAutomaton};
+ghost use Rattle.mh_cells.specs.States.{IsTableOf};
+ghost use Rattle.mh_cells.specs.declared.kinds.Mode.TheVariants.{Canonical};
 
-use crate::facts::{automaton_of, is_small, table_of};
+use crate::facts::{automaton_of, is_small, put, put_number, release, table_of};
 use mh_check::{CheckFault, Compiled, compare, compile};
 use mh_grammar::Grammar;
-use mh_items::Automaton;
+use mh_kernels::Automaton;
 use mh_made::grammar_of;
 use mh_msgfile::read_messages;
 use mh_run::Verdict;
 use mh_tables::Halting;
 use mh_update::update;
 use std::alloc::Global;
+use std::process::Abort;
 use std::test::Fail;
 
 /// One sentence.
@@ -41,19 +42,37 @@ const FILES: &str = "~^\
      ## Ends in an error in state: 0.\n##\n## s' -> . s [ # ]\n##\n\
      ## The known suffix of the stack is as follows:\n##\n##\n\nN\n";
 
-/// What is told of a file that does not fit.
-fn fault_text(alloc: Global, fault: &CheckFault) -> Result<Vec<u8>, Fail> {
-    let text = match fault {
-        CheckFault::NotRefused { line, verdict } => match verdict {
-            Verdict::Accept { .. } => format!(in alloc; "not refused {line}: ACCEPT")?,
-            Verdict::Overshoot { .. } => format!(in alloc; "not refused {line}: OVERSHOOT")?,
-            Verdict::Reject { .. } => format!(in alloc; "refused")?,
-        },
-        CheckFault::RefusedEarly { line, at } => format!(in alloc; "early {line}: {at}")?,
-        CheckFault::SharedState { .. } => format!(in alloc; "shared")?,
-        CheckFault::Memory => return Err(Fail::from("memory")),
-    };
-    Ok(text.into_bytes())
+/// Adds what is told of a file that does not fit.
+fn put_fault(alloc: Global, text: &mut Vec<u8>, fault: &CheckFault) {
+    match fault {
+        CheckFault::NotRefused { line, verdict } => {
+            put(text, b"not refused ");
+            put_number(alloc, text, *line as usize);
+            put(
+                text,
+                match verdict {
+                    Verdict::Accept { .. } => b": ACCEPT",
+                    Verdict::Overshoot { .. } => b": OVERSHOOT",
+                    Verdict::Reject { .. } => b": REJECT",
+                },
+            );
+        }
+        CheckFault::RefusedEarly { line, at } => {
+            put(text, b"early ");
+            put_number(alloc, text, *line as usize);
+            put(text, b": ");
+            put_number(alloc, text, *at as usize);
+        }
+        CheckFault::SharedState { .. } => put(text, b"shared"),
+        CheckFault::Memory => put(text, b"no memory"),
+    }
+}
+
+fn fault_text(alloc: Global, fault: CheckFault) -> Vec<u8> {
+    let mut text = Vec::new(alloc);
+    put_fault(alloc, &mut text, &fault);
+    release(fault);
+    text
 }
 
 /// What the file of these bytes becomes.
@@ -72,10 +91,12 @@ fn updated(
     let Ok(file) = read_messages(alloc, bytes, grammar) else {
         return Err(Fail::from("no messages file"));
     };
-    match update(alloc, grammar, automaton, table, &file) {
-        Ok(text) => Ok(text),
-        Err(fault) => fault_text(alloc, &fault),
-    }
+    let text = match update(alloc, grammar, automaton, table, &file) {
+        Ok(text) => text,
+        Err(fault) => fault_text(alloc, fault),
+    };
+    release(file);
+    Ok(text)
 }
 
 fn by_automaton(
@@ -91,7 +112,9 @@ fn by_automaton(
     requires short { length bytes.now ≤ 1000 }
 {
     let table = table_of(alloc, grammar, automaton)?;
-    updated(alloc, grammar, automaton, &table, bytes)
+    let text = updated(alloc, grammar, automaton, &table, bytes);
+    release(table);
+    text
 }
 
 fn by_grammar(alloc: Global, grammar: &Grammar, bytes: &[u8]) -> Result<Vec<u8>, Fail> {
@@ -99,27 +122,31 @@ fn by_grammar(alloc: Global, grammar: &Grammar, bytes: &[u8]) -> Result<Vec<u8>,
         return Err(Fail::from("out of range"));
     }
     let automaton = automaton_of(alloc, grammar)?;
-    by_automaton(alloc, grammar, &automaton, bytes)
+    let text = by_automaton(alloc, grammar, &automaton, bytes);
+    release(automaton);
+    text
 }
 
-fn try_case(alloc: Global, grammar: &Grammar, case: &str) -> Result<(), Fail> {
+fn try_case(rt: &impl Abort, alloc: Global, grammar: &Grammar, case: &str) -> Result<(), Fail> {
     let (file, expected) = case.split_once('~').ok_or("a case without a text")?;
     let found = by_grammar(alloc, grammar, file.as_bytes())?;
-    if found.as_slice() == expected.as_bytes() {
-        Ok(())
-    } else {
-        Err(Fail::from(String::from_utf8(found)?))
+    assert_eq!(rt; found.as_slice(), expected.as_bytes(), "{file}");
+    Ok(())
+}
+
+fn try_files(rt: &impl Abort, alloc: Global, grammar: &Grammar) -> Result<(), Fail> {
+    for case in FILES.split('^') {
+        try_case(rt, alloc, grammar, case)?;
     }
+    Ok(())
 }
 
 #[test]
 fn updates(rt: HostRuntime) -> Result<(), Fail> {
-    let alloc = rt.alloc();
-    let grammar = grammar_of(alloc, PAIR)?;
-    for case in FILES.split('^') {
-        try_case(alloc, &grammar, case)?;
-    }
-    Ok(())
+    let grammar = grammar_of(rt.alloc(), PAIR)?;
+    let result = try_files(&rt, rt.alloc(), &grammar);
+    release(grammar);
+    result
 }
 
 /// The messages of a file by a table of this grammar.
@@ -137,7 +164,9 @@ fn compiled(
     let Ok(file) = read_messages(alloc, bytes, grammar) else {
         return Err(Fail::from("no messages file"));
     };
-    match compile(alloc, table, &file) {
+    let compiled = compile(alloc, table, &file);
+    release(file);
+    match compiled {
         Ok(compiled) => Ok(compiled),
         Err(_) => Err(Fail::from("it does not fit")),
     }
@@ -154,7 +183,9 @@ fn missing(
 {
     table.table().facts();
     let states = compare(alloc, left, right)?;
-    Ok((states.len(), states.first().copied()))
+    let result = (states.len(), states.first().copied());
+    release(states);
+    Ok(result)
 }
 
 fn against(
@@ -170,7 +201,9 @@ fn against(
     requires size { length left.now ≡ length table.now.states }
 {
     let right = compiled(alloc, grammar, table, right)?;
-    missing(alloc, table, left, &right)
+    let result = missing(alloc, table, left, &right);
+    release(right);
+    result
 }
 
 fn compared(
@@ -186,7 +219,9 @@ fn compared(
     requires right { length right.now ≤ 1000 }
 {
     let left = compiled(alloc, grammar, table, left)?;
-    against(alloc, grammar, table, &left, right)
+    let result = against(alloc, grammar, table, &left, right);
+    release(left);
+    result
 }
 
 fn compared_by(
@@ -204,7 +239,9 @@ fn compared_by(
     requires right { length right.now ≤ 1000 }
 {
     let table = table_of(alloc, grammar, automaton)?;
-    compared(alloc, grammar, &table, left, right)
+    let result = compared(alloc, grammar, &table, left, right);
+    release(table);
+    result
 }
 
 /// What the second of two files lacks.
@@ -218,16 +255,23 @@ fn lacked(
         return Err(Fail::from("out of range"));
     }
     let automaton = automaton_of(alloc, grammar)?;
-    compared_by(alloc, grammar, &automaton, left, right)
+    let result = compared_by(alloc, grammar, &automaton, left, right);
+    release(automaton);
+    result
+}
+
+fn check_lacked(rt: &impl Abort, alloc: Global, grammar: &Grammar) -> Result<(), Fail> {
+    let both: &[u8] = b"EOF\n\nM\n\nA A\n\nN\n";
+    let one: &[u8] = b"EOF\n\nM\n";
+    assert_eq!(rt; lacked(alloc, grammar, both, one)?, (1, Some(1)));
+    assert_eq!(rt; lacked(alloc, grammar, one, both)?, (0, None));
+    Ok(())
 }
 
 #[test]
 fn comparisons(rt: HostRuntime) -> Result<(), Fail> {
-    let alloc = rt.alloc();
-    let grammar = grammar_of(alloc, PAIR)?;
-    let both: &[u8] = b"EOF\n\nM\n\nA A\n\nN\n";
-    let one: &[u8] = b"EOF\n\nM\n";
-    assert_eq!(rt; lacked(alloc, &grammar, both, one)?, (1, Some(1)));
-    assert_eq!(rt; lacked(alloc, &grammar, one, both)?, (0, None));
-    Ok(())
+    let grammar = grammar_of(rt.alloc(), PAIR)?;
+    let result = check_lacked(&rt, rt.alloc(), &grammar);
+    release(grammar);
+    result
 }

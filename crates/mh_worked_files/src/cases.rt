@@ -15,6 +15,11 @@ pub fn check(rt: &impl Abort, found: Vec<u8>, wanted: &str, at: &str) {
 /// Lets a value go. Where its type is known, each way out that lets it go would be long to prove.
 pub fn release<T: Drop>(_value: T) {}
 
+/// Adds bytes to a text. One that finds no memory lacks them, and is not what is wanted.
+pub fn put(text: &mut Vec<u8>, bytes: &[u8]) {
+    let _ = text.extend_from_slice(bytes);
+}
+
 /// A number below 10 as its digit, and a greater one as `?`.
 pub fn digit(number: u64) -> u8 {
     if number < 10 {

@@ -2,39 +2,74 @@
 ghost use Rattle.std.specs.Prelude.{◌≡◌, IfOk, Some};
 ghost use Rattle.mh_outside.specs.Fakes.{sink_written, sink_calls};
 
+use crate::cases::{put, release};
 use mh_outside::{
     Failed, LineFault, MemShelf, MemSink, MemSource, Shelf, ShelfFault, Sink, Source, WriteFault,
     read_line, write_whole,
 };
-use std::alloc::Global;
+use std::alloc::{AllocError, Global};
+use std::process::Abort;
 use std::test::Fail;
 
-fn source(alloc: Global, bytes: &[u8], fails: &[u64]) -> Result<MemSource, Fail> {
-    Ok(MemSource::new(bytes.to_vec(alloc)?, fails.to_vec(alloc)?))
+/// A value and another, where making that one did not fail.
+fn beside<A: Drop, B>(value: A, other: Result<B, AllocError>) -> Result<(A, B), AllocError> {
+    match other {
+        Ok(other) => Ok((value, other)),
+        Err(fault) => Err(fault),
+    }
 }
 
-/// The lines of the input, each behind a `>`, and a `!` where a read failed or `+` where a line was too big.
-fn lines(alloc: Global, input: &mut MemSource, limit: usize) -> Result<Vec<u8>, Fail> {
+fn source(alloc: Global, bytes: &[u8], fails: &[u64]) -> Result<MemSource, AllocError> {
+    let bytes = bytes.to_vec(alloc)?;
+    let (bytes, fails) = beside(bytes, fails.to_vec(alloc))?;
+    Ok(MemSource::new(bytes, fails))
+}
+
+/// Adds a line of the input behind a `>`, or a `!` where a read failed, or `+` where a line was too big. Whether there was one.
+fn push_line(alloc: Global, text: &mut Vec<u8>, input: &mut MemSource, limit: usize) -> bool {
+    match read_line(alloc, input, limit) {
+        Ok(None) => return false,
+        Ok(Some(line)) => {
+            put(text, b">");
+            put(text, &line);
+        }
+        Err(LineFault::TooBig) => put(text, b"+"),
+        Err(LineFault::Failed) => put(text, b"!"),
+        Err(LineFault::Memory) => put(text, b"no memory"),
+    }
+    true
+}
+
+/// The lines of the input.
+fn lines(alloc: Global, input: &mut MemSource, limit: usize) -> Vec<u8> {
     let mut text = Vec::new(alloc);
     for _ in 0..9 {
-        match read_line(alloc, input, limit) {
-            Ok(None) => break,
-            Ok(Some(line)) => {
-                text.push(b'>')?;
-                text.extend_from_slice(&line)?;
-            }
-            Err(LineFault::TooBig) => text.push(b'+')?,
-            Err(LineFault::Failed) => text.push(b'!')?,
-            Err(LineFault::Memory) => return Err(Fail::from(LineFault::Memory)),
+        if !push_line(alloc, &mut text, input, limit) {
+            break;
         }
     }
-    Ok(text)
+    text
 }
 
 /// The lines of these bytes, where these reads fail.
 fn lines_of(alloc: Global, bytes: &[u8], fails: &[u64], limit: usize) -> Result<Vec<u8>, Fail> {
     let mut input = source(alloc, bytes, fails)?;
-    lines(alloc, &mut input, limit)
+    let text = lines(alloc, &mut input, limit);
+    release(input);
+    Ok(text)
+}
+
+fn check_lines(
+    rt: &impl Abort,
+    alloc: Global,
+    bytes: &[u8],
+    fails: &[u64],
+    limit: usize,
+    wanted: &[u8],
+) -> Result<(), Fail> {
+    let found = lines_of(alloc, bytes, fails, limit)?;
+    assert_eq!(rt; found.as_slice(), wanted, "of {bytes:?}, {fails:?}");
+    Ok(())
 }
 
 #[test]
@@ -50,8 +85,7 @@ fn lines_are_read(rt: HostRuntime) -> Result<(), Fail> {
         (b"abc\nd", 2, b"+>>d"),
         (b"a", 0, b"+"),
     ] {
-        let found = lines_of(alloc, input, &[], limit)?;
-        assert_eq!(rt; found.as_slice(), want);
+        check_lines(&rt, alloc, input, &[], limit, want)?;
     }
     Ok(())
 }
@@ -69,8 +103,7 @@ fn each_read_fails_in_turn(rt: HostRuntime) -> Result<(), Fail> {
         (6, b">ab>c!"),
         (7, b">ab>c"),
     ] {
-        let found = lines_of(alloc, b"ab\nc", &[fail], 9)?;
-        assert_eq!(rt; found.as_slice(), want, "{fail}");
+        check_lines(&rt, alloc, b"ab\nc", &[fail], 9, want)?;
     }
     Ok(())
 }
@@ -103,6 +136,16 @@ impl Sink for Trickle {
     }
 }
 
+fn check_trickle(rt: &impl Abort, alloc: Global, fail: u64, wanted: &[u8]) -> Result<(), Fail> {
+    let mut trickle = Trickle {
+        sink: MemSink::new(alloc, [fail].to_vec(alloc)?),
+    };
+    let result = write_whole(&mut trickle, b"abcd");
+    assert_eq!(rt; result.is_ok(), fail == 5);
+    assert_eq!(rt; trickle.sink.written(), wanted);
+    Ok(())
+}
+
 /// Each of four short writes fails in turn, and the bytes before it were written.
 #[test]
 fn each_write_fails_in_turn(rt: HostRuntime) -> Result<(), Fail> {
@@ -114,17 +157,12 @@ fn each_write_fails_in_turn(rt: HostRuntime) -> Result<(), Fail> {
         (4, b"abc"),
         (5, b"abcd"),
     ] {
-        let mut trickle = Trickle {
-            sink: MemSink::new(alloc, [fail].to_vec(alloc)?),
-        };
-        let result = write_whole(&mut trickle, b"abcd");
-        assert_eq!(rt; result.is_ok(), fail == 5);
-        assert_eq!(rt; trickle.sink.written(), want);
+        check_trickle(&rt, alloc, fail, want)?;
     }
     Ok(())
 }
 
-fn file(alloc: Global, name: &[u8], bytes: &[u8]) -> Result<(Vec<u8>, Vec<u8>), Fail>
+fn file(alloc: Global, name: &[u8], bytes: &[u8]) -> Result<(Vec<u8>, Vec<u8>), AllocError>
     ensures { IfOk result (λ file. (file.0.items ≡ name.now) × (file.1.items ≡ bytes.now)) }
 {
     let name = name.to_vec(alloc)?;
@@ -140,18 +178,22 @@ fn shelf(alloc: Global) -> Result<MemShelf, Fail> {
 }
 
 /// The bytes of a file, or the fault.
-fn read_shown(
-    alloc: Global,
-    shelf: &mut MemShelf,
-    name: &[u8],
-    limit: usize,
-) -> Result<Vec<u8>, Fail> {
+fn read_shown(alloc: Global, shelf: &mut MemShelf, name: &[u8], limit: usize) -> Vec<u8> {
     match shelf.read_file(alloc, name, limit) {
-        Ok(bytes) => Ok(bytes),
-        Err(ShelfFault::TooBig) => Ok(b"too big".to_vec(alloc)?),
-        Err(ShelfFault::Failed) => Ok(b"failed".to_vec(alloc)?),
-        Err(ShelfFault::Absent) => Ok(b"absent".to_vec(alloc)?),
-        Err(ShelfFault::Memory) => Err(Fail::from("memory")),
+        Ok(bytes) => bytes,
+        Err(fault) => {
+            let mut text = Vec::new(alloc);
+            put(
+                &mut text,
+                match fault {
+                    ShelfFault::TooBig => b"too big".as_slice(),
+                    ShelfFault::Failed => b"failed",
+                    ShelfFault::Absent => b"absent",
+                    ShelfFault::Memory => b"memory",
+                },
+            );
+            text
+        }
     }
 }
 
@@ -165,9 +207,10 @@ fn files_are_read(rt: HostRuntime) -> Result<(), Fail> {
         (b"i", 5, b"absent"),
         (b"h", 0, b""),
     ] {
-        let found = read_shown(rt.alloc(), &mut shelf, name, limit)?;
+        let found = read_shown(rt.alloc(), &mut shelf, name, limit);
         assert_eq!(rt; found.as_slice(), want);
     }
+    release(shelf);
     Ok(())
 }
 

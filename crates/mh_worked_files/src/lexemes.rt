@@ -1,12 +1,12 @@
 //! Grammar files and their lexemes, worked out by hand.
 ghost use Rattle.std.specs.Prelude.{◌<◌, ◌^◌, length};
 
-use crate::cases::{digit, parts};
+use crate::cases::{check, digit, parts, put, release};
 use mh_lex::{
-    Kind, SyntaxFault, code_is_taken, keywords_differ, lex, lexed_always, lexed_apart, lexed_code,
-    lexed_once, lexed_texts,
+    Kind, Lexeme, SyntaxFault, code_is_taken, keywords_differ, lex, lexed_always, lexed_apart,
+    lexed_code, lexed_once, lexed_texts,
 };
-use std::alloc::{AllocError, Global};
+use std::alloc::Global;
 use std::test::Fail;
 
 fn letter_of(kind: Kind) -> u8 {
@@ -23,36 +23,45 @@ fn letter_of(kind: Kind) -> u8 {
     }
 }
 
-/// A letter for each byte: that of its lexeme's kind, a capital where the lexeme begins, and a dot where it is
-/// dropped. Where bytes are refused, `!` and the line's digit.
-fn shown(alloc: Global, bytes: &[u8]) -> Result<Vec<u8>, AllocError>
+/// Puts in the letters of a lexeme: that of its kind, a capital where it begins.
+fn put_letters(letters: &mut Vec<u8>, lexeme: &Lexeme) {
+    let first = letter_of(lexeme.kind);
+    for place in lexeme.start..lexeme.end {
+        if let Some(letter) = letters.get_mut(place) {
+            *letter = if place == lexeme.start {
+                first
+            } else {
+                first.to_ascii_lowercase()
+            };
+        }
+    }
+}
+
+/// Puts in the letters of each lexeme, and a dot for each byte that is dropped.
+fn put_lexemes(letters: &mut Vec<u8>, size: usize, lexemes: &[Lexeme]) {
+    let _ = letters.resize(size, b'.');
+    for lexeme in lexemes {
+        put_letters(letters, lexeme);
+    }
+}
+
+/// A letter for each byte. Where bytes are refused, `!` and the line's digit.
+fn shown(alloc: Global, bytes: &[u8]) -> Vec<u8>
     requires { length bytes.now < 2 ^ 31 }
 {
     let mut letters = Vec::new(alloc);
     match lex(alloc, bytes) {
         Ok(lexemes) => {
-            letters.resize(bytes.len(), b'.')?;
-            for lexeme in &lexemes {
-                let first = letter_of(lexeme.kind);
-                for place in lexeme.start..lexeme.end {
-                    if let Some(letter) = letters.get_mut(place) {
-                        *letter = if place == lexeme.start {
-                            first
-                        } else {
-                            first.to_ascii_lowercase()
-                        };
-                    }
-                }
-            }
-            Ok(letters)
+            put_lexemes(&mut letters, bytes.len(), &lexemes);
+            release(lexemes);
         }
         Err(SyntaxFault::Syntax { line }) => {
-            letters.push(b'!')?;
-            letters.push(digit(u64::from(line)))?;
-            Ok(letters)
+            put(&mut letters, b"!");
+            put(&mut letters, &[digit(u64::from(line))]);
         }
-        Err(SyntaxFault::Memory) => Err(AllocError),
+        Err(SyntaxFault::Memory) => put(&mut letters, b"no memory"),
     }
+    letters
 }
 
 /// Files and what is shown of them, with `~` between the two and `^` between cases.
@@ -166,8 +175,7 @@ fn lexes(rt: HostRuntime) -> Result<(), Fail> {
     for case in cases().split('^') {
         let (bytes, expected) = parts(case)?;
         assert!(rt; bytes.len() < 1000);
-        let letters = shown(rt.alloc(), bytes.as_bytes())?;
-        assert_eq!(rt; letters.as_slice(), expected.as_bytes(), "at {bytes:?}");
+        check(&rt, shown(rt.alloc(), bytes.as_bytes()), expected, bytes);
     }
     assert_eq!(rt; cases().split('^').count(), 102);
     lexed_always();

@@ -1,11 +1,10 @@
 //! Lines and what they are, worked out by hand.
 ghost use Rattle.mh_grammar.specs.Plain.{plain_of, IsInRange};
 
-use crate::cases::{check, digit, parts, release};
-use mh_grammar::{
-    Grammar, Memory, NontermInfo, Sentence, Sequence, TokenInfo, from_bytes, is_in_range,
-};
+use crate::cases::{check, digit, parts, put, release};
+use mh_grammar::{Grammar, Memory, NontermInfo, Sentence, Sequence, TokenInfo, from_bytes};
 use mh_msgfile::{SentenceFault, read_sentence};
+use mh_range::is_in_range;
 use std::alloc::Global;
 use std::process::Abort;
 use std::test::Fail;
@@ -63,34 +62,44 @@ pub fn sample(alloc: Global, starts: &[u16]) -> Result<Grammar, Memory> {
     })
 }
 
-pub fn joined(alloc: Global, front: &str, name: &[u8]) -> Result<Vec<u8>, Memory> {
-    let mut text = Vec::from_slice(alloc, front.as_bytes())?;
-    text.extend_from_slice(name)?;
-    Ok(text)
+pub fn put_both(text: &mut Vec<u8>, front: &str, name: &[u8]) {
+    put(text, front.as_bytes());
+    put(text, name);
 }
 
 /// The digits of a sentence's start and, behind a colon, of its tokens.
-fn digits_of(alloc: Global, sentence: &Sentence) -> Result<Vec<u8>, Memory> {
-    let mut text = Vec::new(alloc);
-    text.push(digit(u64::from(sentence.start)))?;
-    text.push(b':')?;
+fn put_digits(text: &mut Vec<u8>, sentence: &Sentence) {
+    put(text, &[digit(u64::from(sentence.start)), b':']);
     for token in sentence.tokens.as_slice() {
-        text.push(digit(u64::from(*token)))?;
+        put(text, &[digit(u64::from(*token))]);
     }
-    Ok(text)
 }
 
 /// The digits of a line's sentence, or its fault, with the name.
-fn shown(alloc: Global, grammar: &Grammar, line: &[u8]) -> Result<Vec<u8>, Memory>
+fn shown(alloc: Global, grammar: &Grammar, line: &[u8]) -> Vec<u8>
     requires { IsInRange (plain_of grammar.now) }
 {
+    let mut text = Vec::new(alloc);
     match read_sentence(alloc, grammar, line) {
-        Ok(sentence) => digits_of(alloc, &sentence),
-        Err(SentenceFault::Unreadable) => joined(alloc, "unreadable", b""),
-        Err(SentenceFault::UnknownStart { name }) => { joined(alloc, "no start ", name.as_slice()) }
-        Err(SentenceFault::MissingStart) => joined(alloc, "missing start", b""),
-        Err(SentenceFault::UnknownToken { name }) => { joined(alloc, "no token ", name.as_slice()) }
-        Err(SentenceFault::Memory) => Err(Memory),
+        Ok(sentence) => {
+            put_digits(&mut text, &sentence);
+            release(sentence);
+        }
+        Err(fault) => {
+            put_fault(&mut text, &fault);
+            release(fault);
+        }
+    }
+    text
+}
+
+fn put_fault(text: &mut Vec<u8>, fault: &SentenceFault) {
+    match fault {
+        SentenceFault::Unreadable => put_both(text, "unreadable", b""),
+        SentenceFault::UnknownStart { name } => put_both(text, "no start ", name.as_slice()),
+        SentenceFault::MissingStart => put_both(text, "missing start", b""),
+        SentenceFault::UnknownToken { name } => put_both(text, "no token ", name.as_slice()),
+        SentenceFault::Memory => put_both(text, "no memory", b""),
     }
 }
 
@@ -132,7 +141,7 @@ fn check_line(rt: &impl Abort, alloc: Global, grammar: &Grammar, case: &str) -> 
     requires range { IsInRange (plain_of grammar.now) }
 {
     let (line, expected) = parts(case)?;
-    check(rt, shown(alloc, grammar, line.as_bytes())?, expected, line);
+    check(rt, shown(alloc, grammar, line.as_bytes()), expected, line);
     Ok(())
 }
 

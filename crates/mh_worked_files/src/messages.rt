@@ -3,16 +3,24 @@ ghost use Rattle.std.specs.Prelude.{◌<◌, ◌^◌, length};
 ghost use Rattle.mh_grammar.specs.Plain.{plain_of, IsInRange};
 
 use crate::cases::{check, digit, parts, release};
-use crate::lines::{joined, sample};
-use mh_grammar::{Grammar, Memory, is_in_range};
+use crate::lines::{put_both, sample};
+use mh_grammar::{Grammar, Memory};
 use mh_msgfile::{MsgFault, echo, print_messages, read_messages};
+use mh_range::is_in_range;
 use std::alloc::Global;
 use std::process::Abort;
 use std::test::Fail;
 
-/// A fault, with the digit of its line.
-fn fault_at(alloc: Global, line: u32, words: &str) -> Result<Vec<u8>, Memory> {
-    joined(alloc, words, &[digit(u64::from(line))])
+/// Adds a fault, with the digit of its line.
+fn put_fault(text: &mut Vec<u8>, fault: &MsgFault) {
+    let (words, line) = match fault {
+        MsgFault::Shape { line } => ("shape ", *line),
+        MsgFault::UnknownStart { line, .. } => ("no start ", *line),
+        MsgFault::MissingStart { line } => ("missing start ", *line),
+        MsgFault::UnknownToken { line, .. } => ("no token ", *line),
+        MsgFault::Memory => ("no memory ", 0),
+    };
+    put_both(text, words, &[digit(u64::from(line))]);
 }
 
 /// The text of the file that these bytes spell, or the fault with its line.
@@ -21,12 +29,17 @@ fn printed(alloc: Global, grammar: &Grammar, bytes: &[u8]) -> Result<Vec<u8>, Me
     requires size { length bytes.now < 2 ^ 31 }
 {
     match read_messages(alloc, bytes, grammar) {
-        Ok(file) => print_messages(alloc, grammar, &file),
-        Err(MsgFault::Shape { line }) => fault_at(alloc, line, "shape "),
-        Err(MsgFault::UnknownStart { line, .. }) => fault_at(alloc, line, "no start "),
-        Err(MsgFault::MissingStart { line }) => fault_at(alloc, line, "missing start "),
-        Err(MsgFault::UnknownToken { line, .. }) => fault_at(alloc, line, "no token "),
-        Err(MsgFault::Memory) => Err(Memory),
+        Ok(file) => {
+            let text = print_messages(alloc, grammar, &file);
+            release(file);
+            text
+        }
+        Err(fault) => {
+            let mut text = Vec::new(alloc);
+            put_fault(&mut text, &fault);
+            release(fault);
+            Ok(text)
+        }
     }
 }
 
@@ -36,8 +49,15 @@ fn echoed(alloc: Global, grammar: &Grammar, bytes: &[u8]) -> Result<Vec<u8>, Mem
     requires size { length bytes.now < 2 ^ 31 }
 {
     match read_messages(alloc, bytes, grammar) {
-        Ok(file) => echo(alloc, grammar, &file),
-        Err(_) => Err(Memory),
+        Ok(file) => {
+            let text = echo(alloc, grammar, &file);
+            release(file);
+            text
+        }
+        Err(fault) => {
+            release(fault);
+            Err(Memory)
+        }
     }
 }
 

@@ -1,10 +1,11 @@
 //! Grammar files and what they spell, worked out by hand.
 ghost use Rattle.std.specs.Prelude.{◌<◌, ◌^◌, length};
 
-use crate::cases::{check, parts, release};
+use crate::cases::{check, parts, put, release};
 use mh_grammar::Memory;
 use mh_lex::SyntaxFault;
-use mh_reader::{Module, print_module, read_module, spelled_once};
+use mh_printing::print_module;
+use mh_reader::{Module, read_module, spelled_once};
 use std::alloc::{AllocError, Global};
 use std::fmt::Write;
 use std::process::Abort;
@@ -15,7 +16,10 @@ fn verdict(alloc: Global, bytes: &[u8]) -> Result<String, AllocError>
     requires { length bytes.now < 2 ^ 31 }
 {
     match read_module(alloc, bytes) {
-        Ok(_) => format!(in alloc; "+"),
+        Ok(module) => {
+            release(module);
+            format!(in alloc; "+")
+        }
         Err(SyntaxFault::Syntax { line }) => format!(in alloc; "{line}"),
         Err(SyntaxFault::Memory) => Err(AllocError),
     }
@@ -133,20 +137,14 @@ fn verdicts(rt: HostRuntime) -> Result<(), Fail> {
 }
 
 /// An actual behind so many brackets or with so many suffixes.
-fn deep_file(
-    alloc: Global,
-    front: &str,
-    repeated: &str,
-    times: usize,
-    back: &str,
-) -> Result<Vec<u8>, AllocError> {
+fn deep_file(alloc: Global, front: &str, repeated: &str, times: usize, back: &str) -> Vec<u8> {
     let mut bytes = Vec::new(alloc);
-    bytes.extend_from_slice(front.as_bytes())?;
+    put(&mut bytes, front.as_bytes());
     for _ in 0..times {
-        bytes.extend_from_slice(repeated.as_bytes())?;
+        put(&mut bytes, repeated.as_bytes());
     }
-    bytes.extend_from_slice(back.as_bytes())?;
-    Ok(bytes)
+    put(&mut bytes, back.as_bytes());
+    bytes
 }
 
 #[test]
@@ -163,7 +161,7 @@ fn depths(rt: HostRuntime) -> Result<(), Fail> {
         ("%%\n%%\n", "a(", 1001, "a", "+"),
         ("%type <t> a", "*", 1000, "%%", "1"),
     ] {
-        let bytes = deep_file(alloc, front, repeated, times, back)?;
+        let bytes = deep_file(alloc, front, repeated, times, back);
         let result = check_verdict(&rt, alloc, bytes.as_slice(), expected);
         release(bytes);
         result?;
@@ -189,7 +187,11 @@ fn printed(alloc: Global, bytes: &[u8]) -> Result<Vec<u8>, Memory> {
         return Ok(Vec::new(alloc));
     }
     match read_module(alloc, bytes) {
-        Ok(module) => print_module(alloc, &module),
+        Ok(module) => {
+            let text = print_module(alloc, &module);
+            release(module);
+            text
+        }
         Err(_) => Ok(Vec::new(alloc)),
     }
 }
@@ -203,7 +205,17 @@ fn a_module(rt: HostRuntime) -> Result<(), Fail> {
 /// Whether a file that spells a module is printed as one that spells it, which is then printed alike.
 fn is_kept(alloc: Global, bytes: &[u8]) -> Result<bool, Memory> {
     let text = printed(alloc, bytes)?;
-    Ok(!text.is_empty() && printed(alloc, text.as_slice())? == text)
+    let is_same = !text.is_empty() && is_printed(alloc, text.as_slice());
+    release(text);
+    Ok(is_same)
+}
+
+/// Whether a file is printed as itself.
+fn is_printed(alloc: Global, bytes: &[u8]) -> bool {
+    match printed(alloc, bytes) {
+        Ok(text) => text.as_slice() == bytes,
+        Err(_) => false,
+    }
 }
 
 #[test]
@@ -244,49 +256,45 @@ const COSTS: &str = "%token A [@cost 5] B %%~5 -^\
      %token <t> A [@cost 9] %token A [@cost 3] %%~9 3^\
      %start [@cost 3] s %token A [@cost 999] %%~999";
 
-fn push_costs(text: &mut String, module: &Module) -> Result<(), AllocError> {
+fn push_costs(text: &mut String, module: &Module) {
     for token in module.tokens.as_slice() {
-        match token.cost {
-            Some(cost) => write!(text, "{cost} ")?,
-            None => text.push_str("- ")?,
-        }
+        let _ = match token.cost {
+            Some(cost) => write!(text, "{cost} "),
+            None => text.push_str("- "),
+        };
     }
-    Ok(())
 }
 
 /// The costs of the tokens of a short file; nothing where it spells no module.
-fn costs_of(alloc: Global, bytes: &[u8]) -> Result<String, AllocError> {
+fn costs_of(alloc: Global, bytes: &[u8]) -> String {
     let mut text = String::new(alloc);
-    if bytes.len() > 10_000 {
-        return Ok(text);
+    if bytes.len() <= 10_000 {
+        if let Ok(module) = read_module(alloc, bytes) {
+            push_costs(&mut text, &module);
+            release(module);
+        }
     }
-    if let Ok(module) = read_module(alloc, bytes) {
-        let result = push_costs(&mut text, &module);
-        release(module);
-        result?;
-    }
-    Ok(text)
+    text
 }
 
-fn check_costs(rt: &impl Abort, alloc: Global, bytes: &[u8], expected: &str) -> Result<(), Fail> {
-    let found = costs_of(alloc, bytes)?;
+fn check_costs(rt: &impl Abort, alloc: Global, bytes: &[u8], expected: &str) {
+    let found = costs_of(alloc, bytes);
     assert_eq!(rt; found.trim(), expected, "at {bytes:?}");
-    Ok(())
 }
 
 /// The costs of a file's tokens are those of what its module is printed as.
 fn check_again(rt: &impl Abort, alloc: Global, bytes: &[u8], expected: &str) -> Result<(), Fail> {
     let again = printed(alloc, bytes)?;
-    let result = check_costs(rt, alloc, again.as_slice(), expected);
+    check_costs(rt, alloc, again.as_slice(), expected);
     release(again);
-    result
+    Ok(())
 }
 
 #[test]
 fn costs(rt: HostRuntime) -> Result<(), Fail> {
     for case in COSTS.split('^') {
         let (bytes, expected) = parts(case)?;
-        check_costs(&rt, rt.alloc(), bytes.as_bytes(), expected)?;
+        check_costs(&rt, rt.alloc(), bytes.as_bytes(), expected);
         check_again(&rt, rt.alloc(), bytes.as_bytes(), expected)?;
     }
     assert_eq!(rt; COSTS.split('^').count(), 16);

@@ -1,53 +1,77 @@
 //! Words, and the orders that they spell by hand.
-use crate::cases::{check, parts};
+use crate::cases::{check, parts, put, release};
 use mh_opts::{Job, Order, UsageFault, read_words};
 use std::alloc::{AllocError, Global};
 use std::process::Abort;
 use std::test::Fail;
 
-/// The job with its number, what is on, and each file behind a colon.
-fn shown(alloc: Global, order: &Order) -> Result<Vec<u8>, AllocError> {
-    let mut text = Vec::new(alloc);
-    text.extend_from_slice(match &order.job {
-        Job::Interpret => b"interpret",
-        Job::Session => b"session",
-        Job::ShowAutomaton => b"show",
-        Job::WriteTables => b"tables",
-        Job::ListErrors => b"list",
-        Job::InterpretError => b"explain",
-        Job::CompileErrors { .. } => b"compile",
-        Job::CompareErrors { .. } => b"compare",
-        Job::EchoErrors { .. } => b"echo",
-        Job::UpdateErrors { .. } => b"update",
-        Job::Sample { .. } => b"sample",
-    })?;
+fn put_number(alloc: Global, text: &mut Vec<u8>, number: u32) {
+    if let Ok(digits) = format!(in alloc; " {number}") {
+        put(text, digits.as_bytes());
+        release(digits);
+    }
+}
+
+/// Adds the job with its number, what is on, and each file behind a colon.
+fn put_order(alloc: Global, text: &mut Vec<u8>, order: &Order) {
+    put(
+        text,
+        match &order.job {
+            Job::Interpret => b"interpret".as_slice(),
+            Job::Session => b"session",
+            Job::ShowAutomaton => b"show",
+            Job::WriteTables => b"tables",
+            Job::ListErrors => b"list",
+            Job::InterpretError => b"explain",
+            Job::CompileErrors { .. } => b"compile",
+            Job::CompareErrors { .. } => b"compare",
+            Job::EchoErrors { .. } => b"echo",
+            Job::UpdateErrors { .. } => b"update",
+            Job::Sample { .. } => b"sample",
+        },
+    );
     if let Job::Sample { number } = order.job {
-        let digits = format!(in alloc; " {number}")?;
-        text.extend_from_slice(digits.as_bytes())?;
+        put_number(alloc, text, number);
     }
-    text.extend_from_slice(if order.canonical { b" canonical" } else { b"" })?;
-    text.extend_from_slice(if order.strict { b" strict" } else { b"" })?;
-    text.extend_from_slice(if order.stdlib { b"" } else { b" bare" })?;
-    text.extend_from_slice(if order.show_cst { b" trees" } else { b"" })?;
+    put(text, if order.canonical { b" canonical" } else { b"" });
+    put(text, if order.strict { b" strict" } else { b"" });
+    put(text, if order.stdlib { b"" } else { b" bare" });
+    put(text, if order.show_cst { b" trees" } else { b"" });
     for file in order.grammars.as_slice() {
-        text.extend_from_slice(b" :")?;
-        text.extend_from_slice(file.as_slice())?;
+        put(text, b" :");
+        put(text, file.as_slice());
     }
-    Ok(text)
+}
+
+fn put_fault(text: &mut Vec<u8>, fault: &UsageFault) {
+    put(
+        text,
+        match fault {
+            UsageFault::Parse => b"bad words",
+            UsageFault::Number => b"bad number",
+            UsageFault::NoMode => b"no mode",
+            UsageFault::TwoModes => b"two modes",
+            UsageFault::Misplaced { option } => option.as_slice(),
+            UsageFault::NoGrammar => b"no grammar",
+            UsageFault::Memory => b"no memory",
+        },
+    );
 }
 
 /// What the words come to.
-fn answer(alloc: Global, words: &[String]) -> Result<Vec<u8>, AllocError> {
+fn answer(alloc: Global, words: &[String]) -> Vec<u8> {
+    let mut text = Vec::new(alloc);
     match read_words(alloc, words) {
-        Ok(order) => shown(alloc, &order),
-        Err(UsageFault::Parse) => b"bad words".to_vec(alloc),
-        Err(UsageFault::Number) => b"bad number".to_vec(alloc),
-        Err(UsageFault::NoMode) => b"no mode".to_vec(alloc),
-        Err(UsageFault::TwoModes) => b"two modes".to_vec(alloc),
-        Err(UsageFault::Misplaced { option }) => option.as_slice().to_vec(alloc),
-        Err(UsageFault::NoGrammar) => b"no grammar".to_vec(alloc),
-        Err(UsageFault::Memory) => Err(AllocError),
+        Ok(order) => {
+            put_order(alloc, &mut text, &order);
+            release(order);
+        }
+        Err(fault) => {
+            put_fault(&mut text, &fault);
+            release(fault);
+        }
     }
+    text
 }
 
 /// Words with spaces between them, and what they come to behind a `~`; `^` between cases.
@@ -108,19 +132,26 @@ const CASES: &str = "--interpret g.mly~interpret :g.mly^\
     -h~bad words^\
     --version~bad words";
 
-/// The words of a line.
-fn words_of(alloc: Global, line: &str) -> Result<Vec<String>, AllocError> {
-    let mut words = Vec::new(alloc);
+fn push_words(alloc: Global, words: &mut Vec<String>, line: &str) -> Result<(), AllocError> {
     for word in line.split(' ') {
         words.push(String::from_str(alloc, word)?)?;
     }
-    Ok(words)
+    Ok(())
 }
 
 /// What a line of words comes to.
 fn answer_of(alloc: Global, line: &str) -> Result<Vec<u8>, AllocError> {
-    let words = words_of(alloc, line)?;
-    answer(alloc, words.as_slice())
+    let mut words = Vec::new(alloc);
+    let pushed = push_words(alloc, &mut words, line);
+    let text = answer(alloc, words.as_slice());
+    release(words);
+    match pushed {
+        Ok(()) => Ok(text),
+        Err(fault) => {
+            release(text);
+            Err(fault)
+        }
+    }
 }
 
 fn check_case(rt: &impl Abort, alloc: Global, case: &str) -> Result<(), Fail> {
@@ -134,6 +165,6 @@ fn cases(rt: HostRuntime) -> Result<(), Fail> {
     for case in CASES.split('^') {
         check_case(&rt, rt.alloc(), case)?;
     }
-    check(&rt, answer(rt.alloc(), &[])?, "no mode", "");
+    check(&rt, answer(rt.alloc(), &[]), "no mode", "");
     Ok(())
 }

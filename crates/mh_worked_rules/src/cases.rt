@@ -5,7 +5,7 @@ ghost use Rattle.mh_rules.specs.Ready.{IsModuleReady, AreModulesReady, IsReady};
 use mh_grammar::{Level, Name};
 use mh_join::{Joined, Prec, join};
 use mh_reader::{Module, read_module};
-use std::alloc::{AllocError, Global};
+use std::alloc::Global;
 use std::test::Fail;
 
 /// The files of a case, and what they give.
@@ -50,45 +50,54 @@ pub fn joined_of(alloc: Global, files: &str, prelude: bool) -> Result<Joined, Fa
     Ok(joined?)
 }
 
+/// Adds bytes to a text. One that finds no memory lacks them, and is not what is wanted.
+pub fn put(out: &mut Vec<u8>, bytes: &[u8]) {
+    let _ = out.extend_from_slice(bytes);
+}
+
+fn put_byte(out: &mut Vec<u8>, byte: u8) {
+    let _ = out.push(byte);
+}
+
 /// A number below 10 as its digit, and a greater one as `?`.
-pub fn push_digit(out: &mut Vec<u8>, number: u64) -> Result<(), AllocError> {
-    out.push(if number < 10 {
-        b'0' + number as u8
-    } else {
-        b'?'
-    })?;
-    Ok(())
+pub fn push_digit(out: &mut Vec<u8>, number: u64) {
+    put_byte(
+        out,
+        if number < 10 {
+            b'0' + number as u8
+        } else {
+            b'?'
+        },
+    );
 }
 
 /// A number below 100.
-pub fn push_number(out: &mut Vec<u8>, number: u64) -> Result<(), AllocError> {
+pub fn push_number(out: &mut Vec<u8>, number: u64) {
     if number >= 10 {
-        push_digit(out, number / 10)?;
+        push_digit(out, number / 10);
     }
-    push_digit(out, number % 10)
+    push_digit(out, number % 10);
 }
 
 /// The kind of a fault, and the name that it tells.
-pub fn push_named(out: &mut Vec<u8>, kind: u8, name: &Name) -> Result<(), AllocError> {
-    out.push(kind)?;
-    out.push(b' ')?;
-    out.extend_from_slice(name.as_slice())?;
-    Ok(())
+pub fn push_named(out: &mut Vec<u8>, kind: u8, name: &Name) {
+    put_byte(out, kind);
+    put(out, b" ");
+    put(out, name.as_slice());
 }
 
 /// `%`, the file of a level and its rank.
-pub fn push_level(out: &mut Vec<u8>, level: Level) -> Result<(), AllocError> {
-    out.push(b'%')?;
-    push_digit(out, level.file)?;
-    push_digit(out, level.rank)
+pub fn push_level(out: &mut Vec<u8>, level: Level) {
+    put(out, b"%");
+    push_digit(out, level.file);
+    push_digit(out, level.rank);
 }
 
 /// What a `%prec` gives: a level, or `-` for none.
-pub fn push_prec(out: &mut Vec<u8>, prec: Prec) -> Result<(), AllocError> {
+pub fn push_prec(out: &mut Vec<u8>, prec: Prec) {
     match prec {
         Prec::Absent => {}
-        Prec::Given(None) => out.push(b'-')?,
-        Prec::Given(Some(level)) => push_level(out, level)?,
+        Prec::Given(None) => put(out, b"-"),
+        Prec::Given(Some(level)) => push_level(out, level),
     }
-    Ok(())
 }

@@ -1,52 +1,50 @@
 //! Files and their grammars or faults, worked out by hand.
 ghost use Rattle.mh_rules.specs.Ready.{AreModulesReady};
 
-use crate::cases::{modules_of, parts, push_digit, release};
+use crate::cases::{modules_of, parts, push_digit, put, release};
 use mh_front::{GrammarFault, fault_line, grammar_of};
 use mh_grammar::{Grammar, Symbol};
 use mh_reader::Module;
-use std::alloc::{AllocError, Global};
+use std::alloc::Global;
 use std::fmt::Write;
+use std::process::Abort;
 use std::test::Fail;
 
-fn push_symbol(out: &mut Vec<u8>, symbol: Symbol) -> Result<(), AllocError> {
+fn push_symbol(out: &mut Vec<u8>, symbol: Symbol) {
     match symbol {
         Symbol::T(token) => {
-            out.push(b't')?;
-            push_digit(out, u64::from(token))?;
+            put(out, b"t");
+            push_digit(out, u64::from(token));
         }
         Symbol::N(nonterminal) => {
-            out.push(b'n')?;
-            push_digit(out, u64::from(nonterminal))?;
+            put(out, b"n");
+            push_digit(out, u64::from(nonterminal));
         }
     }
-    Ok(())
 }
 
 /// The tokens, the nonterminals, the starts and the productions in short.
-fn summary(alloc: Global, grammar: &Grammar) -> Result<Vec<u8>, AllocError> {
-    let mut out = Vec::new(alloc);
+fn push_grammar(out: &mut Vec<u8>, grammar: &Grammar) {
     for token in grammar.tokens.as_slice() {
-        out.extend_from_slice(token.name.as_slice())?;
-        out.push(b' ')?;
+        put(out, token.name.as_slice());
+        put(out, b" ");
     }
     for nonterminal in grammar.nonterminals.as_slice() {
-        out.extend_from_slice(nonterminal.name.as_slice())?;
-        out.push(b' ')?;
+        put(out, nonterminal.name.as_slice());
+        put(out, b" ");
     }
     for start in grammar.starts.as_slice() {
-        out.push(b'>')?;
-        push_digit(&mut out, u64::from(*start))?;
+        put(out, b">");
+        push_digit(out, u64::from(*start));
     }
     for production in grammar.productions.as_slice() {
-        out.extend_from_slice(b" n")?;
-        push_digit(&mut out, u64::from(production.lhs))?;
-        out.push(b':')?;
+        put(out, b" n");
+        push_digit(out, u64::from(production.lhs));
+        put(out, b":");
         for symbol in production.rhs.as_slice() {
-            push_symbol(&mut out, *symbol)?;
+            push_symbol(out, *symbol);
         }
     }
-    Ok(out)
 }
 
 fn answer_of(alloc: Global, modules: &[Module], prelude: bool) -> Result<Vec<u8>, Fail>
@@ -54,9 +52,10 @@ fn answer_of(alloc: Global, modules: &[Module], prelude: bool) -> Result<Vec<u8>
 {
     match grammar_of(alloc, modules, prelude) {
         Ok(grammar) => {
-            let text = summary(alloc, &grammar);
+            let mut text = Vec::new(alloc);
+            push_grammar(&mut text, &grammar);
             release(grammar);
-            Ok(text?)
+            Ok(text)
         }
         Err(fault) => {
             let line = fault_line(alloc, &fault);
@@ -101,43 +100,53 @@ fn cases() -> &'static str {
 fn worked_files(rt: HostRuntime) -> Result<(), Fail> {
     for case in cases().split('^') {
         let (text, expected) = parts(case)?;
-        let found = answer(rt.alloc(), text, true)?;
-        assert_eq!(rt; found.as_slice(), expected.as_bytes(), "at {text:?}");
+        check(&rt, rt.alloc(), text, expected)?;
     }
     Ok(())
+}
+
+fn check(rt: &impl Abort, alloc: Global, text: &str, wanted: &str) -> Result<(), Fail> {
+    let found = answer(alloc, text, true)?;
+    assert_eq!(rt; found.as_slice(), wanted.as_bytes(), "at {text:?}");
+    Ok(())
+}
+
+/// The same of a text that was built, which is let go.
+fn check_built(rt: &impl Abort, alloc: Global, text: String, wanted: &str) -> Result<(), Fail> {
+    let result = check(rt, alloc, &text, wanted);
+    release(text);
+    result
+}
+
+fn push_tokens(text: &mut String) {
+    let _ = text.push_str("%token");
+    for number in 0..513u16 {
+        let _ = write!(text, " T{number}");
+    }
+    let _ = text.push_str(" %start s %% s: T0 {}");
 }
 
 #[test]
 fn one_token_too_many(rt: HostRuntime) -> Result<(), Fail> {
-    let alloc = rt.alloc();
-    let mut text = String::new(alloc);
-    text.push_str("%token")?;
-    for number in 0..513u16 {
-        write!(text, " T{number}")?;
-    }
-    text.push_str(" %start s %% s: T0 {}")?;
-    assert_eq!(rt;
-        answer(alloc, &text, true)?.as_slice(),
-        b"too many tokens: 513".as_slice()
-    );
-    Ok(())
+    let mut text = String::new(rt.alloc());
+    push_tokens(&mut text);
+    check_built(&rt, rt.alloc(), text, "too many tokens: 513")
 }
 
 /// Inline rules that double: the last has 2^14 symbols.
-#[test]
-fn one_production_too_long(rt: HostRuntime) -> Result<(), Fail> {
-    let alloc = rt.alloc();
-    let mut text = String::new(alloc);
-    text.push_str("%token A %start s %% s: x14 {} %inline x0: A {}")?;
+fn push_doubles(text: &mut String) {
+    let _ = text.push_str("%token A %start s %% s: x14 {} %inline x0: A {}");
     for number in 1..15u16 {
         let below = number - 1;
-        write!(text, " %inline x{number}: x{below} x{below} {{}}")?;
+        let _ = write!(text, " %inline x{number}: x{below} x{below} {{}}");
     }
-    assert_eq!(rt;
-        answer(alloc, &text, true)?.as_slice(),
-        b"too many productions".as_slice()
-    );
-    Ok(())
+}
+
+#[test]
+fn one_production_too_long(rt: HostRuntime) -> Result<(), Fail> {
+    let mut text = String::new(rt.alloc());
+    push_doubles(&mut text);
+    check_built(&rt, rt.alloc(), text, "too many productions")
 }
 
 #[test]

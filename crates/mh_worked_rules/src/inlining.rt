@@ -2,11 +2,11 @@
 ghost use Rattle.std.specs.Prelude.{IfOk};
 ghost use Rattle.mh_rules.specs.Ready.{IsExpandedReady};
 
-use crate::cases::{joined_of, parts, push_digit, push_level, push_named, release};
+use crate::cases::{joined_of, parts, push_digit, push_level, push_named, put, release};
 use mh_expand::{Expanded, expand};
 use mh_grammar::{Grammar, Production, Symbol};
 use mh_inline::{InlineFault, inline_rules, is_grammar_or_fault, is_one_fault, is_one_grammar};
-use std::alloc::{AllocError, Global};
+use std::alloc::Global;
 use std::test::Fail;
 
 /// The instances of files that have no fault so far.
@@ -19,87 +19,83 @@ fn expanded_of(alloc: Global, files: &str) -> Result<Expanded, Fail>
     Ok(expanded?)
 }
 
-fn push_symbol(out: &mut Vec<u8>, symbol: Symbol) -> Result<(), AllocError> {
+fn push_symbol(out: &mut Vec<u8>, symbol: Symbol) {
     match symbol {
         Symbol::T(number) => {
-            out.push(b't')?;
-            push_digit(out, u64::from(number))
+            put(out, b"t");
+            push_digit(out, u64::from(number));
         }
         Symbol::N(number) => {
-            out.push(b'n')?;
-            push_digit(out, u64::from(number))
+            put(out, b"n");
+            push_digit(out, u64::from(number));
         }
     }
 }
 
-fn push_production(out: &mut Vec<u8>, production: &Production) -> Result<(), AllocError> {
-    push_digit(out, u64::from(production.lhs))?;
+fn push_production(out: &mut Vec<u8>, production: &Production) {
+    push_digit(out, u64::from(production.lhs));
     for symbol in production.rhs.as_slice() {
-        out.push(b' ')?;
-        push_symbol(out, *symbol)?;
+        put(out, b" ");
+        push_symbol(out, *symbol);
     }
     if let Some(level) = production.level {
-        push_level(out, level)?;
+        push_level(out, level);
     }
-    out.push(b';')?;
-    Ok(())
+    put(out, b";");
 }
 
 /// The starts, the nonterminals and the productions in short.
-fn push_grammar(out: &mut Vec<u8>, grammar: &Grammar) -> Result<(), AllocError> {
+fn push_grammar(out: &mut Vec<u8>, grammar: &Grammar) {
     for start in grammar.starts.as_slice() {
-        out.push(b'>')?;
-        push_digit(out, u64::from(*start))?;
+        put(out, b">");
+        push_digit(out, u64::from(*start));
     }
     for nonterminal in grammar.nonterminals.as_slice() {
-        out.push(b' ')?;
-        out.extend_from_slice(nonterminal.name.as_slice())?;
+        put(out, b" ");
+        put(out, nonterminal.name.as_slice());
         if let Some(rank) = nonterminal.on_error {
-            out.push(b'<')?;
-            push_digit(out, rank)?;
+            put(out, b"<");
+            push_digit(out, rank);
         }
     }
-    out.push(b':')?;
+    put(out, b":");
     for production in grammar.productions.as_slice() {
-        push_production(out, production)?;
+        push_production(out, production);
     }
-    Ok(())
 }
 
-fn push_fault(out: &mut Vec<u8>, fault: &InlineFault) -> Result<(), AllocError> {
+fn push_fault(out: &mut Vec<u8>, fault: &InlineFault) {
     match fault {
         InlineFault::InlineCycle { instance } => push_named(out, b'C', instance),
         InlineFault::InlineStart { name } => push_named(out, b'S', name),
-        InlineFault::TooManyProductions => out.extend_from_slice(b"too many"),
+        InlineFault::TooManyProductions => put(out, b"too many"),
         InlineFault::EmptyLanguage { name } => push_named(out, b'E', name),
-        InlineFault::Memory => Err(AllocError),
+        InlineFault::Memory => put(out, b"memory"),
     }
 }
 
 /// Adds the grammar of the instances, or their fault.
-fn push_answer(alloc: Global, out: &mut Vec<u8>, expanded: &Expanded) -> Result<(), AllocError>
+fn push_answer(alloc: Global, out: &mut Vec<u8>, expanded: &Expanded)
     requires { IsExpandedReady expanded.now }
 {
     match inline_rules(alloc, expanded) {
         Ok(grammar) => {
-            let result = push_grammar(out, &grammar);
+            push_grammar(out, &grammar);
             release(grammar);
-            result
         }
         Err(fault) => {
-            let result = push_fault(out, &fault);
+            push_fault(out, &fault);
             release(fault);
-            result
         }
     }
 }
 
-fn answer(alloc: Global, expanded: &Expanded) -> Result<Vec<u8>, AllocError>
+fn answer(alloc: Global, expanded: &Expanded) -> Vec<u8>
     requires { IsExpandedReady expanded.now }
 {
     let mut out = Vec::new(alloc);
-    push_answer(alloc, &mut out, expanded)?;
-    Ok(out)
+    push_answer(alloc, &mut out, expanded);
+    out
 }
 
 /// Files and their grammars.
@@ -142,7 +138,7 @@ fn found(alloc: Global, texts: &str) -> Result<Vec<u8>, Fail> {
     let expanded = expanded_of(alloc, texts)?;
     let text = answer(alloc, &expanded);
     release(expanded);
-    Ok(text?)
+    Ok(text)
 }
 
 #[test]

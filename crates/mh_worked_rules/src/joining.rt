@@ -2,66 +2,64 @@
 ghost use Rattle.mh_rules.specs.Ready.{AreModulesReady};
 
 use crate::cases::{
-    modules_of, parts, push_digit, push_level, push_named, push_number, push_prec, release,
+    modules_of, parts, push_digit, push_level, push_named, push_number, push_prec, put, release,
 };
 use mh_join::{
     Applied, Head, JoinFault, Joined, JoinedAlternative, JoinedRule, is_joined_or_fault,
     is_one_fault, is_one_joined, join, prelude_rules,
 };
 use mh_reader::{Actual, Module, Ref, Rule};
-use std::alloc::{AllocError, Global};
+use std::alloc::Global;
 use std::fmt::Write;
 use std::process::Abort;
 use std::test::Fail;
 
-fn push_applied(out: &mut Vec<u8>, applied: &Applied) -> Result<(), AllocError> {
+fn push_applied(out: &mut Vec<u8>, applied: &Applied) {
     match applied.head {
         Head::Formal(number) => {
-            out.push(b'f')?;
-            push_digit(out, number)?;
+            put(out, b"f");
+            push_digit(out, number);
         }
         Head::Token(number) => {
-            out.push(b't')?;
-            push_digit(out, u64::from(number))?;
+            put(out, b"t");
+            push_digit(out, u64::from(number));
         }
         Head::Rule(number) => {
-            out.push(b'r')?;
-            push_number(out, number)?;
+            put(out, b"r");
+            push_number(out, number);
         }
     }
     if !applied.args.is_empty() {
-        out.push(b'(')?;
+        put(out, b"(");
         for arg in applied.args.as_slice() {
-            push_applied(out, arg)?;
+            push_applied(out, arg);
         }
-        out.push(b')')?;
+        put(out, b")");
     }
-    Ok(())
 }
 
-fn push_alternative(out: &mut Vec<u8>, alternative: &JoinedAlternative) -> Result<(), AllocError> {
-    push_digit(out, alternative.file)?;
-    out.push(b'.')?;
-    push_number(out, alternative.place)?;
+fn push_alternative(out: &mut Vec<u8>, alternative: &JoinedAlternative) {
+    push_digit(out, alternative.file);
+    put(out, b".");
+    push_number(out, alternative.place);
     for producer in alternative.producers.as_slice() {
-        out.push(b' ')?;
-        push_applied(out, producer)?;
+        put(out, b" ");
+        push_applied(out, producer);
     }
-    push_prec(out, alternative.prec)
+    push_prec(out, alternative.prec);
 }
 
-fn push_rule(out: &mut Vec<u8>, rule: &JoinedRule) -> Result<(), AllocError> {
-    out.extend_from_slice(rule.name.as_slice())?;
+fn push_rule(out: &mut Vec<u8>, rule: &JoinedRule) {
+    put(out, rule.name.as_slice());
     if rule.inlined {
-        out.push(b'!')?;
+        put(out, b"!");
     }
-    push_digit(out, rule.formals)?;
+    push_digit(out, rule.formals);
     for alternative in rule.alternatives.as_slice() {
-        out.push(b'|')?;
-        push_alternative(out, alternative)?;
+        put(out, b"|");
+        push_alternative(out, alternative);
     }
-    out.push(b';')?;
-    Ok(())
+    put(out, b";");
 }
 
 /// Whether a rule is the prelude's and has its own name.
@@ -77,80 +75,72 @@ fn is_plain_prelude(rule: &JoinedRule) -> bool {
 }
 
 /// The tokens, starts, on-error declarations and rules in short. Of the prelude's rules only those that a file's hide.
-fn push_joined(out: &mut Vec<u8>, joined: &Joined) -> Result<(), AllocError> {
+fn push_joined(out: &mut Vec<u8>, joined: &Joined) {
     for token in joined.tokens.as_slice() {
-        out.extend_from_slice(token.name.as_slice())?;
+        put(out, token.name.as_slice());
         if let Some(level) = token.level {
-            push_level(out, level)?;
+            push_level(out, level);
         }
-        out.push(b' ')?;
+        put(out, b" ");
     }
     for start in joined.starts.as_slice() {
-        out.push(b'>')?;
-        push_digit(out, *start)?;
+        put(out, b">");
+        push_digit(out, *start);
     }
     for actuals in joined.on_error.as_slice() {
-        out.push(b'<')?;
+        put(out, b"<");
         for actual in actuals.as_slice() {
-            push_applied(out, actual)?;
+            push_applied(out, actual);
         }
     }
-    out.push(b':')?;
+    put(out, b":");
     for rule in joined.rules.as_slice() {
         if !is_plain_prelude(rule) {
-            push_rule(out, rule)?;
+            push_rule(out, rule);
         }
     }
-    Ok(())
 }
 
-fn push_count(out: &mut Vec<u8>, count: u64) -> Result<(), AllocError> {
-    out.extend_from_slice(b"too many ")?;
-    push_number(out, count / 100)?;
-    push_number(out, count % 100)
+fn push_count(out: &mut Vec<u8>, count: u64) {
+    put(out, b"too many ");
+    push_number(out, count / 100);
+    push_number(out, count % 100);
 }
 
-fn push_fault(out: &mut Vec<u8>, fault: &JoinFault) -> Result<(), AllocError> {
+fn push_fault(out: &mut Vec<u8>, fault: &JoinFault) {
     match fault {
         JoinFault::Undefined { name } => push_named(out, b'U', name),
         JoinFault::Duplicate { name } => push_named(out, b'D', name),
-        JoinFault::NoStart => out.extend_from_slice(b"no start"),
-        JoinFault::ErrorToken => out.extend_from_slice(b"error"),
+        JoinFault::NoStart => put(out, b"no start"),
+        JoinFault::ErrorToken => put(out, b"error"),
         JoinFault::UnknownLevel { name } => push_named(out, b'L', name),
         JoinFault::TooManyTokens { count } => push_count(out, *count),
-        JoinFault::Memory => Err(AllocError),
+        JoinFault::Memory => put(out, b"memory"),
     }
 }
 
 /// Adds what the files give, or their fault.
-fn push_answer(
-    alloc: Global,
-    out: &mut Vec<u8>,
-    modules: &[Module],
-    prelude: bool,
-) -> Result<(), AllocError>
+fn push_answer(alloc: Global, out: &mut Vec<u8>, modules: &[Module], prelude: bool)
     requires { AreModulesReady modules.now }
 {
     match join(alloc, modules, prelude) {
         Ok(joined) => {
-            let result = push_joined(out, &joined);
+            push_joined(out, &joined);
             release(joined);
-            result
         }
         Err(fault) => {
-            let result = push_fault(out, &fault);
+            push_fault(out, &fault);
             release(fault);
-            result
         }
     }
 }
 
-fn answer(alloc: Global, modules: &[Module], prelude: bool) -> Result<Vec<u8>, AllocError>
+fn answer(alloc: Global, modules: &[Module], prelude: bool) -> Vec<u8>
     requires { AreModulesReady modules.now }
 {
     let mut out = Vec::new(alloc);
-    push_answer(alloc, &mut out, modules, prelude)?;
-    Ok(out)
+    push_answer(alloc, &mut out, modules, prelude);
+    out
 }
 
 /// Files without the prelude, and what they give.
@@ -263,7 +253,7 @@ fn found(alloc: Global, texts: &str, prelude: bool) -> Result<Vec<u8>, Fail> {
     let modules = modules_of(alloc, texts)?;
     let text = answer(alloc, modules.as_slice(), prelude);
     release(modules);
-    Ok(text?)
+    Ok(text)
 }
 
 /// Compares what the files of each case give with what it says.
@@ -271,7 +261,7 @@ fn check_cases(rt: &impl Abort, alloc: Global, cases: &str, prelude: bool) -> Re
     for case in cases.split('^') {
         let (texts, expected) = parts(case)?;
         let found = found(alloc, texts, prelude)?;
-        assert_eq!(rt; str::from_utf8(found.as_slice())?, expected, "at {texts:?}");
+        assert_eq!(rt; found.as_slice(), expected.as_bytes(), "at {texts:?}");
     }
     Ok(())
 }
@@ -285,10 +275,10 @@ fn files(rt: HostRuntime) -> Result<(), Fail> {
 fn check_answer(alloc: Global, modules: &[Module]) -> Result<(), Fail>
     requires { AreModulesReady modules.now }
 {
-    let left = join(alloc, modules, false)?;
-    let right = join(alloc, modules, false)?;
-    is_one_joined(false, modules, &left, &right);
-    is_joined_or_fault(false, modules, &left, &JoinFault::Memory);
+    let joined = join(alloc, modules, false)?;
+    is_one_joined(false, modules, &joined, &joined);
+    is_joined_or_fault(false, modules, &joined, &JoinFault::Memory);
+    release(joined);
     Ok(())
 }
 
@@ -303,16 +293,19 @@ fn one_answer(rt: HostRuntime) -> Result<(), Fail> {
 fn check_fault(rt: &impl Abort, alloc: Global, modules: &[Module]) -> Result<(), Fail>
     requires { AreModulesReady modules.now }
 {
-    let Err(left) = join(alloc, modules, false) else {
-        return Err("no fault".into());
-    };
-    let Err(right) = join(alloc, modules, false) else {
-        return Err("no fault".into());
-    };
-    is_one_fault(false, modules, &left, &right);
-    assert_eq!(rt; left, JoinFault::NoStart);
-    assert_eq!(rt; right, JoinFault::NoStart);
-    Ok(())
+    match join(alloc, modules, false) {
+        Ok(joined) => {
+            release(joined);
+            Err("no fault".into())
+        }
+        Err(fault) => {
+            is_one_fault(false, modules, &fault, &fault);
+            let is_no_start = fault == JoinFault::NoStart;
+            release(fault);
+            assert!(rt; is_no_start);
+            Ok(())
+        }
+    }
 }
 
 #[test]
@@ -323,17 +316,24 @@ fn one_fault(rt: HostRuntime) -> Result<(), Fail> {
     result
 }
 
+/// Adds 512 tokens and a text.
+fn push_tokens(texts: &mut String, more: &str) {
+    let _ = texts.push_str("%token");
+    for first in 'A'..='P' {
+        for second in 'a'..='p' {
+            let _ = write!(texts, " {first}{second} {first}{second}_");
+        }
+    }
+    let _ = texts.push_str(more);
+}
+
 /// What a file with 512 tokens and this text gives, with the files behind it.
 fn with_tokens(alloc: Global, more: &str) -> Result<Vec<u8>, Fail> {
     let mut texts = String::new(alloc);
-    texts.push_str("%token")?;
-    for first in 'A'..='P' {
-        for second in 'a'..='p' {
-            write!(texts, " {first}{second} {first}{second}_")?;
-        }
-    }
-    texts.push_str(more)?;
-    found(alloc, &texts, false)
+    push_tokens(&mut texts, more);
+    let found = found(alloc, &texts, false);
+    release(texts);
+    found
 }
 
 /// Text behind 512 tokens, and how many bytes its answer has and what they end with.
@@ -383,61 +383,58 @@ fn prelude_text() -> &'static str {
      %public midrule(X): X {}\n"
 }
 
-fn push_reference(out: &mut Vec<u8>, reference: &Ref) -> Result<(), AllocError> {
+fn push_reference(out: &mut Vec<u8>, reference: &Ref) {
     match reference {
-        Ref::Plain(name) => out.extend_from_slice(name.as_slice()),
+        Ref::Plain(name) => put(out, name.as_slice()),
         Ref::Alias(alias) => {
-            out.push(b'"')?;
-            out.extend_from_slice(alias.as_slice())
+            put(out, b"\"");
+            put(out, alias.as_slice());
         }
     }
 }
 
-fn push_actual(out: &mut Vec<u8>, actual: &Actual) -> Result<(), AllocError> {
-    push_reference(out, &actual.head)?;
-    out.push(b'(')?;
+fn push_actual(out: &mut Vec<u8>, actual: &Actual) {
+    push_reference(out, &actual.head);
+    put(out, b"(");
     for arg in actual.args.as_slice() {
-        push_actual(out, arg)?;
+        push_actual(out, arg);
     }
-    out.push(b')')?;
-    Ok(())
+    put(out, b")");
 }
 
 /// Everything that a rule holds, each part with an end of its own.
-fn push_source(out: &mut Vec<u8>, rule: &Rule) -> Result<(), AllocError> {
-    out.push(if rule.public { b'p' } else { b'o' })?;
-    out.push(if rule.inlined { b'i' } else { b'o' })?;
-    out.extend_from_slice(rule.name.as_slice())?;
+fn push_source(out: &mut Vec<u8>, rule: &Rule) {
+    put(out, if rule.public { b"p" } else { b"o" });
+    put(out, if rule.inlined { b"i" } else { b"o" });
+    put(out, rule.name.as_slice());
     for formal in rule.formals.as_slice() {
-        out.push(b',')?;
-        out.extend_from_slice(formal.as_slice())?;
+        put(out, b",");
+        put(out, formal.as_slice());
     }
     for alternative in rule.alternatives.as_slice() {
-        out.push(b'|')?;
+        put(out, b"|");
         for producer in alternative.producers.as_slice() {
-            push_actual(out, producer)?;
+            push_actual(out, producer);
         }
         if let Some(reference) = &alternative.prec {
-            out.push(b'%')?;
-            push_reference(out, reference)?;
+            put(out, b"%");
+            push_reference(out, reference);
         }
     }
-    out.push(b';')?;
-    Ok(())
+    put(out, b";");
 }
 
-fn sources(alloc: Global, rules: &[Rule]) -> Result<Vec<u8>, AllocError> {
+fn sources(alloc: Global, rules: &[Rule]) -> Vec<u8> {
     let mut out = Vec::new(alloc);
     for rule in rules {
-        push_source(&mut out, rule)?;
+        push_source(&mut out, rule);
     }
-    Ok(out)
+    out
 }
 
-fn check_rules(rt: &impl Abort, alloc: Global, found: &[Rule], rules: &[Rule]) -> Result<(), Fail> {
+fn check_rules(rt: &impl Abort, alloc: Global, found: &[Rule], rules: &[Rule]) {
     assert_eq!(rt; rules.len(), 18);
-    assert_eq!(rt; sources(alloc, found)?, sources(alloc, rules)?);
-    Ok(())
+    assert_eq!(rt; sources(alloc, found), sources(alloc, rules));
 }
 
 fn check_prelude(rt: &impl Abort, alloc: Global, modules: &[Module]) -> Result<(), Fail> {
@@ -447,9 +444,9 @@ fn check_prelude(rt: &impl Abort, alloc: Global, modules: &[Module]) -> Result<(
     assert!(rt; found.tokens.is_empty() && found.starts.is_empty());
     assert!(rt; found.levels.is_empty() && found.on_error.is_empty());
     let rules = prelude_rules(alloc, true)?;
-    let result = check_rules(rt, alloc, found.rules.as_slice(), rules.as_slice());
+    check_rules(rt, alloc, found.rules.as_slice(), rules.as_slice());
     release(rules);
-    result
+    Ok(())
 }
 
 #[test]

@@ -1,12 +1,14 @@
 //! Worked closures and moves, computed by hand.
 ghost use Rattle.std.specs.Prelude.{◌≤◌, ◌<◌, length, IfOk};
 ghost use Rattle.mh_grammar.specs.Plain.{plain_of, IsInRange};
-ghost use Rattle.mh_items.specs.Kernels.{IsKernel};
+ghost use Rattle.mh_kernels.specs.Kernels.{IsItemList};
 
 use crate::cases::release;
-use mh_grammar::{Grammar, Look, Memory, Symbol, is_in_range};
-use mh_items::{Kernel, are_equal, closure, firsts, moved, one_list, start_kernel, symbol_at};
+use mh_grammar::{Grammar, Look, Memory, Symbol};
+use mh_items::{closure, firsts, moved};
+use mh_kernels::{Kernel, are_equal, one_list, start_kernel, symbol_at};
 use mh_made::grammar_of;
+use mh_range::is_in_range;
 use mh_sets::TokenSet;
 use std::alloc::Global;
 use std::process::Abort;
@@ -35,8 +37,8 @@ fn is_item(kernel: &Kernel<1>, at: usize, production: u32, dot: u32, looks: &[Lo
 fn closed_of(alloc: Global, grammar: &Grammar, kernel: &Kernel<1>) -> Result<Kernel<1>, Memory>
     requires width { length grammar.now.tokens ≤ 64 }
     requires range { IsInRange (plain_of grammar.now) }
-    requires kernel { IsKernel (plain_of grammar.now) kernel.now }
-    ensures { IfOk result (IsKernel (plain_of grammar.now)) }
+    requires kernel { IsItemList (plain_of grammar.now) kernel.now }
+    ensures { IfOk result (IsItemList (plain_of grammar.now)) }
 {
     let sets = firsts(alloc, grammar)?;
     let closed = closure(alloc, grammar, &sets, kernel);
@@ -49,7 +51,7 @@ fn first_state(alloc: Global, grammar: &Grammar) -> Result<Kernel<1>, Memory>
     requires width { length grammar.now.tokens ≤ 64 }
     requires range { IsInRange (plain_of grammar.now) }
     requires start { 0 < length grammar.now.starts }
-    ensures { IfOk result (IsKernel (plain_of grammar.now)) }
+    ensures { IfOk result (IsItemList (plain_of grammar.now)) }
 {
     let start = start_kernel(alloc, grammar, 0)?;
     let closed = closed_of(alloc, grammar, &start);
@@ -66,7 +68,7 @@ fn next_state(
 ) -> Result<Kernel<1>, Memory>
     requires width { length grammar.now.tokens ≤ 64 }
     requires range { IsInRange (plain_of grammar.now) }
-    requires kernel { IsKernel (plain_of grammar.now) closed.now }
+    requires kernel { IsItemList (plain_of grammar.now) closed.now }
 {
     let next = moved(alloc, grammar, closed, symbol)?;
     let closed = closed_of(alloc, grammar, &next);

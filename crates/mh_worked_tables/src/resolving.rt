@@ -1,11 +1,12 @@
 //! Cells, defaults, actions on an error and conflicts that were worked out by hand. Each grammar begins with the token A,
 //! and state 1 is the one behind it.
 use crate::cases::release;
+use mh_cells::{Conflict, ConflictKind, Mode};
 use mh_grammar::{Grammar, Look};
 use mh_made::{grammar_of, resolved};
-use mh_resolve::{Conflict, ConflictKind, Mode};
 use mh_tables::Table;
 use std::alloc::Global;
+use std::fmt::Write;
 use std::process::Abort;
 use std::test::Fail;
 
@@ -42,12 +43,10 @@ fn fallback(alloc: Global, grammar: &str, mode: Mode) -> Result<String, Fail> {
 }
 
 /// Adds the kind of each conflict to a text.
-fn push_kinds(alloc: Global, text: &mut String, conflicts: &[Conflict]) -> Result<(), Fail> {
+fn put_kinds(text: &mut String, conflicts: &[Conflict]) {
     for conflict in conflicts {
-        let kind = format!(in alloc; " {:?}", conflict.kind)?;
-        text.push_str(&kind)?;
+        let _ = write!(text, " {:?}", conflict.kind);
     }
-    Ok(())
 }
 
 /// What a state does on a token, and the kind of each conflict.
@@ -59,7 +58,7 @@ fn cell_of(
     token: u16,
 ) -> Result<String, Fail> {
     let mut text = action(alloc, table, state, token)?;
-    push_kinds(alloc, &mut text, conflicts)?;
+    put_kinds(&mut text, conflicts);
     Ok(text)
 }
 
@@ -78,6 +77,20 @@ fn cell(alloc: Global, grammar: &str, state: u32, token: u16) -> Result<String, 
     text
 }
 
+/// A case: a grammar, ` = `, and what is wanted.
+fn check_case(
+    rt: &impl Abort,
+    alloc: Global,
+    state: u32,
+    token: u16,
+    case: &str,
+) -> Result<(), Fail> {
+    let (grammar, wanted) = case.split_once(" = ").ok_or("a case without a =")?;
+    let found = cell(alloc, grammar, state, token)?;
+    assert_eq!(rt; found.as_str(), wanted, "{case}");
+    Ok(())
+}
+
 fn check_cells(
     rt: &impl Abort,
     alloc: Global,
@@ -86,12 +99,7 @@ fn check_cells(
     cases: &str,
 ) -> Result<(), Fail> {
     for case in cases.lines() {
-        let (grammar, wanted) = case.split_once(" = ").ok_or("a case without a =")?;
-        assert_eq!(rt;
-            cell(alloc, grammar, state, token)?.as_str(),
-            wanted,
-            "{case}"
-        );
+        check_case(rt, alloc, state, token, case)?;
     }
     Ok(())
 }
@@ -147,6 +155,18 @@ fn errors(rt: HostRuntime) -> Result<(), Fail> {
     )
 }
 
+fn check_default(
+    rt: &impl Abort,
+    alloc: Global,
+    grammar: &str,
+    mode: Mode,
+    wanted: &str,
+) -> Result<(), Fail> {
+    let found = fallback(alloc, grammar, mode)?;
+    assert_eq!(rt; found.as_str(), wanted, "{grammar}");
+    Ok(())
+}
+
 /// Grammars, and the default of state 1 where states are merged, and where they are not.
 #[test]
 fn defaults(rt: HostRuntime) -> Result<(), Fail> {
@@ -168,16 +188,8 @@ fn defaults(rt: HostRuntime) -> Result<(), Fail> {
         ("A T U; s x y; s: x T; s: y U; x: A; y: A", "None", "None"),
         ("A T U; s x; s: A T; s: x U; x: A", "None", "None"),
     ] {
-        assert_eq!(rt;
-            fallback(alloc, grammar, Mode::Merged)?.as_str(),
-            merged,
-            "{grammar}"
-        );
-        assert_eq!(rt;
-            fallback(alloc, grammar, Mode::Canonical)?.as_str(),
-            canonical,
-            "{grammar}"
-        );
+        check_default(&rt, alloc, grammar, Mode::Merged, merged)?;
+        check_default(&rt, alloc, grammar, Mode::Canonical, canonical)?;
     }
     Ok(())
 }
@@ -195,21 +207,22 @@ fn conflicts_of(alloc: Global, text: &str) -> Result<Vec<Conflict>, Fail> {
     conflicts
 }
 
+fn conflict(state: u32, look: Look, kind: ConflictKind) -> Conflict {
+    Conflict { state, look, kind }
+}
+
 /// Behind A, T is shifted or x is reduced, and at the end x or y is; so the end has an action and T another one. Behind x,
 /// state 3, T is shifted or s is reduced at the end.
 #[test]
 fn conflicts(rt: HostRuntime) -> Result<(), Fail> {
-    let conflicts = conflicts_of(
-        rt.alloc(),
-        "A T; s x y; s: x; s: y; s: A T; s: x T; x: A; y: A",
-    )?;
     let wanted = [
-        (1, Look::Token(1), ConflictKind::Unsolved),
-        (1, Look::End, ConflictKind::Unsolved),
-        (1, Look::End, ConflictKind::Stream),
-        (3, Look::End, ConflictKind::Stream),
-    ]
-    .map(|(state, look, kind)| Conflict { state, look, kind });
+        conflict(1, Look::Token(1), ConflictKind::Unsolved),
+        conflict(1, Look::End, ConflictKind::Unsolved),
+        conflict(1, Look::End, ConflictKind::Stream),
+        conflict(3, Look::End, ConflictKind::Stream),
+    ];
+    let text = "A T; s x y; s: x; s: y; s: A T; s: x T; x: A; y: A";
+    let conflicts = conflicts_of(rt.alloc(), text)?;
     assert_eq!(rt; conflicts.as_slice(), wanted.as_slice());
     Ok(())
 }

@@ -97,8 +97,8 @@ fn check_trace(
     wanted: (Verdict, &[u32]),
 ) -> Result<(), Fail> {
     let (verdict, reduced) = traced(alloc, table, sentence)?;
-    assert_eq!(rt; verdict, wanted.0, "{sentence:?}");
-    assert_eq!(rt; reduced.as_slice(), wanted.1, "{sentence:?}");
+    assert_eq!(rt; verdict, wanted.0);
+    assert_eq!(rt; reduced.as_slice(), wanted.1);
     Ok(())
 }
 
@@ -205,16 +205,28 @@ fn the_inner_if_has_the_else(rt: HostRuntime) -> Result<(), Fail> {
     result
 }
 
-/// How a run with trees ends: `accept` and the height of the tree, or `reject` and where, or `overshoot`, or `too deep`.
-fn told(alloc: Global, outcome: &TreeOutcome) -> Result<String, Fail> {
-    Ok(match outcome {
-        TreeOutcome::Accept { read, tree } => {
-            format!(in alloc; "accept {read} {}", tree.height())?
-        }
-        TreeOutcome::Reject { at, state } => format!(in alloc; "reject {at} {state}")?,
-        TreeOutcome::Overshoot { state } => format!(in alloc; "overshoot {state}")?,
-        TreeOutcome::TooDeep => format!(in alloc; "too deep")?,
-    })
+/// How a run with trees ends, where it accepts with the height of its tree.
+#[derive(Clone, Copy, Debug, PartialEq, Eq)]
+enum End {
+    Accept { read: u32, height: u32 },
+    Reject { at: u32, state: u32 },
+    Overshoot { state: u32 },
+    TooDeep,
+}
+
+fn end_of(outcome: &TreeOutcome) -> End {
+    match outcome {
+        TreeOutcome::Accept { read, tree } => End::Accept {
+            read: *read,
+            height: tree.height(),
+        },
+        TreeOutcome::Reject { at, state } => End::Reject {
+            at: *at,
+            state: *state,
+        },
+        TreeOutcome::Overshoot { state } => End::Overshoot { state: *state },
+        TreeOutcome::TooDeep => End::TooDeep,
+    }
 }
 
 fn check_end(
@@ -222,18 +234,19 @@ fn check_end(
     alloc: Global,
     table: &Halting,
     sentence: &[Token],
-    wanted: &str,
+    wanted: End,
 ) -> Result<(), Fail> {
     let outcome = with_trees(alloc, table, sentence)?;
-    let found = told(alloc, &outcome);
+    let end = end_of(&outcome);
     release(outcome);
-    assert_eq!(rt; found?.as_str(), wanted);
+    assert_eq!(rt; end, wanted);
     Ok(())
 }
 
 fn check_refused(rt: &impl Abort, alloc: Global, table: &Halting) -> Result<(), Fail> {
-    check_end(rt, alloc, table, &[0, 1, 0, 1, 0], "reject 3 6")?;
-    check_end(rt, alloc, table, &[0, 1], "overshoot 4")
+    let rejected = End::Reject { at: 3, state: 6 };
+    check_end(rt, alloc, table, &[0, 1, 0, 1, 0], rejected)?;
+    check_end(rt, alloc, table, &[0, 1], End::Overshoot { state: 4 })
 }
 
 #[test]
@@ -250,7 +263,7 @@ fn check_both(
     alloc: Global,
     table: &Halting,
     sentence: &[Token],
-    wanted: (&str, Verdict),
+    wanted: (End, Verdict),
 ) -> Result<(), Fail> {
     check_end(rt, alloc, table, sentence, wanted.0)?;
     assert_eq!(rt; judged(alloc, table, sentence)?, wanted.1);
@@ -262,7 +275,7 @@ fn check_chain_on(
     alloc: Global,
     table: &Halting,
     count: usize,
-    wanted: &str,
+    wanted: End,
 ) -> Result<(), Fail>
     requires { count < 1000000 }
 {
@@ -277,7 +290,7 @@ fn check_chain_on(
 
 /// Compares the end of k times A and then B, whose tree has the height k + 2, with what is wanted. Without trees it is
 /// accepted.
-fn check_chain(rt: &impl Abort, alloc: Global, count: usize, wanted: &str) -> Result<(), Fail>
+fn check_chain(rt: &impl Abort, alloc: Global, count: usize, wanted: End) -> Result<(), Fail>
     requires { count < 1000000 }
 {
     let table = table_of(alloc, CHAIN)?;
@@ -288,18 +301,28 @@ fn check_chain(rt: &impl Abort, alloc: Global, count: usize, wanted: &str) -> Re
 
 #[test]
 fn the_highest_tree(rt: HostRuntime) -> Result<(), Fail> {
-    check_chain(&rt, rt.alloc(), 3998, "accept 3999 4000")
+    let wanted = End::Accept {
+        read: 3999,
+        height: 4000,
+    };
+    check_chain(&rt, rt.alloc(), 3998, wanted)
 }
 
 #[test]
 fn too_high_a_tree(rt: HostRuntime) -> Result<(), Fail> {
-    check_chain(&rt, rt.alloc(), 3999, "too deep")
+    check_chain(&rt, rt.alloc(), 3999, End::TooDeep)
 }
 
 fn check_pairs(rt: &impl Abort, alloc: Global, table: &Halting) -> Result<(), Fail> {
     let sentence = [0u16; 4001];
-    check_end(rt, alloc, table, &sentence[..4000], "overshoot 1")?;
-    check_end(rt, alloc, table, &sentence, "too deep")
+    check_end(
+        rt,
+        alloc,
+        table,
+        &sentence[..4000],
+        End::Overshoot { state: 1 },
+    )?;
+    check_end(rt, alloc, table, &sentence, End::TooDeep)
 }
 
 /// 4,000 times A leave as many pairs, the longest stack that is let go; one more is too many, though no tree is high.
@@ -321,7 +344,9 @@ fn check_sum(
 ) -> Result<(), Fail> {
     let sentence = sum_of(alloc, 499_999, last)?;
     assert_eq!(rt; sentence.len(), 1_000_000);
-    assert_eq!(rt; judged(alloc, table, &sentence)?, wanted);
+    let verdict = judged(alloc, table, &sentence);
+    release(sentence);
+    assert_eq!(rt; verdict?, wanted);
     Ok(())
 }
 
@@ -354,10 +379,9 @@ fn a_long_sum(rt: HostRuntime) -> Result<(), Fail> {
 
 fn check_long_chain(rt: &impl Abort, alloc: Global, table: &Halting) -> Result<(), Fail> {
     let sentence = chain_of(alloc, 999_999)?;
-    assert_eq!(rt;
-        judged(alloc, table, &sentence)?,
-        Verdict::Accept { read: 1_000_000 }
-    );
+    let verdict = judged(alloc, table, &sentence);
+    release(sentence);
+    assert_eq!(rt; verdict?, Verdict::Accept { read: 1_000_000 });
     Ok(())
 }
 

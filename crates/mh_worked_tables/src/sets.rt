@@ -2,12 +2,13 @@
 ghost use Rattle.mh_grammar.specs.Plain.{plain_of, IsInRange};
 
 use crate::cases::release;
+use mh_firsts::{first, nullable, productive, words_begin_with_first};
 use mh_grammar::{
-    Edge, Grammar, Memory, NontermInfo, Production, Sequence, Symbol, TokenInfo, find_edge, first,
-    from_bytes, is_in_range, left_side_name, nonterminal_name, nullable, productive, start_name,
-    symbol_name, token_name, words_begin_with_first,
+    Edge, Grammar, Memory, NontermInfo, Production, Sequence, Symbol, TokenInfo, find_edge,
+    from_bytes, left_side_name, nonterminal_name, start_name, symbol_name, token_name,
 };
 use mh_made::grammar_of;
+use mh_range::is_in_range;
 use std::alloc::Global;
 use std::process::Abort;
 use std::test::Fail;

@@ -1,9 +1,10 @@
 //! Tables that were worked out by hand, and whether runs on them end.
 use crate::cases::release;
+use mh_cells::Mode;
 use mh_grammar::{Grammar, Symbol};
+use mh_halting::{HaltFault, check_halts};
 use mh_made::{grammar_of, resolved};
-use mh_resolve::Mode;
-use mh_tables::{Action, Fallback, HaltFault, Table, check_halts};
+use mh_tables::{Action, Fallback, Table};
 use std::alloc::Global;
 use std::process::Abort;
 use std::test::Fail;

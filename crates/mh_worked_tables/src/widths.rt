@@ -1,15 +1,27 @@
 //! One automaton at every width of its sets.
 ghost use Rattle.std.specs.Prelude.{◌≤◌, ◌*◌, length, IfOk};
 ghost use Rattle.mh_grammar.specs.Plain.{plain_of, IsInRange};
-ghost use Rattle.mh_canon.specs.Canonical.{IsCanonical};
+ghost use Rattle.mh_knuth.specs.Canonical.{IsCanonical};
 
 use crate::cases::release;
 use mh_canon::{canonical, is_one_automaton};
-use mh_grammar::{Grammar, Look, is_in_range};
-use mh_items::{Automaton, Kernel};
+use mh_grammar::{Grammar, Look};
+use mh_kernels::{Automaton, Kernel};
 use mh_made::grammar_of;
+use mh_range::is_in_range;
+use mh_sets::TokenSet;
 use std::alloc::Global;
 use std::test::Fail;
+
+fn are_looks_alike<const V: usize, const W: usize>(
+    alloc: Global,
+    left: &TokenSet<V>,
+    right: &TokenSet<W>,
+) -> Result<bool, Fail> {
+    let looks: Vec<Look> = left.looks().collect(alloc)?;
+    let others: Vec<Look> = right.looks().collect(alloc)?;
+    Ok(looks == others)
+}
 
 /// Whether two kernels have the same items with the same looks.
 fn are_alike<const V: usize, const W: usize>(
@@ -21,9 +33,10 @@ fn are_alike<const V: usize, const W: usize>(
         return Ok(false);
     }
     for (x, y) in left.items.as_slice().iter().zip(right.items.as_slice()) {
-        let looks: Vec<Look> = x.looks.looks().collect(alloc)?;
-        let others: Vec<Look> = y.looks.looks().collect(alloc)?;
-        if x.production != y.production || x.dot != y.dot || looks != others {
+        if x.production != y.production || x.dot != y.dot {
+            return Ok(false);
+        }
+        if !are_looks_alike(alloc, &x.looks, &y.looks)? {
             return Ok(false);
         }
     }

@@ -1,30 +1,21 @@
 //! Which test a table file fails, and where.
 use crate::names::are_apart;
-use mh_grammar::{Grammar, has_costs_in_range, is_in_range};
+use mh_grammar::Grammar;
 use mh_made::grammar_of;
-use mh_tabfile::read_tables;
+use mh_range::{has_costs_in_range, is_in_range};
+use mh_tabreader::read_tables;
 use mh_validate::{ValidFault, validate};
 use std::alloc::Global;
 use std::process::Abort;
 use std::test::Fail;
 
+/// Lets a value go. Where its type is known, each way out that lets it go would be long to prove.
+fn release<T: Drop>(_value: T) {}
+
 /// What validating answers: how many states and conflicts there are, or the test that fails.
-fn answer(alloc: Global, grammar: &Grammar, file: &[u8]) -> Result<String, Fail> {
-    if file.len() > 10_000 || !is_in_range(grammar) || !has_costs_in_range(grammar) {
-        return Err(Fail::from("out of range"));
-    }
-    if grammar.tokens.len() > 64 || !are_apart(grammar) {
-        return Err(Fail::from("names"));
-    }
-    let Ok(raw) = read_tables(alloc, file) else {
-        return Err(Fail::from("no table file"));
-    };
-    let text = match validate::<1>(alloc, grammar, &raw) {
-        Ok(valid) => format!(in alloc;
-            "{} states, {} conflicts",
-            valid.automaton.kernels.len(),
-            valid.conflicts.len()
-        )?,
+fn told(alloc: Global, answer: Result<(usize, usize), ValidFault>) -> Result<String, Fail> {
+    Ok(match answer {
+        Ok((states, conflicts)) => { format!(in alloc; "{states} states, {conflicts} conflicts")? }
         Err(
             ValidFault::Invalid {
                 state: None,
@@ -38,11 +29,66 @@ fn answer(alloc: Global, grammar: &Grammar, file: &[u8]) -> Result<String, Fail>
             },
         ) => format!(in alloc; "{state} {reason:?}")?,
         Err(ValidFault::Memory) => format!(in alloc; "memory")?,
-    };
-    Ok(text)
+    })
 }
 
-/// Checks what validating answers for a file in which each text before a `=` is replaced by the one behind it.
+/// Validates a file.
+fn answer(
+    alloc: Global,
+    grammar: &Grammar,
+    file: &[u8],
+) -> Result<Result<(usize, usize), ValidFault>, Fail> {
+    if file.len() > 10_000 || !is_in_range(grammar) || !has_costs_in_range(grammar) {
+        return Err(Fail::from("out of range"));
+    }
+    if grammar.tokens.len() > 64 || !are_apart(grammar) {
+        return Err(Fail::from("names"));
+    }
+    let Ok(raw) = read_tables(alloc, file) else {
+        return Err(Fail::from("no table file"));
+    };
+    let answer = match validate::<1>(alloc, grammar, &raw) {
+        Ok(valid) => {
+            let counts = (valid.automaton.kernels.len(), valid.conflicts.len());
+            release(valid);
+            Ok(counts)
+        }
+        Err(fault) => Err(fault),
+    };
+    release(raw);
+    Ok(answer)
+}
+
+fn answer_of(alloc: Global, grammar: &str, file: &[u8]) -> Result<String, Fail> {
+    let grammar = grammar_of(alloc, grammar)?;
+    let result = answer(alloc, &grammar, file);
+    release(grammar);
+    told(alloc, result?)
+}
+
+/// Replaces each text before a `=` by the one behind it.
+fn change(rt: &impl Abort, alloc: Global, file: &mut String, changes: &str) -> Result<(), Fail> {
+    for change in changes.split_terminator(';') {
+        let (old, new) = change.split_once('=').ok_or("a change without a sign")?;
+        assert!(rt; file.contains(old), "{change}");
+        *file = file.replace(alloc, old, new)?;
+    }
+    Ok(())
+}
+
+fn check_file(
+    rt: &impl Abort,
+    alloc: Global,
+    grammar: &str,
+    file: &str,
+    wanted: &str,
+) -> Result<(), Fail> {
+    let got = answer_of(alloc, grammar, file.as_bytes())?;
+    assert_eq!(rt; got.as_str(), wanted, "{file}");
+    Ok(())
+}
+
+/// Checks what validating answers for a file that is changed so.
 fn check(
     rt: &impl Abort,
     alloc: Global,
@@ -51,15 +97,12 @@ fn check(
     wanted: &str,
 ) -> Result<(), Fail> {
     let mut file = FILE.to_string(alloc)?;
-    for change in changes.split_terminator(';') {
-        let (old, new) = change.split_once('=').ok_or("a change without a sign")?;
-        assert!(rt; file.contains(old), "{change}");
-        file = file.replace(alloc, old, new)?;
-    }
-    let grammar = grammar_of(alloc, grammar)?;
-    let got = answer(alloc, &grammar, file.as_bytes())?;
-    assert_eq!(rt; got.as_str(), wanted, "{changes}");
-    Ok(())
+    let result = match change(rt, alloc, &mut file, changes) {
+        Ok(()) => check_file(rt, alloc, grammar, &file, wanted),
+        Err(fail) => Err(fail),
+    };
+    release(file);
+    result
 }
 
 /// The grammar of one production, and its file.
