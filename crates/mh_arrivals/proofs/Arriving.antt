@@ -14,24 +14,24 @@ use Rattle.mh_least.specs.Least.{Label, longer, HoldsAt, LabelLaws, SoundReach, 
 use Rattle.mh_least.specs.Orders.{cap}
 use Rattle.mh_least.proofs.Sound.{shift_known}
 use Rattle.mh_least.proofs.Least.{reach_begins, reach_shifts, reach_goes}
-use Rattle.mh_past.specs.declared.work.Whole.{Whole}
-use Rattle.mh_past.specs.declared.work.Way.{Way}
-use Rattle.mh_past.specs.declared.work.Work.{Work}
-use Rattle.mh_past.specs.declared.classes.Classes.{Classes}
+use Rattle.mh_ways.specs.declared.work.Whole.{Whole}
+use Rattle.mh_ways.specs.declared.work.Way.{Way}
+use Rattle.mh_ways.specs.declared.work.Work.{Work}
+use Rattle.mh_ways.specs.declared.classes.Classes.{Classes}
 use Rattle.mh_arrivals.specs.declared.arrivals.Spot.{Spot}
 use Rattle.mh_arrivals.specs.declared.arrivals.Step.TheVariants as steps
 use Rattle.mh_arrivals.specs.declared.arrivals.Arrival.{Arrival}
 use Rattle.mh_arrivals.specs.declared.arrivals.Coming.{Coming}
-use Rattle.mh_past.specs.Rows.{Waits, Gains, Among}
-use Rattle.mh_past.specs.Classes.{IsClasses, rep_of, place_of}
-use Rattle.mh_past.specs.Rules.{wholes_at}
-use Rattle.mh_past.specs.Tales.{NoLater, capped}
+use Rattle.mh_ways.specs.Rows.{Waits, Gains, Among}
+use Rattle.mh_ways.specs.Classes.{IsClasses, rep_of, place_of}
+use Rattle.mh_ways.specs.Rules.{wholes_at}
+use Rattle.mh_ways.specs.Tales.{NoLater, capped}
 use Rattle.mh_found.specs.Found.{WaysIn, WholeOk}
 use Rattle.mh_arrivals.specs.Arriving.{NoLaterAt, NoLaterBy, Spots, spot, StepsAlong, StepsShift, StepsWay, GoesOn, Starts, Journey, LabelBy, ComingOk, Waiting, PendingAt, GoodAt, InOrderAt, HasArrived, ComesNext, Arrived, labels_at}
 use Rattle.mh_words.specs.Rising.{Rises}
-use Rattle.mh_past.proofs.Rowing.{none_in, row_past}
-use Rattle.mh_past.proofs.Wording.{some_is, capped_one, capped_both, min_cap, no_lower}
-use Rattle.mh_past.proofs.Keyed.{at_cases}
+use Rattle.mh_ways.proofs.Rowing.{none_in, row_past}
+use Rattle.mh_ways.proofs.Wording.{some_is, capped_one, capped_both, min_cap, no_lower}
+use Rattle.mh_ways.proofs.Keyed.{at_cases}
 use Rattle.mh_arrivals.proofs.Spots.{label_kept, label_one, journey_more, new_labels, labels_kept, labels_here, labels_only, spot_keys}
 use Rattle.mh_arrivals.proofs.Labelling.{label_laws, same_label, over_from}
 use Rattle.mh_words.proofs.Listing.{rises_by}

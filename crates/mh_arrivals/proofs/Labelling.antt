@@ -4,13 +4,14 @@ use Rattle.std.specs.Prelude.{min}
 use Rattle.std.proofs.lemmas.Grind.{common_steps}
 use Rattle.std.proofs.lemmas.List.{append-nil}
 use Rattle.mh_tables.specs.Table.{TableData}
-use Rattle.mh_tables.specs.Failing.{LexLe, cost_by}
+use Rattle.mh_grammar.specs.WordOrder.{LexLe}
+use Rattle.mh_tables.specs.Failing.{cost_by}
 use Rattle.mh_least.specs.Least.{Label, longer, LabelLaws}
 use Rattle.mh_least.specs.Orders.{cap}
 use Rattle.mh_least.specs.Orders as orders
 use Rattle.mh_least.proofs.Orders.{cost_append, sentence_laws}
-use Rattle.mh_past.specs.Tales.{NoLater, weigh, capped}
-use Rattle.mh_past.proofs.Wording.{weigh_some, free_part, free_word}
+use Rattle.mh_ways.specs.Tales.{NoLater, weigh, capped}
+use Rattle.mh_ways.proofs.Wording.{weigh_some, free_part, free_word}
 use Rattle.mh_arrivals.specs.Arriving.{NoLaterAt}
 use Rattle.mh_arrivals.specs.Comparing.{numbers_of}
 

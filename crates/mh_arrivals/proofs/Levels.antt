@@ -8,16 +8,16 @@ use Rattle.mh_facts.specs.declared.store.FactKey.{FactKey}
 use Rattle.mh_facts.specs.Stored.{Facts as Stored}
 use Rattle.mh_least.specs.Least.{Label}
 use Rattle.mh_least.specs.Orders.{cap}
-use Rattle.mh_past.specs.declared.work.Whole.{Whole}
-use Rattle.mh_past.specs.declared.work.Work.{Work}
-use Rattle.mh_past.specs.declared.classes.Classes.{Classes}
+use Rattle.mh_ways.specs.declared.work.Whole.{Whole}
+use Rattle.mh_ways.specs.declared.work.Work.{Work}
+use Rattle.mh_ways.specs.declared.classes.Classes.{Classes}
 use Rattle.mh_found.specs.declared.found.Found.{Found}
-use Rattle.mh_past.specs.Rows.{Gains, IsOne}
-use Rattle.mh_past.specs.Classes.{IsClasses, rep_of}
-use Rattle.mh_past.specs.Rules.{wholes_at}
-use Rattle.mh_past.specs.Tales.{Tale, capped}
+use Rattle.mh_ways.specs.Rows.{Gains, IsOne}
+use Rattle.mh_ways.specs.Classes.{IsClasses, rep_of}
+use Rattle.mh_ways.specs.Rules.{wholes_at}
+use Rattle.mh_ways.specs.Tales.{Tale, capped}
 use Rattle.mh_found.specs.Found.{WholeOk}
-use Rattle.mh_past.proofs.Wording.{fact_of_word}
+use Rattle.mh_ways.proofs.Wording.{fact_of_word}
 use Rattle.mh_found.proofs.Telling.{all_numbered}
 use Rattle.mh_arrivals.specs.declared.arrivals.Spot.{Spot}
 use Rattle.mh_arrivals.specs.declared.arrivals.Step.{Step}

@@ -10,10 +10,10 @@ use Rattle.mh_arrivals.specs.declared.arrivals.Spot.{Spot}
 use Rattle.mh_arrivals.specs.declared.arrivals.Step.{Step}
 use Rattle.mh_arrivals.specs.declared.arrivals.Step.TheVariants as steps
 use Rattle.mh_arrivals.specs.declared.arrivals.Arrival.{Arrival}
-use Rattle.mh_past.specs.Tales.{capped}
+use Rattle.mh_ways.specs.Tales.{capped}
 use Rattle.mh_arrivals.specs.Arriving.{Spots, same_spot, arrival_at, spot, put_at, height_by, with_height, heights_of, LabelBy, Reached, Journey}
-use Rattle.mh_past.proofs.Keyed.{AreKeys, put_here, put_cases, put_other, each_more, none_more, fold_more}
-use Rattle.mh_past.proofs.Wording.{some_is}
+use Rattle.mh_ways.proofs.Keyed.{AreKeys, put_here, put_cases, put_other, each_more, none_more, fold_more}
+use Rattle.mh_ways.proofs.Wording.{some_is}
 
 both_true : (a b : Bool) → (a && b) ≡ true → (a ≡ true) × (b ≡ true)
 both_true true b e = (refl, e)

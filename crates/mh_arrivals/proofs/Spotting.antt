@@ -4,7 +4,7 @@ use Rattle.std.specs.Prelude.{◌^◌}
 use Rattle.mh_arrivals.specs.declared.arrivals.Spot.{Spot}
 use Rattle.mh_arrivals.specs.declared.arrivals.Arrival.{Arrival}
 use Rattle.mh_arrivals.specs.Arriving.{Spots, arrival_at, spot}
-use Rattle.mh_past.proofs.Counting.{total, total_le, total_less, bit, bit_le, bit_less, wide, narrow}
+use Rattle.mh_ways.proofs.Counting.{total, total_le, total_less, bit, bit_le, bit_less, wide, narrow}
 use Rattle.mh_arrivals.proofs.Spots.{spot_keys}
 
 unfoldable pub unreached : Spots → ℕ

@@ -12,13 +12,13 @@ use Rattle.mh_arrivals.specs.declared.arrivals.Spot.{Spot}
 use Rattle.mh_arrivals.specs.declared.arrivals.Step.TheVariants as steps
 use Rattle.mh_arrivals.specs.declared.arrivals.Arrival.{Arrival}
 use Rattle.mh_arrivals.specs.declared.arrivals.Coming.{Coming}
-use Rattle.mh_past.specs.declared.classes.Classes.{Classes}
-use Rattle.mh_past.specs.Rows.{Gains, Among}
-use Rattle.mh_past.specs.Classes.{rep_of, list_at}
+use Rattle.mh_ways.specs.declared.classes.Classes.{Classes}
+use Rattle.mh_ways.specs.Rows.{Gains, Among}
+use Rattle.mh_ways.specs.Classes.{rep_of, list_at}
 use Rattle.mh_arrivals.specs.Arriving.{StepsOn, StepsAlong, StepsEdge, StepsShift}
-use Rattle.mh_past.proofs.Gaining.{gains_by}
-use Rattle.mh_past.proofs.Edging.{one_shift, shift_target}
-use Rattle.mh_past.proofs.Edging.{edge_there}
+use Rattle.mh_ways.proofs.Gaining.{gains_by}
+use Rattle.mh_ways.proofs.Edging.{one_shift, shift_target}
+use Rattle.mh_ways.proofs.Edging.{edge_there}
 
 module _ (t : TableData) (c : Classes) (k : Spot) (cost token end at : ℕ) (like : rep_of c k.state token ≡ k.next) (move : move_of t k.state (token ∷ []) ≡ Shifts end) (at_is : at ≡ min (cost + cost_of_token t token) cap) where
   pub along_gains : (old new : List (Vec Coming)) → Gains (Among (StepsOn at end (steps.Shift k token)) (list_at c end)) old new → Gains (StepsAlong t c k cost token) old new

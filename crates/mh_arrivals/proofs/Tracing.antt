@@ -7,11 +7,11 @@ use Rattle.mh_facts.specs.Stored.{Facts as Stored}
 use Rattle.mh_least.specs.Least.{Label, longer}
 use Rattle.mh_found.specs.declared.tails.Part.{Part}
 use Rattle.mh_found.specs.Tails.{IsWordOf, AreWordOf, IsLater, AreComparable}
-use Rattle.mh_past.specs.Tales.{Tale}
+use Rattle.mh_ways.specs.Tales.{Tale}
 use Rattle.mh_found.specs.declared.found.Found.{Found}
-use Rattle.mh_tables.proofs.WordOrder.{lex_after}
+use Rattle.mh_grammar.proofs.WordOrder.{lex_after}
 use Rattle.mh_found.proofs.Compared.{parts_append}
-use Rattle.mh_past.proofs.Wording.{some_is}
+use Rattle.mh_ways.proofs.Wording.{some_is}
 use Rattle.mh_arrivals.specs.declared.arrivals.Spot.{Spot}
 use Rattle.mh_arrivals.specs.declared.arrivals.Step.{Step}
 use Rattle.mh_arrivals.specs.declared.arrivals.Step.TheVariants as steps

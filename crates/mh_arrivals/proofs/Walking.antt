@@ -9,7 +9,7 @@ use Rattle.mh_arrivals.specs.declared.arrivals.Spot.{Spot}
 use Rattle.mh_arrivals.specs.declared.arrivals.Step.TheVariants as steps
 use Rattle.mh_arrivals.specs.declared.arrivals.Arrival.{Arrival}
 use Rattle.mh_arrivals.specs.Arriving.{Spots, arrival_at, Journey, heights_of, height_by, LabelBy}
-use Rattle.mh_past.proofs.Wording.{some_is}
+use Rattle.mh_ways.proofs.Wording.{some_is}
 
 -- what is said of a spot and what is spelled
 abbrev pub LeadsTo : (Spot → Option Label) → Spot → List ℕ → ℕ → List ℕ → Type 0

@@ -9,19 +9,19 @@ use Rattle.mh_grammar.specs.declared.edges.Edge.{Edge}
 use Rattle.mh_facts.specs.declared.store.FactKey.{FactKey}
 use Rattle.mh_least.specs.Least.{Label, longer, HoldsAt, ClosesAt, SoundReach}
 use Rattle.mh_least.specs.Orders.{cap, SentenceLe}
-use Rattle.mh_past.specs.declared.work.Whole.{Whole}
-use Rattle.mh_past.specs.declared.work.Work.{Work}
-use Rattle.mh_past.specs.declared.classes.Classes.{Classes}
+use Rattle.mh_ways.specs.declared.work.Whole.{Whole}
+use Rattle.mh_ways.specs.declared.work.Work.{Work}
+use Rattle.mh_ways.specs.declared.classes.Classes.{Classes}
 use Rattle.mh_arrivals.specs.declared.arrivals.Spot.{Spot}
 use Rattle.mh_arrivals.specs.declared.arrivals.Step.{Step}
 use Rattle.mh_arrivals.specs.declared.arrivals.Step.TheVariants as steps
 use Rattle.mh_arrivals.specs.declared.arrivals.Arrival.{Arrival}
 use Rattle.mh_arrivals.specs.declared.arrivals.Coming.{Coming}
-use Rattle.mh_past.specs.Rows.{Waits, Beside, IsOne, Below, Among}
+use Rattle.mh_ways.specs.Rows.{Waits, Beside, IsOne, Below, Among}
 use Rattle.mh_found.specs.Drawn.{DrawsOne, DrawsNone, Keeps, DrawsSome, DrawsAll}
-use Rattle.mh_past.specs.Classes.{rep_of, place_of, list_at}
-use Rattle.mh_past.specs.Rules.{wholes_at}
-use Rattle.mh_past.specs.Tales.{weigh, capped}
+use Rattle.mh_ways.specs.Classes.{rep_of, place_of, list_at}
+use Rattle.mh_ways.specs.Rules.{wholes_at}
+use Rattle.mh_ways.specs.Tales.{weigh, capped}
 use Rattle.mh_found.specs.declared.found.Found.{Found}
 use Rattle.mh_found.specs.Found.{WaysIn, IsFound}
 use Rattle.mh_words.specs.Rising.{Rises}

@@ -2,14 +2,14 @@
 use Rattle.std.specs.Prelude.{◌≡◌, ℕ, List, ◌∷◌, ◌++◌, Option, Some, None, Bool, true, false}
 use Rattle.std.specs.List.{Contains}
 use Rattle.mh_tables.specs.Table.{TableData}
-use Rattle.mh_tables.specs.Failing.{LexLe}
+use Rattle.mh_grammar.specs.WordOrder.{LexLe}
 use Rattle.mh_facts.specs.declared.store.FactKey.{FactKey}
 use Rattle.mh_facts.specs.Stored.{Facts}
 use Rattle.mh_least.specs.Least.{Label}
 use Rattle.mh_found.specs.declared.tails.Part.{Part}
 use Rattle.mh_found.specs.declared.tails.Part.TheVariants as parts
 use Rattle.mh_found.specs.Tails.{AreWordOf}
-use Rattle.mh_past.specs.Tales.{Tale}
+use Rattle.mh_ways.specs.Tales.{Tale}
 use Rattle.mh_found.specs.Found.{IsStored}
 use Rattle.mh_found.specs.Numbers.{AllNumbered}
 use Rattle.mh_found.specs.declared.found.Found.{Found}

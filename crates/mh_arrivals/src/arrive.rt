@@ -2,11 +2,11 @@
 ghost use Rattle.std.specs.Prelude.{◌≡◌, ◌≤◌, ◌<◌, ◌+◌, ◌⊎◌, ◌∷◌, ℕ, [], Some, OnOk, IfOk, drop, length, min};
 ghost use Rattle.std.specs.List.{Contains};
 ghost use Rattle.mh_tables.specs.Table.{edge_of};
-ghost use Rattle.mh_past.specs.declared.work.Whole.{Whole};
+ghost use Rattle.mh_ways.specs.declared.work.Whole.{Whole};
 ghost use Rattle.mh_least.specs.Orders.{cap};
-ghost use Rattle.mh_past.specs.Rows.{Gains, Among, row_of};
-ghost use Rattle.mh_past.specs.Classes.{IsClasses, place_of};
-ghost use Rattle.mh_past.specs.Rules.{OnlyAt};
+ghost use Rattle.mh_ways.specs.Rows.{Gains, Among, row_of};
+ghost use Rattle.mh_ways.specs.Classes.{IsClasses, place_of};
+ghost use Rattle.mh_ways.specs.Rules.{OnlyAt};
 ghost use Rattle.mh_found.specs.Found.{IsFound};
 ghost use Rattle.mh_arrivals.specs.Arriving.{NextComing, StepsOn, StepsAlong, StepsEdge, StepsShift, StepsWay, Starts, KeepsComing, TakesAll, GoodIn, ReadyIn, ArrivedIn};
 ghost use Rattle.mh_arrivals.specs.Comparing.{AreKnown, InTurn, IsTold};
@@ -16,8 +16,8 @@ use crate::arrivals::{Arrival, Arrivals, Coming, Spot, Step, arrival_of, arrive_
 use crate::sorting::BySentence;
 use mh_found::Found;
 use mh_grammar::{Edge, Memory, Symbol, Token};
-use mh_past::queue::{Queue, empty_queue, push, take};
-use mh_past::{CAP, Classes, Whole, add_costs, add_token, class_of, list_of};
+use mh_ways::queue::{Queue, empty_queue, push, take};
+use mh_ways::{CAP, Classes, Whole, add_costs, add_token, class_of, list_of};
 use mh_tables::{Choice, Table, choose};
 use mh_words::sorted;
 use std::alloc::Global;

@@ -7,7 +7,7 @@ use Rattle.mh_tables.specs.Run.{Config, Move, Accepts as Accepting, Asks, Refuse
 use Rattle.mh_tables.specs.RunTrees.{grow, trees_after, Stands, yields}
 use Rattle.mh_tables.proofs.Ending.{step_moves}
 use Rattle.mh_tables.proofs.Trees.{stands_from_start}
-use Rattle.mh_tree.specs.Trees.{SyntaxTree, Leaf}
+use Rattle.mh_grammar.specs.Trees.{SyntaxTree, Leaf}
 use Rattle.mh_engine.specs.Pairs.{Pairs}
 use Rattle.mh_engine.specs.Positions.{Position}
 use Rattle.mh_engine.specs.Phases.{next_move, phase_of, phase_by, phase_where}

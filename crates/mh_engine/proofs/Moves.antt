@@ -8,7 +8,7 @@ use Rattle.mh_tables.specs.Halting.{look_list}
 use Rattle.mh_tables.proofs.Trees.{accepts_one}
 use Rattle.mh_tables.proofs.Accepted.{accepts_by_default}
 use Rattle.mh_tables.proofs.Reductions.{no_shift_at_end}
-use Rattle.mh_tree.specs.Trees.{SyntaxTree}
+use Rattle.mh_grammar.specs.Trees.{SyntaxTree}
 use Rattle.mh_engine.specs.Positions.{Position}
 use Rattle.mh_engine.specs.Phases.{next_move, phase_of, phase_by, phase_where}
 use Rattle.mh_engine.specs.declared.phase.Phase.{Phase}

@@ -7,7 +7,7 @@ use Rattle.mh_tables.specs.RunTrees.{grow, trees_after}
 use Rattle.mh_tables.proofs.Reductions.{no_shift_at_end}
 use Rattle.mh_tables.proofs.Longer.{move_longer}
 use Rattle.mh_tables.proofs.Ending.{step_moves}
-use Rattle.mh_tree.specs.Trees.{SyntaxTree}
+use Rattle.mh_grammar.specs.Trees.{SyntaxTree}
 use Rattle.mh_engine.specs.Pairs.{Pairs}
 use Rattle.mh_engine.specs.Positions.{Position}
 use Rattle.mh_engine.specs.Phases.{next_move, phase_of, phase_by, phase_where, first_of, IsAsking, CanGoOn}

@@ -7,7 +7,7 @@ use Rattle.mh_tables.specs.Table.{TableData}
 use Rattle.mh_tables.specs.Run.{Move, Accepts as Accepting, Asks, Refuses, Shifts, Reduces, move_of, top_of}
 use Rattle.mh_tables.proofs.Asking.{no_refusal_at_end}
 use Rattle.mh_tables.proofs.Reductions.{no_shift_at_end}
-use Rattle.mh_tree.specs.Trees.{SyntaxTree, Leaf}
+use Rattle.mh_grammar.specs.Trees.{SyntaxTree, Leaf}
 use Rattle.std.specs.Prelude.{Result, Ok, Err, IfOk}
 use Rattle.mh_grammar.specs.declared.types.Memory.{Memory}
 use Rattle.mh_engine.specs.Pairs.{Pairs}

@@ -15,7 +15,7 @@ use Rattle.mh_tables.proofs.Path.{finds, reduce_finds, run_take}
 use Rattle.mh_tables.proofs.Known.{edge_source}
 use Rattle.mh_tables.proofs.Ending.{step_moves}
 use Rattle.mh_tables.proofs.Reductions.{no_shift_at_end, reduces_from_move, shifts_from_move, reduced}
-use Rattle.mh_tree.specs.Trees.{SyntaxTree, Leaf, Node, forest_of, height_of}
+use Rattle.mh_grammar.specs.Trees.{SyntaxTree, Leaf, Node, forest_of, height_of}
 use Rattle.mh_tables.specs.Deep.{too_deep}
 use Rattle.mh_engine.specs.Pairs.{Pairs}
 use Rattle.mh_engine.specs.Cells.{pushed, taken}

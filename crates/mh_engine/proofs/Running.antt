@@ -5,7 +5,7 @@ use Rattle.mh_tables.specs.Table.{TableData}
 use Rattle.mh_tables.specs.Run.{Config, Move, Accepts, Asks, Refuses, Shifts, Reduces, move_of, top_of, step, step_by, goes_to, next_of, reduce, initial, after}
 use Rattle.mh_tables.specs.RunTrees.{grow, trees_after}
 use Rattle.mh_tables.proofs.Ending.{step_moves}
-use Rattle.mh_tree.specs.Trees.{SyntaxTree}
+use Rattle.mh_grammar.specs.Trees.{SyntaxTree}
 use Rattle.mh_engine.specs.Positions.{Position}
 use Rattle.mh_engine.specs.Phases.{next_move}
 use Rattle.mh_engine.specs.Steps.{begun, resumed, config_of, is_refusal}

@@ -2,7 +2,7 @@
 use Rattle.std.proofs.Common.{◌≡◌, ℕ, suc, ◌+◌, ◌-◌, ◌<◌, ◌≤◌, List, [], ◌∷◌, ◌++◌, length, take, drop, reverse, refl, sym, ap, subst, arith, ◌∙◌, length-append, append_assoc, append-nil}
 use Rattle.std.proofs.lemmas.List.{reverse-append, length-reverse}
 use Rattle.std.proofs.Math.Seq.{take-append_seam, drop-append_seam}
-use Rattle.mh_tree.specs.Trees.{SyntaxTree}
+use Rattle.mh_grammar.specs.Trees.{SyntaxTree}
 use Rattle.mh_engine.specs.Pairs.{Pairs}
 use Rattle.mh_engine.specs.Cells.{pushed, taken}
 

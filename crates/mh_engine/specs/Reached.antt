@@ -1,7 +1,7 @@
 -- What checkpoints have reached of the run of a sentence.
 use Rattle.std.specs.Prelude.{◌≡◌, ◌+◌, ℕ, List, [], ◌∷◌, length}
 use Rattle.mh_tables.specs.Table.{TableData}
-use Rattle.mh_tree.specs.Trees.{SyntaxTree}
+use Rattle.mh_grammar.specs.Trees.{SyntaxTree}
 use Rattle.mh_engine.specs.Positions.{Position}
 use Rattle.mh_engine.specs.Phases.{phase_of}
 use Rattle.mh_engine.specs.Steps.{begun}

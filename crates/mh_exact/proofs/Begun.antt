@@ -17,7 +17,7 @@ use Rattle.mh_cells.proofs.Closed.{closure_is_item}
 use Rattle.mh_tables.specs.Table.{TableData}
 use Rattle.mh_tables.specs.Facts.{Facts}
 use Rattle.mh_tables.specs.Run.{Config, Move, Accepts, Asks, Refuses, Shifts, Reduces, move_of, top_of, initial, after, VerdictOf, Overshot}
-use Rattle.mh_tree.specs.Trees.{SyntaxTree, Leaf, IsTreeFor, yield_of}
+use Rattle.mh_grammar.specs.Trees.{SyntaxTree, Leaf, IsTreeFor, yield_of}
 use Rattle.mh_tables.specs.RunTrees.{Grown, Stands, yields, trees_after}
 use Rattle.mh_tables.proofs.Trees.{stands_from_start}
 use Rattle.mh_exact.specs.Exactness.{AllProductive}

@@ -4,7 +4,7 @@ use Rattle.mh_grammar.specs.declared.types.Symbol.{Symbol}
 use Rattle.mh_grammar.specs.declared.types.Symbol.TheVariants.{T, N}
 use Rattle.mh_grammar.specs.Derivations as trees
 use Rattle.mh_grammar.specs.Plain.{PlainGrammar, rhs_of, lhs_of, Derives, DerivesAll}
-use Rattle.mh_tree.specs.Trees.{SyntaxTree, Forest, Leaf, Node, Nil, Cons, IsTreeFor, IsForestFor, yield_of, forest_yield}
+use Rattle.mh_grammar.specs.Trees.{SyntaxTree, Forest, Leaf, Node, Nil, Cons, IsTreeFor, IsForestFor, yield_of, forest_yield}
 
 module _ (g : PlainGrammar) where
   leaf_derives : (z : ℕ) → Derives g (T z) (z ∷ [])

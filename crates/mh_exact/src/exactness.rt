@@ -11,7 +11,7 @@ ghost use Rattle.mh_kernels.specs.Automaton.{IsAutomaton};
 ghost use Rattle.mh_cells.specs.Clear.{HasNoConflicts};
 ghost use Rattle.mh_cells.specs.States.{IsTableOf};
 ghost use Rattle.mh_tables.specs.Run.{VerdictOf, Accepted, Overshot, Rejected};
-ghost use Rattle.mh_tree.specs.Trees.{SyntaxTree, IsTreeFor, yield_of};
+ghost use Rattle.mh_grammar.specs.Trees.{SyntaxTree, IsTreeFor, yield_of};
 ghost use Rattle.mh_tables.specs.TreeRuns.{IsTreeOfRead};
 ghost use Rattle.mh_exact.specs.Exactness.{IsPrefixSentence, AllProductive};
 

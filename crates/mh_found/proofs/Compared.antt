@@ -13,11 +13,11 @@ use Rattle.mh_facts.specs.declared.store.Fact.{Fact}
 use Rattle.mh_facts.specs.declared.store.Back.{Back}
 use Rattle.mh_facts.specs.declared.store.Back.TheVariants as backs
 use Rattle.mh_facts.specs.Stored.{Facts, fact_at}
-use Rattle.mh_tables.specs.Failing.{LexLe}
+use Rattle.mh_grammar.specs.WordOrder.{LexLe}
 use Rattle.mh_found.specs.declared.tails.Part.{Part}
 use Rattle.mh_found.specs.declared.tails.Part.TheVariants as parts
 use Rattle.mh_found.specs.declared.tails.Rests.{Rests}
-use Rattle.mh_past.specs.Tales.{WordBy, Tale, token_of, sizes_of, size_by}
+use Rattle.mh_ways.specs.Tales.{WordBy, Tale, token_of, sizes_of, size_by}
 use Rattle.mh_least.specs.Orders.{cap}
 use Rattle.mh_words.specs.Words.{Words, IsBook, Before, letters_of}
 use Rattle.mh_words.proofs.Ordered.{before_lex}
@@ -26,7 +26,7 @@ use Rattle.mh_found.specs.declared.tails.Told.{Told}
 use Rattle.mh_found.specs.declared.tails.Told.TheVariants as tolds
 use Rattle.mh_found.specs.Numbers.{StandsFor, IsNumbered, IsPlaced}
 use Rattle.mh_found.specs.Tails.{IsTurn, IsToldOf, Tells, IsWordOf, AreWordOf, tokens_of, parts_of, weight, Opens, Goes, Turns, AreShared, AreComparable, IsLater}
-use Rattle.mh_past.proofs.Wording.{some_is, fact_of_word}
+use Rattle.mh_ways.proofs.Wording.{some_is, fact_of_word}
 
 -- NUMBERS OF TOKENS
 

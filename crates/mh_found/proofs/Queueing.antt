@@ -2,7 +2,7 @@
 use Rattle.std.proofs.Common.{◌≡◌, ℕ, ◌+◌, ◌≤◌, ◌⊎◌, inl, inr, List, [], ◌∷◌, refl, arith}
 use Rattle.std.specs.Global.{Vec}
 use Rattle.std.proofs.lemmas.Bool.{cases_lt}
-use Rattle.mh_past.specs.Rows.{Waits, Beside, Gains, IsOne, Taken, NoneTaken}
+use Rattle.mh_ways.specs.Rows.{Waits, Beside, Gains, IsOne, Taken, NoneTaken}
 use Rattle.mh_found.specs.Drawn.{DrawsOne, DrawsNone, Keeps, DrawsSome, DrawsAll}
 use Rattle.mh_words.specs.Rising.{Same}
 use Rattle.mh_words.proofs.Listing.{here, in_more, in_cons, in_left, in_right, in_last, none_in}

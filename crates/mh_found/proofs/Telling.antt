@@ -3,8 +3,8 @@ use Rattle.std.proofs.Common.{◌+◌}
 use Rattle.mh_tables.specs.Table.{TableData}
 use Rattle.mh_facts.specs.Stored.{Facts}
 use Rattle.mh_least.specs.Orders.{cap}
-use Rattle.mh_past.specs.Tales.{Tale}
-use Rattle.mh_past.proofs.Wording.{one_tale}
+use Rattle.mh_ways.specs.Tales.{Tale}
+use Rattle.mh_ways.proofs.Wording.{one_tale}
 use Rattle.mh_found.specs.declared.numbers.Numbering.{Numbering}
 use Rattle.mh_found.specs.Numbers.{IsNumbered, AllNumbered}
 

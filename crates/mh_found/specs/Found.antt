@@ -8,12 +8,12 @@ use Rattle.mh_facts.specs.declared.store.Fact.{Fact}
 use Rattle.mh_facts.specs.Stored.{Facts, fact_at}
 use Rattle.mh_least.specs.Least.{SoundAt, SoundWay, Complete, Closes, Holds}
 use Rattle.mh_least.specs.Orders.{cap}
-use Rattle.mh_past.specs.declared.work.Whole.{Whole}
-use Rattle.mh_past.specs.declared.work.Work.{Work}
-use Rattle.mh_past.specs.declared.classes.Classes.{Classes}
-use Rattle.mh_past.specs.Classes.{rep_of, place_of}
-use Rattle.mh_past.specs.Rules.{way_of, wholes_at}
-use Rattle.mh_past.specs.Tales.{NoLater, capped, Tale}
+use Rattle.mh_ways.specs.declared.work.Whole.{Whole}
+use Rattle.mh_ways.specs.declared.work.Work.{Work}
+use Rattle.mh_ways.specs.declared.classes.Classes.{Classes}
+use Rattle.mh_ways.specs.Classes.{rep_of, place_of}
+use Rattle.mh_ways.specs.Rules.{way_of, wholes_at}
+use Rattle.mh_ways.specs.Tales.{NoLater, capped, Tale}
 use Rattle.mh_found.specs.declared.found.Found.{Found}
 use Rattle.mh_found.specs.Numbers.{IsNumbered}
 

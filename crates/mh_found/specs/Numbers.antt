@@ -7,7 +7,7 @@ use Rattle.mh_facts.specs.Stored.{Facts, fact_at}
 use Rattle.mh_least.specs.Orders.{cap}
 use Rattle.mh_words.specs.Words.{Words, letters_of, group_of}
 use Rattle.mh_words.specs.Numbered.{AreBelowGroup}
-use Rattle.mh_past.specs.Tales.{Tale}
+use Rattle.mh_ways.specs.Tales.{Tale}
 use Rattle.mh_found.specs.declared.numbers.Numbering.{Numbering}
 
 -- the number of a word that has this cost

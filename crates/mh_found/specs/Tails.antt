@@ -5,7 +5,7 @@ use Rattle.mh_facts.specs.declared.store.FactKey.{FactKey}
 use Rattle.mh_facts.specs.declared.store.Back.{Back}
 use Rattle.mh_facts.specs.declared.store.Back.TheVariants as backs
 use Rattle.mh_facts.specs.Stored.{Facts}
-use Rattle.mh_tables.specs.Failing.{LexLe}
+use Rattle.mh_grammar.specs.WordOrder.{LexLe}
 use Rattle.mh_least.specs.Orders.{cap}
 use Rattle.mh_words.specs.Words.{Before}
 use Rattle.mh_found.specs.Numbers.{IsNumbered}
@@ -17,7 +17,7 @@ use Rattle.mh_found.specs.declared.tails.Told.{Told}
 use Rattle.mh_found.specs.declared.tails.Told.TheVariants as tolds
 use Rattle.mh_found.specs.declared.tails.Tops.{Tops}
 use Rattle.mh_found.specs.declared.tails.Tops.TheVariants as tops
-use Rattle.mh_past.specs.Tales.{Tale, before_dot, sizes_of}
+use Rattle.mh_ways.specs.Tales.{Tale, before_dot, sizes_of}
 
 -- the word of a part
 abbrev pub IsWordOf : (FactKey → Option (List ℕ)) → Part → List ℕ → Type 0

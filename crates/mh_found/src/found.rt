@@ -1,7 +1,7 @@
 //! What the first search leaves.
 use crate::numbers::Numbering;
 use mh_facts::FactStore;
-use mh_past::Work;
+use mh_ways::Work;
 
 /// The settled facts, the ways over nonterminals, and the words of the facts.
 #[derive(Drop)]

@@ -6,3 +6,5 @@ pub mod OneNumbering
 pub mod Pigeon
 pub mod Placing
 pub mod SameText
+pub mod Heights
+pub mod WordOrder

@@ -9,3 +9,5 @@ pub mod Placed
 pub mod Plain
 pub mod formers
 pub mod Text
+pub mod Trees
+pub mod WordOrder

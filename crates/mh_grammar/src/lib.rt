@@ -13,6 +13,6 @@ pub use name::{Name, from_bytes};
 pub use names::{left_side_name, nonterminal_name, start_name, symbol_name, token_name};
 pub use sequence::Sequence;
 pub use types::{
-    Assoc, Grammar, Level, Look, MAX_COST, MAX_NUMBERED, Memory, NontermInfo, Production, Sentence,
-    Symbol, Token, TokenInfo,
+    Assoc, Grammar, Level, Look, MAX_COST, MAX_HEIGHT, MAX_NUMBERED, Memory, NontermInfo,
+    Production, Sentence, Symbol, Token, TokenInfo,
 };

@@ -61,6 +61,9 @@ pub const MAX_NUMBERED: usize = 65_535;
 /// The highest cost of a token; the lowest is 1.
 pub const MAX_COST: u32 = 1000;
 
+/// The greatest height of a syntax tree, so that no walk over one is deeper: this project's own limit.
+pub const MAX_HEIGHT: u32 = 4000;
+
 /// A token.
 #[derive(Clone, Debug, Drop, PartialEq, Eq)]
 pub struct TokenInfo {

@@ -2,8 +2,9 @@
 use Rattle.std.proofs.Common.{◌≡◌, ℕ, zero, suc, ◌+◌, ◌-◌, ◌<◌, ◌≤◌, ◌⊎◌, inl, inr, List, [], ◌∷◌, ◌++◌, length, refl, ap, sym, subst, arith, ◌∙◌}
 use Rattle.std.proofs.lemmas.Bool.{cases_lt}
 use Rattle.mh_least.specs.Least.{Laws, LabelLaws, Label, longer}
-use Rattle.mh_tables.specs.Failing.{cost_by, LexLe}
-use Rattle.mh_tables.proofs.WordOrder.{lex_same, lex_after, lex_front}
+use Rattle.mh_grammar.specs.WordOrder.{LexLe}
+use Rattle.mh_tables.specs.Failing.{cost_by}
+use Rattle.mh_grammar.proofs.WordOrder.{lex_same, lex_after, lex_front}
 use Rattle.mh_least.specs.Orders.{cap, CostLe, CostLabelLe, FirstLe, SentenceLe}
 use Rattle.mh_least.specs.Orders as orders
 

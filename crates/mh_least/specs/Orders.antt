@@ -1,6 +1,7 @@
 -- Orders of words and of sentences.
 use Rattle.std.specs.Prelude.{◌≡◌, ℕ, List, ◌<◌, ◌≤◌, ◌⊎◌}
-use Rattle.mh_tables.specs.Failing.{cost_by, LexLe}
+use Rattle.mh_grammar.specs.WordOrder.{LexLe}
+use Rattle.mh_tables.specs.Failing.{cost_by}
 use Rattle.mh_least.specs.Least.{Label}
 
 -- costs end here: one more than the dearest sentence of a catalogue

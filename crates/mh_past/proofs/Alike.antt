@@ -14,10 +14,10 @@ use Rattle.mh_grammar.specs.declared.types.Symbol.TheVariants.{N}
 use Rattle.mh_grammar.specs.Plain.{lhs_of}
 use Rattle.mh_least.specs.Least.{GoesLike}
 use Rattle.mh_past.specs.declared.past.Reduction.{Reduction}
-use Rattle.mh_past.specs.declared.classes.Class.{Class}
-use Rattle.mh_past.specs.declared.classes.Classes.{Classes}
-use Rattle.mh_past.specs.Rows.{row_of}
-use Rattle.mh_past.specs.Classes.{rep_of}
+use Rattle.mh_ways.specs.declared.classes.Class.{Class}
+use Rattle.mh_ways.specs.declared.classes.Classes.{Classes}
+use Rattle.mh_ways.specs.Rows.{row_of}
+use Rattle.mh_ways.specs.Classes.{rep_of}
 use Rattle.mh_past.specs.Past.{IsPast}
 use Rattle.mh_past.specs.Classing.{IsRow, IsPartition, IsAlike, AreAlike, agrees}
 use Rattle.mh_past.proofs.Parting.{NumberedTo}

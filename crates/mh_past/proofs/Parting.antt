@@ -5,12 +5,12 @@ use Rattle.std.specs.Global.{Vec}
 use Rattle.std.proofs.lemmas.Bool.{cases_lt}
 use Rattle.mh_tables.specs.Table.{TableData}
 use Rattle.mh_least.specs.Least.{GoesLike}
-use Rattle.mh_past.specs.declared.classes.Class.{Class}
-use Rattle.mh_past.specs.declared.classes.Classes.{Classes}
-use Rattle.mh_past.specs.Rows.{row_of}
-use Rattle.mh_past.specs.Classes.{class_in, rep_of, place_of, list_at, IsClasses}
+use Rattle.mh_ways.specs.declared.classes.Class.{Class}
+use Rattle.mh_ways.specs.declared.classes.Classes.{Classes}
+use Rattle.mh_ways.specs.Rows.{row_of}
+use Rattle.mh_ways.specs.Classes.{class_in, rep_of, place_of, list_at, IsClasses}
 use Rattle.mh_past.specs.Classing.{IsRow, IsPartition, AreTokens}
-use Rattle.mh_past.proofs.Rowing.{row_past, none_in}
+use Rattle.mh_ways.proofs.Rowing.{row_past, none_in}
 
 get_some : {X : Type 0} (xs : List X) (n : ℕ) → n < length xs → (x : X) × (slice_get xs n ≡ Some x)
 get_some [] n lt = absurd (omega arith)

@@ -1,9 +1,9 @@
 -- Classes of one state, token by token.
 use Rattle.std.proofs.Common.{◌≡◌, ℕ, zero, suc, ◌<◌, ◌≤◌, ◌+◌, ◌⊎◌, inl, inr, List, [], ◌∷◌, ◌++◌, length, Some, None, refl, ap, sym, arith, ◌∙◌, length-append}
 use Rattle.std.specs.Prelude.{slice_get}
-use Rattle.mh_past.specs.declared.classes.Class.{Class}
+use Rattle.mh_ways.specs.declared.classes.Class.{Class}
 use Rattle.mh_past.specs.Classing.{ClassOk, Stands, IsClassFor, IsRow}
-use Rattle.mh_past.proofs.Rowing.{contains_front, contains_last, contains_either}
+use Rattle.mh_ways.proofs.Rowing.{contains_front, contains_last, contains_either}
 
 get_front : {X : Type 0} (xs : List X) (y : X) (n : ℕ) (x : X) → slice_get xs n ≡ Some x → slice_get (xs ++ y ∷ []) n ≡ Some x
 get_front [] y n x e = absurd (let z : None ≡ Some x = e in cc)

@@ -3,10 +3,10 @@ use Rattle.std.specs.Prelude.{◌≡◌, ℕ, List, [], ◌∷◌, length, slice
 use Rattle.std.specs.List.{Contains}
 use Rattle.mh_tables.specs.Table.{TableData}
 use Rattle.mh_tables.specs.Run.{Reduces, move_of}
-use Rattle.mh_past.specs.declared.classes.Class.{Class}
-use Rattle.mh_past.specs.declared.classes.Classes.{Classes}
+use Rattle.mh_ways.specs.declared.classes.Class.{Class}
+use Rattle.mh_ways.specs.declared.classes.Classes.{Classes}
 use Rattle.mh_past.specs.declared.past.Reduction.{Reduction}
-use Rattle.mh_past.specs.Classes.{IsSized, rep_of, list_at}
+use Rattle.mh_ways.specs.Classes.{IsSized, rep_of, list_at}
 
 -- a class of a token, numbered below a count
 pub record ClassOk (given : List ℕ) (row : List Class) (z count : ℕ) (k : Class) : Type 0 where

@@ -12,12 +12,6 @@ abbrev pub EndOf : TableData → ℕ → ℕ → Option ℕ → Type 0
 EndOf t from production None = (e : ℕ) → IsEnd t from production (length (rhs_of t.grammar production)) e → ⊥
 EndOf t from production (Some e) = IsEnd t from production (length (rhs_of t.grammar production)) e
 
--- what P says is what comes in
-pub record Collects {X : Type 0} (P : X → Type 0) (old new : List X) : Type 0 where
-  pub kept : (r : X) → Contains old r → Contains new r
-  pub all : (r : X) → P r → Contains new r
-  pub only : (r : X) → Contains new r → Contains old r ⊎ P r
-
 -- by one production
 pub record PastOne (t : TableData) (from target p : ℕ) (r : Reduction) : Type 0 where
   pub end : ℕ

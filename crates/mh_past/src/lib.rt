@@ -1,17 +1,7 @@
-//! What both searches share: tokens that a state's past cannot tell apart, what waits by cost, and what is found, by the words that
-//! stored facts stand for.
+//! Tokens that a state's past cannot tell apart: which reductions lie in it, and the classes that they part the tokens into.
 #![tactic(auto)]
 
-mod classes;
 mod classing;
-mod costs;
-mod left;
 mod past;
-pub mod queue;
-mod work;
 
-pub use classes::{Class, Classes, class_of, list_of};
 pub use classing::classes_of;
-pub use costs::{CAP, add_costs, add_token};
-pub use left::{ByLeft, by_left_side, productions_of};
-pub use work::{Item, Path, Way, Whole, Work};

@@ -4,7 +4,7 @@ use Rattle.mh_grammar.specs.declared.types.Grammar.{Grammar}
 use Rattle.mh_grammar.specs.declared.types.Sentence.{Sentence}
 use Rattle.mh_tables.specs.Table.{TableData}
 use Rattle.mh_tables.specs.Run.{Ending, Accepted, Overshot, Rejected, VerdictOf}
-use Rattle.mh_tree.specs.Trees.{text_of}
+use Rattle.mh_grammar.specs.Trees.{text_of}
 use Rattle.mh_tables.specs.TreeRuns.{TreeEnding, AcceptedTree, OvershotTree, RejectedTree, DeepTree, IsTreeEnding}
 use Rattle.mh_check.specs.Compiling.{message_at}
 use Rattle.mh_grammar.specs.Text.{Text}

@@ -6,7 +6,8 @@ use Rattle.std.proofs.lemmas.Grind.{common_steps}
 use Rattle.std.proofs.lemmas.Bool.{cases_lt}
 use Rattle.mh_tables.specs.Table.{TableData, cost_of_token}
 use Rattle.mh_tables.specs.Facts.{Facts}
-use Rattle.mh_tables.specs.Failing.{Fails, LexLe, cost_by, cost_of_word}
+use Rattle.mh_grammar.specs.WordOrder.{LexLe}
+use Rattle.mh_tables.specs.Failing.{Fails, cost_by, cost_of_word}
 use Rattle.mh_tables.specs.Run.{Refuses, move_of}
 use Rattle.mh_facts.specs.declared.store.FactKey.{FactKey}
 use Rattle.mh_facts.specs.Stored.{Facts as Stored}
@@ -15,20 +16,20 @@ use Rattle.mh_least.specs.Orders.{cap}
 use Rattle.mh_least.specs.Orders as orders
 use Rattle.mh_least.proofs.Least.{fails_candidate, closed_reached, candidate_fails}
 use Rattle.mh_least.proofs.Best.{closes_all_at}
-use Rattle.mh_tables.proofs.WordOrder.{lex_same}
-use Rattle.mh_past.specs.declared.classes.Classes.{Classes}
+use Rattle.mh_grammar.proofs.WordOrder.{lex_same}
+use Rattle.mh_ways.specs.declared.classes.Classes.{Classes}
 use Rattle.mh_found.specs.declared.found.Found.{Found}
 use Rattle.mh_found.proofs.Telling.{all_numbered}
 use Rattle.mh_arrivals.specs.declared.arrivals.Spot.{Spot}
 use Rattle.mh_arrivals.specs.declared.arrivals.Arrival.{Arrival}
 use Rattle.mh_reach.specs.declared.sentences.Best.{Best}
-use Rattle.mh_past.specs.Classes.{rep_of}
-use Rattle.mh_past.specs.Tales.{NoLater, capped, weigh}
+use Rattle.mh_ways.specs.Classes.{rep_of}
+use Rattle.mh_ways.specs.Tales.{NoLater, capped, weigh}
 use Rattle.mh_found.specs.Found.{WaysIn}
 use Rattle.mh_arrivals.specs.Arriving.{NoLaterAt, Spots, LabelBy, HasArrived, arrival_at, labels_at, ArrivedIn}
 use Rattle.mh_arrivals.specs.Comparing.{IsTold, numbers_of}
 use Rattle.mh_reach.specs.Reaching.{AreCheap, InOrderOr, Leads, IsFirstOf, IsFirstOfBoth, BestOn, BestBelow, best_for, step_of, spot_of, BestOk, BestAt, AreBest, IsReach, LeastCost}
-use Rattle.mh_past.proofs.Wording.{capped_one, weigh_word, order_laws, min_cap, some_is}
+use Rattle.mh_ways.proofs.Wording.{capped_one, weigh_word, order_laws, min_cap, some_is}
 use Rattle.mh_arrivals.proofs.Labelling.{label_laws, by_numbers, cheaper_at, both_over}
 use Rattle.mh_arrivals.proofs.Spots.{label_one}
 use Rattle.mh_arrivals.proofs.Tracing.{precedes_after}

@@ -11,9 +11,9 @@ use Rattle.mh_facts.specs.declared.store.Fact.{Fact}
 use Rattle.mh_facts.specs.declared.store.Back.{Back}
 use Rattle.mh_facts.specs.declared.store.Back.TheVariants as backs
 use Rattle.mh_facts.specs.Stored.{Facts, fact_at}
-use Rattle.mh_past.specs.Tales.{Tale, WordBy, before_dot, token_of, size_by, sizes_of}
+use Rattle.mh_ways.specs.Tales.{Tale, WordBy, before_dot, token_of, size_by, sizes_of}
 use Rattle.mh_reach.specs.Spelling.{WordsOf, SpellsOne, SpellsNext}
-use Rattle.mh_past.proofs.Wording.{some_is}
+use Rattle.mh_ways.proofs.Wording.{some_is}
 
 pub words_push : (words : FactKey → Option (List ℕ)) (ks : List FactKey) (k : FactKey) (a v : List ℕ) → WordsOf words ks a → words k ≡ Some v → WordsOf words (ks ++ k ∷ []) (a ++ v)
 words_push words [] k a v h e = (v, [], e, refl, rw h (sym (append-nil v)))

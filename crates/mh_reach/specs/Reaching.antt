@@ -8,13 +8,13 @@ use Rattle.mh_facts.specs.Stored.{Facts}
 use Rattle.mh_least.specs.Least.{Label}
 use Rattle.mh_least.specs.Orders.{cap}
 use Rattle.mh_reach.specs.declared.sentences.Best.{Best}
-use Rattle.mh_past.specs.Tales.{Tale}
+use Rattle.mh_ways.specs.Tales.{Tale}
 use Rattle.mh_arrivals.specs.declared.arrivals.Spot.{Spot}
 use Rattle.mh_arrivals.specs.declared.arrivals.Step.{Step}
 use Rattle.mh_arrivals.specs.declared.arrivals.Step.TheVariants as steps
 use Rattle.mh_arrivals.specs.declared.arrivals.Arrival.{Arrival}
-use Rattle.mh_past.specs.declared.classes.Classes.{Classes}
-use Rattle.mh_past.specs.Classes.{rep_of}
+use Rattle.mh_ways.specs.declared.classes.Classes.{Classes}
+use Rattle.mh_ways.specs.Classes.{rep_of}
 use Rattle.mh_arrivals.specs.Arriving.{Spots, Journey, arrival_at, spot}
 use Rattle.mh_arrivals.specs.Comparing.{Precedes}
 

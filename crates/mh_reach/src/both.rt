@@ -1,6 +1,6 @@
 //! Both searches, and the best way to fail in each state.
 ghost use Rattle.std.specs.Prelude.{◌≡◌, ◌<◌, IfOk, IfSome, length};
-ghost use Rattle.mh_past.specs.Classes.{IsClasses};
+ghost use Rattle.mh_ways.specs.Classes.{IsClasses};
 ghost use Rattle.mh_arrivals.specs.Arriving.{HasArrived};
 ghost use Rattle.mh_arrivals.specs.Comparing.{ComesLater, IsTold};
 ghost use Rattle.mh_reach.specs.Reaching.{AreCheap, BestOn, BestBelow, AreBest, IsFirstOf, IsFirstOfBoth, step_of};
@@ -10,7 +10,8 @@ use mh_arrivals::arrive::arrive;
 use mh_arrivals::{Arrivals, Spot, Step, arrival_of, comes_later};
 use mh_found::Found;
 use mh_grammar::{Memory, Token};
-use mh_past::{Classes, add_token, class_of, classes_of};
+use mh_past::classes_of;
+use mh_ways::{Classes, add_token, class_of};
 use mh_search::search;
 use mh_tables::{Choice, Halting, Table, choose};
 use std::alloc::Global;

@@ -3,7 +3,7 @@ use Rattle.std.specs.Prelude.{◌≡◌, ◌⊎◌, [], ◌++◌, Ok, Err, codes
 use Rattle.mh_grammar.specs.declared.types.Grammar.{Grammar}
 use Rattle.mh_grammar.specs.Names.{token_name}
 use Rattle.mh_tables.specs.Table.{TableData}
-use Rattle.mh_tree.specs.Trees.{text_of}
+use Rattle.mh_grammar.specs.Trees.{text_of}
 use Rattle.mh_report.specs.Items.{production_text}
 use Rattle.mh_engine.specs.declared.phase.Phase.{Phase}
 use Rattle.mh_engine.specs.declared.phase.Phase.TheVariants as phases

@@ -5,15 +5,15 @@ use Rattle.mh_grammar.specs.declared.types.Symbol.TheVariants.{N}
 use Rattle.mh_grammar.specs.Plain.{lhs_of}
 use Rattle.mh_tables.specs.Table.{TableData, state_at, edge_of}
 use Rattle.mh_tables.specs.Facts.{Facts}
-use Rattle.mh_past.specs.declared.work.Item.{Item}
-use Rattle.mh_past.specs.declared.classes.Classes.{Classes}
-use Rattle.mh_past.specs.declared.left.ByLeft.{ByLeft}
-use Rattle.mh_past.specs.Rows.{Gains, Among}
-use Rattle.mh_past.specs.Classes.{list_at}
-use Rattle.mh_past.specs.Left.{IsByLeft}
-use Rattle.mh_past.specs.Rules.{IsEmptyItem}
-use Rattle.mh_past.proofs.Gaining.{gains_by}
-use Rattle.mh_past.proofs.Edging.{edge_leads, edge_there}
+use Rattle.mh_ways.specs.declared.work.Item.{Item}
+use Rattle.mh_ways.specs.declared.classes.Classes.{Classes}
+use Rattle.mh_ways.specs.declared.left.ByLeft.{ByLeft}
+use Rattle.mh_ways.specs.Rows.{Gains, Among}
+use Rattle.mh_ways.specs.Classes.{list_at}
+use Rattle.mh_ways.specs.Left.{IsByLeft}
+use Rattle.mh_ways.specs.Rules.{IsEmptyItem}
+use Rattle.mh_ways.proofs.Gaining.{gains_by}
+use Rattle.mh_ways.proofs.Edging.{edge_leads, edge_there}
 use Rattle.mh_search.specs.Begins.{BeginsBehind}
 
 module _ (t : TableData) (f : Facts t) (c : Classes) (left : ByLeft) (l : IsByLeft t left) (from : ℕ) where

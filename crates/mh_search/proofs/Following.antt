@@ -11,16 +11,16 @@ use Rattle.mh_facts.specs.declared.store.FactKey.{FactKey}
 use Rattle.mh_least.specs.Least.{key, IsEnd, Congruent, SoundAt, SoundWay}
 use Rattle.mh_least.proofs.Bound.{sound_shifts, sound_joins, way_sound, goes_congruent}
 use Rattle.mh_least.proofs.Sound.{shift_known}
-use Rattle.mh_past.specs.declared.work.Item.{Item}
-use Rattle.mh_past.specs.declared.work.Path.{Path}
-use Rattle.mh_past.specs.declared.work.Whole.{Whole}
-use Rattle.mh_past.specs.declared.classes.Classes.{Classes}
-use Rattle.mh_past.specs.Classes.{IsClasses, rep_of}
-use Rattle.mh_past.specs.Rules.{further, FollowsShift, FollowsWay, whole_of, IsWayOf}
-use Rattle.mh_past.specs.Tales.{before_dot}
+use Rattle.mh_ways.specs.declared.work.Item.{Item}
+use Rattle.mh_ways.specs.declared.work.Path.{Path}
+use Rattle.mh_ways.specs.declared.work.Whole.{Whole}
+use Rattle.mh_ways.specs.declared.classes.Classes.{Classes}
+use Rattle.mh_ways.specs.Classes.{IsClasses, rep_of}
+use Rattle.mh_ways.specs.Rules.{further, FollowsShift, FollowsWay, whole_of, IsWayOf}
+use Rattle.mh_ways.specs.Tales.{before_dot}
 use Rattle.mh_found.specs.Found.{WholeOk}
 use Rattle.mh_search.specs.Good.{ItemOk, PathOk}
-use Rattle.mh_past.proofs.Wording.{capped_one, capped_both, min_cap, token_costs, not_free, both_free}
+use Rattle.mh_ways.proofs.Wording.{capped_one, capped_both, min_cap, token_costs, not_free, both_free}
 
 within : (xs : List Symbol) (d : ℕ) (x : Symbol) → slice_get xs d ≡ Some x → d < length xs
 within [] d x e = absurd (let y : None ≡ Some x = e in cc)

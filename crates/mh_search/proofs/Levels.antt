@@ -9,17 +9,17 @@ use Rattle.mh_facts.specs.declared.store.FactKey.{FactKey}
 use Rattle.mh_facts.specs.Stored.{Facts as Stored}
 use Rattle.mh_least.specs.Least.{Pending}
 use Rattle.mh_least.specs.Orders.{cap}
-use Rattle.mh_past.specs.declared.work.Item.{Item}
-use Rattle.mh_past.specs.declared.work.Work.{Work}
-use Rattle.mh_past.specs.declared.classes.Classes.{Classes}
-use Rattle.mh_past.specs.Rows.{Waits, Gains, IsOne}
-use Rattle.mh_past.specs.Classes.{IsClasses, rep_of}
-use Rattle.mh_past.specs.Rules.{queue_of}
-use Rattle.mh_past.specs.Tales.{NoLater, WordBy}
+use Rattle.mh_ways.specs.declared.work.Item.{Item}
+use Rattle.mh_ways.specs.declared.work.Work.{Work}
+use Rattle.mh_ways.specs.declared.classes.Classes.{Classes}
+use Rattle.mh_ways.specs.Rows.{Waits, Gains, IsOne}
+use Rattle.mh_ways.specs.Classes.{IsClasses, rep_of}
+use Rattle.mh_ways.specs.Rules.{queue_of}
+use Rattle.mh_ways.specs.Tales.{NoLater, WordBy}
 use Rattle.mh_search.specs.Good.{IsDone, NoneIsNext, InQueue, Waiting, ItemOk, Good, IsRising, InOrder, LevelReady, AllTaken}
 use Rattle.mh_found.proofs.Queueing.{moves_taken, moves_sorted, moves_pushed, moves_drained, moves_higher, above}
 use Rattle.mh_search.proofs.Taking.{in_more}
-use Rattle.mh_past.proofs.Wording.{word_one, order_laws, cheaper, over}
+use Rattle.mh_ways.proofs.Wording.{word_one, order_laws, cheaper, over}
 use Rattle.mh_search.proofs.Turns.{SameBeside, good_moves}
 
 pub none_in : {X : Type 0} (x : X) → Contains [] x → ⊥

@@ -7,18 +7,18 @@ use Rattle.mh_grammar.specs.declared.types.Symbol.TheVariants.{T, N}
 use Rattle.mh_grammar.specs.Plain.{rhs_of, lhs_of}
 use Rattle.mh_tables.specs.Table.{TableData, edge_of}
 use Rattle.mh_facts.specs.declared.store.FactKey.{FactKey}
-use Rattle.mh_past.specs.declared.work.Item.{Item}
-use Rattle.mh_past.specs.declared.work.Path.{Path}
-use Rattle.mh_past.specs.declared.work.Whole.{Whole}
-use Rattle.mh_past.specs.declared.work.Way.{Way}
-use Rattle.mh_past.specs.declared.work.Work.{Work}
-use Rattle.mh_past.specs.declared.classes.Classes.{Classes}
-use Rattle.mh_past.specs.Rows.{Gains, Among, Files}
-use Rattle.mh_past.specs.Classes.{rep_of, place_of, list_at}
-use Rattle.mh_past.specs.Rules.{FollowsShift, FollowsWay, Goes, whole_of, way_of, IsWayOf, queue_of, paths_at, wholes_at, Knows, Follows, Expanded}
-use Rattle.mh_past.specs.Rules as rules
+use Rattle.mh_ways.specs.declared.work.Item.{Item}
+use Rattle.mh_ways.specs.declared.work.Path.{Path}
+use Rattle.mh_ways.specs.declared.work.Whole.{Whole}
+use Rattle.mh_ways.specs.declared.work.Way.{Way}
+use Rattle.mh_ways.specs.declared.work.Work.{Work}
+use Rattle.mh_ways.specs.declared.classes.Classes.{Classes}
+use Rattle.mh_ways.specs.Rows.{Gains, Among, Files}
+use Rattle.mh_ways.specs.Classes.{rep_of, place_of, list_at}
+use Rattle.mh_ways.specs.Rules.{FollowsShift, FollowsWay, Goes, whole_of, way_of, IsWayOf, queue_of, paths_at, wholes_at, Knows, Follows, Expanded}
+use Rattle.mh_ways.specs.Rules as rules
 use Rattle.mh_search.specs.Adding.{Adds, MeetsOn, paths_before}
-use Rattle.mh_past.specs.Past.{Collects}
+use Rattle.mh_ways.specs.Rows.{Collects}
 
 none_some : {X : Type 0} (o : Option X) (x : X) → o ≡ None → o ≡ Some x → ⊥
 none_some o x a b = (let y : None ≡ Some x = sym a ∙ b in cc)

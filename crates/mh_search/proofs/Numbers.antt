@@ -9,7 +9,8 @@ use Rattle.std.proofs.lemmas.List.{length_push, append-nil}
 use Rattle.std.proofs.lemmas.Option.{slice_get_within}
 use Rattle.mh_grammar.proofs.Lists.{get_left, get_cases, same_at, has_place, at_contains, contains_at}
 use Rattle.mh_tables.specs.Table.{TableData}
-use Rattle.mh_tables.specs.Failing.{LexLe, cost_by}
+use Rattle.mh_grammar.specs.WordOrder.{LexLe}
+use Rattle.mh_tables.specs.Failing.{cost_by}
 use Rattle.mh_facts.specs.declared.store.FactKey.{FactKey}
 use Rattle.mh_facts.specs.declared.store.Fact.{Fact}
 use Rattle.mh_facts.specs.declared.store.Back.TheVariants as backs
@@ -22,13 +23,13 @@ use Rattle.mh_words.specs.declared.made.Last.{Last}
 use Rattle.mh_words.specs.declared.made.Last.TheVariants as lasts
 use Rattle.mh_words.specs.Words.{Word, Words, empty_word, IsBook, Before, IsFront, letters_in, group_in, letters_of, group_of}
 use Rattle.mh_words.specs.Numbered.{AreBelowGroup, AreEven, AreKnown, Numbers}
-use Rattle.mh_past.specs.declared.work.Item.{Item}
+use Rattle.mh_ways.specs.declared.work.Item.{Item}
 use Rattle.mh_found.specs.declared.numbers.Numbering.{Numbering}
-use Rattle.mh_past.specs.Tales.{NoLater, capped, weigh, WordBy, Tale, before_dot}
+use Rattle.mh_ways.specs.Tales.{NoLater, capped, weigh, WordBy, Tale, before_dot}
 use Rattle.mh_found.specs.Numbers.{StandsFor, IsNumbered, IsPlaced}
 use Rattle.mh_search.specs.Numbering.{IsLast, Spells, IsMade, AreMade, AreEmpty, AreToNumber, AreNumbered}
-use Rattle.mh_past.proofs.Putting.{fact_same}
-use Rattle.mh_past.proofs.Wording.{some_is, order_laws, free_part, free_word, fact_of_word}
+use Rattle.mh_ways.proofs.Putting.{fact_same}
+use Rattle.mh_ways.proofs.Wording.{some_is, order_laws, free_part, free_word, fact_of_word}
 
 -- a number stands for the same word where more words are behind
 stands_at : (old new : Words) (m cost : ℕ) (w : List ℕ) (x : Word) → slice_get old m ≡ Some x → slice_get new m ≡ Some x → StandsFor old m cost w → StandsFor new m cost w

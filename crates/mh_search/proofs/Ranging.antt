@@ -9,9 +9,9 @@ use Rattle.mh_tables.specs.Table.{TableData}
 use Rattle.mh_tables.specs.Facts.{Facts}
 use Rattle.mh_facts.specs.Stored.{Facts as Stored, fact_at}
 use Rattle.mh_facts.specs.declared.store.Fact.{Fact}
-use Rattle.mh_past.specs.declared.work.Path.{Path}
-use Rattle.mh_past.specs.Rules.{InRange}
-use Rattle.mh_past.proofs.Counting.{unsettled, unsettled_less}
+use Rattle.mh_ways.specs.declared.work.Path.{Path}
+use Rattle.mh_ways.specs.Rules.{InRange}
+use Rattle.mh_ways.proofs.Counting.{unsettled, unsettled_less}
 
 get_is : {X : Type 0} (xs : List X) (k : ℕ) (q : X) → slice_get xs k ≡ Some q → (k < length xs) × (get_or xs k q ≡ q)
 get_is [] k q e = absurd (let y : None ≡ Some q = e in cc)

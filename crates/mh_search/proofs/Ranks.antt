@@ -15,23 +15,23 @@ use Rattle.mh_tables.specs.Facts.{Facts}
 use Rattle.mh_facts.specs.declared.store.FactKey.{FactKey}
 use Rattle.mh_least.specs.Orders.{cap}
 use Rattle.mh_words.specs.Words.{Words, IsBook, empty_word}
-use Rattle.mh_past.specs.declared.work.Item.{Item}
-use Rattle.mh_past.specs.declared.work.Work.{Work}
-use Rattle.mh_past.specs.declared.classes.Classes.{Classes}
+use Rattle.mh_ways.specs.declared.work.Item.{Item}
+use Rattle.mh_ways.specs.declared.work.Work.{Work}
+use Rattle.mh_ways.specs.declared.classes.Classes.{Classes}
 use Rattle.mh_found.specs.declared.numbers.Numbering.{Numbering}
 use Rattle.mh_search.specs.declared.ranking.Ranked.{Ranked}
 use Rattle.mh_found.specs.declared.found.Found.{Found}
-use Rattle.mh_past.specs.Rows.{Waits, Gains, IsOne}
-use Rattle.mh_past.specs.Classes.{IsClasses, rep_of}
+use Rattle.mh_ways.specs.Rows.{Waits, Gains, IsOne}
+use Rattle.mh_ways.specs.Classes.{IsClasses, rep_of}
 use Rattle.mh_search.specs.Begins.{IsBegun}
-use Rattle.mh_past.specs.Rules.{path_of, queue_of, Expanded}
-use Rattle.mh_past.specs.Tales.{WordBy}
+use Rattle.mh_ways.specs.Rules.{path_of, queue_of, Expanded}
+use Rattle.mh_ways.specs.Tales.{WordBy}
 use Rattle.mh_search.specs.Good.{NextIs, NoneIsNext, ItemOk, Good, IsRising, AllTaken}
 use Rattle.mh_found.specs.Numbers.{StandsFor, IsNumbered}
 use Rattle.mh_search.specs.Numbering.{AreToNumber, AreNumbered}
 use Rattle.mh_search.specs.Ranking.{ArePaired, unranked, IsRanked, AreRanked, BeforeLevel, InLevel, InTurn}
 use Rattle.mh_search.proofs.Taking.{in_more}
-use Rattle.mh_past.proofs.Wording.{word_one, word_kept, words_kept, words_here, words_only}
+use Rattle.mh_ways.proofs.Wording.{word_one, word_kept, words_kept, words_here, words_only}
 use Rattle.mh_search.proofs.Turns.{SameBeside, good_moves, fact_of, later, turn_good, turn_settles, follow_same, search_begins}
 use Rattle.mh_search.proofs.Levels.{level_taken, level_sorted, level_pushed, level_drained, level_done, rises_over}
 use Rattle.mh_search.proofs.Numbers.{numbered_more, numbered_push, numbered_higher, none_numbered, no_later}

@@ -10,15 +10,15 @@ use Rattle.mh_tables.specs.Facts.{Facts}
 use Rattle.mh_tables.specs.Run.{Shifts, move_of}
 use Rattle.mh_facts.specs.declared.store.Back.TheVariants as backs
 use Rattle.mh_least.specs.Orders.{cap}
-use Rattle.mh_past.specs.declared.work.Item.{Item}
-use Rattle.mh_past.specs.declared.work.Path.{Path}
-use Rattle.mh_past.specs.declared.classes.Classes.{Classes}
-use Rattle.mh_past.specs.Rows.{Gains, Among}
-use Rattle.mh_past.specs.Classes.{IsClasses, rep_of, list_at}
-use Rattle.mh_past.specs.Rules.{FollowsShift, further}
+use Rattle.mh_ways.specs.declared.work.Item.{Item}
+use Rattle.mh_ways.specs.declared.work.Path.{Path}
+use Rattle.mh_ways.specs.declared.classes.Classes.{Classes}
+use Rattle.mh_ways.specs.Rows.{Gains, Among}
+use Rattle.mh_ways.specs.Classes.{IsClasses, rep_of, list_at}
+use Rattle.mh_ways.specs.Rules.{FollowsShift, further}
 use Rattle.mh_search.specs.Adding.{WithNext, with_next}
-use Rattle.mh_past.proofs.Edging.{one_shift, shift_target}
-use Rattle.mh_past.proofs.Gaining.{gains_by}
+use Rattle.mh_ways.proofs.Edging.{one_shift, shift_target}
+use Rattle.mh_ways.proofs.Gaining.{gains_by}
 
 one_token : (o : Symbol) (x y : ℕ) → T x ≡ T y → x ≡ y
 one_token o x y e = cc

@@ -23,24 +23,24 @@ use Rattle.std.proofs.lemmas.List.{append-nil}
 use Rattle.std.proofs.lemmas.Grind.{common_steps}
 use Rattle.mh_least.proofs.Bound.{one_end, sound_begins, goes_congruent}
 use Rattle.mh_least.proofs.Best.{settles, drops, empty_closed, empty_complete}
-use Rattle.mh_past.specs.declared.work.Item.{Item}
-use Rattle.mh_past.specs.declared.work.Path.{Path}
-use Rattle.mh_past.specs.declared.work.Whole.{Whole}
-use Rattle.mh_past.specs.declared.work.Way.{Way}
-use Rattle.mh_past.specs.declared.work.Work.{Work}
+use Rattle.mh_ways.specs.declared.work.Item.{Item}
+use Rattle.mh_ways.specs.declared.work.Path.{Path}
+use Rattle.mh_ways.specs.declared.work.Whole.{Whole}
+use Rattle.mh_ways.specs.declared.work.Way.{Way}
+use Rattle.mh_ways.specs.declared.work.Work.{Work}
 use Rattle.mh_found.specs.declared.found.Found.{Found}
-use Rattle.mh_past.specs.declared.classes.Classes.{Classes}
-use Rattle.mh_past.specs.Rows.{Waits}
-use Rattle.mh_past.specs.Classes.{IsClasses, rep_of, place_of}
-use Rattle.mh_past.specs.Rules.{InRange, path_of, further, FollowsShift, Fits, FollowsWay, Goes, whole_of, way_of, IsWayOf, queue_of, paths_at, wholes_at, Knows, HasRows, IsReady, Follows, Expanded, IsEmptyItem}
-use Rattle.mh_past.specs.Rules as rules
+use Rattle.mh_ways.specs.declared.classes.Classes.{Classes}
+use Rattle.mh_ways.specs.Rows.{Waits}
+use Rattle.mh_ways.specs.Classes.{IsClasses, rep_of, place_of}
+use Rattle.mh_ways.specs.Rules.{InRange, path_of, further, FollowsShift, Fits, FollowsWay, Goes, whole_of, way_of, IsWayOf, queue_of, paths_at, wholes_at, Knows, HasRows, IsReady, Follows, Expanded, IsEmptyItem}
+use Rattle.mh_ways.specs.Rules as rules
 use Rattle.mh_search.specs.Begins.{AllBegin, IsBegun, empty_item}
-use Rattle.mh_past.specs.Tales.{NoLater, capped, weigh, WordBy, before_dot}
+use Rattle.mh_ways.specs.Tales.{NoLater, capped, weigh, WordBy, before_dot}
 use Rattle.mh_found.specs.Found.{IsStored, WaysIn, WholeOk, IsFound}
 use Rattle.mh_search.specs.Good.{NextIs, InQueue, Waiting, ItemOk, PathOk, Good, IsRising, InOrder}
 use Rattle.mh_found.specs.Numbers.{IsNumbered}
 use Rattle.mh_search.specs.Ranking.{BeforeLevel}
-use Rattle.mh_past.proofs.Wording.{word_kept, word_one, some_is, order_laws, over, free_part, free_word, no_lower, no_lower_back, told_more, new_words, words_kept, words_here, words_only}
+use Rattle.mh_ways.proofs.Wording.{word_kept, word_one, some_is, order_laws, over, free_part, free_word, no_lower, no_lower_back, told_more, new_words, words_kept, words_here, words_only}
 use Rattle.mh_search.proofs.Following.{shift_ok, join_ok, way_ok}
 use Rattle.mh_search.proofs.Taking.{in_more}
 

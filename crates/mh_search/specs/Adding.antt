@@ -2,15 +2,15 @@
 use Rattle.std.specs.Prelude.{◌≡◌, ℕ, List, length, ◌⊎◌}
 use Rattle.std.specs.List.{Contains}
 use Rattle.mh_tables.specs.Table.{TableData}
-use Rattle.mh_past.specs.declared.work.Item.{Item}
-use Rattle.mh_past.specs.declared.work.Path.{Path}
-use Rattle.mh_past.specs.declared.work.Whole.{Whole}
-use Rattle.mh_past.specs.declared.work.Way.{Way}
-use Rattle.mh_past.specs.declared.work.Work.{Work}
-use Rattle.mh_past.specs.declared.classes.Classes.{Classes}
-use Rattle.mh_past.specs.Rows.{Waits, Among, IsOne}
-use Rattle.mh_past.specs.Classes.{place_of}
-use Rattle.mh_past.specs.Rules.{FollowsWay, Goes, whole_of, way_of, IsWayOf, queue_of, paths_at, wholes_at, Knows}
+use Rattle.mh_ways.specs.declared.work.Item.{Item}
+use Rattle.mh_ways.specs.declared.work.Path.{Path}
+use Rattle.mh_ways.specs.declared.work.Whole.{Whole}
+use Rattle.mh_ways.specs.declared.work.Way.{Way}
+use Rattle.mh_ways.specs.declared.work.Work.{Work}
+use Rattle.mh_ways.specs.declared.classes.Classes.{Classes}
+use Rattle.mh_ways.specs.Rows.{Waits, Among, IsOne}
+use Rattle.mh_ways.specs.Classes.{place_of}
+use Rattle.mh_ways.specs.Rules.{FollowsWay, Goes, whole_of, way_of, IsWayOf, queue_of, paths_at, wholes_at, Knows}
 
 abbrev pub with_next : Item → ℕ → Item
 with_next i z = record { key = record { from = i.key.from; production = i.key.production; dot = i.key.dot; first = i.key.first; next = z }; end = i.end; back = i.back }

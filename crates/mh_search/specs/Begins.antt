@@ -5,16 +5,16 @@ use Rattle.mh_grammar.specs.declared.types.Symbol.TheVariants.{N}
 use Rattle.mh_grammar.specs.declared.edges.Edge.{Edge}
 use Rattle.mh_tables.specs.Table.{TableData}
 use Rattle.mh_facts.specs.declared.store.Back.TheVariants as backs
-use Rattle.mh_past.specs.declared.work.Item.{Item}
-use Rattle.mh_past.specs.declared.work.Work.{Work}
-use Rattle.mh_past.specs.declared.work.Path.{Path}
-use Rattle.mh_past.specs.declared.work.Whole.{Whole}
-use Rattle.mh_past.specs.declared.work.Way.{Way}
-use Rattle.mh_past.specs.declared.classes.Classes.{Classes}
-use Rattle.mh_past.specs.declared.left.ByLeft.{ByLeft}
-use Rattle.mh_past.specs.Rows.{Among, IsOne, Waits, Below}
-use Rattle.mh_past.specs.Left.{left_at}
-use Rattle.mh_past.specs.Rules.{IsEmptyItem, queue_of, paths_at, wholes_at, Knows}
+use Rattle.mh_ways.specs.declared.work.Item.{Item}
+use Rattle.mh_ways.specs.declared.work.Work.{Work}
+use Rattle.mh_ways.specs.declared.work.Path.{Path}
+use Rattle.mh_ways.specs.declared.work.Whole.{Whole}
+use Rattle.mh_ways.specs.declared.work.Way.{Way}
+use Rattle.mh_ways.specs.declared.classes.Classes.{Classes}
+use Rattle.mh_ways.specs.declared.left.ByLeft.{ByLeft}
+use Rattle.mh_ways.specs.Rows.{Among, IsOne, Waits, Below}
+use Rattle.mh_ways.specs.Left.{left_at}
+use Rattle.mh_ways.specs.Rules.{IsEmptyItem, queue_of, paths_at, wholes_at, Knows}
 
 abbrev pub empty_item : ℕ → ℕ → ℕ → Item
 empty_item from production x = record { key = record { from = from; production = production; dot = 0; first = x; next = x }; end = from; back = backs.Empty }

@@ -7,17 +7,17 @@ use Rattle.mh_tables.specs.Table.{TableData}
 use Rattle.mh_facts.specs.declared.store.FactKey.{FactKey}
 use Rattle.mh_facts.specs.Stored.{Facts, fact_at, last_of}
 use Rattle.mh_least.specs.Least.{IsEnd, Frontier, SoundAt}
-use Rattle.mh_past.specs.declared.work.Item.{Item}
-use Rattle.mh_past.specs.declared.work.Path.{Path}
-use Rattle.mh_past.specs.declared.work.Whole.{Whole}
-use Rattle.mh_past.specs.declared.work.Way.{Way}
-use Rattle.mh_past.specs.declared.work.Work.{Work}
-use Rattle.mh_past.specs.declared.classes.Classes.{Classes}
-use Rattle.mh_past.specs.Rows.{Waits, Beside}
+use Rattle.mh_ways.specs.declared.work.Item.{Item}
+use Rattle.mh_ways.specs.declared.work.Path.{Path}
+use Rattle.mh_ways.specs.declared.work.Whole.{Whole}
+use Rattle.mh_ways.specs.declared.work.Way.{Way}
+use Rattle.mh_ways.specs.declared.work.Work.{Work}
+use Rattle.mh_ways.specs.declared.classes.Classes.{Classes}
+use Rattle.mh_ways.specs.Rows.{Waits, Beside}
 use Rattle.mh_found.specs.Drawn.{DrawsOne, DrawsNone, Keeps, DrawsSome, DrawsAll}
-use Rattle.mh_past.specs.Classes.{rep_of, place_of}
-use Rattle.mh_past.specs.Rules.{InRange, path_of, way_of, queue_of, paths_at, wholes_at, Knows, IsReady}
-use Rattle.mh_past.specs.Tales.{NoLater, capped, WordBy, Tale}
+use Rattle.mh_ways.specs.Classes.{rep_of, place_of}
+use Rattle.mh_ways.specs.Rules.{InRange, path_of, way_of, queue_of, paths_at, wholes_at, Knows, IsReady}
+use Rattle.mh_ways.specs.Tales.{NoLater, capped, WordBy, Tale}
 use Rattle.mh_found.specs.Found.{IsStored, WaysIn, WholeOk}
 
 abbrev pub IsDone : Facts → Item → Type 0

@@ -9,8 +9,8 @@ use Rattle.mh_words.specs.declared.made.Last.{Last}
 use Rattle.mh_words.specs.declared.made.Made.{Made}
 use Rattle.mh_words.specs.Words.{Words, IsBook, IsLastBelow, Knows, last_of, spelled}
 use Rattle.mh_words.specs.Numbered.{AreBelowGroup}
-use Rattle.mh_past.specs.declared.work.Item.{Item}
-use Rattle.mh_past.specs.Tales.{capped, WordBy, Tale, before_dot}
+use Rattle.mh_ways.specs.declared.work.Item.{Item}
+use Rattle.mh_ways.specs.Tales.{capped, WordBy, Tale, before_dot}
 use Rattle.mh_found.specs.declared.numbers.Numbering.{Numbering}
 use Rattle.mh_found.specs.Numbers.{StandsFor, IsNumbered}
 

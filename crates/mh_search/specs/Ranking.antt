@@ -6,13 +6,13 @@ use Rattle.mh_tables.specs.Table.{TableData}
 use Rattle.mh_facts.specs.declared.store.FactKey.{FactKey}
 use Rattle.mh_least.specs.Orders.{cap}
 use Rattle.mh_words.specs.Words.{Words}
-use Rattle.mh_past.specs.declared.work.Item.{Item}
-use Rattle.mh_past.specs.declared.classes.Classes.{Classes}
+use Rattle.mh_ways.specs.declared.work.Item.{Item}
+use Rattle.mh_ways.specs.declared.classes.Classes.{Classes}
 use Rattle.mh_search.specs.declared.ranking.Ranked.{Ranked}
 use Rattle.mh_found.specs.declared.found.Found.{Found}
-use Rattle.mh_past.specs.Rows.{Waits}
-use Rattle.mh_past.specs.Rules.{queue_of}
-use Rattle.mh_past.specs.Tales.{WordBy}
+use Rattle.mh_ways.specs.Rows.{Waits}
+use Rattle.mh_ways.specs.Rules.{queue_of}
+use Rattle.mh_ways.specs.Tales.{WordBy}
 use Rattle.mh_search.specs.Good.{Good, InOrder, LevelReady}
 use Rattle.mh_found.specs.Numbers.{StandsFor, IsNumbered}
 

@@ -1,17 +1,17 @@
 //! The facts of empty paths, with which the search begins.
 ghost use Rattle.std.specs.Prelude.{◌≡◌, ◌<◌, ℕ, [], OnOk, IfOk, length};
 ghost use Rattle.mh_grammar.specs.declared.types.Symbol.TheVariants.{N};
-ghost use Rattle.mh_past.specs.Rows.{Gains, Among, row_of};
-ghost use Rattle.mh_past.specs.Classes.{IsClasses};
-ghost use Rattle.mh_past.specs.Rules.{IsEmptyItem};
-ghost use Rattle.mh_past.specs.Left.{IsByLeft};
+ghost use Rattle.mh_ways.specs.Rows.{Gains, Among, row_of};
+ghost use Rattle.mh_ways.specs.Classes.{IsClasses};
+ghost use Rattle.mh_ways.specs.Rules.{IsEmptyItem};
+ghost use Rattle.mh_ways.specs.Left.{IsByLeft};
 ghost use Rattle.mh_search.specs.Begins.{IsBegun, EmptyOn, BeginsOn, BeginsBehind, AllBegin, empty_item};
 
 use indexmap::IndexSet;
 use mh_facts::{Back, FactKey};
 use mh_grammar::{Edge, Memory, Symbol, Token};
-use mh_past::queue::{Queue, empty_queue, push};
-use mh_past::{ByLeft, Classes, Item, Work, by_left_side, list_of, productions_of};
+use mh_ways::queue::{Queue, empty_queue, push};
+use mh_ways::{ByLeft, Classes, Item, Work, by_left_side, list_of, productions_of};
 use mh_tables::Table;
 use std::alloc::Global;
 

@@ -3,7 +3,7 @@ ghost use Rattle.std.specs.Prelude.{◌≡◌, IfOk, length};
 ghost use Rattle.mh_search.specs.Ranking.{ArePaired, IsRanked};
 
 use mh_grammar::Memory;
-use mh_past::Item;
+use mh_ways::Item;
 use std::alloc::Global;
 
 /// An item with the number of its word.

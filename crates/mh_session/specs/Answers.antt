@@ -1,7 +1,7 @@
 -- What a session answers, by the history of each branch: the branch that a command names is run anew from its start.
 use Rattle.std.specs.Prelude.{◌≡◌, ◌<◌, ℕ, Bool, true, false, List, [], ◌∷◌, length, Option, Some, None, Result, Ok, Err, is_some, cond}
 use Rattle.mh_tables.specs.Table.{TableData}
-use Rattle.mh_tree.specs.Trees.{SyntaxTree, Leaf}
+use Rattle.mh_grammar.specs.Trees.{SyntaxTree, Leaf}
 use Rattle.mh_engine.specs.Positions.{Position}
 use Rattle.mh_tables.specs.Deep.{too_deep}
 use Rattle.mh_engine.specs.Phases.{phase_of}

@@ -14,7 +14,7 @@ use Rattle.mh_tables.specs.declared.parts.Action.TheVariants as actions
 use Rattle.mh_tables.specs.Table.{TableData, fallback_of, cell_of}
 use Rattle.mh_tables.specs.Facts.{Facts}
 use Rattle.mh_tables.specs.Run.{Config, Move, Accepts, Asks, Refuses, Shifts, Reduces, move_of, move_of_next, move_of_action, move_by_default, top_of, reduce, initial, step, step_by, goes_to, Ends, after, next_of, VerdictOf, Accepted, Overshot, Rejected, Ending}
-use Rattle.mh_tree.specs.Trees.{SyntaxTree, Leaf, IsTreeFor, yield_of}
+use Rattle.mh_grammar.specs.Trees.{SyntaxTree, Leaf, IsTreeFor, yield_of}
 use Rattle.mh_tables.specs.RunTrees.{Stands, yields, trees_after}
 use Rattle.mh_tables.proofs.Reductions.{reduced}
 use Rattle.mh_grammar.proofs.Numbered.{rhs_of-start}

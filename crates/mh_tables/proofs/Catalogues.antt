@@ -5,7 +5,8 @@ use Rattle.std.proofs.lemmas.Bool.{cases_lt}
 use Rattle.mh_grammar.specs.Edges.{IsRising}
 use Rattle.mh_grammar.proofs.Lists.{recursion_contains, rising_same}
 use Rattle.mh_tables.specs.Table.{TableData}
-use Rattle.mh_tables.specs.Failing.{LexLe, IsInOrder, Row, IsRowBefore, Failing, FailsFirst, Catalogue, cost_of_word}
+use Rattle.mh_grammar.specs.WordOrder.{LexLe}
+use Rattle.mh_tables.specs.Failing.{IsInOrder, Row, IsRowBefore, Failing, FailsFirst, Catalogue, cost_of_word}
 
 -- NUMBERS OF TOKENS
 

@@ -4,9 +4,9 @@ use Rattle.std.specs.List.{All}
 use Rattle.std.proofs.lemmas.Bool.{cases_lt, ltb-false, le-ltb, or_from, or_left, or_parts, or_right}
 use Rattle.std.proofs.lemmas.List.{length-take}
 use Rattle.std.proofs.lemmas.List.Elements.{All-nil, All-head, All-tail, All-cons}
-use Rattle.mh_tree.specs.declared.tree.TheConstants.{MAX_HEIGHT}
-use Rattle.mh_tree.specs.Trees.{SyntaxTree, Leaf, Node, height_of, forest_height, forest_of}
-use Rattle.mh_tree.proofs.Heights.{heights_append}
+use Rattle.mh_grammar.specs.declared.types.TheConstants.{MAX_HEIGHT}
+use Rattle.mh_grammar.specs.Trees.{SyntaxTree, Leaf, Node, height_of, forest_height, forest_of}
+use Rattle.mh_grammar.proofs.Heights.{heights_append}
 use Rattle.mh_tables.specs.Deep.{too_deep}
 
 abbrev heights : List SyntaxTree → ℕ

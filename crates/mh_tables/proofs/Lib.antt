@@ -13,4 +13,3 @@ pub mod Reductions
 pub mod Refusing
 pub mod Settling
 pub mod Trees
-pub mod WordOrder

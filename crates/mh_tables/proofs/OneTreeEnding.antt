@@ -1,6 +1,6 @@
 -- A run with trees ends in one way.
 use Rattle.std.proofs.Common.{◌≡◌, ℕ, zero, suc, ◌+◌, List, [], ◌∷◌, refl, ap, sym, arith, ◌∙◌}
-use Rattle.mh_tree.specs.Trees.{SyntaxTree}
+use Rattle.mh_grammar.specs.Trees.{SyntaxTree}
 use Rattle.mh_tables.specs.Table.{TableData}
 use Rattle.mh_tables.specs.Run.{Config, Move, Accepts, Asks, Refuses, Shifts, Reduces, move_of, top_of, step, next_of, after, initial, Ends, Ending, Accepted, Overshot, Rejected, VerdictOf}
 use Rattle.mh_tables.specs.RunTrees.{grow, trees_after}

@@ -14,7 +14,7 @@ use Rattle.mh_tables.specs.Facts.{Facts, InCore, ReducesBy as Reducing}
 use Rattle.mh_tables.specs.Run.{top_of, initial, Config, Move, Accepts, Asks, Refuses, Shifts, Reduces, move_of, step, step_by, next_of, after, IsRunStack}
 use Rattle.mh_tables.proofs.Reductions.{Reduced, reduced, reduces_from_move, shifts_from_move, no_shift_at_end}
 use Rattle.mh_tables.proofs.Ending.{step_moves}
-use Rattle.mh_tree.specs.Trees.{SyntaxTree, Leaf, Node, IsTreeFor, IsForestFor, forest_of, yield_of, forest_yield}
+use Rattle.mh_grammar.specs.Trees.{SyntaxTree, Leaf, Node, IsTreeFor, IsForestFor, forest_of, yield_of, forest_yield}
 use Rattle.mh_tables.specs.RunTrees.{Grown, yields, Stands, grow, trees_after}
 use Rattle.mh_tables.proofs.Path.{top_of_take, finds, reduce_finds}
 

@@ -1,7 +1,7 @@
 -- What a run with trees may not hold (this project's profile).
 use Rattle.std.specs.Prelude.{ℕ, Bool, List, length, nat_lt, ◌||◌}
-use Rattle.mh_tree.specs.declared.tree.TheConstants.{MAX_HEIGHT}
-use Rattle.mh_tree.specs.Trees.{SyntaxTree, forest_of, forest_height}
+use Rattle.mh_grammar.specs.declared.types.TheConstants.{MAX_HEIGHT}
+use Rattle.mh_grammar.specs.Trees.{SyntaxTree, forest_of, forest_height}
 
 -- the most pairs of a state and a tree, and the greatest height of a tree
 abbrev pub max_depth : ℕ

@@ -3,6 +3,7 @@
 use Rattle.std.specs.Prelude.{◌≡◌, ℕ, List, [], ◌∷◌, length, ◌-◌, ◌+◌, ◌<◌, ◌≤◌, ◌⊎◌}
 use Rattle.std.specs.List.{AllByRecursion, Contains}
 use Rattle.mh_grammar.specs.Edges.{IsRising}
+use Rattle.mh_grammar.specs.WordOrder.{LexLe}
 use Rattle.mh_tables.specs.Table.{TableData, cost_of_token}
 use Rattle.mh_tables.specs.Run.{VerdictOf, Rejected}
 
@@ -28,12 +29,6 @@ cost_by weigh (z ∷ w) = weigh z + cost_by weigh w
 
 abbrev pub cost_of_word : TableData → List ℕ → ℕ
 cost_of_word t w = cost_by (cost_of_token t) w
-
--- at the first place where they differ u has the lower number, or u is a front of v
-abbrev pub LexLe : List ℕ → List ℕ → Type 0
-LexLe [] v = Unit {0}
-LexLe (x ∷ u) [] = ⊥
-LexLe (x ∷ u) (y ∷ v) = (x < y) ⊎ ((x ≡ y) × LexLe u v)
 
 -- The fixed order of sentences: by cost, then by start, then by the numbers of the tokens. Of two that differ one comes first.
 abbrev pub IsInOrder : TableData → ℕ → List ℕ → ℕ → List ℕ → Type 0

@@ -2,7 +2,7 @@
 use Rattle.std.specs.Prelude.{◌≡◌, ℕ, zero, suc, List, [], ◌∷◌, ◌++◌, length, take, drop, slice_index, slice_index_or, Some, ◌-◌, ◌+◌, ◌<◌}
 use Rattle.mh_grammar.specs.declared.types.Symbol.{Symbol}
 use Rattle.mh_grammar.specs.Plain.{rhs_of}
-use Rattle.mh_tree.specs.Trees.{SyntaxTree, Leaf, Node, IsTreeFor, forest_of, yield_of}
+use Rattle.mh_grammar.specs.Trees.{SyntaxTree, Leaf, Node, IsTreeFor, forest_of, yield_of}
 use Rattle.mh_tables.specs.Table.{TableData, edge_of}
 use Rattle.mh_tables.specs.Run.{Config, Move, Accepts, Asks, Refuses, Shifts, Reduces, move_of, top_of, step, next_of}
 

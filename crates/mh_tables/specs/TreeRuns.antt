@@ -1,7 +1,7 @@
 -- How the run of a sentence with its trees ends. That a run may be too deep is this project's profile.
 use Rattle.std.specs.Prelude.{◌≡◌, ◌≤◌, ℕ, true, List, [], ◌∷◌, length, take}
 use Rattle.mh_grammar.specs.Plain.{start_symbol}
-use Rattle.mh_tree.specs.Trees.{SyntaxTree, IsTreeFor, yield_of}
+use Rattle.mh_grammar.specs.Trees.{SyntaxTree, IsTreeFor, yield_of}
 use Rattle.mh_tables.specs.Table.{TableData}
 use Rattle.mh_tables.specs.Run.{initial, after, step, Ends, VerdictOf, Accepted, Overshot, Rejected}
 use Rattle.mh_tables.specs.RunTrees.{trees_after}

@@ -30,7 +30,7 @@ use Rattle.mh_tables.proofs.Cut.{verdict_cut}
 use Rattle.mh_tables.proofs.Ending.{one_ending}
 use Rattle.mh_exact.specs.Exactness.{IsPrefixSentence, AllProductive}
 use Rattle.mh_tables.specs.TreeRuns.{IsTreeOfRead, IsTooDeep, TreeEnding, AcceptedTree, OvershotTree, RejectedTree, DeepTree, IsTreeEnding}
-use Rattle.mh_tree.specs.Trees.{SyntaxTree, IsTreeFor, text_of}
+use Rattle.mh_grammar.specs.Trees.{SyntaxTree, IsTreeFor, text_of}
 use Rattle.mh_exact.proofs.AcceptedSentence.{accepted_sentence}
 use Rattle.mh_exact.proofs.Telling.{overshoots, tells_prefix, tells_refused}
 use Rattle.mh_outside.specs.Shelf.{Files}

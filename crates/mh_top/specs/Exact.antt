@@ -11,7 +11,7 @@ use Rattle.mh_cells.specs.States.{IsTableOf}
 use Rattle.mh_cells.specs.declared.kinds.Mode.{Mode}
 use Rattle.mh_cells.specs.Clear.{HasNoConflicts}
 use Rattle.mh_tables.specs.Table.{TableData}
-use Rattle.mh_tree.specs.Trees.{SyntaxTree, IsTreeFor, text_of, yield_of}
+use Rattle.mh_grammar.specs.Trees.{SyntaxTree, IsTreeFor, text_of, yield_of}
 use Rattle.mh_exact.specs.Exactness.{IsPrefixSentence, AllProductive}
 use Rattle.mh_tables.specs.TreeRuns.{IsTooDeep}
 use Rattle.mh_opts.specs.declared.order.Order.{Order}

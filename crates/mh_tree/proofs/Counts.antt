@@ -3,8 +3,8 @@ use Rattle.std.proofs.Common.{◌≡◌, ℕ, suc, max, ◌+◌, ◌*◌, ◌<�
 use denote.Param.Weighed.{most, w_this}
 use Rattle.mh_tree.specs.declared.tree.Tree.{Tree}
 use Rattle.mh_tree.specs.declared.tree.Tree.TheDeep.{size-Tree}
-use Rattle.mh_tree.proofs.Heights.{heights_append}
-use Rattle.mh_tree.specs.Trees.{SyntaxTree, Forest, Leaf, Node, Nil, Cons, forest_of, height_of, forest_height}
+use Rattle.mh_grammar.proofs.Heights.{heights_append}
+use Rattle.mh_grammar.specs.Trees.{SyntaxTree, Forest, Leaf, Node, Nil, Cons, forest_of, height_of, forest_height}
 
 abbrev mutual
   pub nodes : SyntaxTree → ℕ

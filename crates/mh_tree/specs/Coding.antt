@@ -1,7 +1,7 @@
 -- A tree as a list of numbers that gives it back, by which proofs tell trees apart.
 use Rattle.std.specs.Prelude.{◌≡◌, ℕ, zero, suc, List, [], ◌∷◌, refl}
 use Rattle.std.specs.Coded.{Coded, code_by, coded_list, coded×, coded_ℕ}
-use Rattle.mh_tree.specs.Trees.{SyntaxTree, Leaf, Node, Forest, Nil, Cons}
+use Rattle.mh_grammar.specs.Trees.{SyntaxTree, Leaf, Node, Forest, Nil, Cons}
 
 abbrev mutual
   pub written : SyntaxTree → List (ℕ × ℕ) → List (ℕ × ℕ)

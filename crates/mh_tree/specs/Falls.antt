@@ -4,7 +4,7 @@ use Rattle.std.proofs.Common.{arith}
 use Rattle.mh_tree.specs.declared.tree.Shape.{Shape}
 use Rattle.mh_tree.specs.declared.tree.Shape.TheVariants as shape
 use Rattle.mh_tree.specs.declared.tree.Tree.TheDeep.{deep-Shape}
-use Rattle.mh_tree.specs.Trees.{height_of}
+use Rattle.mh_grammar.specs.Trees.{height_of}
 use Rattle.mh_tree.specs.Shapes.{tree_of, most_le-forest_height}
 
 pub depth_le-height : (s : Shape) → max (deep-Shape s) 0 ≤ height_of (tree_of s)

@@ -1,4 +1,3 @@
-pub mod Trees
 pub mod Shapes
 pub mod Falls
 pub mod Coding

@@ -4,7 +4,7 @@ use Rattle.std.proofs.Common.{arith}
 use denote.Param.Weighed.{most}
 use Rattle.mh_tree.specs.declared.tree.Shape.{Shape}
 use Rattle.mh_tree.specs.declared.tree.Shape.TheVariants as shape
-use Rattle.mh_tree.specs.Trees.{SyntaxTree, Leaf, Node, forest_of, height_of, forest_height}
+use Rattle.mh_grammar.specs.Trees.{SyntaxTree, Leaf, Node, forest_of, height_of, forest_height}
 
 abbrev pub tree_of : Shape → SyntaxTree
 tree_of (shape.Leaf z) = Leaf z

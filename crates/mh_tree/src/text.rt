@@ -1,6 +1,6 @@
 //! The text that shows a tree.
 ghost use Rattle.std.specs.Prelude.{◌≡◌, ◌++◌, IfOk, OnOk};
-ghost use Rattle.mh_tree.specs.Trees.{text_of, forest_text, forest_of};
+ghost use Rattle.mh_grammar.specs.Trees.{text_of, forest_text, forest_of};
 
 use crate::tree::{Shape, Tree};
 use mh_grammar::{Grammar, Memory, left_side_name, token_name};

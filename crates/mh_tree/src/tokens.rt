@@ -1,7 +1,7 @@
 //! The tokens that a tree spells.
 ghost use Rattle.std.specs.Prelude.{◌≡◌, ◌++◌, IfOk, OnOk};
-ghost use Rattle.mh_tree.specs.Trees as spec;
-ghost use Rattle.mh_tree.specs.Trees.{forest_yield, forest_of};
+ghost use Rattle.mh_grammar.specs.Trees as spec;
+ghost use Rattle.mh_grammar.specs.Trees.{forest_yield, forest_of};
 
 use crate::tree::{Shape, Tree};
 use mh_grammar::{Memory, Token};

@@ -2,16 +2,13 @@
 ghost use Rattle.std.specs.Prelude.{◌≡◌, ◌↔◌, ℕ, IfOk, IfSome, IsTrue};
 ghost use Rattle.std.specs.Prelude.{◌<◌, ◌≤◌};
 ghost use Rattle.std.specs.List.{All};
-ghost use Rattle.mh_tree.specs.Trees.{height_of, forest_height, Leaf, Node, forest_of};
+ghost use Rattle.mh_grammar.specs.Trees.{height_of, forest_height, Leaf, Node, forest_of};
 ghost use Rattle.mh_tree.specs.Shapes.{tree_of};
 
-use mh_grammar::{Memory, Token};
+use mh_grammar::{MAX_HEIGHT, Memory, Token};
 use std::alloc::Global;
 use std::marker::Model;
 use std::rc::Rc;
-
-/// The greatest height of a tree, so that no walk over one is deeper: this project's own limit.
-pub const MAX_HEIGHT: u32 = 4000;
 
 /// A shared syntax tree: a token, or a production over a tree for each symbol of its right side (Knuth 1965). Its height
 /// is from 1 to `MAX_HEIGHT`.
@@ -30,7 +27,7 @@ pub(crate) enum Shape {
 
 impl Model for Tree {
     ghost use Rattle.std.specs.Prelude.{◌≡◌, ◌≤◌};
-    ghost use Rattle.mh_tree.specs.Trees.{SyntaxTree, height_of};
+    ghost use Rattle.mh_grammar.specs.Trees.{SyntaxTree, height_of};
 
     ghost Value = { SyntaxTree };
 
@@ -38,7 +35,7 @@ impl Model for Tree {
 
     ghost coded = { tree_code };
 
-    ghost use Rattle.mh_tree.specs.declared.tree.TheConstants.{MAX_HEIGHT};
+    ghost use Rattle.mh_grammar.specs.declared.types.TheConstants.{MAX_HEIGHT};
     ghost use Rattle.mh_tree.specs.Shapes.{tree_of};
 
     ghost view = { λ t. tree_of t.shape.value };

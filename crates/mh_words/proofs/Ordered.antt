@@ -2,8 +2,8 @@
 use Rattle.std.proofs.Common.{◌≡◌, ◌∙◌, ℕ, ◌⊎◌, inl, inr, List, [], ◌∷◌, ◌++◌, refl, sym, arith}
 use Rattle.std.specs.declared.cmp.Ordering.{Ordering}
 use Rattle.std.specs.declared.cmp.Ordering.TheVariants.{Less, Equal, Greater}
-use Rattle.mh_tables.specs.Failing.{LexLe}
-use Rattle.mh_tables.proofs.WordOrder.{lex_same, lex_after, lex_front, lower_or_same}
+use Rattle.mh_grammar.specs.WordOrder.{LexLe}
+use Rattle.mh_grammar.proofs.WordOrder.{lex_same, lex_after, lex_front, lower_or_same}
 use Rattle.mh_words.specs.declared.made.Made.{Made}
 use Rattle.mh_words.specs.Words.{Words, Before, IsFront, spelled}
 use Rattle.mh_words.specs.Compared.{IsCompared}

@@ -1,6 +1,6 @@
 //! Worked trees, with heights, tokens and texts computed by hand.
 ghost use Rattle.std.specs.Prelude.{◌≡◌, ◌<◌, IfOk};
-ghost use Rattle.mh_tree.specs.Trees.{height_of, Node, Cons, Nil};
+ghost use Rattle.mh_grammar.specs.Trees.{height_of, Node, Cons, Nil};
 
 use crate::cases::release;
 use mh_grammar::{Grammar, Memory};

@@ -1,11 +1,11 @@
 use Rattle.std.proofs.Common.{◌≡◌, ◌<◌, ap, sym, ◌∙◌, arith, length}
 use Rattle.std.specs.Global.{Vec}
-use Rattle.mh_past.specs.declared.work.Whole.{Whole}
-use Rattle.mh_past.specs.Rows.{row_of, Among}
-use Rattle.mh_past.specs.Classes.{place_of}
+use Rattle.mh_ways.specs.declared.work.Whole.{Whole}
+use Rattle.mh_ways.specs.Rows.{row_of, Among}
+use Rattle.mh_ways.specs.Classes.{place_of}
 use Rattle.mh_arrivals.specs.Arriving.{StepsShift, StepsWay}
-use Rattle.mh_past.proofs.Rowing.{row_is}
-use Rattle.mh_past.proofs.Gaining.{gains_then}
+use Rattle.mh_ways.proofs.Rowing.{row_is}
+use Rattle.mh_ways.proofs.Gaining.{gains_then}
 use Rattle.mh_arrivals.proofs.arrive.go_on.Goals as goal
 
 row_read : (c : goal.After-as_slice) → row_of c.args.wholes.now (place_of c.args.classes.now c.args.from.spot.state c.args.from.spot.next) ≡ c.as_slice.result.now

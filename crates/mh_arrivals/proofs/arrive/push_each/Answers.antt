@@ -1,6 +1,6 @@
 use Rattle.std.proofs.Common.{arith}
 use Rattle.mh_arrivals.specs.Arriving.{StepsOn}
-use Rattle.mh_past.proofs.Gaining.{first_next, first_all}
+use Rattle.mh_ways.proofs.Gaining.{first_next, first_all}
 use Rattle.mh_arrivals.proofs.arrive.push_each.Goals as goal
 
 pub loop-next-preserved : goal.loop-next-preserved

@@ -1,6 +1,6 @@
-use Rattle.mh_past.specs.Rows.{Gains}
+use Rattle.mh_ways.specs.Rows.{Gains}
 use Rattle.mh_arrivals.specs.Arriving.{StepsOn}
-use Rattle.mh_past.proofs.Gaining.{First}
+use Rattle.mh_ways.proofs.Gaining.{First}
 use Rattle.mh_arrivals.proofs.arrive.push_each.Given as goal
 
 abbrev pub invariant-loop-next : goal.invariant-loop-next

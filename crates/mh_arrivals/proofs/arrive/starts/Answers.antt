@@ -1,8 +1,8 @@
 use Rattle.std.proofs.Common.{◌≡◌, arith, length, []}
-use Rattle.mh_past.specs.Rows.{Among}
-use Rattle.mh_past.specs.Classes.{list_at}
+use Rattle.mh_ways.specs.Rows.{Among}
+use Rattle.mh_ways.specs.Classes.{list_at}
 use Rattle.mh_arrivals.specs.Arriving.{StartsOn}
-use Rattle.mh_past.proofs.Gaining.{below_begins, below_goes}
+use Rattle.mh_ways.proofs.Gaining.{below_begins, below_goes}
 use Rattle.mh_arrivals.proofs.arrive.starts.Goals as goal
 
 pub loop-start-init : goal.loop-start-init

@@ -1,8 +1,8 @@
 use Rattle.std.proofs.Common.{ℕ, ◌≡◌, sym, ◌∙◌}
 use Rattle.mh_grammar.specs.declared.types.Symbol.TheVariants.{T, N}
 use Rattle.mh_arrivals.specs.Arriving.{StepsAlong, StepsEdge}
-use Rattle.mh_past.proofs.Gaining.{gains_by, gains_none}
-use Rattle.mh_past.proofs.Edging.{known_token}
+use Rattle.mh_ways.proofs.Gaining.{gains_by, gains_none}
+use Rattle.mh_ways.proofs.Edging.{known_token}
 use Rattle.mh_arrivals.proofs.arrive.step_edge.Goals as goal
 
 one_token : (a b : ℕ) → T a ≡ T b → a ≡ b

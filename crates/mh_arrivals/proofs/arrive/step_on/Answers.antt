@@ -1,8 +1,8 @@
 use Rattle.std.proofs.Common.{◌≡◌, [], ◌∷◌, sym, ◌∙◌}
 use Rattle.mh_grammar.specs.declared.types.Symbol.TheVariants.{T}
 use Rattle.mh_tables.specs.Run.{Shifts, move_of}
-use Rattle.mh_past.specs.Classes.{rep_of}
-use Rattle.mh_past.proofs.Edging.{shift_target}
+use Rattle.mh_ways.specs.Classes.{rep_of}
+use Rattle.mh_ways.proofs.Edging.{shift_target}
 use Rattle.mh_arrivals.proofs.Stepping.{along_gains}
 use Rattle.mh_arrivals.proofs.arrive.step_on.Goals as goal
 

@@ -4,8 +4,8 @@ use Rattle.mh_grammar.specs.declared.types.Symbol.TheVariants.{T}
 use Rattle.mh_grammar.specs.declared.edges.Edge.{Edge}
 use Rattle.mh_tables.specs.Table.{state_at}
 use Rattle.mh_arrivals.specs.Arriving.{StepsEdge}
-use Rattle.mh_past.proofs.Gaining.{in_list, first_next, first_all}
-use Rattle.mh_past.proofs.Edging.{edge_leads}
+use Rattle.mh_ways.proofs.Gaining.{in_list, first_next, first_all}
+use Rattle.mh_ways.proofs.Edging.{edge_leads}
 use Rattle.mh_arrivals.proofs.Stepping.{step_gains}
 use Rattle.mh_arrivals.proofs.arrive.step_shifts.Goals as goal
 

@@ -1,7 +1,7 @@
 use Rattle.mh_tables.specs.Table.{state_at}
-use Rattle.mh_past.specs.Rows.{Gains}
+use Rattle.mh_ways.specs.Rows.{Gains}
 use Rattle.mh_arrivals.specs.Arriving.{StepsEdge}
-use Rattle.mh_past.proofs.Gaining.{First}
+use Rattle.mh_ways.proofs.Gaining.{First}
 use Rattle.mh_arrivals.proofs.arrive.step_shifts.Given as goal
 
 abbrev pub invariant-loop-edge : goal.invariant-loop-edge

@@ -2,7 +2,7 @@ use Rattle.std.proofs.Common.{◌+◌}
 use Rattle.std.specs.Prelude.{min}
 use Rattle.mh_least.specs.Orders.{cap}
 use Rattle.mh_arrivals.specs.Arriving.{StepsWay}
-use Rattle.mh_past.proofs.Gaining.{gains_none, gains_only}
+use Rattle.mh_ways.proofs.Gaining.{gains_none, gains_only}
 use Rattle.mh_arrivals.proofs.arrive.step_way.Goals as goal
 
 pub returns-in-None : goal.returns-in-None

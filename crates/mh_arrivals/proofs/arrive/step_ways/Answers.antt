@@ -1,6 +1,6 @@
 use Rattle.std.proofs.Common.{arith}
 use Rattle.mh_arrivals.specs.Arriving.{StepsWay}
-use Rattle.mh_past.proofs.Gaining.{in_list, first_next, first_all}
+use Rattle.mh_ways.proofs.Gaining.{in_list, first_next, first_all}
 use Rattle.mh_arrivals.proofs.arrive.step_ways.Goals as goal
 
 pub step_way-requires-clause-whole : goal.step_way-requires-clause-whole

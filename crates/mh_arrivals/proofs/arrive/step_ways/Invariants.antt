@@ -1,6 +1,6 @@
-use Rattle.mh_past.specs.Rows.{Gains}
+use Rattle.mh_ways.specs.Rows.{Gains}
 use Rattle.mh_arrivals.specs.Arriving.{StepsWay}
-use Rattle.mh_past.proofs.Gaining.{First}
+use Rattle.mh_ways.proofs.Gaining.{First}
 use Rattle.mh_arrivals.proofs.arrive.step_ways.Given as goal
 
 abbrev pub invariant-loop-whole : goal.invariant-loop-whole

@@ -1,5 +1,5 @@
 use Rattle.std.proofs.Common.{◌+◌}
-use Rattle.mh_past.specs.Tales.{sizes_of}
+use Rattle.mh_ways.specs.Tales.{sizes_of}
 use Rattle.mh_found.specs.Tails.{AreShared, weight}
 use Rattle.mh_found.proofs.tails.is_later.Given as goal
 

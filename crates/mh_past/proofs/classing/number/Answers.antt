@@ -1,5 +1,5 @@
 use Rattle.std.proofs.Common.{◌≡◌, [], arith, length}
-use Rattle.mh_past.specs.declared.classes.Classes.{Classes}
+use Rattle.mh_ways.specs.declared.classes.Classes.{Classes}
 use Rattle.mh_past.proofs.Parting.{partition, tokens}
 use Rattle.mh_past.proofs.Alike.{number_begins, number_goes}
 use Rattle.mh_past.proofs.classing.number.Goals as goal

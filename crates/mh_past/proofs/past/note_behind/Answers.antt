@@ -1,9 +1,9 @@
 use Rattle.std.proofs.Common.{ℕ, ◌≡◌, sym, ◌∙◌}
 use Rattle.mh_grammar.specs.declared.types.Symbol.TheVariants.{N}
 use Rattle.mh_grammar.specs.Plain.{IsProductionFor}
-use Rattle.mh_past.specs.Left.{left_at}
+use Rattle.mh_ways.specs.Left.{left_at}
 use Rattle.mh_past.specs.Past.{PastOn, PastBehind}
-use Rattle.mh_past.proofs.Collecting.{collects_by}
+use Rattle.mh_ways.proofs.Collecting.{collects_by}
 use Rattle.mh_past.proofs.past.note_behind.Goals as goal
 
 one_nonterminal : (a b : ℕ) → N a ≡ N b → a ≡ b

@@ -1,7 +1,7 @@
 use Rattle.std.proofs.Common.{arith}
 use Rattle.mh_past.specs.Past.{PastOne}
-use Rattle.mh_past.proofs.Gaining.{in_list}
-use Rattle.mh_past.proofs.Collecting.{firsts_begin, firsts_next, firsts_all}
+use Rattle.mh_ways.proofs.Gaining.{in_list}
+use Rattle.mh_ways.proofs.Collecting.{firsts_begin, firsts_next, firsts_all}
 use Rattle.mh_past.proofs.past.note_each.Goals as goal
 
 pub loop-production-init : goal.loop-production-init

@@ -1,5 +1,6 @@
-use Rattle.mh_past.specs.Past.{Collects, PastOne}
-use Rattle.mh_past.proofs.Collecting.{FirstOf}
+use Rattle.mh_ways.specs.Rows.{Collects}
+use Rattle.mh_past.specs.Past.{PastOne}
+use Rattle.mh_ways.proofs.Collecting.{FirstOf}
 use Rattle.mh_past.proofs.past.note_each.Given as goal
 
 abbrev pub invariant-loop-production : goal.invariant-loop-production

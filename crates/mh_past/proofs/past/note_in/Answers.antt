@@ -4,9 +4,9 @@ use Rattle.mh_grammar.specs.declared.types.Symbol.TheVariants.{T}
 use Rattle.mh_grammar.specs.declared.edges.Edge.{Edge}
 use Rattle.mh_tables.specs.Table.{state_at}
 use Rattle.mh_past.specs.Past.{PastBehind}
-use Rattle.mh_past.proofs.Gaining.{in_list}
-use Rattle.mh_past.proofs.Collecting.{firsts_begin, firsts_next, firsts_all}
-use Rattle.mh_past.proofs.Edging.{edge_leads}
+use Rattle.mh_ways.proofs.Gaining.{in_list}
+use Rattle.mh_ways.proofs.Collecting.{firsts_begin, firsts_next, firsts_all}
+use Rattle.mh_ways.proofs.Edging.{edge_leads}
 use Rattle.mh_past.proofs.past.note_in.Goals as goal
 
 pub loop-edge-init : goal.loop-edge-init

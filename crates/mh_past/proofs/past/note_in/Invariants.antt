@@ -1,6 +1,7 @@
 use Rattle.mh_tables.specs.Table.{state_at}
-use Rattle.mh_past.specs.Past.{Collects, PastBehind}
-use Rattle.mh_past.proofs.Collecting.{FirstOf}
+use Rattle.mh_ways.specs.Rows.{Collects}
+use Rattle.mh_past.specs.Past.{PastBehind}
+use Rattle.mh_ways.proofs.Collecting.{FirstOf}
 use Rattle.mh_past.proofs.past.note_in.Given as goal
 
 abbrev pub invariant-loop-edge : goal.invariant-loop-edge

@@ -4,7 +4,7 @@ use Rattle.mh_least.specs.Least.{IsEnd}
 use Rattle.mh_least.proofs.Bound.{one_end}
 use Rattle.mh_past.specs.declared.past.Reduction.{Reduction}
 use Rattle.mh_past.specs.Past.{PastOne}
-use Rattle.mh_past.proofs.Collecting.{collects_by}
+use Rattle.mh_ways.proofs.Collecting.{collects_by}
 use Rattle.mh_past.proofs.past.note_one.Goals as goal
 
 pub returns-in_ok-note-in-Some : goal.returns-in_ok-note-in-Some

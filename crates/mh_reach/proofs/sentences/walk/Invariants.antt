@@ -1,7 +1,7 @@
 use Rattle.std.proofs.Common.{◌≡◌, ◌++◌, Some}
 use Rattle.std.specs.Prelude.{reverse}
 use Rattle.mh_least.specs.Least.{Label}
-use Rattle.mh_past.specs.Tales.{Tale}
+use Rattle.mh_ways.specs.Tales.{Tale}
 use Rattle.mh_arrivals.specs.Arriving.{Journey, heights_of}
 use Rattle.mh_arrivals.proofs.Walking.{LeadsTo}
 use Rattle.mh_reach.proofs.sentences.walk.Given as goal

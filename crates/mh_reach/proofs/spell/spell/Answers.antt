@@ -1,8 +1,8 @@
 use Rattle.std.proofs.Common.{◌≡◌, ◌<◌, ◌++◌, ◌∷◌, [], inl, inr, true, false, arith, length}
 use Rattle.std.specs.Prelude.{reverse}
 use Rattle.std.proofs.lemmas.Bool.{cases_lt}
-use Rattle.mh_past.specs.Tales.{sizes_of}
-use Rattle.mh_past.proofs.Rowing.{no_items}
+use Rattle.mh_ways.specs.Tales.{sizes_of}
+use Rattle.mh_ways.proofs.Rowing.{no_items}
 use Rattle.mh_reach.proofs.Spelled.{Tells, next_on, next_less, tells_begin, tells_end, words_pop, size_of_all}
 use Rattle.mh_reach.proofs.spell.spell.Goals as goal
 

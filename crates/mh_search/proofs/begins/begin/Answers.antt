@@ -1,5 +1,5 @@
 use Rattle.std.proofs.Common.{inl, inr, arith}
-use Rattle.mh_past.proofs.Rowing.{none_in}
+use Rattle.mh_ways.proofs.Rowing.{none_in}
 use Rattle.mh_search.proofs.begins.begin.Goals as goal
 
 pub returns : goal.returns

@@ -1,6 +1,6 @@
 use Rattle.std.proofs.Common.{◌≡◌, arith, length, []}
-use Rattle.mh_past.specs.Rules.{IsEmptyItem}
-use Rattle.mh_past.proofs.Gaining.{below_begins, below_goes}
+use Rattle.mh_ways.specs.Rules.{IsEmptyItem}
+use Rattle.mh_ways.proofs.Gaining.{below_begins, below_goes}
 use Rattle.mh_search.proofs.begins.begin_all.Goals as goal
 
 pub loop-from-init : goal.loop-from-init

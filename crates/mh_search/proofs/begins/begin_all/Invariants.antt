@@ -1,6 +1,6 @@
 use Rattle.std.proofs.Common.{[]}
-use Rattle.mh_past.specs.Rows.{Gains, Below}
-use Rattle.mh_past.specs.Rules.{IsEmptyItem}
+use Rattle.mh_ways.specs.Rows.{Gains, Below}
+use Rattle.mh_ways.specs.Rules.{IsEmptyItem}
 use Rattle.mh_search.proofs.begins.begin_all.Given as goal
 
 abbrev pub invariant-loop-from : goal.invariant-loop-from

@@ -1,9 +1,9 @@
 use Rattle.std.proofs.Common.{ℕ, ◌≡◌, sym, ◌∙◌}
 use Rattle.mh_grammar.specs.declared.types.Symbol.TheVariants.{N}
-use Rattle.mh_past.specs.Rows.{Among}
-use Rattle.mh_past.specs.Left.{left_at}
+use Rattle.mh_ways.specs.Rows.{Among}
+use Rattle.mh_ways.specs.Left.{left_at}
 use Rattle.mh_search.specs.Begins.{BeginsOn, BeginsBehind}
-use Rattle.mh_past.proofs.Gaining.{gains_by}
+use Rattle.mh_ways.proofs.Gaining.{gains_by}
 use Rattle.mh_search.proofs.begins.begin_behind.Goals as goal
 
 one_nonterminal : (a b : ℕ) → N a ≡ N b → a ≡ b

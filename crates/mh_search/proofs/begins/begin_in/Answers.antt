@@ -3,10 +3,10 @@ use Rattle.std.specs.List.{Contains}
 use Rattle.mh_grammar.specs.declared.types.Symbol.TheVariants.{T}
 use Rattle.mh_grammar.specs.declared.edges.Edge.{Edge}
 use Rattle.mh_tables.specs.Table.{state_at}
-use Rattle.mh_past.specs.Classes.{list_at}
+use Rattle.mh_ways.specs.Classes.{list_at}
 use Rattle.mh_search.specs.Begins.{BeginsBehind}
-use Rattle.mh_past.proofs.Gaining.{in_list, first_next, first_all}
-use Rattle.mh_past.proofs.Edging.{edge_leads, known_nonterminal}
+use Rattle.mh_ways.proofs.Gaining.{in_list, first_next, first_all}
+use Rattle.mh_ways.proofs.Edging.{edge_leads, known_nonterminal}
 use Rattle.mh_search.proofs.Beginning.{begin_gains}
 use Rattle.mh_search.proofs.begins.begin_in.Goals as goal
 

@@ -1,8 +1,8 @@
 use Rattle.mh_tables.specs.Table.{state_at}
-use Rattle.mh_past.specs.Rows.{Gains}
-use Rattle.mh_past.specs.Classes.{list_at}
+use Rattle.mh_ways.specs.Rows.{Gains}
+use Rattle.mh_ways.specs.Classes.{list_at}
 use Rattle.mh_search.specs.Begins.{BeginsBehind}
-use Rattle.mh_past.proofs.Gaining.{First}
+use Rattle.mh_ways.proofs.Gaining.{First}
 use Rattle.mh_search.proofs.begins.begin_in.Given as goal
 
 abbrev pub invariant-loop-edge : goal.invariant-loop-edge

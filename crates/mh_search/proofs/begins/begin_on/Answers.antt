@@ -1,6 +1,6 @@
 use Rattle.std.proofs.Common.{arith}
 use Rattle.mh_search.specs.Begins.{BeginsOn}
-use Rattle.mh_past.proofs.Gaining.{first_next, first_all}
+use Rattle.mh_ways.proofs.Gaining.{first_next, first_all}
 use Rattle.mh_search.proofs.begins.begin_on.Goals as goal
 
 pub loop-production-preserved : goal.loop-production-preserved

@@ -1,6 +1,6 @@
-use Rattle.mh_past.specs.Rows.{Gains}
+use Rattle.mh_ways.specs.Rows.{Gains}
 use Rattle.mh_search.specs.Begins.{BeginsOn}
-use Rattle.mh_past.proofs.Gaining.{First}
+use Rattle.mh_ways.proofs.Gaining.{First}
 use Rattle.mh_search.proofs.begins.begin_on.Given as goal
 
 abbrev pub invariant-loop-production : goal.invariant-loop-production

@@ -1,6 +1,6 @@
 use Rattle.std.proofs.Common.{arith}
 use Rattle.mh_search.specs.Begins.{EmptyOn}
-use Rattle.mh_past.proofs.Gaining.{first_next, first_all}
+use Rattle.mh_ways.proofs.Gaining.{first_next, first_all}
 use Rattle.mh_search.proofs.begins.begin_one.Goals as goal
 
 pub loop-token-preserved : goal.loop-token-preserved

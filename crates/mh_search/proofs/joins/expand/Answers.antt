@@ -3,7 +3,7 @@ use Rattle.mh_grammar.specs.declared.types.Symbol.TheVariants.{N}
 use Rattle.mh_grammar.specs.Plain.{rhs_of, lhs_of}
 use Rattle.mh_tables.specs.Table.{edge_of}
 use Rattle.mh_search.proofs.Meeting.{shift_expands, path_expands, whole_expands}
-use Rattle.mh_past.proofs.Edging.{symbol_token}
+use Rattle.mh_ways.proofs.Edging.{symbol_token}
 use Rattle.mh_search.proofs.joins.expand.Goals as goal
 
 pub returns-in_ok-meet_whole-in-Some : goal.returns-in_ok-meet_whole-in-Some

@@ -1,8 +1,8 @@
 use Rattle.std.proofs.Common.{◌+◌}
 use Rattle.std.specs.Prelude.{min}
 use Rattle.mh_least.specs.Orders.{cap}
-use Rattle.mh_past.specs.Rules.{FollowsWay}
-use Rattle.mh_past.proofs.Gaining.{gains_none, gains_only}
+use Rattle.mh_ways.specs.Rules.{FollowsWay}
+use Rattle.mh_ways.proofs.Gaining.{gains_none, gains_only}
 use Rattle.mh_search.proofs.joins.join.Goals as goal
 
 pub returns-in-None : goal.returns-in-None

@@ -1,6 +1,6 @@
 use Rattle.std.proofs.Common.{arith}
-use Rattle.mh_past.specs.Rules.{FollowsWay}
-use Rattle.mh_past.proofs.Gaining.{in_list, first_next, first_all}
+use Rattle.mh_ways.specs.Rules.{FollowsWay}
+use Rattle.mh_ways.proofs.Gaining.{in_list, first_next, first_all}
 use Rattle.mh_search.proofs.joins.join_ways.Goals as goal
 
 pub join-requires-clause-whole : goal.join-requires-clause-whole

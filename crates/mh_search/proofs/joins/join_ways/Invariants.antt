@@ -1,6 +1,6 @@
-use Rattle.mh_past.specs.Rows.{Gains}
-use Rattle.mh_past.specs.Rules.{FollowsWay}
-use Rattle.mh_past.proofs.Gaining.{First}
+use Rattle.mh_ways.specs.Rows.{Gains}
+use Rattle.mh_ways.specs.Rules.{FollowsWay}
+use Rattle.mh_ways.proofs.Gaining.{First}
 use Rattle.mh_search.proofs.joins.join_ways.Given as goal
 
 abbrev pub invariant-loop-whole : goal.invariant-loop-whole

@@ -1,10 +1,10 @@
 use Rattle.std.proofs.Common.{◌≡◌, ◌<◌, refl, ap, sym, ◌∙◌, arith, ◌++◌, ◌∷◌, [], length}
 use Rattle.std.specs.Global.{Vec}
-use Rattle.mh_past.specs.declared.work.Path.{Path}
-use Rattle.mh_past.specs.declared.work.Whole.{Whole}
-use Rattle.mh_past.specs.Rows.{row_of}
-use Rattle.mh_past.specs.Classes.{place_of}
-use Rattle.mh_past.proofs.Rowing.{row_is, files}
+use Rattle.mh_ways.specs.declared.work.Path.{Path}
+use Rattle.mh_ways.specs.declared.work.Whole.{Whole}
+use Rattle.mh_ways.specs.Rows.{row_of}
+use Rattle.mh_ways.specs.Classes.{place_of}
+use Rattle.mh_ways.proofs.Rowing.{row_is, files}
 use Rattle.mh_search.proofs.joins.meet_path.Goals as goal
 
 row_read : (c : goal.After-as_slice) → row_of c.args.work.now.wholes.items (place_of c.args.classes.now c.args.path.end c.args.path.key.next) ≡ c.as_slice.result.now

@@ -1,7 +1,7 @@
 use Rattle.std.proofs.Common.{◌≡◌, ◌<◌, ◌+◌, ap, ◌∙◌, arith, length, get_or, take}
-use Rattle.mh_past.specs.Classes.{list_at}
+use Rattle.mh_ways.specs.Classes.{list_at}
 use Rattle.mh_search.specs.Adding.{Adds}
-use Rattle.mh_past.specs.Rules.{whole_of}
+use Rattle.mh_ways.specs.Rules.{whole_of}
 use Rattle.mh_search.proofs.Taking.{take_more, take_whole}
 use Rattle.mh_search.proofs.Meeting.{meets_none, meets_more}
 use Rattle.mh_search.proofs.joins.meet_whole.Goals as goal

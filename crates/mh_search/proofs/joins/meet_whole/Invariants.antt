@@ -1,5 +1,5 @@
 use Rattle.std.specs.Prelude.{take}
-use Rattle.mh_past.specs.Classes.{list_at}
+use Rattle.mh_ways.specs.Classes.{list_at}
 use Rattle.mh_search.specs.Adding.{MeetsOn}
 use Rattle.mh_search.proofs.joins.meet_whole.Given as goal
 

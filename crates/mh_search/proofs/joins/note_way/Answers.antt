@@ -1,6 +1,6 @@
 use Rattle.std.proofs.Common.{refl}
-use Rattle.mh_past.proofs.Collecting.{collects_insert, insert_same, way_same}
-use Rattle.mh_past.specs.contracts.work.WayPartialEq.TheImpl.{ghosts}
+use Rattle.mh_ways.proofs.Collecting.{collects_insert, insert_same, way_same}
+use Rattle.mh_ways.specs.contracts.work.WayPartialEq.TheImpl.{ghosts}
 use Rattle.mh_search.proofs.joins.note_way.Goals as goal
 
 pub returns-clause-notes : goal.returns-clause-notes

@@ -1,10 +1,10 @@
 use Rattle.std.proofs.Common.{◌≡◌, [], ◌∷◌, sym, refl, ◌∙◌}
 use Rattle.mh_grammar.specs.declared.types.Symbol.TheVariants.{T}
 use Rattle.mh_tables.specs.Run.{Shifts, move_of}
-use Rattle.mh_past.specs.Classes.{rep_of}
+use Rattle.mh_ways.specs.Classes.{rep_of}
 use Rattle.mh_facts.specs.declared.store.Back.TheVariants as backs
-use Rattle.mh_past.specs.Rules.{further}
-use Rattle.mh_past.proofs.Edging.{shift_target}
+use Rattle.mh_ways.specs.Rules.{further}
+use Rattle.mh_ways.proofs.Edging.{shift_target}
 use Rattle.mh_search.proofs.Shifting.{shift_gains}
 use Rattle.mh_search.proofs.joins.shift.Goals as goal
 

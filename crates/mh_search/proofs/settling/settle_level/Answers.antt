@@ -1,5 +1,5 @@
 use Rattle.std.proofs.Common.{refl}
-use Rattle.mh_past.specs.declared.work.Work.{Work}
+use Rattle.mh_ways.specs.declared.work.Work.{Work}
 use Rattle.mh_search.proofs.Ranks.{level_numbers, level_ranked}
 use Rattle.mh_search.proofs.settling.settle_level.Goals as goal
 

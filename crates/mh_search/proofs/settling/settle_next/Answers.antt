@@ -1,10 +1,10 @@
 use Rattle.std.proofs.Common.{◌≡◌, ◌++◌, ◌∷◌, [], None, true, false, sym, ◌∙◌}
 use Rattle.mh_facts.specs.Stored.{fact_at}
-use Rattle.mh_past.specs.Rows.{Taken}
+use Rattle.mh_ways.specs.Rows.{Taken}
 use Rattle.mh_found.specs.Found.{IsStored}
 use Rattle.mh_search.specs.Good.{IsDone}
 use Rattle.mh_found.proofs.Queueing.{draws_none, draws_one, drop_done}
-use Rattle.mh_past.proofs.Wording.{some_there}
+use Rattle.mh_ways.proofs.Wording.{some_there}
 use Rattle.mh_search.proofs.Turns.{fact_of}
 use Rattle.mh_search.proofs.settling.settle_next.Goals as goal
 

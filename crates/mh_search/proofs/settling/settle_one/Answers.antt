@@ -1,9 +1,9 @@
 use Rattle.std.proofs.Common.{sym, ◌<◌, ◌+◌, refl, ◌++◌, ◌∷◌, [], None, Some, inl, drop}
-use Rattle.mh_past.specs.declared.work.Work.{Work}
+use Rattle.mh_ways.specs.declared.work.Work.{Work}
 use Rattle.mh_search.specs.Good.{SettlesNext}
 use Rattle.mh_search.specs.Ranking.{InLevel}
-use Rattle.mh_past.specs.Rules.{path_of, queue_of, InRange}
-use Rattle.mh_past.proofs.Counting.{unsettled}
+use Rattle.mh_ways.specs.Rules.{path_of, queue_of, InRange}
+use Rattle.mh_ways.proofs.Counting.{unsettled}
 use Rattle.mh_search.proofs.Turns.{fact_of}
 use Rattle.mh_search.proofs.Levels.{drop_get}
 use Rattle.mh_search.proofs.Ranging.{settles_less}

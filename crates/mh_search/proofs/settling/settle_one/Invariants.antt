@@ -1,6 +1,6 @@
 use Rattle.std.proofs.Common.{◌+◌, drop}
 use Rattle.mh_search.specs.Ranking.{InTurn}
-use Rattle.mh_past.proofs.Counting.{unsettled}
+use Rattle.mh_ways.proofs.Counting.{unsettled}
 use Rattle.mh_search.proofs.settling.settle_one.Given as goal
 
 abbrev pub invariant-turns : goal.invariant-turns

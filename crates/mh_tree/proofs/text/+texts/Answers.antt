@@ -1,5 +1,5 @@
 use Rattle.std.proofs.Common.{arith}
-use Rattle.mh_tree.proofs.Heights.{item_height_le}
+use Rattle.mh_grammar.proofs.Heights.{item_height_le}
 use Rattle.mh_tree.proofs.text.+texts.Goals as goal
 
 pub write_children-write_tree-requires : goal.write_children-write_tree-requires

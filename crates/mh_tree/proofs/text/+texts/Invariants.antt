@@ -1,5 +1,5 @@
 use Rattle.std.proofs.Common.{◌≡◌, ◌++◌, ◌+◌, ◌*◌, drop}
-use Rattle.mh_tree.specs.Trees.{height_of, forest_height, forest_text, forest_of}
+use Rattle.mh_grammar.specs.Trees.{height_of, forest_height, forest_text, forest_of}
 use Rattle.mh_tree.proofs.text.+texts.Given as goal
 
 abbrev pub decreases-write_tree : goal.decreases-write_tree

@@ -1,5 +1,5 @@
 use Rattle.std.proofs.Common.{arith}
-use Rattle.mh_tree.proofs.Heights.{item_height_le}
+use Rattle.mh_grammar.proofs.Heights.{item_height_le}
 use Rattle.mh_tree.proofs.tokens.+yields.Goals as goal
 
 pub push_children-push_tokens-requires : goal.push_children-push_tokens-requires

@@ -1,5 +1,5 @@
 use Rattle.std.proofs.Common.{◌≡◌, ◌++◌, ◌+◌, ◌*◌, drop}
-use Rattle.mh_tree.specs.Trees.{height_of, forest_height, forest_yield, forest_of}
+use Rattle.mh_grammar.specs.Trees.{height_of, forest_height, forest_yield, forest_of}
 use Rattle.mh_tree.proofs.tokens.+yields.Given as goal
 
 abbrev pub decreases-push_tokens : goal.decreases-push_tokens

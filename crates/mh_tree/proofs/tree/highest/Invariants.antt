@@ -1,6 +1,6 @@
 use Rattle.std.proofs.Common.{◌≡◌, ◌<◌, max, drop}
-use Rattle.mh_tree.specs.Trees.{forest_height, forest_of}
-use Rattle.mh_tree.specs.declared.tree.TheConstants.{MAX_HEIGHT}
+use Rattle.mh_grammar.specs.Trees.{forest_height, forest_of}
+use Rattle.mh_grammar.specs.declared.types.TheConstants.{MAX_HEIGHT}
 use Rattle.mh_tree.proofs.tree.highest.Given as goal
 
 abbrev pub invariant-loop-tree : goal.invariant-loop-tree

@@ -15,7 +15,7 @@ use Rattle.mh_grammar.specs.declared.types.Symbol.TheVariants.{N}
 use Rattle.mh_grammar.specs.Plain.{rhs_of, lhs_of}
 use Rattle.mh_tables.specs.Table.{TableData}
 use Rattle.std.proofs.Common.{ℕ, ◌<◌, length}
-use Rattle.mh_tree.specs.Trees.{height_of, Node, forest_of, SyntaxTree}
+use Rattle.mh_grammar.specs.Trees.{height_of, Node, forest_of, SyntaxTree}
 use Rattle.mh_engine.specs.Cells.{pushed}
 use Rattle.mh_engine.proofs.checkpoint.Checkpoint.reduce.Goals.{then-not-has_room-via-then-not-has_room, then-not-has_room-via-else-not-has_room+then-not-can_be_children}
 use Rattle.mh_engine.proofs.checkpoint.Checkpoint.reduce.Goals as goal

@@ -1,5 +1,5 @@
 use Rattle.std.proofs.Common.{◌≡◌, ℕ, ap, sym, refl, ◌∙◌, ◌++◌, ◌∷◌, [], ◌-◌, length, drop, arith}
-use Rattle.mh_tree.specs.Trees.{SyntaxTree}
+use Rattle.mh_grammar.specs.Trees.{SyntaxTree}
 use Rattle.mh_engine.specs.declared.stack.Cell.{Cell}
 use Rattle.mh_engine.specs.Cells.{pairs_of, pushed, taken}
 use Rattle.mh_engine.specs.Pairs.{Pairs}

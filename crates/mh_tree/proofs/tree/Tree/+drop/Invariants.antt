@@ -1,5 +1,5 @@
 use Rattle.std.proofs.Common.{◌<◌}
-use Rattle.mh_tree.specs.Trees.{height_of}
+use Rattle.mh_grammar.specs.Trees.{height_of}
 use Rattle.mh_tree.proofs.Counts.{all_nodes, all_heights}
 use Rattle.mh_tree.proofs.tree.Tree.+drop.Given as goal
 

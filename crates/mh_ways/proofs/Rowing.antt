@@ -1,0 +1,140 @@
+-- Rows that are made and filled.
+use Rattle.std.proofs.Common.{◌≡◌, ℕ, zero, suc, ◌<◌, ◌≤◌, ◌+◌, ◌⊎◌, inl, inr, get_or, List, [], ◌∷◌, ◌++◌, length, refl, ap, sym, arith, ◌∙◌}
+use Rattle.std.specs.Prelude.{slice_set}
+use Rattle.std.specs.Global.{Vec}
+use Rattle.std.specs.List.{Contains}
+use Rattle.mh_ways.specs.Rows.{row_of, Files, Gains, IsOne, Taken, NoneTaken}
+
+pub same_or : (n k : ℕ) → (n ≡ k) ⊎ (n ≡ k → ⊥)
+same_or zero zero = inl refl
+same_or zero (suc k) = inr (λ e. omega arith)
+same_or (suc n) zero = inr (λ e. omega arith)
+same_or (suc n) (suc k) = elim (same_or n k) [ inl e ↦ inl (ap suc e) | inr ne ↦ inr (λ e. ne (omega arith)) ]
+
+module _ {X : Type 0} where
+  -- an empty row behind rows
+  pub row_more : (rs : List (Vec X)) (v : Vec X) → v.items ≡ [] → (n : ℕ) → row_of (rs ++ v ∷ []) n ≡ row_of rs n
+  row_more [] v e zero = e
+  row_more [] v e (suc n) = refl
+  row_more (r ∷ rs) v e zero = refl
+  row_more (r ∷ rs) v e (suc n) = row_more rs v e n
+
+  pub row_past : (rs : List (Vec X)) (n : ℕ) → length rs ≤ n → row_of rs n ≡ []
+  row_past [] n le = refl
+  row_past (r ∷ rs) zero le = absurd (omega arith)
+  row_past (r ∷ rs) (suc n) le = row_past rs n (omega arith)
+
+  row_set_here : (rs : List (Vec X)) (k : ℕ) (v : Vec X) → k < length rs → row_of (slice_set rs k v) k ≡ v.items
+  row_set_here [] k v lt = absurd (omega arith)
+  row_set_here (r ∷ rs) zero v lt = refl
+  row_set_here (r ∷ rs) (suc k) v lt = row_set_here rs k v (omega arith)
+
+  row_set_other : (rs : List (Vec X)) (k n : ℕ) (v : Vec X) → (n ≡ k → ⊥) → row_of (slice_set rs k v) n ≡ row_of rs n
+  row_set_other [] k n v ne = refl
+  row_set_other (r ∷ rs) zero zero v ne = absurd (ne refl)
+  row_set_other (r ∷ rs) zero (suc n) v ne = refl
+  row_set_other (r ∷ rs) (suc k) zero v ne = refl
+  row_set_other (r ∷ rs) (suc k) (suc n) v ne = row_set_other rs k n v (λ e. ne (ap suc e))
+
+  pub row_is : (rs : List (Vec X)) (n : ℕ) (d : Vec X) → n < length rs → row_of rs n ≡ (get_or rs n d).items
+  row_is [] n d lt = absurd (omega arith)
+  row_is (r ∷ rs) zero d lt = refl
+  row_is (r ∷ rs) (suc n) d lt = row_is rs n d (omega arith)
+
+  set_length : (rs : List (Vec X)) (n : ℕ) (v : Vec X) → length (slice_set rs n v) ≡ length rs
+  set_length [] n v = refl
+  set_length (r ∷ rs) zero v = refl
+  set_length (r ∷ rs) (suc n) v = ap suc (set_length rs n v)
+
+  pub contains_front : (xs : List X) (p q : X) → Contains xs q → Contains (xs ++ p ∷ []) q
+  contains_front [] p q h = absurd (let l = h.1 in omega arith)
+  contains_front (x ∷ xs) p q (zero, lt, e) = (zero, omega arith, e)
+  contains_front (x ∷ xs) p q (suc n, lt, e) = let r = contains_front xs p q (n, omega arith, e) in (suc r.0, (let l = r.1 in omega arith), r.2)
+
+  pub contains_last : (xs : List X) (p : X) → Contains (xs ++ p ∷ []) p
+  contains_last [] p = (0, omega arith, refl)
+  contains_last (x ∷ xs) p = let r = contains_last xs p in (suc r.0, (let l = r.1 in omega arith), r.2)
+
+  pub contains_either : (xs : List X) (p q : X) → Contains (xs ++ p ∷ []) q → Contains xs q ⊎ (q ≡ p)
+  contains_either [] p q (zero, lt, e) = inr (sym e)
+  contains_either [] p q (suc n, lt, e) = absurd (omega arith)
+  contains_either (x ∷ xs) p q (zero, lt, e) = inl (zero, omega arith, e)
+  contains_either (x ∷ xs) p q (suc n, lt, e) = elim (contains_either xs p q (n, omega arith, e)) [ inl h ↦ inl (suc h.0, (let l = h.1 in omega arith), h.2) | inr is ↦ inr is ]
+
+  pub none_in : (xs : List X) (p : X) → xs ≡ [] → Contains xs p → ⊥
+  none_in [] p e h = (let l = h.1 in omega arith)
+  none_in (x ∷ xs) p e h = absurd (let l : length (x ∷ xs) ≡ 0 = ap length e in omega arith)
+
+  -- one row becomes v
+  module _ (rs new : List (Vec X)) (k : ℕ) (d v : Vec X) (lt : k < length rs) (is : new ≡ slice_set rs k v) where
+    row_at_set : row_of new k ≡ v.items
+    row_at_set = ap (λ (l : List (Vec X)). row_of l k) is ∙ row_set_here rs k v lt
+
+    row_beside : (n : ℕ) → (n ≡ k → ⊥) → row_of new n ≡ row_of rs n
+    row_beside n ne = ap (λ (l : List (Vec X)). row_of l n) is ∙ row_set_other rs k n v ne
+
+    pub files : (p : X) → v.items ≡ (get_or rs k d).items ++ p ∷ [] → Files rs new k p
+    files p items =
+        let here : row_of new k ≡ row_of rs k ++ p ∷ [] = rw (row_is rs k d lt) (row_at_set ∙ items) in
+        record {
+          rows = ap length is ∙ set_length rs k v;
+          here = rw here (contains_last (row_of rs k) p);
+          kept = λ n q h. elim (same_or n k) [
+            | inl e ↦ (let r : row_of new n ≡ row_of rs n ++ p ∷ [] = rw e here in rw r (contains_front (row_of rs n) p q h))
+            | inr ne ↦ rw (row_beside n ne) h
+          ];
+          only = λ n q h. elim (same_or n k) [
+            | inl e ↦ (let r : row_of new n ≡ row_of rs n ++ p ∷ [] = rw e here in elim (contains_either (row_of rs n) p q (rw r at h)) [ inl was ↦ inl was | inr is' ↦ inr (e, is') ])
+            | inr ne ↦ inl (rw (row_beside n ne) at h)
+          ];
+        }
+
+    pub takes : (p : X) → (get_or rs k d).items ≡ v.items ++ p ∷ [] → Taken rs new k p
+    takes p items =
+        let was : row_of rs k ≡ v.items ++ p ∷ [] = row_is rs k d lt ∙ items in
+        record {
+          was = rw was (contains_last v.items p);
+          kept = λ n q h. elim (same_or n k) [
+            | inl e ↦ (
+                let r : row_of rs n ≡ v.items ++ p ∷ [] = rw e was in
+                let r' : row_of new n ≡ v.items = rw e row_at_set in
+                elim (contains_either v.items p q (rw r at h)) [ inl still ↦ inl (rw r' still) | inr is' ↦ inr (e, is') ])
+            | inr ne ↦ inl (rw (row_beside n ne) h)
+          ];
+          only = λ n q h. elim (same_or n k) [
+            | inl e ↦ (
+                let r : row_of rs n ≡ v.items ++ p ∷ [] = rw e was in
+                let r' : row_of new n ≡ v.items = rw e row_at_set in
+                rw r (contains_front v.items p q (rw r' at h)))
+            | inr ne ↦ rw (← row_beside n ne) h
+          ];
+          fewer = (let l : length (row_of rs k) ≡ length v.items + 1 = ap length was ∙ length_last v.items p in let m : length (row_of new k) ≡ length v.items = ap length row_at_set in omega arith);
+        }
+      where
+        length_last : (xs : List X) (x : X) → length (xs ++ x ∷ []) ≡ length xs + 1
+        length_last [] x = refl
+        length_last (y ∷ xs) x = let l = length_last xs x in omega arith
+
+  -- what is filed in a queue waits
+  pub files_gain : (old mid new : List (Vec X)) (k : ℕ) (p : X) → ((n : ℕ) → row_of mid n ≡ row_of old n) → Files mid new k p → Gains (IsOne k p) old new
+  files_gain old mid new k p same f = record {
+    kept = λ n q h. f.kept n q (rw (same n) h);
+    all = λ n q is. rw (is.0, is.1) f.here;
+    only = λ n q h. elim (f.only n q h) [ inl was ↦ inl (rw (same n) at was) | inr is ↦ inr is ];
+  }
+
+  pub no_items : (xs : List X) → length xs ≡ 0 → xs ≡ []
+  no_items [] e = refl
+  no_items (x ∷ xs) e = absurd (omega arith)
+
+  -- an empty row of which nothing is taken
+  pub none_taken : (rs : List (Vec X)) (k : ℕ) (d v : Vec X) → k < length rs → (get_or rs k d).items ≡ v.items ++ [] → length v.items ≡ 0 → NoneTaken rs (slice_set rs k v) k
+  none_taken rs k d v lt items long =
+      let none : v.items ≡ [] = no_items v.items long in
+      let was : row_of rs k ≡ [] = row_is rs k d lt ∙ items ∙ rw none refl in
+      let now : row_of (slice_set rs k v) k ≡ [] = row_set_here rs k v lt ∙ none in
+      record {
+        none = λ o h. none_in (row_of rs k) o was h;
+        kept = λ n o h. elim (same_or n k) [ inl e ↦ absurd (none_in (row_of rs k) o was (rw e at h)) | inr ne ↦ rw (row_set_other rs k n v ne) h ];
+        only = λ n o h. elim (same_or n k) [ inl e ↦ absurd (none_in (row_of (slice_set rs k v) k) o now (rw e at h)) | inr ne ↦ rw (row_set_other rs k n v ne) at h ];
+      }
