@@ -6,12 +6,11 @@ ghost use Rattle.mh_past.specs.Past.{IsPast};
 ghost use Rattle.mh_ways.specs.Classes.{IsClasses, rep_of};
 ghost use Rattle.mh_past.specs.Classing.{Stands, IsRow, IsClassFor, IsPartition, IsAlike, AreAlike, AreTokens, agrees};
 
-use crate::classes::{Class, Classes, class_of};
-use crate::left::by_left_side;
 use crate::past::{Reduction, past_of};
 use indexmap::IndexSet;
 use mh_grammar::{Memory, Token};
 use mh_tables::{Choice, Table, choose};
+use mh_ways::{Class, Classes, by_left_side, class_of};
 use std::alloc::Global;
 
 /// Whether a state reduces a production in front of a token.

@@ -7,10 +7,10 @@ ghost use Rattle.mh_ways.specs.Left.{IsByLeft};
 ghost use Rattle.mh_ways.specs.Rows.{Collects};
 ghost use Rattle.mh_past.specs.Past.{EndOf, PastOne, PastOn, PastBehind, PastIn, IsPast};
 
-use crate::left::{ByLeft, productions_of};
 use indexmap::IndexSet;
 use mh_grammar::{Edge, Memory, Symbol, find_edge};
 use mh_tables::Table;
+use mh_ways::{ByLeft, productions_of};
 use std::alloc::Global;
 
 /// A reduction in the past of a state: the state that reduces, the production, and the state that its nonterminal leads
