@@ -8,14 +8,14 @@ use mh_grammar::{Memory, Token};
 use std::alloc::Global;
 
 /// A state, and a representative of the tokens that may come.
-#[derive(Clone, Copy, Debug, PartialEq, Eq, Hash, Drop)]
+#[derive(Clone, Copy, PartialEq, Eq, Hash, Drop)]
 pub struct Spot {
     pub state: u32,
     pub next: Token,
 }
 
 /// How a spot is reached.
-#[derive(Clone, Copy, Debug, Drop)]
+#[derive(Clone, Copy, Drop)]
 pub enum Step {
     /// The run of this start begins there.
     Begin(u16),
@@ -26,7 +26,7 @@ pub enum Step {
 }
 
 /// A spot that is reached: at which cost, and how.
-#[derive(Clone, Copy, Debug, Drop)]
+#[derive(Clone, Copy, Drop)]
 pub struct Arrival {
     pub cost: u32,
     pub step: Step,

@@ -22,7 +22,7 @@ pub enum ConflictKind {
 }
 
 /// What the levels of a production and of a token say of reducing against shifting.
-#[derive(Clone, Copy, Debug, PartialEq, Eq)]
+#[derive(Clone, Copy)]
 pub enum Comparison {
     /// The reduction is taken.
     Reduces,

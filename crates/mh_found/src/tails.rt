@@ -11,7 +11,7 @@ use mh_ways::CAP;
 use mh_tables::Table;
 
 /// A part of a word.
-#[derive(Clone, Copy, Debug, Drop)]
+#[derive(Clone, Copy, Drop)]
 pub enum Part {
     Token(Token),
     /// The word of a settled fact.

@@ -1,6 +1,7 @@
 -- How classes of tokens are made and tested.
-use Rattle.std.specs.Prelude.{◌≡◌, ℕ, List, [], ◌∷◌, length, slice_get, Some, ◌<◌, ◌≤◌, ◌⊎◌, Bool, true, false}
+use Rattle.std.specs.Prelude.{◌≡◌, ℕ, List, [], ◌∷◌, ◌++◌, length, slice_get, Some, ◌<◌, ◌≤◌, ◌⊎◌, Bool, true, false}
 use Rattle.std.specs.List.{Contains}
+use Rattle.std.specs.Global.{Vec}
 use Rattle.mh_tables.specs.Table.{TableData}
 use Rattle.mh_tables.specs.Run.{Reduces, move_of}
 use Rattle.mh_ways.specs.declared.classes.Class.{Class}
@@ -29,6 +30,15 @@ pub record IsRow (n : ℕ) (given : List ℕ) (row : List Class) (list : List �
   pub nothing : given ≡ [] → (z : ℕ) (k : Class) → slice_get row z ≡ Some k → k.representative ≡ z
   pub list_all : (z : ℕ) (k : Class) → slice_get row z ≡ Some k → Contains list k.representative
   pub list_only : (x : ℕ) → Contains list x → (k : Class) × (slice_get row x ≡ Some k) × (k.representative ≡ x)
+
+-- the classes of one state more
+pub record AddsRow (tokens : ℕ) (given : List ℕ) (old new : Classes) : Type 0 where
+  pub row : Vec Class
+  pub list : Vec ℕ
+  pub is : IsRow tokens given row.items list.items new.places
+  pub grown : old.places ≤ new.places
+  pub rows : new.rows.items ≡ old.rows.items ++ row ∷ []
+  pub lists : new.lists.items ≡ old.lists.items ++ list ∷ []
 
 -- each token has a representative, which stands for itself and is listed
 pub record IsPartition (t : TableData) (c : Classes) : Type 0 where

@@ -3,8 +3,8 @@ ghost use Rattle.std.specs.Prelude.{◌≡◌, ◌<◌, ◌≤◌, ◌↔◌, �
 ghost use Rattle.mh_tables.specs.Run.{Reduces, move_of};
 ghost use Rattle.mh_least.specs.Least.{GoesLike};
 ghost use Rattle.mh_past.specs.Past.{IsPast};
-ghost use Rattle.mh_ways.specs.Classes.{IsClasses, rep_of};
-ghost use Rattle.mh_past.specs.Classing.{Stands, IsRow, IsClassFor, IsPartition, IsAlike, AreAlike, AreTokens, agrees};
+ghost use Rattle.mh_past.specs.Classes.{IsClasses, rep_of};
+ghost use Rattle.mh_past.specs.Classing.{Stands, IsRow, IsClassFor, AddsRow, IsPartition, IsAlike, AreAlike, AreTokens, agrees};
 
 use crate::past::{Reduction, past_of};
 use indexmap::IndexSet;
@@ -182,26 +182,36 @@ fn given_row<'a>(given: &'a [Vec<Token>], nothing: &'a [Token], state: u32) -> &
     }
 }
 
+/// Puts the classes of the next state in.
+fn add_row(
+    alloc: Global,
+    tokens: Token,
+    given: &[Token],
+    classes: &mut Classes,
+) -> Result<(), Memory>
+    ensures { OnOk result (AddsRow tokens given.now classes.old classes.new) }
+{
+    let row = number_row(alloc, tokens, given, &mut classes.places)?;
+    classes.rows.push(row.classes)?;
+    classes.lists.push(row.list)?;
+    Ok(())
+}
+
 /// The classes of all states, by the representatives that are given; where none are, each token stands for itself.
 fn number(alloc: Global, table: &Table, given: &[Vec<Token>]) -> Result<Classes, Memory>
     ensures partition { IfOk result (IsPartition table.now) }
     ensures each { given.now ≡ [] → IfOk result (λ classes. AreTokens table.now classes) }
 {
-    let nothing = Vec::new(alloc);
-    let mut rows = Vec::new(alloc);
-    let mut lists = Vec::new(alloc);
-    let mut places = 0;
+    let mut classes = Classes {
+        rows: Vec::new(alloc),
+        lists: Vec::new(alloc),
+        places: 0,
+    };
     for state in 0..table.states() {
-        let given = given_row(given, nothing.as_slice(), state);
-        let row = number_row(alloc, table.tokens(), given, &mut places)?;
-        rows.push(row.classes)?;
-        lists.push(row.list)?;
+        let given = given_row(given, &[], state);
+        add_row(alloc, table.tokens(), given, &mut classes)?;
     }
-    Ok(Classes {
-        rows,
-        lists,
-        places,
-    })
+    Ok(classes)
 }
 
 /// The representative of a token in a row, 0 where it has none.
@@ -299,9 +309,7 @@ fn forget(row: &[Token], tokens: Token, scratch: &mut Scratch) {
 fn renew(row: &mut Vec<Token>, fresh: &[Token]) -> bool {
     let mut changed = false;
     for place in 0..fresh.len() {
-        if put(row, place, fresh[place]) {
-            changed = true;
-        }
+        changed |= put(row, place, fresh[place]);
     }
     changed
 }
@@ -318,32 +326,32 @@ fn split(row: &mut Vec<Token>, tokens: Token, scratch: &mut Scratch) -> bool {
 fn rows_of(alloc: Global, states: u32, tokens: Token) -> Result<Vec<Vec<Token>>, Memory> {
     let mut rows = Vec::new(alloc);
     for _ in 0..states {
-        rows.push(filled(alloc, tokens as usize, 0)?)?;
+        rows.push(vec![in alloc; 0; tokens as usize]?)?;
     }
     Ok(rows)
 }
 
-fn filled(alloc: Global, count: usize, value: Token) -> Result<Vec<Token>, Memory> {
-    let mut row = Vec::new(alloc);
-    for _ in 0..count {
-        row.push(value)?;
-    }
-    Ok(row)
-}
-
-fn marks_of(alloc: Global, count: usize) -> Result<Vec<usize>, Memory> {
-    let mut row = Vec::new(alloc);
-    for _ in 0..count {
-        row.push(0)?;
-    }
-    Ok(row)
-}
-
 fn scratch_for(alloc: Global, tokens: Token) -> Result<Scratch, Memory> {
-    let marks = marks_of(alloc, tokens as usize)?;
-    let seen = filled(alloc, tokens as usize * (tokens as usize + 1), u16::MAX)?;
-    let fresh = filled(alloc, tokens as usize, 0)?;
-    Ok(Scratch { marks, seen, fresh })
+    let count = tokens as usize;
+    Ok(Scratch {
+        marks: vec![in alloc; 0; count]?,
+        seen: vec![in alloc; u16::MAX; count * (count + 1)]?,
+        fresh: vec![in alloc; 0; count]?,
+    })
+}
+
+/// Splits the classes of the state that a reduction leads to. Whether a class was split.
+fn refine_by(
+    table: &Table,
+    reduction: Reduction,
+    rows: &mut Vec<Vec<Token>>,
+    scratch: &mut Scratch,
+) -> bool {
+    mark(table, rows.as_slice(), reduction, &mut scratch.marks);
+    match rows.get_mut(reduction.target as usize) {
+        None => false,
+        Some(row) => split(row, table.tokens(), scratch),
+    }
 }
 
 /// One pass of the refinement over all reductions. Whether a class was split.
@@ -356,13 +364,27 @@ fn refine_once(
     let mut changed = false;
     for place in 0..past.len() {
         if let Some(reduction) = past.get_index(place) {
-            mark(table, rows.as_slice(), *reduction, &mut scratch.marks);
-            if let Some(row) = rows.get_mut(reduction.target as usize) {
-                changed = split(row, table.tokens(), scratch) || changed;
-            }
+            changed |= refine_by(table, *reduction, rows, scratch);
         }
     }
     changed
+}
+
+/// Refines representatives until no pass splits a class.
+fn refine(
+    alloc: Global,
+    table: &Table,
+    past: &IndexSet<Reduction>,
+    rows: &mut Vec<Vec<Token>>,
+) -> Result<(), Memory> {
+    let tokens = table.tokens();
+    let mut scratch = scratch_for(alloc, tokens)?;
+    for _ in 0..table.states() as usize * tokens as usize {
+        if !refine_once(table, past, rows, &mut scratch) {
+            break;
+        }
+    }
+    Ok(())
 }
 
 /// Representatives, so that tokens of one class go alike in all reductions: the coarsest such classes.
@@ -371,14 +393,8 @@ fn refined(
     table: &Table,
     past: &IndexSet<Reduction>,
 ) -> Result<Vec<Vec<Token>>, Memory> {
-    let tokens = table.tokens();
-    let mut rows = rows_of(alloc, table.states(), tokens)?;
-    let mut scratch = scratch_for(alloc, tokens)?;
-    for _ in 0..table.states() as usize * tokens as usize {
-        if !refine_once(table, past, &mut rows, &mut scratch) {
-            break;
-        }
-    }
+    let mut rows = rows_of(alloc, table.states(), table.tokens())?;
+    refine(alloc, table, past, &mut rows)?;
     Ok(rows)
 }
 
@@ -390,17 +406,40 @@ fn all_past(alloc: Global, table: &Table) -> Result<IndexSet<Reduction>, Memory>
     past_of(alloc, table, &left)
 }
 
+/// The classes that the refinement finds.
+fn found_classes(
+    alloc: Global,
+    table: &Table,
+    past: &IndexSet<Reduction>,
+) -> Result<Classes, Memory>
+    ensures { IfOk result (IsPartition table.now) }
+{
+    let rows = refined(alloc, table, past)?;
+    number(alloc, table, rows.as_slice())
+}
+
+/// The classes that were found, or, where their tokens do not go alike, each token by itself.
+fn tested_classes(
+    alloc: Global,
+    table: &Table,
+    past: &IndexSet<Reduction>,
+) -> Result<Classes, Memory>
+    requires { IsPast table.now past.now.keys }
+    ensures { IfOk result (IsClasses table.now) }
+{
+    let classes = found_classes(alloc, table, past)?;
+    if go_alike(table, &classes, past) {
+        return Ok(classes);
+    }
+    each_by_itself(alloc, table)
+}
+
 /// Classes of tokens that go alike: those that were found, or, where they do not, each token by itself.
 pub fn classes_of(alloc: Global, table: &Table) -> Result<Classes, Memory>
     ensures { IfOk result (IsClasses table.now) }
 {
     let past = all_past(alloc, table)?;
-    let rows = refined(alloc, table, &past)?;
-    let classes = number(alloc, table, rows.as_slice())?;
-    if go_alike(table, &classes, &past) {
-        return Ok(classes);
-    }
-    each_by_itself(alloc, table)
+    tested_classes(alloc, table, &past)
 }
 
 /// Each token by itself.

@@ -1,5 +1,5 @@
 //! What follows from settled facts.
-ghost use Rattle.std.specs.Prelude.{◌≡◌, ◌<◌, ◌≤◌, ◌↔◌, ◌+◌, ◌∷◌, [], IsTrue, IfOk, OnOk, false, min, length, slice_get, Some};
+ghost use Rattle.std.specs.Prelude.{◌≡◌, ◌<◌, ◌≤◌, ◌↔◌, ◌+◌, ◌^◌, ◌∷◌, [], IsTrue, IfOk, OnOk, false, min, length, slice_get, Some};
 ghost use Rattle.mh_grammar.specs.declared.types.Symbol.TheVariants.{T, N};
 ghost use Rattle.mh_grammar.specs.Plain.{rhs_of, lhs_of};
 ghost use Rattle.mh_tables.specs.Table.{edge_of};
@@ -56,7 +56,7 @@ fn shift(
     requires path { InRange table.now path }
     requires symbol { slice_get (rhs_of table.now.grammar path.key.production) path.key.dot ≡ Some (T token) }
     requires token { token < table.now.grammar.tokens }
-    requires room { path.key.dot + 1 < 4294967296 }
+    requires room { path.key.dot + 1 < 2 ^ 32 }
     ensures { OnOk result (Gains (FollowsShift table.now (rep_of classes.now) path) queue.old.buckets.items queue.new.buckets.items) }
 {
     table.facts();

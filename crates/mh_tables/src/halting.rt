@@ -11,7 +11,7 @@ use std::marker::Model;
 pub const MAX_REDUCTIONS: u32 = 10_000;
 
 /// A table on which no relative run makes more than `MAX_REDUCTIONS` reductions, so that every run ends.
-#[derive(Debug, Drop)]
+#[derive(Drop)]
 pub struct Halting {
     table: Table,
 }

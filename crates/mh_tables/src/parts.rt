@@ -22,7 +22,7 @@ pub enum Fallback {
 }
 
 /// A production and a dot in its right side.
-#[derive(Clone, Copy, Debug, PartialEq, Eq)]
+#[derive(Clone, Copy)]
 pub struct CoreItem {
     /// The production's number, below the count of productions; start productions come first.
     pub production: u32,
@@ -31,7 +31,7 @@ pub struct CoreItem {
 }
 
 /// A state: a cell for each token, perhaps a default, its edges in the order of symbols, and its core.
-#[derive(Debug, Drop)]
+#[derive(Drop)]
 pub struct StateParts {
     pub cells: Sequence<Action>,
     pub fallback: Option<Fallback>,

@@ -17,7 +17,7 @@ use std::marker::Model;
 
 /// The table of an LR(1) parser: the states with their cells, defaults, edges and cores, and the grammar without
 /// its names. Each one keeps the facts of its type, so that a reduction of a run always finds its symbols and its goto.
-#[derive(Debug, Drop)]
+#[derive(Drop)]
 pub struct Table {
     tokens: u16,
     nonterminals: u16,

@@ -1,5 +1,5 @@
 -- Rows that are made and filled.
-use Rattle.std.proofs.Common.{◌≡◌, ℕ, zero, suc, ◌<◌, ◌≤◌, ◌+◌, ◌⊎◌, inl, inr, get_or, List, [], ◌∷◌, ◌++◌, length, refl, ap, sym, arith, ◌∙◌}
+use Rattle.std.proofs.Common.{◌≡◌, ℕ, zero, suc, ◌<◌, ◌≤◌, ◌+◌, ◌⊎◌, inl, inr, get_or, List, [], ◌∷◌, ◌++◌, length, refl, ap, sym, arith, ◌∙◌, length-append}
 use Rattle.std.specs.Prelude.{slice_set}
 use Rattle.std.specs.Global.{Vec}
 use Rattle.std.specs.List.{Contains}
@@ -23,6 +23,16 @@ module _ {X : Type 0} where
   row_past [] n le = refl
   row_past (r ∷ rs) zero le = absurd (omega arith)
   row_past (r ∷ rs) (suc n) le = row_past rs n (omega arith)
+
+  -- empty rows, one after another
+  pub empty_begin : (rs : List (Vec X)) → rs ≡ [] → (length rs ≡ 0) × ((n : ℕ) → row_of rs n ≡ [])
+  empty_begin rs e = (ap length e, λ n. ap (λ (l : List (Vec X)). row_of l n) e)
+
+  pub empty_more : (rs new : List (Vec X)) (v : Vec X) (k : ℕ) → new ≡ rs ++ v ∷ [] → v.items ≡ [] → (length rs ≡ k) × ((n : ℕ) → row_of rs n ≡ []) → (length new ≡ k + 1) × ((n : ℕ) → row_of new n ≡ [])
+  empty_more rs new v k e none h = (
+    ap length e ∙ length-append rs (v ∷ []) ∙ ap (λ (n : ℕ). n + 1) h.0,
+    λ n. ap (λ (l : List (Vec X)). row_of l n) e ∙ row_more rs v none n ∙ h.1 n,
+  )
 
   row_set_here : (rs : List (Vec X)) (k : ℕ) (v : Vec X) → k < length rs → row_of (slice_set rs k v) k ≡ v.items
   row_set_here [] k v lt = absurd (omega arith)

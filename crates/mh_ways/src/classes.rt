@@ -6,7 +6,7 @@ use mh_grammar::Token;
 use mh_tables::Table;
 
 /// The class of a token in a state.
-#[derive(Clone, Copy, Debug, Drop)]
+#[derive(Clone, Copy, Drop)]
 pub struct Class {
     /// The token that stands for the class.
     pub representative: Token,

@@ -5,7 +5,7 @@ use mh_facts::{Back, FactKey};
 use mh_grammar::Token;
 
 /// A fact that waits: the state at its end and what it came from.
-#[derive(Clone, Copy, Debug, Drop)]
+#[derive(Clone, Copy, Drop)]
 pub struct Item {
     pub key: FactKey,
     pub end: u32,
@@ -13,7 +13,7 @@ pub struct Item {
 }
 
 /// A settled fact: the state at its end and its cost.
-#[derive(Clone, Copy, Debug, Drop)]
+#[derive(Clone, Copy, Drop)]
 pub struct Path {
     pub key: FactKey,
     pub end: u32,
@@ -22,7 +22,7 @@ pub struct Path {
 
 /// A way over a nonterminal: the whole fact that is reduced to it, the state that it leads to, and a representative of
 /// that state which may come next.
-#[derive(Clone, Copy, Debug, Drop)]
+#[derive(Clone, Copy, Drop)]
 pub struct Whole {
     pub inner: FactKey,
     pub nonterminal: u16,
@@ -32,7 +32,7 @@ pub struct Whole {
 }
 
 /// What two ways may have in common, so that the first found serves for both.
-#[derive(Clone, Copy, Debug, PartialEq, Eq, Hash, Drop)]
+#[derive(Clone, Copy, PartialEq, Eq, Hash, Drop)]
 pub struct Way {
     pub from: u32,
     pub nonterminal: u16,

@@ -8,6 +8,7 @@ use Rattle.mh_words.specs.declared.made.Entry.{Entry}
 use Rattle.mh_words.specs.declared.numbering.Distinct.{Distinct}
 use Rattle.mh_words.specs.declared.numbering.Given.{Given}
 use Rattle.mh_words.specs.declared.numbering.Numbered.{Numbered}
+use Rattle.mh_words.specs.Rising.{NoLater, Same, Sorts}
 use Rattle.mh_words.specs.Words.{Words, IsSound, Knows, Before, IsFront, letters_of, group_of, spelled, words_of}
 
 -- what each is made of is there
@@ -55,6 +56,12 @@ pub record PutsOnce (old new : Distinct) (m : Made) : Type 0 where
 -- two words that differ
 abbrev pub AreApart : List ℕ → List ℕ → Type 0
 AreApart u v = (Before u v ⊎ IsFront u v) ⊎ (Before v u ⊎ IsFront v u)
+
+-- the same words in their order
+pub record Orders (words : Words) (made ordered : List Made) : Type 0 where
+  pub distinct : List Made
+  pub same : Same made distinct
+  pub sorts : Sorts (NoLater words) distinct ordered
 
 -- whether two words are equal
 abbrev pub IsEqual : Words → Made → Made → Bool → Type 0

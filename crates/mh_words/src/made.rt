@@ -2,7 +2,7 @@
 use mh_grammar::Token;
 
 /// What a word ends with.
-#[derive(Clone, Copy, Debug, PartialEq, Eq, Hash, Drop)]
+#[derive(Clone, Copy, PartialEq, Eq, Hash, Drop)]
 pub enum Last {
     Token(Token),
     /// The word of this number.
@@ -10,14 +10,14 @@ pub enum Last {
 }
 
 /// A word: the earlier word that it begins with, and what stands behind it.
-#[derive(Clone, Copy, Debug, PartialEq, Eq, Hash, Drop)]
+#[derive(Clone, Copy, PartialEq, Eq, Hash, Drop)]
 pub struct Made {
     pub front: usize,
     pub last: Last,
 }
 
 /// A word of a book.
-#[derive(Clone, Copy, Debug, Drop)]
+#[derive(Clone, Copy, Drop)]
 pub struct Entry {
     pub made: Made,
     pub group: u32,

@@ -1,7 +1,7 @@
 //! Numbers for words: by their order, equal words one.
 ghost use Rattle.std.specs.Prelude.{◌≡◌, ◌<◌, ◌+◌, IfOk, IsSome, OnOk, Some, length, slice_get};
 ghost use Rattle.std.specs.List.{Contains};
-ghost use Rattle.mh_words.specs.Numbered.{AddsNew, AreBelowGroup, AreEven, AreKnown, AreNumbers, Gives, IsEqual, IsNumbered, IsOnce, IsRepeated, PutsOnce, number_in};
+ghost use Rattle.mh_words.specs.Numbered.{AddsNew, AreBelowGroup, AreEven, AreKnown, AreNumbers, Gives, IsEqual, IsNumbered, IsOnce, IsRepeated, Orders, PutsOnce, number_in};
 ghost use Rattle.mh_words.specs.Rising.{NoLater, Rises, Same};
 ghost use Rattle.mh_words.specs.Words.{IsSound, Knows, words_of};
 
@@ -68,7 +68,7 @@ fn is_equal(entries: &[Entry], rests: &mut Rests, left: Made, right: Made) -> Re
 }
 
 /// Words in their order, to be numbered in a group.
-#[derive(Clone, Copy, Debug, Drop)]
+#[derive(Clone, Copy, Drop)]
 struct Ordered<'a> {
     group: u32,
     made: &'a [Made],
@@ -177,6 +177,14 @@ pub struct Numbered {
     pub numbers: Vec<usize>,
 }
 
+/// The number of a word that has one.
+fn number_for(given: &Given, made: &Made) -> usize
+    requires { IsSome (number_in given.now made.now) }
+    ensures { Some result ≡ number_in given.now made.now }
+{
+    given.numbers.get(made).copied().unwrap()
+}
+
 /// The numbers of some words, in their places.
 fn numbers_of(alloc: Global, given: &Given, made: &[Made]) -> Result<Vec<usize>, Memory>
     requires { (m : Made) → Contains made.now m → IsSome (number_in given.now m) }
@@ -184,12 +192,48 @@ fn numbers_of(alloc: Global, given: &Given, made: &[Made]) -> Result<Vec<usize>,
 {
     let mut numbers = Vec::new(alloc);
     for one in made {
-        match given.numbers.get(one) {
-            None => unreachable!(),
-            Some(number) => numbers.push(*number)?,
-        }
+        numbers.push(number_for(given, one))?;
     }
     Ok(numbers)
+}
+
+/// The same words in their order, those that are made alike once.
+fn in_order(
+    alloc: Global,
+    entries: &[Entry],
+    rests: &mut Rests,
+    made: &[Made],
+) -> Result<Vec<Made>, Memory>
+    requires sound { IsSound entries.now }
+    requires known { AreKnown (words_of entries.now) made.now }
+    ensures { IfOk result (λ words. Orders (words_of entries.now) made.now words.items) }
+{
+    let distinct = distinct_of(alloc, made)?;
+    let order = BySpelling { entries };
+    sorted(alloc, &order, rests, distinct.as_slice())
+}
+
+/// Gives each of some words a number, by the same words in their order.
+fn number_ordered(
+    alloc: Global,
+    entries: &[Entry],
+    rests: &mut Rests,
+    ordered: &Ordered,
+    made: &[Made],
+) -> Result<Numbered, Memory>
+    requires sound { IsSound entries.now }
+    requires known { AreKnown (words_of entries.now) made.now }
+    requires fresh { AreBelowGroup (words_of entries.now) ordered.now.group }
+    requires even { AreEven (words_of entries.now) made.now }
+    requires orders { Orders (words_of entries.now) made.now ordered.now.made.now }
+    ensures { IfOk result (λ numbered. IsNumbered entries.now ordered.now.group made.now numbered) }
+{
+    let given = give(alloc, entries, rests, ordered)?;
+    let numbers = numbers_of(alloc, &given, made)?;
+    Ok(Numbered {
+        entries: given.entries,
+        numbers,
+    })
 }
 
 /// Gives each of some words a number: words that are equal have one, and the numbers of the others are in their order.
@@ -205,18 +249,11 @@ pub fn number_words(
     requires even { AreEven (words_of entries.now) made.now }
     ensures { IfOk result (λ numbered. IsNumbered entries.now group made.now numbered) }
 {
-    let distinct = distinct_of(alloc, made)?;
     let mut rests = no_rests(alloc);
-    let order = BySpelling { entries };
-    let words = sorted(alloc, &order, &mut rests, distinct.as_slice())?;
+    let words = in_order(alloc, entries, &mut rests, made)?;
     let ordered = Ordered {
         group,
         made: words.as_slice(),
     };
-    let given = give(alloc, entries, &mut rests, &ordered)?;
-    let numbers = numbers_of(alloc, &given, made)?;
-    Ok(Numbered {
-        entries: given.entries,
-        numbers,
-    })
+    number_ordered(alloc, entries, &mut rests, &ordered, made)
 }

@@ -10,7 +10,7 @@ use mh_grammar::Memory;
 use std::cmp::Ordering;
 
 /// The words of a book by their tokens.
-#[derive(Clone, Copy, Debug, Drop)]
+#[derive(Clone, Copy, Drop)]
 pub(crate) struct BySpelling<'a> {
     pub(crate) entries: &'a [Entry],
 }

@@ -1,9 +1,4 @@
-use Rattle.std.proofs.Common.{refl}
-use Rattle.mh_past.proofs.Parting.{classes_from}
 use Rattle.mh_past.proofs.classing.classes_of.Goals as goal
 
-pub returns-then-go_alike : goal.returns-then-go_alike
-returns-then-go_alike c = classes_from c.args.table.now c.in_ok-classes.classes c.in_ok-classes.ensures.partition (c.if-go_alike.ensures refl)
-
 pub returns : goal.returns
-returns c = c.each_by_itself.ensures
+returns c = c.tested_classes.ensures

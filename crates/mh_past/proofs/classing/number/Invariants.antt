@@ -3,4 +3,4 @@ use Rattle.mh_past.proofs.Parting.{NumberedTo}
 use Rattle.mh_past.proofs.classing.number.Given as goal
 
 abbrev pub invariant-loop-state : goal.invariant-loop-state
-invariant-loop-state l = NumberedTo l.table (l.given ≡ []) l.rows.items l.lists.items l.state l.places
+invariant-loop-state l = NumberedTo l.table (l.given ≡ []) l.classes.rows.items l.classes.lists.items l.state l.classes.places
