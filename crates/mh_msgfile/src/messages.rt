@@ -10,10 +10,9 @@ use crate::sentence::SentenceFault;
 use bstr::ByteSlice;
 use mh_grammar::{Grammar, Memory, Name, Sequence, Token, from_bytes};
 use std::alloc::{AllocError, AllocFailed, Global};
-use thiserror::Error;
 
 /// A sentence of a messages file.
-#[derive(Debug, Drop)]
+#[derive(Drop)]
 pub struct MsgSentence {
     /// The number of its line; lines are counted from 1.
     pub line: u32,
@@ -23,7 +22,7 @@ pub struct MsgSentence {
 }
 
 /// Some sentences, and their message.
-#[derive(Debug, Drop)]
+#[derive(Drop)]
 pub struct Entry {
     pub sentences: Sequence<MsgSentence>,
     /// The bytes of the message: its lines, each with an LF behind it.
@@ -31,7 +30,7 @@ pub struct Entry {
 }
 
 /// A messages file.
-#[derive(Debug, Drop)]
+#[derive(Drop)]
 pub struct MsgFile {
     /// All lines, without the LF or CR LF that ends them; also those that begin with `#`.
     pub lines: Sequence<Name>,
@@ -39,29 +38,18 @@ pub struct MsgFile {
 }
 
 /// Why bytes are no messages file: the first fault in order of lines.
-#[derive(Debug, Drop, Error)]
+#[derive(Drop)]
 pub enum MsgFault {
     /// This line is no sentence line, or it begins a last block of sentences, which has no message.
-    #[error("line {line} has the wrong form")]
     Shape { line: u32 },
     /// No start symbol has the name before the colon.
-    #[error("no start symbol of the name in line {line}")]
     UnknownStart { line: u32, name: Name },
     /// The line names no start, and the grammar has none or several.
-    #[error("no start is named in line {line}")]
     MissingStart { line: u32 },
     /// No token has this name, the first such of the line.
-    #[error("no token of a name in line {line}")]
     UnknownToken { line: u32, name: Name },
     /// Memory ran out.
-    #[error("out of memory")]
     Memory,
-}
-
-impl From<Memory> for MsgFault {
-    fn from(_: Memory) -> Self {
-        MsgFault::Memory
-    }
 }
 
 /// The lines of a file.

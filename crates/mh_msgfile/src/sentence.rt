@@ -9,25 +9,19 @@ use crate::pieces::first_piece;
 use mh_grammar::{Grammar, Memory, Name, Sentence, Sequence, Token, from_bytes};
 use mh_lex::is_word;
 use std::alloc::{AllocError, AllocFailed, Global};
-use thiserror::Error;
 
 /// Why a line is no sentence.
-#[derive(Debug, Drop, Error)]
+#[derive(Drop)]
 pub enum SentenceFault {
     /// It has another form.
-    #[error("no sentence line")]
     Unreadable,
     /// No start symbol has the name before its colon.
-    #[error("no start symbol of this name")]
     UnknownStart { name: Name },
     /// It names no start, and the grammar has none or several.
-    #[error("no start is named")]
     MissingStart,
     /// No token has this name, the first such of the line.
-    #[error("no token of this name")]
     UnknownToken { name: Name },
     /// Memory ran out.
-    #[error("out of memory")]
     Memory,
 }
 
