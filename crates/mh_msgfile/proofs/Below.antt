@@ -1,5 +1,5 @@
 -- A sentence that is read is one of the grammar: its start and its tokens are known.
-use Rattle.std.proofs.Common.{◌≡◌, ◌<◌, ◌+◌, ℕ, zero, suc, Bool, true, false, List, [], ◌∷◌, length, Option, None, Some, refl, sym, ◌∙◌, ap, subst, if◌then◌else◌, arith, take, drop, nat_lt, Ok, Err, is_some, true≢false, append-nil, Bor}
+use Rattle.std.proofs.Common.{◌≡◌, ◌<◌, ◌+◌, ℕ, zero, suc, Bool, true, false, List, [], ◌∷◌, length, Option, None, Some, refl, sym, ◌∙◌, ap, subst, if◌then◌else◌, arith, take, drop, nat_lt, Ok, is_some, true≢false, append-nil, Bor}
 use Rattle.std.proofs.lemmas.List.{length-map}
 use Rattle.std.proofs.lemmas.List.Elements.{recursion_from_All}
 use Rattle.std.specs.List.{list_all, position_from, All, AllByRecursion}
@@ -9,9 +9,7 @@ use Rattle.mh_grammar.specs.declared.types.Sentence.{Sentence}
 use Rattle.mh_grammar.specs.declared.types.Grammar.{Grammar}
 use Rattle.mh_grammar.specs.Plain.{PlainGrammar, plain_of}
 use Rattle.mh_grammar.specs.Text.{Text}
-use Rattle.mh_msgfile.specs.Sentences.{Vocabulary, vocabulary_of, token_names, start_name, start_names, TokensFound, Tokens, Unknown, StartFound, StartIs, NoSuchStart, NoStart, IsSentence, IsUnreadable, put_token, number_of, only_one, tokens_of, start_or, only_or, start_by, with_start, sole, colon_place, pieces, sentence_from, sentence_behind, sentence_in, FindsStart, ReadsSentence, AreTokens, IsUnknownToken, behind_unknown, LineFound, NamesUnknown}
-use Rattle.mh_msgfile.specs.declared.sentence.SentenceFault.{SentenceFault}
-use Rattle.mh_msgfile.specs.declared.sentence.SentenceFault.TheVariants as faults
+use Rattle.mh_msgfile.specs.Sentences.{Vocabulary, vocabulary_of, token_names, start_name, start_names, TokensFound, Tokens, Unknown, StartFound, StartIs, NoSuchStart, NoStart, IsSentence, IsUnreadable, put_token, number_of, only_one, tokens_of, start_or, only_or, start_by, with_start, sole, colon_place, pieces, sentence_from, sentence_behind, sentence_in, AreTokens, behind_unknown}
 
 -- ---- its tokens are those of the grammar
 
@@ -135,46 +133,6 @@ sentence_below g h line s tokens is same given =
 
 pub sentence_tokens : (g : Grammar) (line : Text) (s : Sentence) → sentence_in (vocabulary_of g) line ≡ IsSentence s → AllByRecursion (λ z. z < length g.tokens) s.tokens
 sentence_tokens g line s is = recursion_from_All (λ z. z < length g.tokens) s.tokens (sentence_below g (plain_of g) line s s.tokens is refl refl)
-
--- a start that was not found
-pub no_start : (start : StartFound) (found : TokensFound) (fault : SentenceFault) → FindsStart start (Err fault) → ReadsSentence (with_start start found) (Err fault)
-no_start start found (faults.UnknownStart name) is = ap (λ (x : StartFound). with_start x found) is
-no_start start found faults.MissingStart is = ap (λ (x : StartFound). with_start x found) is
-no_start start found faults.Memory is = tt
-no_start start found faults.Unreadable is = absurd is
-no_start start found (faults.UnknownToken name) is = absurd is
-
-pub from_no_start : (v : Vocabulary) (start : Option Text) (text : Text) (fault : SentenceFault) → list_all is_word (pieces text) ≡ true → FindsStart (start_by v start) (Err fault) → ReadsSentence (sentence_from v start text) (Err fault)
-from_no_start v start text fault readable is =
-    subst (λ (b : Bool). ReadsSentence (if b then with_start (start_by v start) (tokens_of v (pieces text)) else IsUnreadable) (Err fault)) (sym readable)
-    (no_start (start_by v start) (tokens_of v (pieces text)) fault is)
-
--- not all are names
-pub from_wrong : (v : Vocabulary) (start : Option Text) (text : Text) (tokens : List ℕ) (fault : SentenceFault) → AreTokens v text tokens (Err fault) → ReadsSentence (sentence_from v start text) (Err fault)
-from_wrong v start text tokens faults.Unreadable is = ap (λ (b : Bool). if b then with_start (start_by v start) (tokens_of v (pieces text)) else IsUnreadable) is
-from_wrong v start text tokens faults.Memory is = tt
-from_wrong v start text tokens (faults.UnknownStart name) is = absurd is
-from_wrong v start text tokens faults.MissingStart is = absurd is
-from_wrong v start text tokens (faults.UnknownToken name) is = absurd is
-
-pub are_names : (v : Vocabulary) (text : Text) (tokens : List ℕ) (unknown : Option (Bor Text)) → AreTokens v text tokens (Ok unknown) → list_all is_word (pieces text) ≡ true
-are_names v text tokens None are = are.0
-are_names v text tokens (Some name) are = are.0
-
--- all are names of tokens, and a start was found
-pub from_tokens : (v : Vocabulary) (start : Option Text) (text : Text) (tokens : List ℕ) (n : ℕ) → AreTokens v text tokens (Ok None) → start_by v start ≡ StartIs n → sentence_from v start text ≡ IsSentence (record { start = n; tokens = tokens })
-from_tokens v start text tokens n are is = rw (are.0, is, are.1) refl
-
--- a name is no token's
-unknown_told : (found : LineFound) (name : Text) (fault : SentenceFault) → found ≡ NamesUnknown name → IsUnknownToken name fault → ReadsSentence found (Err fault)
-unknown_told found name (faults.UnknownToken other) is told = is ∙ ap NamesUnknown told
-unknown_told found name faults.Memory is told = tt
-unknown_told found name faults.Unreadable is told = absurd told
-unknown_told found name (faults.UnknownStart other) is told = absurd told
-unknown_told found name faults.MissingStart is told = absurd told
-
-pub from_unknown : (v : Vocabulary) (start : Option Text) (text : Text) (tokens : List ℕ) (name : Bor Text) (n : ℕ) (fault : SentenceFault) → AreTokens v text tokens (Ok (Some name)) → start_by v start ≡ StartIs n → IsUnknownToken name.now fault → ReadsSentence (sentence_from v start text) (Err fault)
-from_unknown v start text tokens name n fault are is told = unknown_told (sentence_from v start text) name.now fault (rw (are.0, is, are.1) refl) told
 
 -- the pieces of a line were taken one after another, and none is left
 pub tokens_by : (v : Vocabulary) (line rest : Text) (tokens : List ℕ) (unknown : Option (Bor Text)) → pieces rest ≡ [] → list_all is_word (pieces line) ≡ list_all is_word (pieces rest) →
