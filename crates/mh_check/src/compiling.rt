@@ -10,22 +10,17 @@ use mh_msgfile::{Entry, MsgFile};
 use mh_run::Verdict;
 use mh_tables::Halting;
 use std::alloc::Global;
-use thiserror::Error;
 
 /// Why a messages file does not fit a table: the fault of the first sentence, in order of lines, that breaks it.
-#[derive(Debug, Drop, Error)]
+#[derive(Drop)]
 pub enum CheckFault {
     /// The sentence of this line is not refused.
-    #[error("the sentence of line {line} is not refused")]
     NotRefused { line: u32, verdict: Verdict },
     /// It is refused at this place, counted from 0, before its last token.
-    #[error("the sentence of line {line} is refused early at index {at}")]
     RefusedEarly { line: u32, at: u32 },
     /// The sentence of the second line fails in a state in which that of the first, an earlier one, fails.
-    #[error("state {state} is shared by lines {first} and {second}")]
     SharedState { first: u32, second: u32, state: u32 },
     /// Memory ran out.
-    #[error("out of memory")]
     Memory,
 }
 

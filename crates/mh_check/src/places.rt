@@ -12,7 +12,7 @@ use mh_tables::{Halting, Table};
 use std::alloc::Global;
 
 /// Where the sentence stands that fails in a state.
-#[derive(Clone, Copy, Debug)]
+#[derive(Clone, Copy)]
 pub struct Place {
     /// The number of its line.
     pub(crate) line: u32,

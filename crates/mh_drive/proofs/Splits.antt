@@ -4,8 +4,7 @@ use Rattle.std.proofs.lemmas.Bool.Decides.{nat_tests}
 use Rattle.std.specs.Prelude.{nat_le, ◌==◌}
 use Rattle.mh_outside.specs.Lines.{HasNoEnd}
 use Rattle.mh_grammar.specs.Text.{Text}
-use Rattle.mh_msgfile.specs.Sentences.{put_first}
-use Rattle.mh_drive.specs.Lines.{split, asked, is_small}
+use Rattle.mh_drive.specs.Lines.{put_first, split, asked, is_small}
 
 tail : (b : ℕ) (line : Text) → HasNoEnd (b ∷ line) → HasNoEnd line
 tail b line h k d lt = h (suc k) d (omega arith)

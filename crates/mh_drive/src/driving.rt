@@ -19,7 +19,7 @@ pub const LINE_LIMIT: usize = 1024 * 1024;
 pub const MAX_LINES: usize = 1_000_000;
 
 /// Which lines of the input a mode asks for.
-#[derive(Clone, Copy, Debug, PartialEq, Eq)]
+#[derive(Clone, Copy)]
 pub enum Asks {
     NoLine,
     FirstLine,

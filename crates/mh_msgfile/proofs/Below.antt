@@ -1,5 +1,5 @@
 -- A sentence that is read is one of the grammar: its start and its tokens are known.
-use Rattle.std.proofs.Common.{◌≡◌, ◌<◌, ◌+◌, ℕ, zero, suc, Bool, true, false, List, [], ◌∷◌, length, Option, None, Some, refl, sym, ◌∙◌, ap, subst, if◌then◌else◌, arith, take, drop, nat_lt, Err, is_some, true≢false}
+use Rattle.std.proofs.Common.{◌≡◌, ◌<◌, ◌+◌, ℕ, zero, suc, Bool, true, false, List, [], ◌∷◌, length, Option, None, Some, refl, sym, ◌∙◌, ap, subst, if◌then◌else◌, arith, take, drop, nat_lt, Ok, is_some, true≢false, append-nil, Bor}
 use Rattle.std.proofs.lemmas.List.{length-map}
 use Rattle.std.proofs.lemmas.List.Elements.{recursion_from_All}
 use Rattle.std.specs.List.{list_all, position_from, All, AllByRecursion}
@@ -9,9 +9,7 @@ use Rattle.mh_grammar.specs.declared.types.Sentence.{Sentence}
 use Rattle.mh_grammar.specs.declared.types.Grammar.{Grammar}
 use Rattle.mh_grammar.specs.Plain.{PlainGrammar, plain_of}
 use Rattle.mh_grammar.specs.Text.{Text}
-use Rattle.mh_msgfile.specs.Sentences.{Vocabulary, vocabulary_of, token_names, start_name, start_names, TokensFound, Tokens, Unknown, StartFound, StartIs, NoSuchStart, NoStart, IsSentence, IsUnreadable, put_token, number_of, only_one, tokens_of, start_or, only_or, start_by, with_start, sole, colon_place, pieces, sentence_from, sentence_behind, sentence_in, FindsStart, ReadsSentence}
-use Rattle.mh_msgfile.specs.declared.sentence.SentenceFault.{SentenceFault}
-use Rattle.mh_msgfile.specs.declared.sentence.SentenceFault.TheVariants as faults
+use Rattle.mh_msgfile.specs.Sentences.{Vocabulary, vocabulary_of, token_names, start_name, start_names, TokensFound, Tokens, Unknown, StartFound, StartIs, NoSuchStart, NoStart, IsSentence, IsUnreadable, put_token, number_of, only_one, tokens_of, start_or, only_or, start_by, with_start, sole, colon_place, pieces, sentence_from, sentence_behind, sentence_in, AreTokens, behind_unknown}
 
 -- ---- its tokens are those of the grammar
 
@@ -136,15 +134,11 @@ sentence_below g h line s tokens is same given =
 pub sentence_tokens : (g : Grammar) (line : Text) (s : Sentence) → sentence_in (vocabulary_of g) line ≡ IsSentence s → AllByRecursion (λ z. z < length g.tokens) s.tokens
 sentence_tokens g line s is = recursion_from_All (λ z. z < length g.tokens) s.tokens (sentence_below g (plain_of g) line s s.tokens is refl refl)
 
--- a start that was not found
-pub no_start : (start : StartFound) (found : TokensFound) (fault : SentenceFault) → FindsStart start (Err fault) → ReadsSentence (with_start start found) (Err fault)
-no_start start found (faults.UnknownStart name) is = ap (λ (x : StartFound). with_start x found) is
-no_start start found faults.MissingStart is = ap (λ (x : StartFound). with_start x found) is
-no_start start found faults.Memory is = tt
-no_start start found faults.Unreadable is = absurd is
-no_start start found (faults.UnknownToken name) is = absurd is
-
-pub from_no_start : (v : Vocabulary) (start : Option Text) (text : Text) (fault : SentenceFault) → list_all is_word (pieces text) ≡ true → FindsStart (start_by v start) (Err fault) → ReadsSentence (sentence_from v start text) (Err fault)
-from_no_start v start text fault readable is =
-    subst (λ (b : Bool). ReadsSentence (if b then with_start (start_by v start) (tokens_of v (pieces text)) else IsUnreadable) (Err fault)) (sym readable)
-    (no_start (start_by v start) (tokens_of v (pieces text)) fault is)
+-- the pieces of a line were taken one after another, and none is left
+pub tokens_by : (v : Vocabulary) (line rest : Text) (tokens : List ℕ) (unknown : Option (Bor Text)) → pieces rest ≡ [] → list_all is_word (pieces line) ≡ list_all is_word (pieces rest) →
+    tokens_of v (pieces line) ≡ behind_unknown unknown tokens (tokens_of v (pieces rest)) → AreTokens v line tokens (Ok unknown)
+tokens_by v line rest tokens None none names so_far = (
+  names ∙ ap (list_all is_word) none,
+  so_far ∙ ap (λ (ps : List Text). behind_unknown None tokens (tokens_of v ps)) none ∙ ap Tokens (append-nil tokens),
+)
+tokens_by v line rest tokens (Some name) none names so_far = (names ∙ ap (list_all is_word) none, so_far ∙ ap (λ (ps : List Text). behind_unknown (Some name) tokens (tokens_of v ps)) none)

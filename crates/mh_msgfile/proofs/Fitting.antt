@@ -1,6 +1,6 @@
 -- The sentences of a file are sentences of the grammar, and no longer than the file.
 use Rattle.std.proofs.Common.{◌≡◌, ◌<◌, ◌≤◌, ◌+◌, ◌-◌, ◌^◌, ℕ, zero, suc, Bool, true, false, cond, List, [], ◌∷◌, ◌++◌, length, take, drop, filter, Option, None, Some, refl, sym, subst, if◌then◌else◌, arith, nat_lt, length-drop, length-append, slice_index, ◌&&◌, ◌==◌}
-use Rattle.std.specs.Prelude.{slice_index_or}
+use Rattle.std.specs.Prelude.{slice_index_or, Result, Ok, Err, IfOk}
 use Rattle.std.specs.List.{list_all, AllByRecursion}
 use Rattle.std.proofs.lemmas.List.{length-take-le}
 use Rattle.mh_lex.specs.Words.{is_word}
@@ -9,10 +9,11 @@ use Rattle.mh_grammar.specs.declared.types.Grammar.{Grammar}
 use Rattle.mh_grammar.specs.Plain.{plain_of}
 use Rattle.mh_grammar.specs.Text.{Text}
 use Rattle.mh_msgfile.specs.Sentences.{Vocabulary, vocabulary_of, is_blank, put_first, fields, has_items, runs, pieces, TokensFound, Tokens, Unknown, StartFound, StartIs, NoSuchStart, NoStart, LineFound, IsSentence, IsUnreadable, NamesNoStart, LacksStart, NamesUnknown, put_token, tokens_of, start_by, with_start, sole, colon_place, sentence_from, sentence_behind, sentence_in}
-use Rattle.mh_msgfile.specs.Messages.{AreLines, NoLine, LastLine, EndedLine, line_at, sentence_at, sentences_of, entries_in, blocks, MsgSpells, IsOf, AreOf}
+use Rattle.mh_msgfile.specs.Messages.{AreLines, NoLine, LastLine, EndedLine, line_at, sentence_at, sentences_of, entries_in, blocks, MsgSpells, ReadsMessages, IsOf, AreOf}
 use Rattle.mh_msgfile.specs.declared.messages.MsgSentence.{MsgSentence}
 use Rattle.mh_msgfile.specs.declared.messages.Entry.{Entry}
 use Rattle.mh_msgfile.specs.declared.messages.MsgFile.{MsgFile}
+use Rattle.mh_msgfile.specs.declared.messages.MsgFault.{MsgFault}
 use Rattle.mh_msgfile.proofs.Below.{sentence_start, sentence_below}
 
 -- ---- no more pieces than bytes
@@ -122,3 +123,7 @@ module _ (g : Grammar) (bytes : Text) (lines : List Text) (are : AreLines bytes 
 pub file_fits : (g : Grammar) (bytes : Text) (file : MsgFile) → length bytes < 2 ^ 32 → MsgSpells g bytes file → AreOf (length g.starts) (length g.tokens) file
 file_fits g bytes file short spells =
     subst (λ (es : List Entry). AllByRecursion (λ (e : Entry). AllByRecursion (IsOf (length g.starts) (length g.tokens)) e.sentences) es) (sym spells.entries) (entries_fit g bytes file.lines spells.lines short (blocks file.lines))
+
+pub reads_fit : (g : Grammar) (bytes : Text) (r : Result MsgFile MsgFault) → length bytes < 2 ^ 32 → ReadsMessages g bytes r → IfOk r (AreOf (length g.starts) (length g.tokens))
+reads_fit g bytes (Ok file) short reads = file_fits g bytes file short reads
+reads_fit g bytes (Err fault) short reads = tt

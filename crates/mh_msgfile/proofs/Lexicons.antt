@@ -57,6 +57,9 @@ module _ {A : Type 0} (name_of : A → Text) (items : List A) where
       let pushed = numbers_push (map name_of (take n items)) name number es fs (numbered ∙ names_count n (omega arith)) are puts in
       subst (λ (names : List Text). AreNumbers names fs) (ap (λ (t : Text). map name_of (take n items) ++ t ∷ []) named ∙ sym (names_push n item lt is)) pushed
 
+  pub none_put : (es : Entries) → es ≡ [] → AreNumbers (map name_of (take 0 items)) es
+  none_put es is name = ap (λ (fs : Entries). lookup (λ key. bytes_eq name key.items) fs) is
+
   pub all_put : (n : ℕ) (es : Entries) → length items ≤ n → AreNumbers (map name_of (take n items)) es → AreNumbers (map name_of items) es
   all_put n es le are = subst (λ (ts : List A). AreNumbers (map name_of ts) es) (take_all n items le) are
 

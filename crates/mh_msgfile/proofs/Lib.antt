@@ -10,3 +10,4 @@ pub mod Endings
 pub mod Spelled
 pub mod Again
 pub mod Spacing
+pub mod Writing

@@ -143,6 +143,20 @@ abbrev pub ReadsEntries : Vocabulary → List Text → List (List ℕ) → Resul
 ReadsEntries v lines bs (Ok entries) = (faults_in v lines bs ≡ []) × (entries ≡ entries_in v lines bs)
 ReadsEntries v lines bs (Err fault) = Tells fault (Begins (faults_in v lines bs))
 
+-- what a call put in, or its fault
+abbrev pub given : {A : Type 0} → Result (Unit {0}) MsgFault → A → Result A MsgFault
+given (Ok _) put = Ok put
+given (Err fault) put = Err fault
+
+-- the entry of a block and of the block behind it, or the first fault of its sentences
+abbrev pub ReadsEntry : Vocabulary → List Text → List ℕ → List ℕ → Result Entry MsgFault → Type 0
+ReadsEntry v lines block message (Ok entry) = (faults_of v lines block ≡ []) × (entry ≡ record { sentences = sentences_of v lines block; message = message_of lines message })
+ReadsEntry v lines block message (Err fault) = Tells fault (Begins (faults_of v lines block))
+
+-- the first fault of a block that no message follows
+abbrev pub TellsLast : Vocabulary → List Text → List ℕ → MsgFault → Type 0
+TellsLast v lines block fault = Tells fault (Begins (faults_of v lines block ++ BadShape (first_number block) ∷ []))
+
 -- the fault of a line that is no sentence
 abbrev pub TellsLine : ℕ → LineFound → MsgFault → Type 0
 TellsLine number found fault = Tells fault (λ f. fault_at number found ≡ f ∷ [])

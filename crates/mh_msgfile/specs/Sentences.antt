@@ -11,8 +11,6 @@ use Rattle.std.specs.declared.alloc.Global.{Global}
 use Rattle.mh_msgfile.specs.declared.lexicon.Lexicon.{Lexicon}
 use Rattle.mh_msgfile.specs.declared.sentence.StartName.{StartName}
 use Rattle.mh_msgfile.specs.declared.sentence.StartName.TheVariants.{Named, LeftOut}
-use Rattle.mh_msgfile.specs.declared.sentence.Pieces.{Pieces}
-use Rattle.mh_msgfile.specs.declared.sentence.Pieces.TheVariants.{NotNames, NotKnown, Known}
 use Rattle.mh_msgfile.specs.declared.sentence.SentenceFault.{SentenceFault}
 use Rattle.mh_msgfile.specs.declared.sentence.SentenceFault.TheVariants as faults
 use Rattle.mh_grammar.specs.Text.{Text}
@@ -205,16 +203,13 @@ abbrev pub name_of : StartName → Option Text
 name_of LeftOut = None
 name_of (Named name) = Some name.now
 
--- what the pieces of a text are
-abbrev pub ArePieces : Vocabulary → Text → Pieces → Type 0
-ArePieces v text NotNames = list_all is_word (pieces text) ≡ false
-ArePieces v text (NotKnown name) = (list_all is_word (pieces text) ≡ true) × (tokens_of v (pieces text) ≡ Unknown name.now)
-ArePieces v text (Known tokens) = (list_all is_word (pieces text) ≡ true) × (tokens_of v (pieces text) ≡ Tokens tokens.items)
-
--- there are at most so many tokens
-abbrev pub HasFew : ℕ → Pieces → Type 0
-HasFew most (Known tokens) = length tokens.items ≤ most
-HasFew most _ = ⊤
+-- the tokens that the pieces of a text name, or the first piece that names none; or not all are names
+abbrev pub AreTokens : Vocabulary → Text → List ℕ → Result (Option (Bor Text)) SentenceFault → Type 0
+AreTokens v text tokens (Ok None) = (list_all is_word (pieces text) ≡ true) × (tokens_of v (pieces text) ≡ Tokens tokens)
+AreTokens v text tokens (Ok (Some name)) = (list_all is_word (pieces text) ≡ true) × (tokens_of v (pieces text) ≡ Unknown name.now)
+AreTokens v text tokens (Err faults.Unreadable) = list_all is_word (pieces text) ≡ false
+AreTokens v text tokens (Err faults.Memory) = ⊤
+AreTokens v text tokens (Err _) = ⊥
 
 -- the fault of a name that is no token's
 abbrev pub IsUnknownToken : Text → SentenceFault → Type 0
@@ -239,3 +234,8 @@ ReadsSentence found (Err (faults.UnknownStart name)) = found ≡ NamesNoStart na
 ReadsSentence found (Err faults.MissingStart) = found ≡ LacksStart
 ReadsSentence found (Err (faults.UnknownToken name)) = found ≡ NamesUnknown name
 ReadsSentence found (Err faults.Memory) = ⊤
+
+-- what a call answers that puts in the tokens of a line
+abbrev pub PutsSentence : LineFound → List ℕ → Result ℕ SentenceFault → Type 0
+PutsSentence found tokens (Ok start) = found ≡ IsSentence (record { start = start; tokens = tokens })
+PutsSentence found tokens (Err fault) = ReadsSentence found (Err fault)

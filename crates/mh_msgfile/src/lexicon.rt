@@ -1,5 +1,5 @@
 //! The numbers that the names of a grammar's starts and tokens stand for.
-ghost use Rattle.std.specs.Prelude.{◌≡◌, ◌≤◌, length, map, IfOk, OnOk};
+ghost use Rattle.std.specs.Prelude.{◌≡◌, ◌≤◌, [], length, map, IfOk, OnOk};
 ghost use Rattle.mh_grammar.specs.Plain.{plain_of, IsInRange};
 ghost use Rattle.mh_grammar.specs.declared.types.TheConstants.{MAX_NUMBERED};
 ghost use Rattle.mh_msgfile.specs.Sentences.{AreNumbers, PutsName, start_names, only_one, vocabulary_of, vocabulary_in};
@@ -34,34 +34,37 @@ fn put_name(
     Ok(())
 }
 
-/// The numbers of tokens. Of two with one name the first counts.
-fn token_numbers(alloc: Global, tokens: &[TokenInfo]) -> Result<IndexMap<Vec<u8>, Token>, Memory>
-    requires { length tokens.now ≤ MAX_NUMBERED }
-    ensures { IfOk result (λ numbers. AreNumbers (map (λ token. token.name) tokens.now) numbers.entries) }
+/// Puts in the numbers of tokens. Of two with one name the first counts.
+fn number_tokens(
+    alloc: Global,
+    numbers: &mut IndexMap<Vec<u8>, Token>,
+    tokens: &[TokenInfo],
+) -> Result<(), Memory>
+    requires few { length tokens.now ≤ MAX_NUMBERED }
+    requires none { numbers.old.entries ≡ [] }
+    ensures { OnOk result (AreNumbers (map (λ token. token.name) tokens.now) numbers.new.entries) }
 {
-    let mut numbers = IndexMap::new(alloc);
     for (number, token) in tokens.iter().enumerate() {
-        put_name(alloc, &mut numbers, token.name.as_slice(), number as Token)?;
+        put_name(alloc, numbers, token.name.as_slice(), number as Token)?;
     }
-    Ok(numbers)
+    Ok(())
 }
 
-/// The numbers of the starts. Of two with one name the first counts.
-fn start_numbers(alloc: Global, grammar: &Grammar) -> Result<IndexMap<Vec<u8>, u16>, Memory>
-    requires { IsInRange (plain_of grammar.now) }
-    ensures { IfOk result (λ numbers. AreNumbers (start_names grammar.now) numbers.entries) }
+/// Puts in the numbers of the starts. Of two with one name the first counts.
+fn number_starts(
+    alloc: Global,
+    numbers: &mut IndexMap<Vec<u8>, u16>,
+    grammar: &Grammar,
+) -> Result<(), Memory>
+    requires range { IsInRange (plain_of grammar.now) }
+    requires none { numbers.old.entries ≡ [] }
+    ensures { OnOk result (AreNumbers (start_names grammar.now) numbers.new.entries) }
 {
-    let mut numbers = IndexMap::new(alloc);
     for (number, start) in grammar.starts.as_slice().iter().enumerate() {
         let nonterminal = &grammar.nonterminals[usize::from(*start)];
-        put_name(
-            alloc,
-            &mut numbers,
-            nonterminal.name.as_slice(),
-            number as u16,
-        )?;
+        put_name(alloc, numbers, nonterminal.name.as_slice(), number as u16)?;
     }
-    Ok(numbers)
+    Ok(())
 }
 
 fn only_start(grammar: &Grammar) -> Option<u16>
@@ -80,13 +83,30 @@ impl Lexicon {
         requires { IsInRange (plain_of grammar.now) }
         ensures { IfOk result (λ lexicon. vocabulary_in lexicon ≡ vocabulary_of grammar.now) }
     {
-        let starts = start_numbers(alloc, grammar)?;
-        let tokens = token_numbers(alloc, grammar.tokens.as_slice())?;
-        Ok(Lexicon {
-            starts,
+        let mut lexicon = Lexicon {
+            starts: IndexMap::new(alloc),
             only_start: only_start(grammar),
-            tokens,
-        })
+            tokens: IndexMap::new(alloc),
+        };
+        match lexicon.number(alloc, grammar) {
+            Ok(()) => Ok(lexicon),
+            Err(memory) => {
+                drop(lexicon);
+                Err(memory)
+            }
+        }
+    }
+
+    /// Puts in the names of this grammar's starts and tokens.
+    fn number(&mut self, alloc: Global, grammar: &Grammar) -> Result<(), Memory>
+        requires range { IsInRange (plain_of grammar.now) }
+        requires starts { self.old.starts.entries ≡ [] }
+        requires only { self.old.only_start ≡ only_one (start_names grammar.now) }
+        requires tokens { self.old.tokens.entries ≡ [] }
+        ensures { OnOk result (vocabulary_in self.new ≡ vocabulary_of grammar.now) }
+    {
+        number_starts(alloc, &mut self.starts, grammar)?;
+        number_tokens(alloc, &mut self.tokens, grammar.tokens.as_slice())
     }
 
     /// The number of the start of this name.

@@ -1,8 +1,9 @@
 //! Messages files: blocks of sentence lines, and behind each the block that is its message.
 ghost use Rattle.std.specs.Prelude.{◌≡◌, ◌<◌, ◌≤◌, ◌^◌, ◌∷◌, ◌++◌, [], length, filter, Err, IfOk, OnOk};
 ghost use Rattle.mh_grammar.specs.Plain.{plain_of, IsInRange};
-ghost use Rattle.mh_msgfile.specs.Sentences.{vocabulary_in, LineFound, FirstPiece, blank_count, piece_size, ReadsSentence};
-ghost use Rattle.mh_msgfile.specs.Messages.{AreLines, line_at as line_text, is_taken_out as has_number_sign, is_kept, kept_lines as kept, is_blank_line as is_blank_number, blocks, first_number, message_of as message_text, AreOf, ReadsMessages, ReadsBlock, ReadsEntries, TellsLine};
+ghost use Rattle.mh_grammar.specs.declared.types.Grammar.{Grammar as Grammar'};
+ghost use Rattle.mh_msgfile.specs.Sentences.{vocabulary_in, vocabulary_of, LineFound, FirstPiece, blank_count, piece_size, runs, ReadsSentence};
+ghost use Rattle.mh_msgfile.specs.Messages.{AreLines, line_at as line_text, is_taken_out as has_number_sign, is_kept, kept_lines as kept, is_blank_line as is_blank_number, blocks, first_number, message_of as message_text, AreOf, given, ReadsMessages, ReadsBlock, ReadsEntry, TellsLast, ReadsEntries, TellsLine};
 
 use crate::lexicon::Lexicon;
 use crate::pieces::is_blank;
@@ -10,10 +11,9 @@ use crate::sentence::SentenceFault;
 use bstr::ByteSlice;
 use mh_grammar::{Grammar, Memory, Name, Sequence, Token, from_bytes};
 use std::alloc::{AllocError, AllocFailed, Global};
-use thiserror::Error;
 
 /// A sentence of a messages file.
-#[derive(Debug, Drop)]
+#[derive(Drop)]
 pub struct MsgSentence {
     /// The number of its line; lines are counted from 1.
     pub line: u32,
@@ -23,7 +23,7 @@ pub struct MsgSentence {
 }
 
 /// Some sentences, and their message.
-#[derive(Debug, Drop)]
+#[derive(Drop)]
 pub struct Entry {
     pub sentences: Sequence<MsgSentence>,
     /// The bytes of the message: its lines, each with an LF behind it.
@@ -31,7 +31,7 @@ pub struct Entry {
 }
 
 /// A messages file.
-#[derive(Debug, Drop)]
+#[derive(Drop)]
 pub struct MsgFile {
     /// All lines, without the LF or CR LF that ends them; also those that begin with `#`.
     pub lines: Sequence<Name>,
@@ -39,41 +39,30 @@ pub struct MsgFile {
 }
 
 /// Why bytes are no messages file: the first fault in order of lines.
-#[derive(Debug, Drop, Error)]
+#[derive(Drop)]
 pub enum MsgFault {
     /// This line is no sentence line, or it begins a last block of sentences, which has no message.
-    #[error("line {line} has the wrong form")]
     Shape { line: u32 },
     /// No start symbol has the name before the colon.
-    #[error("no start symbol of the name in line {line}")]
     UnknownStart { line: u32, name: Name },
     /// The line names no start, and the grammar has none or several.
-    #[error("no start is named in line {line}")]
     MissingStart { line: u32 },
     /// No token has this name, the first such of the line.
-    #[error("no token of a name in line {line}")]
     UnknownToken { line: u32, name: Name },
     /// Memory ran out.
-    #[error("out of memory")]
     Memory,
 }
 
-impl From<Memory> for MsgFault {
-    fn from(_: Memory) -> Self {
-        MsgFault::Memory
-    }
-}
-
-/// The lines of a file.
-fn split_lines(alloc: Global, bytes: &[u8]) -> Result<Sequence<Name>, Memory>
-    ensures lines { IfOk result (AreLines bytes.now) }
-    ensures few { IfOk result (λ lines. length lines ≤ length bytes.now) }
+/// Puts in the lines of a file.
+fn put_lines(alloc: Global, lines: &mut Sequence<Name>, bytes: &[u8]) -> Result<(), Memory>
+    requires { lines.old ≡ [] }
+    ensures lines { OnOk result (AreLines bytes.now lines.new) }
+    ensures few { OnOk result (length lines.new ≤ length bytes.now) }
 {
-    let mut lines = Sequence::new(alloc);
     for line in bytes.lines() {
         lines.push(from_bytes(alloc, line)?)?;
     }
-    Ok(lines)
+    Ok(())
 }
 
 /// The line of a number.
@@ -191,16 +180,17 @@ fn fault_of_line(line: u32, fault: SentenceFault) -> MsgFault
     }
 }
 
-/// The sentences of a block.
-fn read_block(
+/// Puts in the sentences of a block.
+fn put_sentences(
     alloc: Global,
     lexicon: &Lexicon,
     lines: &[Name],
     block: &[u32],
-) -> Result<Sequence<MsgSentence>, MsgFault>
-    ensures { ReadsBlock (vocabulary_in lexicon.now) lines.now block.now result }
+    sentences: &mut Sequence<MsgSentence>,
+) -> Result<(), MsgFault>
+    requires { sentences.old ≡ [] }
+    ensures { ReadsBlock (vocabulary_in lexicon.now) lines.now block.now (given result sentences.new) }
 {
-    let mut sentences = Sequence::new(alloc);
     for line in block {
         match lexicon.read(alloc, line_at(lines, *line)) {
             Ok(sentence) => {
@@ -216,7 +206,7 @@ fn read_block(
             Err(fault) => return Err(fault_of_line(*line, fault)),
         }
     }
-    Ok(sentences)
+    Ok(())
 }
 
 /// The number of a block's first line.
@@ -229,41 +219,100 @@ fn first_line(block: &[u32]) -> u32
     }
 }
 
-/// The entries of these lines.
-fn read_entries(
+/// The entry of a block of sentences and of the block that is their message.
+fn read_entry(
     alloc: Global,
     lexicon: &Lexicon,
     lines: &[Name],
-) -> Result<Sequence<Entry>, MsgFault>
-    requires { length lines.now < 2 ^ 31 }
-    ensures { ReadsEntries (vocabulary_in lexicon.now) lines.now (blocks lines.now) result }
+    block: &[u32],
+    message: &[u32],
+) -> Result<Entry, MsgFault>
+    ensures { ReadsEntry (vocabulary_in lexicon.now) lines.now block.now message.now result }
 {
-    let kept = match kept_lines(alloc, lines) {
-        Ok(kept) => kept,
-        Err(Memory) => return Err(MsgFault::Memory),
-    };
-    let mut entries = Sequence::new(alloc);
-    let mut rest = kept.as_slice();
+    let mut sentences = Sequence::new(alloc);
+    match put_sentences(alloc, lexicon, lines, block, &mut sentences) {
+        Ok(()) => match message_of(alloc, lines, message) {
+            Ok(message) => Ok(Entry { sentences, message }),
+            Err(Memory) => Err(MsgFault::Memory),
+        },
+        Err(fault) => Err(fault),
+    }
+}
+
+/// The fault of a last block of sentences, which has no message: that of its first line that is no sentence, or else its own.
+fn fault_of_last(alloc: Global, lexicon: &Lexicon, lines: &[Name], block: &[u32]) -> MsgFault
+    ensures { TellsLast (vocabulary_in lexicon.now) lines.now block.now result }
+{
+    let mut sentences = Sequence::new(alloc);
+    match put_sentences(alloc, lexicon, lines, block, &mut sentences) {
+        Ok(()) => MsgFault::Shape {
+            line: first_line(block),
+        },
+        Err(fault) => fault,
+    }
+}
+
+/// Puts in the entries of the blocks of these lines.
+fn put_blocks(
+    alloc: Global,
+    lexicon: &Lexicon,
+    lines: &[Name],
+    numbers: &[u32],
+    entries: &mut Sequence<Entry>,
+) -> Result<(), MsgFault>
+    requires { entries.old ≡ [] }
+    ensures { ReadsEntries (vocabulary_in lexicon.now) lines.now (runs (is_blank_number lines.now) numbers.now) (given result entries.new) }
+{
+    let mut rest = numbers;
     while let Some((block, behind)) = first_block(lines, rest) {
-        let sentences = match read_block(alloc, lexicon, lines, block) {
-            Ok(sentences) => sentences,
-            Err(fault) => return Err(fault),
-        };
         let Some((message, behind)) = first_block(lines, behind) else {
-            return Err(MsgFault::Shape {
-                line: first_line(block),
-            });
+            return Err(fault_of_last(alloc, lexicon, lines, block));
         };
-        let message = match message_of(alloc, lines, message) {
-            Ok(message) => message,
-            Err(Memory) => return Err(MsgFault::Memory),
-        };
-        if entries.push(Entry { sentences, message }).is_err() {
-            return Err(MsgFault::Memory);
+        match read_entry(alloc, lexicon, lines, block, message) {
+            Ok(entry) => {
+                if entries.push(entry).is_err() {
+                    return Err(MsgFault::Memory);
+                }
+            }
+            Err(fault) => return Err(fault),
         }
         rest = behind;
     }
-    Ok(entries)
+    Ok(())
+}
+
+/// Puts in the entries of these lines.
+fn put_entries(
+    alloc: Global,
+    lexicon: &Lexicon,
+    lines: &[Name],
+    entries: &mut Sequence<Entry>,
+) -> Result<(), MsgFault>
+    requires few { length lines.now < 2 ^ 31 }
+    requires none { entries.old ≡ [] }
+    ensures { ReadsEntries (vocabulary_in lexicon.now) lines.now (blocks lines.now) (given result entries.new) }
+{
+    match kept_lines(alloc, lines) {
+        Ok(kept) => put_blocks(alloc, lexicon, lines, kept.as_slice(), entries),
+        Err(Memory) => Err(MsgFault::Memory),
+    }
+}
+
+/// The messages file that the bytes spell, by the names of a grammar.
+fn read_file(alloc: Global, lexicon: &Lexicon, bytes: &[u8]) -> Result<MsgFile, MsgFault>
+    requires { length bytes.now < 2 ^ 31 }
+    ensures { (g : Grammar') → vocabulary_in lexicon.now ≡ vocabulary_of g → ReadsMessages g bytes.now result }
+{
+    let mut lines = Sequence::new(alloc);
+    match put_lines(alloc, &mut lines, bytes) {
+        Ok(()) => {}
+        Err(Memory) => return Err(MsgFault::Memory),
+    }
+    let mut entries = Sequence::new(alloc);
+    match put_entries(alloc, lexicon, lines.as_slice(), &mut entries) {
+        Ok(()) => Ok(MsgFile { lines, entries }),
+        Err(fault) => Err(fault),
+    }
 }
 
 /// The messages file that the bytes spell. Lines that begin with `#` are taken out; runs of lines that are not blank then
@@ -278,11 +327,8 @@ pub fn read_messages(alloc: Global, bytes: &[u8], grammar: &Grammar) -> Result<M
     let Ok(lexicon) = Lexicon::new(alloc, grammar) else {
         return Err(MsgFault::Memory);
     };
-    let Ok(lines) = split_lines(alloc, bytes) else {
-        return Err(MsgFault::Memory);
-    };
-    match read_entries(alloc, &lexicon, lines.as_slice()) {
-        Ok(entries) => Ok(MsgFile { lines, entries }),
-        Err(fault) => Err(fault),
-    }
+    let file = read_file(alloc, &lexicon, bytes);
+    // Let go of in one place, since it has many fields.
+    drop(lexicon);
+    file
 }

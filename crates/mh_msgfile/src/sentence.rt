@@ -1,7 +1,7 @@
 //! Sentence lines: a start, which may be left out where there is one, and names of tokens.
-ghost use Rattle.std.specs.Prelude.{◌≡◌, ◌≤◌, length, Some, None, IfOk};
+ghost use Rattle.std.specs.Prelude.{◌≡◌, ◌≤◌, [], length, IfOk, OnOk};
 ghost use Rattle.mh_grammar.specs.Plain.{plain_of, IsInRange};
-ghost use Rattle.mh_msgfile.specs.Sentences.{colon_place, IsSole, ArePieces, HasFew, IsUnknownToken, FindsStart, name_of, start_by, vocabulary_of, vocabulary_in, sentence_in, sentence_from, ReadsSentence};
+ghost use Rattle.mh_msgfile.specs.Sentences.{colon_place, IsSole, AreTokens, IsUnknownToken, FindsStart, name_of, start_by, vocabulary_of, vocabulary_in, sentence_in, sentence_from, PutsSentence, ReadsSentence};
 ghost use Rattle.mh_msgfile.specs.declared.sentence.SentenceFault.TheVariants.{Memory as Memory'};
 
 use crate::lexicon::Lexicon;
@@ -9,25 +9,19 @@ use crate::pieces::first_piece;
 use mh_grammar::{Grammar, Memory, Name, Sentence, Sequence, Token, from_bytes};
 use mh_lex::is_word;
 use std::alloc::{AllocError, AllocFailed, Global};
-use thiserror::Error;
 
 /// Why a line is no sentence.
-#[derive(Debug, Drop, Error)]
+#[derive(Drop)]
 pub enum SentenceFault {
     /// It has another form.
-    #[error("no sentence line")]
     Unreadable,
     /// No start symbol has the name before its colon.
-    #[error("no start symbol of this name")]
     UnknownStart { name: Name },
     /// It names no start, and the grammar has none or several.
-    #[error("no start is named")]
     MissingStart,
     /// No token has this name, the first such of the line.
-    #[error("no token of this name")]
     UnknownToken { name: Name },
     /// Memory ran out.
-    #[error("out of memory")]
     Memory,
 }
 
@@ -74,39 +68,34 @@ enum StartName<'a> {
     LeftOut,
 }
 
-/// What the pieces of a line are.
-#[derive(Drop)]
-enum Pieces<'a> {
-    /// Not all are names.
-    NotNames,
-    /// Names, of which this is the first that is no token's.
-    NotKnown(&'a [u8]),
-    /// Names of these tokens.
-    Known(Vec<Token>),
-}
-
-/// What the pieces of a line are, in one pass.
-fn read_pieces<'a>(alloc: Global, lexicon: &Lexicon, line: &'a [u8]) -> Result<Pieces<'a>, Memory>
-    ensures pieces { IfOk result (ArePieces (vocabulary_in lexicon.now) line.now) }
-    ensures few { IfOk result (HasFew (length line.now)) }
+/// Puts in the tokens that the pieces of a line name, in one pass. Answers the first piece that is a name of none, and fails where
+/// not all are names.
+fn put_tokens<'a>(
+    tokens: &mut Vec<Token>,
+    lexicon: &Lexicon,
+    line: &'a [u8],
+) -> Result<Option<&'a [u8]>, SentenceFault>
+    requires { tokens.old.items ≡ [] }
+    ensures pieces { AreTokens (vocabulary_in lexicon.now) line.now tokens.new.items result }
+    ensures few { OnOk result (length tokens.new.items ≤ length line.now) }
 {
-    let mut tokens = Vec::new(alloc);
     let mut unknown = None;
     let mut rest = line;
     while let Some((name, behind)) = first_piece(rest) {
         if !is_word(name) {
-            return Ok(Pieces::NotNames);
+            return Err(SentenceFault::Unreadable);
         }
         match lexicon.token(name) {
-            Some(token) => tokens.push(token)?,
+            Some(token) => {
+                if tokens.push(token).is_err() {
+                    return Err(SentenceFault::Memory);
+                }
+            }
             None => unknown = unknown.or(Some(name)),
         }
         rest = behind;
     }
-    match unknown {
-        Some(name) => Ok(Pieces::NotKnown(name)),
-        None => Ok(Pieces::Known(tokens)),
-    }
+    Ok(unknown)
 }
 
 /// The number of this start.
@@ -138,6 +127,30 @@ fn unknown_token(alloc: Global, name: &[u8]) -> SentenceFault
     }
 }
 
+/// Puts in the tokens of these names, and answers the number of this start.
+fn put_sentence(
+    alloc: Global,
+    lexicon: &Lexicon,
+    start: StartName<'_>,
+    names: &[u8],
+    tokens: &mut Vec<Token>,
+) -> Result<u16, SentenceFault>
+    requires { tokens.old.items ≡ [] }
+    ensures sentence { PutsSentence (sentence_from (vocabulary_in lexicon.now) (name_of start.entry) names.now) tokens.new.items result }
+    ensures few { OnOk result (length tokens.new.items ≤ length names.now) }
+{
+    match put_tokens(tokens, lexicon, names) {
+        Ok(unknown) => match find_start(alloc, lexicon, start) {
+            Ok(start) => match unknown {
+                Some(name) => Err(unknown_token(alloc, name)),
+                None => Ok(start),
+            },
+            Err(no_start) => Err(no_start),
+        },
+        Err(fault) => Err(fault),
+    }
+}
+
 /// The sentence of these names of tokens, by this start.
 fn sentence_of(
     alloc: Global,
@@ -148,20 +161,13 @@ fn sentence_of(
     ensures sentence { ReadsSentence (sentence_from (vocabulary_in lexicon.now) (name_of start.entry) names.now) result }
     ensures few { IfOk result (λ sentence. length sentence.tokens ≤ length names.now) }
 {
-    match read_pieces(alloc, lexicon, names) {
-        Err(_) => Err(SentenceFault::Memory),
-        Ok(Pieces::NotNames) => Err(SentenceFault::Unreadable),
-        Ok(Pieces::NotKnown(name)) => match find_start(alloc, lexicon, start) {
-            Ok(_) => Err(unknown_token(alloc, name)),
-            Err(fault) => Err(fault),
-        },
-        Ok(Pieces::Known(tokens)) => match find_start(alloc, lexicon, start) {
-            Ok(start) => Ok(Sentence {
-                start,
-                tokens: Sequence::from_vec(tokens),
-            }),
-            Err(fault) => Err(fault),
-        },
+    let mut tokens = Vec::new(alloc);
+    match put_sentence(alloc, lexicon, start, names, &mut tokens) {
+        Ok(start) => Ok(Sentence {
+            start,
+            tokens: Sequence::from_vec(tokens),
+        }),
+        Err(fault) => Err(fault),
     }
 }
 
@@ -197,5 +203,7 @@ pub fn read_sentence(
     ensures few { IfOk result (λ sentence. length sentence.tokens ≤ length line.now) }
 {
     let lexicon = Lexicon::new(alloc, grammar)?;
-    lexicon.read(alloc, line)
+    let sentence = lexicon.read(alloc, line);
+    drop(lexicon);
+    sentence
 }

@@ -6,19 +6,15 @@ ghost use Rattle.mh_outside.specs.Faults.{Counts};
 
 use crate::{Failed, Source};
 use std::alloc::Global;
-use thiserror::Error;
 
 /// Why a line was not read.
-#[derive(Clone, Copy, Debug, PartialEq, Eq, Error)]
+#[derive(Clone, Copy, Debug)]
 pub enum LineFault {
     /// The source failed.
-    #[error("the input can't be read")]
     Failed,
     /// More bytes than the limit were got without an LF.
-    #[error("the line is too big")]
     TooBig,
     /// The line could not grow.
-    #[error("out of memory")]
     Memory,
 }
 

@@ -6,10 +6,9 @@ use mh_engine::Phase;
 use mh_grammar::{Memory, Name, Token};
 use mh_tree::Tree;
 use std::alloc::{AllocError, AllocFailed};
-use thiserror::Error;
 
 /// What a session is asked.
-#[derive(Debug, Drop)]
+#[derive(Drop)]
 pub enum Command {
     /// Begins a branch of a start, by its number.
     Begin { name: Name, start: u16 },
@@ -37,22 +36,17 @@ pub enum Reply {
 }
 
 /// Why a command is refused. What was refused changes nothing.
-#[derive(Clone, Copy, Debug, PartialEq, Eq, Error)]
+#[derive(Clone, Copy)]
 pub enum SessionFault {
     /// No branch has the name.
-    #[error("unknown name")]
     UnknownName,
     /// Some branch has the name.
-    #[error("name taken")]
     NameTaken,
     /// The branch is in this phase, in which the command is of no use.
-    #[error("wrong phase")]
     WrongPhase { phase: Phase },
     /// The step would make more than 4,000 pairs of a state and a tree, or a tree of a height of more than 4,000.
-    #[error("too deep")]
     TooDeep,
     /// Memory ran out.
-    #[error("out of memory")]
     Memory,
 }
 

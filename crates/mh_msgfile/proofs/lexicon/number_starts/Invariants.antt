@@ -1,6 +1,6 @@
 use Rattle.std.proofs.Common.{map, take}
 use Rattle.mh_msgfile.specs.Sentences.{start_name, AreNumbers}
-use Rattle.mh_msgfile.proofs.lexicon.start_numbers.Given as goal
+use Rattle.mh_msgfile.proofs.lexicon.number_starts.Given as goal
 
 abbrev pub invariant-loop-number : goal.invariant-loop-number
 invariant-loop-number l = AreNumbers (map (start_name l.grammar) (take l.number l.grammar.starts)) l.numbers.entries

@@ -1,7 +1,7 @@
 use Rattle.std.proofs.Common.{◌≡◌, ◌++◌, drop}
 use Rattle.mh_msgfile.specs.Sentences.{vocabulary_in}
 use Rattle.mh_msgfile.specs.Messages.{faults_of, sentences_of}
-use Rattle.mh_msgfile.proofs.messages.read_block.Given as goal
+use Rattle.mh_msgfile.proofs.messages.put_sentences.Given as goal
 
 abbrev pub invariant-loop-line : goal.invariant-loop-line
 invariant-loop-line l = record {

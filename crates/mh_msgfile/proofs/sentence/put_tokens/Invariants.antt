@@ -2,7 +2,7 @@ use Rattle.std.proofs.Common.{◌≡◌, ◌+◌, ◌≤◌, length}
 use Rattle.std.specs.List.{list_all}
 use Rattle.mh_lex.specs.Words.{is_word}
 use Rattle.mh_msgfile.specs.Sentences.{pieces, vocabulary_in, tokens_of, behind_unknown}
-use Rattle.mh_msgfile.proofs.sentence.read_pieces.Given as goal
+use Rattle.mh_msgfile.proofs.sentence.put_tokens.Given as goal
 
 abbrev pub invariant-loop-name : goal.invariant-loop-name
 invariant-loop-name l = record {

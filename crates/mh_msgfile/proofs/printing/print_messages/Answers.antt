@@ -1,0 +1,14 @@
+use Rattle.mh_msgfile.specs.Printed.{entry_text}
+use Rattle.mh_msgfile.proofs.Writing.{left_at, written_next, written_all}
+use Rattle.mh_msgfile.proofs.printing.print_messages.Goals as goal
+
+pub loop-entry-preserved : goal.loop-entry-preserved
+loop-entry-preserved c =
+    let lt = rw c.as_slice-entry-items.ensures at c.loop-entry-test.true in
+    let is = rw c.as_slice-entry-items.ensures at c.entry-item.is in
+    written_next (entry_text c.args.grammar.now) c.args.file.now.entries c.loop-entry.entry-index _ _ c.loop-entry.invariant c.entry-item.result _ (left_at _ _ _ lt is) c.in_ok-write_entry.ensures
+
+pub returns : goal.returns
+returns c =
+    let le = rw c.as_slice-entry-items.ensures at c.loop-entry-test.false in
+    written_all (entry_text c.args.grammar.now) c.args.file.now.entries c.loop-entry.entry-index _ _ c.loop-entry.invariant le
