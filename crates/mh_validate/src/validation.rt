@@ -1,7 +1,8 @@
 //! Whether a table file is valid.
-ghost use Rattle.std.specs.Prelude.{◌≡◌, ◌<◌, ◌≤◌, ◌*◌, ◌^◌, ℕ, Option, Some, Err, length, IfOk};
+ghost use Rattle.std.specs.Prelude.{◌≡◌, ◌<◌, ◌≤◌, ◌*◌, ◌^◌, ℕ, [], Option, Some, Err, length, IfOk, OnOk};
 ghost use Rattle.mh_grammar.specs.Costs.{HaveCosts};
 ghost use Rattle.mh_grammar.specs.Plain.{plain_of, IsInRange};
+ghost use Rattle.mh_items.specs.Closer.{IsCloser};
 ghost use Rattle.mh_kernels.specs.Automaton.{IsAutomaton};
 ghost use Rattle.mh_cells.specs.States.{IsTableOf};
 ghost use Rattle.mh_cells.specs.Conflicts.{AreConflicts};
@@ -36,6 +37,33 @@ pub struct Valid<const W: usize> {
 }
 
 /// The parts of the first states, of so many as have edges here.
+fn fill_parts<const W: usize>(
+    alloc: Global,
+    grammar: &Grammar,
+    closer: &mut Closer<W>,
+    raw: &RawTable,
+    kernels: &[Kernel<W>],
+    rows: &[Sequence<Edge>],
+    states: &mut Vec<StateParts>,
+) -> Result<(), Memory>
+    requires few { W ≤ 8 }
+    requires width { length grammar.now.tokens ≤ 64 * W }
+    requires range { IsInRange (plain_of grammar.now) }
+    requires closer { IsCloser (plain_of grammar.now) closer.old }
+    requires kernels { AreKernels grammar.now raw.now kernels.now }
+    requires rows { AreFirstRows grammar.now raw.now kernels.now rows.now }
+    requires fresh { states.old.items ≡ [] }
+    ensures { OnOk result (AreResolvedRows grammar.now raw.now kernels.now rows.now states.new.items) }
+{
+    for state in 0..rows.len() {
+        let edges = rows[state].as_slice();
+        let parts = resolve_one(alloc, grammar, closer, &kernels[state], edges, raw.mode)?;
+        states.push(parts)?;
+    }
+    Ok(())
+}
+
+/// They are the parts of the first states, of so many as have edges here.
 fn resolve_rows<const W: usize>(
     alloc: Global,
     grammar: &Grammar,
@@ -50,20 +78,9 @@ fn resolve_rows<const W: usize>(
     requires rows { AreFirstRows grammar.now raw.now kernels.now rows.now }
     ensures { IfOk result (λ v. AreResolvedRows grammar.now raw.now kernels.now rows.now v.items) }
 {
-    let mut closer = Closer::new(alloc, grammar)?;
     let mut states = Vec::with_capacity(alloc, rows.len())?;
-    for state in 0..rows.len() {
-        let edges = rows[state].as_slice();
-        let parts = resolve_one(
-            alloc,
-            grammar,
-            &mut closer,
-            &kernels[state],
-            edges,
-            raw.mode,
-        )?;
-        states.push(parts)?;
-    }
+    let mut closer = Closer::new(alloc, grammar)?;
+    fill_parts(alloc, grammar, &mut closer, raw, kernels, rows, &mut states)?;
     Ok(states)
 }
 
@@ -111,6 +128,15 @@ fn wrong_at(grammar: &Grammar, raw: &RawTable, state: usize, parts: &StateParts)
     }
 }
 
+/// The fault of a file. What was made of it is let go in one call: a function that did so itself at each way out would be far
+/// longer to prove.
+fn refused<T: Drop, X>(made: T, fault: ValidFault) -> Result<X, ValidFault>
+    ensures { result ≡ Err fault }
+{
+    drop(made);
+    Err(fault)
+}
+
 /// An automaton whose kernels and edges are right, with its table, where the cells are right too.
 fn with_table<const W: usize>(
     alloc: Global,
@@ -130,14 +156,15 @@ fn with_table<const W: usize>(
     ensures { IsOutcome grammar.now raw.now result }
 {
     let Ok((states, conflicts)) = resolve_states(alloc, grammar, &automaton, raw.mode) else {
-        return Err(ValidFault::Memory);
+        return refused(automaton, ValidFault::Memory);
     };
     let told = count_told(grammar, raw, states.as_slice());
     if told < states.len() {
-        return Err(wrong_at(grammar, raw, told, &states[told]));
+        let fault = wrong_at(grammar, raw, told, &states[told]);
+        return refused((automaton, states, conflicts), fault);
     }
     let Ok(table) = table_of(alloc, grammar, states) else {
-        return Err(ValidFault::Memory);
+        return refused((automaton, conflicts), ValidFault::Memory);
     };
     Ok(Valid {
         automaton,
@@ -165,10 +192,11 @@ fn with_kernels<const W: usize>(
     ensures { IsOutcome grammar.now raw.now result }
 {
     let Ok(rows) = first_rows(alloc, grammar, raw, kernels.as_slice()) else {
-        return Err(ValidFault::Memory);
+        return refused(kernels, ValidFault::Memory);
     };
     if rows.len() < kernels.len() {
-        return Err(fault_within(alloc, grammar, raw, kernels.as_slice(), rows.as_slice()));
+        let fault = fault_within(alloc, grammar, raw, kernels.as_slice(), rows.as_slice());
+        return refused((kernels, rows), fault);
     }
     with_table(
         alloc,
@@ -181,9 +209,8 @@ fn with_kernels<const W: usize>(
     )
 }
 
-/// The automaton of a table file, with its table and its conflicts, where the file is valid for the grammar; else the first test
-/// that it fails. `Memory` may come at any file.
-pub fn validate<const W: usize>(
+/// What is answered of a file, as one relation tells it.
+fn judged<const W: usize>(
     alloc: Global,
     grammar: &Grammar,
     raw: &RawTable,
@@ -194,12 +221,7 @@ pub fn validate<const W: usize>(
     requires costs { HaveCosts grammar.now.tokens }
     requires apart { AreNamesApart grammar.now }
     requires small { length raw.now.states < 2 ^ 32 }
-    ensures valid { IfOk result (λ v. IsValidFor grammar.now raw.now v.automaton v.table.states) }
-    ensures automaton { IfOk result (λ v. IsAutomaton (plain_of grammar.now) v.automaton) }
-    ensures table { IfOk result (λ v. IsTableOf grammar.now v.automaton raw.now.mode v.table) }
-    ensures conflicts { IfOk result (λ v. AreConflicts grammar.now v.automaton v.conflicts.items) }
-    ensures mode { IfOk result (λ v. v.mode ≡ raw.now.mode) }
-    ensures invalid { (state : Option ℕ) (reason : ReasonOf) → result ≡ Err (ValidFault.Invalid state reason) → IsInvalidAt grammar.now raw.now state reason }
+    ensures { IsOutcome grammar.now raw.now result }
 {
     if !has_header(grammar, raw) {
         return Err(ValidFault::Invalid {
@@ -223,4 +245,27 @@ pub fn validate<const W: usize>(
         });
     }
     with_kernels(alloc, grammar, raw, kernels)
+}
+
+/// The automaton of a table file, with its table and its conflicts, where the file is valid for the grammar; else the first test
+/// that it fails. `Memory` may come at any file.
+pub fn validate<const W: usize>(
+    alloc: Global,
+    grammar: &Grammar,
+    raw: &RawTable,
+) -> Result<Valid<W>, ValidFault>
+    requires few { W ≤ 8 }
+    requires width { length grammar.now.tokens ≤ 64 * W }
+    requires range { IsInRange (plain_of grammar.now) }
+    requires costs { HaveCosts grammar.now.tokens }
+    requires apart { AreNamesApart grammar.now }
+    requires small { length raw.now.states < 2 ^ 32 }
+    ensures valid { IfOk result (λ v. IsValidFor grammar.now raw.now v.automaton v.table.states) }
+    ensures automaton { IfOk result (λ v. IsAutomaton (plain_of grammar.now) v.automaton) }
+    ensures table { IfOk result (λ v. IsTableOf grammar.now v.automaton raw.now.mode v.table) }
+    ensures conflicts { IfOk result (λ v. AreConflicts grammar.now v.automaton v.conflicts.items) }
+    ensures mode { IfOk result (λ v. v.mode ≡ raw.now.mode) }
+    ensures invalid { (state : Option ℕ) (reason : ReasonOf) → result ≡ Err (ValidFault.Invalid state reason) → IsInvalidAt grammar.now raw.now state reason }
+{
+    judged(alloc, grammar, raw)
 }
