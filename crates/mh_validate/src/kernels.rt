@@ -136,6 +136,24 @@ fn fill_kernels<const W: usize>(
     Ok(())
 }
 
+/// The same, by a lexicon that is let go at one end alone.
+fn find_kernels<const W: usize>(
+    alloc: Global,
+    grammar: &Grammar,
+    raw: &RawTable,
+    kernels: &mut Vec<Kernel<W>>,
+) -> Result<(), Memory>
+    requires few { W ≤ 8 }
+    requires width { length grammar.now.tokens ≤ 64 * W }
+    requires range { IsInRange (plain_of grammar.now) }
+    requires apart { AreNamesApart grammar.now }
+    requires fresh { kernels.old.items ≡ [] }
+    ensures { OnOk result (AreFirstKernels grammar.now raw.now kernels.new.items) }
+{
+    let lexicon = Lexicon::new(alloc, grammar)?;
+    fill_kernels(alloc, grammar, &lexicon, raw, kernels)
+}
+
 /// They are the kernels of the first states, up to the first state that has none.
 pub(crate) fn first_kernels<const W: usize>(
     alloc: Global,
@@ -149,7 +167,6 @@ pub(crate) fn first_kernels<const W: usize>(
     ensures { IfOk result (λ v. AreFirstKernels grammar.now raw.now v.items) }
 {
     let mut kernels = Vec::with_capacity(alloc, raw.states.len())?;
-    let lexicon = Lexicon::new(alloc, grammar)?;
-    fill_kernels(alloc, grammar, &lexicon, raw, &mut kernels)?;
+    find_kernels(alloc, grammar, raw, &mut kernels)?;
     Ok(kernels)
 }

@@ -75,6 +75,25 @@ fn fill_rows<const W: usize>(
     Ok(())
 }
 
+/// The same, by a mover that is let go at one end alone.
+fn move_rows<const W: usize>(
+    alloc: Global,
+    grammar: &Grammar,
+    raw: &RawTable,
+    kernels: &[Kernel<W>],
+    rows: &mut Vec<Sequence<Edge>>,
+) -> Result<(), Memory>
+    requires few { W ≤ 8 }
+    requires width { length grammar.now.tokens ≤ 64 * W }
+    requires range { IsInRange (plain_of grammar.now) }
+    requires kernels { AreKernels grammar.now raw.now kernels.now }
+    requires fresh { rows.old.items ≡ [] }
+    ensures { OnOk result (AreFirstRows grammar.now raw.now kernels.now rows.new.items) }
+{
+    let mut mover = Mover::new(alloc, grammar)?;
+    fill_rows(alloc, grammar, &mut mover, raw, kernels, rows)
+}
+
 /// They are the edges of the first states, up to the first state whose edges are wrong.
 pub(crate) fn first_rows<const W: usize>(
     alloc: Global,
@@ -89,7 +108,6 @@ pub(crate) fn first_rows<const W: usize>(
     ensures { IfOk result (λ v. AreFirstRows grammar.now raw.now kernels.now v.items) }
 {
     let mut rows = Vec::with_capacity(alloc, kernels.len())?;
-    let mut mover = Mover::new(alloc, grammar)?;
-    fill_rows(alloc, grammar, &mut mover, raw, kernels, &mut rows)?;
+    move_rows(alloc, grammar, raw, kernels, &mut rows)?;
     Ok(rows)
 }

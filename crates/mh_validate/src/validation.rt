@@ -63,6 +63,27 @@ fn fill_parts<const W: usize>(
     Ok(())
 }
 
+/// The same, by a closer that is let go at one end alone.
+fn close_rows<const W: usize>(
+    alloc: Global,
+    grammar: &Grammar,
+    raw: &RawTable,
+    kernels: &[Kernel<W>],
+    rows: &[Sequence<Edge>],
+    states: &mut Vec<StateParts>,
+) -> Result<(), Memory>
+    requires few { W ≤ 8 }
+    requires width { length grammar.now.tokens ≤ 64 * W }
+    requires range { IsInRange (plain_of grammar.now) }
+    requires kernels { AreKernels grammar.now raw.now kernels.now }
+    requires rows { AreFirstRows grammar.now raw.now kernels.now rows.now }
+    requires fresh { states.old.items ≡ [] }
+    ensures { OnOk result (AreResolvedRows grammar.now raw.now kernels.now rows.now states.new.items) }
+{
+    let mut closer = Closer::new(alloc, grammar)?;
+    fill_parts(alloc, grammar, &mut closer, raw, kernels, rows, states)
+}
+
 /// They are the parts of the first states, of so many as have edges here.
 fn resolve_rows<const W: usize>(
     alloc: Global,
@@ -79,8 +100,7 @@ fn resolve_rows<const W: usize>(
     ensures { IfOk result (λ v. AreResolvedRows grammar.now raw.now kernels.now rows.now v.items) }
 {
     let mut states = Vec::with_capacity(alloc, rows.len())?;
-    let mut closer = Closer::new(alloc, grammar)?;
-    fill_parts(alloc, grammar, &mut closer, raw, kernels, rows, &mut states)?;
+    close_rows(alloc, grammar, raw, kernels, rows, &mut states)?;
     Ok(states)
 }
 
@@ -128,15 +148,6 @@ fn wrong_at(grammar: &Grammar, raw: &RawTable, state: usize, parts: &StateParts)
     }
 }
 
-/// The fault of a file. What was made of it is let go in one call: a function that did so itself at each way out would be far
-/// longer to prove.
-fn refused<T: Drop, X>(made: T, fault: ValidFault) -> Result<X, ValidFault>
-    ensures { result ≡ Err fault }
-{
-    drop(made);
-    Err(fault)
-}
-
 /// An automaton whose kernels and edges are right, with its table, where the cells are right too.
 fn with_table<const W: usize>(
     alloc: Global,
@@ -156,15 +167,14 @@ fn with_table<const W: usize>(
     ensures { IsOutcome grammar.now raw.now result }
 {
     let Ok((states, conflicts)) = resolve_states(alloc, grammar, &automaton, raw.mode) else {
-        return refused(automaton, ValidFault::Memory);
+        return Err(ValidFault::Memory);
     };
     let told = count_told(grammar, raw, states.as_slice());
     if told < states.len() {
-        let fault = wrong_at(grammar, raw, told, &states[told]);
-        return refused((automaton, states, conflicts), fault);
+        return Err(wrong_at(grammar, raw, told, &states[told]));
     }
     let Ok(table) = table_of(alloc, grammar, states) else {
-        return refused((automaton, conflicts), ValidFault::Memory);
+        return Err(ValidFault::Memory);
     };
     Ok(Valid {
         automaton,
@@ -192,11 +202,10 @@ fn with_kernels<const W: usize>(
     ensures { IsOutcome grammar.now raw.now result }
 {
     let Ok(rows) = first_rows(alloc, grammar, raw, kernels.as_slice()) else {
-        return refused(kernels, ValidFault::Memory);
+        return Err(ValidFault::Memory);
     };
     if rows.len() < kernels.len() {
-        let fault = fault_within(alloc, grammar, raw, kernels.as_slice(), rows.as_slice());
-        return refused((kernels, rows), fault);
+        return Err(fault_within(alloc, grammar, raw, kernels.as_slice(), rows.as_slice()));
     }
     with_table(
         alloc,

@@ -12,9 +12,9 @@ returns-then-told-len g c =
     let lt : c.count_told-told.result < length c.in-Ok.states.items = (let n = c.len.ensures in omega (arith, n, c.if-told-len.true, c.in-Ok.states.ok.0)) in
     let n = c.in-Ok.ensures.states.count in
     let m = c.requires.kernels.count in
-    rw c.refused-then-told-len.ensures (wrong_fault c.args.grammar.now c.args.raw.now c.in-Ok.states.items c.count_told-told.result c.index.result.now c.wrong_at-fault.result lt c.index.ensures c.wrong_at-fault.ensures
+    wrong_fault c.args.grammar.now c.args.raw.now c.in-Ok.states.items c.count_told-told.result c.index.result.now c.wrong_at.result lt c.index.ensures c.wrong_at.ensures
     (cell_fault c.args.grammar.now c.args.raw.now c.requires.header c.requires.states c.args.automaton.kernels c.requires.kernels c.args.automaton.edges c.in-Ok.states.items c.count_told-told.result (length c.args.raw.now.states) (omega (arith, lt, n, m)) (omega arith)
-    c.requires.rows.each (resolved_at c.args.grammar.now c.args.raw.now c.args.automaton c.in-Ok.states.items c.requires.kernels c.in-Ok.ensures.states) told.each (told.wrong lt)))
+    c.requires.rows.each (resolved_at c.args.grammar.now c.args.raw.now c.args.automaton c.in-Ok.states.items c.requires.kernels c.in-Ok.ensures.states) told.each (told.wrong lt))
 
 pub returns : goal.returns
 returns g c =
