@@ -132,7 +132,3 @@ outcome_fault g raw (Err fault) h state reason e = fault_is fault g raw state re
 pub kernel_fault : (g : Grammar) (raw : RawTable) (ks : List Kernel) (n : ℕ) → HasHeader g raw → HasStates g raw → AreFirstKernels g raw ks → n ≡ length ks → length ks < length raw.states → IsInvalidAt g raw (Some n) reasons.Kernel
 kernel_fault g raw ks n header states first e short = subst (λ k. IsInvalidAt g raw (Some k) reasons.Kernel) (sym e)
     (record { header = header; states = states; known = short; before = λ u lt. (slice_index_or ks u no_kernel, first.each u lt); none = first.none short })
-
-pub kernel_outcome : {W : ℕ} (g : Grammar) (raw : RawTable) (ks : List Kernel) (n : ℕ) → HasHeader g raw → HasStates g raw → AreFirstKernels g raw ks → n ≡ length ks → length ks < length raw.states → (state : Option ℕ) (reason : Reason)
-    → ◌≡◌ {A = Result (Valid W) ValidFault} (Err (Invalid (Some n) reasons.Kernel)) (Err (Invalid state reason)) → IsInvalidAt g raw state reason
-kernel_outcome g raw ks n header states first e short state reason same = fault_is (Invalid (Some n) reasons.Kernel) g raw state reason (kernel_fault g raw ks n header states first e short) cc

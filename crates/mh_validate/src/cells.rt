@@ -1,5 +1,6 @@
 //! The cells and the default of a state.
 ghost use Rattle.std.specs.Prelude.{◌≡◌, ◌<◌, ◌≤◌, ◌↔◌, ◌∷◌, ℕ, [], IsTrue, length, slice_index_or};
+ghost use Rattle.mh_grammar.specs.declared.types.TheConstants.{MAX_NUMBERED};
 ghost use Rattle.mh_tables.specs.Table.{no_state};
 ghost use Rattle.mh_tabform.specs.declared.types.RawCells.TheVariants as lines;
 ghost use Rattle.mh_tabform.specs.Written.{raw_cell, raw_row, raw_cells};
@@ -26,7 +27,7 @@ fn is_cell(grammar: &Grammar, raw: &RawCell, token: Token, action: Action) -> bo
 
 /// Whether the lines are those of a row of cells.
 fn are_cells(grammar: &Grammar, raws: &[RawCell], cells: &[Action]) -> bool
-    requires { length cells.now < 65536 }
+    requires { length cells.now ≤ MAX_NUMBERED }
     ensures { IsTrue result ↔ (raws.now ≡ raw_row grammar.now 0 cells.now) }
 {
     let mut next = 0usize;
@@ -47,7 +48,7 @@ fn are_cells(grammar: &Grammar, raws: &[RawCell], cells: &[Action]) -> bool
 
 /// Whether the lines of a state are those of its parts of the table.
 pub(crate) fn is_told(grammar: &Grammar, raw: &RawCells, parts: &StateParts) -> bool
-    requires { length parts.now.cells < 65536 }
+    requires { length parts.now.cells ≤ MAX_NUMBERED }
     ensures { IsTrue result ↔ (raw.now ≡ raw_cells grammar.now parts.now) }
 {
     match (raw, parts.fallback) {
@@ -122,7 +123,7 @@ pub(crate) fn cells_at(raw: &RawTable, state: usize) -> &RawCells
 /// How many of the first states have the lines of these parts.
 pub(crate) fn count_told(grammar: &Grammar, raw: &RawTable, parts: &[StateParts]) -> usize
     requires states { length parts.now ≤ length raw.now.states }
-    requires narrow { (s : ℕ) → s < length parts.now → length (slice_index_or parts.now s no_state).cells < 65536 }
+    requires narrow { (s : ℕ) → s < length parts.now → length (slice_index_or parts.now s no_state).cells ≤ MAX_NUMBERED }
     ensures { AreFirstCells grammar.now raw.now parts.now result }
 {
     for state in 0..parts.len() {

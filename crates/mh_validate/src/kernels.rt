@@ -1,5 +1,5 @@
 //! The kernels that states have.
-ghost use Rattle.std.specs.Prelude.{◌≡◌, ◌<◌, ◌≤◌, ◌*◌, ◌↔◌, [], ◌∷◌, length, IsTrue, IfOk};
+ghost use Rattle.std.specs.Prelude.{◌≡◌, ◌<◌, ◌≤◌, ◌*◌, ◌↔◌, [], ◌∷◌, length, IsTrue, IfOk, OnOk};
 ghost use Rattle.std.specs.List.{AllByRecursion};
 ghost use Rattle.mh_grammar.specs.declared.types.Look.TheVariants.{End};
 ghost use Rattle.mh_grammar.specs.Plain.{plain_of, IsInRange};
@@ -112,6 +112,49 @@ fn kernel_at<const W: usize>(
 }
 
 /// The kernels of the first states, up to the first state that has none.
+fn fill_kernels<const W: usize>(
+    alloc: Global,
+    grammar: &Grammar,
+    lexicon: &Lexicon,
+    raw: &RawTable,
+    kernels: &mut Vec<Kernel<W>>,
+) -> Result<(), Memory>
+    requires few { W ≤ 8 }
+    requires width { length grammar.now.tokens ≤ 64 * W }
+    requires range { IsInRange (plain_of grammar.now) }
+    requires apart { AreNamesApart grammar.now }
+    requires lexicon { vocabulary_in lexicon.now ≡ vocabulary_of grammar.now }
+    requires fresh { kernels.old.items ≡ [] }
+    ensures { OnOk result (AreFirstKernels grammar.now raw.now kernels.new.items) }
+{
+    for state in 0..raw.states.len() {
+        let Some(kernel) = kernel_at(alloc, grammar, lexicon, raw, state)? else {
+            return Ok(());
+        };
+        kernels.push(kernel)?;
+    }
+    Ok(())
+}
+
+/// The same, by a lexicon that is let go at one end alone.
+fn find_kernels<const W: usize>(
+    alloc: Global,
+    grammar: &Grammar,
+    raw: &RawTable,
+    kernels: &mut Vec<Kernel<W>>,
+) -> Result<(), Memory>
+    requires few { W ≤ 8 }
+    requires width { length grammar.now.tokens ≤ 64 * W }
+    requires range { IsInRange (plain_of grammar.now) }
+    requires apart { AreNamesApart grammar.now }
+    requires fresh { kernels.old.items ≡ [] }
+    ensures { OnOk result (AreFirstKernels grammar.now raw.now kernels.new.items) }
+{
+    let lexicon = Lexicon::new(alloc, grammar)?;
+    fill_kernels(alloc, grammar, &lexicon, raw, kernels)
+}
+
+/// They are the kernels of the first states, up to the first state that has none.
 pub(crate) fn first_kernels<const W: usize>(
     alloc: Global,
     grammar: &Grammar,
@@ -123,13 +166,7 @@ pub(crate) fn first_kernels<const W: usize>(
     requires apart { AreNamesApart grammar.now }
     ensures { IfOk result (λ v. AreFirstKernels grammar.now raw.now v.items) }
 {
-    let lexicon = Lexicon::new(alloc, grammar)?;
     let mut kernels = Vec::with_capacity(alloc, raw.states.len())?;
-    for state in 0..raw.states.len() {
-        let Some(kernel) = kernel_at(alloc, grammar, &lexicon, raw, state)? else {
-            return Ok(kernels);
-        };
-        kernels.push(kernel)?;
-    }
+    find_kernels(alloc, grammar, raw, &mut kernels)?;
     Ok(kernels)
 }

@@ -1,5 +1,5 @@
 //! The edges of the states, one after another.
-ghost use Rattle.std.specs.Prelude.{◌≡◌, ◌<◌, ◌≤◌, ◌*◌, length, IfOk};
+ghost use Rattle.std.specs.Prelude.{◌≡◌, ◌<◌, ◌≤◌, ◌*◌, [], length, IfOk, OnOk};
 ghost use Rattle.mh_grammar.specs.Plain.{plain_of, IsInRange};
 ghost use Rattle.mh_moves.specs.Mover.{IsMover};
 ghost use Rattle.mh_valid.specs.Valid.{AreKernels, HasEdges, raw_state};
@@ -50,6 +50,51 @@ fn row_at<const W: usize>(
 }
 
 /// The edges of the first states, up to the first state whose edges are wrong.
+fn fill_rows<const W: usize>(
+    alloc: Global,
+    grammar: &Grammar,
+    mover: &mut Mover<W>,
+    raw: &RawTable,
+    kernels: &[Kernel<W>],
+    rows: &mut Vec<Sequence<Edge>>,
+) -> Result<(), Memory>
+    requires few { W ≤ 8 }
+    requires width { length grammar.now.tokens ≤ 64 * W }
+    requires range { IsInRange (plain_of grammar.now) }
+    requires mover { IsMover (plain_of grammar.now) mover.old }
+    requires kernels { AreKernels grammar.now raw.now kernels.now }
+    requires fresh { rows.old.items ≡ [] }
+    ensures { OnOk result (AreFirstRows grammar.now raw.now kernels.now rows.new.items) }
+{
+    for state in 0..kernels.len() {
+        let Some(row) = row_at(alloc, grammar, mover, raw, kernels, state)? else {
+            return Ok(());
+        };
+        rows.push(row)?;
+    }
+    Ok(())
+}
+
+/// The same, by a mover that is let go at one end alone.
+fn move_rows<const W: usize>(
+    alloc: Global,
+    grammar: &Grammar,
+    raw: &RawTable,
+    kernels: &[Kernel<W>],
+    rows: &mut Vec<Sequence<Edge>>,
+) -> Result<(), Memory>
+    requires few { W ≤ 8 }
+    requires width { length grammar.now.tokens ≤ 64 * W }
+    requires range { IsInRange (plain_of grammar.now) }
+    requires kernels { AreKernels grammar.now raw.now kernels.now }
+    requires fresh { rows.old.items ≡ [] }
+    ensures { OnOk result (AreFirstRows grammar.now raw.now kernels.now rows.new.items) }
+{
+    let mut mover = Mover::new(alloc, grammar)?;
+    fill_rows(alloc, grammar, &mut mover, raw, kernels, rows)
+}
+
+/// They are the edges of the first states, up to the first state whose edges are wrong.
 pub(crate) fn first_rows<const W: usize>(
     alloc: Global,
     grammar: &Grammar,
@@ -62,13 +107,7 @@ pub(crate) fn first_rows<const W: usize>(
     requires kernels { AreKernels grammar.now raw.now kernels.now }
     ensures { IfOk result (λ v. AreFirstRows grammar.now raw.now kernels.now v.items) }
 {
-    let mut mover = Mover::new(alloc, grammar)?;
     let mut rows = Vec::with_capacity(alloc, kernels.len())?;
-    for state in 0..kernels.len() {
-        let Some(row) = row_at(alloc, grammar, &mut mover, raw, kernels, state)? else {
-            return Ok(rows);
-        };
-        rows.push(row)?;
-    }
+    move_rows(alloc, grammar, raw, kernels, &mut rows)?;
     Ok(rows)
 }

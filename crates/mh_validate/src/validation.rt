@@ -1,7 +1,8 @@
 //! Whether a table file is valid.
-ghost use Rattle.std.specs.Prelude.{◌≡◌, ◌<◌, ◌≤◌, ◌*◌, ◌^◌, ℕ, Option, Some, Err, length, IfOk};
+ghost use Rattle.std.specs.Prelude.{◌≡◌, ◌<◌, ◌≤◌, ◌*◌, ◌^◌, ℕ, [], Option, Some, Err, length, IfOk, OnOk};
 ghost use Rattle.mh_grammar.specs.Costs.{HaveCosts};
 ghost use Rattle.mh_grammar.specs.Plain.{plain_of, IsInRange};
+ghost use Rattle.mh_items.specs.Closer.{IsCloser};
 ghost use Rattle.mh_kernels.specs.Automaton.{IsAutomaton};
 ghost use Rattle.mh_cells.specs.States.{IsTableOf};
 ghost use Rattle.mh_cells.specs.Conflicts.{AreConflicts};
@@ -36,6 +37,54 @@ pub struct Valid<const W: usize> {
 }
 
 /// The parts of the first states, of so many as have edges here.
+fn fill_parts<const W: usize>(
+    alloc: Global,
+    grammar: &Grammar,
+    closer: &mut Closer<W>,
+    raw: &RawTable,
+    kernels: &[Kernel<W>],
+    rows: &[Sequence<Edge>],
+    states: &mut Vec<StateParts>,
+) -> Result<(), Memory>
+    requires few { W ≤ 8 }
+    requires width { length grammar.now.tokens ≤ 64 * W }
+    requires range { IsInRange (plain_of grammar.now) }
+    requires closer { IsCloser (plain_of grammar.now) closer.old }
+    requires kernels { AreKernels grammar.now raw.now kernels.now }
+    requires rows { AreFirstRows grammar.now raw.now kernels.now rows.now }
+    requires fresh { states.old.items ≡ [] }
+    ensures { OnOk result (AreResolvedRows grammar.now raw.now kernels.now rows.now states.new.items) }
+{
+    for state in 0..rows.len() {
+        let edges = rows[state].as_slice();
+        let parts = resolve_one(alloc, grammar, closer, &kernels[state], edges, raw.mode)?;
+        states.push(parts)?;
+    }
+    Ok(())
+}
+
+/// The same, by a closer that is let go at one end alone.
+fn close_rows<const W: usize>(
+    alloc: Global,
+    grammar: &Grammar,
+    raw: &RawTable,
+    kernels: &[Kernel<W>],
+    rows: &[Sequence<Edge>],
+    states: &mut Vec<StateParts>,
+) -> Result<(), Memory>
+    requires few { W ≤ 8 }
+    requires width { length grammar.now.tokens ≤ 64 * W }
+    requires range { IsInRange (plain_of grammar.now) }
+    requires kernels { AreKernels grammar.now raw.now kernels.now }
+    requires rows { AreFirstRows grammar.now raw.now kernels.now rows.now }
+    requires fresh { states.old.items ≡ [] }
+    ensures { OnOk result (AreResolvedRows grammar.now raw.now kernels.now rows.now states.new.items) }
+{
+    let mut closer = Closer::new(alloc, grammar)?;
+    fill_parts(alloc, grammar, &mut closer, raw, kernels, rows, states)
+}
+
+/// They are the parts of the first states, of so many as have edges here.
 fn resolve_rows<const W: usize>(
     alloc: Global,
     grammar: &Grammar,
@@ -50,20 +99,8 @@ fn resolve_rows<const W: usize>(
     requires rows { AreFirstRows grammar.now raw.now kernels.now rows.now }
     ensures { IfOk result (λ v. AreResolvedRows grammar.now raw.now kernels.now rows.now v.items) }
 {
-    let mut closer = Closer::new(alloc, grammar)?;
     let mut states = Vec::with_capacity(alloc, rows.len())?;
-    for state in 0..rows.len() {
-        let edges = rows[state].as_slice();
-        let parts = resolve_one(
-            alloc,
-            grammar,
-            &mut closer,
-            &kernels[state],
-            edges,
-            raw.mode,
-        )?;
-        states.push(parts)?;
-    }
+    close_rows(alloc, grammar, raw, kernels, rows, &mut states)?;
     Ok(states)
 }
 
@@ -181,9 +218,8 @@ fn with_kernels<const W: usize>(
     )
 }
 
-/// The automaton of a table file, with its table and its conflicts, where the file is valid for the grammar; else the first test
-/// that it fails. `Memory` may come at any file.
-pub fn validate<const W: usize>(
+/// What is answered of a file, as one relation tells it.
+fn judged<const W: usize>(
     alloc: Global,
     grammar: &Grammar,
     raw: &RawTable,
@@ -194,12 +230,7 @@ pub fn validate<const W: usize>(
     requires costs { HaveCosts grammar.now.tokens }
     requires apart { AreNamesApart grammar.now }
     requires small { length raw.now.states < 2 ^ 32 }
-    ensures valid { IfOk result (λ v. IsValidFor grammar.now raw.now v.automaton v.table.states) }
-    ensures automaton { IfOk result (λ v. IsAutomaton (plain_of grammar.now) v.automaton) }
-    ensures table { IfOk result (λ v. IsTableOf grammar.now v.automaton raw.now.mode v.table) }
-    ensures conflicts { IfOk result (λ v. AreConflicts grammar.now v.automaton v.conflicts.items) }
-    ensures mode { IfOk result (λ v. v.mode ≡ raw.now.mode) }
-    ensures invalid { (state : Option ℕ) (reason : ReasonOf) → result ≡ Err (ValidFault.Invalid state reason) → IsInvalidAt grammar.now raw.now state reason }
+    ensures { IsOutcome grammar.now raw.now result }
 {
     if !has_header(grammar, raw) {
         return Err(ValidFault::Invalid {
@@ -223,4 +254,27 @@ pub fn validate<const W: usize>(
         });
     }
     with_kernels(alloc, grammar, raw, kernels)
+}
+
+/// The automaton of a table file, with its table and its conflicts, where the file is valid for the grammar; else the first test
+/// that it fails. `Memory` may come at any file.
+pub fn validate<const W: usize>(
+    alloc: Global,
+    grammar: &Grammar,
+    raw: &RawTable,
+) -> Result<Valid<W>, ValidFault>
+    requires few { W ≤ 8 }
+    requires width { length grammar.now.tokens ≤ 64 * W }
+    requires range { IsInRange (plain_of grammar.now) }
+    requires costs { HaveCosts grammar.now.tokens }
+    requires apart { AreNamesApart grammar.now }
+    requires small { length raw.now.states < 2 ^ 32 }
+    ensures valid { IfOk result (λ v. IsValidFor grammar.now raw.now v.automaton v.table.states) }
+    ensures automaton { IfOk result (λ v. IsAutomaton (plain_of grammar.now) v.automaton) }
+    ensures table { IfOk result (λ v. IsTableOf grammar.now v.automaton raw.now.mode v.table) }
+    ensures conflicts { IfOk result (λ v. AreConflicts grammar.now v.automaton v.conflicts.items) }
+    ensures mode { IfOk result (λ v. v.mode ≡ raw.now.mode) }
+    ensures invalid { (state : Option ℕ) (reason : ReasonOf) → result ≡ Err (ValidFault.Invalid state reason) → IsInvalidAt grammar.now raw.now state reason }
+{
+    judged(alloc, grammar, raw)
 }

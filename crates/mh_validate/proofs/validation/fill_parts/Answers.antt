@@ -5,7 +5,7 @@ use Rattle.mh_valid.specs.Valid.{IsResolvedAt}
 use Rattle.mh_validate.proofs.Counting.{count_more, pushed}
 use Rattle.mh_validate.proofs.Edging.{kernel_right}
 use Rattle.mh_validate.proofs.Judging.{row_has, resolved_here, edges_known}
-use Rattle.mh_validate.proofs.validation.resolve_rows.Goals as goal
+use Rattle.mh_validate.proofs.validation.fill_parts.Goals as goal
 
 pub resolve_one-requires : goal.resolve_one-requires
 resolve_one-requires g c =

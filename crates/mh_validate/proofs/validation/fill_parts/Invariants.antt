@@ -4,7 +4,7 @@ use Rattle.mh_grammar.specs.Plain.{plain_of}
 use Rattle.mh_items.specs.Closer.{IsCloser}
 use Rattle.mh_tables.specs.Table.{no_state}
 use Rattle.mh_valid.specs.Valid.{IsResolvedAt}
-use Rattle.mh_validate.proofs.validation.resolve_rows.Given as goal
+use Rattle.mh_validate.proofs.validation.fill_parts.Given as goal
 
 abbrev pub invariant-loop-state : goal.invariant-loop-state
 invariant-loop-state g l = record {

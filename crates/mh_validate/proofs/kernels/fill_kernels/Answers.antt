@@ -2,7 +2,7 @@ use Rattle.std.proofs.Common.{arith}
 use Rattle.mh_kernels.specs.Automaton.{no_kernel}
 use Rattle.mh_valid.specs.Valid.{HasKernel}
 use Rattle.mh_validate.proofs.Counting.{count_more, pushed, kernels_stop, kernels_end}
-use Rattle.mh_validate.proofs.kernels.first_kernels.Goals as goal
+use Rattle.mh_validate.proofs.kernels.fill_kernels.Goals as goal
 
 pub loop-state-preserved : goal.loop-state-preserved
 loop-state-preserved g c = record {

@@ -1,7 +1,7 @@
 use Rattle.std.proofs.Common.{[], arith, rules}
 use Rattle.mh_valid.specs.Valid.{HasEdges}
 use Rattle.mh_validate.proofs.Counting.{count_more, pushed, rows_stop, rows_end}
-use Rattle.mh_validate.proofs.rows.first_rows.Goals as goal
+use Rattle.mh_validate.proofs.rows.fill_rows.Goals as goal
 
 pub row_at-requires : goal.row_at-requires
 row_at-requires g c = (search rules, (search rules, (c.requires.few, (c.requires.width, (c.requires.range, (c.loop-state.invariant.mover, (c.requires.kernels, c.loop-state-test.true)))))))

@@ -3,7 +3,7 @@ use Rattle.std.specs.Prelude.{slice_index_or}
 use Rattle.mh_grammar.specs.Plain.{plain_of}
 use Rattle.mh_moves.specs.Mover.{IsMover}
 use Rattle.mh_valid.specs.Valid.{HasEdges}
-use Rattle.mh_validate.proofs.rows.first_rows.Given as goal
+use Rattle.mh_validate.proofs.rows.fill_rows.Given as goal
 
 abbrev pub invariant-loop-state : goal.invariant-loop-state
 invariant-loop-state g l = record {

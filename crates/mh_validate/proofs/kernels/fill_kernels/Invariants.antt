@@ -2,7 +2,7 @@ use Rattle.std.proofs.Common.{◌≡◌, ◌<◌, ℕ, length}
 use Rattle.std.specs.Prelude.{slice_index_or}
 use Rattle.mh_kernels.specs.Automaton.{no_kernel}
 use Rattle.mh_valid.specs.Valid.{HasKernel}
-use Rattle.mh_validate.proofs.kernels.first_kernels.Given as goal
+use Rattle.mh_validate.proofs.kernels.fill_kernels.Given as goal
 
 abbrev pub invariant-loop-state : goal.invariant-loop-state
 invariant-loop-state g l = record {
