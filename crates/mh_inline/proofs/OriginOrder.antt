@@ -161,4 +161,4 @@ AreOrigins-all is n xs all h = record {
 -- the rank of a file that is not the prelude
 pub rank_else : (file : ℕ) → (file ≡ 0 → ⊥) → file - 1 ≡ rank_of file
 rank_else zero some = absurd (some refl)
-rank_else (suc k) some = refl
+rank_else (suc k) some = let before : suc k - 1 ≡ k = omega arith in before
