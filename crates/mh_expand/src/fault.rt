@@ -4,7 +4,7 @@ use std::alloc::{AllocError, AllocFailed};
 use thiserror::Error;
 
 /// The first fault in the order of finding; at one place `Arity` comes before `Expansion`.
-#[derive(Debug, Drop, PartialEq, Eq, Error)]
+#[derive(Debug, Drop, Error)]
 pub enum ExpandFault {
     /// The term of this printed name, which may be longer than that of an instance, has not as many arguments as its rule has
     /// formals, or is a token with arguments. Starts are asked too.

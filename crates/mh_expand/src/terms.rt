@@ -10,7 +10,7 @@ use mh_rules::Head;
 use std::alloc::{AllocError, AllocFailed, Global};
 
 /// A head with the numbers of its arguments.
-#[derive(Debug, Drop, PartialEq, Eq, Hash)]
+#[derive(Drop, PartialEq, Eq, Hash)]
 pub(crate) struct Application {
     pub head: Head,
     pub args: Sequence<usize>,

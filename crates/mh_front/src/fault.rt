@@ -7,7 +7,7 @@ use thiserror::Error;
 /// The first fault of the modules, by the stage that finds it.
 ///
 /// The text of a fault is what `fault_line` tells of it; only that line has a name behind the text, since a name is bytes.
-#[derive(Debug, Drop, PartialEq, Eq, Error)]
+#[derive(Debug, Drop, Error)]
 pub enum GrammarFault {
     /// The modules are not joined.
     #[error(transparent)]

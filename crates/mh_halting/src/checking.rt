@@ -9,7 +9,7 @@ use mh_tables::{Halting, Table, halting_of};
 use std::alloc::Global;
 
 /// Why a table is refused.
-#[derive(Clone, Copy, Debug, Drop, PartialEq, Eq)]
+#[derive(Clone, Copy, Debug, Drop)]
 pub enum HaltFault {
     /// The relative run of `state`, alone (`below` is None, and the state is a start state) or above the state
     /// `below`, with this next token or none, makes more than `MAX_REDUCTIONS` reductions, and none before it does. Start states

@@ -1,8 +1,9 @@
 -- Until when unfoldings are needed, and what is forgotten.
-use Rattle.std.proofs.Common.{◌≡◌, ℕ, ◌+◌, ◌<◌, ◌≤◌, false, List, Some, take, set, length, get_or, sym, ap, ◌∙◌, arith, inl, inr, length-set, subst}
-use Rattle.std.specs.List.{slice_get}
+use Rattle.std.proofs.Common.{◌≡◌, ℕ, ◌+◌, ◌<◌, ◌≤◌, false, List, [], Some, take, set, length, get_or, refl, sym, ap, ◌∙◌, arith, inl, inr, length-set, subst}
+use Rattle.std.specs.List.{slice_get, Contains}
 use Rattle.std.proofs.lemmas.Bool.{cases_eq}
-use Rattle.std.proofs.lemmas.List.{take_more, take_all}
+use Rattle.std.proofs.lemmas.List.{take_more, take_all, get_or-set_other}
+use Rattle.std.proofs.lemmas.Grind.{get_or-set_at}
 use Rattle.std.proofs.lemmas.List.Elements.{Contains-push_cases}
 use Rattle.std.proofs.lemmas.Option.{same_Some, slice_get_within, slice_get-get_or}
 use Rattle.mh_grammar.proofs.Lists.{contains_none, set_here, set_elsewhere}
@@ -18,10 +19,31 @@ use Rattle.mh_inline.specs.Uses.{IsPartOfKept, PutsOff, AreLast, Forgets, KnowsN
 use Rattle.mh_cycles.proofs.Producers.{inline_instance}
 
 -- what stands in the order of sizes is an instance
+pub ordered_within : (is : List Instance) (s : Sizing) → IsSizing is s → (k n : ℕ) → slice_get s.order.items k ≡ Some n → n < length is
+ordered_within is s z k n at = (inline_instance is n (z.ordered k n at).inlined).within
+
 pub order_within : (is : List Instance) (s : Sizing) (order : List ℕ) → order ≡ s.order.items → IsSizing is s → (k d : ℕ) → k < length order → get_or order k d < length is
-order_within is s order e z k d l =
-    let o = z.ordered k (get_or order k d) (ap (λ x. slice_get x k) (sym e) ∙ slice_get-get_or order k d l) in
-    (inline_instance is (get_or order k d) o.inlined).within
+order_within is s order e z k d l = ordered_within is s z k (get_or order k d) (ap (λ x. slice_get x k) (sym e) ∙ slice_get-get_or order k d l)
+
+-- no place before one that is put off becomes less
+set_later : (last : List ℕ) (n value m : ℕ) → n < length last → get_or last n 0 ≤ value → get_or last m 0 ≤ get_or (set last n value) m 0
+set_later last n value m within grows = elim (cases_eq m n) [
+  | inl same ↦ (let here = get_or-set_at last n m value 0 same within in let before : get_or last m 0 ≡ get_or last n 0 = ap (λ k. get_or last k 0) same in omega arith)
+  | inr other ↦ (let here = get_or-set_other last n m value 0 other in omega arith)
+]
+
+pub PutsOff-none : (place : ℕ) (old : List ℕ) → PutsOff (Contains []) place old old
+PutsOff-none place old = record { len = refl; later = λ m. omega arith; reached = λ m x. absurd (contains_none m x) }
+
+pub PutsOff-more : (numbers : List ℕ) (i n place value : ℕ) (old last : List ℕ) → i < length numbers → n ≡ get_or numbers i 0 → n < length last → get_or last n 0 ≤ value → place ≤ value → PutsOff (Contains (take i numbers)) place old last → PutsOff (Contains (take (i + 1) numbers)) place old (set last n value)
+PutsOff-more numbers i n place value old last lt at within grows reaches p = record {
+  len = length-set last n value ∙ p.len;
+  later = λ m. let r = p.later m in let s = set_later last n value m within grows in omega arith;
+  reached = λ m x. elim (Contains-push_cases (take i numbers) (get_or numbers i 0) m (rw (take_more numbers i 0 lt) at x)) [
+    | inl before ↦ (let r = p.reached m before in let s = set_later last n value m within grows in omega arith)
+    | inr same ↦ (let here = get_or-set_at last n m value 0 (sym same ∙ sym at) within in omega arith)
+  ];
+}
 
 module _ (is : List Instance) (order : List ℕ) where
   -- the first so many of the order, and the first so many of the others

@@ -1,5 +1,5 @@
 -- Origins in their order, as they are put among others.
-use Rattle.std.proofs.Common.{◌≡◌, ℕ, ◌+◌, ◌<◌, ◌≤◌, ◌⊎◌, true, false, List, [], Some, length, refl, sym, ap, ◌∙◌, arith, inl, inr, subst}
+use Rattle.std.proofs.Common.{◌≡◌, ℕ, zero, suc, ◌+◌, ◌-◌, ◌<◌, ◌≤◌, ◌⊎◌, true, false, List, [], Some, length, refl, sym, ap, ◌∙◌, arith, inl, inr, subst}
 use Rattle.std.specs.List.{slice_get}
 use Rattle.std.specs.declared.cmp.Ordering.{Ordering}
 use Rattle.std.specs.declared.cmp.Ordering.TheVariants.{Less, Equal, Greater}
@@ -157,3 +157,8 @@ AreOrigins-all is n xs all h = record {
     (λ b. (h.exact s).1 (b, inl (let w = slice_get_within is s.instance b.alternative.instance b.alternative.at in omega arith))),
   );
 }
+
+-- the rank of a file that is not the prelude
+pub rank_else : (file : ℕ) → (file ≡ 0 → ⊥) → file - 1 ≡ rank_of file
+rank_else zero some = absurd (some refl)
+rank_else (suc k) some = let before : suc k - 1 ≡ k = omega arith in before

@@ -3,7 +3,7 @@ use mh_grammar::{Memory, Name};
 use thiserror::Error;
 
 /// The first fault of the instances, in the order of these variants.
-#[derive(Debug, Drop, PartialEq, Eq, Error)]
+#[derive(Debug, Drop, Error)]
 pub enum InlineFault {
     /// This inline instance, the first found such, reaches itself through inline instances.
     #[error("inline cycle")]

@@ -5,8 +5,8 @@ ghost use Rattle.mh_grammar.specs.Plain.{plain_of, IsInRange};
 ghost use Rattle.mh_grammar.specs.Numbering.{AreDistinct};
 ghost use Rattle.mh_rules.specs.Ready.{IsExpandedReady};
 ghost use Rattle.mh_cycles.specs.Sizes.{AreAllSized, IsSizing};
-ghost use Rattle.mh_inline.specs.Inlined.{AreOrigins, IsInlined};
-ghost use Rattle.mh_inline.specs.Making.{AreOriginsSmall};
+ghost use Rattle.mh_inline.specs.Inlined.{AreOrigins, AreProductions, IsInlined};
+ghost use Rattle.mh_inline.specs.Making.{AreNumbers, AreOriginsSmall};
 ghost use Rattle.mh_cycles.specs.Cycles.{HasNoCycle, IsFirstCyclicAt};
 ghost use Rattle.mh_inline.specs.Faults.{HasEmptyStart, HasNoInlineStart, IsFault, IsFirstInlineStartAt, IsFirstUnmarked, IsGrammarOf, IsNamed, IsSmall};
 ghost use Rattle.mh_cycles.specs.Searching.{IsSearch};
@@ -19,7 +19,7 @@ use crate::productions::{productions_of, size_of_origins};
 use crate::unfoldings::unfold_inline;
 use mh_cycles::{Search, Sizing, depth_first, first_cyclic, inline_sizes, is_inline, is_small};
 use mh_firsts::productive;
-use mh_grammar::{Grammar, Memory, Name, Sequence, TokenInfo};
+use mh_grammar::{Grammar, Memory, Name, Production, Sequence, TokenInfo};
 use mh_rules::Expanded;
 use std::alloc::Global;
 
@@ -94,7 +94,55 @@ fn tokens_of(expanded: &Expanded) -> Result<Sequence<TokenInfo>, Memory>
     Ok(expanded.tokens.clone()?)
 }
 
-/// The grammar from the alternatives in their order.
+/// The productions of the alternatives in their order.
+fn all_productions(
+    alloc: Global,
+    expanded: &Expanded,
+    sizing: &Sizing,
+    origins: &[Origin],
+    numbers: &[u16],
+) -> Result<Vec<Production>, Memory>
+    requires ready { IsExpandedReady expanded.now }
+    requires sizing { IsSizing expanded.now.instances sizing.now }
+    requires sized { AreAllSized expanded.now.instances sizing.now.sizes.items }
+    requires origins { AreOrigins expanded.now.instances origins.now }
+    requires small { AreOriginsSmall expanded.now.tokens expanded.now.instances origins.now }
+    requires numbers { AreNumbers expanded.now.instances numbers.now }
+    ensures { IfOk result (λ v. AreProductions expanded.now.tokens expanded.now.instances origins.now v.items) }
+{
+    let known = unfold_inline(alloc, expanded, sizing)?;
+    productions_of(alloc, expanded, &known, numbers, origins)
+}
+
+/// The grammar from the alternatives in their order, where the instances have these numbers.
+fn grammar_by(
+    alloc: Global,
+    expanded: &Expanded,
+    sizing: &Sizing,
+    origins: &[Origin],
+    numbers: &[u16],
+) -> Result<Grammar, Memory>
+    requires ready { IsExpandedReady expanded.now }
+    requires sizing { IsSizing expanded.now.instances sizing.now }
+    requires sized { AreAllSized expanded.now.instances sizing.now.sizes.items }
+    requires origins { AreOrigins expanded.now.instances origins.now }
+    requires small { AreOriginsSmall expanded.now.tokens expanded.now.instances origins.now }
+    requires numbers { AreNumbers expanded.now.instances numbers.now }
+    ensures inlined { IfOk result (IsInlined expanded.now) }
+    ensures small { IfOk result IsSmall }
+{
+    let starts = starts_of(alloc, expanded.starts.as_slice(), numbers)?;
+    let nonterminals = nonterminals_of(alloc, expanded.instances.as_slice())?;
+    let productions = all_productions(alloc, expanded, sizing, origins, numbers)?;
+    Ok(Grammar {
+        tokens: tokens_of(expanded)?,
+        nonterminals: Sequence::from_vec(nonterminals),
+        productions: Sequence::from_vec(productions),
+        starts: Sequence::from_vec(starts),
+    })
+}
+
+/// The same with their numbers made.
 fn grammar_of(
     alloc: Global,
     expanded: &Expanded,
@@ -109,17 +157,8 @@ fn grammar_of(
     ensures inlined { IfOk result (IsInlined expanded.now) }
     ensures small { IfOk result IsSmall }
 {
-    let known = unfold_inline(alloc, expanded, sizing)?;
     let numbers = numbers_of(alloc, expanded.instances.as_slice())?;
-    let productions = productions_of(alloc, expanded, &known, numbers.as_slice(), origins)?;
-    let nonterminals = nonterminals_of(alloc, expanded.instances.as_slice())?;
-    let starts = starts_of(alloc, expanded.starts.as_slice(), numbers.as_slice())?;
-    Ok(Grammar {
-        tokens: tokens_of(expanded)?,
-        nonterminals: Sequence::from_vec(nonterminals),
-        productions: Sequence::from_vec(productions),
-        starts: Sequence::from_vec(starts),
-    })
+    grammar_by(alloc, expanded, sizing, origins, &numbers)
 }
 
 /// The grammar, if each start has a finite tree.

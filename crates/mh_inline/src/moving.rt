@@ -7,7 +7,9 @@ ghost use Rattle.mh_inline.specs.Known.{AreEachKnown, AreKnown, IsKnown};
 ghost use Rattle.mh_inline.specs.LastUse.{IsCandidate, IsLastIn, IsLastOf, IsLastUse, MayLack};
 ghost use Rattle.mh_cycles.specs.Unfoldings.{own, Unfolds, UnfoldsEach};
 
-use crate::unfoldings::{add_own, unfold_alternatives, unfold_side, with_behind, with_in_front};
+use crate::unfoldings::{
+    add_own, put_behind, put_in_front, unfold_alternatives, unfold_side, with_own,
+};
 use mh_cycles::{Unfolding, inline_part};
 use mh_grammar::{Memory, Sequence};
 use mh_rules::{Expanded, InstanceProduction, Part, Prec};
@@ -15,7 +17,7 @@ use std::alloc::Global;
 use std::mem;
 
 /// A producer whose unfoldings no instance behind needs: the place of its alternative, its place there, and its number.
-#[derive(Clone, Copy, Debug)]
+#[derive(Clone, Copy)]
 pub struct LastUse {
     pub alternative: usize,
     pub producer: usize,
@@ -171,8 +173,9 @@ fn unfold_to_last(
         return Ok(moved_out(alloc, known, number));
     }
     let firsts = unfold_side(alloc, expanded, known, front)?;
-    let moved = moved_out(alloc, known, number);
-    with_in_front(alloc, firsts.as_slice(), moved)
+    let mut all = moved_out(alloc, known, number);
+    put_in_front(alloc, firsts.as_slice(), &mut all)?;
+    Ok(all)
 }
 
 /// The unfoldings of the producers of an alternative, where those of one are moved.
@@ -195,27 +198,13 @@ fn unfold_around(
         return unfold_to_last(alloc, expanded, known, front, q.number);
     }
     let seconds = unfold_side(alloc, expanded, known, behind)?;
-    let all = unfold_to_last(alloc, expanded, known, front, q.number)?;
-    with_behind(alloc, all, seconds.as_slice())
+    let mut all = unfold_to_last(alloc, expanded, known, front, q.number)?;
+    put_behind(alloc, &mut all, seconds.as_slice())?;
+    Ok(all)
 }
 
-/// The unfoldings with the `%prec` of the alternative that they are inlined into.
-fn with_own(alloc: Global, prec: Prec, unfoldings: Vec<Unfolding>) -> Result<Vec<Unfolding>, Memory>
-    ensures { IfOk result (λ all. all.items ≡ map (own prec) unfoldings.items) }
-{
-    match prec {
-        Prec::Absent => Ok(unfoldings),
-        Prec::Given(_) => {
-            let mut all = Vec::new(alloc);
-            add_own(&mut all, prec, unfoldings)?;
-            Ok(all)
-        }
-    }
-}
-
-/// The same behind others.
+/// Unfoldings behind others, with the `%prec` of the alternative that they are inlined into.
 fn own_behind(
-    alloc: Global,
     mut all: Vec<Unfolding>,
     prec: Prec,
     unfoldings: Vec<Unfolding>,
@@ -223,7 +212,7 @@ fn own_behind(
     ensures { IfOk result (λ more. more.items ≡ all.items ++ map (own prec) unfoldings.items) }
 {
     if all.is_empty() {
-        return with_own(alloc, prec, unfoldings);
+        return Ok(with_own(prec, unfoldings));
     }
     add_own(&mut all, prec, unfoldings)?;
     Ok(all)
@@ -246,7 +235,7 @@ fn unfold_to_alternative(
     let front = front_to(productions, q.alternative);
     let before = unfold_alternatives(alloc, expanded, known, front)?;
     let side = unfold_around(alloc, expanded, known, production.rhs.as_slice(), q)?;
-    own_behind(alloc, before, production.prec, side)
+    own_behind(before, production.prec, side)
 }
 
 /// The unfoldings of some alternatives, where those of a producer are moved.

@@ -14,7 +14,7 @@ use std::collections::BTreeSet;
 
 /// Where the productions of an alternative come from, which is what they are ordered by: the rank of its file and its place
 /// there, its instance and its place among the alternatives of that.
-#[derive(Clone, Copy, Debug, PartialEq, Eq, PartialOrd, Ord)]
+#[derive(Clone, Copy, PartialEq, Eq, PartialOrd, Ord)]
 pub struct Origin {
     pub rank: u64,
     pub place: u64,

@@ -1,17 +1,17 @@
 //! What producers become when each inline one is replaced by one of its own alternatives.
-ghost use Rattle.std.specs.Prelude.{◌≡◌, ◌++◌, ◌∷◌, [], List, Some, map, IfOk, OnOk, IfSome, length, slice_get};
+ghost use Rattle.std.specs.Prelude.{◌≡◌, ◌+◌, ◌++◌, ◌∷◌, [], List, Some, map, IfOk, OnOk, IfSome, length, slice_get};
 ghost use Rattle.mh_cycles.specs.declared.unfolding.Unfolding.{Unfolding as Unfolded};
 ghost use Rattle.mh_rules.specs.Ready.{IsExpandedReady};
 ghost use Rattle.mh_cycles.specs.Unfoldings.{choices, joined, nothing, only, own, rightmost, Unfolds, UnfoldsEach, UnfoldsPart};
 ghost use Rattle.mh_inline.specs.Known.{AreKnown, AreEachKnown, Extends, IsNext};
 ghost use Rattle.mh_inline.specs.LastUse.{IsLastOf, MayLack};
 ghost use Rattle.mh_rules.specs.declared.instances.Instance.{Instance as Row};
-ghost use Rattle.mh_inline.specs.Uses.{KnowsUsed};
+ghost use Rattle.mh_inline.specs.Uses.{AreLast, KnowsNeeded, KnowsUsed};
 ghost use Rattle.mh_cycles.specs.Sizes.{AreSmall, IsSizing};
 
 use crate::moving::{LastUse, last_use_of, unfold_with};
-use crate::uses::{forget, last_uses};
-use mh_cycles::{Ends, Sizing, Unfolding, inline_part, inlined_in, is_small};
+use crate::uses::{forget_inlined, last_uses};
+use mh_cycles::{Ends, Sizing, Unfolding, inline_part, is_small};
 use mh_grammar::{Memory, Sequence};
 use mh_rules::{Expanded, InstanceProduction, Part, Prec};
 use std::alloc::Global;
@@ -25,14 +25,20 @@ pub(crate) fn rightmost_prec(left: Prec, right: Prec) -> Prec
     }
 }
 
-/// One unfolding behind the other.
-fn join(alloc: Global, left: &Unfolding, right: &Unfolding) -> Result<Unfolding, Memory>
-    ensures { IfOk result (λ u. u ≡ joined left.now right.now) }
+/// Adds one unfolding behind the other.
+fn add_joined(
+    alloc: Global,
+    all: &mut Vec<Unfolding>,
+    left: &Unfolding,
+    right: &Unfolding,
+) -> Result<(), Memory>
+    ensures { OnOk result (all.new.items ≡ all.old.items ++ joined left.now right.now ∷ []) }
 {
-    Ok(Unfolding {
+    all.push(Unfolding {
         rhs: left.rhs.joined(alloc, &right.rhs)?,
         prec: rightmost_prec(left.prec, right.prec),
-    })
+    })?;
+    Ok(())
 }
 
 /// Adds the first behind which stands each of the second.
@@ -45,7 +51,7 @@ fn add_joined_with_each(
     ensures { OnOk result (all.new.items ≡ all.old.items ++ map (joined first.now) seconds.now) }
 {
     for second in seconds {
-        all.push(join(alloc, first, second)?)?;
+        add_joined(alloc, all, first, second)?;
     }
     Ok(())
 }
@@ -99,78 +105,73 @@ fn come_behind_each(all: &mut [Unfolding], other: &Unfolding) -> Result<(), Memo
     Ok(())
 }
 
-fn with_one_behind(mut all: Vec<Unfolding>, last: &Unfolding) -> Result<Vec<Unfolding>, Memory>
-    ensures { IfOk result (λ more. more.items ≡ choices all.items (last.now ∷ [])) }
-{
-    go_on_each(&mut all, last)?;
-    Ok(all)
-}
-
-fn with_one_in_front(first: &Unfolding, mut all: Vec<Unfolding>) -> Result<Vec<Unfolding>, Memory>
-    ensures { IfOk result (λ more. more.items ≡ choices (first.now ∷ []) all.items) }
-{
-    come_behind_each(&mut all, first)?;
-    Ok(all)
-}
-
 /// Each of the first with each of the second, where the first go on as they are if there is one second.
-pub(crate) fn with_behind(
+pub(crate) fn put_behind(
     alloc: Global,
-    all: Vec<Unfolding>,
+    all: &mut Vec<Unfolding>,
     seconds: &[Unfolding],
-) -> Result<Vec<Unfolding>, Memory>
-    ensures { IfOk result (λ more. more.items ≡ choices all.items seconds.now) }
+) -> Result<(), Memory>
+    ensures { OnOk result (all.new.items ≡ choices all.old.items seconds.now) }
 {
     match seconds {
-        [second] => with_one_behind(all, second),
-        _ => all_choices(alloc, all.as_slice(), seconds),
+        [second] => go_on_each(all, second),
+        _ => {
+            *all = all_choices(alloc, all.as_slice(), seconds)?;
+            Ok(())
+        }
     }
 }
 
 /// The same, where the second stay if there is one first.
-pub(crate) fn with_in_front(
+pub(crate) fn put_in_front(
     alloc: Global,
     firsts: &[Unfolding],
-    all: Vec<Unfolding>,
-) -> Result<Vec<Unfolding>, Memory>
-    ensures { IfOk result (λ more. more.items ≡ choices firsts.now all.items) }
+    all: &mut Vec<Unfolding>,
+) -> Result<(), Memory>
+    ensures { OnOk result (all.new.items ≡ choices firsts.now all.old.items) }
 {
     match firsts {
-        [first] => with_one_in_front(first, all),
-        _ => all_choices(alloc, firsts, all.as_slice()),
+        [first] => come_behind_each(all, first),
+        _ => {
+            *all = all_choices(alloc, firsts, all.as_slice())?;
+            Ok(())
+        }
     }
 }
 
-/// Puts a producer behind each unfolding.
-fn push_part(all: &mut [Unfolding], part: Part) -> Result<(), Memory>
-    ensures { OnOk result (all.new ≡ map (λ u. joined u (only part)) all.old) }
+/// The unfolding of a producer that stays.
+fn just(alloc: Global, part: Part) -> Result<Unfolding, Memory>
+    ensures { IfOk result (λ u. u ≡ only part) }
 {
-    for choice in all.iter_mut() {
-        choice.rhs.push_back(part)?;
-    }
-    Ok(())
+    let mut rhs = Ends::new(alloc);
+    rhs.push_back(part)?;
+    Ok(Unfolding {
+        rhs,
+        prec: Prec::Absent,
+    })
 }
 
-fn with_part(mut all: Vec<Unfolding>, part: Part) -> Result<Vec<Unfolding>, Memory>
-    ensures { IfOk result (λ more. more.items ≡ choices all.items (only part ∷ [])) }
+/// Puts a producer that stays behind each unfolding.
+fn put_part(alloc: Global, all: &mut Vec<Unfolding>, part: Part) -> Result<(), Memory>
+    ensures { OnOk result (all.new.items ≡ choices all.old.items (only part ∷ [])) }
 {
-    push_part(&mut all, part)?;
-    Ok(all)
+    let last = just(alloc, part)?;
+    go_on_each(all, &last)
 }
 
 fn unfold_part(
     alloc: Global,
     expanded: &Expanded,
     known: &[Sequence<Unfolding>],
-    all: Vec<Unfolding>,
+    all: &mut Vec<Unfolding>,
     part: Part,
-) -> Result<Vec<Unfolding>, Memory>
+) -> Result<(), Memory>
     requires { AreKnown expanded.now.instances known.now (part ∷ []) }
-    ensures { IfOk result (λ more. Extends expanded.now.instances part all.items more.items) }
+    ensures { OnOk result (Extends expanded.now.instances part all.old.items all.new.items) }
 {
     match inline_part(expanded, part) {
-        Some(number) => with_behind(alloc, all, known[number].as_slice()),
-        None => with_part(all, part),
+        Some(number) => put_behind(alloc, all, known[number].as_slice()),
+        None => put_part(alloc, all, part),
     }
 }
 
@@ -186,7 +187,7 @@ pub(crate) fn unfold_side(
 {
     let mut all = just_nothing(alloc)?;
     for part in producers {
-        all = unfold_part(alloc, expanded, known, all, *part)?;
+        unfold_part(alloc, expanded, known, &mut all, *part)?;
     }
     Ok(all)
 }
@@ -202,6 +203,28 @@ fn just_nothing(alloc: Global) -> Result<Vec<Unfolding>, Memory>
     Ok(all)
 }
 
+fn own_each(all: &mut [Unfolding], prec: Prec)
+    ensures { all.new ≡ map (own prec) all.old }
+{
+    for choice in all.iter_mut() {
+        choice.prec = rightmost_prec(choice.prec, prec);
+    }
+}
+
+/// The unfoldings with the `%prec` of the alternative that they are inlined into.
+pub(crate) fn with_own(prec: Prec, mut unfoldings: Vec<Unfolding>) -> Vec<Unfolding>
+    ensures { result.items ≡ map (own prec) unfoldings.items }
+{
+    match prec {
+        Prec::Absent => unfoldings,
+        Prec::Given(_) => {
+            own_each(&mut unfoldings, prec);
+            unfoldings
+        }
+    }
+}
+
+/// Puts them behind others.
 pub(crate) fn add_own(
     all: &mut Vec<Unfolding>,
     prec: Prec,
@@ -209,13 +232,8 @@ pub(crate) fn add_own(
 ) -> Result<(), Memory>
     ensures { OnOk result (all.new.items ≡ all.old.items ++ map (own prec) unfoldings.items) }
 {
-    for choice in unfoldings {
-        let Unfolding { rhs, prec: inlined } = choice;
-        all.push(Unfolding {
-            rhs,
-            prec: rightmost_prec(inlined, prec),
-        })?;
-    }
+    let mut added = with_own(prec, unfoldings);
+    all.append(&mut added)?;
     Ok(())
 }
 
@@ -270,6 +288,29 @@ fn unfold_one(
     Ok(Sequence::from_vec(all))
 }
 
+/// One more instance of the order.
+fn unfold_next(
+    alloc: Global,
+    expanded: &Expanded,
+    sizing: &Sizing,
+    until: &[usize],
+    known: &mut Vec<Sequence<Unfolding>>,
+    place: usize,
+    number: usize,
+) -> Result<(), Memory>
+    requires ready { IsExpandedReady expanded.now }
+    requires sizing { IsSizing expanded.now.instances sizing.now }
+    requires last { AreLast expanded.now.instances sizing.now.order.items until.now }
+    requires at { slice_get sizing.now.order.items place ≡ Some number }
+    requires known { KnowsNeeded expanded.now.instances sizing.now.order.items until.now place known.old.items }
+    ensures { OnOk result (KnowsNeeded expanded.now.instances sizing.now.order.items until.now (place + 1) known.new.items) }
+{
+    let moved = last_use_of(expanded, known.as_slice(), until, place, number);
+    let all = unfold_one(alloc, expanded, sizing, known, number, moved)?;
+    known[number] = all;
+    forget_inlined(alloc, expanded, until, known, number, place)
+}
+
 /// The unfoldings of each inline instance that an instance which is not inline is made of, where it has no more and no longer
 /// ones than a grammar may have. Others are let go once they have gone into all that is made of them, and what goes into one last
 /// is moved there, so that a chain of inline instances holds one list and copies none.
@@ -284,15 +325,10 @@ pub(crate) fn unfold_inline(
 {
     let order = sizing.order.as_slice();
     let last = last_uses(alloc, expanded, order)?;
-    let until = last.as_slice();
     let mut known = no_unfoldings(alloc, expanded.instances.len())?;
     for (place, number) in order.iter().enumerate() {
         let at = *number as usize;
-        let moved = last_use_of(expanded, known.as_slice(), until, place, at);
-        let all = unfold_one(alloc, expanded, sizing, &mut known, at, moved)?;
-        known[at] = all;
-        let numbers = inlined_in(alloc, expanded, at)?;
-        forget(alloc, &mut known, until, numbers.as_slice(), place);
+        unfold_next(alloc, expanded, sizing, &last, &mut known, place, at)?;
     }
     Ok(known)
 }

@@ -75,7 +75,7 @@ pub(crate) fn last_uses(
 }
 
 /// Lets go of the unfoldings of those of some instances that are not needed behind a place.
-pub(crate) fn forget(
+fn forget(
     alloc: Global,
     known: &mut Vec<Sequence<Unfolding>>,
     last: &[usize],
@@ -91,4 +91,23 @@ pub(crate) fn forget(
             known[*number] = Sequence::new(alloc);
         }
     }
+}
+
+/// The same for those that an instance is made of.
+pub(crate) fn forget_inlined(
+    alloc: Global,
+    expanded: &Expanded,
+    last: &[usize],
+    known: &mut Vec<Sequence<Unfolding>>,
+    number: usize,
+    place: usize,
+) -> Result<(), Memory>
+    requires number { number < length expanded.now.instances }
+    requires known { length known.old.items ≡ length expanded.now.instances }
+    requires last { length last.now ≡ length expanded.now.instances }
+    ensures { OnOk result (Forgets last.now place known.old.items known.new.items) }
+{
+    let numbers = inlined_in(alloc, expanded, number)?;
+    forget(alloc, known, last, numbers.as_slice(), place);
+    Ok(())
 }

@@ -1,4 +1,4 @@
-use Rattle.std.proofs.Common.{◌≡◌, ◌∷◌, ◌++◌, [], drop, take, suc, sym, ap, ◌∙◌, subst}
+use Rattle.std.proofs.Common.{◌≡◌, ◌∷◌, ◌++◌, [], drop, suc, sym, ap, ◌∙◌, subst}
 use Rattle.std.proofs.lemmas.Option.{slice_get_within}
 use Rattle.std.proofs.lemmas.Result.{IfOk-weaker}
 use Rattle.mh_rules.specs.declared.instances.Part.TheVariants.{Instance as Applied}
@@ -38,5 +38,4 @@ returns-clause-unfolds c =
     let all = c.in_ok-all.all.items in
     let front = rw c.front_to-front.ensures at c.in_ok-all.ensures.unfolds in
     let rest = rw c.rest_from-behind.ensures at c.in_ok-seconds.ensures in
-    IfOk-weaker c.with_behind.result (λ more. more.items ≡ choices all c.as_slice.result.now) (λ more. Unfolds is Xs more.items)
-    (λ more e. subst (Unfolds is Xs) (sym (e ∙ ap (choices all) c.as_slice.ensures.value)) (side_done is Xs q.producer q.number all seconds c.requires.at front rest)) c.with_behind.ensures
+    subst (Unfolds is Xs) (sym (c.in_ok-put_behind.ensures ∙ ap (choices all) c.as_slice.ensures.value)) (side_done is Xs q.producer q.number all seconds c.requires.at front rest)

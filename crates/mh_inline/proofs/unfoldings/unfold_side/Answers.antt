@@ -10,4 +10,4 @@ pub unfold_part-requires : goal.unfold_part-requires
 unfold_part-requires c = known_at c.args.expanded.now.instances c.args.known.now c.args.producers.now c.loop-part.part-index (Token 0) c.loop-part-test.true c.requires
 
 pub loop-part-preserved : goal.loop-part-preserved
-loop-part-preserved c = Unfolds-more c.args.expanded.now.instances c.args.producers.now c.loop-part.part-index (Token 0) c.loop-part.all.items c.in_ok-all-2.all.items c.loop-part-test.true c.loop-part.invariant c.in_ok-all-2.ensures
+loop-part-preserved c = Unfolds-more c.args.expanded.now.instances c.args.producers.now c.loop-part.part-index (Token 0) c.loop-part.all.items c.unfold_part.new.all.items c.loop-part-test.true c.loop-part.invariant c.in_ok-unfold_part.ensures

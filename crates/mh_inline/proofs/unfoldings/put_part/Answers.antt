@@ -1,0 +1,13 @@
+use Rattle.std.proofs.Common.{◌≡◌, ◌∷◌, [], length, drop, map, sym, ap, ◌∙◌, arith}
+use Rattle.std.proofs.lemmas.List.{take_at}
+use Rattle.std.proofs.lemmas.Result.{on_ok_weaker}
+use Rattle.mh_cycles.specs.Unfoldings.{choices, joined}
+use Rattle.mh_cycles.proofs.Choices.{choices-one_right}
+use Rattle.mh_inline.proofs.unfoldings.put_part.Goals as goal
+
+pub returns : goal.returns
+returns c =
+    let items = c.args.all.now.items in
+    let last = c.in_ok-last.last in
+    let len : length c.go_on_each.new.all ≡ c.args.all.now.len = omega arith in
+    on_ok_weaker c.go_on_each.result (λ e. take_at c.go_on_each.new.all (drop (length c.go_on_each.new.all) items) c.args.all.now.len len ∙ e ∙ ap (map (λ u. joined u last)) c.deref_mut.ensures.value ∙ sym (choices-one_right items last) ∙ ap (λ u. choices items (u ∷ [])) c.in_ok-last.ensures) c.go_on_each.ensures
