@@ -72,10 +72,13 @@ fn ended(reader: Reader) -> Result<Module, Refusal>
         | Place::Prec(draft)
         | Place::Closed(draft)
         | Place::GroupPrec(draft) => unexpected((made, draft)),
-        Place::Named(draft, name) => unexpected((made, draft, name)),
-        Place::Argument(purpose, pending) => unexpected((made, purpose, pending)),
-        Place::Head(purpose, pending, head) => unexpected((made, purpose, pending, head)),
-        Place::After(purpose, pending, actual, _) => unexpected((made, purpose, pending, actual)),
+        Place::Named(draft, name) => unexpected((made, (draft, name))),
+        Place::Argument(purpose, pending) => unexpected((made, (purpose, pending))),
+        Place::Head(purpose, pending, head) => unexpected((made, (purpose, (pending, head)))),
+        Place::After(purpose, pending, actual, _) => unexpected((
+            made,
+            (purpose, (pending, actual)),
+        )),
     }
 }
 

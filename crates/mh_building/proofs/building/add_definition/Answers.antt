@@ -17,5 +17,5 @@ add_alternatives-requires-clause-stand c =
 pub returns : goal.returns
 returns c =
     let w = meanings_in c.args.names.now in
-    subst (λ (g : Text → Option ℕ). OnOk c.add_alternatives.result (map Some c.add_alternatives.new.joined ≡ map Some c.args.joined.now ++ map (alternative_by w c.args.file (meant_by w c.args.file g)) (enumerate_from c.args.place c.args.rule.now.alternatives)))
-    (fun_ext (rw c.as_slice.ensures at c.in_ok-formals.ensures)) (rw c.as_slice-alternatives.ensures at c.add_alternatives.ensures)
+    subst (λ (g : Text → Option ℕ). OnOk c.add_alternatives-added.result (map Some c.add_alternatives-added.new.joined ≡ map Some c.args.joined.now ++ map (alternative_by w c.args.file (meant_by w c.args.file g)) (enumerate_from c.args.place c.args.rule.now.alternatives)))
+    (fun_ext (rw c.as_slice.ensures at c.in_ok-formals.ensures)) (rw c.as_slice-alternatives.ensures at c.add_alternatives-added.ensures)
