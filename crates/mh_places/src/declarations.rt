@@ -12,10 +12,9 @@ use mh_rules::{Actual, LevelDecl, Module, Ref, TokenDecl};
 use std::alloc::Global;
 
 /// A declaration of levels.
-fn add_level(made: Module, level: LevelDecl) -> Result<Module, Memory>
+fn add_level(mut made: Module, level: LevelDecl) -> Result<Module, Memory>
     ensures { IfOk result (λ m. m ≡ record made { levels = made.levels ++ level ∷ [] }) }
 {
-    let mut made = made;
     match made.levels.push(level) {
         Ok(()) => Ok(made),
         Err(_) => Err(lost(made)),
@@ -23,10 +22,9 @@ fn add_level(made: Module, level: LevelDecl) -> Result<Module, Memory>
 }
 
 /// An on-error declaration.
-fn add_on_error(made: Module, actuals: Sequence<Actual>) -> Result<Module, Memory>
+fn add_on_error(mut made: Module, actuals: Sequence<Actual>) -> Result<Module, Memory>
     ensures { IfOk result (λ m. m ≡ record made { on_error = made.on_error ++ actuals ∷ [] }) }
 {
-    let mut made = made;
     match made.on_error.push(actuals) {
         Ok(()) => Ok(made),
         Err(_) => Err(lost(made)),
@@ -71,10 +69,9 @@ pub fn declare(alloc: Global, made: Module, sign: Sign) -> Result<Reader, Refusa
 }
 
 /// A start of a list.
-fn add_start(made: Module, name: Name) -> Result<Module, Memory>
+fn add_start(mut made: Module, name: Name) -> Result<Module, Memory>
     ensures { IfOk result (λ m. m ≡ record made { starts = made.starts ++ name ∷ [] }) }
 {
-    let mut made = made;
     match made.starts.push(name) {
         Ok(()) => Ok(made),
         Err(_) => Err(lost(made)),
@@ -82,10 +79,9 @@ fn add_start(made: Module, name: Name) -> Result<Module, Memory>
 }
 
 /// A name of a level.
-fn add_name(names: Sequence<Ref>, name: Ref) -> Result<Sequence<Ref>, Memory>
+fn add_name(mut names: Sequence<Ref>, name: Ref) -> Result<Sequence<Ref>, Memory>
     ensures { IfOk result (λ all. all ≡ names ++ name ∷ []) }
 {
-    let mut names = names;
     match names.push(name) {
         Ok(()) => Ok(names),
         Err(_) => Err(lost(names)),
@@ -93,10 +89,9 @@ fn add_name(names: Sequence<Ref>, name: Ref) -> Result<Sequence<Ref>, Memory>
 }
 
 /// A token more.
-fn add_token(made: Module, token: TokenDecl) -> Result<Module, Memory>
+fn add_token(mut made: Module, token: TokenDecl) -> Result<Module, Memory>
     ensures { IfOk result (λ m. m ≡ machine.with_token made token) }
 {
-    let mut made = made;
     match made.tokens.push(token) {
         Ok(()) => Ok(made),
         Err(_) => Err(lost(made)),

@@ -102,10 +102,9 @@ fn push_formal(alloc: Global, rule: &mut Rule, text: &[u8]) -> Result<(), Memory
 }
 
 /// A formal.
-fn add_formal(alloc: Global, made: Module, rule: Rule, text: &[u8]) -> Result<Reader, Refusal>
+fn add_formal(alloc: Global, made: Module, mut rule: Rule, text: &[u8]) -> Result<Reader, Refusal>
     ensures { Refers (machine.goes made (machine.formal_place rule text.now)) result }
 {
-    let mut rule = rule;
     match push_formal(alloc, &mut rule, text) {
         Ok(()) => go_to(made, Place::FormalRead(rule)),
         Err(_) => no_memory((made, rule)),
@@ -178,10 +177,9 @@ fn draft_of(alloc: Global, rule: Rule) -> Draft
 }
 
 /// A production ends.
-fn end_production(alloc: Global, draft: Draft, prec: Option<Ref>) -> Result<Draft, Memory>
+fn end_production(alloc: Global, mut draft: Draft, prec: Option<Ref>) -> Result<Draft, Memory>
     ensures { IfOk result (λ d. d ≡ produced draft prec) }
 {
-    let mut draft = draft;
     let producers = mem::replace(&mut draft.producers, Sequence::new(alloc));
     match draft.productions.push(Alternative { producers, prec }) {
         Ok(()) => Ok(draft),
@@ -295,10 +293,9 @@ pub fn at_prec(
 }
 
 /// The draft where a production begins.
-fn without_producers(alloc: Global, draft: Draft) -> Draft
+fn without_producers(alloc: Global, mut draft: Draft) -> Draft
     ensures { result ≡ record draft { producers = [] } }
 {
-    let mut draft = draft;
     drop(mem::replace(&mut draft.producers, Sequence::new(alloc)));
     draft
 }
@@ -357,10 +354,9 @@ pub fn group_of(draft: Draft) -> Result<Rule, Memory>
 }
 
 /// The module with the rule that ends here.
-pub fn add_rule(made: Module, rule: Rule) -> Result<Module, Memory>
+pub fn add_rule(mut made: Module, rule: Rule) -> Result<Module, Memory>
     ensures { IfOk result (λ m. m ≡ ruled made rule) }
 {
-    let mut made = made;
     match made.rules.push(rule) {
         Ok(()) => Ok(made),
         Err(_) => Err(lost(made)),

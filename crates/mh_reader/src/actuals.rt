@@ -37,10 +37,9 @@ fn deeper_of(one: usize, two: usize) -> usize
 }
 
 /// Adds an actual behind others.
-fn add_actual(actuals: Sequence<Actual>, actual: Actual) -> Result<Sequence<Actual>, Memory>
+fn add_actual(mut actuals: Sequence<Actual>, actual: Actual) -> Result<Sequence<Actual>, Memory>
     ensures { IfOk result (λ all. all ≡ actuals ++ actual ∷ []) }
 {
-    let mut actuals = actuals;
     match actuals.push(actual) {
         Ok(()) => Ok(actuals),
         Err(_) => Err(lost(actuals)),
@@ -48,10 +47,9 @@ fn add_actual(actuals: Sequence<Actual>, actual: Actual) -> Result<Sequence<Actu
 }
 
 /// Adds a producer to a production.
-fn add_producer(draft: Draft, actual: Actual) -> Result<Draft, Memory>
+fn add_producer(mut draft: Draft, actual: Actual) -> Result<Draft, Memory>
     ensures { IfOk result (λ d. d ≡ with_producer draft actual) }
 {
-    let mut draft = draft;
     match draft.producers.push(actual) {
         Ok(()) => Ok(draft),
         Err(_) => Err(lost(draft)),
@@ -59,10 +57,9 @@ fn add_producer(draft: Draft, actual: Actual) -> Result<Draft, Memory>
 }
 
 /// Adds an argument.
-fn add_argument(inner: Pending, argument: Measured) -> Result<Pending, Memory>
+fn add_argument(mut inner: Pending, argument: Measured) -> Result<Pending, Memory>
     ensures { IfOk result (λ p. p ≡ with_argument inner argument.actual argument.depth) }
 {
-    let mut inner = inner;
     match inner.args.push(argument.actual) {
         Ok(()) => {
             inner.depth = deeper_of(inner.depth, argument.depth);

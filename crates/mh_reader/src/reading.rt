@@ -20,7 +20,7 @@ use mh_lex::{Lexeme, SyntaxFault, lex, lexed_once, line_of};
 use mh_places::{
     Place, Reader, Refusal, add_rule, content_of, cost_of, group_of, no_memory, sign_of, unexpected,
 };
-use mh_rules::{Module, TokenDecl};
+use mh_rules::Module;
 use std::alloc::Global;
 
 /// A reader that has read nothing.
@@ -97,32 +97,16 @@ fn first_cost(cost: Option<u32>, other: Option<u32>) -> Option<u32>
     cost.or(other)
 }
 
-fn with_first_cost(token: TokenDecl, cost: Option<u32>) -> TokenDecl
-    ensures { result ≡ record token { cost = option_or token.cost cost } }
-{
-    TokenDecl {
-        name: token.name,
-        alias: token.alias,
-        cost: first_cost(token.cost, cost),
-    }
-}
-
 /// The reader behind an attribute, whose cost counts behind a token where there is none before it.
-fn with_cost(reader: Reader, cost: Option<u32>) -> Reader
+fn with_cost(mut reader: Reader, cost: Option<u32>) -> Reader
     ensures { result ≡ costed cost reader }
 {
-    let made = reader.made;
-    match reader.place {
-        Place::TokenNamed(name, known) => Reader {
-            made,
-            place: Place::TokenNamed(name, first_cost(known, cost)),
-        },
-        Place::TokenAliased(token) => Reader {
-            made,
-            place: Place::TokenAliased(with_first_cost(token, cost)),
-        },
-        place => Reader { made, place },
+    match &mut reader.place {
+        Place::TokenNamed(_, known) => *known = first_cost(*known, cost),
+        Place::TokenAliased(token) => token.cost = first_cost(token.cost, cost),
+        _ => {}
     }
+    reader
 }
 
 /// One lexeme more, where of an attribute the cost alone counts.
