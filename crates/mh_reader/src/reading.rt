@@ -44,41 +44,18 @@ fn fresh(alloc: Global) -> Reader
 fn ended(reader: Reader) -> Result<Module, Refusal>
     ensures { Refers (finish_at reader.made reader.place) result }
 {
-    let made = reader.made;
     match reader.place {
-        Place::Rules | Place::RuleEnd | Place::Ended => Ok(made),
+        Place::Rules | Place::RuleEnd | Place::Ended => {
+            drop(reader.place);
+            Ok(reader.made)
+        }
         Place::Group(draft) => match group_of(draft) {
-            Ok(rule) => Ok(add_rule(made, rule)?),
-            Err(_) => no_memory(made),
+            Ok(rule) => Ok(add_rule(reader.made, rule)?),
+            Err(_) => no_memory(reader.made),
         },
-        Place::GroupClosed(rule) => Ok(add_rule(made, rule)?),
-        // Not `_`: to let go of any place at once is far longer to prove.
-        Place::Declarations | Place::TypeOf | Place::ParameterType | Place::Modified(_, _) => {
-            unexpected(made)
-        }
-        Place::Opening(listing) | Place::Items(listing) | Place::Comma(listing) => {
-            unexpected((made, listing))
-        }
-        Place::TokenNamed(name, _) => unexpected((made, name)),
-        Place::TokenAliased(token) => unexpected((made, token)),
-        Place::RuleNamed(rule)
-        | Place::FormalsOpen(rule)
-        | Place::FormalRead(rule)
-        | Place::FormalComma(rule)
-        | Place::FormalsClosed(rule)
-        | Place::Begin(rule) => unexpected((made, rule)),
-        Place::Production(draft)
-        | Place::Spaced(draft)
-        | Place::Prec(draft)
-        | Place::Closed(draft)
-        | Place::GroupPrec(draft) => unexpected((made, draft)),
-        Place::Named(draft, name) => unexpected((made, (draft, name))),
-        Place::Argument(purpose, pending) => unexpected((made, (purpose, pending))),
-        Place::Head(purpose, pending, head) => unexpected((made, (purpose, (pending, head)))),
-        Place::After(purpose, pending, actual, _) => unexpected((
-            made,
-            (purpose, (pending, actual)),
-        )),
+        Place::GroupClosed(rule) => Ok(add_rule(reader.made, rule)?),
+        // The whole reader at once: to let go of its parts here is far longer to prove.
+        _ => unexpected(reader),
     }
 }
 

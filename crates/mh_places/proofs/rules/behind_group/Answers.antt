@@ -3,6 +3,6 @@ use Rattle.mh_places.specs.Machine.{Refers}
 use Rattle.mh_places.proofs.Steps.{behind_else}
 use Rattle.mh_places.proofs.rules.behind_group.Goals as goal
 
-pub returns-in_ok-add_rule-2 : goal.returns-in_ok-add_rule-2
-returns-in_ok-add_rule-2 c =
-    subst (λ step. Refers step c.in_rules.result) (sym (behind_else c.args.made c.args.rule c.args.sign c.args.text.now c.in_default.not-Bar c.in_default.not-Semicolon)) (rw c.in_ok-add_rule-2.ensures at c.in_rules.ensures)
+pub returns-in_ok-made-in_default : goal.returns-in_ok-made-in_default
+returns-in_ok-made-in_default c =
+    subst (λ step. Refers step c.in_rules.result) (sym (behind_else c.args.made c.args.rule c.args.sign c.args.text.now c.in_default.not-Bar c.in_default.not-Semicolon)) (rw c.in_ok-made-in_default.ensures at c.in_rules.ensures)
