@@ -16,11 +16,11 @@ use std::alloc::Global;
 
 /// What was read, where the place carries nothing more. (It is let go in one call: an arm that does so itself is far longer
 /// to prove.)
-fn made_of(reader: Reader) -> Module
-    ensures { result ≡ reader.made }
+fn made_of(made: Module, place: Place) -> Module
+    ensures { result ≡ made }
 {
-    drop(reader.place);
-    reader.made
+    drop(place);
+    made
 }
 
 /// The reader behind one lexeme more.
@@ -34,44 +34,45 @@ pub(crate) fn advance(
     requires { IsShallow reader.place }
     ensures { Refers (machine.next_at reader.made reader.place sign text.now) result }
 {
-    match reader.place {
-        Place::Declarations => declare(alloc, made_of(reader), sign),
-        Place::Opening(listing) => at_opening(alloc, reader.made, listing, sign, text),
-        Place::TypeOf => at_type(alloc, made_of(reader), sign),
-        Place::Items(listing) => at_items(alloc, reader.made, listing, sign, text),
-        Place::Comma(listing) => at_comma(alloc, reader.made, listing, sign, text),
-        Place::TokenNamed(name, cost) => at_token(alloc, reader.made, name, cost, sign, text),
-        Place::TokenAliased(token) => at_aliased(alloc, reader.made, token, sign, text),
-        Place::ParameterType => at_parameter(made_of(reader), sign),
-        Place::Rules => in_rules(alloc, made_of(reader), sign, text),
+    let Reader { made, place } = reader;
+    match place {
+        Place::Declarations => declare(alloc, made_of(made, place), sign),
+        Place::Opening(listing) => at_opening(alloc, made, listing, sign, text),
+        Place::TypeOf => at_type(alloc, made_of(made, place), sign),
+        Place::Items(listing) => at_items(alloc, made, listing, sign, text),
+        Place::Comma(listing) => at_comma(alloc, made, listing, sign, text),
+        Place::TokenNamed(name, cost) => at_token(alloc, made, name, cost, sign, text),
+        Place::TokenAliased(token) => at_aliased(alloc, made, token, sign, text),
+        Place::ParameterType => at_parameter(made_of(made, place), sign),
+        Place::Rules => in_rules(alloc, made_of(made, place), sign, text),
         Place::Modified(public, inlined) => {
-            at_modified(alloc, made_of(reader), public, inlined, sign, text)
+            at_modified(alloc, made_of(made, place), public, inlined, sign, text)
         }
-        Place::RuleNamed(rule) => at_rule_named(reader.made, rule, sign),
-        Place::FormalsOpen(rule) => at_formals_open(alloc, reader.made, rule, sign, text),
-        Place::FormalRead(rule) => at_formal_read(reader.made, rule, sign),
-        Place::FormalComma(rule) => at_formal_comma(alloc, reader.made, rule, sign, text),
-        Place::FormalsClosed(rule) => at_formals_closed(reader.made, rule, sign),
-        Place::Begin(rule) => at_begin(alloc, reader.made, rule, sign, text),
-        Place::Production(draft) => in_production(alloc, reader.made, draft, sign, text),
-        Place::Spaced(draft) => at_spaced(alloc, reader.made, draft, sign, text),
-        Place::Named(draft, name) => at_named(alloc, reader.made, draft, name, sign, text),
+        Place::RuleNamed(rule) => at_rule_named(made, rule, sign),
+        Place::FormalsOpen(rule) => at_formals_open(alloc, made, rule, sign, text),
+        Place::FormalRead(rule) => at_formal_read(made, rule, sign),
+        Place::FormalComma(rule) => at_formal_comma(alloc, made, rule, sign, text),
+        Place::FormalsClosed(rule) => at_formals_closed(made, rule, sign),
+        Place::Begin(rule) => at_begin(alloc, made, rule, sign, text),
+        Place::Production(draft) => in_production(alloc, made, draft, sign, text),
+        Place::Spaced(draft) => at_spaced(alloc, made, draft, sign, text),
+        Place::Named(draft, name) => at_named(alloc, made, draft, name, sign, text),
         Place::Argument(purpose, pending) => {
-            at_argument(alloc, reader.made, purpose, pending, sign, text)
+            at_argument(alloc, made, purpose, pending, sign, text)
         }
         Place::Head(purpose, pending, head) => {
-            at_head(alloc, reader.made, purpose, pending, head, sign, text)
+            at_head(alloc, made, purpose, pending, head, sign, text)
         }
         Place::After(purpose, pending, actual, depth) => {
             let read = Measured { actual, depth };
-            after(alloc, reader.made, purpose, pending, read, sign, text)
+            after(alloc, made, purpose, pending, read, sign, text)
         }
-        Place::Prec(draft) => at_prec(alloc, reader.made, draft, sign, text),
-        Place::Closed(draft) => at_closed(alloc, reader.made, draft, sign),
-        Place::Group(draft) => at_group(alloc, reader.made, draft, sign, text),
-        Place::GroupPrec(draft) => at_group_prec(alloc, reader.made, draft, sign, text),
-        Place::GroupClosed(rule) => behind_group(alloc, reader.made, rule, sign, text),
-        Place::RuleEnd => at_rule_end(alloc, made_of(reader), sign, text),
-        Place::Ended => unexpected(reader),
+        Place::Prec(draft) => at_prec(alloc, made, draft, sign, text),
+        Place::Closed(draft) => at_closed(alloc, made, draft, sign),
+        Place::Group(draft) => at_group(alloc, made, draft, sign, text),
+        Place::GroupPrec(draft) => at_group_prec(alloc, made, draft, sign, text),
+        Place::GroupClosed(rule) => behind_group(alloc, made, rule, sign, text),
+        Place::RuleEnd => at_rule_end(alloc, made_of(made, place), sign, text),
+        Place::Ended => unexpected((made, place)),
     }
 }

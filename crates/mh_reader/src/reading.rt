@@ -44,18 +44,19 @@ fn fresh(alloc: Global) -> Reader
 fn ended(reader: Reader) -> Result<Module, Refusal>
     ensures { Refers (finish_at reader.made reader.place) result }
 {
-    match reader.place {
+    let Reader { made, place } = reader;
+    match place {
         Place::Rules | Place::RuleEnd | Place::Ended => {
-            drop(reader.place);
-            Ok(reader.made)
+            drop(place);
+            Ok(made)
         }
         Place::Group(draft) => match group_of(draft) {
-            Ok(rule) => Ok(add_rule(reader.made, rule)?),
-            Err(_) => no_memory(reader.made),
+            Ok(rule) => Ok(add_rule(made, rule)?),
+            Err(_) => no_memory(made),
         },
-        Place::GroupClosed(rule) => Ok(add_rule(reader.made, rule)?),
-        // The whole reader at once: to let go of its parts here is far longer to prove.
-        _ => unexpected(reader),
+        Place::GroupClosed(rule) => Ok(add_rule(made, rule)?),
+        // In one call: to let go of any place here is far longer to prove.
+        _ => unexpected((made, place)),
     }
 }
 

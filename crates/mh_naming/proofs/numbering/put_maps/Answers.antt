@@ -1,4 +1,4 @@
-use Rattle.std.proofs.Common.{◌≡◌, ◌+◌, [], ◌∷◌, length, arith, length-append}
+use Rattle.std.proofs.Common.{[], ◌∷◌, arith, length-append}
 use Rattle.std.proofs.lemmas.List.Elements.{All-push}
 use Rattle.indexmap.specs.IndexMap.{IsEmpty}
 use Rattle.mh_naming.proofs.numbering.put_maps.Goals as goal
