@@ -9,8 +9,8 @@ use Rattle.mh_meanings.specs.Maps.{meanings_in}
 use Rattle.mh_meanings.proofs.Lists.{fun_ext}
 use Rattle.mh_building.proofs.building.add_definition.Goals as goal
 
-pub add_alternatives-requires-clause-stand : goal.add_alternatives-requires-clause-stand
-add_alternatives-requires-clause-stand c =
+pub add_alternatives-added-requires-clause-stand : goal.add_alternatives-added-requires-clause-stand
+add_alternatives-added-requires-clause-stand c =
     let w = meanings_in c.args.names.now in
     rw c.as_slice-alternatives.ensures (subst (λ (g : Text → Option ℕ). flat_map (unresolved (meant_by w c.args.file g)) c.args.rule.now.alternatives ≡ []) (sym (fun_ext (rw c.as_slice.ensures at c.in_ok-formals.ensures))) c.requires.stand)
 
