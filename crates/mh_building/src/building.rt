@@ -2,13 +2,16 @@
 ghost use Rattle.std.specs.Prelude.{◌≡◌, ◌++◌, ◌∷◌, ◌≤◌, ◌<◌, ◌+◌, ◌^◌, [], None, false, length, map, option_and_then, unwrap_or, IfOk, OnOk};
 ghost use Rattle.std.specs.List.{flat_map, enumerate_from};
 ghost use Rattle.mh_meanings.specs.Names as names_spec;
-ghost use Rattle.mh_meanings.specs.Names.{files, formal_number, definitions_from, definitions_in};
+ghost use Rattle.indexmap.specs.IndexSet.{contains};
+ghost use Rattle.mh_grammar.specs.Text.{Text};
+ghost use Rattle.mh_meanings.specs.Names.{same, marks_public, files, formal_number, definitions_from, definitions_in};
 ghost use Rattle.mh_meanings.specs.Faults.{meant_by, undefined_in_actual, undefined_in_on_error, undefined_start};
 ghost use Rattle.mh_meanings.specs.Joining.{resolved, all_resolved, prec_by, alternative_by, token_info, on_error_in, rule_without, AreRules};
 ghost use Rattle.mh_meanings.specs.Maps.{meanings_in, elsewhere_in, formals_in};
 ghost use Rattle.mh_building.specs.Standing.{unresolved, unresolved_in_rule, unresolved_in_rules, unresolved_in_file, unresolved_on_error, definitions_by, Adds};
 
 use crate::printing::printed;
+use indexmap::IndexSet;
 use mh_grammar::{Level, Memory, Name, Sequence, TokenInfo};
 use mh_meanings::{Formals, Names, formals_of, marked_public, name_by, owner_in};
 use mh_rules::{
@@ -94,10 +97,11 @@ fn cost_of(names: &Names, name: &Name) -> u32
     }
 }
 
-pub(crate) fn joined_tokens(alloc: Global, names: &Names) -> Result<Sequence<TokenInfo>, Memory>
-    ensures { IfOk result (λ tokens. tokens ≡ map (token_info (meanings_in names.now)) (meanings_in names.now).tokens) }
+/// Puts in the tokens.
+pub(crate) fn put_tokens(names: &Names, tokens: &mut Sequence<TokenInfo>) -> Result<(), Memory>
+    requires { tokens.old ≡ [] }
+    ensures { OnOk result (tokens.new ≡ map (token_info (meanings_in names.now)) (meanings_in names.now).tokens) }
 {
-    let mut tokens = Sequence::new(alloc);
     for name in names.tokens.as_slice() {
         tokens.push(TokenInfo {
             name: name.clone()?,
@@ -105,7 +109,7 @@ pub(crate) fn joined_tokens(alloc: Global, names: &Names) -> Result<Sequence<Tok
             cost: cost_of(names, name),
         })?;
     }
-    Ok(tokens)
+    Ok(())
 }
 
 fn start_number(names: &Names, name: &Name) -> u64
@@ -115,17 +119,18 @@ fn start_number(names: &Names, name: &Name) -> u64
     names.numbering.public.get(name).copied().unwrap()
 }
 
-pub(crate) fn joined_starts(alloc: Global, names: &Names) -> Result<Sequence<u64>, Memory>
-    requires { flat_map (undefined_start (meanings_in names.now)) (meanings_in names.now).starts ≡ [] }
-    ensures { IfOk result (λ starts.
-        map Some starts
+/// Puts in the numbers of the starts.
+pub(crate) fn put_starts(names: &Names, starts: &mut Sequence<u64>) -> Result<(), Memory>
+    requires blank { starts.old ≡ [] }
+    requires stand { flat_map (undefined_start (meanings_in names.now)) (meanings_in names.now).starts ≡ [] }
+    ensures { OnOk result
+        (map Some starts.new
         ≡ map ((meanings_in names.now).numbers.rule None) (meanings_in names.now).starts) }
 {
-    let mut starts = Sequence::new(alloc);
     for name in names.starts.as_slice() {
         starts.push(start_number(names, name))?;
     }
-    Ok(starts)
+    Ok(())
 }
 
 fn add_on_error(
@@ -151,24 +156,45 @@ fn add_on_error(
     Ok(())
 }
 
-/// The on-error declarations of all files.
-pub(crate) fn joined_on_error(
+/// Puts in the on-error declarations of all files, which have no formals.
+fn put_all_on_error(
+    alloc: Global,
+    names: &Names,
+    none: &Formals,
+    modules: &[Module],
+    joined: &mut Sequence<Sequence<Applied>>,
+) -> Result<(), Memory>
+    requires few { length names.now.tokens.keys ≤ MAX_TOKENS }
+    requires none { (x : Text) → formals_in none.now x ≡ formal_number [] x }
+    requires blank { joined.old ≡ [] }
+    requires stand { flat_map (unresolved_on_error (meanings_in names.now)) (files modules.now) ≡ [] }
+    ensures { OnOk result
+        (map Some joined.new ≡ flat_map (on_error_in (meanings_in names.now)) (files modules.now)) }
+{
+    for (at, file) in modules.iter().enumerate() {
+        let declared = file.on_error.as_slice();
+        add_on_error(alloc, names, at as u64 + 1, none, declared, joined)?;
+    }
+    Ok(())
+}
+
+/// Puts in the on-error declarations of all files.
+pub(crate) fn put_on_error(
     alloc: Global,
     names: &Names,
     modules: &[Module],
-) -> Result<Sequence<Sequence<Applied>>, Memory>
+    joined: &mut Sequence<Sequence<Applied>>,
+) -> Result<(), Memory>
     requires few { length names.now.tokens.keys ≤ MAX_TOKENS }
+    requires blank { joined.old ≡ [] }
     requires stand { flat_map (unresolved_on_error (meanings_in names.now)) (files modules.now) ≡ [] }
-    ensures { IfOk result
-        (λ joined. map Some joined ≡ flat_map (on_error_in (meanings_in names.now)) (files modules.now)) }
+    ensures { OnOk result
+        (map Some joined.new ≡ flat_map (on_error_in (meanings_in names.now)) (files modules.now)) }
 {
     let none = formals_of(alloc, &[])?;
-    let mut joined = Sequence::new(alloc);
-    for (at, file) in modules.iter().enumerate() {
-        let declared = file.on_error.as_slice();
-        add_on_error(alloc, names, at as u64 + 1, &none, declared, &mut joined)?;
-    }
-    Ok(joined)
+    let added = put_all_on_error(alloc, names, &none, modules, joined);
+    drop(none);
+    added
 }
 
 fn joined_alternative(
@@ -248,7 +274,9 @@ fn add_definition(
 {
     let formals = formals_of(alloc, rule.formals.as_slice())?;
     let alternatives = rule.alternatives.as_slice();
-    add_alternatives(alloc, names, file, &formals, place, alternatives, joined)
+    let added = add_alternatives(alloc, names, file, &formals, place, alternatives, joined);
+    drop(formals);
+    added
 }
 
 /// Puts the alternatives of a definition with this owner behind those of its rule.
@@ -290,6 +318,33 @@ fn place_behind(place: u64, rule: &Rule) -> Result<u64, Memory>
     }
 }
 
+/// Puts the alternatives of a file that marks these names behind those of its rules.
+fn add_rules(
+    alloc: Global,
+    names: &Names,
+    file: u64,
+    marked: &IndexSet<Name>,
+    rules: &[Rule],
+    joined: &mut [JoinedRule],
+) -> Result<(), Memory>
+    requires few { length names.now.tokens.keys ≤ MAX_TOKENS }
+    requires marked { (x : Text) → contains same marked.now x ≡ marks_public rules.now x }
+    requires stand { unresolved_in_rules (meanings_in names.now) file rules.now ≡ [] }
+    ensures { OnOk result (Adds (meanings_in names.now)
+        (definitions_from (names_spec.owner_in names.now.starts.keys file rules.now) file 0
+        rules.now)
+        joined.old joined.new) }
+{
+    let mut place = 0u64;
+    for rule in rules {
+        let next = place_behind(place, rule)?;
+        let owner = owner_in(&names.starts, marked, file, &rule.name);
+        add_rule(alloc, names, file, owner, place, rule, joined)?;
+        place = next;
+    }
+    Ok(())
+}
+
 /// Puts the alternatives of a file behind those of its rules.
 fn add_file(
     alloc: Global,
@@ -306,14 +361,9 @@ fn add_file(
         joined.old joined.new) }
 {
     let marked = marked_public(alloc, rules)?;
-    let mut place = 0u64;
-    for rule in rules {
-        let next = place_behind(place, rule)?;
-        let owner = owner_in(&names.starts, &marked, file, &rule.name);
-        add_rule(alloc, names, file, owner, place, rule, joined)?;
-        place = next;
-    }
-    Ok(())
+    let added = add_rules(alloc, names, file, &marked, rules, joined);
+    drop(marked);
+    added
 }
 
 /// Puts the alternatives of the prelude behind those of its rules.
@@ -337,12 +387,12 @@ fn add_prelude(
     Ok(())
 }
 
-/// The rules before their alternatives.
-fn rules_without(alloc: Global, names: &Names) -> Result<Vec<JoinedRule>, Memory>
-    ensures { IfOk result (λ rules.
-        rules.items ≡ map (rule_without (elsewhere_in names.now)) names.now.numbering.rules.items) }
+/// Puts in the rules before their alternatives.
+fn put_outlines(alloc: Global, names: &Names, rules: &mut Vec<JoinedRule>) -> Result<(), Memory>
+    requires { rules.old.items ≡ [] }
+    ensures { OnOk result
+        (rules.new.items ≡ map (rule_without (elsewhere_in names.now)) names.now.numbering.rules.items) }
 {
-    let mut rules = Vec::new(alloc);
     for outline in names.numbering.rules.iter() {
         rules.push(JoinedRule {
             name: printed(alloc, names, outline)?,
@@ -351,7 +401,25 @@ fn rules_without(alloc: Global, names: &Names) -> Result<Vec<JoinedRule>, Memory
             alternatives: Sequence::new(alloc),
         })?;
     }
-    Ok(rules)
+    Ok(())
+}
+
+/// There was no memory to go on with a value, which is let go in one call: to do so field by field is far longer to prove.
+pub(crate) fn lost<T: Drop>(value: T) -> Memory {
+    drop(value);
+    Memory
+}
+
+/// The rules before their alternatives.
+fn rules_without(alloc: Global, names: &Names) -> Result<Vec<JoinedRule>, Memory>
+    ensures { IfOk result (λ rules.
+        rules.items ≡ map (rule_without (elsewhere_in names.now)) names.now.numbering.rules.items) }
+{
+    let mut rules = Vec::new(alloc);
+    match put_outlines(alloc, names, &mut rules) {
+        Ok(()) => Ok(rules),
+        Err(_) => Err(lost(rules)),
+    }
 }
 
 fn add_files(
@@ -406,6 +474,8 @@ pub(crate) fn joined_rules(
         (definitions_by names.now modules.now library.now)) }
 {
     let mut rules = rules_without(alloc, names)?;
-    add_all(alloc, names, modules, library, rules.as_mut_slice())?;
-    Ok(Sequence::from_vec(rules))
+    match add_all(alloc, names, modules, library, rules.as_mut_slice()) {
+        Ok(()) => Ok(Sequence::from_vec(rules)),
+        Err(_) => Err(lost(rules)),
+    }
 }

@@ -1,16 +1,14 @@
 //! The aliases of all files.
-ghost use Rattle.std.specs.Prelude.{◌≡◌, IfOk, OnOk};
+ghost use Rattle.std.specs.Prelude.{◌≡◌, OnOk};
 ghost use Rattle.std.specs.List.{flat_map};
-ghost use Rattle.indexmap.specs.IndexMap.{get};
+ghost use Rattle.indexmap.specs.IndexMap.{get, IsEmpty};
 ghost use Rattle.mh_grammar.specs.Text.{Text};
 ghost use Rattle.mh_meanings.specs.Names.{same, alias_of, aliased};
 ghost use Rattle.mh_meanings.specs.Puts.{Puts};
 
-use indexmap::IndexMap;
 use mh_grammar::Memory;
 use mh_meanings::{Aliases, put_first};
 use mh_rules::{Module, TokenDecl};
-use std::alloc::Global;
 
 fn add_alias(aliases: &mut Aliases, token: &TokenDecl) -> Result<(), Memory>
     ensures { OnOk result (Puts aliases.old (alias_of token.now) aliases.new) }
@@ -30,12 +28,12 @@ fn add_aliases(aliases: &mut Aliases, tokens: &[TokenDecl]) -> Result<(), Memory
     Ok(())
 }
 
-pub(crate) fn aliases_of(alloc: Global, files: &[Module]) -> Result<Aliases, Memory>
-    ensures { IfOk result (λ aliases. (a : Text) → get same aliases a ≡ aliased files.now a) }
+pub(crate) fn put_aliases(aliases: &mut Aliases, files: &[Module]) -> Result<(), Memory>
+    requires { IsEmpty aliases.old }
+    ensures { OnOk result ((a : Text) → get same aliases.new a ≡ aliased files.now a) }
 {
-    let mut aliases = IndexMap::new(alloc);
     for file in files {
-        add_aliases(&mut aliases, file.tokens.as_slice())?;
+        add_aliases(aliases, file.tokens.as_slice())?;
     }
-    Ok(aliases)
+    Ok(())
 }

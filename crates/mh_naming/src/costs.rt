@@ -1,16 +1,14 @@
 //! The costs of the tokens of all files.
-ghost use Rattle.std.specs.Prelude.{◌≡◌, IfOk, OnOk};
+ghost use Rattle.std.specs.Prelude.{◌≡◌, OnOk};
 ghost use Rattle.std.specs.List.{flat_map};
-ghost use Rattle.indexmap.specs.IndexMap.{get};
+ghost use Rattle.indexmap.specs.IndexMap.{get, IsEmpty};
 ghost use Rattle.mh_grammar.specs.Text.{Text};
 ghost use Rattle.mh_meanings.specs.Names.{same, cost_of, given_cost};
 ghost use Rattle.mh_meanings.specs.Puts.{Puts};
 
-use indexmap::IndexMap;
 use mh_grammar::Memory;
 use mh_meanings::{Costs, put_first};
 use mh_rules::{Module, TokenDecl};
-use std::alloc::Global;
 
 fn add_cost(costs: &mut Costs, token: &TokenDecl) -> Result<(), Memory>
     ensures { OnOk result (Puts costs.old (given_cost token.now) costs.new) }
@@ -30,12 +28,12 @@ fn add_costs(costs: &mut Costs, tokens: &[TokenDecl]) -> Result<(), Memory>
     Ok(())
 }
 
-pub(crate) fn costs_of(alloc: Global, files: &[Module]) -> Result<Costs, Memory>
-    ensures { IfOk result (λ costs. (x : Text) → get same costs x ≡ cost_of files.now x) }
+pub(crate) fn put_costs(costs: &mut Costs, files: &[Module]) -> Result<(), Memory>
+    requires { IsEmpty costs.old }
+    ensures { OnOk result ((x : Text) → get same costs.new x ≡ cost_of files.now x) }
 {
-    let mut costs = IndexMap::new(alloc);
     for file in files {
-        add_costs(&mut costs, file.tokens.as_slice())?;
+        add_costs(costs, file.tokens.as_slice())?;
     }
-    Ok(costs)
+    Ok(())
 }

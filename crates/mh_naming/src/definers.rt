@@ -1,16 +1,14 @@
 //! Which files define a rule of a name.
-ghost use Rattle.std.specs.Prelude.{◌≡◌, ◌==◌, ◌&&◌, ◌||◌, ℕ, not, IfOk, OnOk};
+ghost use Rattle.std.specs.Prelude.{◌≡◌, ◌==◌, ◌&&◌, ◌||◌, ℕ, not, OnOk};
 ghost use Rattle.std.specs.List.{list_any};
-ghost use Rattle.indexmap.specs.IndexMap.{get};
+ghost use Rattle.indexmap.specs.IndexMap.{get, IsEmpty};
 ghost use Rattle.mh_grammar.specs.Text.{Text};
 ghost use Rattle.mh_meanings.specs.Names.{same, is_elsewhere};
 ghost use Rattle.mh_meanings.specs.Definers.{elsewhere_by, Defines};
 
-use indexmap::IndexMap;
 use mh_grammar::{Memory, Name};
 use mh_meanings::{Definers, DefinersOf};
 use mh_rules::{Module, Rule};
-use std::alloc::Global;
 
 /// These files and one more.
 fn with_definer(others: Option<Definers>, file: u64) -> Definers
@@ -47,12 +45,12 @@ fn add_definers(definers: &mut DefinersOf, file: u64, rules: &[Rule]) -> Result<
     Ok(())
 }
 
-pub(crate) fn definers_of(alloc: Global, files: &[Module]) -> Result<DefinersOf, Memory>
-    ensures { IfOk result (λ definers. (k : ℕ) (x : Text) → elsewhere_by (get same definers x) k ≡ is_elsewhere files.now k x) }
+pub(crate) fn put_definers(definers: &mut DefinersOf, files: &[Module]) -> Result<(), Memory>
+    requires { IsEmpty definers.old }
+    ensures { OnOk result ((k : ℕ) (x : Text) → elsewhere_by (get same definers.new x) k ≡ is_elsewhere files.now k x) }
 {
-    let mut definers = IndexMap::new(alloc);
     for (at, file) in files.iter().enumerate() {
-        add_definers(&mut definers, at as u64 + 1, file.rules.as_slice())?;
+        add_definers(definers, at as u64 + 1, file.rules.as_slice())?;
     }
-    Ok(definers)
+    Ok(())
 }

@@ -2,14 +2,15 @@
 ghost use Rattle.std.specs.Prelude.{◌≡◌, IfOk, OnOk};
 ghost use Rattle.mh_meanings.specs.Prelude.{prelude_rules};
 ghost use Rattle.mh_meanings.specs.Maps.{HasMeanings};
+ghost use Rattle.mh_naming.specs.Blank.{IsBlank};
 
-use crate::aliases::aliases_of;
-use crate::costs::costs_of;
-use crate::definers::definers_of;
-use crate::kinds::kinds_of;
-use crate::levels::levels_of;
-use crate::numbering::{no_rules, numbering_of};
-use crate::tokens::{start_names, token_names};
+use crate::aliases::put_aliases;
+use crate::costs::put_costs;
+use crate::definers::put_definers;
+use crate::kinds::put_kinds;
+use crate::levels::put_levels;
+use crate::numbering::{no_rules, put_rules};
+use crate::tokens::{put_starts, put_tokens};
 use indexmap::{IndexMap, IndexSet};
 use mh_grammar::Memory;
 use mh_meanings::Names;
@@ -17,9 +18,10 @@ use mh_rules::{Module, Rule};
 use std::alloc::Global;
 
 /// Names that stand for nothing.
-fn no_names(alloc: Global) -> Result<Names, Memory> {
-    let numbering = no_rules(alloc, 0)?;
-    Ok(Names {
+fn no_names(alloc: Global) -> Names
+    ensures { IsBlank result }
+{
+    Names {
         tokens: IndexSet::new(alloc),
         starts: IndexSet::new(alloc),
         aliases: IndexMap::new(alloc),
@@ -27,11 +29,11 @@ fn no_names(alloc: Global) -> Result<Names, Memory> {
         costs: IndexMap::new(alloc),
         kinds: IndexMap::new(alloc),
         definers: IndexMap::new(alloc),
-        numbering,
-    })
+        numbering: no_rules(alloc),
+    }
 }
 
-/// Puts in what the names of these files stand for, with this prelude. (One map at a time: what is owned at each way out
+/// Puts in what the names of these files stand for, with this prelude. (Each map in its place: what is owned at a way out
 /// is proved to be let go.)
 fn fill(
     names: &mut Names,
@@ -40,26 +42,25 @@ fn fill(
     prelude: bool,
     library: &[Rule],
 ) -> Result<(), Memory>
-    requires { library.now ≡ prelude_rules prelude }
+    requires blank { IsBlank names.old }
+    requires library { library.now ≡ prelude_rules prelude }
     ensures { OnOk result (HasMeanings prelude files.now names.new) }
 {
-    let tokens = token_names(alloc, files)?;
-    names.tokens = tokens;
-    let starts = start_names(alloc, files)?;
-    names.starts = starts;
-    let aliases = aliases_of(alloc, files)?;
-    names.aliases = aliases;
-    let levels = levels_of(alloc, &names.aliases, files)?;
-    names.levels = levels;
-    let costs = costs_of(alloc, files)?;
-    names.costs = costs;
-    let kinds = kinds_of(alloc, files)?;
-    names.kinds = kinds;
-    let definers = definers_of(alloc, files)?;
-    names.definers = definers;
-    let numbering = numbering_of(alloc, &names.starts, files, library)?;
-    names.numbering = numbering;
+    put_tokens(&mut names.tokens, files)?;
+    put_starts(&mut names.starts, files)?;
+    put_aliases(&mut names.aliases, files)?;
+    put_levels(&mut names.levels, &names.aliases, files)?;
+    put_costs(&mut names.costs, files)?;
+    put_kinds(&mut names.kinds, files)?;
+    put_definers(&mut names.definers, files)?;
+    put_rules(&mut names.numbering, alloc, &names.starts, files, library)?;
     Ok(())
+}
+
+/// There was no memory to go on with a value, which is let go in one call: to do so field by field is far longer to prove.
+fn lost<T: Drop>(value: T) -> Memory {
+    drop(value);
+    Memory
 }
 
 /// What the names of these files stand for, with this prelude.
@@ -72,7 +73,9 @@ pub fn names_of(
     requires { library.now ≡ prelude_rules prelude }
     ensures { IfOk result (HasMeanings prelude files.now) }
 {
-    let mut names = no_names(alloc)?;
-    fill(&mut names, alloc, files, prelude, library)?;
-    Ok(names)
+    let mut names = no_names(alloc);
+    match fill(&mut names, alloc, files, prelude, library) {
+        Ok(()) => Ok(names),
+        Err(_) => Err(lost(names)),
+    }
 }

@@ -1,17 +1,15 @@
 //! What each name is first used for.
-ghost use Rattle.std.specs.Prelude.{◌≡◌, ◌∷◌, [], IfOk, OnOk};
+ghost use Rattle.std.specs.Prelude.{◌≡◌, ◌∷◌, [], OnOk};
 ghost use Rattle.std.specs.List.{flat_map};
-ghost use Rattle.indexmap.specs.IndexMap.{get};
+ghost use Rattle.indexmap.specs.IndexMap.{get, IsEmpty};
 ghost use Rattle.mh_grammar.specs.Text.{Text};
 ghost use Rattle.mh_meanings.specs.Names.{same};
 ghost use Rattle.mh_meanings.specs.Faults.{kinds_in, kind_of};
 ghost use Rattle.mh_meanings.specs.Puts.{Puts};
 
-use indexmap::IndexMap;
 use mh_grammar::Memory;
 use mh_meanings::{Kind, Kinds, put_first};
 use mh_rules::{Module, Rule, TokenDecl};
-use std::alloc::Global;
 
 fn add_token_kinds(kinds: &mut Kinds, tokens: &[TokenDecl]) -> Result<(), Memory>
     ensures { OnOk result (Puts kinds.old (flat_map (λ t. (t.name, Kind.Token) ∷ []) tokens.now) kinds.new) }
@@ -39,12 +37,12 @@ fn add_kinds(kinds: &mut Kinds, file: &Module) -> Result<(), Memory>
     Ok(())
 }
 
-pub(crate) fn kinds_of(alloc: Global, files: &[Module]) -> Result<Kinds, Memory>
-    ensures { IfOk result (λ kinds. (x : Text) → get same kinds x ≡ kind_of files.now x) }
+pub(crate) fn put_kinds(kinds: &mut Kinds, files: &[Module]) -> Result<(), Memory>
+    requires { IsEmpty kinds.old }
+    ensures { OnOk result ((x : Text) → get same kinds.new x ≡ kind_of files.now x) }
 {
-    let mut kinds = IndexMap::new(alloc);
     for file in files {
-        add_kinds(&mut kinds, file)?;
+        add_kinds(kinds, file)?;
     }
-    Ok(kinds)
+    Ok(())
 }

@@ -1,18 +1,16 @@
 //! The levels of names.
-ghost use Rattle.std.specs.Prelude.{◌≡◌, IfOk, OnOk};
+ghost use Rattle.std.specs.Prelude.{◌≡◌, OnOk};
 ghost use Rattle.std.specs.List.{flat_map, enumerate_from};
 ghost use Rattle.std.specs.Map.{lookup};
-ghost use Rattle.indexmap.specs.IndexMap.{get};
+ghost use Rattle.indexmap.specs.IndexMap.{get, IsEmpty};
 ghost use Rattle.mh_meanings.specs.Names as spec;
 ghost use Rattle.mh_grammar.specs.Text.{Text};
 ghost use Rattle.mh_meanings.specs.Names.{same, with_level, levels_by, levels_in};
 ghost use Rattle.mh_meanings.specs.Puts.{Puts};
 
-use indexmap::IndexMap;
 use mh_grammar::{Level, Memory};
 use mh_meanings::{Aliases, Levels, name_by, put_first};
 use mh_rules::{LevelDecl, Module, Ref};
-use std::alloc::Global;
 
 fn add_level(
     levels: &mut Levels,
@@ -63,18 +61,18 @@ fn add_declarations(
     Ok(())
 }
 
-pub(crate) fn levels_of(
-    alloc: Global,
+pub(crate) fn put_levels(
+    levels: &mut Levels,
     aliases: &Aliases,
     files: &[Module],
-) -> Result<Levels, Memory>
-    ensures { IfOk result (λ levels. (x : Text) →
-        get same levels x
+) -> Result<(), Memory>
+    requires { IsEmpty levels.old }
+    ensures { OnOk result ((x : Text) →
+        get same levels.new x
         ≡ lookup (same x) (flat_map (levels_in (λ a. get same aliases.now a)) (spec.files files.now))) }
 {
-    let mut levels = IndexMap::new(alloc);
     for (at, file) in files.iter().enumerate() {
-        add_declarations(&mut levels, aliases, at as u64 + 1, file.levels.as_slice())?;
+        add_declarations(levels, aliases, at as u64 + 1, file.levels.as_slice())?;
     }
-    Ok(levels)
+    Ok(())
 }

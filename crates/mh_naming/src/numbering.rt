@@ -1,8 +1,12 @@
 //! The rules of all files and of the prelude, by numbers in order of their first definitions.
-ghost use Rattle.std.specs.Prelude.{◌≡◌, ◌∷◌, [], ◌+◌, length, map, IfOk, OnOk};
+ghost use Rattle.std.specs.Prelude.{◌≡◌, ◌∷◌, [], ◌+◌, length, map, OnOk};
 ghost use Rattle.std.specs.List.{All};
 ghost use Rattle.indexmap.specs.IndexMap.{IsEmpty};
+ghost use Rattle.indexmap.specs.IndexSet.{contains};
+ghost use Rattle.mh_grammar.specs.Text.{Text};
+ghost use Rattle.mh_meanings.specs.Names.{same, marks_public};
 ghost use Rattle.mh_meanings.specs.Numbering.{outline_by, outline_in, outlines_of, IsNumbered, IsOwner, AddsNumber, Numbers};
+ghost use Rattle.mh_naming.specs.Blank.{HasNone};
 
 use indexmap::{IndexMap, IndexSet};
 use mh_grammar::{Memory, Name};
@@ -10,30 +14,28 @@ use mh_meanings::{Numbering, Outline, marked_public, owner_in, put_first};
 use mh_rules::{Module, Rule};
 use std::alloc::Global;
 
-/// So many maps without names, and one more.
-fn empty_maps(alloc: Global, count: usize) -> Result<Vec<IndexMap<Name, u64>>, Memory>
-    ensures len { IfOk result (λ maps. length maps.items ≡ count + 1) }
-    ensures empty { IfOk result (λ maps. All IsEmpty maps.items) }
+/// Puts in so many maps without names, and one more.
+fn put_maps(maps: &mut Vec<IndexMap<Name, u64>>, alloc: Global, count: usize) -> Result<(), Memory>
+    requires { maps.old.items ≡ [] }
+    ensures len { OnOk result (length maps.new.items ≡ count + 1) }
+    ensures empty { OnOk result (All IsEmpty maps.new.items) }
 {
-    let mut maps = Vec::new(alloc);
     for _at in 0..count {
         maps.push(IndexMap::new(alloc))?;
     }
     maps.push(IndexMap::new(alloc))?;
-    Ok(maps)
+    Ok(())
 }
 
-/// No rules yet, and room for those of so many files beside the prelude.
-pub(crate) fn no_rules(alloc: Global, files: usize) -> Result<Numbering, Memory>
-    ensures numbered { IfOk result IsNumbered }
-    ensures none { IfOk result (λ n. n.rules.items ≡ []) }
-    ensures owners { IfOk result (λ n. length n.own.items ≡ files + 1) }
+/// No rules.
+pub(crate) fn no_rules(alloc: Global) -> Numbering
+    ensures { HasNone result }
 {
-    Ok(Numbering {
+    Numbering {
         public: IndexMap::new(alloc),
-        own: empty_maps(alloc, files)?,
+        own: Vec::new(alloc),
         rules: Vec::new(alloc),
-    })
+    }
 }
 
 fn rule_count(numbering: &Numbering) -> u64
@@ -80,15 +82,33 @@ fn add_rule(numbering: &mut Numbering, owner: Option<u64>, rule: &Rule) -> Resul
     ensures { OnOk result (Numbers numbering.old numbering.new (outline_by owner rule.now ∷ [])) }
 {
     if numbering.number_of(owner, &rule.name).is_none() {
-        let outline = Outline {
+        let number = rule_count(numbering);
+        add_number(numbering, owner, &rule.name, number)?;
+        numbering.rules.push(Outline {
             name: rule.name.clone()?,
             owner,
             inlined: rule.inlined,
             formals: rule.formals.len() as u64,
-        };
-        let number = rule_count(numbering);
-        add_number(numbering, owner, &rule.name, number)?;
-        numbering.rules.push(outline)?;
+        })?;
+    }
+    Ok(())
+}
+
+/// Puts in the rules of a file that marks these names.
+fn add_each(
+    numbering: &mut Numbering,
+    starts: &IndexSet<Name>,
+    marked: &IndexSet<Name>,
+    file: u64,
+    rules: &[Rule],
+) -> Result<(), Memory>
+    requires numbered { IsNumbered numbering.old }
+    requires owner { IsOwner numbering.old (Some file) }
+    requires marked { (x : Text) → contains same marked.now x ≡ marks_public rules.now x }
+    ensures { OnOk result (Numbers numbering.old numbering.new (map (outline_in starts.now.keys file rules.now) rules.now)) }
+{
+    for rule in rules {
+        add_rule(numbering, owner_in(starts, marked, file, &rule.name), rule)?;
     }
     Ok(())
 }
@@ -106,10 +126,9 @@ fn add_rules(
     ensures { OnOk result (Numbers numbering.old numbering.new (map (outline_in starts.now.keys file rules.now) rules.now)) }
 {
     let marked = marked_public(alloc, rules)?;
-    for rule in rules {
-        add_rule(numbering, owner_in(starts, &marked, file, &rule.name), rule)?;
-    }
-    Ok(())
+    let added = add_each(numbering, starts, &marked, file, rules);
+    drop(marked);
+    added
 }
 
 /// Puts in the rules of the prelude.
@@ -125,25 +144,27 @@ fn add_prelude(numbering: &mut Numbering, rules: &[Rule]) -> Result<(), Memory>
 }
 
 /// The rules of these files, and of the prelude behind them.
-pub(crate) fn numbering_of(
+pub(crate) fn put_rules(
+    numbering: &mut Numbering,
     alloc: Global,
     starts: &IndexSet<Name>,
     files: &[Module],
     prelude: &[Rule],
-) -> Result<Numbering, Memory>
-    ensures numbered { IfOk result IsNumbered }
-    ensures rules { IfOk result (λ n. n.rules.items ≡ outlines_of starts.now.keys files.now prelude.now) }
+) -> Result<(), Memory>
+    requires { HasNone numbering.old }
+    ensures numbered { OnOk result (IsNumbered numbering.new) }
+    ensures rules { OnOk result (numbering.new.rules.items ≡ outlines_of starts.now.keys files.now prelude.now) }
 {
-    let mut numbering = no_rules(alloc, files.len())?;
+    put_maps(&mut numbering.own, alloc, files.len())?;
     for (at, file) in files.iter().enumerate() {
         add_rules(
-            &mut numbering,
+            numbering,
             alloc,
             starts,
             at as u64 + 1,
             file.rules.as_slice(),
         )?;
     }
-    add_prelude(&mut numbering, prelude)?;
-    Ok(numbering)
+    add_prelude(numbering, prelude)?;
+    Ok(())
 }

@@ -4,7 +4,7 @@ ghost use Rattle.mh_places.specs.Signs.{is_capital};
 ghost use Rattle.mh_places.specs.Machine as machine;
 ghost use Rattle.mh_places.specs.Machine.{Refers};
 
-use crate::places::{Listing, Place, Purpose, Reader, Refusal, go_to, no_memory, unexpected};
+use crate::places::{Listing, Place, Purpose, Reader, Refusal, go_to, lost, no_memory, unexpected};
 use crate::signs::{Sign, is_capital_word};
 use crate::stack::Stack;
 use mh_grammar::{Memory, Name, Sequence, from_bytes};
@@ -12,21 +12,23 @@ use mh_rules::{Actual, LevelDecl, Module, Ref, TokenDecl};
 use std::alloc::Global;
 
 /// A declaration of levels.
-fn add_level(made: Module, level: LevelDecl) -> Result<Module, Memory>
+fn add_level(mut made: Module, level: LevelDecl) -> Result<Module, Memory>
     ensures { IfOk result (λ m. m ≡ record made { levels = made.levels ++ level ∷ [] }) }
 {
-    let mut made = made;
-    made.levels.push(level)?;
-    Ok(made)
+    match made.levels.push(level) {
+        Ok(()) => Ok(made),
+        Err(_) => Err(lost(made)),
+    }
 }
 
 /// An on-error declaration.
-fn add_on_error(made: Module, actuals: Sequence<Actual>) -> Result<Module, Memory>
+fn add_on_error(mut made: Module, actuals: Sequence<Actual>) -> Result<Module, Memory>
     ensures { IfOk result (λ m. m ≡ record made { on_error = made.on_error ++ actuals ∷ [] }) }
 {
-    let mut made = made;
-    made.on_error.push(actuals)?;
-    Ok(made)
+    match made.on_error.push(actuals) {
+        Ok(()) => Ok(made),
+        Err(_) => Err(lost(made)),
+    }
 }
 
 /// The module behind a list.
@@ -34,7 +36,14 @@ fn close(made: Module, listing: Listing) -> Result<Module, Memory>
     ensures { IfOk result (λ m. m ≡ machine.close made listing) }
 {
     match listing {
-        Listing::Tokens | Listing::Starts | Listing::Actuals(false, _) => Ok(made),
+        Listing::Tokens | Listing::Starts => {
+            drop(listing);
+            Ok(made)
+        }
+        Listing::Actuals(false, actuals) => {
+            drop(actuals);
+            Ok(made)
+        }
         Listing::Levels(assoc, names) => add_level(made, LevelDecl { assoc, names }),
         Listing::Actuals(true, actuals) => add_on_error(made, actuals),
     }
@@ -60,30 +69,33 @@ pub fn declare(alloc: Global, made: Module, sign: Sign) -> Result<Reader, Refusa
 }
 
 /// A start of a list.
-fn add_start(made: Module, name: Name) -> Result<Module, Memory>
+fn add_start(mut made: Module, name: Name) -> Result<Module, Memory>
     ensures { IfOk result (λ m. m ≡ record made { starts = made.starts ++ name ∷ [] }) }
 {
-    let mut made = made;
-    made.starts.push(name)?;
-    Ok(made)
+    match made.starts.push(name) {
+        Ok(()) => Ok(made),
+        Err(_) => Err(lost(made)),
+    }
 }
 
 /// A name of a level.
-fn add_name(names: Sequence<Ref>, name: Ref) -> Result<Sequence<Ref>, Memory>
+fn add_name(mut names: Sequence<Ref>, name: Ref) -> Result<Sequence<Ref>, Memory>
     ensures { IfOk result (λ all. all ≡ names ++ name ∷ []) }
 {
-    let mut names = names;
-    names.push(name)?;
-    Ok(names)
+    match names.push(name) {
+        Ok(()) => Ok(names),
+        Err(_) => Err(lost(names)),
+    }
 }
 
 /// A token more.
-fn add_token(made: Module, token: TokenDecl) -> Result<Module, Memory>
+fn add_token(mut made: Module, token: TokenDecl) -> Result<Module, Memory>
     ensures { IfOk result (λ m. m ≡ machine.with_token made token) }
 {
-    let mut made = made;
-    made.tokens.push(token)?;
-    Ok(made)
+    match made.tokens.push(token) {
+        Ok(()) => Ok(made),
+        Err(_) => Err(lost(made)),
+    }
 }
 
 /// A word in a list.
@@ -101,10 +113,10 @@ fn list_word(alloc: Global, made: Module, listing: Listing, text: &[u8]) -> Resu
                 unexpected((made, name))
             }
         }
-        Listing::Starts => {
-            let made = add_start(made, name)?;
-            go_to(made, Place::Items(Listing::Starts))
-        }
+        Listing::Starts => match add_start(made, name) {
+            Ok(made) => go_to(made, Place::Items(listing)),
+            Err(_) => no_memory(listing),
+        },
         Listing::Levels(assoc, names) => match add_name(names, Ref::Plain(name)) {
             Ok(names) => go_to(made, Place::Items(Listing::Levels(assoc, names))),
             Err(_) => no_memory(made),
@@ -133,7 +145,7 @@ fn list_quoted(
         return no_memory((made, listing));
     };
     match listing {
-        Listing::Tokens | Listing::Starts => unexpected((made, name)),
+        Listing::Tokens | Listing::Starts => unexpected((made, (listing, name))),
         Listing::Levels(assoc, names) => match add_name(names, Ref::Alias(name)) {
             Ok(names) => go_to(made, Place::Items(Listing::Levels(assoc, names))),
             Err(_) => no_memory(made),

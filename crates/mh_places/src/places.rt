@@ -10,7 +10,7 @@ use mh_rules::{Actual, Alternative, Module, Ref, Rule, TokenDecl};
 use std::alloc::AllocError;
 
 /// Why a lexeme is not taken.
-#[derive(Clone, Copy, Debug, Drop)]
+#[derive(Clone, Copy)]
 pub enum Refusal {
     Unexpected,
     Memory,
@@ -141,6 +141,12 @@ pub fn unexpected<T: Drop, X>(read: T) -> Result<X, Refusal>
 {
     drop(read);
     Err(Refusal::Unexpected)
+}
+
+/// There was no memory to go on with a value, which is let go in one call for the same reason.
+pub fn lost<T: Drop>(value: T) -> Memory {
+    drop(value);
+    Memory
 }
 
 /// There is no memory for what was read, which is let go.

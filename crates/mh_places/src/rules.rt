@@ -1,11 +1,10 @@
 //! Rules but for their actuals.
-ghost use Rattle.std.specs.Prelude.{◌≡◌, ◌∷◌, ◌++◌, [], IfOk, Some, map};
-ghost use Rattle.mh_places.specs.Spelling as spelling;
+ghost use Rattle.std.specs.Prelude.{◌≡◌, ◌∷◌, ◌++◌, [], IfOk, OnOk, Some, map};
 ghost use Rattle.mh_places.specs.Spelling.{ref_by, with_prec};
 ghost use Rattle.mh_places.specs.Machine as machine;
 ghost use Rattle.mh_places.specs.Machine.{Refers, ruled, grouped, grouped_with, produced, drafted, named, with_formal};
 
-use crate::places::{Draft, Place, Purpose, Reader, Refusal, go_to, no_memory, unexpected};
+use crate::places::{Draft, Place, Purpose, Reader, Refusal, go_to, lost, no_memory, unexpected};
 use crate::signs::Sign;
 use crate::stack::Stack;
 use mh_grammar::{Memory, Name, Sequence, from_bytes};
@@ -21,7 +20,7 @@ pub fn reference(alloc: Global, sign: Sign, text: &[u8]) -> Result<Ref, Refusal>
     match sign {
         Sign::Word => Ok(Ref::Plain(name)),
         Sign::Quoted => Ok(Ref::Alias(name)),
-        _ => Err(Refusal::Unexpected),
+        _ => unexpected(name),
     }
 }
 
@@ -93,23 +92,22 @@ pub fn at_rule_named(made: Module, rule: Rule, sign: Sign) -> Result<Reader, Ref
     }
 }
 
-/// The rule with one more formal.
-fn with_formal_of(alloc: Global, rule: Rule, text: &[u8]) -> Result<Rule, Memory>
-    ensures { IfOk result (λ r. r ≡ with_formal rule text.now) }
+/// Adds a formal.
+fn push_formal(alloc: Global, rule: &mut Rule, text: &[u8]) -> Result<(), Memory>
+    ensures { OnOk result (rule.new ≡ with_formal rule.old text.now) }
 {
-    let mut rule = rule;
     let name = from_bytes(alloc, text)?;
     rule.formals.push(name)?;
-    Ok(rule)
+    Ok(())
 }
 
 /// A formal.
-fn add_formal(alloc: Global, made: Module, rule: Rule, text: &[u8]) -> Result<Reader, Refusal>
+fn add_formal(alloc: Global, made: Module, mut rule: Rule, text: &[u8]) -> Result<Reader, Refusal>
     ensures { Refers (machine.goes made (machine.formal_place rule text.now)) result }
 {
-    match with_formal_of(alloc, rule, text) {
-        Ok(rule) => go_to(made, Place::FormalRead(rule)),
-        Err(_) => no_memory(made),
+    match push_formal(alloc, &mut rule, text) {
+        Ok(()) => go_to(made, Place::FormalRead(rule)),
+        Err(_) => no_memory((made, rule)),
     }
 }
 
@@ -179,13 +177,14 @@ fn draft_of(alloc: Global, rule: Rule) -> Draft
 }
 
 /// A production ends.
-fn end_production(alloc: Global, draft: Draft, prec: Option<Ref>) -> Result<Draft, Memory>
+fn end_production(alloc: Global, mut draft: Draft, prec: Option<Ref>) -> Result<Draft, Memory>
     ensures { IfOk result (λ d. d ≡ produced draft prec) }
 {
-    let mut draft = draft;
     let producers = mem::replace(&mut draft.producers, Sequence::new(alloc));
-    draft.productions.push(Alternative { producers, prec })?;
-    Ok(draft)
+    match draft.productions.push(Alternative { producers, prec }) {
+        Ok(()) => Ok(draft),
+        Err(_) => Err(lost(draft)),
+    }
 }
 
 /// A production ends at a bar.
@@ -293,18 +292,20 @@ pub fn at_prec(
     }
 }
 
+/// The draft where a production begins.
+fn without_producers(alloc: Global, mut draft: Draft) -> Draft
+    ensures { result ≡ record draft { producers = [] } }
+{
+    drop(mem::replace(&mut draft.producers, Sequence::new(alloc)));
+    draft
+}
+
 /// Behind a production that has a `%prec`.
 pub fn at_closed(alloc: Global, made: Module, draft: Draft, sign: Sign) -> Result<Reader, Refusal>
     ensures { Refers (machine.at_closed made draft sign) result }
 {
     match sign {
-        Sign::Bar => go_to(
-            made,
-            Place::Production(Draft {
-                producers: Sequence::new(alloc),
-                ..draft
-            }),
-        ),
+        Sign::Bar => go_to(made, Place::Production(without_producers(alloc, draft))),
         Sign::Action => go_to(made, Place::Group(draft)),
         _ => unexpected((made, draft)),
     }
@@ -319,38 +320,47 @@ fn joined(
 {
     let mut items = all.into_vec();
     let mut last = more.into_vec();
-    items.append(&mut last)?;
-    Ok(Sequence::from_vec(items))
+    match items.append(&mut last) {
+        Ok(()) => {
+            drop(last);
+            Ok(Sequence::from_vec(items))
+        }
+        Err(_) => Err(lost((items, last))),
+    }
 }
 
 /// The rule with a group of these productions.
 fn with_group(rule: Rule, productions: Sequence<Alternative>) -> Result<Rule, Memory>
     ensures { IfOk result (λ r. r ≡ record rule { alternatives = rule.alternatives ++ productions }) }
 {
-    let alternatives = joined(rule.alternatives, productions)?;
-    Ok(Rule {
-        public: rule.public,
-        inlined: rule.inlined,
-        name: rule.name,
-        formals: rule.formals,
-        alternatives,
-    })
+    match joined(rule.alternatives, productions) {
+        Ok(alternatives) => Ok(Rule {
+            public: rule.public,
+            inlined: rule.inlined,
+            name: rule.name,
+            formals: rule.formals,
+            alternatives,
+        }),
+        Err(_) => Err(lost((rule.name, rule.formals))),
+    }
 }
 
 /// The rule with the group that ends here.
 pub fn group_of(draft: Draft) -> Result<Rule, Memory>
     ensures { IfOk result (λ r. r ≡ grouped draft) }
 {
+    drop(draft.producers);
     with_group(draft.rule, draft.productions)
 }
 
 /// The module with the rule that ends here.
-pub fn add_rule(made: Module, rule: Rule) -> Result<Module, Memory>
+pub fn add_rule(mut made: Module, rule: Rule) -> Result<Module, Memory>
     ensures { IfOk result (λ m. m ≡ ruled made rule) }
 {
-    let mut made = made;
-    made.rules.push(rule)?;
-    Ok(made)
+    match made.rules.push(rule) {
+        Ok(()) => Ok(made),
+        Err(_) => Err(lost(made)),
+    }
 }
 
 /// Behind a group.
@@ -418,51 +428,37 @@ fn copied_ref(alloc: Global, found: &Ref) -> Result<Ref, Memory>
     }
 }
 
-/// A production's own level, else its group's.
-fn own_or(alloc: Global, group: &Ref, prec: Option<Ref>) -> Result<Option<Ref>, Memory>
-    ensures { IfOk result (λ own. own ≡ spelling.own_or (Some group.now) prec) }
-{
-    match prec {
-        Some(own) => Ok(Some(own)),
-        None => {
-            let copy = copied_ref(alloc, group)?;
-            Ok(Some(copy))
-        }
-    }
-}
-
 /// The group's level goes to a production without its own.
-fn levelled_one(alloc: Global, production: Alternative, group: &Ref) -> Result<Alternative, Memory>
-    ensures { IfOk result (λ p. p ≡ with_prec (Some group.now) production) }
+fn give_level(alloc: Global, production: &mut Alternative, group: &Ref) -> Result<(), Memory>
+    ensures { OnOk result (production.new ≡ with_prec (Some group.now) production.old) }
 {
-    let prec = own_or(alloc, group, production.prec)?;
-    Ok(Alternative {
-        producers: production.producers,
-        prec,
-    })
+    if production.prec.is_none() {
+        let level = copied_ref(alloc, group)?;
+        drop(mem::replace(&mut production.prec, Some(level)));
+    }
+    Ok(())
 }
 
 /// The group's level goes to each production without its own.
-fn levelled(
-    alloc: Global,
-    productions: Sequence<Alternative>,
-    group: &Ref,
-) -> Result<Sequence<Alternative>, Memory>
-    ensures { IfOk result (λ all. all ≡ map (with_prec (Some group.now)) productions) }
+fn give_levels(alloc: Global, productions: &mut [Alternative], group: &Ref) -> Result<(), Memory>
+    ensures { OnOk result (productions.new ≡ map (with_prec (Some group.now)) productions.old) }
 {
-    let mut all = Sequence::new(alloc);
-    for production in productions.into_vec() {
-        all.push(levelled_one(alloc, production, group)?)?;
+    for production in productions.iter_mut() {
+        give_level(alloc, production, group)?;
     }
-    Ok(all)
+    Ok(())
 }
 
 /// The rule with a group of this level.
 fn levelled_group(alloc: Global, draft: Draft, group: &Ref) -> Result<Rule, Memory>
     ensures { IfOk result (λ r. r ≡ grouped_with draft group.now) }
 {
-    let productions = levelled(alloc, draft.productions, group)?;
-    with_group(draft.rule, productions)
+    drop(draft.producers);
+    let mut productions = draft.productions.into_vec();
+    match give_levels(alloc, &mut productions, group) {
+        Ok(()) => with_group(draft.rule, Sequence::from_vec(productions)),
+        Err(_) => Err(lost((draft.rule, productions))),
+    }
 }
 
 /// Behind a group's `%prec`.
@@ -477,7 +473,9 @@ pub fn at_group_prec(
 {
     match reference(alloc, sign, text) {
         Ok(prec) => {
-            match levelled_group(alloc, draft, &prec) {
+            let group = levelled_group(alloc, draft, &prec);
+            drop(prec);
+            match group {
                 Ok(rule) => go_to(made, Place::GroupClosed(rule)),
                 Err(_) => no_memory(made),
             }

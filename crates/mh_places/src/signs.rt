@@ -8,7 +8,7 @@ use mh_grammar::Assoc;
 use mh_lex::{Keyword, Kind, keyword_of};
 
 /// What a lexeme is to the grammar.
-#[derive(Clone, Copy, Debug, Drop, PartialEq, Eq)]
+#[derive(Clone, Copy)]
 pub enum Sign {
     Word,
     Quoted,

@@ -7,3 +7,4 @@ pub mod Lines
 pub mod Short
 pub mod Shallow
 pub mod Filled
+pub mod Steps

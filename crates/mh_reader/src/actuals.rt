@@ -11,7 +11,7 @@ ghost use Rattle.mh_reader.specs.Limits.{Deep};
 use mh_grammar::{Memory, Name, Sequence, from_bytes};
 use mh_places::{
     Draft, Listing, Pending, Place, Purpose, Reader, Refusal, Sign, Stack, at_items, at_spaced,
-    go_to, no_memory, reference, unexpected,
+    go_to, lost, no_memory, reference, unexpected,
 };
 use mh_rules::{Actual, MAX_DEPTH, Module, Ref};
 use std::alloc::Global;
@@ -37,52 +37,66 @@ fn deeper_of(one: usize, two: usize) -> usize
 }
 
 /// Adds an actual behind others.
-fn add_actual(actuals: Sequence<Actual>, actual: Actual) -> Result<Sequence<Actual>, Memory>
+fn add_actual(mut actuals: Sequence<Actual>, actual: Actual) -> Result<Sequence<Actual>, Memory>
     ensures { IfOk result (λ all. all ≡ actuals ++ actual ∷ []) }
 {
-    let mut actuals = actuals;
-    actuals.push(actual)?;
-    Ok(actuals)
+    match actuals.push(actual) {
+        Ok(()) => Ok(actuals),
+        Err(_) => Err(lost(actuals)),
+    }
 }
 
 /// Adds a producer to a production.
-fn add_producer(draft: Draft, actual: Actual) -> Result<Draft, Memory>
+fn add_producer(mut draft: Draft, actual: Actual) -> Result<Draft, Memory>
     ensures { IfOk result (λ d. d ≡ with_producer draft actual) }
 {
-    let mut draft = draft;
-    draft.producers.push(actual)?;
-    Ok(draft)
+    match draft.producers.push(actual) {
+        Ok(()) => Ok(draft),
+        Err(_) => Err(lost(draft)),
+    }
 }
 
 /// Adds an argument.
-fn add_argument(inner: Pending, argument: Measured) -> Result<Pending, Memory>
+fn add_argument(mut inner: Pending, argument: Measured) -> Result<Pending, Memory>
     ensures { IfOk result (λ p. p ≡ with_argument inner argument.actual argument.depth) }
 {
-    let mut inner = inner;
-    inner.args.push(argument.actual)?;
-    inner.depth = deeper_of(inner.depth, argument.depth);
-    Ok(inner)
+    match inner.args.push(argument.actual) {
+        Ok(()) => {
+            inner.depth = deeper_of(inner.depth, argument.depth);
+            Ok(inner)
+        }
+        Err(_) => Err(lost(inner)),
+    }
 }
 
 /// A list of one actual, for which alone there is room.
 fn alone(alloc: Global, actual: Actual) -> Result<Sequence<Actual>, Memory>
     ensures { IfOk result (λ all. all ≡ actual ∷ []) }
 {
-    let mut all = Vec::with_capacity(alloc, 1)?;
-    all.push(actual)?;
-    Ok(Sequence::from_vec(all))
+    match Vec::with_capacity(alloc, 1) {
+        Ok(room) => add_actual(Sequence::from_vec(room), actual),
+        Err(_) => Err(lost(actual)),
+    }
+}
+
+/// A name applied to arguments.
+fn call(alloc: Global, name: &[u8], args: Sequence<Actual>) -> Result<Actual, Memory>
+    ensures { IfOk result (λ a. a ≡ applied (Plain name.now) args) }
+{
+    match from_bytes(alloc, name) {
+        Ok(name) => Ok(Actual {
+            head: Ref::Plain(name),
+            args,
+        }),
+        Err(_) => Err(lost(args)),
+    }
 }
 
 /// An actual with one argument: a suffix of one byte makes one.
 fn wrapped(alloc: Global, name: &[u8], inner: Actual) -> Result<Actual, Memory>
     ensures { IfOk result (λ a. a ≡ applied (Plain name.now) (inner ∷ [])) }
 {
-    let args = alone(alloc, inner)?;
-    let name = from_bytes(alloc, name)?;
-    Ok(Actual {
-        head: Ref::Plain(name),
-        args,
-    })
+    call(alloc, name, alone(alloc, inner)?)
 }
 
 /// Behind a whole producer or item of a list.
@@ -120,7 +134,7 @@ fn next_argument(
     let mut pending = outer;
     match pending.push(inner) {
         Ok(()) => go_to(made, Place::Argument(purpose, pending)),
-        Err(_) => no_memory((made, purpose, pending)),
+        Err(_) => no_memory((made, (purpose, pending))),
     }
 }
 
@@ -148,9 +162,9 @@ fn behind_argument(
                 };
                 go_to(made, Place::After(purpose, rest, actual, depth))
             }
-            _ => unexpected((made, purpose, rest, inner)),
+            _ => unexpected((made, (purpose, (rest, inner)))),
         },
-        Err(_) => no_memory((made, purpose, rest)),
+        Err(_) => no_memory((made, (purpose, rest))),
     }
 }
 
@@ -170,7 +184,10 @@ fn above(
 {
     let mut rest = pending;
     match rest.pop() {
-        None => whole(alloc, made, purpose, read.actual, sign, text),
+        None => {
+            drop(rest);
+            whole(alloc, made, purpose, read.actual, sign, text)
+        }
         Some(inner) => behind_argument(made, purpose, rest, inner, read, sign),
     }
 }
@@ -190,10 +207,10 @@ fn suffix(
     if has_room(depth, pending.len()) {
         match wrapped(alloc, name, actual) {
             Ok(actual) => go_to(made, Place::After(purpose, pending, actual, depth + 1)),
-            Err(_) => no_memory((made, purpose, pending)),
+            Err(_) => no_memory((made, (purpose, pending))),
         }
     } else {
-        unexpected((made, purpose, pending, actual))
+        unexpected((made, (purpose, (pending, actual))))
     }
 }
 
@@ -237,7 +254,7 @@ fn open(
         };
         next_argument(made, purpose, pending, inner)
     } else {
-        unexpected((made, purpose, pending, head))
+        unexpected((made, (purpose, (pending, head))))
     }
 }
 
@@ -300,7 +317,7 @@ pub(crate) fn at_argument(
 {
     match reference(alloc, sign, text) {
         Ok(head) => go_to(made, Place::Head(purpose, pending, head)),
-        Err(Refusal::Unexpected) => unexpected((made, purpose, pending)),
-        Err(Refusal::Memory) => no_memory((made, purpose, pending)),
+        Err(Refusal::Unexpected) => unexpected((made, (purpose, pending))),
+        Err(Refusal::Memory) => no_memory((made, (purpose, pending))),
     }
 }

@@ -1,4 +1,5 @@
 //! One lexeme more.
+ghost use Rattle.std.specs.Prelude.{◌≡◌};
 ghost use Rattle.mh_places.specs.Machine as machine;
 ghost use Rattle.mh_places.specs.Machine.{Refers};
 ghost use Rattle.mh_reader.specs.Limits.{IsShallow};
@@ -8,9 +9,19 @@ use mh_places::{
     Place, Reader, Refusal, Sign, at_aliased, at_begin, at_closed, at_comma, at_formal_comma,
     at_formal_read, at_formals_closed, at_formals_open, at_group, at_group_prec, at_items,
     at_modified, at_opening, at_parameter, at_prec, at_rule_end, at_rule_named, at_spaced,
-    at_token, at_type, behind_group, declare, in_production, in_rules,
+    at_token, at_type, behind_group, declare, in_production, in_rules, unexpected,
 };
+use mh_rules::Module;
 use std::alloc::Global;
+
+/// What was read, where the place carries nothing more. (It is let go in one call: an arm that does so itself is far longer
+/// to prove.)
+fn made_of(made: Module, place: Place) -> Module
+    ensures { result ≡ made }
+{
+    drop(place);
+    made
+}
 
 /// The reader behind one lexeme more.
 #[tactic(auto, unfolding(mh_places::specs::Machine::next_at))]
@@ -23,19 +34,19 @@ pub(crate) fn advance(
     requires { IsShallow reader.place }
     ensures { Refers (machine.next_at reader.made reader.place sign text.now) result }
 {
-    let made = reader.made;
-    match reader.place {
-        Place::Declarations => declare(alloc, made, sign),
+    let Reader { made, place } = reader;
+    match place {
+        Place::Declarations => declare(alloc, made_of(made, place), sign),
         Place::Opening(listing) => at_opening(alloc, made, listing, sign, text),
-        Place::TypeOf => at_type(alloc, made, sign),
+        Place::TypeOf => at_type(alloc, made_of(made, place), sign),
         Place::Items(listing) => at_items(alloc, made, listing, sign, text),
         Place::Comma(listing) => at_comma(alloc, made, listing, sign, text),
         Place::TokenNamed(name, cost) => at_token(alloc, made, name, cost, sign, text),
         Place::TokenAliased(token) => at_aliased(alloc, made, token, sign, text),
-        Place::ParameterType => at_parameter(made, sign),
-        Place::Rules => in_rules(alloc, made, sign, text),
+        Place::ParameterType => at_parameter(made_of(made, place), sign),
+        Place::Rules => in_rules(alloc, made_of(made, place), sign, text),
         Place::Modified(public, inlined) => {
-            at_modified(alloc, made, public, inlined, sign, text)
+            at_modified(alloc, made_of(made, place), public, inlined, sign, text)
         }
         Place::RuleNamed(rule) => at_rule_named(made, rule, sign),
         Place::FormalsOpen(rule) => at_formals_open(alloc, made, rule, sign, text),
@@ -61,7 +72,7 @@ pub(crate) fn advance(
         Place::Group(draft) => at_group(alloc, made, draft, sign, text),
         Place::GroupPrec(draft) => at_group_prec(alloc, made, draft, sign, text),
         Place::GroupClosed(rule) => behind_group(alloc, made, rule, sign, text),
-        Place::RuleEnd => at_rule_end(alloc, made, sign, text),
-        Place::Ended => Err(Refusal::Unexpected),
+        Place::RuleEnd => at_rule_end(alloc, made_of(made, place), sign, text),
+        Place::Ended => unexpected((made, place)),
     }
 }

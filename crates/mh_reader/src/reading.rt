@@ -20,7 +20,7 @@ use mh_lex::{Lexeme, SyntaxFault, lex, lexed_once, line_of};
 use mh_places::{
     Place, Reader, Refusal, add_rule, content_of, cost_of, group_of, no_memory, sign_of, unexpected,
 };
-use mh_rules::{Module, TokenDecl};
+use mh_rules::Module;
 use std::alloc::Global;
 
 /// A reader that has read nothing.
@@ -44,38 +44,19 @@ fn fresh(alloc: Global) -> Reader
 fn ended(reader: Reader) -> Result<Module, Refusal>
     ensures { Refers (finish_at reader.made reader.place) result }
 {
-    let made = reader.made;
-    match reader.place {
-        Place::Rules | Place::RuleEnd | Place::Ended => Ok(made),
+    let Reader { made, place } = reader;
+    match place {
+        Place::Rules | Place::RuleEnd | Place::Ended => {
+            drop(place);
+            Ok(made)
+        }
         Place::Group(draft) => match group_of(draft) {
             Ok(rule) => Ok(add_rule(made, rule)?),
             Err(_) => no_memory(made),
         },
         Place::GroupClosed(rule) => Ok(add_rule(made, rule)?),
-        // Not `_`: to let go of any place at once is far longer to prove.
-        Place::Declarations | Place::TypeOf | Place::ParameterType | Place::Modified(_, _) => {
-            unexpected(made)
-        }
-        Place::Opening(listing) | Place::Items(listing) | Place::Comma(listing) => {
-            unexpected((made, listing))
-        }
-        Place::TokenNamed(name, _) => unexpected((made, name)),
-        Place::TokenAliased(token) => unexpected((made, token)),
-        Place::RuleNamed(rule)
-        | Place::FormalsOpen(rule)
-        | Place::FormalRead(rule)
-        | Place::FormalComma(rule)
-        | Place::FormalsClosed(rule)
-        | Place::Begin(rule) => unexpected((made, rule)),
-        Place::Production(draft)
-        | Place::Spaced(draft)
-        | Place::Prec(draft)
-        | Place::Closed(draft)
-        | Place::GroupPrec(draft) => unexpected((made, draft)),
-        Place::Named(draft, name) => unexpected((made, draft, name)),
-        Place::Argument(purpose, pending) => unexpected((made, purpose, pending)),
-        Place::Head(purpose, pending, head) => unexpected((made, purpose, pending, head)),
-        Place::After(purpose, pending, actual, _) => unexpected((made, purpose, pending, actual)),
+        // In one call: to let go of any place here is far longer to prove.
+        _ => unexpected((made, place)),
     }
 }
 
@@ -94,32 +75,16 @@ fn first_cost(cost: Option<u32>, other: Option<u32>) -> Option<u32>
     cost.or(other)
 }
 
-fn with_first_cost(token: TokenDecl, cost: Option<u32>) -> TokenDecl
-    ensures { result ≡ record token { cost = option_or token.cost cost } }
-{
-    TokenDecl {
-        name: token.name,
-        alias: token.alias,
-        cost: first_cost(token.cost, cost),
-    }
-}
-
 /// The reader behind an attribute, whose cost counts behind a token where there is none before it.
-fn with_cost(reader: Reader, cost: Option<u32>) -> Reader
+fn with_cost(mut reader: Reader, cost: Option<u32>) -> Reader
     ensures { result ≡ costed cost reader }
 {
-    let made = reader.made;
-    match reader.place {
-        Place::TokenNamed(name, known) => Reader {
-            made,
-            place: Place::TokenNamed(name, first_cost(known, cost)),
-        },
-        Place::TokenAliased(token) => Reader {
-            made,
-            place: Place::TokenAliased(with_first_cost(token, cost)),
-        },
-        place => Reader { made, place },
+    match &mut reader.place {
+        Place::TokenNamed(_, known) => *known = first_cost(*known, cost),
+        Place::TokenAliased(token) => token.cost = first_cost(token.cost, cost),
+        _ => {}
     }
+    reader
 }
 
 /// One lexeme more, where of an attribute the cost alone counts.

@@ -1,8 +1,0 @@
-use Rattle.std.proofs.Common.{◌≡◌, drop, []}
-use Rattle.indexmap.specs.IndexSet.{insert_all}
-use Rattle.mh_meanings.specs.Names.{same}
-use Rattle.std.specs.List.{flat_map}
-use Rattle.mh_naming.proofs.tokens.start_names.Given as goal
-
-abbrev pub invariant-loop-file : goal.invariant-loop-file
-invariant-loop-file l = insert_all same l.names.keys (flat_map (λ m. m.starts) (drop l.file-index l.files)) ≡ insert_all same [] (flat_map (λ m. m.starts) l.files)
