@@ -131,7 +131,7 @@ fn verdicts(rt: HostRuntime) -> Result<(), Fail> {
         let (bytes, expected) = parts(case)?;
         check_verdict(&rt, rt.alloc(), bytes.as_bytes(), expected)?;
     }
-    assert_eq!(rt; cases().split('^').count(), 89);
+    assert!(rt; cases().split('^').count() == 89);
     spelled_once();
     Ok(())
 }
@@ -228,7 +228,7 @@ fn is_printed(alloc: Global, bytes: &[u8]) -> bool {
 
 fn check_kept(rt: &impl Abort, alloc: Global, bytes: &str, expected: &str) -> Result<(), Fail> {
     let found = is_kept(alloc, bytes.as_bytes())?;
-    assert_eq!(rt; found, expected == "+", "at {bytes:?}");
+    assert!(rt; found == (expected == "+"), "at {bytes:?}");
     Ok(())
 }
 
@@ -240,7 +240,7 @@ fn printed_files(rt: HostRuntime) -> Result<(), Fail> {
         check_kept(&rt, rt.alloc(), bytes, expected)?;
         kept = kept.wrapping_add(u32::from(expected == "+"));
     }
-    assert_eq!(rt; kept, 40);
+    assert!(rt; kept == 40);
     Ok(())
 }
 
@@ -303,6 +303,6 @@ fn costs(rt: HostRuntime) -> Result<(), Fail> {
         check_costs(&rt, rt.alloc(), bytes.as_bytes(), expected);
         check_again(&rt, rt.alloc(), bytes.as_bytes(), expected)?;
     }
-    assert_eq!(rt; COSTS.split('^').count(), 16);
+    assert!(rt; COSTS.split('^').count() == 16);
     Ok(())
 }
