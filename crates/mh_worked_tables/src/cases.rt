@@ -1,6 +1,8 @@
 //! Cases as texts: blocks with an empty line between them, each of a grammar and a row for each thing that is asked of it,
 //! with ` = ` between what is asked and what is wanted.
-use crate::{automata, closures, resolving, runs, sets, tables, trees, widths};
+use crate::{
+    automata, catalogues, closures, resolving, runs, samples, sets, tables, trees, widths,
+};
 use mh_grammar::Grammar;
 use mh_made::grammar_of;
 use std::alloc::Global;
@@ -18,6 +20,11 @@ pub fn put(text: &mut String, more: &str) {
 /// Adds bytes that are a text.
 pub fn put_bytes(text: &mut String, bytes: &[u8]) {
     put(text, str::from_utf8(bytes).unwrap_or("no text"));
+}
+
+/// Adds a comma where a text is not empty.
+pub fn put_comma(text: &mut String) {
+    put(text, if text.is_empty() { "" } else { ", " });
 }
 
 /// Compares a text with what is wanted, and lets it go.
@@ -42,6 +49,9 @@ fn put_answer(
         "edges" => automata::put_edges_of(alloc, text, grammar)?,
         "widths" => widths::put_states(alloc, text, grammar)?,
         "halting" => tables::put_halting(alloc, text, grammar)?,
+        "lengths" => catalogues::put_catalogue_of(alloc, text, grammar, false)?,
+        "sentences" => catalogues::put_catalogue_of(alloc, text, grammar, true)?,
+        "sample" => samples::put_line(alloc, text, grammar)?,
         "tree" => trees::put_made(alloc, text, grammar, rest)?,
         "run" => runs::put_run(alloc, text, grammar, rest)?,
         _ => resolving::put_part(alloc, text, grammar, asked)?,
@@ -50,7 +60,8 @@ fn put_answer(
 }
 
 fn check_row(rt: &impl Abort, alloc: Global, grammar: &Grammar, row: &str) -> Result<(), Fail> {
-    let (asked, wanted) = row.split_once(" = ").ok_or("a row without a =")?;
+    let (asked, wanted) = row.split_once(" =").ok_or("a row without a =")?;
+    let wanted = wanted.strip_prefix(' ').unwrap_or(wanted);
     let mut text = String::new(alloc);
     let result = put_answer(alloc, &mut text, grammar, asked);
     check(rt, text, wanted, row);

@@ -1,6 +1,6 @@
 //! Cells, defaults, actions on an error and conflicts that were worked out by hand. Each grammar begins with the token A,
 //! and state 1 is the one behind it.
-use crate::cases::{check_cases, put, release};
+use crate::cases::{check_cases, put, put_comma, release};
 use mh_cells::{Conflict, Mode};
 use mh_grammar::Grammar;
 use mh_made::resolved;
@@ -35,7 +35,8 @@ fn put_goto(text: &mut String, table: &Table, state: u32, nonterminal: u16) {
 fn put_conflicts(text: &mut String, conflicts: &[Conflict]) {
     for conflict in conflicts {
         let (state, look, kind) = (conflict.state, conflict.look, conflict.kind);
-        let _ = write!(text, "{state} {look:?} {kind:?}, ");
+        put_comma(text);
+        let _ = write!(text, "{state} {look:?} {kind:?}");
     }
 }
 
@@ -59,7 +60,8 @@ fn put_left(text: &mut String, table: &Table, production: u32) {
 fn put_right(text: &mut String, table: &Table, production: u32) {
     if production < table.productions() {
         for at in 0..table.length_of(production) {
-            let _ = write!(text, "{:?} ", table.symbol_of(production, at));
+            put_comma(text);
+            let _ = write!(text, "{:?}", table.symbol_of(production, at));
         }
     }
 }
@@ -203,7 +205,7 @@ default 1 = None";
 /// Behind A, T is shifted or x is reduced, and at the end x or y is; so the end has an action and T another one. Behind x,
 /// state 3, T is shifted or s is reduced at the end.
 const CONFLICTS: &str = "A T; s x y; s: x; s: y; s: A T; s: x T; x: A; y: A
-conflicts = 1 Token(1) Unsolved, 1 End Unsolved, 1 End Stream, 3 End Stream, ";
+conflicts = 1 Token(1) Unsolved, 1 End Unsolved, 1 End Stream, 3 End Stream";
 
 #[test]
 fn resolved_tables(rt: HostRuntime) -> Result<(), Fail> {

@@ -35,8 +35,8 @@ default 3 = Some(Reduce(1))
 goto 0 0 = Some(2)
 goto 1 0 = None
 left 1 = 0
-right 0 = N(0) 
-right 1 = T(0) T(1) 
+right 0 = N(0)
+right 1 = T(0), T(1)
 halting = 4 states
 
 A; s b c; s: b s A; s: c; b:; c:

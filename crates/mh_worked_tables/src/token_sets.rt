@@ -6,6 +6,21 @@ use mh_sets::{TokenSet, with_width};
 use std::process::Abort;
 use std::test::Fail;
 
+fn check(rt: &impl Abort, found: &[bool], wanted: &[bool]) {
+    assert_eq!(rt; found, wanted);
+}
+
+/// The end of the stream is put in an empty set, twice.
+fn check_end(rt: &impl Abort, set: &mut TokenSet<2>) {
+    let found = [
+        set.first().is_none(),
+        set.insert(Look::End),
+        set.insert(Look::End),
+        set.first() == Some(Look::End),
+    ];
+    check(rt, &found, &[true, true, false, true]);
+}
+
 /// A token that is new and lower than all others is put in, twice.
 fn check_token(rt: &impl Abort, set: &mut TokenSet<2>, number: u16)
     requires { number < 128 }
@@ -18,26 +33,18 @@ fn check_token(rt: &impl Abort, set: &mut TokenSet<2>, number: u16)
         set.contains(look),
         set.first() == Some(look),
     ];
-    assert_eq!(rt; found, [false, true, false, true, true], "{number}");
+    check(rt, &found, &[false, true, false, true, true]);
 }
 
-/// The end of the stream is put in an empty set, twice.
-fn check_end(rt: &impl Abort, set: &mut TokenSet<2>) {
-    let found = [
-        set.first().is_none(),
-        set.insert(Look::End),
-        set.insert(Look::End),
-        set.first() == Some(Look::End),
-    ];
-    assert_eq!(rt; found, [true, true, false, true]);
-}
-
-fn check_looks(rt: &impl Abort, set: &TokenSet<2>, wanted: &[Look]) {
+/// Whether a set has just these looks.
+fn are_looks(set: &TokenSet<2>, looks: &[Look]) -> bool {
     let mut left = set.copied();
-    for look in wanted {
-        assert_eq!(rt; left.take_first(), Some(*look));
+    for look in looks {
+        if left.take_first() != Some(*look) {
+            return false;
+        }
     }
-    assert_eq!(rt; left.first(), None);
+    left.first().is_none()
 }
 
 #[test]
@@ -47,36 +54,44 @@ fn edges_of_words(rt: HostRuntime) {
     for number in [127u16, 64, 63, 0] {
         check_token(&rt, &mut set, number % 128);
     }
-    let absent = [set.contains(Look::Token(1)), set.contains(Look::Token(65))];
-    assert_eq!(rt; absent, [false, false]);
-    let wanted = [
+    let looks = [
         Look::Token(0),
         Look::Token(63),
         Look::Token(64),
         Look::Token(127),
         Look::End,
     ];
-    check_looks(&rt, &set, &wanted);
+    let found = [
+        set.contains(Look::Token(1)),
+        set.contains(Look::Token(65)),
+        are_looks(&set, &looks),
+    ];
+    check(&rt, &found, &[false, false, true]);
 }
 
-/// A set, and another that is put into it: whether they meet and which is within which, before and behind.
+/// A set, and another that is put into it, twice: whether they meet and which is within which, before and behind.
 fn check_union(rt: &impl Abort, set: &mut TokenSet<8>, other: &TokenSet<8>) {
-    let before = [set.meets(other), other.is_subset(set)];
-    let grown = [set.union_into(other), set.union_into(other)];
-    let behind = [set.meets(other), other.is_subset(set), set.is_subset(other)];
-    assert_eq!(rt; before, [false, false]);
-    assert_eq!(rt; grown, [true, false]);
-    assert_eq!(rt; behind, [true, true, false]);
+    let found = [
+        set.meets(other),
+        other.is_subset(set),
+        set.union_into(other),
+        set.union_into(other),
+        set.meets(other),
+        other.is_subset(set),
+        set.is_subset(other),
+    ];
+    check(rt, &found, &[false, false, true, false, true, true, false]);
 }
 
 #[test]
 fn sets_beside_each_other(rt: HostRuntime) {
     let end = TokenSet::<8>::only(Look::End);
+    let empty = TokenSet::<8>::empty();
     let mut both = TokenSet::<8>::only(Look::Token(3));
     check_union(&rt, &mut both, &TokenSet::only(Look::Token(511)));
     check_union(&rt, &mut both, &end);
-    let empty = TokenSet::<8>::empty();
-    assert_eq!(rt; [empty.is_subset(&end), empty.meets(&both)], [true, false]);
+    let found = [empty.is_subset(&end), empty.meets(&both)];
+    check(&rt, &found, &[true, false]);
 }
 
 fn words<const W: usize>() -> usize {
