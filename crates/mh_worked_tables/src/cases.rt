@@ -54,7 +54,7 @@ fn put_answer(
         "sample" => samples::put_line(alloc, text, grammar)?,
         "tree" => trees::put_made(alloc, text, grammar, rest)?,
         "run" => runs::put_run(alloc, text, grammar, rest)?,
-        _ => resolving::put_part(alloc, text, grammar, asked)?,
+        _ => resolving::put_part(alloc, text, grammar, kind, rest)?,
     }
     Ok(())
 }

@@ -66,9 +66,13 @@ fn put_right(text: &mut String, table: &Table, production: u32) {
     }
 }
 
-/// Adds a part of a table, by two numbers.
-fn put_by(text: &mut String, made: &(Table, Vec<Conflict>), kind: &str, number: u32, place: u16) {
-    let (table, conflicts) = made;
+/// Adds a part of a table, by its kind and two numbers.
+fn put_by(
+    text: &mut String,
+    table: &Table,
+    conflicts: &[Conflict],
+    (kind, number, place): (&str, u32, u16),
+) {
     match kind {
         "cell" => put_cell(text, table, conflicts, number, place),
         "default" | "merged" => put_default(text, table, number),
@@ -82,25 +86,28 @@ fn put_by(text: &mut String, made: &(Table, Vec<Conflict>), kind: &str, number: 
 }
 
 /// Adds a part of a grammar's table: `cell`, `default` or `goto` with a state and a number, `left` or `right` with a production,
-/// `conflicts` or `counts`; the table's states are merged for `merged`, which is its default.
+/// `conflicts` or `counts`; the table's states are merged for `merged`, which is its default. A number that is not there is 0.
 pub fn put_part(
     alloc: Global,
     text: &mut String,
     grammar: &Grammar,
-    asked: &str,
+    kind: &str,
+    numbers: &str,
 ) -> Result<(), Fail> {
-    let mut words = asked.split(' ');
-    let kind = words.next().unwrap_or("");
-    let number = words.next().unwrap_or("0").parse()?;
-    let place = words.next().unwrap_or("0").parse()?;
-    let mode = if kind == "merged" {
-        Mode::Merged
-    } else {
-        Mode::Canonical
+    let (number, place) = numbers.split_once(' ').unwrap_or((numbers, ""));
+    let part = (
+        kind,
+        number.parse().unwrap_or(0),
+        place.parse().unwrap_or(0),
+    );
+    let mode = match kind {
+        "merged" => Mode::Merged,
+        _ => Mode::Canonical,
     };
-    let made = resolved(alloc, grammar, mode)?;
-    put_by(text, &made, kind, number, place);
-    release(made);
+    let (table, conflicts) = resolved(alloc, grammar, mode)?;
+    put_by(text, &table, &conflicts, part);
+    release(table);
+    release(conflicts);
     Ok(())
 }
 
