@@ -1,6 +1,6 @@
 //! Messages files that are kept while a grammar grows, worked out by hand: what they are brought up to date to, and which states one has
 //! and another lacks.
-ghost use Rattle.std.specs.Prelude.{◌≡◌, ◌≤◌, length, IfOk, IfSome};
+ghost use Rattle.std.specs.Prelude.{◌≡◌, ◌≤◌, length, IfOk};
 ghost use Rattle.mh_grammar.specs.Costs.{HaveCosts};
 ghost use Rattle.mh_grammar.specs.Plain.{plain_of, IsInRange};
 ghost use Rattle.mh_kernels.specs.Automaton.{IsAutomaton};
@@ -181,26 +181,28 @@ fn put_lacked(
     result
 }
 
-/// Adds what a file becomes, or what another lacks of it.
+/// Adds what a file becomes, or in a pair what the other lacks of it.
 fn put_by_automaton(
     alloc: Global,
     text: &mut String,
     grammar: &Grammar,
     automaton: &Automaton<1>,
     file: &[u8],
-    other: Option<&[u8]>,
+    other: &[u8],
+    is_pair: bool,
 ) -> Result<(), Fail>
     requires width { length grammar.now.tokens ≤ 64 }
     requires range { IsInRange (plain_of grammar.now) }
     requires costs { HaveCosts grammar.now.tokens }
     requires automaton { IsAutomaton (plain_of grammar.now) automaton.now }
     requires short { length file.now ≤ 1000 }
-    requires other { IfSome other (λ bytes. length bytes.now ≤ 1000) }
+    requires other { length other.now ≤ 1000 }
 {
     let table = table_of(alloc, grammar, automaton)?;
-    let result = match other {
-        Some(other) => put_lacked(alloc, text, grammar, &table, file, other),
-        None => put_updated(alloc, text, grammar, automaton, &table, file),
+    let result = if is_pair {
+        put_lacked(alloc, text, grammar, &table, file, other)
+    } else {
+        put_updated(alloc, text, grammar, automaton, &table, file)
     };
     release(table);
     result
@@ -211,17 +213,14 @@ fn put_told(
     text: &mut String,
     grammar: &Grammar,
     file: &[u8],
-    other: Option<&[u8]>,
+    other: &[u8],
+    is_pair: bool,
 ) -> Result<(), Fail> {
-    let length = match other {
-        Some(other) => other.len(),
-        None => 0,
-    };
-    if !is_small(grammar) || file.len() > 1_000 || length > 1_000 {
+    if !is_small(grammar) || file.len() > 1_000 || other.len() > 1_000 {
         return Err(Fail::from("out of range"));
     }
     let automaton = automaton_of(alloc, grammar)?;
-    let result = put_by_automaton(alloc, text, grammar, &automaton, file, other);
+    let result = put_by_automaton(alloc, text, grammar, &automaton, file, other, is_pair);
     release(automaton);
     result
 }
@@ -229,18 +228,12 @@ fn put_told(
 /// A case is a file, or two, and what is wanted.
 fn check_case(rt: &impl Abort, alloc: Global, grammar: &Grammar, case: &str) -> Result<(), Fail> {
     let (file, rest) = case.split_once('~').ok_or("a case without a text")?;
-    let mut text = String::new(alloc);
-    let (result, wanted) = match rest.split_once('~') {
-        Some((other, wanted)) => {
-            let other = Some(other.as_bytes());
-            let result = put_told(alloc, &mut text, grammar, file.as_bytes(), other);
-            (result, wanted)
-        }
-        None => {
-            let result = put_told(alloc, &mut text, grammar, file.as_bytes(), None);
-            (result, rest)
-        }
+    let (is_pair, other, wanted) = match rest.split_once('~') {
+        Some((other, wanted)) => (true, other.as_bytes(), wanted),
+        None => (false, b"".as_slice(), rest),
     };
+    let mut text = String::new(alloc);
+    let result = put_told(alloc, &mut text, grammar, file.as_bytes(), other, is_pair);
     check(rt, text, wanted, file);
     result
 }
