@@ -147,10 +147,12 @@ fn add_nonterminals(
 
 /// Adds the places of the first nonterminal, and of each with a `*` behind it.
 fn add_starts(starts: &mut Sequence<u16>, nonterminals: &str) -> Result<(), Fail> {
-    for (place, word) in nonterminals.split_ascii_whitespace().enumerate() {
+    let mut place = 0u16;
+    for word in nonterminals.split_ascii_whitespace() {
         if place == 0 || word.ends_with('*') {
-            starts.push(u16::try_from(place).ok().ok_or("too many nonterminals")?)?;
+            starts.push(place)?;
         }
+        place = place.saturating_add(1);
     }
     Ok(())
 }
@@ -164,21 +166,42 @@ fn empty_grammar(alloc: Global) -> Grammar {
     }
 }
 
-/// The grammar of a text, in which a `;` stands between its tokens, its nonterminals and each production. The first nonterminal is a
-/// start, and each with a `*` behind it.
-pub fn grammar_of(alloc: Global, text: &str) -> Result<Grammar, Fail> {
+/// Lets a value go. Where its type is known, each way out that lets it go would be long to prove.
+fn release<T: Drop>(_value: T) {}
+
+/// A value that was filled, where filling it did not fail.
+fn filled<T: Drop>(value: T, filling: Result<(), Fail>) -> Result<T, Fail> {
+    match filling {
+        Ok(()) => Ok(value),
+        Err(fail) => Err(fail),
+    }
+}
+
+fn add_production(alloc: Global, grammar: &mut Grammar, rule: &str) -> Result<(), Fail> {
+    let production = production_of(alloc, grammar, rule)?;
+    grammar.productions.push(production)?;
+    Ok(())
+}
+
+fn fill(alloc: Global, grammar: &mut Grammar, text: &str) -> Result<(), Fail> {
     let mut parts = text.split(';');
     let tokens = parts.next().unwrap_or("");
     let nonterminals = parts.next().unwrap_or("");
-    let mut grammar = empty_grammar(alloc);
     add_tokens(alloc, &mut grammar.tokens, tokens)?;
     add_nonterminals(alloc, &mut grammar.nonterminals, nonterminals)?;
     add_starts(&mut grammar.starts, nonterminals)?;
     for rule in parts {
-        let production = production_of(alloc, &grammar, rule)?;
-        grammar.productions.push(production)?;
+        add_production(alloc, grammar, rule)?;
     }
-    Ok(grammar)
+    Ok(())
+}
+
+/// The grammar of a text, in which a `;` stands between its tokens, its nonterminals and each production. The first nonterminal is a
+/// start, and each with a `*` behind it.
+pub fn grammar_of(alloc: Global, text: &str) -> Result<Grammar, Fail> {
+    let mut grammar = empty_grammar(alloc);
+    let filling = fill(alloc, &mut grammar, text);
+    filled(grammar, filling)
 }
 
 /// The canonical automaton of a grammar of at most 64 tokens.
@@ -186,7 +209,10 @@ pub fn automaton_of(alloc: Global, grammar: &Grammar) -> Result<Automaton<1>, Fa
     if !is_in_range(grammar) || grammar.tokens.len() > 64 {
         return Err(Fail::from("out of range"));
     }
-    Ok(canonical::<1>(alloc, grammar).map_err(|_| "no automaton")?)
+    match canonical::<1>(alloc, grammar) {
+        Ok(automaton) => Ok(automaton),
+        Err(_) => Err(Fail::from("no automaton")),
+    }
 }
 
 /// The table and the conflicts of a grammar, by its canonical automaton.
@@ -198,12 +224,20 @@ pub fn resolved(
     if !is_in_range(grammar) || !has_costs_in_range(grammar) || grammar.tokens.len() > 64 {
         return Err(Fail::from("out of range"));
     }
-    let automaton = canonical::<1>(alloc, grammar).map_err(|_| "no automaton")?;
-    Ok(resolve(alloc, grammar, &automaton, mode)?)
+    let Ok(automaton) = canonical::<1>(alloc, grammar) else {
+        return Err(Fail::from("no automaton"));
+    };
+    let resolved = resolve(alloc, grammar, &automaton, mode);
+    release(automaton);
+    Ok(resolved?)
 }
 
 /// The table of a grammar, on which each run ends.
 pub fn halting_of(alloc: Global, grammar: &Grammar) -> Result<Halting, Fail> {
-    let (table, _) = resolved(alloc, grammar, Mode::Canonical)?;
-    Ok(check_halts(alloc, table).map_err(|_| "it halts")?)
+    let (table, conflicts) = resolved(alloc, grammar, Mode::Canonical)?;
+    release(conflicts);
+    match check_halts(alloc, table) {
+        Ok(halting) => Ok(halting),
+        Err(_) => Err(Fail::from("a run does not end")),
+    }
 }

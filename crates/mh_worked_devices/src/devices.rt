@@ -1,83 +1,111 @@
 //! Real files, readers and writers as shelf, source and sink.
 use mh_devices::{FileShelf, StdSink, StdSource};
-use mh_outside::{Shelf, ShelfFault, Source, WriteFault, read_line, write_whole};
+use mh_outside::{Shelf, ShelfFault, Sink, Source, WriteFault, read_line, write_whole};
 use std::alloc::Global;
 use std::fs;
 use std::process::Abort;
 use std::test::Fail;
 
+/// The file of the tests.
+const NAME: &str = "menhir-adapter-test.txt";
+
 /// Lets a value go. Where its type is known, each way out that lets it go would be long to prove.
 fn release<T: Drop>(_value: T) {}
 
-fn is_text(read: Result<Vec<u8>, ShelfFault>, wanted: &[u8]) -> bool {
-    match read {
-        Ok(bytes) => bytes.as_slice() == wanted,
-        Err(_) => false,
+/// Adds bytes to a text. One that finds no memory lacks them, and is not what is wanted.
+fn put(text: &mut Vec<u8>, bytes: &[u8]) {
+    let _ = text.extend_from_slice(bytes);
+}
+
+/// Compares a text with what is wanted, and lets it go.
+fn check(rt: &impl Abort, text: Vec<u8>, wanted: &[u8]) {
+    assert_eq!(rt; text.as_slice(), wanted);
+}
+
+fn fault_name(fault: ShelfFault) -> &'static [u8] {
+    match fault {
+        ShelfFault::TooBig => b"too big",
+        ShelfFault::Failed => b"failed",
+        ShelfFault::Absent => b"absent",
+        ShelfFault::Memory => b"memory",
     }
 }
 
-fn is_fault(read: Result<Vec<u8>, ShelfFault>, wanted: ShelfFault) -> bool {
+/// Adds the bytes that were read of a file or the fault, and a comma.
+fn put_read(text: &mut Vec<u8>, read: Result<Vec<u8>, ShelfFault>) {
     match read {
-        Ok(_) => false,
-        Err(fault) => fault == wanted,
+        Ok(bytes) => {
+            put(text, &bytes);
+            release(bytes);
+        }
+        Err(fault) => put(text, fault_name(fault)),
     }
+    put(text, b",");
 }
 
+/// A file of five bytes is read where so many may be, and not where four may be, nor once it is removed.
 #[test]
-fn a_file_is_read(rt: HostRuntime) -> Result<(), Fail> {
-    let name = "menhir-adapter-test.txt";
-    fs::write(&rt, name, "HELLO")?;
+fn a_file_is_read(rt: HostRuntime) {
+    let mut text = Vec::new(rt.alloc());
     let mut shelf = FileShelf::new(&rt);
-    let whole = is_text(shelf.read_file(rt.alloc(), name.as_bytes(), 5), b"HELLO");
-    let small = is_fault(
-        shelf.read_file(rt.alloc(), name.as_bytes(), 4),
-        ShelfFault::TooBig,
-    );
-    fs::remove_file(&rt, name)?;
-    assert!(rt; whole && small);
-    for absent in [name.as_bytes(), b"", b"\xff", b"."] {
-        let result = shelf.read_file(rt.alloc(), absent, 5);
-        assert!(rt; is_fault(result, ShelfFault::Failed), "{absent:?}");
+    let is_written = fs::write(&rt, NAME, "HELLO").is_ok();
+    put_read(&mut text, shelf.read_file(rt.alloc(), NAME.as_bytes(), 5));
+    put_read(&mut text, shelf.read_file(rt.alloc(), NAME.as_bytes(), 4));
+    let is_removed = fs::remove_file(&rt, NAME).is_ok();
+    for absent in [NAME.as_bytes(), b"", b"\xff", b"."] {
+        put_read(&mut text, shelf.read_file(rt.alloc(), absent, 5));
     }
-    Ok(())
+    assert!(rt; is_written && is_removed);
+    check(&rt, text, b"HELLO,too big,failed,failed,failed,failed,");
 }
 
-fn is_line(line: Option<Vec<u8>>, wanted: &[u8]) -> bool {
-    match line {
-        Some(line) => line.as_slice() == wanted,
-        None => false,
+/// Adds the next line behind a `>`, or a `.` where there is none.
+fn put_line<S: Source>(alloc: Global, text: &mut Vec<u8>, source: &mut S) {
+    match read_line(alloc, source, 9) {
+        Ok(Some(line)) => {
+            put(text, b">");
+            put(text, &line);
+            release(line);
+        }
+        Ok(None) => put(text, b"."),
+        Err(_) => put(text, b"!"),
     }
-}
-
-fn check_lines<S: Source>(rt: &impl Abort, alloc: Global, source: &mut S) -> Result<(), Fail> {
-    for want in [b"ab".as_slice(), b"", b"c"] {
-        let line = read_line(alloc, source, 9)?;
-        assert!(rt; is_line(line, want), "{want:?}");
-    }
-    assert!(rt; read_line(alloc, source, 9)?.is_none());
-    Ok(())
 }
 
 #[test]
 fn lines_are_read(rt: HostRuntime) -> Result<(), Fail> {
     let mut source = StdSource::new(rt.alloc(), b"ab\n\nc".as_slice())?;
-    let result = check_lines(&rt, rt.alloc(), &mut source);
+    let mut text = Vec::new(rt.alloc());
+    for _ in 0..4 {
+        put_line(rt.alloc(), &mut text, &mut source);
+    }
     release(source);
-    result
+    check(&rt, text, b">ab>>c.");
+    Ok(())
+}
+
+/// Adds `+` where a piece is taken, and `!` where the device fails.
+fn put_write<S: Sink>(text: &mut Vec<u8>, sink: &mut S, piece: &[u8]) {
+    match write_whole(sink, piece) {
+        Ok(()) => put(text, b"+"),
+        Err(WriteFault::Failed) => put(text, b"!"),
+    }
 }
 
 #[test]
-fn a_piece_is_written(rt: HostRuntime) -> Result<(), Fail> {
+fn pieces_are_written(rt: HostRuntime) {
+    let mut told = Vec::new(rt.alloc());
     let mut text = Vec::new(rt.alloc());
     let mut sink = StdSink::new(&mut text);
-    assert_eq!(rt; write_whole(&mut sink, b"ab"), Ok(()));
-    assert_eq!(rt; write_whole(&mut sink, b"c"), Ok(()));
-    assert_eq!(rt; text.as_slice(), b"abc".as_slice());
+    put_write(&mut told, &mut sink, b"ab");
+    put_write(&mut told, &mut sink, b"c");
+    put(&mut told, &text);
+    release(text);
 
     // Once two bytes are written, this writer takes no more.
     let mut room = [0u8; 2];
     let mut sink = StdSink::new(room.as_mut_slice());
-    assert_eq!(rt; write_whole(&mut sink, b"abc"), Err(WriteFault::Failed));
-    assert_eq!(rt; room, *b"ab");
-    Ok(())
+    put_write(&mut told, &mut sink, b"abc");
+    put(&mut told, &room);
+    check(&rt, told, b"++abc!ab");
 }

@@ -2,7 +2,7 @@
 ghost use Rattle.std.specs.Prelude.{◌≡◌, IfOk, Some};
 ghost use Rattle.mh_outside.specs.Fakes.{sink_written, sink_calls};
 
-use crate::cases::{put, release};
+use crate::cases::{check, parts, put, release};
 use mh_outside::{
     Failed, LineFault, MemShelf, MemSink, MemSource, Shelf, ShelfFault, Sink, Source, WriteFault,
     read_line, write_whole,
@@ -59,64 +59,56 @@ fn lines_of(alloc: Global, bytes: &[u8], fails: &[u64], limit: usize) -> Result<
     Ok(text)
 }
 
-fn check_lines(
-    rt: &impl Abort,
-    alloc: Global,
-    bytes: &[u8],
-    fails: &[u64],
-    limit: usize,
-    wanted: &[u8],
-) -> Result<(), Fail> {
-    let found = lines_of(alloc, bytes, fails, limit)?;
-    assert_eq!(rt; found.as_slice(), wanted, "of {bytes:?}, {fails:?}");
+/// The limit of a line, the number of the read that fails, or 0, and the bytes, with `~` before what is read and `^` between cases. The
+/// bytes that were got of a line whose read fails are lost, and the next call goes on behind them.
+const LINES: &str = "9 0 ~^\
+     9 0 \n~>^\
+     9 0 ab~>ab^\
+     9 0 ab\n~>ab^\
+     9 0 ab\n\ncd~>ab>>cd^\
+     2 0 ab\ncd\n~>ab>cd^\
+     2 0 abc\nd~+>>d^\
+     0 0 a~+^\
+     9 1 ab\nc~!>ab>c^\
+     9 2 ab\nc~!>b>c^\
+     9 3 ab\nc~!>>c^\
+     9 4 ab\nc~>ab!>c^\
+     9 5 ab\nc~>ab!^\
+     9 6 ab\nc~>ab>c!^\
+     9 7 ab\nc~>ab>c";
+
+fn check_lines(rt: &impl Abort, alloc: Global, case: &str) -> Result<(), Fail> {
+    let (given, wanted) = parts(case)?;
+    let (limit, given) = given.split_once(' ').ok_or("a case without a limit")?;
+    let (fail, bytes) = given.split_once(' ').ok_or("a case without a read")?;
+    let found = lines_of(alloc, bytes.as_bytes(), &[fail.parse()?], limit.parse()?)?;
+    check(rt, found, wanted, case);
     Ok(())
 }
 
 #[test]
 fn lines_are_read(rt: HostRuntime) -> Result<(), Fail> {
-    let alloc = rt.alloc();
-    for (input, limit, want) in [
-        (b"".as_slice(), 9, b"".as_slice()),
-        (b"\n", 9, b">"),
-        (b"ab", 9, b">ab"),
-        (b"ab\n", 9, b">ab"),
-        (b"ab\n\ncd", 9, b">ab>>cd"),
-        (b"ab\ncd\n", 2, b">ab>cd"),
-        (b"abc\nd", 2, b"+>>d"),
-        (b"a", 0, b"+"),
-    ] {
-        check_lines(&rt, alloc, input, &[], limit, want)?;
+    for case in LINES.split('^') {
+        check_lines(&rt, rt.alloc(), case)?;
     }
     Ok(())
 }
 
-/// Each read fails in turn: the bytes that were got of the line are lost, and the next call goes on behind them.
-#[test]
-fn each_read_fails_in_turn(rt: HostRuntime) -> Result<(), Fail> {
-    let alloc = rt.alloc();
-    for (fail, want) in [
-        (1, b"!>ab>c".as_slice()),
-        (2, b"!>b>c"),
-        (3, b"!>>c"),
-        (4, b">ab!>c"),
-        (5, b">ab!"),
-        (6, b">ab>c!"),
-        (7, b">ab>c"),
-    ] {
-        check_lines(&rt, alloc, b"ab\nc", &[fail], 9, want)?;
-    }
-    Ok(())
+/// Writes a piece, and compares whether it is taken whole with what is wanted.
+fn check_write(rt: &impl Abort, sink: &mut MemSink, piece: &[u8], wanted: Result<(), WriteFault>) {
+    assert_eq!(rt; write_whole(sink, piece), wanted);
 }
 
 #[test]
 fn pieces_are_written(rt: HostRuntime) -> Result<(), Fail> {
-    let alloc = rt.alloc();
-    let mut sink = MemSink::new(alloc, [2].to_vec(alloc)?);
-    assert_eq!(rt; write_whole(&mut sink, b"ab"), Ok(()));
-    assert_eq!(rt; write_whole(&mut sink, b"cd"), Err(WriteFault::Failed));
-    assert_eq!(rt; write_whole(&mut sink, b""), Ok(()));
-    assert_eq!(rt; write_whole(&mut sink, b"ef"), Ok(()));
-    assert_eq!(rt; sink.written(), b"abef".as_slice());
+    let fails = [2].to_vec(rt.alloc())?;
+    let mut sink = MemSink::new(rt.alloc(), fails);
+    check_write(&rt, &mut sink, b"ab", Ok(()));
+    check_write(&rt, &mut sink, b"cd", Err(WriteFault::Failed));
+    check_write(&rt, &mut sink, b"", Ok(()));
+    check_write(&rt, &mut sink, b"ef", Ok(()));
+    assert!(rt; sink.written() == b"abef");
+    release(sink);
     Ok(())
 }
 
@@ -136,28 +128,26 @@ impl Sink for Trickle {
     }
 }
 
-fn check_trickle(rt: &impl Abort, alloc: Global, fail: u64, wanted: &[u8]) -> Result<(), Fail> {
+/// What was written of `abcd` where a write fails, behind a `!` where not all was.
+fn trickled(alloc: Global, fail: u64) -> Result<Vec<u8>, Fail> {
+    let fails = [fail].to_vec(alloc)?;
     let mut trickle = Trickle {
-        sink: MemSink::new(alloc, [fail].to_vec(alloc)?),
+        sink: MemSink::new(alloc, fails),
     };
-    let result = write_whole(&mut trickle, b"abcd");
-    assert_eq!(rt; result.is_ok(), fail == 5);
-    assert_eq!(rt; trickle.sink.written(), wanted);
-    Ok(())
+    let mut text = Vec::new(alloc);
+    if write_whole(&mut trickle, b"abcd").is_err() {
+        put(&mut text, b"!");
+    }
+    put(&mut text, trickle.sink.written());
+    release(trickle);
+    Ok(text)
 }
 
 /// Each of four short writes fails in turn, and the bytes before it were written.
 #[test]
 fn each_write_fails_in_turn(rt: HostRuntime) -> Result<(), Fail> {
-    let alloc = rt.alloc();
-    for (fail, want) in [
-        (1, b"".as_slice()),
-        (2, b"a"),
-        (3, b"ab"),
-        (4, b"abc"),
-        (5, b"abcd"),
-    ] {
-        check_trickle(&rt, alloc, fail, want)?;
+    for (fail, wanted) in [(1, "!"), (2, "!a"), (3, "!ab"), (4, "!abc"), (5, "abcd")] {
+        check(&rt, trickled(rt.alloc(), fail)?, wanted, wanted);
     }
     Ok(())
 }
@@ -197,32 +187,54 @@ fn read_shown(alloc: Global, shelf: &mut MemShelf, name: &[u8], limit: usize) ->
     }
 }
 
+/// The file and the limit, with `~` before what is read and `^` between the calls.
+const READS: &str = "g 5~HELLO^g 4~too big^g 5~failed^i 5~absent^h 0~";
+
+fn check_read(
+    rt: &impl Abort,
+    alloc: Global,
+    shelf: &mut MemShelf,
+    case: &str,
+) -> Result<(), Fail> {
+    let (given, wanted) = parts(case)?;
+    let (name, limit) = given.split_once(' ').ok_or("a case without a limit")?;
+    let found = read_shown(alloc, shelf, name.as_bytes(), limit.parse()?);
+    check(rt, found, wanted, case);
+    Ok(())
+}
+
+fn check_reads(rt: &impl Abort, alloc: Global, shelf: &mut MemShelf) -> Result<(), Fail> {
+    for case in READS.split('^') {
+        check_read(rt, alloc, shelf, case)?;
+    }
+    Ok(())
+}
+
 #[test]
 fn files_are_read(rt: HostRuntime) -> Result<(), Fail> {
     let mut shelf = shelf(rt.alloc())?;
-    for (name, limit, want) in [
-        (b"g".as_slice(), 5, b"HELLO".as_slice()),
-        (b"g", 4, b"too big"),
-        (b"g", 5, b"failed"),
-        (b"i", 5, b"absent"),
-        (b"h", 0, b""),
-    ] {
-        let found = read_shown(rt.alloc(), &mut shelf, name, limit);
-        assert_eq!(rt; found.as_slice(), want);
-    }
+    let result = check_reads(&rt, rt.alloc(), &mut shelf);
     release(shelf);
-    Ok(())
+    result
+}
+
+fn check_fits(rt: &impl Abort, input: &mut MemSource) {
+    let mut buf = [0u8; 2];
+    let found = [
+        input.read(&mut buf),
+        input.read(&mut buf),
+        input.read(&mut buf),
+        input.read(&mut buf),
+    ];
+    assert_eq!(rt; found, [Ok(2), Err(Failed), Ok(1), Ok(0)]);
+    assert!(rt; buf == *b"cb");
 }
 
 /// A read takes as much as there is room for, and 0 comes at the end alone.
 #[test]
 fn reads_take_what_fits(rt: HostRuntime) -> Result<(), Fail> {
-    let alloc = rt.alloc();
-    let mut input = source(alloc, b"abc", &[2])?;
-    let mut buf = [0u8; 2];
-    for want in [Ok(2), Err(Failed), Ok(1), Ok(0)] {
-        assert_eq!(rt; input.read(&mut buf), want);
-    }
-    assert_eq!(rt; buf, *b"cb");
+    let mut input = source(rt.alloc(), b"abc", &[2])?;
+    check_fits(&rt, &mut input);
+    release(input);
     Ok(())
 }

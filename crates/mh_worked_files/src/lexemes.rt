@@ -177,7 +177,7 @@ fn lexes(rt: HostRuntime) -> Result<(), Fail> {
         assert!(rt; bytes.len() < 1000);
         check(&rt, shown(rt.alloc(), bytes.as_bytes()), expected, bytes);
     }
-    assert_eq!(rt; cases().split('^').count(), 102);
+    assert!(rt; cases().split('^').count() == 102);
     lexed_always();
     lexed_once();
     lexed_apart();

@@ -162,8 +162,8 @@ fn check_starts(rt: &impl Abort, alloc: Global, starts: &[u16], cases: &str) -> 
 
 #[test]
 fn lines(rt: HostRuntime) -> Result<(), Fail> {
-    assert_eq!(rt; OF_ONE_START.split('^').count(), 22);
+    assert!(rt; OF_ONE_START.split('^').count() == 22);
     check_starts(&rt, rt.alloc(), &[1], OF_ONE_START)?;
-    assert_eq!(rt; OF_TWO_STARTS.split('^').count(), 8);
+    assert!(rt; OF_TWO_STARTS.split('^').count() == 8);
     check_starts(&rt, rt.alloc(), &[1, 0], OF_TWO_STARTS)
 }

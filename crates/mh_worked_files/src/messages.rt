@@ -108,7 +108,7 @@ fn check_files(rt: &impl Abort, alloc: Global, grammar: &Grammar) -> Result<(), 
     for case in FILES.split('^') {
         check_printed(rt, alloc, grammar, case)?;
     }
-    assert_eq!(rt; FILES.split('^').count(), 14);
+    assert!(rt; FILES.split('^').count() == 14);
     check_echoed(rt, alloc, grammar, SENTENCES)
 }
 

@@ -6,6 +6,7 @@ use mh_grammar::{Level, Name};
 use mh_join::{Joined, Prec, join};
 use mh_reader::{Module, read_module};
 use std::alloc::Global;
+use std::process::Abort;
 use std::test::Fail;
 
 /// The files of a case, and what they give.
@@ -48,6 +49,19 @@ pub fn joined_of(alloc: Global, files: &str, prelude: bool) -> Result<Joined, Fa
     let joined = join(alloc, modules.as_slice(), prelude);
     release(modules);
     Ok(joined?)
+}
+
+/// Compares what was found with what is wanted, and lets it go.
+pub fn check(rt: &impl Abort, found: Vec<u8>, wanted: &str, at: &str) {
+    assert_eq!(rt; found.as_slice(), wanted.as_bytes(), "at {at:?}");
+}
+
+/// Compares the length of what was found, its front and its end with what is wanted, and lets it go.
+pub fn check_ends(rt: &impl Abort, found: Vec<u8>, length: usize, (front, end): (&str, &str)) {
+    let has_length = found.len() == length;
+    let has_ends = found.starts_with(front.as_bytes()) & found.ends_with(end.as_bytes());
+    release(found);
+    assert!(rt; has_length & has_ends, "at {front:?}, {end:?}");
 }
 
 /// Adds bytes to a text. One that finds no memory lacks them, and is not what is wanted.

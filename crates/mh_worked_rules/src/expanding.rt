@@ -3,7 +3,9 @@ ghost use Rattle.std.specs.Prelude.{IfOk};
 ghost use Rattle.mh_rules.specs.Ready.{IsReady};
 ghost use Rattle.mh_expand.specs.Expansion.{IsFirstFault};
 
-use crate::cases::{joined_of, parts, push_digit, push_named, push_prec, put, release};
+use crate::cases::{
+    check, check_ends, joined_of, parts, push_digit, push_named, push_prec, put, release,
+};
 use mh_expand::{
     ExpandFault, Expanded, Instance, InstanceProduction, Part, expand, is_one_expansion,
     is_one_fault,
@@ -140,17 +142,16 @@ fn found(alloc: Global, text: &str) -> Result<Vec<u8>, Fail> {
     Ok(text)
 }
 
-fn check_case(rt: &impl Abort, alloc: Global, text: &str, expected: &str) -> Result<(), Fail> {
-    let found = found(alloc, text)?;
-    assert_eq!(rt; found.as_slice(), expected.as_bytes(), "at {text:?}");
+fn check_case(rt: &impl Abort, alloc: Global, case: &str) -> Result<(), Fail> {
+    let (text, expected) = parts(case)?;
+    check(rt, found(alloc, text)?, expected, text);
     Ok(())
 }
 
 #[test]
 fn files(rt: HostRuntime) -> Result<(), Fail> {
     for case in cases().split('^') {
-        let (text, expected) = parts(case)?;
-        check_case(&rt, rt.alloc(), text, expected)?;
+        check_case(&rt, rt.alloc(), case)?;
     }
     Ok(())
 }
@@ -178,14 +179,21 @@ fn found_of_letters(alloc: Global, count: usize) -> Result<Vec<u8>, Fail> {
     found_in(alloc, text?)
 }
 
+fn check_letters(
+    rt: &impl Abort,
+    alloc: Global,
+    count: usize,
+    length: usize,
+    front: &str,
+) -> Result<(), Fail> {
+    check_ends(rt, found_of_letters(alloc, count)?, length, (front, ""));
+    Ok(())
+}
+
 #[test]
 fn long_starts(rt: HostRuntime) -> Result<(), Fail> {
-    for (count, length, front) in [(1000, 1008, ">0:s"), (1001, 1003, "E s")] {
-        let found = found_of_letters(rt.alloc(), count)?;
-        assert_eq!(rt; found.len(), length);
-        assert!(rt; found.starts_with(front.as_bytes()));
-    }
-    Ok(())
+    check_letters(&rt, rt.alloc(), 1000, 1008, ">0:s")?;
+    check_letters(&rt, rt.alloc(), 1001, 1003, "E s")
 }
 
 /// The term with eight pairs in one another has 1,276 bytes, and `i` has one argument too few.
@@ -194,10 +202,8 @@ fn arity_before_expansion(rt: HostRuntime) -> Result<(), Fail> {
     let text = "%token A %start s %% s: a(A) {} a(x): b(p(x, x)) {} b(x): c(p(x, x)) {} \
                 c(x): d(p(x, x)) {} d(x): e(p(x, x)) {} e(x): f(p(x, x)) {} f(x): g(p(x, x)) {} \
                 g(x): h(p(x, x)) {} h(x): i(p(x, x)) {} i(x, y): {} p(x, y): {}";
-    let found = found(rt.alloc(), text)?;
-    assert_eq!(rt; found.len(), 1276 + 5);
-    assert!(rt; found.starts_with(b"A i(p(p(p(p(p(p(p(p(A,A),p(A,A)),"));
-    assert!(rt; found.ends_with(b"p(A,A)))))))))"));
+    let ends = ("A i(p(p(p(p(p(p(p(p(A,A),p(A,A)),", "p(A,A)))))))))");
+    check_ends(&rt, found(rt.alloc(), text)?, 1276 + 5, ends);
     Ok(())
 }
 

@@ -1,7 +1,7 @@
 //! Files and their grammars or faults, worked out by hand.
 ghost use Rattle.mh_rules.specs.Ready.{AreModulesReady};
 
-use crate::cases::{modules_of, parts, push_digit, put, release};
+use crate::cases::{check, modules_of, parts, push_digit, put, release};
 use mh_front::{GrammarFault, fault_line, grammar_of};
 use mh_grammar::{Grammar, Symbol};
 use mh_reader::Module;
@@ -96,24 +96,27 @@ fn cases() -> &'static str {
      X Y EOF main unit@1 nonempty_list(item) item >0 n0:n1n2t2 n3:t0 n1: n3:t1 n2:n3 n2:n3n2"
 }
 
-#[test]
-fn worked_files(rt: HostRuntime) -> Result<(), Fail> {
-    for case in cases().split('^') {
-        let (text, expected) = parts(case)?;
-        check(&rt, rt.alloc(), text, expected)?;
-    }
+fn check_files(rt: &impl Abort, alloc: Global, text: &str, wanted: &str) -> Result<(), Fail> {
+    check(rt, answer(alloc, text, true)?, wanted, text);
     Ok(())
 }
 
-fn check(rt: &impl Abort, alloc: Global, text: &str, wanted: &str) -> Result<(), Fail> {
-    let found = answer(alloc, text, true)?;
-    assert_eq!(rt; found.as_slice(), wanted.as_bytes(), "at {text:?}");
+fn check_case(rt: &impl Abort, alloc: Global, case: &str) -> Result<(), Fail> {
+    let (text, expected) = parts(case)?;
+    check_files(rt, alloc, text, expected)
+}
+
+#[test]
+fn worked_files(rt: HostRuntime) -> Result<(), Fail> {
+    for case in cases().split('^') {
+        check_case(&rt, rt.alloc(), case)?;
+    }
     Ok(())
 }
 
 /// The same of a text that was built, which is let go.
 fn check_built(rt: &impl Abort, alloc: Global, text: String, wanted: &str) -> Result<(), Fail> {
-    let result = check(rt, alloc, &text, wanted);
+    let result = check_files(rt, alloc, &text, wanted);
     release(text);
     result
 }
@@ -151,14 +154,19 @@ fn one_production_too_long(rt: HostRuntime) -> Result<(), Fail> {
 
 #[test]
 fn no_prelude(rt: HostRuntime) -> Result<(), Fail> {
-    let line = answer(rt.alloc(), "%token A %start s %% s: option(A) {}", false)?;
-    assert_eq!(rt; line.as_slice(), b"undefined: option".as_slice());
+    let text = "%token A %start s %% s: option(A) {}";
+    check(
+        &rt,
+        answer(rt.alloc(), text, false)?,
+        "undefined: option",
+        text,
+    );
     Ok(())
 }
 
 #[test]
 fn want_of_memory_is_told(rt: HostRuntime) -> Result<(), Fail> {
     let line = fault_line(rt.alloc(), &GrammarFault::Memory)?;
-    assert_eq!(rt; line.as_slice(), b"out of memory".as_slice());
+    check(&rt, line, "out of memory", "memory");
     Ok(())
 }

@@ -2,11 +2,12 @@
 ghost use Rattle.std.specs.Prelude.{IfOk};
 ghost use Rattle.mh_rules.specs.Ready.{IsExpandedReady};
 
-use crate::cases::{joined_of, parts, push_digit, push_level, push_named, put, release};
+use crate::cases::{check, joined_of, parts, push_digit, push_level, push_named, put, release};
 use mh_expand::{Expanded, expand};
 use mh_grammar::{Grammar, Production, Symbol};
 use mh_inline::{InlineFault, inline_rules, is_grammar_or_fault, is_one_fault, is_one_grammar};
 use std::alloc::Global;
+use std::process::Abort;
 use std::test::Fail;
 
 /// The instances of files that have no fault so far.
@@ -141,12 +142,16 @@ fn found(alloc: Global, texts: &str) -> Result<Vec<u8>, Fail> {
     Ok(text)
 }
 
+fn check_case(rt: &impl Abort, alloc: Global, case: &str) -> Result<(), Fail> {
+    let (texts, expected) = parts(case)?;
+    check(rt, found(alloc, texts)?, expected, texts);
+    Ok(())
+}
+
 #[test]
 fn files(rt: HostRuntime) -> Result<(), Fail> {
     for case in cases().split('^') {
-        let (texts, expected) = parts(case)?;
-        let found = found(rt.alloc(), texts)?;
-        assert_eq!(rt; found.as_slice(), expected.as_bytes(), "at {texts:?}");
+        check_case(&rt, rt.alloc(), case)?;
     }
     Ok(())
 }

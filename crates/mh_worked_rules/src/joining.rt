@@ -2,7 +2,8 @@
 ghost use Rattle.mh_rules.specs.Ready.{AreModulesReady};
 
 use crate::cases::{
-    modules_of, parts, push_digit, push_level, push_named, push_number, push_prec, put, release,
+    check, check_ends, modules_of, parts, push_digit, push_level, push_named, push_number,
+    push_prec, put, release,
 };
 use mh_join::{
     Applied, Head, JoinFault, Joined, JoinedAlternative, JoinedRule, is_joined_or_fault,
@@ -256,12 +257,16 @@ fn found(alloc: Global, texts: &str, prelude: bool) -> Result<Vec<u8>, Fail> {
     Ok(text)
 }
 
-/// Compares what the files of each case give with what it says.
+/// Compares what the files of a case give with what it says.
+fn check_case(rt: &impl Abort, alloc: Global, case: &str, prelude: bool) -> Result<(), Fail> {
+    let (texts, expected) = parts(case)?;
+    check(rt, found(alloc, texts, prelude)?, expected, texts);
+    Ok(())
+}
+
 fn check_cases(rt: &impl Abort, alloc: Global, cases: &str, prelude: bool) -> Result<(), Fail> {
     for case in cases.split('^') {
-        let (texts, expected) = parts(case)?;
-        let found = found(alloc, texts, prelude)?;
-        assert_eq!(rt; found.as_slice(), expected.as_bytes(), "at {texts:?}");
+        check_case(rt, alloc, case, prelude)?;
     }
     Ok(())
 }
@@ -336,24 +341,27 @@ fn with_tokens(alloc: Global, more: &str) -> Result<Vec<u8>, Fail> {
     found
 }
 
-/// Text behind 512 tokens, and how many bytes its answer has and what they end with.
+/// Text behind 512 tokens, and how many bytes its answer has and what they end with; `~` between these, and `^` between cases.
+const COUNTS: &str = " %start s %% s: {}~1802~Pp_ >0:s0|1.0;^\
+     \x20Z %start s %% s: {}~12~too many 513^\
+     \x20Z Aa Z Y %start s %% s: {}~12~too many 514^\
+     \x20%start s %% s: {}#%token Pp_ Aa %%~1802~Pp_ >0:s0|1.0;^\
+     \x20%start s %% s: {}#%token Pp_ Z Aa %%~12~too many 513^\
+     \x20Z %start s %% s: {} %prec y~3~L y";
+
+fn check_count(rt: &impl Abort, alloc: Global, case: &str) -> Result<(), Fail> {
+    let (more, rest) = parts(case)?;
+    let (length, end) = parts(rest)?;
+    let length = length.parse()?;
+    check_ends(rt, with_tokens(alloc, more)?, length, ("", end));
+    Ok(())
+}
+
+/// Each of 256 pairs of tokens is 7 bytes of the answer.
 #[test]
 fn counts_of_tokens(rt: HostRuntime) -> Result<(), Fail> {
-    for (more, length, end) in [
-        (" %start s %% s: {}", 256 * 7 + 10, "Pp_ >0:s0|1.0;"),
-        (" Z %start s %% s: {}", 12, "too many 513"),
-        (" Z Aa Z Y %start s %% s: {}", 12, "too many 514"),
-        (
-            " %start s %% s: {}#%token Pp_ Aa %%",
-            256 * 7 + 10,
-            "Pp_ >0:s0|1.0;",
-        ),
-        (" %start s %% s: {}#%token Pp_ Z Aa %%", 12, "too many 513"),
-        (" Z %start s %% s: {} %prec y", 3, "L y"),
-    ] {
-        let found = with_tokens(rt.alloc(), more)?;
-        assert_eq!(rt; found.len(), length, "at {more:?}");
-        assert!(rt; found.ends_with(end.as_bytes()), "at {more:?}");
+    for case in COUNTS.split('^') {
+        check_count(&rt, rt.alloc(), case)?;
     }
     Ok(())
 }
@@ -433,16 +441,18 @@ fn sources(alloc: Global, rules: &[Rule]) -> Vec<u8> {
 }
 
 fn check_rules(rt: &impl Abort, alloc: Global, found: &[Rule], rules: &[Rule]) {
-    assert_eq!(rt; rules.len(), 18);
-    assert_eq!(rt; sources(alloc, found), sources(alloc, rules));
+    let sources_of_found = sources(alloc, found);
+    let sources_of_rules = sources(alloc, rules);
+    assert!(rt; rules.len() == 18 && sources_of_found == sources_of_rules);
 }
 
 fn check_prelude(rt: &impl Abort, alloc: Global, modules: &[Module]) -> Result<(), Fail> {
     let [found] = modules else {
         return Err("not one file".into());
     };
-    assert!(rt; found.tokens.is_empty() && found.starts.is_empty());
-    assert!(rt; found.levels.is_empty() && found.on_error.is_empty());
+    let has_no_tokens = found.tokens.is_empty() & found.starts.is_empty();
+    let has_no_levels = found.levels.is_empty() & found.on_error.is_empty();
+    assert!(rt; has_no_tokens & has_no_levels);
     let rules = prelude_rules(alloc, true)?;
     check_rules(rt, alloc, found.rules.as_slice(), rules.as_slice());
     release(rules);

@@ -3,34 +3,30 @@ ghost use Rattle.std.specs.Prelude.{◌≤◌, ◌<◌, length, IfOk};
 ghost use Rattle.mh_grammar.specs.Plain.{plain_of, IsInRange};
 ghost use Rattle.mh_kernels.specs.Kernels.{IsItemList};
 
-use crate::cases::release;
+use crate::cases::{check_cases, put, release};
 use mh_grammar::{Grammar, Look, Memory, Symbol};
 use mh_items::{closure, firsts, moved};
 use mh_kernels::{Kernel, are_equal, one_list, start_kernel, symbol_at};
-use mh_made::grammar_of;
 use mh_range::is_in_range;
-use mh_sets::TokenSet;
 use std::alloc::Global;
-use std::process::Abort;
+use std::fmt::Write;
 use std::test::Fail;
 
-/// Whether a set has just these looks.
-fn are_looks(set: &TokenSet<1>, looks: &[Look]) -> bool {
-    let mut left = set.copied();
-    for look in looks {
-        if left.take_first() != Some(*look) {
-            return false;
-        }
-    }
-    left.first().is_none()
+fn put_look(text: &mut String, look: Look) {
+    let _ = match look {
+        Look::Token(token) => write!(text, " {token}"),
+        Look::End => text.push_str(" #"),
+    };
 }
 
-fn is_item(kernel: &Kernel<1>, at: usize, production: u32, dot: u32, looks: &[Look]) -> bool {
-    match kernel.items.get(at) {
-        Some(item) => {
-            item.production == production && item.dot == dot && are_looks(&item.looks, looks)
+/// Adds the items of a kernel: production, dot and looks.
+pub fn put_kernel<const W: usize>(text: &mut String, kernel: &Kernel<W>) {
+    for item in kernel.items.as_slice() {
+        let _ = write!(text, "{}.{}", item.production, item.dot);
+        for look in item.looks.looks() {
+            put_look(text, look);
         }
-        None => false,
+        put(text, "; ");
     }
 }
 
@@ -76,12 +72,40 @@ fn next_state(
     closed
 }
 
-/// The first state of a grammar's automaton, and the one that it moves to.
-fn two_states(
+/// Adds the next state, and whether it is the first again.
+fn put_next(
     alloc: Global,
+    text: &mut String,
     grammar: &Grammar,
+    closed: &Kernel<1>,
     symbol: Symbol,
-) -> Result<(Kernel<1>, Kernel<1>), Fail> {
+) -> Result<(), Memory>
+    requires width { length grammar.now.tokens ≤ 64 }
+    requires range { IsInRange (plain_of grammar.now) }
+    requires kernel { IsItemList (plain_of grammar.now) closed.now }
+{
+    let next = next_state(alloc, grammar, closed, symbol)?;
+    put_kernel(text, &next);
+    put(
+        text,
+        if are_equal(closed, &next) {
+            "same"
+        } else {
+            "other"
+        },
+    );
+    release(next);
+    Ok(())
+}
+
+/// Adds the first state of a grammar's automaton, and the one that it moves to behind a nonterminal.
+pub fn put_states(
+    alloc: Global,
+    text: &mut String,
+    grammar: &Grammar,
+    nonterminal: &str,
+) -> Result<(), Fail> {
+    let symbol = Symbol::N(nonterminal.parse()?);
     if !is_in_range(grammar) || grammar.starts.is_empty() || grammar.tokens.len() > 64 {
         return Err(Fail::from("out of range"));
     }
@@ -90,57 +114,21 @@ fn two_states(
     }
     one_list(grammar);
     let first = first_state(alloc, grammar)?;
-    match next_state(alloc, grammar, &first, symbol) {
-        Ok(next) => Ok((first, next)),
-        Err(memory) => {
-            release(first);
-            Err(Fail::from(memory))
-        }
-    }
+    put_kernel(text, &first);
+    put(text, "/ ");
+    let result = put_next(alloc, text, grammar, &first, symbol);
+    release(first);
+    Ok(result?)
 }
 
-fn states_of(alloc: Global, text: &str, symbol: Symbol) -> Result<(Kernel<1>, Kernel<1>), Fail> {
-    let grammar = grammar_of(alloc, text)?;
-    let states = two_states(alloc, &grammar, symbol);
-    release(grammar);
-    states
-}
+/// In the second the end of the stream comes to b through x, which may be empty.
+const STATES: &str = "C D; s c; s: c c; c: C c; c: D
+states 1 = 0.0 #; 1.0 #; 2.0 0 1; 3.0 0 1; / 1.1 #; 2.0 #; 3.0 #; other
 
-fn check_textbook(rt: &impl Abort, closed: &Kernel<1>, next: &Kernel<1>) {
-    let before = [Look::Token(0), Look::Token(1)];
-    assert_eq!(rt; closed.items.len(), 4);
-    assert!(rt; is_item(closed, 1, 1, 0, &[Look::End]));
-    assert!(rt; is_item(closed, 3, 3, 0, &before));
-    assert_eq!(rt; next.items.len(), 3);
-    assert!(rt; is_item(next, 0, 1, 1, &[Look::End]));
-    assert!(rt; is_item(next, 2, 3, 0, &[Look::End]));
-    assert!(rt; !are_equal(closed, next));
-}
+B; s x b; s: b x; x:; x: B; b: B
+states 2 = 0.0 #; 1.0 #; 4.0 0 #; / 1.1 #; 2.0 #; 3.0 #; other";
 
 #[test]
-fn textbook_states(rt: HostRuntime) -> Result<(), Fail> {
-    let text = "C D; s c; s: c c; c: C c; c: D";
-    let (closed, next) = states_of(rt.alloc(), text, Symbol::N(1))?;
-    check_textbook(&rt, &closed, &next);
-    release(closed);
-    release(next);
-    Ok(())
-}
-
-fn check_nullable_rest(rt: &impl Abort, closed: &Kernel<1>) {
-    assert_eq!(rt; closed.items.len(), 3);
-    assert!(rt; is_item(closed, 1, 1, 0, &[Look::End]));
-    let looks = [Look::Token(0), Look::End];
-    assert!(rt; is_item(closed, 2, 4, 0, &looks));
-}
-
-/// The end of the stream comes to b through x, which may be empty.
-#[test]
-fn nullable_rest_states(rt: HostRuntime) -> Result<(), Fail> {
-    let text = "B; s x b; s: b x; x:; x: B; b: B";
-    let (closed, next) = states_of(rt.alloc(), text, Symbol::N(2))?;
-    check_nullable_rest(&rt, &closed);
-    release(closed);
-    release(next);
-    Ok(())
+fn states(rt: HostRuntime) -> Result<(), Fail> {
+    check_cases(&rt, rt.alloc(), STATES)
 }

@@ -1,5 +1,6 @@
-//! Worked examples of grammars as numbers and of what is made of them: sets, closures, automata, tables, runs, trees and
-//! texts. Each was worked out by hand; they stand beside the crates that they try, which are then proved once.
+//! Worked examples of grammars as numbers and of what is made of them: sets, closures, automata, tables, runs, trees, texts,
+//! catalogues, samples, and files of tables and of messages. Each was worked out by hand; they stand beside the crates that they
+//! try, which are then proved once.
 #![tactic(auto)]
 
 #[cfg(test)]
@@ -7,11 +8,19 @@ mod automata;
 #[cfg(test)]
 mod cases;
 #[cfg(test)]
+mod catalogues;
+#[cfg(test)]
 mod closures;
+#[cfg(test)]
+mod facts;
+#[cfg(test)]
+mod names;
 #[cfg(test)]
 mod resolving;
 #[cfg(test)]
 mod runs;
+#[cfg(test)]
+mod samples;
 #[cfg(test)]
 mod sets;
 #[cfg(test)]
@@ -22,5 +31,9 @@ mod tables;
 mod token_sets;
 #[cfg(test)]
 mod trees;
+#[cfg(test)]
+mod updates;
+#[cfg(test)]
+mod validity;
 #[cfg(test)]
 mod widths;

@@ -1,228 +1,223 @@
 //! Cells, defaults, actions on an error and conflicts that were worked out by hand. Each grammar begins with the token A,
 //! and state 1 is the one behind it.
-use crate::cases::release;
-use mh_cells::{Conflict, ConflictKind, Mode};
-use mh_grammar::{Grammar, Look};
-use mh_made::{grammar_of, resolved};
+use crate::cases::{check_cases, put, put_comma, release};
+use mh_cells::{Conflict, Mode};
+use mh_grammar::Grammar;
+use mh_made::resolved;
 use mh_tables::Table;
 use std::alloc::Global;
 use std::fmt::Write;
-use std::process::Abort;
 use std::test::Fail;
 
-/// What a state does on a token.
-fn action(alloc: Global, table: &Table, state: u32, token: u16) -> Result<String, Fail> {
-    if state >= table.states() || token >= table.tokens() {
-        return Err(Fail::from("no such cell"));
+/// Adds what a state does on a token, and the kind of each conflict.
+fn put_cell(text: &mut String, table: &Table, conflicts: &[Conflict], state: u32, token: u16) {
+    if state < table.states() && token < table.tokens() {
+        let _ = write!(text, "{:?}", table.action(state, token));
     }
-    Ok(format!(in alloc; "{:?}", table.action(state, token))?)
-}
-
-/// The default of state 1 of a table.
-fn fallback_of(alloc: Global, table: &Table) -> Result<String, Fail> {
-    if table.states() < 2 {
-        return Err(Fail::from("no such state"));
-    }
-    Ok(format!(in alloc; "{:?}", table.fallback(1))?)
-}
-
-/// The default of state 1.
-fn fallback_in(alloc: Global, grammar: &Grammar, mode: Mode) -> Result<String, Fail> {
-    let (table, conflicts) = resolved(alloc, grammar, mode)?;
-    let text = fallback_of(alloc, &table);
-    release(table);
-    release(conflicts);
-    text
-}
-
-fn fallback(alloc: Global, grammar: &str, mode: Mode) -> Result<String, Fail> {
-    let grammar = grammar_of(alloc, grammar)?;
-    let text = fallback_in(alloc, &grammar, mode);
-    release(grammar);
-    text
-}
-
-/// Adds the kind of each conflict to a text.
-fn put_kinds(text: &mut String, conflicts: &[Conflict]) {
     for conflict in conflicts {
         let _ = write!(text, " {:?}", conflict.kind);
     }
 }
 
-/// What a state does on a token, and the kind of each conflict.
-fn cell_of(
-    alloc: Global,
+fn put_default(text: &mut String, table: &Table, state: u32) {
+    if state < table.states() {
+        let _ = write!(text, "{:?}", table.fallback(state));
+    }
+}
+
+fn put_goto(text: &mut String, table: &Table, state: u32, nonterminal: u16) {
+    if state < table.states() {
+        let _ = write!(text, "{:?}", table.goto(state, nonterminal));
+    }
+}
+
+/// Adds the states of conflicts, with their looks and kinds.
+fn put_conflicts(text: &mut String, conflicts: &[Conflict]) {
+    for conflict in conflicts {
+        let (state, look, kind) = (conflict.state, conflict.look, conflict.kind);
+        put_comma(text);
+        let _ = write!(text, "{state} {look:?} {kind:?}");
+    }
+}
+
+fn put_counts(text: &mut String, table: &Table) {
+    let (states, tokens) = (table.states(), table.tokens());
+    let (starts, productions) = (table.starts(), table.productions());
+    let _ = write!(
+        text,
+        "{states} states, {tokens} tokens, {starts} starts, {productions} productions"
+    );
+}
+
+/// Adds the left side of a production that is none of a start.
+fn put_left(text: &mut String, table: &Table, production: u32) {
+    if u32::from(table.starts()) <= production && production < table.productions() {
+        let _ = write!(text, "{}", table.lhs_of(production));
+    }
+}
+
+/// Adds the symbols of a production.
+fn put_right(text: &mut String, table: &Table, production: u32) {
+    if production < table.productions() {
+        for at in 0..table.length_of(production) {
+            put_comma(text);
+            let _ = write!(text, "{:?}", table.symbol_of(production, at));
+        }
+    }
+}
+
+/// Adds a part of a table, by its kind and two numbers.
+fn put_by(
+    text: &mut String,
     table: &Table,
     conflicts: &[Conflict],
-    state: u32,
-    token: u16,
-) -> Result<String, Fail> {
-    let mut text = action(alloc, table, state, token)?;
-    put_kinds(&mut text, conflicts);
-    Ok(text)
+    (kind, number, place): (&str, u32, u16),
+) {
+    match kind {
+        "cell" => put_cell(text, table, conflicts, number, place),
+        "default" | "merged" => put_default(text, table, number),
+        "goto" => put_goto(text, table, number, place),
+        "left" => put_left(text, table, number),
+        "right" => put_right(text, table, number),
+        "conflicts" => put_conflicts(text, conflicts),
+        "counts" => put_counts(text, table),
+        _ => put(text, "unknown"),
+    }
 }
 
-fn cell_in(alloc: Global, grammar: &Grammar, state: u32, token: u16) -> Result<String, Fail> {
-    let (table, conflicts) = resolved(alloc, grammar, Mode::Canonical)?;
-    let text = cell_of(alloc, &table, conflicts.as_slice(), state, token);
+/// Adds a part of a grammar's table: `cell`, `default` or `goto` with a state and a number, `left` or `right` with a production,
+/// `conflicts` or `counts`; the table's states are merged for `merged`, which is its default. A number that is not there is 0.
+pub fn put_part(
+    alloc: Global,
+    text: &mut String,
+    grammar: &Grammar,
+    kind: &str,
+    numbers: &str,
+) -> Result<(), Fail> {
+    let (number, place) = numbers.split_once(' ').unwrap_or((numbers, ""));
+    let part = (
+        kind,
+        number.parse().unwrap_or(0),
+        place.parse().unwrap_or(0),
+    );
+    let mode = match kind {
+        "merged" => Mode::Merged,
+        _ => Mode::Canonical,
+    };
+    let (table, conflicts) = resolved(alloc, grammar, mode)?;
+    put_by(text, &table, &conflicts, part);
     release(table);
     release(conflicts);
-    text
-}
-
-fn cell(alloc: Global, grammar: &str, state: u32, token: u16) -> Result<String, Fail> {
-    let grammar = grammar_of(alloc, grammar)?;
-    let text = cell_in(alloc, &grammar, state, token);
-    release(grammar);
-    text
-}
-
-/// A case: a grammar, ` = `, and what is wanted.
-fn check_case(
-    rt: &impl Abort,
-    alloc: Global,
-    state: u32,
-    token: u16,
-    case: &str,
-) -> Result<(), Fail> {
-    let (grammar, wanted) = case.split_once(" = ").ok_or("a case without a =")?;
-    let found = cell(alloc, grammar, state, token)?;
-    assert_eq!(rt; found.as_str(), wanted, "{case}");
     Ok(())
 }
 
-fn check_cells(
-    rt: &impl Abort,
-    alloc: Global,
-    state: u32,
-    token: u16,
-    cases: &str,
-) -> Result<(), Fail> {
-    for case in cases.lines() {
-        check_case(rt, alloc, state, token, case)?;
-    }
-    Ok(())
-}
+/// What state 1 does on T: to shift it is production 1, and 3 and 5 reduce what is before it.
+const CELLS: &str = "A T%10l; s x; s: A T; s: x T; x: A %11r
+cell 1 1 = Reduce(3) Solved
 
-/// Grammars, and what state 1 does on T: to shift it is production 1, and 3 and 5 reduce what is before it.
-#[test]
-fn cells(rt: HostRuntime) -> Result<(), Fail> {
-    check_cells(
-        &rt,
-        rt.alloc(),
-        1,
-        1,
-        "A T%10l; s x; s: A T; s: x T; x: A %11r = Reduce(3) Solved\n\
-         A T%11r; s x; s: A T; s: x T; x: A %10l = Shift(4) Solved\n\
-         A T%10l; s x; s: A T; s: x T; x: A %10l = Reduce(3) Solved\n\
-         A T%11r; s x; s: A T; s: x T; x: A %11r = Shift(4) Solved\n\
-         A T%12n; s x; s: A T; s: x T; x: A %12n = Refuse Solved\n\
-         A T%10l; s x; s: A T; s: x T; x: A = Shift(4) Unsolved\n\
-         A T; s x; s: A T; s: x T; x: A %10l = Shift(4) Unsolved\n\
-         A T%10l; s x; s: A T; s: x T; x: A %20l = Shift(4) Unsolved\n\
-         A T%11r; s x y; s: A T; s: x T; x: A %10l; s: y T; y: A %12n = Reduce(5) Solved\n\
-         A T%12n; s x y; s: A T; s: x T; x: A %12n; s: y T; y: A %10l = Refuse Solved\n\
-         A T%10l; s x y; s: A T; s: x T; x: A %11r; s: y T; y: A %10l = Reduce(3) Unsolved\n\
-         A T%10l; s x y; s: A T; s: x T; x: A; s: y T; y: A %11r = Reduce(5) Unsolved\n\
-         A T%12n; s x; s: x T; x: A %12n = Reduce(2)\n\
-         A T%10l; s x y; s: x T; x: A %20l; s: y T; y: A %12n = Reduce(2) Unsolved",
-    )
-}
+A T%11r; s x; s: A T; s: x T; x: A %10l
+cell 1 1 = Shift(4) Solved
 
-/// Grammars, and what state 1 does on T, on which nothing is read there.
-#[test]
-fn errors(rt: HostRuntime) -> Result<(), Fail> {
-    check_cells(
-        &rt,
-        rt.alloc(),
-        1,
-        1,
-        "A T U; s a<1; s: a U; a: A = Reduce(2)\n\
-         A T U V; s a<1 b<0; s: a U; s: b V; a: A; b: A = Reduce(4)\n\
-         A T U V; s c<1 d; s: d U; s: c V; d: A; c: A = Reduce(4)\n\
-         A T U V; s c<1 d; s: d U; s: d V; d: A; c: A = Refuse\n\
-         A T U V; s a<1 c<1; s: a U; s: c V; a: A; c: A = Refuse\n\
-         A T U; s a<1; s: a U; a: A; a: A = Refuse Unsolved",
-    )?;
-    // behind s, whose start production is no candidate, and which has an action at the end and another on U
-    check_cells(
-        &rt,
-        rt.alloc(),
-        2,
-        1,
-        "A T U; s<0 d; s: A; s: d U; d: s = Refuse Stream\n\
-         A T U; s d<0; s: A; s: d U; d: s = Reduce(3) Stream",
-    )
-}
+A T%10l; s x; s: A T; s: x T; x: A %10l
+cell 1 1 = Reduce(3) Solved
 
-fn check_default(
-    rt: &impl Abort,
-    alloc: Global,
-    grammar: &str,
-    mode: Mode,
-    wanted: &str,
-) -> Result<(), Fail> {
-    let found = fallback(alloc, grammar, mode)?;
-    assert_eq!(rt; found.as_str(), wanted, "{grammar}");
-    Ok(())
-}
+A T%11r; s x; s: A T; s: x T; x: A %11r
+cell 1 1 = Shift(4) Solved
 
-/// Grammars, and the default of state 1 where states are merged, and where they are not.
-#[test]
-fn defaults(rt: HostRuntime) -> Result<(), Fail> {
-    let alloc = rt.alloc();
-    for (grammar, merged, canonical) in [
-        (
-            "A T; s x; s: x; s: x T; x: A",
-            "Some(Reduce(3))",
-            "Some(Reduce(3))",
-        ),
-        ("A T; s x; s: x T; x: A", "Some(Reduce(2))", "None"),
-        ("A T; s x; s: x; x: A", "Some(Reduce(2))", "Some(Reduce(2))"),
-        ("A; s x; s: A x", "None", "None"),
-        (
-            "A T%10n U; s x; s: A T; s: x T; s: x U; x: A %10n",
-            "None",
-            "None",
-        ),
-        ("A T U; s x y; s: x T; s: y U; x: A; y: A", "None", "None"),
-        ("A T U; s x; s: A T; s: x U; x: A", "None", "None"),
-    ] {
-        check_default(&rt, alloc, grammar, Mode::Merged, merged)?;
-        check_default(&rt, alloc, grammar, Mode::Canonical, canonical)?;
-    }
-    Ok(())
-}
+A T%12n; s x; s: A T; s: x T; x: A %12n
+cell 1 1 = Refuse Solved
 
-fn conflicts_in(alloc: Global, grammar: &Grammar) -> Result<Vec<Conflict>, Fail> {
-    let (table, conflicts) = resolved(alloc, grammar, Mode::Canonical)?;
-    release(table);
-    Ok(conflicts)
-}
+A T%10l; s x; s: A T; s: x T; x: A
+cell 1 1 = Shift(4) Unsolved
 
-fn conflicts_of(alloc: Global, text: &str) -> Result<Vec<Conflict>, Fail> {
-    let grammar = grammar_of(alloc, text)?;
-    let conflicts = conflicts_in(alloc, &grammar);
-    release(grammar);
-    conflicts
-}
+A T; s x; s: A T; s: x T; x: A %10l
+cell 1 1 = Shift(4) Unsolved
 
-fn conflict(state: u32, look: Look, kind: ConflictKind) -> Conflict {
-    Conflict { state, look, kind }
-}
+A T%10l; s x; s: A T; s: x T; x: A %20l
+cell 1 1 = Shift(4) Unsolved
+
+A T%11r; s x y; s: A T; s: x T; x: A %10l; s: y T; y: A %12n
+cell 1 1 = Reduce(5) Solved
+
+A T%12n; s x y; s: A T; s: x T; x: A %12n; s: y T; y: A %10l
+cell 1 1 = Refuse Solved
+
+A T%10l; s x y; s: A T; s: x T; x: A %11r; s: y T; y: A %10l
+cell 1 1 = Reduce(3) Unsolved
+
+A T%10l; s x y; s: A T; s: x T; x: A; s: y T; y: A %11r
+cell 1 1 = Reduce(5) Unsolved
+
+A T%12n; s x; s: x T; x: A %12n
+cell 1 1 = Reduce(2)
+
+A T%10l; s x y; s: x T; x: A %20l; s: y T; y: A %12n
+cell 1 1 = Reduce(2) Unsolved";
+
+/// What state 1 does on T, on which nothing is read there. In the last two it is state 2, behind s, whose start production is
+/// no candidate, and which has an action at the end and another on U.
+const ERRORS: &str = "A T U; s a<1; s: a U; a: A
+cell 1 1 = Reduce(2)
+
+A T U V; s a<1 b<0; s: a U; s: b V; a: A; b: A
+cell 1 1 = Reduce(4)
+
+A T U V; s c<1 d; s: d U; s: c V; d: A; c: A
+cell 1 1 = Reduce(4)
+
+A T U V; s c<1 d; s: d U; s: d V; d: A; c: A
+cell 1 1 = Refuse
+
+A T U V; s a<1 c<1; s: a U; s: c V; a: A; c: A
+cell 1 1 = Refuse
+
+A T U; s a<1; s: a U; a: A; a: A
+cell 1 1 = Refuse Unsolved
+
+A T U; s<0 d; s: A; s: d U; d: s
+cell 2 1 = Refuse Stream
+
+A T U; s d<0; s: A; s: d U; d: s
+cell 2 1 = Reduce(3) Stream";
+
+/// The default of state 1 where states are merged, and where they are not.
+const DEFAULTS: &str = "A T; s x; s: x; s: x T; x: A
+merged 1 = Some(Reduce(3))
+default 1 = Some(Reduce(3))
+
+A T; s x; s: x T; x: A
+merged 1 = Some(Reduce(2))
+default 1 = None
+
+A T; s x; s: x; x: A
+merged 1 = Some(Reduce(2))
+default 1 = Some(Reduce(2))
+
+A; s x; s: A x
+merged 1 = None
+default 1 = None
+
+A T%10n U; s x; s: A T; s: x T; s: x U; x: A %10n
+merged 1 = None
+default 1 = None
+
+A T U; s x y; s: x T; s: y U; x: A; y: A
+merged 1 = None
+default 1 = None
+
+A T U; s x; s: A T; s: x U; x: A
+merged 1 = None
+default 1 = None";
 
 /// Behind A, T is shifted or x is reduced, and at the end x or y is; so the end has an action and T another one. Behind x,
 /// state 3, T is shifted or s is reduced at the end.
+const CONFLICTS: &str = "A T; s x y; s: x; s: y; s: A T; s: x T; x: A; y: A
+conflicts = 1 Token(1) Unsolved, 1 End Unsolved, 1 End Stream, 3 End Stream";
+
 #[test]
-fn conflicts(rt: HostRuntime) -> Result<(), Fail> {
-    let wanted = [
-        conflict(1, Look::Token(1), ConflictKind::Unsolved),
-        conflict(1, Look::End, ConflictKind::Unsolved),
-        conflict(1, Look::End, ConflictKind::Stream),
-        conflict(3, Look::End, ConflictKind::Stream),
-    ];
-    let text = "A T; s x y; s: x; s: y; s: A T; s: x T; x: A; y: A";
-    let conflicts = conflicts_of(rt.alloc(), text)?;
-    assert_eq!(rt; conflicts.as_slice(), wanted.as_slice());
-    Ok(())
+fn resolved_tables(rt: HostRuntime) -> Result<(), Fail> {
+    check_cases(&rt, rt.alloc(), CELLS)?;
+    check_cases(&rt, rt.alloc(), ERRORS)?;
+    check_cases(&rt, rt.alloc(), DEFAULTS)?;
+    check_cases(&rt, rt.alloc(), CONFLICTS)
 }

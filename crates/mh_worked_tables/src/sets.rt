@@ -1,56 +1,93 @@
 //! What nonterminals derive and begin with, names and edges, computed by hand.
 ghost use Rattle.mh_grammar.specs.Plain.{plain_of, IsInRange};
 
-use crate::cases::release;
+use crate::cases::{check_cases, put, put_bytes, put_comma, release};
 use mh_firsts::{first, nullable, productive, words_begin_with_first};
 use mh_grammar::{
-    Edge, Grammar, Memory, NontermInfo, Production, Sequence, Symbol, TokenInfo, find_edge,
+    Edge, Grammar, Memory, NontermInfo, Production, Sequence, Symbol, Token, TokenInfo, find_edge,
     from_bytes, left_side_name, nonterminal_name, start_name, symbol_name, token_name,
 };
 use mh_made::grammar_of;
 use mh_range::is_in_range;
 use std::alloc::Global;
+use std::fmt::Write;
 use std::process::Abort;
 use std::test::Fail;
 
 const SAMPLE: &str = "A B; s x b c; s: x A b; x:; x: B; b: b; c: B";
 
-/// Which nonterminals derive the empty word, and which derive a word.
-fn check_marks(rt: &impl Abort, alloc: Global, grammar: &Grammar) -> Result<(), Fail>
-    requires { IsInRange (plain_of grammar.now) }
-{
-    let empty = nullable(alloc, grammar)?;
-    assert_eq!(rt; empty.as_slice(), [false, true, false, false].as_slice());
-    let trees = productive(alloc, grammar)?;
-    assert_eq!(rt; trees.as_slice(), [false, true, false, true].as_slice());
+fn put_name(text: &mut String, name: &[u8]) {
+    put_bytes(text, name);
+    put(text, ",");
+}
+
+/// Adds the names of two tokens, of symbols, of left sides and of starts; the empty ones name nothing.
+pub fn put_names(text: &mut String, grammar: &Grammar) {
+    for token in [1, 2] {
+        put_name(text, token_name(grammar, token));
+    }
+    put_name(text, nonterminal_name(grammar, 1));
+    for symbol in [Symbol::T(0), Symbol::N(2)] {
+        put_name(text, symbol_name(grammar, symbol));
+    }
+    for production in [0, 1, 3, 5, 6] {
+        put_name(text, left_side_name(grammar, production));
+    }
+    for start in [0, 1] {
+        put_name(text, start_name(grammar, start));
+    }
+}
+
+/// Adds whether each nonterminal derives the empty word.
+pub fn put_nullable(alloc: Global, text: &mut String, grammar: &Grammar) -> Result<(), Fail> {
+    if !is_in_range(grammar) {
+        return Err(Fail::from("out of range"));
+    }
+    let marks = nullable(alloc, grammar)?;
+    let _ = write!(text, "{:?}", marks.as_slice());
+    release(marks);
     Ok(())
 }
 
-fn check_firsts(rt: &impl Abort, alloc: Global, grammar: &Grammar) -> Result<(), Fail>
-    requires { IsInRange (plain_of grammar.now) }
-{
-    let rows = first(alloc, grammar)?;
-    assert_eq!(rt; rows.len(), 4);
-    assert_eq!(rt; rows[0].as_slice(), [0, 1].as_slice());
-    assert_eq!(rt; rows[1].as_slice(), [1].as_slice());
-    assert_eq!(rt; rows[2].as_slice(), [].as_slice());
-    assert_eq!(rt; rows[3].as_slice(), [1].as_slice());
+/// Adds whether each nonterminal derives a word.
+pub fn put_productive(alloc: Global, text: &mut String, grammar: &Grammar) -> Result<(), Fail> {
+    if !is_in_range(grammar) {
+        return Err(Fail::from("out of range"));
+    }
+    let marks = productive(alloc, grammar)?;
+    let _ = write!(text, "{:?}", marks.as_slice());
+    release(marks);
     Ok(())
 }
 
-fn check_sets(rt: &impl Abort, alloc: Global, grammar: &Grammar) -> Result<(), Fail> {
-    assert!(rt; is_in_range(grammar));
+fn put_rows(text: &mut String, rows: &[Vec<Token>]) {
+    for row in rows {
+        put_comma(text);
+        let _ = write!(text, "{:?}", row.as_slice());
+    }
+}
+
+/// Adds the tokens that words of each nonterminal begin with.
+pub fn put_first(alloc: Global, text: &mut String, grammar: &Grammar) -> Result<(), Fail> {
+    if !is_in_range(grammar) {
+        return Err(Fail::from("out of range"));
+    }
     words_begin_with_first(grammar);
-    check_marks(rt, alloc, grammar)?;
-    check_firsts(rt, alloc, grammar)
+    let rows = first(alloc, grammar)?;
+    put_rows(text, &rows);
+    release(rows);
+    Ok(())
 }
+
+const SETS: &str = "A B; s x b c; s: x A b; x:; x: B; b: b; c: B
+names = B,,x,A,b,,s,x,c,,s,,
+nullable = [false, true, false, false]
+productive = [false, true, false, true]
+first = [0, 1], [1], [], [1]";
 
 #[test]
 fn sets_of_a_sample(rt: HostRuntime) -> Result<(), Fail> {
-    let grammar = grammar_of(rt.alloc(), SAMPLE)?;
-    let result = check_sets(&rt, rt.alloc(), &grammar);
-    release(grammar);
-    result
+    check_cases(&rt, rt.alloc(), SETS)
 }
 
 fn production(lhs: u16, rhs: Vec<Symbol>) -> Production {
@@ -61,45 +98,44 @@ fn production(lhs: u16, rhs: Vec<Symbol>) -> Production {
     }
 }
 
-/// Whether a grammar is in range with one production more, of this left side and with this token last.
-fn takes_production(
+/// Adds a production of this left side with this token last.
+fn add_production(
     alloc: Global,
     grammar: &mut Grammar,
     side: u16,
     token: u16,
-) -> Result<bool, Memory> {
+) -> Result<(), Memory> {
     let rhs = vec![in alloc; Symbol::T(0), Symbol::T(token)]?;
-    grammar.productions.push(production(side, rhs))?;
-    Ok(is_in_range(grammar))
+    Ok(grammar.productions.push(production(side, rhs))?)
 }
 
-/// Whether the sample is.
+/// Whether the sample is in range with such a production more.
 fn sample_takes_production(alloc: Global, side: u16, token: u16) -> Result<bool, Fail> {
     let mut grammar = grammar_of(alloc, SAMPLE)?;
-    let result = takes_production(alloc, &mut grammar, side, token);
+    let added = add_production(alloc, &mut grammar, side, token);
+    let is_taken = added.is_ok() && is_in_range(&grammar);
     release(grammar);
-    Ok(result?)
+    Ok(is_taken)
 }
 
 /// Whether the sample with one start more is in range.
 fn sample_takes_start(alloc: Global, start: u16) -> Result<bool, Fail> {
     let mut grammar = grammar_of(alloc, SAMPLE)?;
-    let result = grammar.starts.push(start);
-    let in_range = is_in_range(&grammar);
+    let is_taken = grammar.starts.push(start).is_ok() && is_in_range(&grammar);
     release(grammar);
-    result?;
-    Ok(in_range)
+    Ok(is_taken)
 }
 
 #[test]
 fn numbers_that_name_nothing_are_out_of_range(rt: HostRuntime) -> Result<(), Fail> {
-    for (side, token, wanted) in [(3, 1, true), (4, 1, false), (3, 2, false)] {
-        let taken = sample_takes_production(rt.alloc(), side, token)?;
-        assert_eq!(rt; taken, wanted);
-    }
-    for (start, wanted) in [(3, true), (4, false)] {
-        assert_eq!(rt; sample_takes_start(rt.alloc(), start)?, wanted);
-    }
+    let found = [
+        sample_takes_production(rt.alloc(), 3, 1)?,
+        sample_takes_production(rt.alloc(), 4, 1)?,
+        sample_takes_production(rt.alloc(), 3, 2)?,
+        sample_takes_start(rt.alloc(), 3)?,
+        sample_takes_start(rt.alloc(), 4)?,
+    ];
+    assert!(rt; found == [true, false, false, true, false]);
     Ok(())
 }
 
@@ -151,21 +187,32 @@ fn add_chain(alloc: Global, grammar: &mut Grammar, bottom_up: bool) -> Result<()
     Ok(())
 }
 
-fn check_productive(rt: &impl Abort, alloc: Global, grammar: &Grammar) -> Result<(), Fail>
+fn check_productive(rt: &impl Abort, alloc: Global, grammar: &Grammar) -> Result<(), Memory>
     requires { IsInRange (plain_of grammar.now) }
 {
-    let trees = productive(alloc, grammar)?;
-    assert_eq!(rt; trees.len(), 20000);
-    assert!(rt; trees.iter().all(|mark| *mark));
+    let marks = productive(alloc, grammar)?;
+    assert!(rt; marks.len() == 20000 && !marks.contains(&false));
+    release(marks);
     Ok(())
 }
 
-fn check_rows(rt: &impl Abort, alloc: Global, grammar: &Grammar) -> Result<(), Fail>
+/// How many rows hold just the last token.
+fn count_last(rows: &[Vec<Token>]) -> usize {
+    let mut count = 0usize;
+    for row in rows {
+        if row.as_slice() == [255].as_slice() {
+            count = count.wrapping_add(1);
+        }
+    }
+    count
+}
+
+fn check_rows(rt: &impl Abort, alloc: Global, grammar: &Grammar) -> Result<(), Memory>
     requires { IsInRange (plain_of grammar.now) }
 {
     let rows = first(alloc, grammar)?;
-    assert_eq!(rt; rows.len(), 20000);
-    assert!(rt; rows.iter().all(|row| row.as_slice() == [255].as_slice()));
+    assert!(rt; rows.len() == 20000 && count_last(&rows) == 20000);
+    release(rows);
     Ok(())
 }
 
@@ -175,14 +222,14 @@ fn check_passes(
     alloc: Global,
     grammar: &mut Grammar,
     bottom_up: bool,
-) -> Result<(), Fail> {
+) -> Result<(), Memory> {
     add_chain(alloc, grammar, bottom_up)?;
     assert!(rt; is_in_range(grammar));
     check_productive(rt, alloc, grammar)?;
     check_rows(rt, alloc, grammar)
 }
 
-fn check_order(rt: &impl Abort, alloc: Global, bottom_up: bool) -> Result<(), Fail> {
+fn check_order(rt: &impl Abort, alloc: Global, bottom_up: bool) -> Result<(), Memory> {
     let mut grammar = Grammar {
         tokens: Sequence::new(alloc),
         nonterminals: Sequence::new(alloc),
@@ -198,45 +245,25 @@ fn check_order(rt: &impl Abort, alloc: Global, bottom_up: bool) -> Result<(), Fa
 #[test]
 fn rules_in_either_order_take_few_passes(rt: HostRuntime) -> Result<(), Fail> {
     check_order(&rt, rt.alloc(), false)?;
-    check_order(&rt, rt.alloc(), true)
-}
-
-#[test]
-fn edges_are_found(rt: HostRuntime) -> Result<(), Fail> {
-    let edges = [(Symbol::T(2), 7), (Symbol::T(5), 4), (Symbol::N(0), 9)].map(|(
-        symbol,
-        target,
-    )| Edge { symbol, target });
-    assert_eq!(rt; find_edge(&edges, Symbol::T(5)), Some(4));
-    assert_eq!(rt; find_edge(&edges, Symbol::N(0)), Some(9));
-    assert_eq!(rt; find_edge(&edges, Symbol::T(3)), None);
+    check_order(&rt, rt.alloc(), true)?;
     Ok(())
 }
 
-fn check_symbols(rt: &impl Abort, grammar: &Grammar) {
-    for (token, name) in [(1, "B"), (2, "")] {
-        assert_eq!(rt; token_name(grammar, token), name.as_bytes());
-    }
-    assert_eq!(rt; nonterminal_name(grammar, 1), b"x".as_slice());
-    for (symbol, name) in [(Symbol::T(0), "A"), (Symbol::N(2), "b")] {
-        assert_eq!(rt; symbol_name(grammar, symbol), name.as_bytes());
-    }
-}
-
-fn check_places(rt: &impl Abort, grammar: &Grammar) {
-    for (production, name) in [(0, ""), (1, "s"), (3, "x"), (5, "c"), (6, "")] {
-        assert_eq!(rt; left_side_name(grammar, production), name.as_bytes());
-    }
-    for (start, name) in [(0, "s"), (1, "")] {
-        assert_eq!(rt; start_name(grammar, start), name.as_bytes());
-    }
+fn edge(symbol: Symbol, target: u32) -> Edge {
+    Edge { symbol, target }
 }
 
 #[test]
-fn names_of_a_sample(rt: HostRuntime) -> Result<(), Fail> {
-    let grammar = grammar_of(rt.alloc(), SAMPLE)?;
-    check_symbols(&rt, &grammar);
-    check_places(&rt, &grammar);
-    release(grammar);
-    Ok(())
+fn edges_are_found(rt: HostRuntime) {
+    let edges = [
+        edge(Symbol::T(2), 7),
+        edge(Symbol::T(5), 4),
+        edge(Symbol::N(0), 9),
+    ];
+    let found = [
+        find_edge(&edges, Symbol::T(5)),
+        find_edge(&edges, Symbol::N(0)),
+        find_edge(&edges, Symbol::T(3)),
+    ];
+    assert!(rt; found == [Some(4), Some(9), None]);
 }

@@ -5,7 +5,7 @@ ghost use Rattle.mh_grammar.specs.Costs.{HaveCosts};
 ghost use Rattle.mh_grammar.specs.Plain.{plain_of, IsInRange};
 ghost use Rattle.mh_kernels.specs.Automaton.{IsAutomaton};
 
-use crate::cases::release;
+use crate::cases::{check, put, release};
 use mh_canon::canonical;
 use mh_cells::Mode;
 use mh_grammar::{Grammar, Memory};
@@ -65,7 +65,9 @@ fn written_by(alloc: Global, grammar: &Grammar, mode: Mode) -> Result<Vec<u8>, F
     if !is_in_range(grammar) || !has_costs_in_range(grammar) || grammar.tokens.len() > 64 {
         return Err(Fail::from("out of range"));
     }
-    let automaton = canonical::<1>(alloc, grammar).map_err(|_| "no automaton")?;
+    let Ok(automaton) = canonical::<1>(alloc, grammar) else {
+        return Err(Fail::from("no automaton"));
+    };
     let file = file_of(alloc, grammar, &automaton, mode);
     release(automaton);
     Ok(file?)
@@ -92,50 +94,39 @@ fn check_file(
 
 #[test]
 fn written(rt: HostRuntime) -> Result<(), Fail> {
-    let alloc = rt.alloc();
-    check_file(&rt, alloc, SMALL, Mode::Merged, SMALL_FILE)
+    check_file(&rt, rt.alloc(), SMALL, Mode::Merged, SMALL_FILE)?;
+    check_file(&rt, rt.alloc(), LARGER, Mode::Canonical, LARGER_FILE)
 }
 
-#[test]
-fn written_with_costs(rt: HostRuntime) -> Result<(), Fail> {
-    let alloc = rt.alloc();
-    check_file(&rt, alloc, LARGER, Mode::Canonical, LARGER_FILE)
-}
-
-/// What reading answers: how many states, another version, the line, or that memory ran out.
-#[derive(Clone, Copy, Debug, PartialEq, Eq)]
-enum Reading {
-    States(usize),
-    Version,
-    Line(u32),
-    Memory,
-}
-
-fn answer(alloc: Global, file: &[u8]) -> Reading
+/// Adds what reading answers: how many states, another version, the line, or that memory ran out.
+fn put_answer(alloc: Global, text: &mut String, file: &[u8])
     requires { length file.now < 2 ^ 31 }
 {
     match read_tables(alloc, file) {
         Ok(table) => {
-            let states = table.states.len();
+            let _ = write!(text, "{} states", table.states.len());
             release(table);
-            Reading::States(states)
         }
-        Err(TabFault::Version) => Reading::Version,
-        Err(TabFault::TabShape { line }) => Reading::Line(line),
-        Err(TabFault::Memory) => Reading::Memory,
+        Err(TabFault::Version) => put(text, "version"),
+        Err(TabFault::TabShape { line }) => {
+            let _ = write!(text, "line {line}");
+        }
+        Err(TabFault::Memory) => put(text, "memory"),
     }
 }
 
-fn check_answer(rt: &impl Abort, alloc: Global, file: &str, wanted: Reading) -> Result<(), Fail> {
+fn check_answer(rt: &impl Abort, alloc: Global, file: &str, wanted: &str) -> Result<(), Fail> {
     if file.len() > 100_000_000 {
         return Err(Fail::from("a file is too long"));
     }
-    assert_eq!(rt; answer(alloc, file.as_bytes()), wanted, "{file}");
+    let mut text = String::new(alloc);
+    put_answer(alloc, &mut text, file.as_bytes());
+    check(rt, text, wanted, file);
     Ok(())
 }
 
 /// The same of a file that was built, which is let go.
-fn check_built(rt: &impl Abort, alloc: Global, file: String, wanted: Reading) -> Result<(), Fail> {
+fn check_built(rt: &impl Abort, alloc: Global, file: String, wanted: &str) -> Result<(), Fail> {
     let result = check_answer(rt, alloc, &file, wanted);
     release(file);
     result
@@ -144,120 +135,98 @@ fn check_built(rt: &impl Abort, alloc: Global, file: String, wanted: Reading) ->
 #[test]
 fn ends(rt: HostRuntime) -> Result<(), Fail> {
     let alloc = rt.alloc();
-    check_answer(&rt, alloc, "", Reading::Line(1))?;
-    check_answer(&rt, alloc, SMALL_FILE, Reading::States(4))?;
+    check_answer(&rt, alloc, "", "line 1")?;
+    check_answer(&rt, alloc, SMALL_FILE, "4 states")?;
     let (front, _) = SMALL_FILE.split_at(SMALL_FILE.len() - 1);
-    check_answer(&rt, alloc, front, Reading::Line(23))?;
+    check_answer(&rt, alloc, front, "line 23")?;
     let (front, _) = SMALL_FILE.split_at(SMALL_FILE.len() - 4);
-    check_answer(&rt, alloc, front, Reading::Line(22))?;
+    check_answer(&rt, alloc, front, "line 22")?;
     let longer = format!(in alloc; "{SMALL_FILE}\n")?;
-    check_built(&rt, alloc, longer, Reading::Line(24))
+    check_built(&rt, alloc, longer, "line 24")
 }
 
-/// First lines, the first of a file with no other line but a second of another form.
-#[test]
-fn versions(rt: HostRuntime) -> Result<(), Fail> {
-    for (head, wanted) in [
-        ("menhir-tables 9 merged", Reading::Version),
-        ("menhir-tables 9 merged\nno table", Reading::Version),
-        ("menhir-tables 0 canonical\n", Reading::Version),
-        ("menhir-tables 4294967295 merged\n", Reading::Version),
-        ("menhir-tables 4294967296 merged\n", Reading::Line(1)),
-        ("menhir-tables 02 merged\n", Reading::Line(1)),
-        ("menhir-tables 9 pager\n", Reading::Line(1)),
-        ("menhir-tables 9 merged \n", Reading::Line(1)),
-        ("menhir-tables 2 merged", Reading::Line(1)),
-        ("menhir-tables 2 merged\n", Reading::Line(1)),
-        ("menhir-tables 2 merged\nno table\n", Reading::Line(2)),
-    ] {
-        check_answer(&rt, rt.alloc(), head, wanted)?;
+/// First lines, the first of a file with no other line but a second of another form, with what the whole answers behind a `~`;
+/// `^` between cases.
+const VERSIONS: &str = "menhir-tables 9 merged~version^\
+    menhir-tables 9 merged\nno table~version^\
+    menhir-tables 0 canonical\n~version^\
+    menhir-tables 4294967295 merged\n~version^\
+    menhir-tables 4294967296 merged\n~line 1^\
+    menhir-tables 02 merged\n~line 1^\
+    menhir-tables 9 pager\n~line 1^\
+    menhir-tables 9 merged \n~line 1^\
+    menhir-tables 2 merged~line 1^\
+    menhir-tables 2 merged\n~line 1^\
+    menhir-tables 2 merged\nno table\n~line 2";
+
+/// Lines of the head, without the first words and before those of one state.
+const HEADS: &str = "1 merged\ntokens\nstarts\nproductions 0~1 states^\
+    2 merged\ntokens\ncosts\nstarts\nproductions 0~1 states^\
+    2 merged\ntokens A\ncosts 1 2 3\nstarts\nproductions 0~1 states^\
+    2 merged\ntokens A\tB \nstarts~line 2^\
+    2 merged\ntokens\ncosts 4294967295\nstarts\nproductions 0~1 states^\
+    2 merged\ntokens\ncosts 4294967296\nstarts\nproductions 0~line 3^\
+    2 merged\ntokens\ncosts x\nstarts\nproductions 0~line 3^\
+    1 merged\ntokens\ncosts\nstarts\nproductions 0~line 3^\
+    2 merged\ntokens\nstarts\nproductions 0~line 3^\
+    1 merged\ntokens A  B\nstarts\nproductions 0~line 2^\
+    1 merged\nstarts\ntokens\nproductions 0~line 2^\
+    1 merged\ntokens\nstarts\nproductions 1~line 5^\
+    1 merged\ntokens\nstarts\nproductions 1\ns ->~1 states^\
+    1 merged\ntokens\nstarts\nproductions 1\nend -> end ->~1 states^\
+    1 merged\ntokens\nstarts\nproductions 1\ns ->\nt ->~line 6^\
+    1 merged\ntokens\nstarts\nproductions 01~line 4";
+
+/// The lines of one state.
+const STATES: &str = "\
+    state 0\nitem 0 0\nitem 9 9 x # y\nedge x 9\nedge # 4294967295\ncell x shift 1\ncell y reduce 0~1 states^\
+    state 0\ndefault accept~1 states^\
+    state 0\nedge x 1\ndefault reduce 7~1 states^\
+    state 1~line 6^\
+    item 0 0 #~line 6^\
+    state 0\nstate 1~line 7^\
+    state 0\nitem 0~line 7^\
+    state 0\nitem 0 4294967296~line 7^\
+    state 0\nedge x 1\nitem 0 0 #~line 8^\
+    state 0\ncell x shift 1\nedge x 1~line 8^\
+    state 0\ncell x shift 1\ndefault accept~line 8^\
+    state 0\ndefault accept\ndefault accept~line 8^\
+    state 0\ncell x accept~line 7^\
+    state 0\nedge x~line 7^\
+    state 0\n~line 7";
+
+/// A case between a front and a back that are those of all.
+fn check_case(
+    rt: &impl Abort,
+    alloc: Global,
+    (front, case, back): (&str, &str, &str),
+) -> Result<(), Fail> {
+    let (lines, wanted) = case.split_once('~').ok_or("a case without a `~`")?;
+    let file = format!(in alloc; "{front}{lines}{back}")?;
+    check_built(rt, alloc, file, wanted)
+}
+
+fn check_forms(
+    rt: &impl Abort,
+    alloc: Global,
+    front: &str,
+    cases: &str,
+    back: &str,
+) -> Result<(), Fail> {
+    for case in cases.split('^') {
+        check_case(rt, alloc, (front, case, back))?;
     }
     Ok(())
 }
 
-/// Lines of the head, and then those of one state, each with what the whole answers.
 #[test]
 fn forms(rt: HostRuntime) -> Result<(), Fail> {
     let alloc = rt.alloc();
-    for (head, wanted) in [
-        (
-            "1 merged\ntokens\nstarts\nproductions 0",
-            Reading::States(1),
-        ),
-        (
-            "2 merged\ntokens\ncosts\nstarts\nproductions 0",
-            Reading::States(1),
-        ),
-        (
-            "2 merged\ntokens A\ncosts 1 2 3\nstarts\nproductions 0",
-            Reading::States(1),
-        ),
-        ("2 merged\ntokens A\tB \nstarts", Reading::Line(2)),
-        (
-            "2 merged\ntokens\ncosts 4294967295\nstarts\nproductions 0",
-            Reading::States(1),
-        ),
-        (
-            "2 merged\ntokens\ncosts 4294967296\nstarts\nproductions 0",
-            Reading::Line(3),
-        ),
-        (
-            "2 merged\ntokens\ncosts x\nstarts\nproductions 0",
-            Reading::Line(3),
-        ),
-        (
-            "1 merged\ntokens\ncosts\nstarts\nproductions 0",
-            Reading::Line(3),
-        ),
-        ("2 merged\ntokens\nstarts\nproductions 0", Reading::Line(3)),
-        (
-            "1 merged\ntokens A  B\nstarts\nproductions 0",
-            Reading::Line(2),
-        ),
-        ("1 merged\nstarts\ntokens\nproductions 0", Reading::Line(2)),
-        ("1 merged\ntokens\nstarts\nproductions 1", Reading::Line(5)),
-        (
-            "1 merged\ntokens\nstarts\nproductions 1\ns ->",
-            Reading::States(1),
-        ),
-        (
-            "1 merged\ntokens\nstarts\nproductions 1\nend -> end ->",
-            Reading::States(1),
-        ),
-        (
-            "1 merged\ntokens\nstarts\nproductions 1\ns ->\nt ->",
-            Reading::Line(6),
-        ),
-        ("1 merged\ntokens\nstarts\nproductions 01", Reading::Line(4)),
-    ] {
-        let file = format!(in alloc; "menhir-tables {head}\nstates 1\nstate 0\nend\n")?;
-        check_built(&rt, alloc, file, wanted)?;
-    }
-    for (state, wanted) in [
-        (
-            "state 0\nitem 0 0\nitem 9 9 x # y\nedge x 9\nedge # 4294967295\ncell x shift 1\ncell y reduce 0",
-            Reading::States(1),
-        ),
-        ("state 0\ndefault accept", Reading::States(1)),
-        ("state 0\nedge x 1\ndefault reduce 7", Reading::States(1)),
-        ("state 1", Reading::Line(6)),
-        ("item 0 0 #", Reading::Line(6)),
-        ("state 0\nstate 1", Reading::Line(7)),
-        ("state 0\nitem 0", Reading::Line(7)),
-        ("state 0\nitem 0 4294967296", Reading::Line(7)),
-        ("state 0\nedge x 1\nitem 0 0 #", Reading::Line(8)),
-        ("state 0\ncell x shift 1\nedge x 1", Reading::Line(8)),
-        ("state 0\ncell x shift 1\ndefault accept", Reading::Line(8)),
-        ("state 0\ndefault accept\ndefault accept", Reading::Line(8)),
-        ("state 0\ncell x accept", Reading::Line(7)),
-        ("state 0\nedge x", Reading::Line(7)),
-        ("state 0\n", Reading::Line(7)),
-    ] {
-        let front = "menhir-tables 1 merged\ntokens\nstarts\nproductions 0\nstates 1";
-        let file = format!(in alloc; "{front}\n{state}\nend\n")?;
-        check_built(&rt, alloc, file, wanted)?;
-    }
-    Ok(())
+    let back = "\nstates 1\nstate 0\nend\n";
+    let front = "menhir-tables 1 merged\ntokens\nstarts\nproductions 0\nstates 1\n";
+    check_forms(&rt, alloc, "", VERSIONS, "")?;
+    check_forms(&rt, alloc, "menhir-tables ", HEADS, back)?;
+    check_forms(&rt, alloc, front, STATES, "\nend\n")
 }
 
 fn has_default(table: &RawTable, state: usize) -> bool {
@@ -269,19 +238,27 @@ fn has_default(table: &RawTable, state: usize) -> bool {
 
 /// What the small file says, in both versions.
 fn check_small(rt: &impl Abort, table: &RawTable, has_costs: bool) {
-    assert!(rt; table.mode == Mode::Merged);
-    assert_eq!(rt; table.costs.is_some(), has_costs);
-    assert_eq!(rt; table.tokens.len(), 2);
-    assert_eq!(rt; table.productions.len(), 1);
-    assert_eq!(rt; table.states.len(), 4);
-    assert!(rt; !has_default(table, 0) && has_default(table, 3));
+    let counts = [
+        table.tokens.len(),
+        table.productions.len(),
+        table.states.len(),
+    ];
+    let marks = [
+        table.mode == Mode::Merged,
+        table.costs.is_some(),
+        has_default(table, 0),
+        has_default(table, 3),
+    ];
+    assert!(rt; counts == [2, 1, 4] && marks == [true, has_costs, false, true]);
 }
 
 fn check_contents(rt: &impl Abort, alloc: Global, file: &str, has_costs: bool) -> Result<(), Fail> {
     if file.len() > 100_000_000 {
         return Err(Fail::from("a file is too long"));
     }
-    let table = read_tables(alloc, file.as_bytes()).map_err(|_| "no table")?;
+    let Ok(table) = read_tables(alloc, file.as_bytes()) else {
+        return Err(Fail::from("no table"));
+    };
     check_small(rt, &table, has_costs);
     release(table);
     Ok(())
@@ -298,7 +275,9 @@ fn older_file(alloc: Global) -> Result<String, Fail> {
 fn contents(rt: HostRuntime) -> Result<(), Fail> {
     check_contents(&rt, rt.alloc(), SMALL_FILE, true)?;
     let older = older_file(rt.alloc())?;
-    check_contents(&rt, rt.alloc(), &older, false)
+    let result = check_contents(&rt, rt.alloc(), &older, false);
+    release(older);
+    result
 }
 
 /// A line of a hundred thousand words, and as many states.
@@ -306,7 +285,7 @@ fn contents(rt: HostRuntime) -> Result<(), Fail> {
 fn large(rt: HostRuntime) -> Result<(), Fail> {
     let mut file = String::new(rt.alloc());
     put_large(&mut file);
-    check_built(&rt, rt.alloc(), file, Reading::States(100000))
+    check_built(&rt, rt.alloc(), file, "100000 states")
 }
 
 fn put_large(file: &mut String) {

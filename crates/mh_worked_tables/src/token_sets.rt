@@ -1,65 +1,109 @@
 //! Sets of looks at the edges of words, and the width for a number of tokens.
+ghost use Rattle.std.specs.Prelude.{◌<◌};
+
 use mh_grammar::Look;
 use mh_sets::{TokenSet, with_width};
+use std::process::Abort;
 use std::test::Fail;
 
-#[test]
-fn edges_of_words(rt: HostRuntime) -> Result<(), Fail> {
-    let mut set = TokenSet::<2>::empty();
-    assert_eq!(rt; set.first(), None);
-    assert!(rt; set.insert(Look::End));
-    assert!(rt; !set.insert(Look::End));
-    assert_eq!(rt; set.first(), Some(Look::End));
-    for number in [127u16, 64, 63, 0] {
-        let number = number % 128;
-        assert!(rt; !set.contains(Look::Token(number)));
-        assert!(rt; set.insert(Look::Token(number)));
-        assert!(rt; !set.insert(Look::Token(number)));
-        assert!(rt; set.contains(Look::Token(number)));
-        assert_eq!(rt; set.first(), Some(Look::Token(number)));
+fn check(rt: &impl Abort, found: &[bool], wanted: &[bool]) {
+    assert_eq!(rt; found, wanted);
+}
+
+/// The end of the stream is put in an empty set, twice.
+fn check_end(rt: &impl Abort, set: &mut TokenSet<2>) {
+    let found = [
+        set.first().is_none(),
+        set.insert(Look::End),
+        set.insert(Look::End),
+        set.first() == Some(Look::End),
+    ];
+    check(rt, &found, &[true, true, false, true]);
+}
+
+/// A token that is new and lower than all others is put in, twice.
+fn check_token(rt: &impl Abort, set: &mut TokenSet<2>, number: u16)
+    requires { number < 128 }
+{
+    let look = Look::Token(number);
+    let found = [
+        set.contains(look),
+        set.insert(look),
+        set.insert(look),
+        set.contains(look),
+        set.first() == Some(look),
+    ];
+    check(rt, &found, &[false, true, false, true, true]);
+}
+
+/// Whether a set has just these looks.
+fn are_looks(set: &TokenSet<2>, looks: &[Look]) -> bool {
+    let mut left = set.copied();
+    for look in looks {
+        if left.take_first() != Some(*look) {
+            return false;
+        }
     }
-    assert!(rt; !set.contains(Look::Token(1)));
-    assert!(rt; !set.contains(Look::Token(65)));
-    let looks: Vec<Look> = set.looks().collect(rt.alloc())?;
-    let wanted = [
+    left.first().is_none()
+}
+
+#[test]
+fn edges_of_words(rt: HostRuntime) {
+    let mut set = TokenSet::<2>::empty();
+    check_end(&rt, &mut set);
+    for number in [127u16, 64, 63, 0] {
+        check_token(&rt, &mut set, number % 128);
+    }
+    let looks = [
         Look::Token(0),
         Look::Token(63),
         Look::Token(64),
         Look::Token(127),
         Look::End,
     ];
-    assert_eq!(rt; looks.as_slice(), wanted.as_slice());
-    Ok(())
+    let found = [
+        set.contains(Look::Token(1)),
+        set.contains(Look::Token(65)),
+        are_looks(&set, &looks),
+    ];
+    check(&rt, &found, &[false, false, true]);
+}
+
+/// A set, and another that is put into it, twice: whether they meet and which is within which, before and behind.
+fn check_union(rt: &impl Abort, set: &mut TokenSet<8>, other: &TokenSet<8>) {
+    let found = [
+        set.meets(other),
+        other.is_subset(set),
+        set.union_into(other),
+        set.union_into(other),
+        set.meets(other),
+        other.is_subset(set),
+        set.is_subset(other),
+    ];
+    check(rt, &found, &[false, false, true, false, true, true, false]);
 }
 
 #[test]
-fn sets_beside_each_other(rt: HostRuntime) -> Result<(), Fail> {
-    let high = TokenSet::<8>::only(Look::Token(511));
-    let mut both = TokenSet::<8>::only(Look::Token(3));
-    assert!(rt; !both.meets(&high));
-    assert!(rt; !high.is_subset(&both));
-    assert!(rt; both.union_into(&high));
-    assert!(rt; !both.union_into(&high));
-    assert!(rt; both.meets(&high));
-    assert!(rt; high.is_subset(&both));
-    assert!(rt; !both.is_subset(&high));
+fn sets_beside_each_other(rt: HostRuntime) {
     let end = TokenSet::<8>::only(Look::End);
-    assert!(rt; !both.meets(&end));
-    assert!(rt; !end.is_subset(&both));
-    assert!(rt; both.union_into(&end));
-    assert!(rt; both.meets(&end));
-    assert!(rt; end.is_subset(&both));
-    assert!(rt; TokenSet::<8>::empty().is_subset(&end));
-    assert!(rt; !TokenSet::<8>::empty().meets(&both));
-    Ok(())
+    let empty = TokenSet::<8>::empty();
+    let mut both = TokenSet::<8>::only(Look::Token(3));
+    check_union(&rt, &mut both, &TokenSet::only(Look::Token(511)));
+    check_union(&rt, &mut both, &end);
+    let found = [empty.is_subset(&end), empty.meets(&both)];
+    check(&rt, &found, &[true, false]);
 }
 
 fn words<const W: usize>() -> usize {
     W
 }
 
+fn words_for(tokens: usize) -> usize {
+    with_width!(tokens; words;;)
+}
+
 #[test]
-fn widths(rt: HostRuntime) -> Result<(), Fail> {
+fn widths(rt: HostRuntime) {
     let rows: [(usize, usize); 12] = [
         (0, 1),
         (64, 1),
@@ -75,7 +119,6 @@ fn widths(rt: HostRuntime) -> Result<(), Fail> {
         (512, 8),
     ];
     for (tokens, wanted) in rows {
-        assert_eq!(rt; with_width!(tokens; words;;), wanted, "{tokens}");
+        assert_eq!(rt; words_for(tokens), wanted, "{tokens}");
     }
-    Ok(())
 }

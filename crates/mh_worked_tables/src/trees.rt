@@ -2,16 +2,12 @@
 ghost use Rattle.std.specs.Prelude.{◌≡◌, ◌<◌, IfOk};
 ghost use Rattle.mh_grammar.specs.Trees.{height_of, Node, Cons, Nil};
 
-use crate::cases::release;
+use crate::cases::{check_cases, put_bytes, release};
 use mh_grammar::{Grammar, Memory};
-use mh_made::grammar_of;
 use mh_tree::{Tree, leaf, node, print_tree, yield_of};
 use std::alloc::Global;
-use std::process::Abort;
+use std::fmt::Write;
 use std::test::Fail;
-
-/// Production 0 is that of the start.
-const SAMPLE: &str = "A EOF; s b; s: A EOF; b:; s: b s";
 
 fn pair(alloc: Global, production: u32, first: Tree, second: Tree) -> Result<Tree, Memory>
     requires first { height_of first < 4000 }
@@ -40,73 +36,21 @@ fn behind_an_empty_node(alloc: Global, tree: &Tree) -> Result<Tree, Memory>
     pair(alloc, 3, empty, shared)
 }
 
-/// The text of a tree of the sample.
-fn text_of(alloc: Global, tree: &Tree) -> Result<Vec<u8>, Fail> {
-    let grammar = grammar_of(alloc, SAMPLE)?;
-    let text = print_tree(alloc, &grammar, tree);
-    release(grammar);
-    Ok(text?)
-}
-
-/// Compares the height of a tree, its tokens and its text with what is wanted.
-fn check(
-    rt: &impl Abort,
-    alloc: Global,
-    tree: &Tree,
-    height: u32,
-    tokens: &[u16],
-    text: &[u8],
-) -> Result<(), Fail> {
-    assert_eq!(rt; tree.height(), height);
-    assert_eq!(rt; yield_of(alloc, tree)?.as_slice(), tokens);
-    assert_eq!(rt; text_of(alloc, tree)?.as_slice(), text);
-    Ok(())
-}
-
-#[test]
-fn a_tree_of_two_leaves(rt: HostRuntime) -> Result<(), Fail> {
-    let alloc = rt.alloc();
-    let tree = two_leaves(alloc)?;
-    let result = check(&rt, alloc, &tree, 2, &[0, 1], b"[s: A EOF]");
-    release(tree);
-    result
-}
-
-#[test]
-fn an_empty_node(rt: HostRuntime) -> Result<(), Fail> {
-    let alloc = rt.alloc();
-    let tree = node(alloc, 2, Vec::new(alloc))?;
-    let result = check(&rt, alloc, &tree, 1, &[], b"[b:]");
-    release(tree);
-    result
-}
-
-#[test]
-fn a_shared_tree_in_a_tree(rt: HostRuntime) -> Result<(), Fail> {
-    let alloc = rt.alloc();
+/// A tree of two leaves that is shared in a tree.
+fn shared(alloc: Global) -> Result<Tree, Memory> {
     let inner = two_leaves(alloc)?;
     let tree = behind_an_empty_node(alloc, &inner);
     release(inner);
-    let tree = tree?;
-    let result = check(&rt, alloc, &tree, 3, &[0, 1], b"[s: [b:] [s: A EOF]]");
-    release(tree);
-    result
+    tree
 }
 
-#[test]
-fn a_chain_of_the_greatest_height(rt: HostRuntime) -> Result<(), Fail> {
-    let chain = highest_chain(rt.alloc())?;
-    let result = check_chain(&rt, rt.alloc(), &chain);
-    release(chain);
-    result
-}
-
-fn check_chain(rt: &impl Abort, alloc: Global, chain: &Tree) -> Result<(), Fail> {
-    assert_eq!(rt; chain.height(), 4000);
-    assert_eq!(rt; yield_of(alloc, chain)?.as_slice(), [0].as_slice());
-    // Each of the 3,999 nodes adds `[s: ` and `]` to the `A`.
-    assert_eq!(rt; text_of(alloc, chain)?.len(), 19_996);
-    Ok(())
+fn over(alloc: Global, child: Tree) -> Result<Tree, Memory>
+    requires { height_of child < 4000 }
+    ensures { IfOk result (λ t. t ≡ Node 1 (Cons child Nil)) }
+{
+    let mut children = Vec::new(alloc);
+    children.push(child)?;
+    node(alloc, 1, children)
 }
 
 /// Nodes with one child each, over a leaf.
@@ -120,11 +64,72 @@ fn highest_chain(alloc: Global) -> Result<Tree, Memory> {
     Ok(chain)
 }
 
-fn over(alloc: Global, child: Tree) -> Result<Tree, Memory>
-    requires { height_of child < 4000 }
-    ensures { IfOk result (λ t. t ≡ Node 1 (Cons child Nil)) }
-{
-    let mut children = Vec::new(alloc);
-    children.push(child)?;
-    node(alloc, 1, children)
+fn made(alloc: Global, kind: &str) -> Result<Tree, Memory> {
+    match kind {
+        "leaves" => two_leaves(alloc),
+        "empty" => node(alloc, 2, Vec::new(alloc)),
+        "shared" => shared(alloc),
+        _ => highest_chain(alloc),
+    }
+}
+
+fn put_tokens(alloc: Global, text: &mut String, tree: &Tree) -> Result<(), Memory> {
+    let tokens = yield_of(alloc, tree)?;
+    let _ = write!(text, " {:?} ", tokens.as_slice());
+    release(tokens);
+    Ok(())
+}
+
+/// Adds the text of a tree, or of a long one how many bytes it has.
+fn put_text(
+    alloc: Global,
+    text: &mut String,
+    grammar: &Grammar,
+    tree: &Tree,
+) -> Result<(), Memory> {
+    let bytes = print_tree(alloc, grammar, tree)?;
+    if bytes.len() < 100 {
+        put_bytes(text, &bytes);
+    } else {
+        let _ = write!(text, "{}", bytes.len());
+    }
+    release(bytes);
+    Ok(())
+}
+
+/// Adds the height of a tree, its tokens and its text.
+pub fn put_tree(
+    alloc: Global,
+    text: &mut String,
+    grammar: &Grammar,
+    tree: &Tree,
+) -> Result<(), Memory> {
+    let _ = write!(text, "{}", tree.height());
+    put_tokens(alloc, text, tree)?;
+    put_text(alloc, text, grammar, tree)
+}
+
+/// The same of a tree that is made.
+pub fn put_made(
+    alloc: Global,
+    text: &mut String,
+    grammar: &Grammar,
+    kind: &str,
+) -> Result<(), Fail> {
+    let tree = made(alloc, kind)?;
+    let result = put_tree(alloc, text, grammar, &tree);
+    release(tree);
+    Ok(result?)
+}
+
+/// Production 0 is that of the start. Each of the 3,999 nodes of the highest chain adds `[s: ` and `]` to the `A`.
+const TREES: &str = "A EOF; s b; s: A EOF; b:; s: b s
+tree leaves = 2 [0, 1] [s: A EOF]
+tree empty = 1 [] [b:]
+tree shared = 3 [0, 1] [s: [b:] [s: A EOF]]
+tree highest = 4000 [0] 19996";
+
+#[test]
+fn trees(rt: HostRuntime) -> Result<(), Fail> {
+    check_cases(&rt, rt.alloc(), TREES)
 }

@@ -1,7 +1,7 @@
 use Rattle.std.proofs.Common.{◌≡◌, ◌<◌, ℕ}
 use Rattle.std.specs.Prelude.{codes}
 use Rattle.mh_grammar.specs.Names.{token_name}
-use Rattle.mh_worked_validity.proofs.names.are_apart.Given as goal
+use Rattle.mh_worked_tables.proofs.names.are_apart.Given as goal
 
 abbrev pub invariant-loop-token : goal.invariant-loop-token
 invariant-loop-token l = record {

@@ -6,40 +6,17 @@ ghost use Rattle.mh_kernels.specs.Automaton.{IsAutomaton};
 ghost use Rattle.mh_cells.specs.States.{IsTableOf};
 ghost use Rattle.mh_cells.specs.declared.kinds.Mode.TheVariants.{Canonical};
 
+use crate::cases::release;
 use mh_canon::canonical;
 use mh_cells::Mode;
 use mh_grammar::Grammar;
 use mh_halting::check_halts;
 use mh_kernels::Automaton;
-use mh_made::{grammar_of, halting_of};
 use mh_range::{has_costs_in_range, is_in_range};
 use mh_resolve::resolve;
 use mh_tables::Halting;
 use std::alloc::Global;
 use std::test::Fail;
-
-/// Lets a value go. Where its type is known, each way out that lets it go would be long to prove.
-pub fn release<T: Drop>(_value: T) {}
-
-/// Adds bytes to a text. One that finds no memory lacks them, and is not what is wanted.
-pub fn put(text: &mut Vec<u8>, bytes: &[u8]) {
-    let _ = text.extend_from_slice(bytes);
-}
-
-pub fn put_number(alloc: Global, text: &mut Vec<u8>, number: usize) {
-    if let Ok(digits) = format!(in alloc; "{number}") {
-        put(text, digits.as_bytes());
-        release(digits);
-    }
-}
-
-/// The table of a grammar's text, on which each run ends.
-pub fn halting_in(alloc: Global, text: &str) -> Result<Halting, Fail> {
-    let grammar = grammar_of(alloc, text)?;
-    let table = halting_of(alloc, &grammar);
-    release(grammar);
-    table
-}
 
 /// Whether a grammar has at most 64 tokens, and each number in it names something.
 pub fn is_small(grammar: &Grammar) -> bool

@@ -7,7 +7,8 @@ ghost use Rattle.mh_kernels.specs.Automaton.{IsAutomaton};
 ghost use Rattle.mh_cells.specs.States.{IsTableOf};
 ghost use Rattle.mh_cells.specs.declared.kinds.Mode.TheVariants.{Canonical};
 
-use crate::facts::{automaton_of, is_small, put, put_number, release, table_of};
+use crate::cases::{check, put, put_bytes, release};
+use crate::facts::{automaton_of, is_small, table_of};
 use mh_check::{CheckFault, Compiled, compare, compile};
 use mh_grammar::Grammar;
 use mh_kernels::Automaton;
@@ -17,6 +18,7 @@ use mh_run::Verdict;
 use mh_tables::Halting;
 use mh_update::update;
 use std::alloc::Global;
+use std::fmt::Write;
 use std::process::Abort;
 use std::test::Fail;
 
@@ -42,47 +44,42 @@ const FILES: &str = "~^\
      ## Ends in an error in state: 0.\n##\n## s' -> . s [ # ]\n##\n\
      ## The known suffix of the stack is as follows:\n##\n##\n\nN\n";
 
-/// Adds what is told of a file that does not fit.
-fn put_fault(alloc: Global, text: &mut Vec<u8>, fault: &CheckFault) {
-    match fault {
-        CheckFault::NotRefused { line, verdict } => {
-            put(text, b"not refused ");
-            put_number(alloc, text, *line as usize);
-            put(
-                text,
-                match verdict {
-                    Verdict::Accept { .. } => b": ACCEPT",
-                    Verdict::Overshoot { .. } => b": OVERSHOOT",
-                    Verdict::Reject { .. } => b": REJECT",
-                },
-            );
-        }
-        CheckFault::RefusedEarly { line, at } => {
-            put(text, b"early ");
-            put_number(alloc, text, *line as usize);
-            put(text, b": ");
-            put_number(alloc, text, *at as usize);
-        }
-        CheckFault::SharedState { .. } => put(text, b"shared"),
-        CheckFault::Memory => put(text, b"no memory"),
+/// The same of two files, and how many states there are for which the first has a message and the second has none, and the first of
+/// them.
+const PAIRS: &str = "EOF\n\nM\n\nA A\n\nN\n~EOF\n\nM\n~1 Some(1)^\
+     EOF\n\nM\n~EOF\n\nM\n\nA A\n\nN\n~0 None";
+
+fn verdict_name(verdict: Verdict) -> &'static str {
+    match verdict {
+        Verdict::Accept { .. } => "ACCEPT",
+        Verdict::Overshoot { .. } => "OVERSHOOT",
+        Verdict::Reject { .. } => "REJECT",
     }
 }
 
-fn fault_text(alloc: Global, fault: CheckFault) -> Vec<u8> {
-    let mut text = Vec::new(alloc);
-    put_fault(alloc, &mut text, &fault);
-    release(fault);
-    text
+/// Adds what is told of a file that does not fit.
+fn put_fault(text: &mut String, fault: &CheckFault) {
+    match fault {
+        CheckFault::NotRefused { line, verdict } => {
+            let _ = write!(text, "not refused {line}: {}", verdict_name(*verdict));
+        }
+        CheckFault::RefusedEarly { line, at } => {
+            let _ = write!(text, "early {line}: {at}");
+        }
+        CheckFault::SharedState { .. } => put(text, "shared"),
+        CheckFault::Memory => put(text, "no memory"),
+    }
 }
 
-/// What the file of these bytes becomes.
-fn updated(
+/// Adds what the file of these bytes becomes.
+fn put_updated(
     alloc: Global,
+    text: &mut String,
     grammar: &Grammar,
     automaton: &Automaton<1>,
     table: &Halting,
     bytes: &[u8],
-) -> Result<Vec<u8>, Fail>
+) -> Result<(), Fail>
     requires range { IsInRange (plain_of grammar.now) }
     requires automaton { IsAutomaton (plain_of grammar.now) automaton.now }
     requires table { IsTableOf grammar.now automaton.now Canonical table.now }
@@ -91,62 +88,18 @@ fn updated(
     let Ok(file) = read_messages(alloc, bytes, grammar) else {
         return Err(Fail::from("no messages file"));
     };
-    let text = match update(alloc, grammar, automaton, table, &file) {
-        Ok(text) => text,
-        Err(fault) => fault_text(alloc, fault),
-    };
+    match update(alloc, grammar, automaton, table, &file) {
+        Ok(updated) => {
+            put_bytes(text, &updated);
+            release(updated);
+        }
+        Err(fault) => {
+            put_fault(text, &fault);
+            release(fault);
+        }
+    }
     release(file);
-    Ok(text)
-}
-
-fn by_automaton(
-    alloc: Global,
-    grammar: &Grammar,
-    automaton: &Automaton<1>,
-    bytes: &[u8],
-) -> Result<Vec<u8>, Fail>
-    requires width { length grammar.now.tokens ≤ 64 }
-    requires range { IsInRange (plain_of grammar.now) }
-    requires costs { HaveCosts grammar.now.tokens }
-    requires automaton { IsAutomaton (plain_of grammar.now) automaton.now }
-    requires short { length bytes.now ≤ 1000 }
-{
-    let table = table_of(alloc, grammar, automaton)?;
-    let text = updated(alloc, grammar, automaton, &table, bytes);
-    release(table);
-    text
-}
-
-fn by_grammar(alloc: Global, grammar: &Grammar, bytes: &[u8]) -> Result<Vec<u8>, Fail> {
-    if !is_small(grammar) || bytes.len() > 1_000 {
-        return Err(Fail::from("out of range"));
-    }
-    let automaton = automaton_of(alloc, grammar)?;
-    let text = by_automaton(alloc, grammar, &automaton, bytes);
-    release(automaton);
-    text
-}
-
-fn try_case(rt: &impl Abort, alloc: Global, grammar: &Grammar, case: &str) -> Result<(), Fail> {
-    let (file, expected) = case.split_once('~').ok_or("a case without a text")?;
-    let found = by_grammar(alloc, grammar, file.as_bytes())?;
-    assert_eq!(rt; found.as_slice(), expected.as_bytes(), "{file}");
     Ok(())
-}
-
-fn try_files(rt: &impl Abort, alloc: Global, grammar: &Grammar) -> Result<(), Fail> {
-    for case in FILES.split('^') {
-        try_case(rt, alloc, grammar, case)?;
-    }
-    Ok(())
-}
-
-#[test]
-fn updates(rt: HostRuntime) -> Result<(), Fail> {
-    let grammar = grammar_of(rt.alloc(), PAIR)?;
-    let result = try_files(&rt, rt.alloc(), &grammar);
-    release(grammar);
-    result
 }
 
 /// The messages of a file by a table of this grammar.
@@ -172,106 +125,135 @@ fn compiled(
     }
 }
 
-/// How many states there are for which the first file has a message and the second has none, and the first of them.
-fn missing(
+/// Adds how many states there are for which the first file has a message and the second has none, and the first of them.
+fn put_missing(
     alloc: Global,
+    text: &mut String,
     table: &Halting,
     left: &Compiled,
     right: &Compiled,
-) -> Result<(usize, Option<u32>), Fail>
+) -> Result<(), Fail>
     requires { length left.now ≡ length table.now.states }
 {
     table.table().facts();
     let states = compare(alloc, left, right)?;
-    let result = (states.len(), states.first().copied());
+    let _ = write!(text, "{} {:?}", states.len(), states.first());
     release(states);
-    Ok(result)
+    Ok(())
 }
 
-fn against(
+fn put_against(
     alloc: Global,
+    text: &mut String,
     grammar: &Grammar,
     table: &Halting,
     left: &Compiled,
     right: &[u8],
-) -> Result<(usize, Option<u32>), Fail>
+) -> Result<(), Fail>
     requires range { IsInRange (plain_of grammar.now) }
     requires same { table.now.grammar ≡ plain_of grammar.now }
     requires short { length right.now ≤ 1000 }
     requires size { length left.now ≡ length table.now.states }
 {
     let right = compiled(alloc, grammar, table, right)?;
-    let result = missing(alloc, table, left, &right);
+    let result = put_missing(alloc, text, table, left, &right);
     release(right);
     result
 }
 
-fn compared(
+/// Adds what the second of two files lacks.
+fn put_lacked(
     alloc: Global,
+    text: &mut String,
     grammar: &Grammar,
     table: &Halting,
     left: &[u8],
     right: &[u8],
-) -> Result<(usize, Option<u32>), Fail>
+) -> Result<(), Fail>
     requires range { IsInRange (plain_of grammar.now) }
     requires same { table.now.grammar ≡ plain_of grammar.now }
     requires left { length left.now ≤ 1000 }
     requires right { length right.now ≤ 1000 }
 {
     let left = compiled(alloc, grammar, table, left)?;
-    let result = against(alloc, grammar, table, &left, right);
+    let result = put_against(alloc, text, grammar, table, &left, right);
     release(left);
     result
 }
 
-fn compared_by(
+/// Adds what a file becomes, or in a pair what the other lacks of it.
+fn put_by_automaton(
     alloc: Global,
+    text: &mut String,
     grammar: &Grammar,
     automaton: &Automaton<1>,
-    left: &[u8],
-    right: &[u8],
-) -> Result<(usize, Option<u32>), Fail>
+    file: &[u8],
+    other: &[u8],
+    is_pair: bool,
+) -> Result<(), Fail>
     requires width { length grammar.now.tokens ≤ 64 }
     requires range { IsInRange (plain_of grammar.now) }
     requires costs { HaveCosts grammar.now.tokens }
     requires automaton { IsAutomaton (plain_of grammar.now) automaton.now }
-    requires left { length left.now ≤ 1000 }
-    requires right { length right.now ≤ 1000 }
+    requires short { length file.now ≤ 1000 }
+    requires other { length other.now ≤ 1000 }
 {
     let table = table_of(alloc, grammar, automaton)?;
-    let result = compared(alloc, grammar, &table, left, right);
+    let result = if is_pair {
+        put_lacked(alloc, text, grammar, &table, file, other)
+    } else {
+        put_updated(alloc, text, grammar, automaton, &table, file)
+    };
     release(table);
     result
 }
 
-/// What the second of two files lacks.
-fn lacked(
+fn put_told(
     alloc: Global,
+    text: &mut String,
     grammar: &Grammar,
-    left: &[u8],
-    right: &[u8],
-) -> Result<(usize, Option<u32>), Fail> {
-    if !is_small(grammar) || left.len() > 1_000 || right.len() > 1_000 {
+    file: &[u8],
+    other: &[u8],
+    is_pair: bool,
+) -> Result<(), Fail> {
+    if !is_small(grammar) || file.len() > 1_000 || other.len() > 1_000 {
         return Err(Fail::from("out of range"));
     }
     let automaton = automaton_of(alloc, grammar)?;
-    let result = compared_by(alloc, grammar, &automaton, left, right);
+    let result = put_by_automaton(alloc, text, grammar, &automaton, file, other, is_pair);
     release(automaton);
     result
 }
 
-fn check_lacked(rt: &impl Abort, alloc: Global, grammar: &Grammar) -> Result<(), Fail> {
-    let both: &[u8] = b"EOF\n\nM\n\nA A\n\nN\n";
-    let one: &[u8] = b"EOF\n\nM\n";
-    assert_eq!(rt; lacked(alloc, grammar, both, one)?, (1, Some(1)));
-    assert_eq!(rt; lacked(alloc, grammar, one, both)?, (0, None));
+/// A case is a file, or two, and what is wanted.
+fn check_case(rt: &impl Abort, alloc: Global, grammar: &Grammar, case: &str) -> Result<(), Fail> {
+    let (file, rest) = case.split_once('~').ok_or("a case without a text")?;
+    let (is_pair, other, wanted) = match rest.split_once('~') {
+        Some((other, wanted)) => (true, other.as_bytes(), wanted),
+        None => (false, b"".as_slice(), rest),
+    };
+    let mut text = String::new(alloc);
+    let result = put_told(alloc, &mut text, grammar, file.as_bytes(), other, is_pair);
+    check(rt, text, wanted, file);
+    result
+}
+
+fn check_files(rt: &impl Abort, alloc: Global, grammar: &Grammar, cases: &str) -> Result<(), Fail> {
+    for case in cases.split('^') {
+        check_case(rt, alloc, grammar, case)?;
+    }
     Ok(())
 }
 
+fn check_all(rt: &impl Abort, alloc: Global, grammar: &Grammar) -> Result<(), Fail> {
+    check_files(rt, alloc, grammar, FILES)?;
+    check_files(rt, alloc, grammar, PAIRS)
+}
+
 #[test]
-fn comparisons(rt: HostRuntime) -> Result<(), Fail> {
+fn updates(rt: HostRuntime) -> Result<(), Fail> {
     let grammar = grammar_of(rt.alloc(), PAIR)?;
-    let result = check_lacked(&rt, rt.alloc(), &grammar);
+    let result = check_all(&rt, rt.alloc(), &grammar);
     release(grammar);
     result
 }
