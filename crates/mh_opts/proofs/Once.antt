@@ -64,17 +64,22 @@ by_name os name n = let other : bytes_eq GRAMMARS.now name ≡ false = other_way
 
 -- A SECOND USE
 
+not_none : {X : Type 0} (x : X) (xs : List X) → x ∷ xs ≡ [] → ⊥
+not_none x xs e = cc
+
+-- a flag has no value
+no_value : (os : List (Opt Text)) (h : Held) (name v : Text) → long_fault (known os) false (Some (of_option name SetTrue)) (Some v) h ≡ [] → ⊥
+no_value os h name v none = cc
+
 conflict : (name : Text) (action : ArgAction) → is_plain action ≡ true → (vs : List Text) (rows : List Row) → has_row name rows ≡ true → use_fault false (of_option name action) vs rows ≡ [] → ⊥
 conflict name Set plain vs rows has none =
     let later : set_fault false (of_option name Set) (values_or_missing (of_option name Set) vs) rows ≡ [] = back_empty (range_kinds 1 1 (length vs)) (set_fault false (of_option name Set) (values_or_missing (of_option name Set) vs) rows) none in
     let here = front_empty (repeat_fault false name rows) (values_fault (of_option name Set) (values_or_missing (of_option name Set) vs)) later in
-    let clash = rw has at here in
-    cc
+    not_none _ _ (rw has at here)
 conflict name SetTrue plain vs rows has none =
     let later : set_fault false (of_option name SetTrue) (values_or_missing (of_option name SetTrue) vs) rows ≡ [] = back_empty (range_kinds 0 0 (length vs)) (set_fault false (of_option name SetTrue) (values_or_missing (of_option name SetTrue) vs) rows) none in
     let here = front_empty (repeat_fault false name rows) (values_fault (of_option name SetTrue) (values_or_missing (of_option name SetTrue) vs)) later in
-    let clash = rw has at here in
-    cc
+    not_none _ _ (rw has at here)
 conflict name action plain vs rows has none = absurd (true≢false (sym plain))
 
 -- the second use waits for its value
@@ -87,7 +92,7 @@ stuck os name n rows vs has none =
 by_plain : (os : List (Opt Text)) (h : Held) (name : Text) (action : ArgAction) (v : Option Text) → is_plain action ≡ true → long_fault (known os) false (Some (of_option name action)) v h ≡ [] → settle_fault (known os) false h ≡ []
 by_plain os h name Set (Some v) plain none = front_empty (settle_fault (known os) false h) (use_fault false (of_option name Set) (v ∷ []) (settled (known os) h).rows) none
 by_plain os h name Set None plain none = none
-by_plain os h name SetTrue (Some v) plain none = cc
+by_plain os h name SetTrue (Some v) plain none = absurd (no_value os h name v none)
 by_plain os h name SetTrue None plain none = front_empty (settle_fault (known os) false h) (use_fault false (of_option name SetTrue) [] (settled (known os) h).rows) none
 by_plain os h name action v plain none = absurd (true≢false (sym plain))
 
@@ -164,7 +169,7 @@ used_again os fit name Set plain n same word None words rows p x used more is no
     let by : arg_by_id (known os) name ≡ Some (of_option name Set) = by_name os name n ∙ ap (λ (a : ArgAction). Some (of_option name a)) same in
     is_stuck os fit name n words (settled_rows (known os) p rows) [] (option name) true (record { yes = refl; bare = refl; by = by; other = n.other }) used
     (subst (λ (w : Walk). walk_fault (shape_by os) [] w words ≡ []) there parts.1) (subst (λ (w : Walk). settle_fault (known os) false (walk_on os w words).held ≡ []) there ends)
-used_again os fit name SetTrue plain n same word (Some v) words rows p x used more is none ends fault = cc
+used_again os fit name SetTrue plain n same word (Some v) words rows p x used more is none ends fault = no_value os (held_at rows p) name v fault
 used_again os fit name SetTrue plain n same word None words rows p x used more is none ends fault =
     conflict name SetTrue refl [] (settled_rows (known os) p rows) used (back_empty (settle_fault (known os) false (held_at rows p)) (use_fault false (of_option name SetTrue) [] (settled_rows (known os) p rows)) fault)
 used_again os fit name action plain n same word v words rows p x used more is none ends fault = absurd (true≢false (sym plain))
@@ -202,6 +207,9 @@ one_here m t u n count one le = omega arith
 none_here : (m t u n : ℕ) → t ≡ u + n → u ≡ 0 → m + n ≤ 1 → m + t ≤ 1
 none_here m t u n count none le = omega arith
 
+end_here : (m t : ℕ) → t ≡ 0 → m + 0 ≤ 1 → m + t ≤ 1
+end_here m t none least = omega arith
+
 by_use : (n : ℕ) (b : Bool) → (b ≡ true → ⊥) → 1 + n ≤ 1 → one_if b + (1 + n) ≤ 1
 by_use n true apart le = absurd (apart refl)
 by_use n false apart le = omega arith
@@ -237,7 +245,7 @@ module _ (os : List (Opt Text)) (fit : list_all is_fit os ≡ true) (name : Text
   by_word : (rows : List Row) (p : Option (Text × List Text)) (x : Waiting) (awaited : Bool) → IsAwaited os p x awaited
       → walk_fault (shape_by os) [] (stands rows p x false) (word ∷ words) ≡ [] → settle_fault (known os) false (walk_on os (stands rows p x false) (word ∷ words)).held ≡ []
       → (b : Bool) → is_end word ≡ b → (o : Option (Text × Option Text)) → long_of word ≡ o → one_if (is_used os rows p name) + times name (word ∷ words) ≤ 1
-  by_word rows p x awaited a none ends true e o is = let zero_here = times_end name word words e in let least = no_more (is_used os rows p name) in omega arith
+  by_word rows p x awaited a none ends true e o is = end_here (one_if (is_used os rows p name)) (times name (word ∷ words)) (times_end name word words e) (no_more (is_used os rows p name))
   by_word rows p x awaited a none ends false e (Some o) is = by_option rows p x o e is none ends (bytes_eq o.0 name) refl
   by_word rows p x awaited a none ends false e None is =
       let parts = faults os (stands rows p x false) word words none in

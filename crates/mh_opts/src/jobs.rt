@@ -43,7 +43,7 @@ pub(crate) const MESSAGES: &str = "messages";
 pub(crate) const TABLES: &str = "tables";
 
 /// What is to be done.
-#[derive(Debug, Drop, PartialEq, Eq)]
+#[derive(Drop)]
 pub enum Job {
     /// `--interpret`: a verdict for each line of the input.
     Interpret,

@@ -8,7 +8,7 @@ use std::alloc::AllocError;
 use thiserror::Error;
 
 /// A job, and what else the words say.
-#[derive(Debug, Drop)]
+#[derive(Drop)]
 pub struct Order {
     pub job: Job,
     /// The grammar files in the order of their words.
@@ -28,7 +28,7 @@ pub struct Order {
 }
 
 /// Why words are no order: the first of these faults, in the order of the variants.
-#[derive(Debug, Drop, PartialEq, Eq, Error)]
+#[derive(Debug, Drop, Error)]
 pub enum UsageFault {
     /// The command does not take the words.
     #[error("bad words")]

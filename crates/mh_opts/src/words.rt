@@ -1,5 +1,6 @@
 //! The order that words spell.
-ghost use Rattle.std.specs.Prelude.{◌≡◌, IfOk, Ok, not, option_map, map, string_bytes};
+ghost use Rattle.std.specs.Prelude.{◌≡◌, ◌||◌, IfOk, Ok, not, option_map, map, string_bytes};
+ghost use Rattle.clap.specs.Takes.{is_given as is_given_in};
 ghost use Rattle.clap.specs.Walk.{is_empty};
 ghost use Rattle.clap.specs.Words.{first_of, found_of, rows_of};
 ghost use Rattle.mh_opts.specs.Orders as orders;
@@ -154,11 +155,18 @@ fn is_sample(mode: Mode) -> bool
     matches!(mode, Mode::Sample)
 }
 
+/// Whether a mode works with a table that no file gives: that of a sample, or the one that is asked for by its kind.
+fn has_own_table(matches: &ArgMatches<'_>, mode: Mode) -> bool
+    ensures { result ≡ (is_given_in constants.CANONICAL.now (rows_of (found_of matches.now)) || orders.is_sample mode) }
+{
+    is_given(matches, CANONICAL) || is_sample(mode)
+}
+
 /// Whether a table file is named where its table would not be used: it has a mode of its own, and is for a grammar that files spell.
 fn clashes(matches: &ArgMatches<'_>, mode: Mode) -> bool
     ensures { result ≡ orders.clashes (rows_of (found_of matches.now)) mode }
 {
-    is_given(matches, TABLES) && (is_given(matches, CANONICAL) || is_sample(mode))
+    is_given(matches, TABLES) && has_own_table(matches, mode)
 }
 
 /// The order for a mode, where each option has a meaning and there is a grammar.

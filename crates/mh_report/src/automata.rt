@@ -4,13 +4,15 @@ ghost use Rattle.std.specs.List.{All};
 ghost use Rattle.mh_grammar.specs.Plain.{plain_of, IsInRange};
 ghost use Rattle.mh_kernels.specs.Kernels.{IsKernelItem};
 ghost use Rattle.mh_kernels.specs.Automaton.{IsAutomaton, kernel_at, edges_at};
+ghost use Rattle.mh_tables.specs.declared.parts.Action.TheVariants.{Refuse};
 ghost use Rattle.mh_tables.specs.Table.{cell_of, fallback_of};
 ghost use Rattle.mh_cells.specs.declared.kinds.Mode.{Mode as ModeOf};
 ghost use Rattle.mh_cells.specs.States.{IsTableOf};
 ghost use Rattle.mh_cells.specs.Names.{mode_name};
-ghost use Rattle.mh_report.specs.Automata.{title, kernel_lines, cell_line, cell_lines, goto_line, goto_lines, default_line, head_line, AreActionLines, IsStateText, IsAutomatonText, Adds};
+ghost use Rattle.mh_report.specs.Items.{production_text};
+ghost use Rattle.mh_report.specs.Automata.{title, kernel_lines, cell_line, cell_lines, goto_line, goto_lines, head_line, AreActionLines, IsStateText, IsAutomatonText, Adds};
 
-use crate::items::{write_item_lines, write_number, write_production};
+use crate::items::{write_between, write_item_lines, write_production};
 use mh_cells::{Mode, holes_of};
 use mh_grammar::{Edge, Grammar, Memory, Symbol, Token, nonterminal_name, token_name};
 use mh_kernels::{Automaton, KernelItem};
@@ -31,10 +33,7 @@ fn write_title(alloc: Global, text: &mut Vec<u8>, mode: Mode, states: u32) -> Re
     ensures { OnOk result (text.new.items ≡ text.old.items ++ title mode states) }
 {
     text.extend_from_slice(mode_name(mode))?;
-    text.extend_from_slice(b": ")?;
-    write_number(alloc, text, states)?;
-    text.extend_from_slice(b" states\n")?;
-    Ok(())
+    write_between(alloc, text, b": ", states, b" states\n")
 }
 
 // A name, two spaces in.
@@ -43,6 +42,39 @@ fn write_indented(text: &mut Vec<u8>, name: &[u8]) -> Result<(), Memory>
 {
     text.extend_from_slice(b"  ")?;
     text.extend_from_slice(name)?;
+    Ok(())
+}
+
+// A line that ends in a production.
+fn write_reduction(
+    text: &mut Vec<u8>,
+    grammar: &Grammar,
+    front: &[u8],
+    production: u32,
+) -> Result<(), Memory>
+    ensures { OnOk result (text.new.items ≡ text.old.items
+        ++ (front.now ++ production_text grammar.now production ++ codes "\n")) }
+{
+    text.extend_from_slice(front)?;
+    write_production(text, grammar, production)?;
+    text.push(b'\n')?;
+    Ok(())
+}
+
+// A cell that refuses: a line where it is a hole.
+fn write_refusal(
+    text: &mut Vec<u8>,
+    grammar: &Grammar,
+    token: Token,
+    is_hole: bool,
+) -> Result<(), Memory>
+    ensures { OnOk result (text.new.items ≡ text.old.items
+        ++ cell_line grammar.now token Refuse is_hole) }
+{
+    if is_hole {
+        write_indented(text, token_name(grammar, token))?;
+        text.extend_from_slice(b": hole\n")?;
+    }
     Ok(())
 }
 
@@ -61,24 +93,14 @@ fn write_cell_line(
     match action {
         Action::Shift(target) => {
             write_indented(text, token_name(grammar, token))?;
-            text.extend_from_slice(b": shift ")?;
-            write_number(alloc, text, target)?;
-            text.push(b'\n')?;
+            write_between(alloc, text, b": shift ", target, b"\n")
         }
         Action::Reduce(production) => {
             write_indented(text, token_name(grammar, token))?;
-            text.extend_from_slice(b": reduce ")?;
-            write_production(text, grammar, production)?;
-            text.push(b'\n')?;
+            write_reduction(text, grammar, b": reduce ", production)
         }
-        Action::Refuse => {
-            if is_hole {
-                write_indented(text, token_name(grammar, token))?;
-                text.extend_from_slice(b": hole\n")?;
-            }
-        }
+        Action::Refuse => write_refusal(text, grammar, token, is_hole),
     }
-    Ok(())
 }
 
 fn write_cell_lines(
@@ -113,13 +135,13 @@ fn write_goto_line(
 ) -> Result<(), Memory>
     ensures { OnOk result (text.new.items ≡ text.old.items ++ goto_line grammar.now symbol target) }
 {
-    if let Symbol::N(nonterminal) = symbol {
-        write_indented(text, nonterminal_name(grammar, nonterminal))?;
-        text.extend_from_slice(b": goto ")?;
-        write_number(alloc, text, target)?;
-        text.push(b'\n')?;
+    match symbol {
+        Symbol::T(_) => Ok(()),
+        Symbol::N(nonterminal) => {
+            write_indented(text, nonterminal_name(grammar, nonterminal))?;
+            write_between(alloc, text, b": goto ", target, b"\n")
+        }
     }
-    Ok(())
 }
 
 fn write_goto_lines(
@@ -133,15 +155,6 @@ fn write_goto_lines(
     for edge in edges {
         write_goto_line(alloc, text, grammar, edge.symbol, edge.target)?;
     }
-    Ok(())
-}
-
-fn write_default(text: &mut Vec<u8>, grammar: &Grammar, production: u32) -> Result<(), Memory>
-    ensures { OnOk result (text.new.items ≡ text.old.items ++ default_line grammar.now production) }
-{
-    text.extend_from_slice(b"  default: reduce ")?;
-    write_production(text, grammar, production)?;
-    text.push(b'\n')?;
     Ok(())
 }
 
@@ -170,7 +183,9 @@ fn write_actions<const W: usize>(
             text.extend_from_slice(b"  default: accept\n")?;
             Ok(())
         }
-        Some(Fallback::Reduce(production)) => write_default(text, grammar, production),
+        Some(Fallback::Reduce(production)) => {
+            write_reduction(text, grammar, b"  default: reduce ", production)
+        }
         None => {
             let holes = holes_of(alloc, grammar, automaton, table, state)?;
             write_cell_lines(alloc, text, grammar, table, state, holes.as_slice())
@@ -181,10 +196,7 @@ fn write_actions<const W: usize>(
 fn write_head(alloc: Global, text: &mut Vec<u8>, state: u32) -> Result<(), Memory>
     ensures { OnOk result (text.new.items ≡ text.old.items ++ head_line state) }
 {
-    text.extend_from_slice(b"state ")?;
-    write_number(alloc, text, state)?;
-    text.push(b'\n')?;
-    Ok(())
+    write_between(alloc, text, b"state ", state, b"\n")
 }
 
 fn write_kernel<const W: usize>(

@@ -1,5 +1,5 @@
 //! The texts of productions, items and kernels. Each function writes behind what a text holds.
-ghost use Rattle.std.specs.Prelude.{◌≡◌, ◌≤◌, ◌++◌, length, decimal, MatchOption, OnOk, ⊤};
+ghost use Rattle.std.specs.Prelude.{◌≡◌, ◌≤◌, ◌++◌, length, codes, decimal, MatchOption, OnOk, ⊤};
 ghost use Rattle.std.specs.List.{All};
 ghost use Rattle.mh_grammar.specs.Plain.{plain_of, rhs_of};
 ghost use Rattle.mh_kernels.specs.Kernels.{IsKernelItem};
@@ -19,6 +19,23 @@ pub fn write_number(alloc: Global, text: &mut Vec<u8>, number: u32) -> Result<()
 {
     let digits = format!(in alloc; "{number}")?;
     text.extend_from_slice(digits.as_bytes())?;
+    Ok(())
+}
+
+/// Writes a number between two texts.
+pub(crate) fn write_between(
+    alloc: Global,
+    text: &mut Vec<u8>,
+    before: &[u8],
+    number: u32,
+    after: &[u8],
+) -> Result<(), Memory>
+    ensures { OnOk result (text.new.items ≡ text.old.items
+        ++ (before.now ++ decimal number ++ after.now)) }
+{
+    text.extend_from_slice(before)?;
+    write_number(alloc, text, number)?;
+    text.extend_from_slice(after)?;
     Ok(())
 }
 
@@ -47,6 +64,21 @@ fn write_left_side(text: &mut Vec<u8>, grammar: &Grammar, production: u32) -> Re
     Ok(())
 }
 
+// Symbols, each after a space, with a dot before those behind.
+fn write_dotted(
+    text: &mut Vec<u8>,
+    grammar: &Grammar,
+    before: &[Symbol],
+    behind: &[Symbol],
+) -> Result<(), Memory>
+    ensures { OnOk result (text.new.items ≡ text.old.items
+        ++ (names_after grammar.now before.now ++ (codes " ." ++ names_after grammar.now behind.now))) }
+{
+    write_names(text, grammar, before)?;
+    text.extend_from_slice(b" .")?;
+    write_names(text, grammar, behind)
+}
+
 // Symbols, each after a space, with a dot at a place of them where one is given.
 fn write_symbols(
     text: &mut Vec<u8>,
@@ -58,13 +90,13 @@ fn write_symbols(
     ensures { OnOk result (text.new.items ≡ text.old.items
         ++ symbols_text grammar.now dot symbols.now) }
 {
-    let Some(dot) = dot else {
-        return write_names(text, grammar, symbols);
-    };
-    let (before, behind) = symbols.split_at(dot as usize);
-    write_names(text, grammar, before)?;
-    text.extend_from_slice(b" .")?;
-    write_names(text, grammar, behind)
+    match dot {
+        None => write_names(text, grammar, symbols),
+        Some(dot) => {
+            let (before, behind) = symbols.split_at(dot as usize);
+            write_dotted(text, grammar, before, behind)
+        }
+    }
 }
 
 // The right side of a production, with a dot at a place of it where one is given.
@@ -91,6 +123,22 @@ fn write_right_side(
     }
 }
 
+// Both sides of a production with an arrow between them, and with a dot at a place of the right one where one is given.
+fn write_sides(
+    text: &mut Vec<u8>,
+    grammar: &Grammar,
+    production: u32,
+    dot: Option<u32>,
+) -> Result<(), Memory>
+    requires { MatchOption dot ⊤ (λ dot. dot ≤ length (rhs_of (plain_of grammar.now) production)) }
+    ensures { OnOk result (text.new.items ≡ text.old.items
+        ++ (left_side grammar.now production ++ (codes " ->" ++ symbols_text grammar.now dot (rhs_of (plain_of grammar.now) production)))) }
+{
+    write_left_side(text, grammar, production)?;
+    text.extend_from_slice(b" ->")?;
+    write_right_side(text, grammar, production, dot)
+}
+
 /// Writes a production: its left side, an arrow, and its right side. Fails for want of memory alone; then a front of it
 /// may be written.
 pub fn write_production(
@@ -101,9 +149,7 @@ pub fn write_production(
     ensures { OnOk result (text.new.items ≡ text.old.items
         ++ production_text grammar.now production) }
 {
-    write_left_side(text, grammar, production)?;
-    text.extend_from_slice(b" ->")?;
-    write_right_side(text, grammar, production, None)
+    write_sides(text, grammar, production, None)
 }
 
 /// The name of a look.
@@ -131,6 +177,22 @@ fn write_looks<const W: usize>(
     Ok(())
 }
 
+// Looks in brackets.
+fn write_brackets<const W: usize>(
+    text: &mut Vec<u8>,
+    grammar: &Grammar,
+    looks: &TokenSet<W>,
+) -> Result<(), Memory>
+    requires few { W ≤ 8 }
+    ensures { OnOk result (text.new.items ≡ text.old.items
+        ++ (codes " [" ++ looks_after grammar.now looks.now ++ codes " ]")) }
+{
+    text.extend_from_slice(b" [")?;
+    write_looks(text, grammar, looks)?;
+    text.extend_from_slice(b" ]")?;
+    Ok(())
+}
+
 // An item with its looks.
 fn write_item<const W: usize>(
     text: &mut Vec<u8>,
@@ -141,13 +203,8 @@ fn write_item<const W: usize>(
     requires item { IsKernelItem (plain_of grammar.now) item.now }
     ensures { OnOk result (text.new.items ≡ text.old.items ++ kernel_text grammar.now item.now) }
 {
-    write_left_side(text, grammar, item.production)?;
-    text.extend_from_slice(b" ->")?;
-    write_right_side(text, grammar, item.production, Some(item.dot))?;
-    text.extend_from_slice(b" [")?;
-    write_looks(text, grammar, &item.looks)?;
-    text.extend_from_slice(b" ]")?;
-    Ok(())
+    write_sides(text, grammar, item.production, Some(item.dot))?;
+    write_brackets(text, grammar, &item.looks)
 }
 
 fn write_item_line<const W: usize>(

@@ -2,7 +2,7 @@
 ghost use Rattle.std.specs.Prelude.{◌≡◌, ◌++◌, IfOk, OnOk};
 ghost use Rattle.mh_report.specs.Warnings.{conflict_place, unsolved_line, stream_line, warning_line, warning_lines};
 
-use crate::items::{look_name, write_number};
+use crate::items::{look_name, write_between};
 use mh_cells::{Conflict, ConflictKind};
 use mh_grammar::{Grammar, Look, Memory};
 use std::alloc::Global;
@@ -11,10 +11,13 @@ use std::alloc::Global;
 fn write_place(alloc: Global, text: &mut Vec<u8>, state: u32) -> Result<(), Memory>
     ensures { OnOk result (text.new.items ≡ text.old.items ++ conflict_place state) }
 {
-    text.extend_from_slice(b"menhir: warning: conflict in state ")?;
-    write_number(alloc, text, state)?;
-    text.extend_from_slice(b" on ")?;
-    Ok(())
+    write_between(
+        alloc,
+        text,
+        b"menhir: warning: conflict in state ",
+        state,
+        b" on ",
+    )
 }
 
 fn write_unsolved(
@@ -36,10 +39,13 @@ fn write_unsolved(
 fn write_stream(alloc: Global, text: &mut Vec<u8>, state: u32) -> Result<(), Memory>
     ensures { OnOk result (text.new.items ≡ text.old.items ++ stream_line state) }
 {
-    text.extend_from_slice(b"menhir: warning: end-of-stream conflict in state ")?;
-    write_number(alloc, text, state)?;
-    text.push(b'\n')?;
-    Ok(())
+    write_between(
+        alloc,
+        text,
+        b"menhir: warning: end-of-stream conflict in state ",
+        state,
+        b"\n",
+    )
 }
 
 fn write_warning(
