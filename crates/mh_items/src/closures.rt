@@ -15,7 +15,7 @@ use crate::first_sets::{Firsts, Sets};
 use crate::links::rest_of;
 use crate::merging::merged;
 use crate::spreading::spread;
-use mh_grammar::{Grammar, Memory, Sequence, Symbol};
+use mh_grammar::{Grammar, Memory, Symbol};
 use mh_kernels::{Closure, Kernel, KernelItem, behind, symbol_at};
 use mh_sets::TokenSet;
 use std::alloc::Global;
@@ -61,10 +61,7 @@ pub(crate) fn closure_over<const W: usize>(
     spread(grammar, firsts, asked)?;
     let added = added_items(alloc, grammar, firsts, asked)?;
     asked.forget();
-    let items = merged(alloc, grammar, kernel.items.as_slice(), added.as_slice())?;
-    Ok(Closure {
-        items: Sequence::from_vec(items),
-    })
+    merged(alloc, grammar, kernel.items.as_slice(), added.as_slice())
 }
 
 /// Asks for what the items of a kernel ask for.

@@ -22,9 +22,9 @@ pub fn firsts<const W: usize>(alloc: Global, grammar: &Grammar) -> Result<Firsts
     requires range { IsInRange (plain_of grammar.now) }
     ensures { IfOk result (AreFirsts (plain_of grammar.now)) }
 {
+    let productions = all_productions(alloc, grammar)?;
     let sets = sets_of(alloc, grammar)?;
     let links = all_links(alloc, grammar, &sets)?;
-    let productions = all_productions(alloc, grammar)?;
     Ok(Firsts {
         sets,
         links,

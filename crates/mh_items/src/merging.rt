@@ -4,8 +4,8 @@ ghost use Rattle.mh_grammar.specs.Plain.{plain_of, IsInRange};
 ghost use Rattle.mh_kernels.specs.Kernels.{IsItemList};
 ghost use Rattle.mh_items.specs.Merging.{IsUnion, IsMerged, IsJoined, IsTurn, place_order};
 
-use mh_grammar::{Grammar, Memory};
-use mh_kernels::KernelItem;
+use mh_grammar::{Grammar, Memory, Sequence};
+use mh_kernels::{Closure, KernelItem};
 use std::alloc::Global;
 use std::cmp::Ordering;
 
@@ -15,12 +15,12 @@ pub(crate) fn merged<const W: usize>(
     grammar: &Grammar,
     left: &[KernelItem<W>],
     right: &[KernelItem<W>],
-) -> Result<Vec<KernelItem<W>>, Memory>
+) -> Result<Closure<W>, Memory>
     requires few { W ≤ 8 }
     requires range { IsInRange (plain_of grammar.now) }
     requires left { IsItemList (plain_of grammar.now) (record { items = left.now }) }
     requires right { IsItemList (plain_of grammar.now) (record { items = right.now }) }
-    ensures { IfOk result (λ items. IsUnion (plain_of grammar.now) left.now right.now items.items) }
+    ensures { IfOk result (λ closed. IsUnion (plain_of grammar.now) left.now right.now closed.items) }
 {
     let mut items = Vec::new(alloc);
     let mut i = 0;
@@ -30,7 +30,9 @@ pub(crate) fn merged<const W: usize>(
         i = next_i;
         j = next_j;
     }
-    Ok(items)
+    Ok(Closure {
+        items: Sequence::from_vec(items),
+    })
 }
 
 /// Adds the item that comes next, and says how far both lists are then.

@@ -1,15 +1,19 @@
 -- What keeps the flags of the queue.
-use Rattle.std.proofs.Common.{◌≡◌, ◌∷◌, ◌++◌, ℕ, suc, zero, Bool, true, false, List, [], Some, set, length, sym, ◌∙◌, arith, inl, inr, ap}
+use Rattle.std.proofs.Common.{◌≡◌, ◌∷◌, ◌++◌, ◌<◌, ℕ, suc, zero, Bool, true, false, List, [], Some, set, length, sym, ◌∙◌, arith, inl, inr, ap}
 use Rattle.std.specs.List.{slice_get, Contains}
 use Rattle.std.proofs.lemmas.Bool.{cases_eq}
 use Rattle.std.proofs.lemmas.List.Elements.{Contains-append_left}
 use Rattle.std.proofs.lemmas.Option.{slice_get_within}
-use Rattle.mh_grammar.proofs.Lists.{get_left, get_last, get_cases, at_contains, contains_there, contains_cases, contains_none, contains_last, contains_push, set_here, set_elsewhere, set_cases}
+use Rattle.mh_grammar.proofs.Lists.{get_left, get_last, get_cases, at_contains, contains_here, contains_there, contains_cases, contains_none, contains_last, contains_push, set_here, set_elsewhere, set_cases}
 use Rattle.mh_grammar.proofs.Placing.{AreDistinct-push}
 use Rattle.mh_pager.specs.Queued.{AreFlagged}
 
 pub flagged_none : AreFlagged [] []
 flagged_none = record { distinct = record { same = λ i j x e f. cc }; exact = λ n. ((λ c. absurd (contains_none n c)), (λ e. cc)) }
+
+-- the oldest state has a flag
+pub oldest_flag : (states rest : List ℕ) (n : ℕ) (flags : List Bool) → AreFlagged states flags → states ≡ n ∷ rest → n < length flags
+oldest_flag states rest n flags f e = slice_get_within flags n true ((f.exact n).0 (rw e (contains_here n rest)))
 
 -- the oldest state waits no more
 pub flagged_rest : (n : ℕ) (states : List ℕ) (flags : List Bool) → AreFlagged (n ∷ states) flags → AreFlagged states (set flags n false)

@@ -1,11 +1,20 @@
 use Rattle.std.proofs.Common.{◌≡◌, ◌<◌, Some, sym, ap, ◌∙◌, rules, lit<, arith}
 use Rattle.std.specs.List.{slice_get}
+use Rattle.std.proofs.lemmas.Option.{slice_get_within}
 use Rattle.std.proofs.lemmas.Result.{on_ok_weaker}
 use Rattle.mh_grammar.specs.declared.types.Symbol.TheVariants.{N}
 use Rattle.mh_grammar.specs.Plain.{plain_of, rhs_of}
 use Rattle.mh_kernels.proofs.Sides.{target_below}
-use Rattle.mh_items.proofs.Seeding.{item_adds}
+use Rattle.mh_items.proofs.Growing.{Adds-none}
+use Rattle.mh_items.proofs.Seeding.{item_adds, item_nothing}
 use Rattle.mh_items.proofs.closures.add_item.Goals as goal
+
+pub looks_behind-looks-requires : goal.looks_behind-looks-requires
+looks_behind-looks-requires _ c =
+    let item = c.args.item.now in
+    let side = rhs_of (plain_of c.args.grammar.now) item.production in
+    let at : slice_get side item.dot ≡ Some (N c.in-Some-N.n) = sym c.symbol_at.ensures ∙ c.in-Some-N.is ∙ ap Some c.in-Some-N.field-0-is in
+    (search rules, (search rules, (c.requires.few, (c.requires.width, (c.requires.range, (c.requires.sets, (c.requires.item, slice_get_within side item.dot (N c.in-Some-N.n) at)))))))
 
 pub add-requires : goal.add-requires
 add-requires _ c =
@@ -20,3 +29,9 @@ returns-in-Some-N _ c =
     let g = plain_of c.args.grammar.now in
     let at : slice_get (rhs_of g c.args.item.now.production) c.args.item.now.dot ≡ Some (N c.in-Some-N.n) = sym c.symbol_at.ensures ∙ c.in-Some-N.is ∙ ap Some c.in-Some-N.field-0-is in
     on_ok_weaker c.add.result (λ d. item_adds g c.args.item.now c.in-Some-N.n c.looks_behind-looks.result c.args.set.now c.add.new.self at c.looks_behind-looks.ensures d) c.add.ensures
+
+pub returns-in-Some-T : goal.returns-in-Some-T
+returns-in-Some-T _ c = Adds-none _ _ c.requires.table (item_nothing (plain_of c.args.grammar.now) c.args.item.now (λ n at. cc))
+
+pub returns-in-None : goal.returns-in-None
+returns-in-None _ c = Adds-none _ _ c.requires.table (item_nothing (plain_of c.args.grammar.now) c.args.item.now (λ n at. cc))

@@ -1,10 +1,21 @@
-use Rattle.std.proofs.Common.{length, ap, arith}
+use Rattle.std.proofs.Common.{◌≡◌, List, [], length, ap, ◌∙◌, arith}
+use Rattle.std.proofs.lemmas.List.Elements.{All-contains}
+use Rattle.mh_grammar.proofs.Lists.{contains_at}
 use Rattle.mh_grammar.specs.Plain.{plain_of}
+use Rattle.mh_items.specs.declared.links.Link.{Link}
 use Rattle.mh_items.specs.Firsts.{IsLink}
-use Rattle.mh_items.proofs.Linking.{LinksSoFar-skip, LinksSoFar-all}
+use Rattle.mh_items.proofs.Linking.{LinksSoFar-start, LinksSoFar-skip, LinksSoFar-all}
 use Rattle.mh_items.proofs.Gathered.{has_row, links_set}
 use Rattle.mh_items.proofs.gathering.all_links.Goals as goal
 use Rattle.mh_items.proofs.gathering.all_links.Goals.{in-Some+in_ok-push, in_default}
+
+pub loop-production-init : goal.loop-production-init
+loop-production-init gg c =
+    let rows = c.in_ok-rows.rows.items in
+    record {
+      len = c.in_ok-rows.ensures.len ∙ c.len.ensures;
+      links = λ n row at. (let none : row ≡ [] = All-contains (λ (r : List (Link gg.row.W)). r ≡ []) rows row c.in_ok-rows.ensures.empty (contains_at rows n row at) in rw none (LinksSoFar-start (plain_of c.args.grammar.now) n));
+    }
 
 pub loop-production-preserved : goal.loop-production-preserved
 loop-production-preserved gg c =

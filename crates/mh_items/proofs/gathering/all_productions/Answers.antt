@@ -1,7 +1,17 @@
-use Rattle.std.proofs.Common.{◌≤◌, length, arith}
+use Rattle.std.proofs.Common.{◌≡◌, ◌≤◌, ℕ, List, [], length, ◌∙◌, arith}
+use Rattle.std.proofs.lemmas.List.Elements.{All-contains}
+use Rattle.mh_grammar.proofs.Lists.{contains_at}
 use Rattle.mh_grammar.specs.Plain.{plain_of}
-use Rattle.mh_items.proofs.Gathered.{NumbersSoFar-all, has_row, numbers_set}
+use Rattle.mh_items.proofs.Gathered.{NumbersSoFar-start, NumbersSoFar-all, has_row, numbers_set}
 use Rattle.mh_items.proofs.gathering.all_productions.Goals as goal
+
+pub loop-place-init : goal.loop-place-init
+loop-place-init c =
+    let rows = c.in_ok-rows.rows.items in
+    record {
+      len = c.in_ok-rows.ensures.len ∙ c.len.ensures;
+      numbers = λ n row at. (let none : row ≡ [] = All-contains (λ (r : List ℕ). r ≡ []) rows row c.in_ok-rows.ensures.empty (contains_at rows n row at) in rw none (NumbersSoFar-start (plain_of c.args.grammar.now) n));
+    }
 
 pub loop-place-preserved : goal.loop-place-preserved
 loop-place-preserved c =

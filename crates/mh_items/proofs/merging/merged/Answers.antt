@@ -6,4 +6,4 @@ pub items-init : goal.items-init
 items-init _ c = rw c.new-items.ensures.items (IsMerged-start (plain_of c.args.grammar.now) c.args.left.now c.args.right.now)
 
 pub returns : goal.returns
-returns _ c = union_of (plain_of c.args.grammar.now) c.args.left.now c.args.right.now c.items.items.items c.items.i c.items.j c.if-i-left.false c.if-j-right.false c.items.invariant
+returns _ c = rw c.from_vec.ensures (union_of (plain_of c.args.grammar.now) c.args.left.now c.args.right.now c.items.items.items c.items.i c.items.j c.if-i-left.false c.if-j-right.false c.items.invariant)

@@ -1,9 +1,38 @@
-use Rattle.std.proofs.Common.{◌≤◌, length, arith}
-use Rattle.std.proofs.lemmas.Option.{slice_get_within}
-use Rattle.mh_grammar.proofs.Lists.{at_contains}
+use Rattle.std.proofs.Common.{◌≡◌, ◌<◌, ◌≤◌, Some, length, refl, arith, rules, inl, inr}
+use Rattle.std.specs.List.{slice_get}
+use Rattle.std.proofs.lemmas.Bool.{cases_eq}
+use Rattle.std.proofs.lemmas.Option.{slice_get_read, slice_get_within}
+use Rattle.mh_grammar.proofs.Lists.{at_contains, recursion_at, same_at}
 use Rattle.mh_grammar.specs.Plain.{plain_of}
+use Rattle.mh_kernels.specs.Kernels.{IsKernelItem}
 use Rattle.mh_items.proofs.Emptying.{AsksNone, complete_there}
 use Rattle.mh_items.proofs.closer.Closer.adds_complete.Goals as goal
+
+pub loop-item-init : goal.loop-item-init
+loop-item-init g c = λ k n item l. absurd (omega arith)
+
+pub asks_for-requires : goal.asks_for-requires
+asks_for-requires g c =
+    let items = c.args.kernel.now.items in
+    let i = c.loop-item.item-index in
+    let y = c.item-item.result in
+    let same = c.as_slice-item-items.ensures in
+    let short : i < length items = rw same at c.loop-item-test.true in
+    let at : slice_get items i ≡ Some y = slice_get_read items (length items) i y refl short (rw same at c.item-item.is) in
+    let marks : length c.as_slice.result.now ≡ length c.args.grammar.now.nonterminals = rw c.as_slice.ensures.value (omega (arith, c.requires.closer.marks, c.args.self.now.empties.ok.0)) in
+    (search rules, (c.requires.few, (c.requires.range, (recursion_at (IsKernelItem (plain_of c.args.grammar.now)) items c.requires.kernel.items i y at, marks))))
+
+pub loop-item-preserved : goal.loop-item-preserved
+loop-item-preserved g c = λ k n item l at stands.
+    let items = c.as_slice-item-items.result.now in
+    let i = c.loop-item.item-index in
+    let y = c.item-item.result in
+    let there : slice_get items i ≡ Some y = slice_get_read items (length items) i y refl c.loop-item-test.true c.item-item.is in
+    elim (cases_eq k i) [
+      | inl here ↦ (let one = same_at items i item y (rw here at at) there in
+          rw c.as_slice.ensures.value at (c.asks_for.ensures c.if-asks_for.false n (rw one at stands)))
+      | inr other ↦ c.loop-item.invariant k n item (omega arith) at stands
+    ]
 
 pub returns : goal.returns
 returns g c _ =

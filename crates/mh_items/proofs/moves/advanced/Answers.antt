@@ -1,0 +1,5 @@
+use Rattle.std.proofs.Common.{refl}
+use Rattle.mh_items.proofs.moves.advanced.Goals as goal
+
+pub returns : goal.returns
+returns _ c = rw c.copied.ensures refl
