@@ -16,9 +16,9 @@ use crate::arrivals::{Arrival, Arrivals, Coming, Spot, Step, arrival_of, arrive_
 use crate::sorting::BySentence;
 use mh_found::Found;
 use mh_grammar::{Edge, Memory, Symbol, Token};
+use mh_tables::{Choice, Table, choose};
 use mh_ways::queue::{Queue, empty_queue, push, take};
 use mh_ways::{CAP, Classes, Whole, add_costs, add_token, class_of, list_of};
-use mh_tables::{Choice, Table, choose};
 use mh_words::sorted;
 use std::alloc::Global;
 

@@ -7,8 +7,8 @@ ghost use Rattle.mh_found.specs.declared.tails.Part.TheVariants as TheParts;
 use crate::numbers::{Numbering, number_of, token_before};
 use mh_facts::{Back, FactKey, FactStore};
 use mh_grammar::{Memory, Token};
-use mh_ways::CAP;
 use mh_tables::Table;
+use mh_ways::CAP;
 
 /// A part of a word.
 #[derive(Clone, Copy, Drop)]

@@ -3,7 +3,7 @@ ghost use Rattle.std.specs.Prelude.{◌≡◌, ◌<◌, ◌≤◌, ◌↔◌, �
 ghost use Rattle.mh_tables.specs.Run.{Reduces, move_of};
 ghost use Rattle.mh_least.specs.Least.{GoesLike};
 ghost use Rattle.mh_past.specs.Past.{IsPast};
-ghost use Rattle.mh_past.specs.Classes.{IsClasses, rep_of};
+ghost use Rattle.mh_ways.specs.Classes.{IsClasses, rep_of};
 ghost use Rattle.mh_past.specs.Classing.{Stands, IsRow, IsClassFor, AddsRow, IsPartition, IsAlike, AreAlike, AreTokens, agrees};
 
 use crate::past::{Reduction, past_of};

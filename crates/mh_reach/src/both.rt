@@ -11,9 +11,9 @@ use mh_arrivals::{Arrivals, Spot, Step, arrival_of, comes_later};
 use mh_found::Found;
 use mh_grammar::{Memory, Token};
 use mh_past::classes_of;
-use mh_ways::{Classes, add_token, class_of};
 use mh_search::search;
 use mh_tables::{Choice, Halting, Table, choose};
+use mh_ways::{Classes, add_token, class_of};
 use std::alloc::Global;
 
 /// The step behind which a state refuses the token.

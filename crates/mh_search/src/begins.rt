@@ -10,9 +10,9 @@ ghost use Rattle.mh_search.specs.Begins.{IsBegun, EmptyOn, BeginsOn, BeginsBehin
 use indexmap::IndexSet;
 use mh_facts::{Back, FactKey};
 use mh_grammar::{Edge, Memory, Symbol, Token};
+use mh_tables::Table;
 use mh_ways::queue::{Queue, empty_queue, push};
 use mh_ways::{ByLeft, Classes, Item, Work, by_left_side, list_of, productions_of};
-use mh_tables::Table;
 use std::alloc::Global;
 
 /// The fact of an empty path.

@@ -18,9 +18,9 @@ ghost use Rattle.mh_ways.specs.Classes.{list_at};
 use indexmap::IndexSet;
 use mh_facts::{Back, FactKey};
 use mh_grammar::{Memory, Symbol, Token};
+use mh_tables::{Choice, Table, choose};
 use mh_ways::queue::{Queue, push};
 use mh_ways::{Classes, Item, Path, Way, Whole, Work, add_costs, add_token, class_of, list_of};
-use mh_tables::{Choice, Table, choose};
 use std::alloc::Global;
 
 /// Puts an item in with each of some tokens after.

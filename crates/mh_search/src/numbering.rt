@@ -6,8 +6,8 @@ ghost use Rattle.mh_search.specs.Numbering.{AreEmpty, AreMade, AreNumbered, AreT
 use mh_facts::{Back, FactKey, FactStore};
 use mh_found::{EMPTY, Numbering, number_of, token_before};
 use mh_grammar::Memory;
-use mh_ways::{CAP, Item};
 use mh_tables::Table;
+use mh_ways::{CAP, Item};
 use mh_words::{Last, Made};
 use std::alloc::Global;
 

@@ -14,9 +14,9 @@ use crate::ranking::{Ranked, in_order};
 use mh_facts::FactStore;
 use mh_found::{Found, Numbering};
 use mh_grammar::Memory;
+use mh_tables::Table;
 use mh_ways::queue::{Queue, push, take};
 use mh_ways::{CAP, Classes, Item, Path};
-use mh_tables::Table;
 use mh_words::Book;
 use std::alloc::Global;
 

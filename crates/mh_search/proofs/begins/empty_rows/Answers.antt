@@ -1,7 +1,7 @@
 use Rattle.std.proofs.Common.{◌≡◌, ℕ, ◌+◌, ◌∷◌, [], List, length, length-append, ap, ◌∙◌, arith}
 use Rattle.std.specs.Global.{Vec}
-use Rattle.mh_past.specs.Rows.{row_of}
-use Rattle.mh_past.proofs.Rowing.{row_more}
+use Rattle.mh_ways.specs.Rows.{row_of}
+use Rattle.mh_ways.proofs.Rowing.{row_more}
 use Rattle.mh_search.proofs.begins.empty_rows.Goals as goal
 
 pub loop-init : goal.loop-init

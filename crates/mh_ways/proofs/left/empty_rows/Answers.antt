@@ -1,7 +1,7 @@
 use Rattle.std.proofs.Common.{◌≡◌, length, arith}
-use Rattle.mh_past.proofs.Rowing.{empty_begin, empty_more}
-use Rattle.mh_past.proofs.Lefting.{left_begins}
-use Rattle.mh_past.proofs.left.empty_rows.Goals as goal
+use Rattle.mh_ways.proofs.Rowing.{empty_begin, empty_more}
+use Rattle.mh_ways.proofs.Lefting.{left_begins}
+use Rattle.mh_ways.proofs.left.empty_rows.Goals as goal
 
 pub loop-init : goal.loop-init
 loop-init c = empty_begin c.new-rows.result.items c.new-rows.ensures.items
