@@ -122,11 +122,7 @@ fn check_own(alloc: Global, names: &Names, file: &Module) -> Result<(), JoinFaul
     ensures { Finds (own_in_file (meanings_in names.now) file.now) result }
 {
     match marked_public(alloc, file.rules.as_slice()) {
-        Ok(marked) => {
-            let found = check_own_rules(alloc, names, &marked, file.rules.as_slice());
-            drop(marked);
-            found
-        }
+        Ok(marked) => check_own_rules(alloc, names, &marked, file.rules.as_slice()),
         Err(_) => Err(JoinFault::Memory),
     }
 }
@@ -226,11 +222,7 @@ fn check_shapes(alloc: Global, names: &Names, file: &Module) -> Result<(), JoinF
     ensures { Finds (shapes_in_file (meanings_in names.now) file.now) result }
 {
     match marked_public(alloc, file.rules.as_slice()) {
-        Ok(marked) => {
-            let found = check_file_shapes(names, &marked, file.rules.as_slice());
-            drop(marked);
-            found
-        }
+        Ok(marked) => check_file_shapes(names, &marked, file.rules.as_slice()),
         Err(_) => Err(JoinFault::Memory),
     }
 }

@@ -163,11 +163,7 @@ fn check_rule(alloc: Global, names: &Names, file: u64, rule: &Rule) -> Result<()
     ensures { Finds (undefined_in_rule (meanings_in names.now) file rule.now) result }
 {
     match formals_of(alloc, rule.formals.as_slice()) {
-        Ok(formals) => {
-            let found = check_alternatives(names, file, &formals, rule.alternatives.as_slice());
-            drop(formals);
-            found
-        }
+        Ok(formals) => check_alternatives(names, file, &formals, rule.alternatives.as_slice()),
         Err(_) => Err(JoinFault::Memory),
     }
 }
@@ -248,11 +244,7 @@ fn check_file_on_error(
         result }
 {
     match formals_of(alloc, &[]) {
-        Ok(none) => {
-            let found = check_on_error(names, number, &none, file.on_error.as_slice());
-            drop(none);
-            found
-        }
+        Ok(none) => check_on_error(names, number, &none, file.on_error.as_slice()),
         Err(_) => Err(JoinFault::Memory),
     }
 }

@@ -1,5 +1,5 @@
 //! Rules but for their actuals.
-ghost use Rattle.std.specs.Prelude.{◌≡◌, ◌∷◌, ◌++◌, [], IfOk, OnOk, Some, map};
+ghost use Rattle.std.specs.Prelude.{◌≡◌, ◌∷◌, ◌++◌, [], IfOk, OnOk, Some, is_some, map, not};
 ghost use Rattle.mh_places.specs.Spelling.{ref_by, with_prec};
 ghost use Rattle.mh_places.specs.Machine as machine;
 ghost use Rattle.mh_places.specs.Machine.{Refers, ruled, grouped, grouped_with, produced, drafted, named, with_formal};
@@ -428,11 +428,18 @@ fn copied_ref(alloc: Global, found: &Ref) -> Result<Ref, Memory>
     }
 }
 
+/// Whether a production has no level of its own.
+fn lacks_level(production: &Alternative) -> bool
+    ensures { result ≡ not (is_some production.now.prec) }
+{
+    production.prec.is_none()
+}
+
 /// The group's level goes to a production without its own.
 fn give_level(alloc: Global, production: &mut Alternative, group: &Ref) -> Result<(), Memory>
     ensures { OnOk result (production.new ≡ with_prec (Some group.now) production.old) }
 {
-    if production.prec.is_none() {
+    if lacks_level(production) {
         let level = copied_ref(alloc, group)?;
         drop(mem::replace(&mut production.prec, Some(level)));
     }

@@ -9,5 +9,5 @@ use Rattle.mh_duplicates.proofs.duplicates.check_own.Goals as goal
 
 pub returns-in-Ok : goal.returns-in-Ok
 returns-in-Ok c =
-    subst (λ (g : Text → Bool). Finds (repeats [] (own_names g c.args.file.now.rules)) c.check_own_rules-found.result)
-    (fun_ext (λ x. ap (λ b. contains same c.args.names.now.starts x || b) ((rw c.as_slice.ensures at c.in-Ok.ensures) x))) (rw c.as_slice-in-Ok.ensures at c.check_own_rules-found.ensures)
+    subst (λ (g : Text → Bool). Finds (repeats [] (own_names g c.args.file.now.rules)) c.check_own_rules.result)
+    (fun_ext (λ x. ap (λ b. contains same c.args.names.now.starts x || b) ((rw c.as_slice.ensures at c.in-Ok.ensures) x))) (rw c.as_slice-in-Ok.ensures at c.check_own_rules.ensures)

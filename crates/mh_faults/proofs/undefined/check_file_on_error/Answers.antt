@@ -9,5 +9,5 @@ use Rattle.mh_faults.proofs.undefined.check_file_on_error.Goals as goal
 pub returns-in-Ok : goal.returns-in-Ok
 returns-in-Ok c =
     let w = meanings_in c.args.names.now in
-    subst (λ (g : Text → Option ℕ). Finds (flat_map (undefined_in_on_error (meant_by w c.args.number g)) c.args.file.now.on_error) c.check_on_error-found.result)
-    (fun_ext c.in-Ok.ensures) (rw c.as_slice.ensures at c.check_on_error-found.ensures)
+    subst (λ (g : Text → Option ℕ). Finds (flat_map (undefined_in_on_error (meant_by w c.args.number g)) c.args.file.now.on_error) c.check_on_error.result)
+    (fun_ext c.in-Ok.ensures) (rw c.as_slice.ensures at c.check_on_error.ensures)

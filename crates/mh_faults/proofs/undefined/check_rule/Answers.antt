@@ -9,5 +9,5 @@ use Rattle.mh_faults.proofs.undefined.check_rule.Goals as goal
 pub returns-in-Ok : goal.returns-in-Ok
 returns-in-Ok c =
     let w = meanings_in c.args.names.now in
-    subst (λ (g : Text → Option ℕ). Finds (flat_map (undefined_in_alternative w.aliased (meant_by w c.args.file g)) c.args.rule.now.alternatives) c.check_alternatives-found.result)
-    (fun_ext (rw c.as_slice.ensures at c.in-Ok.ensures)) (rw c.as_slice-in-Ok.ensures at c.check_alternatives-found.ensures)
+    subst (λ (g : Text → Option ℕ). Finds (flat_map (undefined_in_alternative w.aliased (meant_by w c.args.file g)) c.args.rule.now.alternatives) c.check_alternatives.result)
+    (fun_ext (rw c.as_slice.ensures at c.in-Ok.ensures)) (rw c.as_slice-in-Ok.ensures at c.check_alternatives.ensures)
