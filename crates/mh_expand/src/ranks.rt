@@ -1,6 +1,7 @@
 //! The `%on_error_reduce` declarations, by the terms that they name.
-ghost use Rattle.std.specs.Prelude.{◌≡◌, [], nat_eq, IfOk, OnOk};
+ghost use Rattle.std.specs.Prelude.{◌≡◌, ◌∷◌, ◌++◌, [], List, length, nat_eq, IfOk, OnOk};
 ghost use Rattle.indexmap.specs.IndexMap.{get};
+ghost use Rattle.mh_rules.specs.declared.joined.Applied.{Applied as Actual};
 ghost use Rattle.mh_expand.specs.Sharing.{terms_of};
 ghost use Rattle.mh_expand.specs.Searching.{AreRanks, AddsRank};
 
@@ -14,6 +15,26 @@ use std::alloc::Global;
 /// For each term the place of the first declaration that names it.
 pub(crate) type Ranks = IndexMap<usize, u64>;
 
+/// Adds the rank of the terms that a declaration names, where those before it have theirs.
+fn add_ranks(
+    alloc: Global,
+    terms: &mut Terms,
+    ranks: &mut Ranks,
+    rank: u64,
+    declaration: &[Applied],
+) -> Result<(), Memory>
+    ensures { OnOk result ((before : List (List Actual)) → length before ≡ rank →
+        AreRanks before (terms_of terms.old.nodes.keys) (get nat_eq ranks.old) →
+        AreRanks (before ++ declaration.now ∷ []) (terms_of terms.new.nodes.keys)
+        (get nat_eq ranks.new)) }
+{
+    for applied in declaration {
+        let number = replace(alloc, terms, &[], applied)?;
+        add_rank(ranks, number, rank)?;
+    }
+    Ok(())
+}
+
 /// The ranks of the terms that the declarations name.
 pub(crate) fn ranks_of(
     alloc: Global,
@@ -25,10 +46,13 @@ pub(crate) fn ranks_of(
 {
     let mut ranks = IndexMap::new(alloc);
     for (rank, declaration) in declarations.iter().enumerate() {
-        for applied in declaration.as_slice() {
-            let number = replace(alloc, terms, &[], applied)?;
-            add_rank(&mut ranks, number, rank as u64)?;
-        }
+        add_ranks(
+            alloc,
+            terms,
+            &mut ranks,
+            rank as u64,
+            declaration.as_slice(),
+        )?;
     }
     Ok(ranks)
 }

@@ -1,4 +1,4 @@
-use Rattle.std.proofs.Common.{◌∷◌, ◌++◌, [], nat_eq, take}
+use Rattle.std.proofs.Common.{nat_eq, take}
 use Rattle.indexmap.specs.IndexMap.{get}
 use Rattle.mh_expand.specs.Sharing.{terms_of}
 use Rattle.mh_expand.specs.Searching.{AreRanks}
@@ -6,6 +6,3 @@ use Rattle.mh_expand.proofs.ranks.ranks_of.Given as goal
 
 abbrev pub invariant-loop-rank : goal.invariant-loop-rank
 invariant-loop-rank l = AreRanks (take l.rank l.declarations) (terms_of l.terms.nodes.keys) (get nat_eq l.ranks)
-
-abbrev pub invariant-loop-applied : goal.invariant-loop-applied
-invariant-loop-applied l = AreRanks (take l.rank l.declarations ++ take l.applied-index l.applied-items ∷ []) (terms_of l.terms.nodes.keys) (get nat_eq l.ranks)

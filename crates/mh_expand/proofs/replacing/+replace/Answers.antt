@@ -1,8 +1,9 @@
-use Rattle.std.proofs.Common.{◌≡◌, ◌∷◌, ◌+◌, Some, drop, sym, ap, ◌∙◌, add-one, suc}
+use Rattle.std.proofs.Common.{◌≡◌, ◌∷◌, [], ◌+◌, Some, drop, sym, ap, ◌∙◌, add-one, suc}
 use Rattle.std.specs.List.{slice_get}
 use Rattle.std.proofs.Math.Seq.{drop-cons}
+use Rattle.std.proofs.lemmas.List.{drop_all}
 use Rattle.mh_expand.specs.Sharing.{terms_of, terms_at}
-use Rattle.mh_expand.proofs.Actuals.{stands, IsReplacing, IsReplacing-start, IsReplacing-step}
+use Rattle.mh_expand.proofs.Actuals.{stands, IsReplacing, IsReplacing-start, IsReplacing-step, IsReplacing-done}
 use Rattle.mh_expand.proofs.Shared.{terms_at-kept}
 use Rattle.mh_expand.proofs.replacing.+replace.Goals as goal
 
@@ -27,3 +28,28 @@ loop-arg-preserved t c =
     let term : slice_get new c.in_ok-number.number ≡ Some (stands fs c.arg-item.result) =
     c.in_ok-number.ensures.term ∙ ap (λ ts. Some (stands ts c.arg-item.result)) same in
     rw c.in_ok-push.ensures.ok (IsReplacing-step old mid new fs c.loop-arg.node c.arg-item.result (drop (i + 1) items) (stands fs c.args.applied.now) c.in_ok-number.number (rw front at inv) c.in_ok-number.ensures.grows term)
+
+pub insert-requires : goal.insert-requires
+insert-requires t c = c.loop-arg.invariant.below
+
+pub returns-clause-grows : goal.returns-clause-grows
+returns-clause-grows t c =
+    let old = terms_of c.args.terms.now.nodes.keys in
+    let mid = terms_of c.loop-arg.terms.nodes.keys in
+    let new = terms_of c.insert.new.self.nodes.keys in
+    let fs = terms_at old c.args.formals.now in
+    let items = c.as_slice-arg-items.result.now in
+    let inv : IsReplacing old mid fs c.loop-arg.node (drop c.loop-arg.arg-index items) (stands fs c.args.applied.now) = c.loop-arg.invariant in
+    let none : drop c.loop-arg.arg-index items ≡ [] = drop_all c.loop-arg.arg-index items c.loop-arg-test.false in
+    (IsReplacing-done old mid new fs c.loop-arg.node (stands fs c.args.applied.now) c.in_ok-insert.field-0 (rw none at inv) c.in_ok-insert.ensures).0
+
+pub returns-clause-term : goal.returns-clause-term
+returns-clause-term t c =
+    let old = terms_of c.args.terms.now.nodes.keys in
+    let mid = terms_of c.loop-arg.terms.nodes.keys in
+    let new = terms_of c.insert.new.self.nodes.keys in
+    let fs = terms_at old c.args.formals.now in
+    let items = c.as_slice-arg-items.result.now in
+    let inv : IsReplacing old mid fs c.loop-arg.node (drop c.loop-arg.arg-index items) (stands fs c.args.applied.now) = c.loop-arg.invariant in
+    let none : drop c.loop-arg.arg-index items ≡ [] = drop_all c.loop-arg.arg-index items c.loop-arg-test.false in
+    (IsReplacing-done old mid new fs c.loop-arg.node (stands fs c.args.applied.now) c.in_ok-insert.field-0 (rw none at inv) c.in_ok-insert.ensures).1

@@ -1,12 +1,13 @@
-use Rattle.std.proofs.Common.{◌≤◌, length}
-use Rattle.std.proofs.lemmas.Result.{IfOk-weaker}
+use Rattle.std.proofs.Common.{◌≤◌, length, sym, subst}
+use Rattle.std.proofs.lemmas.Result.{IfOk-weaker, IfErr-weaker}
 use Rattle.mh_grammar.specs.Costs.{HaveCosts}
 use Rattle.mh_grammar.specs.Numbering.{AreDistinct}
 use Rattle.mh_grammar.specs.Plain.{plain_of, IsInRange}
 use Rattle.mh_rules.specs.declared.joined.TheConstants.{MAX_TOKENS}
 use Rattle.mh_front.specs.Sentences.{HasSentencesOfModules}
-use Rattle.mh_front.specs.Stages.{IsGrammarOfJoined}
+use Rattle.mh_front.specs.Stages.{Causes, IsGrammarOfJoined, IsGrammarOfModules, IsGrammarFault, IsJoinedFault}
 use Rattle.mh_front.proofs.OneGrammar as one
+use Rattle.mh_front.proofs.Passing.{join_fault, later_fault}
 use Rattle.mh_front.proofs.front.grammar_of.Goals as goal
 
 pub returns-in-Ok-clause-tokens : goal.returns-in-Ok-clause-tokens
@@ -33,3 +34,12 @@ pub returns-in-Ok-clause-sentences : goal.returns-in-Ok-clause-sentences
 returns-in-Ok-clause-sentences c =
     let ms = c.args.modules.now in
     IfOk-weaker c.grammar_of_joined.result (IsGrammarOfJoined c.in-Ok.joined) (HasSentencesOfModules c.args.prelude ms) (λ g o. one.sentences c.args.prelude ms g c.requires (record { joined = c.in-Ok.joined; joins = c.in-Ok.ensures.joins; grammar = o })) c.grammar_of_joined.ensures.grammar
+
+pub returns-in-Ok-clause-grammar : goal.returns-in-Ok-clause-grammar
+returns-in-Ok-clause-grammar c = IfOk-weaker c.grammar_of_joined.result (IsGrammarOfJoined c.in-Ok.joined) (IsGrammarOfModules c.args.prelude c.args.modules.now) (λ g o. record { joined = c.in-Ok.joined; joins = c.in-Ok.ensures.joins; grammar = o }) c.grammar_of_joined.ensures.grammar
+
+pub returns-in-Ok-clause-fault : goal.returns-in-Ok-clause-fault
+returns-in-Ok-clause-fault c = IfErr-weaker c.grammar_of_joined.result (Causes (IsJoinedFault c.in-Ok.joined)) (Causes (IsGrammarFault c.args.prelude c.args.modules.now)) (λ f e. later_fault c.args.prelude c.args.modules.now c.in-Ok.joined f c.in-Ok.ensures.joins e) c.grammar_of_joined.ensures.fault
+
+pub returns-in-Err-clause-fault : goal.returns-in-Err-clause-fault
+returns-in-Err-clause-fault c = subst (Causes (IsGrammarFault c.args.prelude c.args.modules.now)) (sym c.from.ensures) (join_fault c.args.prelude c.args.modules.now c.in-Err.fault c.in-Err.ensures.joins)
