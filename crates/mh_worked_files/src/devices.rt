@@ -107,7 +107,7 @@ fn pieces_are_written(rt: HostRuntime) -> Result<(), Fail> {
     check_write(&rt, &mut sink, b"cd", Err(WriteFault::Failed));
     check_write(&rt, &mut sink, b"", Ok(()));
     check_write(&rt, &mut sink, b"ef", Ok(()));
-    assert!(rt; sink.written() == b"abef");
+    assert!(rt; sink.written() == b"abef".as_slice());
     release(sink);
     Ok(())
 }
