@@ -249,17 +249,12 @@ fn rules_in_either_order_take_few_passes(rt: HostRuntime) -> Result<(), Fail> {
     Ok(())
 }
 
-fn edge(symbol: Symbol, target: u32) -> Edge {
-    Edge { symbol, target }
-}
-
 #[test]
 fn edges_are_found(rt: HostRuntime) {
-    let edges = [
-        edge(Symbol::T(2), 7),
-        edge(Symbol::T(5), 4),
-        edge(Symbol::N(0), 9),
-    ];
+    let edges = [(Symbol::T(2), 7), (Symbol::T(5), 4), (Symbol::N(0), 9)].map(|(
+        symbol,
+        target,
+    )| Edge { symbol, target });
     let found = [
         find_edge(&edges, Symbol::T(5)),
         find_edge(&edges, Symbol::N(0)),
