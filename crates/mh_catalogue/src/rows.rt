@@ -3,7 +3,7 @@ use mh_grammar::{Sequence, Token};
 
 /// A state in which some sentence fails, with the first of these sentences: the number of its start, and its tokens, of which
 /// the last is refused in the state.
-#[derive(Debug, Drop)]
+#[derive(Drop)]
 pub struct Row {
     pub state: u32,
     pub start: u16,
@@ -11,7 +11,7 @@ pub struct Row {
 }
 
 /// Why there is no catalogue.
-#[derive(Clone, Copy, Debug, PartialEq, Eq, Drop)]
+#[derive(Clone, Copy, PartialEq, Eq, Drop)]
 pub enum CatalogueFault {
     /// Each sentence that fails in this state costs more than 1,000,000, and the state is the lowest such.
     TooLong { state: u32 },

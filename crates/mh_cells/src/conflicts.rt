@@ -3,7 +3,7 @@ use crate::kinds::ConflictKind;
 use mh_grammar::Look;
 
 /// A conflict of a state, on a token or at the end of the stream.
-#[derive(Clone, Copy, Debug, PartialEq, Eq)]
+#[derive(Clone, Copy, PartialEq, Eq)]
 pub struct Conflict {
     /// The state's number, below the count of the automaton's states.
     pub state: u32,

@@ -2,7 +2,7 @@
 
 /// Which automaton a table is made of. In canonical mode a state has a default only where it has that action at the end
 /// of the stream too.
-#[derive(Clone, Copy, Debug, PartialEq, Eq)]
+#[derive(Clone, Copy, PartialEq, Eq)]
 pub enum Mode {
     /// States were merged (Pager 1977).
     Merged,

@@ -14,7 +14,7 @@ use mh_rules::{Expanded, InstanceProduction, Part};
 use std::alloc::Global;
 
 /// The instances that were found, as flags and in the order in which they came.
-#[derive(Debug, Drop)]
+#[derive(Drop)]
 pub struct Found {
     pub flags: Vec<bool>,
     pub queue: Vec<usize>,

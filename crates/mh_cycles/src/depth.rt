@@ -11,14 +11,14 @@ use mh_rules::{Expanded, InstanceProduction};
 use std::alloc::Global;
 
 /// An instance that a search enters, or that it leaves when all that it is made of was entered.
-#[derive(Clone, Copy, Debug)]
+#[derive(Clone, Copy)]
 pub struct Visit {
     pub number: usize,
     pub leaving: bool,
 }
 
 /// How far a search is.
-#[derive(Debug, Drop)]
+#[derive(Drop)]
 pub struct Search {
     /// For each instance the place, from 1, at which it was put among the open ones, or the least place of those that it reaches; 0
     /// before it is entered.

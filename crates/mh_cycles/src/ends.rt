@@ -8,7 +8,7 @@ use std::marker::Model;
 
 /// A list to which items are put in front and behind without copying those that are there. Two with the same items are the same
 /// value.
-#[derive(Debug, Drop)]
+#[derive(Drop)]
 pub struct Ends<T> {
     items: VecDeque<T>,
 }

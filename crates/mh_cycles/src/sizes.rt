@@ -16,14 +16,14 @@ pub const MAX_PRODUCTIONS: u64 = 20_000;
 pub const MAX_SYMBOLS: u64 = 10_000;
 
 /// How many unfoldings there are, and how long the longest is, both at most one more than the limit.
-#[derive(Clone, Copy, Debug)]
+#[derive(Clone, Copy)]
 pub struct Size {
     pub count: u64,
     pub longest: u64,
 }
 
 /// The sizes of the inline instances that are known, and these instances, each behind those that it is made of.
-#[derive(Debug, Drop)]
+#[derive(Drop)]
 pub struct Sizing {
     pub sizes: Vec<Option<Size>>,
     pub order: Vec<u32>,

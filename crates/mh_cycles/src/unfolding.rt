@@ -3,7 +3,7 @@ use crate::ends::Ends;
 use mh_rules::{Part, Prec};
 
 /// Producers none of which is inline, and the `%prec` that came with what was inlined.
-#[derive(Debug, Drop)]
+#[derive(Drop)]
 pub struct Unfolding {
     pub rhs: Ends<Part>,
     pub prec: Prec,

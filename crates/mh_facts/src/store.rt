@@ -10,7 +10,7 @@ use std::marker::Model;
 
 /// A path from a state along a production's prefix, by the first token to come and the token after. Tokens that a state
 /// treats alike may be named by one of them.
-#[derive(Clone, Copy, Debug, PartialEq, Eq, Hash, Drop)]
+#[derive(Clone, Copy, PartialEq, Eq, Hash, Drop)]
 pub struct FactKey {
     /// The state that the path begins in.
     pub from: u32,
@@ -25,7 +25,7 @@ pub struct FactKey {
 }
 
 /// The facts that a fact came from.
-#[derive(Clone, Copy, Debug, Drop)]
+#[derive(Clone, Copy, Drop)]
 pub enum Back {
     /// None: the path is empty.
     Empty,
@@ -36,7 +36,7 @@ pub enum Back {
 }
 
 /// What is stored of a key.
-#[derive(Clone, Copy, Debug, Drop)]
+#[derive(Clone, Copy, Drop)]
 pub struct Fact {
     pub cost: u32,
     pub back: Back,

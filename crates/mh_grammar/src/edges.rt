@@ -5,7 +5,7 @@ ghost use Rattle.mh_grammar.specs.Edges.{IsRising, IsEdgeBefore, IsSymbolBefore,
 use crate::types::Symbol;
 
 /// An edge of an automaton, which leads from the state that holds it to another.
-#[derive(Clone, Copy, Debug, PartialEq, Eq)]
+#[derive(Clone, Copy, PartialEq, Eq)]
 pub struct Edge {
     /// The symbol that it is followed on.
     pub symbol: Symbol,

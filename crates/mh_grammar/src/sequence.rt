@@ -12,7 +12,7 @@ use std::marker::Model;
 use std::ops::Index;
 
 /// A list of items. Two with the same items are the same value.
-#[derive(Debug, Drop)]
+#[derive(Drop)]
 pub struct Sequence<T> {
     items: Vec<T>,
 }

@@ -37,7 +37,7 @@ pub enum Look {
 }
 
 /// How a token of a level groups with itself.
-#[derive(Clone, Copy, Debug, PartialEq, Eq)]
+#[derive(Clone, Copy, PartialEq, Eq)]
 pub enum Assoc {
     Left,
     Right,
@@ -45,7 +45,7 @@ pub enum Assoc {
 }
 
 /// A level of precedence. Two levels are comparable only within one file; the later is higher.
-#[derive(Clone, Copy, Debug, PartialEq, Eq)]
+#[derive(Clone, Copy, PartialEq, Eq)]
 pub struct Level {
     /// The file of its declaration: files are counted from 1, in the order of the command line.
     pub file: u64,
@@ -65,7 +65,7 @@ pub const MAX_COST: u32 = 1000;
 pub const MAX_HEIGHT: u32 = 4000;
 
 /// A token.
-#[derive(Clone, Debug, Drop, PartialEq, Eq)]
+#[derive(Clone, Drop, PartialEq, Eq)]
 pub struct TokenInfo {
     /// Its name, as it is declared.
     pub name: Name,
@@ -76,7 +76,7 @@ pub struct TokenInfo {
 }
 
 /// A nonterminal.
-#[derive(Debug, Drop)]
+#[derive(Drop)]
 pub struct NontermInfo {
     /// Its name, with its arguments where it is an instance.
     pub name: Name,
@@ -85,7 +85,7 @@ pub struct NontermInfo {
 }
 
 /// An ordinary production.
-#[derive(Debug, Drop)]
+#[derive(Drop)]
 pub struct Production {
     /// The nonterminal of its left side, by number.
     pub lhs: u16,
@@ -99,7 +99,7 @@ pub struct Production {
 /// of the list follow in order. Tokens, nonterminals and starts are at most 65,535 each, productions with the starts'
 /// are below 2^32, and so are the symbols of a right side; `is_in_range` of mh_range says whether a grammar keeps to this and each
 /// number in it names something.
-#[derive(Debug, Drop)]
+#[derive(Drop)]
 pub struct Grammar {
     /// The tokens, by number.
     pub tokens: Sequence<TokenInfo>,
@@ -112,7 +112,7 @@ pub struct Grammar {
 }
 
 /// A start, by its number among the starts, and tokens.
-#[derive(Debug, Drop)]
+#[derive(Drop)]
 pub struct Sentence {
     pub start: u16,
     pub tokens: Sequence<Token>,

@@ -4,7 +4,7 @@ use mh_sets::TokenSet;
 use std::alloc::{AllocError, AllocFailed};
 
 /// A production and a dot with the looks that it stands with.
-#[derive(Debug, Drop, PartialEq, Eq, Hash)]
+#[derive(Drop, PartialEq, Eq, Hash)]
 pub struct ItemWith<L> {
     /// The number of the production; those of the starts come first.
     pub production: u32,
@@ -14,13 +14,13 @@ pub struct ItemWith<L> {
 }
 
 /// Items, rising by production and dot: those of a kernel or of a closure.
-#[derive(Debug, Drop, PartialEq, Eq, Hash)]
+#[derive(Drop, PartialEq, Eq, Hash)]
 pub struct ItemsWith<L> {
     pub items: Sequence<ItemWith<L>>,
 }
 
 /// States by their kernels, with the edges of each in the order of symbols.
-#[derive(Debug, Drop)]
+#[derive(Drop)]
 pub struct AutomatonWith<L> {
     pub kernels: Sequence<ItemsWith<L>>,
     pub edges: Sequence<Sequence<Edge>>,
@@ -39,7 +39,7 @@ pub type Closure<const W: usize> = ItemsWith<TokenSet<W>>;
 pub type Automaton<const W: usize> = AutomatonWith<TokenSet<W>>;
 
 /// Why no automaton is given.
-#[derive(Clone, Copy, Debug, PartialEq, Eq)]
+#[derive(Clone, Copy, PartialEq, Eq)]
 pub enum StatesFault {
     /// It has more than 200,000 states.
     TooManyStates,

@@ -6,7 +6,7 @@ use std::alloc::AllocError;
 use thiserror::Error;
 
 /// A row of the table of lexemes.
-#[derive(Clone, Copy, Debug, Drop, PartialEq, Eq)]
+#[derive(Clone, Copy, Drop, PartialEq, Eq)]
 pub enum Kind {
     /// An ASCII letter or `_`, then letters, digits, `_` and `'`.
     Word,
@@ -29,7 +29,7 @@ pub enum Kind {
 }
 
 /// A lexeme, and the places of its first byte and behind its last one.
-#[derive(Clone, Copy, Debug, Drop, PartialEq, Eq)]
+#[derive(Clone, Copy, Drop, PartialEq, Eq)]
 pub struct Lexeme {
     pub kind: Kind,
     pub start: usize,

@@ -1,6 +1,6 @@
 //! What a name is used for.
 
-#[derive(Clone, Copy, Debug, PartialEq, Eq)]
+#[derive(Clone, Copy, PartialEq, Eq)]
 pub enum Kind {
     Token,
     Rule,

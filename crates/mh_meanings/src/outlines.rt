@@ -2,7 +2,7 @@
 use mh_grammar::Name;
 
 /// What a rule is like by its first definition.
-#[derive(Debug, Drop)]
+#[derive(Drop)]
 pub struct Outline {
     pub name: Name,
     /// The file that has it as its own, where it is not public; the prelude is file 0.

@@ -8,7 +8,7 @@ use crate::{Failed, Source};
 use std::alloc::Global;
 
 /// Why a line was not read.
-#[derive(Clone, Copy, Debug)]
+#[derive(Clone, Copy)]
 pub enum LineFault {
     /// The source failed.
     Failed,

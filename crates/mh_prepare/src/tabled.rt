@@ -30,7 +30,7 @@ use mh_validate::{Valid, validate};
 use std::alloc::{AllocError, Global};
 
 /// Where the automaton comes from.
-#[derive(Debug, Drop)]
+#[derive(Drop)]
 pub enum Source {
     /// It is the merged one of the grammar.
     Merged,

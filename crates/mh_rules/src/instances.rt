@@ -6,14 +6,14 @@ use mh_grammar::{Name, Sequence, Token, TokenInfo};
 pub const MAX_INSTANCES: usize = 20_000;
 
 /// A producer: a token, or an instance by its number, each from 0.
-#[derive(Clone, Copy, Debug)]
+#[derive(Clone, Copy)]
 pub enum Part {
     Token(Token),
     Instance(u32),
 }
 
 /// An alternative of an instance.
-#[derive(Debug, Drop)]
+#[derive(Drop)]
 pub struct InstanceProduction {
     /// The number of its file: the files count from 1, and the standard library is file 0.
     pub file: u64,
@@ -24,7 +24,7 @@ pub struct InstanceProduction {
 }
 
 /// A rule applied to actuals.
-#[derive(Debug, Drop)]
+#[derive(Drop)]
 pub struct Instance {
     /// Its rule's printed name, with its arguments in `(`, `,` and `)` where it has some; at most 1,000 bytes.
     pub name: Name,
@@ -35,7 +35,7 @@ pub struct Instance {
 }
 
 /// The instances in order of finding, the starts by their numbers, and the tokens.
-#[derive(Debug, Drop)]
+#[derive(Drop)]
 pub struct Expanded {
     pub tokens: Sequence<TokenInfo>,
     pub starts: Sequence<u32>,

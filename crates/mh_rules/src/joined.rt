@@ -6,7 +6,7 @@ pub const MAX_TOKENS: usize = 512;
 
 /// What a name stands for: a formal of its rule by its place, a token, or a rule by its place in the list of rules, each
 /// from 0.
-#[derive(Clone, Copy, Debug, PartialEq, Eq, Hash)]
+#[derive(Clone, Copy, PartialEq, Eq, Hash)]
 pub enum Head {
     Formal(u64),
     Token(Token),
@@ -14,21 +14,21 @@ pub enum Head {
 }
 
 /// A head with actual arguments, as deep as the actual that it stands for.
-#[derive(Debug, Drop)]
+#[derive(Drop)]
 pub struct Applied {
     pub head: Head,
     pub args: Sequence<Applied>,
 }
 
 /// Whether a production has a `%prec`, and the level of its name, where that has one.
-#[derive(Clone, Copy, Debug)]
+#[derive(Clone, Copy)]
 pub enum Prec {
     Absent,
     Given(Option<Level>),
 }
 
 /// An alternative, with what its names stand for.
-#[derive(Debug, Drop)]
+#[derive(Drop)]
 pub struct JoinedAlternative {
     /// The number of its file: the files count from 1, and the standard library is file 0.
     pub file: u64,
@@ -39,7 +39,7 @@ pub struct JoinedAlternative {
 }
 
 /// A rule with how many formals it has, and the alternatives of all its definitions in order of files and text.
-#[derive(Debug, Drop)]
+#[derive(Drop)]
 pub struct JoinedRule {
     /// The name as it is printed: with `@k` behind it for a rule of file k's own where another file defines that name too,
     /// and with `@0` for a rule of the standard library where a file defines its name.
@@ -50,7 +50,7 @@ pub struct JoinedRule {
 }
 
 /// The tokens, starts, on-error declarations and rules of all files.
-#[derive(Debug, Drop)]
+#[derive(Drop)]
 pub struct Joined {
     /// In order of first declaration; a level has the number of its file, from 1, and its rank there, from 0.
     pub tokens: Sequence<TokenInfo>,

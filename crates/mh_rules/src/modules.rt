@@ -5,7 +5,7 @@ use mh_grammar::{Assoc, Name, Sequence};
 pub const MAX_DEPTH: usize = 1000;
 
 /// A name, or a string that is to be an alias: the bytes between its quotes.
-#[derive(Debug, Drop)]
+#[derive(Drop)]
 pub enum Ref {
     Plain(Name),
     Alias(Name),
@@ -13,21 +13,21 @@ pub enum Ref {
 
 /// A name or an alias with actual arguments. `X?`, `X*` and `X+` are `option`, `list` and `nonempty_list` of `X`. What goes
 /// over all that it holds calls itself as often as it is deep, so the public calls that do ask for at most `MAX_DEPTH`.
-#[derive(Debug, Drop)]
+#[derive(Drop)]
 pub struct Actual {
     pub head: Ref,
     pub args: Sequence<Actual>,
 }
 
 /// A production: its producers, and its `%prec` or that of its group.
-#[derive(Debug, Drop)]
+#[derive(Drop)]
 pub struct Alternative {
     pub producers: Sequence<Actual>,
     pub prec: Option<Ref>,
 }
 
 /// A rule with its modifiers and formals.
-#[derive(Debug, Drop)]
+#[derive(Drop)]
 pub struct Rule {
     pub public: bool,
     pub inlined: bool,
@@ -37,7 +37,7 @@ pub struct Rule {
 }
 
 /// A token with its alias and its cost, where they are given.
-#[derive(Debug, Drop)]
+#[derive(Drop)]
 pub struct TokenDecl {
     pub name: Name,
     pub alias: Option<Name>,
@@ -46,14 +46,14 @@ pub struct TokenDecl {
 }
 
 /// A `%left`, `%right` or `%nonassoc` declaration.
-#[derive(Debug, Drop)]
+#[derive(Drop)]
 pub struct LevelDecl {
     pub assoc: Assoc,
     pub names: Sequence<Ref>,
 }
 
 /// A file: its declarations of each kind in order, and its rules.
-#[derive(Debug, Drop)]
+#[derive(Drop)]
 pub struct Module {
     pub tokens: Sequence<TokenDecl>,
     pub starts: Sequence<Name>,

@@ -8,7 +8,7 @@ use mh_grammar::Memory;
 use std::alloc::Global;
 
 /// A grammar file and its sentences, one a line.
-#[derive(Debug, Drop)]
+#[derive(Drop)]
 pub struct Sample {
     pub grammar: Vec<u8>,
     pub sentences: Vec<u8>,

@@ -18,7 +18,7 @@ use std::hash::{Hash, Hasher};
 use std::marker::Model;
 
 /// A set of looks: the tokens below 64 times its width, and the end of the stream. A clause sees its looks, rising.
-#[derive(Debug, Drop)]
+#[derive(Drop)]
 pub struct TokenSet<const W: usize> {
     words: [u64; W],
     end: bool,

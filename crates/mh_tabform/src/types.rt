@@ -4,41 +4,41 @@ use mh_grammar::{Name, Sequence};
 use mh_tables::{Action, Fallback};
 
 /// A production by names.
-#[derive(Debug, Drop)]
+#[derive(Drop)]
 pub struct RawProduction {
     pub lhs: Name,
     pub rhs: Sequence<Name>,
 }
 
 /// An item with the names of its looks.
-#[derive(Debug, Drop)]
+#[derive(Drop)]
 pub struct RawItem {
     pub production: u32,
     pub dot: u32,
     pub looks: Sequence<Name>,
 }
 
-#[derive(Debug, Drop)]
+#[derive(Drop)]
 pub struct RawEdge {
     pub symbol: Name,
     pub target: u32,
 }
 
 /// A cell that acts.
-#[derive(Debug, Drop)]
+#[derive(Drop)]
 pub struct RawCell {
     pub token: Name,
     pub action: Action,
 }
 
 /// The cells of a state without default, or its default.
-#[derive(Debug, Drop)]
+#[derive(Drop)]
 pub enum RawCells {
     Cells(Sequence<RawCell>),
     Fallback(Fallback),
 }
 
-#[derive(Debug, Drop)]
+#[derive(Drop)]
 pub struct RawState {
     pub items: Sequence<RawItem>,
     pub edges: Sequence<RawEdge>,
@@ -46,7 +46,7 @@ pub struct RawState {
 }
 
 /// What a table file says. Files of version 1 have no costs.
-#[derive(Debug, Drop)]
+#[derive(Drop)]
 pub struct RawTable {
     pub mode: Mode,
     pub tokens: Sequence<Name>,

@@ -18,7 +18,7 @@ use mh_tabform::RawTable;
 use std::alloc::{AllocError, Global};
 
 /// Why bytes are no table file.
-#[derive(Clone, Copy, Debug, Drop, PartialEq, Eq)]
+#[derive(Clone, Copy, Drop, PartialEq, Eq)]
 pub enum TabFault {
     /// The file is of another version.
     Version,
