@@ -5,3 +5,4 @@ pub mod Ready
 pub mod Apart
 pub mod Fronts
 pub mod OneFront
+pub mod Misspelled

@@ -2,3 +2,4 @@ pub mod Tabling
 pub mod Going
 pub mod Made
 pub mod OnePrepared
+pub mod Rejecting

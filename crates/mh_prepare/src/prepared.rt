@@ -17,7 +17,8 @@ use mh_outside::Shelf;
 use mh_prepared::{Prepared, PreparedWith};
 use std::alloc::Global;
 
-/// The table of an order's grammar, by where its automaton comes from.
+/// The table of an order's grammar, by where its automaton comes from. Where there is none, what was loaded is let go by one
+/// call, here and in `prepare`: the end of a scope lets go of each field by itself, which takes long to prove.
 fn prepare_from<const W: usize>(
     alloc: Global,
     front: Front,
@@ -33,14 +34,16 @@ fn prepare_from<const W: usize>(
     ensures order { IfOk result (λ prepared. prepared.order ≡ front.order) }
     ensures fit { IfOk result (λ prepared. IsFit prepared) }
 {
-    let Front { order, grammar } = front;
-    match table_of(alloc, source, &grammar) {
+    match table_of(alloc, source, &front.grammar) {
         Ok(tabled) => Ok(PreparedWith {
-            order,
-            grammar,
+            order: front.order,
+            grammar: front.grammar,
             tabled,
         }),
-        Err(stop) => Err(stop),
+        Err(stop) => {
+            drop(front);
+            Err(stop)
+        }
     }
 }
 
@@ -65,6 +68,9 @@ pub fn prepare<F: Shelf, const W: usize>(
 {
     match source_of(alloc, shelf, &front.order) {
         Ok(source) => prepare_from(alloc, front, &source),
-        Err(stop) => Err(stop),
+        Err(stop) => {
+            drop(front);
+            Err(stop)
+        }
     }
 }

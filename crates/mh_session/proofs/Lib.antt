@@ -2,4 +2,5 @@ pub mod Known
 pub mod Naming
 pub mod Serving
 pub mod Spelling
+pub mod Stepping
 pub mod Telling

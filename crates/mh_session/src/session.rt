@@ -166,15 +166,10 @@ impl<'t> Session<'t> {
         Ok(Reply::Forgotten)
     }
 
-    /// Answers a command. A refused one changes nothing.
-    pub fn step(&mut self, command: &Command) -> Result<Reply, SessionFault>
+    // Answers a command by the histories of the branches.
+    fn serve(&mut self, command: &Command) -> Result<Reply, SessionFault>
         requires { IsKnown self.old.table command.now }
-        ensures served { IsServed self.old command.now self.new result }
-        ensures reply { IfOk result (λ r. (bs : Branches) → StandsFor self.old bs → answer self.old.table bs command.now ≡ Ok r) }
-        ensures next { OnOk result ((bs : Branches) → StandsFor self.old bs → StandsFor self.new (next self.old.table bs command.now)) }
-        ensures same { OnErr result (self.new ≡ self.old) }
-        ensures fault { IfErr result (λ f. (f ≡ faults.Memory) ⊎ ((bs : Branches) → StandsFor self.old bs → answer self.old.table bs command.now ≡ Err f)) }
-        ensures table { self.new.table ≡ self.old.table }
+        ensures { IsServed self.old command.now self.new result }
     {
         match command {
             Command::Begin { name, start } => self.begin(name, *start),
@@ -185,6 +180,19 @@ impl<'t> Session<'t> {
             Command::Tree { name } => self.tree(name),
             Command::Forget { name } => self.forget(name),
         }
+    }
+
+    /// Answers a command. A refused one changes nothing.
+    pub fn step(&mut self, command: &Command) -> Result<Reply, SessionFault>
+        requires { IsKnown self.old.table command.now }
+        ensures served { IsServed self.old command.now self.new result }
+        ensures reply { IfOk result (λ r. (bs : Branches) → StandsFor self.old bs → answer self.old.table bs command.now ≡ Ok r) }
+        ensures next { OnOk result ((bs : Branches) → StandsFor self.old bs → StandsFor self.new (next self.old.table bs command.now)) }
+        ensures same { OnErr result (self.new ≡ self.old) }
+        ensures fault { IfErr result (λ f. (f ≡ faults.Memory) ⊎ ((bs : Branches) → StandsFor self.old bs → answer self.old.table bs command.now ≡ Err f)) }
+        ensures table { self.new.table ≡ self.old.table }
+    {
+        self.serve(command)
     }
 }
 

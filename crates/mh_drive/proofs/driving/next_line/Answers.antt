@@ -6,3 +6,6 @@ returns-in-Ok-clause-line g c = next_taken _ _ c.in-Ok.line c.in-Ok.ensures.byte
 
 pub returns-in-Err-clause-line : goal.returns-in-Err-clause-line
 returns-in-Err-clause-line g c = next_fault _ _ c.in-Err.fault _ c.stop_of.ensures c.in-Err.ensures.bytes
+
+pub returns-in-Ok-clause-counts : goal.returns-in-Ok-clause-counts
+returns-in-Ok-clause-counts g c = c.in-Ok.ensures.counts

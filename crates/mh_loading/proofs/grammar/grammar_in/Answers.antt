@@ -7,3 +7,6 @@ returns-clause-grammar c = refused_so c.args.prelude c.args.modules.items c.in-E
 
 pub returns-in-Ok-clause-apart : goal.returns-in-Ok-clause-apart
 returns-in-Ok-clause-apart c = names_apart c.args.prelude c.args.modules.items c.in-Ok.grammar c.requires.capitals (rw c.deref.ensures.value at c.in-Ok.ensures.grammar)
+
+pub returns-in-Ok-clause-grammar : goal.returns-in-Ok-clause-grammar
+returns-in-Ok-clause-grammar c = rw c.deref.ensures.value at c.in-Ok.ensures.grammar

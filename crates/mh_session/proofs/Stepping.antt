@@ -1,0 +1,45 @@
+-- What an answer by the histories says of the reply, of the fault and of the session behind it.
+use Rattle.std.proofs.Common.{◌≡◌, ◌⊎◌, inl, inr, Result, Ok, Err, refl, ap}
+use Rattle.std.specs.Prelude.{IfOk, IfErr, OnOk, OnErr}
+use Rattle.mh_session.specs.declared.command.Command.{Command}
+use Rattle.mh_session.specs.declared.command.SessionFault.{SessionFault}
+use Rattle.mh_session.specs.declared.command.SessionFault.TheVariants as faults
+use Rattle.mh_session.specs.Moments.{Moment}
+use Rattle.mh_session.specs.Answers.{Branches, Answer, answer, next}
+use Rattle.mh_session.specs.Standing.{StandsFor}
+use Rattle.mh_session.specs.Served.{IsServed, IsRefusedSo, IsTheirs}
+
+module _ (old new : Moment) (command : Command) where
+  refused_same : (f : SessionFault) → IsRefusedSo old command new f → new ≡ old
+  refused_same faults.UnknownName s = s.0
+  refused_same faults.NameTaken s = s.0
+  refused_same (faults.WrongPhase phase) s = s.0
+  refused_same faults.TooDeep s = s.0
+  refused_same faults.Memory s = s
+
+  refused_theirs : (f : SessionFault) → IsRefusedSo old command new f → (f ≡ faults.Memory) ⊎ IsTheirs old command (Err f)
+  refused_theirs faults.UnknownName s = inr s.1
+  refused_theirs faults.NameTaken s = inr s.1
+  refused_theirs (faults.WrongPhase phase) s = inr s.1
+  refused_theirs faults.TooDeep s = inr s.1
+  refused_theirs faults.Memory s = inl refl
+
+  pub served_reply : (r : Answer) → IsServed old command new r → IfOk r (λ x. (bs : Branches) → StandsFor old bs → answer old.table bs command ≡ Ok x)
+  served_reply (Ok reply) s = s.1
+  served_reply (Err fault) s = tt
+
+  pub served_next : (r : Answer) → IsServed old command new r → OnOk r ((bs : Branches) → StandsFor old bs → StandsFor new (next old.table bs command))
+  served_next (Ok reply) s = s.2
+  served_next (Err fault) s = tt
+
+  pub served_same : (r : Answer) → IsServed old command new r → OnErr r (new ≡ old)
+  served_same (Ok reply) s = tt
+  served_same (Err fault) s = refused_same fault s
+
+  pub served_fault : (r : Answer) → IsServed old command new r → IfErr r (λ f. (f ≡ faults.Memory) ⊎ ((bs : Branches) → StandsFor old bs → answer old.table bs command ≡ Err f))
+  served_fault (Ok reply) s = tt
+  served_fault (Err fault) s = refused_theirs fault s
+
+  pub served_table : (r : Answer) → IsServed old command new r → new.table ≡ old.table
+  served_table (Ok reply) s = s.0
+  served_table (Err fault) s = ap (λ (m : Moment). m.table) (refused_same fault s)
