@@ -1,8 +1,10 @@
 //! Sentences that were looked at, by the states that they fail in.
-ghost use Rattle.std.specs.Prelude.{◌≡◌, ◌+◌, ◌<◌, ◌^◌, [], ◌∷◌, ◌++◌, List, IfOk, OnOk, None, length};
+ghost use Rattle.std.specs.Prelude.{◌≡◌, ◌+◌, ◌<◌, ◌^◌, [], ◌∷◌, ◌++◌, List, IfOk, OnOk, MatchResult, None, length};
 ghost use Rattle.std.specs.List.{AllByRecursion};
 ghost use Rattle.mh_msgfile.specs.Messages.{IsOf};
-ghost use Rattle.mh_check.specs.Compiling.{Item, item, items_of, Placed, PlacesAll, PlacesMore, listed};
+ghost use Rattle.mh_msgfile.specs.declared.messages.MsgSentence.{MsgSentence as MsgSentence'};
+ghost use Rattle.mh_check.specs.Checks.{Breaks, FailsIn};
+ghost use Rattle.mh_check.specs.Compiling.{Item, item, items_of, Placed, PlacesAll, PlacesMore, Tells, listed};
 
 use crate::compiling::CheckFault;
 use mh_grammar::Memory;
@@ -39,6 +41,33 @@ fn no_places(alloc: Global, table: &Table) -> Result<Vec<Option<Place>>, Memory>
     Ok(places)
 }
 
+/// The state that refuses the last token of a sentence, or why none does.
+fn failing_state(alloc: Global, table: &Halting, sentence: &MsgSentence) -> Result<u32, CheckFault>
+    requires { IsOf (length table.now.grammar.starts) table.now.grammar.tokens sentence.now }
+    ensures known { IfOk result (λ state. state < length table.now.states) }
+    ensures fails { MatchResult result (λ state. FailsIn table.now sentence.now state) (λ fault. (earlier : List MsgSentence') → Tells fault (Breaks table.now earlier sentence.now)) }
+{
+    let line = sentence.line;
+    let tokens = sentence.tokens.as_slice();
+    let _facts = table.table();
+    let ended = match verdict(alloc, table, sentence.start, tokens) {
+        Ok(ended) => ended,
+        Err(Memory) => return Err(CheckFault::Memory),
+    };
+    match ended {
+        Verdict::Reject { at, state } if at as usize + 1 == tokens.len() => Ok(state),
+        Verdict::Reject { at, .. } => Err(CheckFault::RefusedEarly { line, at }),
+        Verdict::Accept { .. } => Err(CheckFault::NotRefused {
+            line,
+            verdict: ended,
+        }),
+        Verdict::Overshoot { .. } => Err(CheckFault::NotRefused {
+            line,
+            verdict: ended,
+        }),
+    }
+}
+
 /// Puts in a sentence that fails, where no other fails in its state.
 fn place_sentence(
     alloc: Global,
@@ -53,35 +82,20 @@ fn place_sentence(
     ensures places { (done : List Item) → Placed table.now done places.old.items → PlacesMore table.now done (item entry sentence.now ∷ []) places.new.items result }
 {
     let line = sentence.line;
-    let tokens = sentence.tokens.as_slice();
-    let _facts = table.table();
-    let ended = match verdict(alloc, table, sentence.start, tokens) {
-        Ok(ended) => ended,
-        Err(Memory) => return Err(CheckFault::Memory),
+    let state = match failing_state(alloc, table, sentence) {
+        Ok(state) => state,
+        Err(fault) => return Err(fault),
     };
-    match ended {
-        Verdict::Reject { at, state } if at as usize + 1 == tokens.len() => {
-            match places[state as usize] {
-                Some(earlier) => Err(CheckFault::SharedState {
-                    first: earlier.line,
-                    second: line,
-                    state,
-                }),
-                None => {
-                    places[state as usize] = Some(Place { line, entry });
-                    Ok(())
-                }
-            }
+    match places[state as usize] {
+        Some(earlier) => Err(CheckFault::SharedState {
+            first: earlier.line,
+            second: line,
+            state,
+        }),
+        None => {
+            places[state as usize] = Some(Place { line, entry });
+            Ok(())
         }
-        Verdict::Reject { at, .. } => Err(CheckFault::RefusedEarly { line, at }),
-        Verdict::Accept { .. } => Err(CheckFault::NotRefused {
-            line,
-            verdict: ended,
-        }),
-        Verdict::Overshoot { .. } => Err(CheckFault::NotRefused {
-            line,
-            verdict: ended,
-        }),
     }
 }
 

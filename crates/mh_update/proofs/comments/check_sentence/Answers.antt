@@ -1,6 +1,12 @@
 use Rattle.std.proofs.Common.{◌≡◌, []}
-use Rattle.mh_check.proofs.Placing.{early_by, accepted_by, overshot_by}
+use Rattle.mh_check.proofs.Placing.{fails_by, early_by, accepted_by, overshot_by}
 use Rattle.mh_update.proofs.comments.check_sentence.Goals as goal
+
+pub returns-in-Reject : goal.returns-in-Reject
+returns-in-Reject c = (
+  c.in-Reject.state,
+  fails_by c.args.table.now c.args.sentence.now _ c.as_slice-tokens.ensures c.in-Ok.ended c.in-Reject.at c.in-Reject.state c.requires c.in-Reject.is c.if-at-tokens.true c.in-Ok.ensures,
+)
 
 pub returns-in-Reject-2 : goal.returns-in-Reject-2
 returns-in-Reject-2 c =
