@@ -1,6 +1,5 @@
-use Rattle.std.proofs.Common.{arith, rules}
-use Rattle.std.proofs.lemmas.Grind.{common_steps}
+use Rattle.std.proofs.Common.{rules}
 use Rattle.mh_run.proofs.runs.overshot.Goals as goal
 
 pub returns : goal.returns
-returns c = first_of (search rules, grind (arith, common_steps))
+returns c = search rules
