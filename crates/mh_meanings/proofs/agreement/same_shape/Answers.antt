@@ -1,5 +1,5 @@
 use Rattle.std.proofs.Common.{rules}
-use Rattle.mh_duplicates.proofs.duplicates.same_shape.Goals as goal
+use Rattle.mh_meanings.proofs.agreement.same_shape.Goals as goal
 
 pub returns-then-first-rule : goal.returns-then-first-rule
 returns-then-first-rule c = search rules
