@@ -10,7 +10,9 @@ ghost use Rattle.mh_duplicates.specs.Once.{PutsOnce, PutsOwn};
 
 use indexmap::IndexSet;
 use mh_grammar::{Level, Name};
-use mh_meanings::{JoinFault, Kind, Names, Outline, is_public, marked_public, name_by, put_name};
+use mh_meanings::{
+    JoinFault, Kind, Names, is_public, marked_public, name_by, put_name, same_level, same_shape,
+};
 use mh_rules::{LevelDecl, Module, Ref, Rule, TokenDecl};
 use std::alloc::Global;
 
@@ -171,12 +173,6 @@ fn check_formals(alloc: Global, rules: &[Rule]) -> Result<(), JoinFault>
     Ok(())
 }
 
-fn same_shape(first: &Outline, rule: &Rule) -> bool
-    ensures { result ≡ spec.same_shape first.now rule.now }
-{
-    first.inlined == rule.inlined && first.formals == rule.formals.len() as u64
-}
-
 /// Whether a public rule is like its first definition.
 fn has_first_shape(names: &Names, rule: &Rule) -> bool
     ensures { result ≡ spec.agrees spec.same_shape ((meanings_in names.now).joined rule.now.name) rule.now }
@@ -237,7 +233,7 @@ fn check_level(names: &Names, level: Level, reference: &Ref) -> Result<(), JoinF
         return Ok(());
     };
     let agrees = match names.levels.get(name) {
-        Some(first) => first.file == level.file && first.rank == level.rank,
+        Some(first) => same_level(first, level),
         None => true,
     };
     require_one(agrees, name)

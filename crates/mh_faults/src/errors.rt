@@ -13,10 +13,11 @@ use mh_rules::{Actual, MAX_TOKENS, Module, Ref, Rule};
 fn check_start(names: &Names) -> Result<(), JoinFault>
     ensures { Finds (unless (has_some (meanings_in names.now).starts) JoinFault.NoStart) result }
 {
-    if names.starts.is_empty() {
-        return Err(JoinFault::NoStart);
+    if names.has_start() {
+        Ok(())
+    } else {
+        Err(JoinFault::NoStart)
     }
-    Ok(())
 }
 
 #[cycle(errors)]
@@ -92,10 +93,7 @@ fn check_prec(names: &Names, prec: &Option<Ref>) -> Result<(), JoinFault>
     ensures { Finds (unlevelled (meanings_in names.now) prec.now) result }
 {
     match prec {
-        Some(Ref::Plain(name)) => require_level(
-            names.tokens.contains(name) || names.levels.contains_key(name),
-            name,
-        ),
+        Some(Ref::Plain(name)) => require_level(names.is_levelled(name), name),
         _ => Ok(()),
     }
 }

@@ -1,6 +1,7 @@
 //! What several files of a grammar mean together: the definitions, and the names of the files looked up by hash.
 #![tactic(auto)]
 
+mod agreement;
 mod aliases;
 mod fault;
 mod formals;
@@ -11,6 +12,7 @@ mod numbering;
 mod outlines;
 mod publics;
 
+pub use agreement::{same_level, same_shape};
 pub use aliases::{Aliases, name_by};
 pub use fault::JoinFault;
 pub use formals::{Formals, formals_of};

@@ -1,8 +1,10 @@
 //! What the names and strings of several files stand for.
-ghost use Rattle.std.specs.Prelude.{◌≡◌, ◌≤◌, is_some, length};
+ghost use Rattle.std.specs.Prelude.{◌≡◌, ◌≤◌, ◌||◌, is_some, length};
+ghost use Rattle.std.specs.List.{list_any};
+ghost use Rattle.indexmap.specs.IndexMap.{get};
 ghost use Rattle.mh_meanings.specs.Names as spec;
-ghost use Rattle.mh_meanings.specs.Names.{user_head, visible_head};
-ghost use Rattle.mh_meanings.specs.Faults.{meant_by};
+ghost use Rattle.mh_meanings.specs.Names.{same, user_head, visible_head};
+ghost use Rattle.mh_meanings.specs.Faults.{has_some, meant_by};
 ghost use Rattle.mh_meanings.specs.Maps.{numbers_in, meanings_in, elsewhere_in, formals_in};
 
 use crate::aliases::Aliases;
@@ -167,6 +169,20 @@ impl Names {
             Ref::Plain(name) => self.head_of_name(file, formals, name),
             Ref::Alias(alias) => self.token_head(self.aliases.get(alias)?),
         }
+    }
+
+    /// Whether there is a start symbol.
+    pub fn has_start(&self) -> bool
+        ensures { result ≡ has_some self.now.starts.keys }
+    {
+        !self.starts.is_empty()
+    }
+
+    /// Whether a name is a token or has a level.
+    pub fn is_levelled(&self, name: &Name) -> bool
+        ensures { result ≡ (list_any (same name.now) self.now.tokens.keys || is_some (get same self.now.levels name.now)) }
+    {
+        self.tokens.contains(name) || self.levels.contains_key(name)
     }
 
     /// Whether a file other than this one defines this name.
