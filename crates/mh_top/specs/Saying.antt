@@ -7,7 +7,7 @@ use Rattle.mh_drive.specs.declared.stop.Stop.{Stop}
 use Rattle.mh_drive.specs.declared.stop.Stop.TheVariants.{Halted, ShelfFailed, InputFailed, WriteFailed, OutOfMemory}
 use Rattle.mh_top.specs.Run.{Behind, CouldWrite, CutOut, CutWarnings, Done, EndedSo, GotLines, IsDue, IsQuiet, IsStill, World}
 pub use Rattle.mh_saying.specs.Warnings.{Warned}
-pub use Rattle.mh_saying.specs.LastLine.{LastLine, Reported, Said, Silent, Failed, SaysLine}
+pub use Rattle.mh_saying.specs.LastLine.{LastLine, Reported, SaysLine}
 
 -- how the work went
 abbrev pub Worked : List Text → World → World → Result (Unit {0}) Stop → Type 0
