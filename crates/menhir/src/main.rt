@@ -2,7 +2,7 @@
 #![tactic(auto)]
 
 ghost use Rattle.std.specs.Process.{exit_status};
-ghost use Rattle.mh_top.specs.Saying.{SaysLine};
+ghost use Rattle.mh_saying.specs.LastLine.{SaysLine};
 
 use mh_devices::{FileShelf, StdSink, StdSource};
 use mh_outside::{Sink, write_whole};

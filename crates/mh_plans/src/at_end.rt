@@ -5,9 +5,10 @@ ghost use Rattle.mh_plans.specs.Plan.{End, EndsBy};
 ghost use Rattle.mh_plans.specs.Told.{ending_of};
 ghost use Rattle.mh_plans.specs.declared.at_end.Told.TheVariants.{Said};
 
-use mh_drive::{Asks, Cause, Mode, Stop, write_text};
+use mh_drive::{Asks, Mode, Stop, write_text};
 use mh_grammar::{Memory, Sequence};
 use mh_outside::Sink;
+use mh_saying::refusal;
 use std::alloc::Global;
 
 /// What writes the end of a mode.
@@ -76,9 +77,7 @@ pub fn tell<O: Sink>(out: &mut O, told: Told) -> Result<(), Stop>
 {
     match told {
         Told::Said { text } => write_text(out, text.as_slice()),
-        Told::Not { line } => Err(Stop::Halted {
-            cause: Cause::Refused { line },
-        }),
+        Told::Not { line } => Err(refusal(line)),
     }
 }
 

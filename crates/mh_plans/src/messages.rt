@@ -11,12 +11,13 @@ ghost use Rattle.mh_drive.specs.Stages.{FilesGive, Halts, ShelfCounts, StageHas}
 ghost use Rattle.mh_drive.specs.declared.stop.Cause.TheVariants.{Refused as Refused'};
 
 use mh_check::{CheckFault, Compiled, check_fault_line, compile, file_fault_line};
-use mh_drive::{Cause, Stop};
+use mh_drive::Stop;
 use mh_files::{Spelling, read_file};
 use mh_grammar::{Grammar, Memory, Sequence};
 use mh_msgfile::{MsgFault, MsgFile, read_messages};
 use mh_outside::Shelf;
 use mh_prepared::Prepared;
+use mh_saying::refusal;
 use mh_tables::Halting;
 use std::alloc::Global;
 
@@ -40,11 +41,7 @@ fn no_file(alloc: Global, name: &[u8], fault: &MsgFault) -> Stop
     ensures { TellsFile fault.now (λ found. Halts (Refused' (file_line name.now found)) result) }
 {
     match file_fault_line(alloc, name, fault) {
-        Ok(line) => Stop::Halted {
-            cause: Cause::Refused {
-                line: Sequence::from_vec(line),
-            },
-        },
+        Ok(line) => refusal(Sequence::from_vec(line)),
         Err(Memory) => Stop::OutOfMemory,
     }
 }
@@ -54,11 +51,7 @@ pub fn no_fit(alloc: Global, name: &[u8], fault: &CheckFault) -> Stop
     ensures { Tells fault.now (λ found. Halts (Refused' (check_line name.now found)) result) }
 {
     match check_fault_line(alloc, name, fault) {
-        Ok(line) => Stop::Halted {
-            cause: Cause::Refused {
-                line: Sequence::from_vec(line),
-            },
-        },
+        Ok(line) => refusal(Sequence::from_vec(line)),
         Err(Memory) => Stop::OutOfMemory,
     }
 }

@@ -1,4 +1,5 @@
 //! The choice of a width.
+ghost use Rattle.std.specs.Prelude.{◌≡◌, ◌≤◌, ◌*◌};
 
 /// Calls a function at the least width that holds so many tokens, of which there are at most 512:
 /// `with_width!(tokens; f; types; arguments)` is `f::<types, W>(arguments)`.
@@ -24,4 +25,19 @@ macro_rules! with_width {
             $f::<$($types,)* 8>($($arguments),*)
         }
     }};
+}
+
+fn width<const W: usize>() -> usize
+    ensures { result ≡ W }
+{
+    W
+}
+
+/// The width that the macro chooses: one that holds so many tokens.
+pub fn width_for(tokens: usize) -> usize
+    requires { tokens ≤ 512 }
+    ensures holds { tokens ≤ 64 * result }
+    ensures few { result ≤ 8 }
+{
+    with_width!(tokens; width;;)
 }

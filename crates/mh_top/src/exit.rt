@@ -6,6 +6,7 @@ ghost use Rattle.mh_top.specs.Run.{world, Ran};
 
 use crate::top::menhir;
 use mh_outside::{Shelf, Sink, Source};
+use mh_saying::exit_code;
 use std::alloc::Global;
 use std::process::ExitCode;
 
@@ -26,5 +27,5 @@ pub fn run<F: Shelf, I: Source, O: Sink, E: Sink>(
         (world F.files F.faults I.left I.faults O.written O.faults E.written E.faults
         shelf.new input.new out.new err.new) (exit_status result) }
 {
-    ExitCode::from(menhir(alloc, words, shelf, input, out, err))
+    exit_code(menhir(alloc, words, shelf, input, out, err))
 }

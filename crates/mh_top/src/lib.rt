@@ -2,9 +2,9 @@
 #![tactic(auto)]
 
 mod exit;
+mod following;
 mod laws;
 mod top;
-mod warning;
 
 pub use exit::run;
 pub use laws::{

@@ -1,5 +1,5 @@
 use Rattle.mh_top.proofs.Going.{accepted_followed, refused_followed, refused_read}
-use Rattle.mh_top.proofs.warning.go_on.Goals as goal
+use Rattle.mh_top.proofs.following.go_on.Goals as goal
 
 pub returns-then-is_refused-clause-ran : goal.returns-then-is_refused-clause-ran
 returns-then-is_refused-clause-ran g c = refused_followed (g.F.Shelf.files c.args.shelf.now) c.args.prepared.now _ c.refused.result _ _ c.if-is_refused.true c.is_refused.ensures c.refused.ensures

@@ -1,5 +1,5 @@
-use Rattle.mh_top.proofs.Reports.{both_written, first_cut}
-use Rattle.mh_top.proofs.top.write_both.Goals as goal
+use Rattle.mh_saying.proofs.Lines.{both_written, first_cut}
+use Rattle.mh_saying.proofs.last_line.write_both.Goals as goal
 
 pub returns-in-Ok-clause-bytes : goal.returns-in-Ok-clause-bytes
 returns-in-Ok-clause-bytes g c = both_written _ _ _ c.args.first.now c.args.second.now c.write_whole-in-Ok.result c.in-Ok.ensures.bytes c.write_whole-in-Ok.ensures.bytes

@@ -1,7 +1,7 @@
 use Rattle.std.proofs.Common.{ap, refl}
 use Rattle.mh_drive.specs.Text.{cannot_read}
-use Rattle.mh_top.proofs.Reports.{reported, silent}
-use Rattle.mh_top.proofs.top.report.Goals as goal
+use Rattle.mh_saying.proofs.Lines.{reported, silent}
+use Rattle.mh_saying.proofs.last_line.report.Goals as goal
 
 pub returns-in-Halted : goal.returns-in-Halted
 returns-in-Halted g c = reported _ _ _ _ _ _ _ _ _ _ c.in-Halted.is (refl, refl) refl c.say_cause.ensures

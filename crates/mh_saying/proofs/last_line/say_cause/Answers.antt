@@ -1,7 +1,7 @@
 use Rattle.std.proofs.Common.{ap, refl}
 use Rattle.mh_drive.specs.Text.{cannot_read, too_big}
-use Rattle.mh_top.proofs.Reports.{says_so}
-use Rattle.mh_top.proofs.top.say_cause.Goals as goal
+use Rattle.mh_saying.proofs.Lines.{says_so}
+use Rattle.mh_saying.proofs.last_line.say_cause.Goals as goal
 
 pub returns-in-Missing : goal.returns-in-Missing
 returns-in-Missing g c = says_so _ _ _ _ _ _ _ _ c.say-in-Missing.result c.in-Missing.is c.code-status.ensures (ap cannot_read c.as_slice-in-Missing.ensures) c.say-in-Missing.ensures

@@ -1,0 +1,40 @@
+//! What follows the warnings: the refusal by `--strict`, or the mode.
+ghost use Rattle.std.specs.Prelude.{◌≡◌, ◌≤◌};
+ghost use Rattle.std.specs.List.{All};
+ghost use Rattle.mh_drive.specs.Steps.{Counts, FileCounts};
+ghost use Rattle.mh_plans.specs.Files.{files_of_mode};
+ghost use Rattle.mh_plans.specs.Modes.{Followed};
+ghost use Rattle.mh_prepared.specs.Prepared.{IsFit};
+ghost use Rattle.mh_top.specs.Run.{IsTurnBehind};
+ghost use Rattle.mh_top.specs.Work.{IsPlanOf};
+
+use mh_drive::{Stop, refused};
+use mh_modes::follow;
+use mh_outside::{Shelf, Sink, Source};
+use mh_prepared::Prepared;
+use mh_saying::is_refused;
+use std::alloc::Global;
+
+/// Does what follows the warnings: under `--strict` a grammar is refused for what is warned of.
+pub(crate) fn go_on<F: Shelf, I: Source, O: Sink, const W: usize>(
+    alloc: Global,
+    prepared: &Prepared<W>,
+    shelf: &mut F,
+    input: &mut I,
+    out: &mut O,
+) -> Result<(), Stop>
+    requires few { W ≤ 8 }
+    requires fit { IsFit prepared.now }
+    requires asked { All (F.MayAsk shelf.old) (files_of_mode prepared.now.order) }
+    ensures ran { Followed (IsPlanOf (F.files shelf.old) prepared.now) (IsTurnBehind (F.files shelf.old) prepared.now)
+        (I.left input.old) (I.left input.new) (O.written out.old) (O.written out.new) result }
+    ensures counts { Counts (I.faults input.old) (I.faults input.new)
+        (O.faults out.old) (O.faults out.new) result }
+    ensures read { FileCounts (F.faults shelf.old) (F.faults shelf.new) result }
+    ensures kept { F.files shelf.new ≡ F.files shelf.old }
+{
+    if is_refused(prepared) {
+        return Err(refused(alloc, b"", b"", b""));
+    }
+    follow(alloc, prepared, shelf, input, out)
+}
