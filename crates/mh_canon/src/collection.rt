@@ -162,6 +162,14 @@ fn place<const W: usize>(
     ensures over { result ≡ Err StatesFault.TooManyStates → (at : ℕ) × Placed kernels.old.keys kernels.new.keys kernel.entry at × (MAX_STATES ≤ at) }
 {
     let at = insert(kernels, kernel)?;
+    number(at)
+}
+
+/// The number of the state at a place.
+fn number(at: usize) -> Result<u32, StatesFault>
+    ensures ok { IfOk result (λ n. (n ≡ at) × (n < MAX_STATES)) }
+    ensures over { result ≡ Err StatesFault.TooManyStates → MAX_STATES ≤ at }
+{
     if at >= MAX_STATES {
         return Err(StatesFault::TooManyStates);
     }

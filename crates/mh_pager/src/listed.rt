@@ -25,15 +25,37 @@ pub(crate) fn listed<const W: usize>(
     ensures few { IfOk result (λ l. length l.kernels.items ≤ MAX_STATES) }
     ensures over { result ≡ Err StatesFault.TooManyStates → IsSwollen (plain_of grammar.now) MAX_STATES }
 {
-    let mut mover = Mover::new(alloc, grammar)?;
     let mut listing = begun(alloc, grammar)?;
+    match settle(alloc, grammar, &mut listing) {
+        Ok(()) => Ok(listing),
+        Err(fault) => Err(fault),
+    }
+}
+
+/// Makes steps from the start kernels on.
+fn settle<const W: usize>(
+    alloc: Global,
+    grammar: &Grammar,
+    listing: &mut Listing<W>,
+) -> Result<(), StatesFault>
+    requires small { W ≤ 8 }
+    requires width { length grammar.now.tokens ≤ 64 * W }
+    requires range { IsInRange (plain_of grammar.now) }
+    requires begun { AreBegun (length grammar.now.starts) (work_of listing.old) }
+    requires kept { IsKept listing.old }
+    ensures ok { OnOk result (IsList (plain_of grammar.now) (work_of listing.new)) }
+    ensures done { OnOk result (listing.new.queue.states.items ≡ []) }
+    ensures few { OnOk result (length listing.new.kernels.items ≤ MAX_STATES) }
+    ensures over { result ≡ Err StatesFault.TooManyStates → IsSwollen (plain_of grammar.now) MAX_STATES }
+{
+    let mut mover = Mover::new(alloc, grammar)?;
     'steps: while let Some(state) = listing.queue.take_oldest() {
-        match step(alloc, grammar, &mut mover, &mut listing, state) {
+        match step(alloc, grammar, &mut mover, listing, state) {
             Ok(()) => {}
             Err(fault) => return Err(fault),
         }
     }
-    Ok(listing)
+    Ok(())
 }
 
 /// The start kernels, all queued.

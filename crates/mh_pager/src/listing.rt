@@ -1,9 +1,11 @@
 //! The list of states while the steps are made.
-ghost use Rattle.std.specs.Prelude.{◌≡◌, ◌<◌, ◌≤◌, ◌^◌, ◌++◌, ◌∷◌, [], ℕ, length, set, Err, IfOk, OnOk, IsTrue, ◌↔◌};
+ghost use Rattle.std.specs.Prelude.{◌≡◌, ◌<◌, ◌≤◌, ◌^◌, ◌++◌, ◌∷◌, [], ℕ, length, set, Err, IfOk, OnOk, IsTrue, MatchOption, ◌↔◌};
 ghost use Rattle.mh_grammar.specs.Plain.{plain_of, IsInRange};
 ghost use Rattle.mh_kernels.specs.Kernels.{IsItemList};
+ghost use Rattle.mh_kernels.specs.Shapes.{Kernel as KernelOf};
 ghost use Rattle.mh_pager.specs.Listing.{work_of, IsKept, IsGroupIn, TakesIn, AppendsIn, OneCoreAt};
-ghost use Rattle.mh_pager.specs.Steps.{Work, Keeps, HasNone, Puts, IsReady};
+ghost use Rattle.mh_pager.specs.Fits.{HasFit};
+ghost use Rattle.mh_pager.specs.Steps.{Work, Keeps, HasNone, IsFirst, Puts, IsReady};
 
 use crate::finding::{Fit, first_fitting};
 use crate::index::Index;
@@ -56,13 +58,7 @@ pub(crate) fn put<const W: usize>(
     ensures over { result ≡ Err StatesFault.TooManyStates → (n : ℕ) × (new : Work) × Puts (plain_of grammar.now) kernel.entry (work_of listing.old) new n × (MAX_STATES < length new.kernels) }
 {
     let core = listing.index.place(alloc, &kernel)?;
-    match first_fitting(
-        grammar,
-        listing.kernels.as_slice(),
-        listing.index.states[core].as_slice(),
-        &kernel,
-        Fit::Keeps,
-    ) {
+    match fitting(grammar, listing, core, &kernel, Fit::Keeps) {
         Some(n) => Ok(n),
         None => put_unkept(alloc, grammar, listing, core, kernel),
     }
@@ -89,19 +85,37 @@ fn put_unkept<const W: usize>(
     ensures kept { OnOk result (IsKept listing.new) }
     ensures over { result ≡ Err StatesFault.TooManyStates → (n : ℕ) × (new : Work) × Puts (plain_of grammar.now) kernel.entry (work_of listing.old) new n × (MAX_STATES < length new.kernels) }
 {
-    match first_fitting(
-        grammar,
-        listing.kernels.as_slice(),
-        listing.index.states[core].as_slice(),
-        &kernel,
-        Fit::Takes,
-    ) {
+    match fitting(grammar, listing, core, &kernel, Fit::Takes) {
         Some(n) => {
             take(alloc, grammar, listing, n, &kernel)?;
             Ok(n)
         }
         None => append(alloc, listing, core, kernel),
     }
+}
+
+/// The first state that fits a move, whose core stands at a place of the index.
+fn fitting<const W: usize>(
+    grammar: &Grammar,
+    listing: &Listing<W>,
+    core: usize,
+    kernel: &Kernel<W>,
+    fit: Fit,
+) -> Option<u32>
+    requires small { W ≤ 8 }
+    requires kernel { IsItemList (plain_of grammar.now) kernel.now }
+    requires ready { IsReady (plain_of grammar.now) (work_of listing.now) }
+    requires kept { IsKept listing.now }
+    requires group { IsGroupIn listing.now kernel.now core }
+    ensures { MatchOption result (HasNone (HasFit fit kernel.now) listing.now.kernels.items) (λ n. (k : KernelOf) × IsFirst (HasFit fit kernel.now) listing.now.kernels.items n k) }
+{
+    first_fitting(
+        grammar,
+        listing.kernels.as_slice(),
+        listing.index.states[core].as_slice(),
+        kernel,
+        fit,
+    )
 }
 
 /// Joins a move into a state, which is queued.

@@ -1,5 +1,5 @@
 //! The states that the starts reach, numbered breadth first.
-ghost use Rattle.std.specs.Prelude.{◌≡◌, ◌<◌, ◌≤◌, ℕ, Some, length, slice_get, IfOk, OnOk};
+ghost use Rattle.std.specs.Prelude.{◌≡◌, ◌<◌, ◌≤◌, [], ℕ, Some, length, slice_get, IfOk, OnOk};
 ghost use Rattle.std.specs.List.{All, AllZip};
 ghost use Rattle.mh_grammar.specs.Placed.{Placed};
 ghost use Rattle.mh_knuth.specs.Canonical.{targets_of};
@@ -27,17 +27,32 @@ pub(crate) fn reached(
 {
     let mut states = first_states(alloc, starts, rows.len())?;
     let mut edges = Vec::new(alloc);
+    reach(alloc, starts, rows, &mut states, &mut edges)?;
+    Ok((states, edges))
+}
+
+/// Adds the states that the starts lead to, and the edges of each state in turn.
+fn reach(
+    alloc: Global,
+    starts: usize,
+    rows: &[Sequence<Edge>],
+    states: &mut IndexSet<u32>,
+    edges: &mut Vec<Sequence<Edge>>,
+) -> Result<(), Memory>
+    requires starts { starts ≤ length rows.now }
+    requires few { length rows.now ≤ MAX_STATES }
+    requires closed { AreClosed rows.now }
+    requires first { states.old.keys ≡ range_with_len 0 starts }
+    requires none { edges.old.items ≡ [] }
+    ensures { OnOk result (AreReached starts rows.now states.new.keys edges.new.items) }
+{
+    let _starts = starts;
     'states: while edges.len() < states.len() {
         let state = states.as_slice()[edges.len()];
-        let row = renamed(
-            alloc,
-            rows[state as usize].as_slice(),
-            &mut states,
-            rows.len(),
-        )?;
+        let row = renamed(alloc, rows[state as usize].as_slice(), states, rows.len())?;
         edges.push(row)?;
     }
-    Ok((states, edges))
+    Ok(())
 }
 
 /// The numbers of the starts.

@@ -1,7 +1,8 @@
+use Rattle.std.proofs.lemmas.Result.{IfOk-weaker}
 use Rattle.mh_canon.proofs.collection.place.Goals as goal
 
-pub returns-then-at-ge-MAX_STATES-clause-over : goal.returns-then-at-ge-MAX_STATES-clause-over
-returns-then-at-ge-MAX_STATES-clause-over _ c _ = (c.in_ok-at.at, c.in_ok-at.ensures, c.if-at-ge-MAX_STATES.true)
-
 pub returns-clause-ok : goal.returns-clause-ok
-returns-clause-ok _ c = (c.in_ok-at.ensures, c.if-at-ge-MAX_STATES.false)
+returns-clause-ok _ c = IfOk-weaker c.number.result _ _ (λ n h. (rw h.0 c.in_ok-at.ensures, h.1)) c.number.ensures.ok
+
+pub returns-clause-over : goal.returns-clause-over
+returns-clause-over _ c full = (c.in_ok-at.at, c.in_ok-at.ensures, c.number.ensures.over full)

@@ -1,36 +1,24 @@
-use Rattle.std.proofs.Common.{◌≡◌, ◌<◌, ◌≤◌, Some, length, refl, sym, ◌∙◌, arith, rules}
-use Rattle.std.specs.List.{slice_get}
+use Rattle.std.proofs.Common.{◌≤◌, length, sym, ◌∙◌, arith, rules}
 use Rattle.std.proofs.lemmas.Bool.{false≢true}
-use Rattle.std.proofs.lemmas.Option.{slice_get_read, slice_get_within}
+use Rattle.std.proofs.lemmas.Option.{slice_get_within}
 use Rattle.mh_grammar.specs.Plain.{plain_of, rhs_of}
-use Rattle.mh_kernels.specs.Kernels.{IsKernelItem}
-use Rattle.mh_grammar.proofs.Lists.{recursion_at}
 use Rattle.mh_kernels.proofs.Sides.{short_rhs}
 use Rattle.mh_items.proofs.Advancing.{MovedSoFar-push, MovedSoFar-skip, moved_of}
+use Rattle.mh_items.proofs.Standing.{item_at, item_is}
 use Rattle.mh_items.proofs.moves.moved.Goals as goal
 use Rattle.mh_items.proofs.moves.moved.Goals.{then-is_before+in_ok-push, else-is_before}
 
 pub is_before-requires : goal.is_before-requires
 is_before-requires g c =
-    let g = plain_of c.args.grammar.now in
-    let items = c.args.closed.now.items in
-    let i = c.loop-item.item-index in
-    let y = c.item-item.result in
-    let same = c.as_slice-item-items.ensures in
-    let short : i < length items = rw same at c.loop-item-test.true in
-    let at : slice_get items i ≡ Some y = slice_get_read items (length items) i y refl short (rw same at c.item-item.is) in
-    (search rules, (c.requires.range, (recursion_at (IsKernelItem g) items c.requires.kernel.items i y at).production))
+    let item = item_is _ _ c.as_slice-item-items.ensures _ _ c.loop-item-test.true c.item-item.is (plain_of c.args.grammar.now) c.requires.kernel.items in
+    (search rules, (c.requires.range, item.production))
 
 pub advanced-requires : goal.advanced-requires
 advanced-requires g c =
     let g = plain_of c.args.grammar.now in
-    let items = c.args.closed.now.items in
-    let i = c.loop-item.item-index in
     let y = c.item-item.result in
-    let same = c.as_slice-item-items.ensures in
-    let short : i < length items = rw same at c.loop-item-test.true in
-    let at : slice_get items i ≡ Some y = slice_get_read items (length items) i y refl short (rw same at c.item-item.is) in
-    let few = short_rhs g c.requires.range y.production (recursion_at (IsKernelItem g) items c.requires.kernel.items i y at).production in
+    let item = item_is _ _ c.as_slice-item-items.ensures _ _ c.loop-item-test.true c.item-item.is g c.requires.kernel.items in
+    let few = short_rhs g c.requires.range y.production item.production in
     let within = slice_get_within (rhs_of g y.production) y.dot c.args.symbol (c.is_before.ensures.0 c.if-is_before.true) in
     omega arith
 
@@ -41,9 +29,7 @@ loop-item-preserved g c =
     let out = c.loop-item.items.items in
     let i = c.loop-item.item-index in
     let y = c.item-item.result in
-    let same = c.as_slice-item-items.ensures in
-    let short : i < length items = rw same at c.loop-item-test.true in
-    let at : slice_get items i ≡ Some y = slice_get_read items (length items) i y refl short (rw same at c.item-item.is) in
+    let at = item_at _ items c.as_slice-item-items.ensures i y c.loop-item-test.true c.item-item.is in
     elim c.if-is_before.branch [
       | then-is_before+in_ok-push w ↦ rw (w.items-is, w.in_ok-push.ensures.items, w.advanced.ensures)
           (MovedSoFar-push g c.args.symbol items out i y c.requires.kernel c.loop-item.invariant at (c.is_before.ensures.0 w.if-is_before.true))

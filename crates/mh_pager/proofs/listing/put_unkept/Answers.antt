@@ -1,6 +1,5 @@
-use Rattle.std.proofs.Common.{◌≡◌, ◌<◌, Some, length, refl, sym, subst, ◌∙◌, rules}
-use Rattle.std.specs.List.{slice_get}
-use Rattle.std.proofs.lemmas.Option.{slice_get_read, slice_get_within}
+use Rattle.std.proofs.Common.{◌≡◌, ◌<◌, Some, length, sym, subst, ◌∙◌, rules}
+use Rattle.std.proofs.lemmas.Option.{slice_get_within}
 use Rattle.mh_grammar.specs.Plain.{plain_of}
 use Rattle.mh_kernels.specs.Shapes.{Kernel}
 use Rattle.mh_kernels.specs.Kernels.{Holds}
@@ -8,22 +7,14 @@ use Rattle.mh_pager.specs.Weak.{OneCore}
 use Rattle.mh_knuth.specs.declared.limits.TheConstants.{MAX_STATES}
 use Rattle.mh_pager.specs.Listing.{work_of, OneCoreAt}
 use Rattle.mh_pager.proofs.Combining.{if_ok, taken, appended, overflown}
-use Rattle.mh_pager.proofs.Indexing.{candidates_of}
 use Rattle.mh_pager.proofs.listing.put_unkept.Goals as goal
 
-pub first_fitting-requires : goal.first_fitting-requires
-first_fitting-requires g c =
-    let kernels = c.args.listing.now.kernels.items in
-    let index = c.args.listing.now.index in
-    let states = index.states.items in
-    let group = c.requires.group in
-    let read : slice_get states c.args.core ≡ Some c.index.result.now = slice_get_read states (length states) c.args.core c.index.result.now refl (slice_get_within states c.args.core group.group group.of) c.index.ensures in
-    let candidates = candidates_of kernels index.cores.keys states c.requires.kept.indexed c.args.kernel c.args.core c.index.result.now group.at read in
-    (search rules, (c.requires.small, (rw c.as_slice.ensures.value c.requires.ready.valid, (c.requires.kernel, rw (c.as_slice.ensures.value, c.as_slice-2.ensures) candidates))))
+pub fitting-requires : goal.fitting-requires
+fitting-requires g c = (search rules, (search rules, (c.requires.small, (c.requires.kernel, (c.requires.ready, (c.requires.kept, c.requires.group))))))
 
 pub take-requires : goal.take-requires
 take-requires g c =
-    let first = rw c.as_slice.ensures.value at c.in-Some.ensures in
+    let first = c.in-Some.ensures in
     let kernels = c.args.listing.now.kernels.items in
     let within : c.in-Some.n < length kernels = slice_get_within kernels c.in-Some.n first.0 first.1.at in
     let P : Kernel → Type 0 = λ k. OneCore (Holds k) (Holds c.args.kernel) in
@@ -32,15 +23,15 @@ take-requires g c =
 
 pub returns-in_ok-take-in-Some-clause-ok : goal.returns-in_ok-take-in-Some-clause-ok
 returns-in_ok-take-in-Some-clause-ok g c =
-    let first = rw c.as_slice.ensures.value at c.in-Some.ensures in
+    let first = c.in-Some.ensures in
     taken (plain_of c.args.grammar.now) c.args.kernel (work_of c.args.listing.now) (work_of c.take.new.listing) c.in-Some.n c.requires.unkept first.0 first.1 c.in_ok-take-in-Some.ensures.work
 
 pub returns-in-None-clause-ok : goal.returns-in-None-clause-ok
 returns-in-None-clause-ok g c =
-    let untaken = rw c.as_slice.ensures.value at c.in-None.ensures in
+    let untaken = c.in-None.ensures in
     if_ok c.append.result c.append.ensures.ok (λ n a. appended (plain_of c.args.grammar.now) c.args.kernel (work_of c.args.listing.now) (work_of c.append.new.listing) n c.requires.unkept untaken a)
 
 pub returns-in-None-clause-over : goal.returns-in-None-clause-over
 returns-in-None-clause-over g c e =
-    let untaken = rw c.as_slice.ensures.value at c.in-None.ensures in
+    let untaken = c.in-None.ensures in
     overflown (plain_of c.args.grammar.now) c.args.kernel (work_of c.args.listing.now) MAX_STATES c.requires.unkept untaken (c.append.ensures.over e)

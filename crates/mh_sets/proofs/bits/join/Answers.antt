@@ -1,5 +1,5 @@
 use Rattle.std.proofs.Common.{arith, length, ◌≡◌}
-use Rattle.std.proofs.lemmas.Grind.{same_number_lists}
+use Rattle.std.proofs.lemmas.Grind.{common_steps, same_number_lists}
 use Rattle.mh_sets.proofs.Places.{join_bits, join_each}
 use Rattle.mh_sets.proofs.bits.join.Goals as goal
 
@@ -15,3 +15,11 @@ returns-clause-bits c =
 
 pub returns-clause-same : goal.returns-clause-same
 returns-clause-same c e = same_number_lists c.words.words c.args.words.now c.words.auto.words (λ k l. c.words.invariant.same e k (omega arith))
+
+pub words-preserved : goal.words-preserved
+words-preserved c = record {
+  joined = grind (arith, common_steps);
+  rest = grind (arith, common_steps);
+  same = grind (arith, common_steps);
+  differs = grind (arith, common_steps);
+}

@@ -1,11 +1,11 @@
-use Rattle.std.proofs.Common.{◌≡◌, ◌<◌, ◌≤◌, Some, length, refl, arith, rules, inl, inr}
+use Rattle.std.proofs.Common.{◌≡◌, ◌≤◌, Some, length, refl, arith, rules, inl, inr}
 use Rattle.std.specs.List.{slice_get}
 use Rattle.std.proofs.lemmas.Bool.{cases_eq}
 use Rattle.std.proofs.lemmas.Option.{slice_get_read, slice_get_within}
-use Rattle.mh_grammar.proofs.Lists.{at_contains, recursion_at, same_at}
+use Rattle.mh_grammar.proofs.Lists.{at_contains, same_at}
 use Rattle.mh_grammar.specs.Plain.{plain_of}
-use Rattle.mh_kernels.specs.Kernels.{IsKernelItem}
 use Rattle.mh_items.proofs.Emptying.{AsksNone, complete_there}
+use Rattle.mh_items.proofs.Standing.{item_is}
 use Rattle.mh_items.proofs.closer.Closer.adds_complete.Goals as goal
 
 pub loop-item-init : goal.loop-item-init
@@ -13,14 +13,9 @@ loop-item-init g c = λ k n item l. absurd (omega arith)
 
 pub asks_for-requires : goal.asks_for-requires
 asks_for-requires g c =
-    let items = c.args.kernel.now.items in
-    let i = c.loop-item.item-index in
-    let y = c.item-item.result in
-    let same = c.as_slice-item-items.ensures in
-    let short : i < length items = rw same at c.loop-item-test.true in
-    let at : slice_get items i ≡ Some y = slice_get_read items (length items) i y refl short (rw same at c.item-item.is) in
+    let item = item_is _ _ c.as_slice-item-items.ensures _ _ c.loop-item-test.true c.item-item.is (plain_of c.args.grammar.now) c.requires.kernel.items in
     let marks : length c.as_slice.result.now ≡ length c.args.grammar.now.nonterminals = rw c.as_slice.ensures.value (omega (arith, c.requires.closer.marks, c.args.self.now.empties.ok.0)) in
-    (search rules, (c.requires.few, (c.requires.range, (recursion_at (IsKernelItem (plain_of c.args.grammar.now)) items c.requires.kernel.items i y at, marks))))
+    (search rules, (c.requires.few, (c.requires.range, (item, marks))))
 
 pub loop-item-preserved : goal.loop-item-preserved
 loop-item-preserved g c = λ k n item l at stands.

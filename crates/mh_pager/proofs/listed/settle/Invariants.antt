@@ -5,7 +5,7 @@ use Rattle.mh_pager.specs.Listing.{work_of, IsKept}
 use Rattle.mh_pager.specs.Steps.{IsList}
 use Rattle.mh_moves.specs.Mover.{IsMover}
 use Rattle.mh_pager.proofs.Weights.{weight}
-use Rattle.mh_pager.proofs.listed.listed.Given as goal
+use Rattle.mh_pager.proofs.listed.settle.Given as goal
 
 abbrev pub invariant-steps : goal.invariant-steps
 invariant-steps g l = record {

@@ -1,7 +1,7 @@
 use Rattle.std.proofs.Common.{◌-◌, vec_len}
 use Rattle.mh_knuth.specs.declared.limits.TheConstants.{MAX_STATES}
 use Rattle.mh_pager.proofs.Reaching.{Reaching}
-use Rattle.mh_pager.proofs.numbering.reached.Given as goal
+use Rattle.mh_pager.proofs.numbering.reach.Given as goal
 
 abbrev pub invariant-states : goal.invariant-states
 invariant-states l = Reaching l.starts l.rows l.states.keys l.edges.items

@@ -1,9 +1,9 @@
 use Rattle.std.proofs.Common.{◌≡◌, ◌<◌, length, get_or, arith}
 use Rattle.mh_pager.proofs.Reaching.{Reaching-start, Reaching-step, AreReached-done, next_state, next_row, below_few}
-use Rattle.mh_pager.proofs.numbering.reached.Goals as goal
+use Rattle.mh_pager.proofs.numbering.reach.Goals as goal
 
 pub states-init : goal.states-init
-states-init c = rw (c.in_ok-states.ensures, c.new-edges.ensures.items) (Reaching-start c.args.starts c.args.rows.now c.requires.starts)
+states-init c = rw (c.requires.first, c.requires.none) (Reaching-start c.args.starts c.args.rows.now c.requires.starts)
 
 pub renamed-requires-clause-targets : goal.renamed-requires-clause-targets
 renamed-requires-clause-targets c =
