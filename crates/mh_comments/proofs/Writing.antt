@@ -1,5 +1,5 @@
 -- How comment lines are put together.
-use Rattle.std.proofs.Common.{◌≡◌, ℕ, ◌-◌, ◌<◌, List, [], ◌++◌, length, get_or, sym, ◌∙◌, ap, subst, append_assoc}
+use Rattle.std.proofs.Common.{◌≡◌, ℕ, ◌-◌, ◌<◌, List, [], ◌∷◌, ◌++◌, length, get_or, sym, ◌∙◌, ap, subst, append_assoc}
 use Rattle.mh_grammar.specs.declared.types.Grammar.{Grammar}
 use Rattle.mh_grammar.specs.Plain.{plain_of}
 use Rattle.mh_kernels.specs.Shapes.{Automaton, Kernel, KernelItem}
@@ -15,7 +15,8 @@ use Rattle.mh_run.specs.Verdicts.{ending_for}
 use Rattle.mh_run.specs.declared.outcome.Verdict.{Verdict}
 use Rattle.mh_run.specs.declared.outcome.Verdict.TheVariants as verdicts
 use Rattle.mh_grammar.specs.Text.{Text}
-use Rattle.mh_comments.specs.Comments.{IsCommentText, WritesComments, comments}
+use Rattle.std.specs.Prelude.{codes}
+use Rattle.mh_comments.specs.Comments.{IsCommentText, WritesComments, comments, message_here}
 use Rattle.mh_tables.proofs.Refusing.{state_refused}
 
 -- four pieces behind a text
@@ -24,6 +25,16 @@ pieces old a b c d t1 t2 t3 t4 e1 e2 e3 e4 =
     e4
     ∙ ap (λ (t : Text). t ++ d) (e3 ∙ ap (λ (t : Text). t ++ c) (e2 ∙ ap (λ (t : Text). t ++ b) e1 ∙ append_assoc old a b) ∙ append_assoc old (a ++ b) c)
     ∙ append_assoc old (a ++ b ++ c) d
+
+-- three pieces behind a text
+pub three_pieces : (old a b c t1 t2 t3 : Text) → t1 ≡ old ++ a → t2 ≡ t1 ++ b → t3 ≡ t2 ++ c → t3 ≡ old ++ (a ++ b ++ c)
+three_pieces old a b c t1 t2 t3 e1 e2 e3 = e3 ∙ ap (λ (t : Text). t ++ c) (e2 ∙ ap (λ (t : Text). t ++ b) e1 ∙ append_assoc old a b) ∙ append_assoc old (a ++ b) c
+
+pub entry_is : (old sentence comments slice t1 t2 t3 t4 : Text) → old ≡ [] → t1 ≡ old ++ sentence → t2 ≡ t1 ++ 10 ∷ [] → slice ≡ comments → t3 ≡ t2 ++ slice → t4 ≡ t3 ++ codes "\n<YOUR SYNTAX ERROR MESSAGE HERE>\n\n"
+    → t4 ≡ sentence ++ codes "\n" ++ comments ++ message_here
+unfolding message_here
+entry_is old sentence comments slice t1 t2 t3 t4 none e1 e2 same e3 e4 =
+    pieces old sentence (codes "\n") comments message_here t1 t2 t3 t4 e1 e2 (e3 ∙ ap (λ (l : Text). t2 ++ l) same) e4 ∙ ap (λ (t : Text). t ++ (sentence ++ codes "\n" ++ comments ++ message_here)) none
 
 -- the items of a state's kernel
 pub kernel_has : (a : Automaton) (s : ℕ) (kernel : Kernel) (items : List KernelItem) → s < length a.kernels → kernel ≡ get_or a.kernels s kernel → items ≡ kernel.items → items ≡ (kernel_at a s).items

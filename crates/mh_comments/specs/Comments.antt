@@ -12,7 +12,7 @@ use Rattle.mh_tables.specs.Failing.{Fails}
 use Rattle.mh_run.specs.Trace.{TraceOf}
 use Rattle.mh_msgfile.specs.Printed.{sentence_text}
 use Rattle.mh_grammar.specs.Text.{Text}
-use Rattle.mh_report.specs.Items.{names_after, production_text, item_lines}
+use Rattle.mh_notation.specs.Items.{names_after, production_text, item_lines}
 
 -- the first of the items whose dot is as far as any
 pub record IsFarthest (items : List KernelItem) (item : KernelItem) : Type 0 where

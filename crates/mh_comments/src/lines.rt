@@ -5,13 +5,13 @@ ghost use Rattle.mh_grammar.specs.Plain.{plain_of};
 ghost use Rattle.mh_kernels.specs.Kernels.{IsKernelItem};
 ghost use Rattle.mh_kernels.specs.Automaton.{IsAutomaton, kernel_at};
 ghost use Rattle.mh_tables.specs.Failing.{Fails};
-ghost use Rattle.mh_report.specs.Items.{names_after};
+ghost use Rattle.mh_notation.specs.Items.{names_after};
 ghost use Rattle.mh_comments.specs.Comments.{IsFarthest, before_dot, ends_in, suffix_follows, suffix_comment, reduced_comment, reduced_comments, WritesComments, IsCommentText, IsEntryText};
 
 use mh_grammar::{Grammar, Memory, Symbol, Token};
 use mh_kernels::{Automaton, KernelItem};
 use mh_msgfile::write_sentence;
-use mh_report::{write_item_lines, write_names, write_number, write_production};
+use mh_notation::{write_item_lines, write_names, write_number, write_production};
 use mh_run::{Verdict, trace};
 use mh_tables::Halting;
 use std::alloc::Global;
@@ -31,7 +31,6 @@ fn farthest<const W: usize>(items: &[KernelItem<W>]) -> &KernelItem<W>
     best
 }
 
-#[tactic(auto, unfolding(crate::specs::Comments::ends_in))]
 fn write_state(alloc: Global, text: &mut Vec<u8>, state: u32) -> Result<(), Memory>
     ensures { OnOk result (text.new.items ≡ text.old.items ++ ends_in state) }
 {
@@ -167,7 +166,6 @@ pub fn comment_lines<const W: usize>(
 
 /// The entry of a sentence that fails, as a messages file has it before its message is written: the sentence, its comment lines, an
 /// empty line, a line to write the message in, and an empty line. Fails for want of memory alone.
-#[tactic(auto, unfolding(crate::specs::Comments::message_here))]
 pub fn entry_text<const W: usize>(
     alloc: Global,
     grammar: &Grammar,

@@ -1,8 +1,9 @@
 //! Messages files: blocks of sentence lines, and behind each the block that is its message.
 ghost use Rattle.std.specs.Prelude.{◌≡◌, ◌<◌, ◌≤◌, ◌^◌, ◌∷◌, ◌++◌, [], length, filter, Err, IfOk, OnOk};
+ghost use Rattle.std.specs.List.{list_all};
 ghost use Rattle.mh_grammar.specs.Plain.{plain_of, IsInRange};
 ghost use Rattle.mh_grammar.specs.declared.types.Grammar.{Grammar as Grammar'};
-ghost use Rattle.mh_msgfile.specs.Sentences.{vocabulary_in, vocabulary_of, LineFound, FirstPiece, blank_count, piece_size, runs, ReadsSentence};
+ghost use Rattle.mh_msgfile.specs.Sentences.{vocabulary_in, vocabulary_of, LineFound, FirstPiece, is_blank as is_separator, blank_count, piece_size, runs, ReadsSentence};
 ghost use Rattle.mh_msgfile.specs.Messages.{AreLines, line_at as line_text, is_taken_out as has_number_sign, is_kept, kept_lines as kept, is_blank_line as is_blank_number, blocks, first_number, message_of as message_text, AreOf, given, ReadsMessages, ReadsBlock, ReadsEntry, TellsLast, ReadsEntries, TellsLine};
 
 use crate::lexicon::Lexicon;
@@ -107,11 +108,18 @@ fn kept_lines(alloc: Global, lines: &[Name]) -> Result<Vec<u32>, Memory>
     Ok(numbers)
 }
 
+/// Whether nothing but blanks stands in a line.
+fn is_blank_text(line: &[u8]) -> bool
+    ensures { result ≡ list_all is_separator line.now }
+{
+    line.iter().all(|byte| is_blank(*byte))
+}
+
 /// Whether nothing but blanks stands in the line of this number.
 fn is_blank_line(lines: &[Name], number: u32) -> bool
     ensures { result ≡ is_blank_number lines.now number }
 {
-    line_at(lines, number).iter().all(|byte| is_blank(*byte))
+    is_blank_text(line_at(lines, number))
 }
 
 /// How many lines in front are blank.

@@ -1,24 +1,16 @@
 -- How the texts of an automaton are put together.
 use Rattle.std.proofs.Common.{◌≡◌, ◌<◌, ℕ, suc, List, ◌++◌, length, get_or, refl, ap, sym, subst, ◌∙◌, append_assoc}
 use Rattle.std.specs.Prelude.{Result, Ok, Err, OnOk}
-use Rattle.std.specs.List.{All}
-use Rattle.std.proofs.lemmas.List.Elements.{All-from_recursion}
 use Rattle.mh_grammar.specs.declared.types.Grammar.{Grammar}
 use Rattle.mh_grammar.specs.declared.edges.Edge.{Edge}
-use Rattle.mh_grammar.specs.Plain.{plain_of}
 use Rattle.mh_kernels.specs.Shapes.{Kernel}
 use Rattle.mh_kernels.specs.Shapes.{KernelItem}
 use Rattle.mh_kernels.specs.Shapes.{Automaton}
-use Rattle.mh_kernels.specs.Kernels.{IsKernelItem}
-use Rattle.mh_kernels.specs.Automaton.{IsAutomaton, kernel_at, edges_at}
+use Rattle.mh_kernels.specs.Automaton.{kernel_at, edges_at}
 use Rattle.mh_tables.specs.Table.{TableData, fallback_of}
-use Rattle.mh_cells.proofs.Resolving.{kernel_is, edges_are, items_of}
+use Rattle.mh_cells.proofs.Resolving.{kernel_is, edges_are}
 use Rattle.mh_grammar.specs.Text.{Text}
 use Rattle.mh_report.specs.Automata.{head_line, kernel_lines, goto_lines, AreActionLines, IsStateText, AreStateTexts, Adds}
-
-pub kernel_items : (g : Grammar) (a : Automaton) → IsAutomaton (plain_of g) a → (n : ℕ) (kernel : Kernel) (items : List KernelItem) → n < length a.kernels → kernel ≡ get_or a.kernels n kernel → items ≡ kernel.items → All (IsKernelItem (plain_of g)) items
-kernel_items g a h n kernel items lt e f =
-    subst (All (IsKernelItem (plain_of g))) (sym f) (All-from_recursion (IsKernelItem (plain_of g)) kernel.items (items_of g a h n kernel lt e).items)
 
 pub kernel_text_is : (g : Grammar) (a : Automaton) (n : ℕ) (kernel : Kernel) (items : List KernelItem) (old new : Text) → n < length a.kernels → kernel ≡ get_or a.kernels n kernel → items ≡ kernel.items
     → new ≡ old ++ kernel_lines g items → new ≡ old ++ kernel_lines g (kernel_at a n).items

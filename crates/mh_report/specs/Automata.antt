@@ -18,7 +18,7 @@ use Rattle.mh_cells.specs.declared.kinds.Mode.{Mode}
 use Rattle.mh_cells.specs.States.{state_of}
 use Rattle.mh_cells.specs.Holes.{AreHoles}
 use Rattle.mh_grammar.specs.Text.{Text}
-use Rattle.mh_report.specs.Items.{production_text, item_lines}
+use Rattle.mh_notation.specs.Items.{production_text, item_lines}
 
 abbrev pub title : Mode → ℕ → Text
 title mode states = mode_name mode ++ codes ": " ++ decimal states ++ codes " states\n"

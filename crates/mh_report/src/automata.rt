@@ -9,13 +9,13 @@ ghost use Rattle.mh_tables.specs.Table.{cell_of, fallback_of};
 ghost use Rattle.mh_cells.specs.declared.kinds.Mode.{Mode as ModeOf};
 ghost use Rattle.mh_cells.specs.States.{IsTableOf};
 ghost use Rattle.mh_cells.specs.Names.{mode_name};
-ghost use Rattle.mh_report.specs.Items.{production_text};
+ghost use Rattle.mh_notation.specs.Items.{production_text};
 ghost use Rattle.mh_report.specs.Automata.{title, kernel_lines, cell_line, cell_lines, goto_line, goto_lines, head_line, AreActionLines, IsStateText, IsAutomatonText, Adds};
 
-use crate::items::{write_between, write_item_lines, write_production};
 use mh_cells::{Mode, holes_of};
 use mh_grammar::{Edge, Grammar, Memory, Symbol, Token, nonterminal_name, token_name};
 use mh_kernels::{Automaton, KernelItem};
+use mh_notation::{write_between, write_item_lines, write_production};
 use mh_tables::{Action, Fallback, Halting, Table};
 use std::alloc::Global;
 

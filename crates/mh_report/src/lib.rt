@@ -2,9 +2,8 @@
 #![tactic(auto)]
 
 mod automata;
-mod items;
 mod warnings;
 
 pub use automata::{automaton_text, mode_name};
-pub use items::{look_name, write_item_lines, write_names, write_number, write_production};
+pub use mh_notation::{look_name, write_item_lines, write_names, write_number, write_production};
 pub use warnings::warning_text;

@@ -2,9 +2,9 @@
 ghost use Rattle.std.specs.Prelude.{◌≡◌, ◌++◌, IfOk, OnOk};
 ghost use Rattle.mh_report.specs.Warnings.{conflict_place, unsolved_line, stream_line, warning_line, warning_lines};
 
-use crate::items::{look_name, write_between};
 use mh_cells::{Conflict, ConflictKind};
 use mh_grammar::{Grammar, Look, Memory};
+use mh_notation::{look_name, write_between};
 use std::alloc::Global;
 
 #[tactic(auto, unfolding(crate::specs::Warnings::conflict_place))]

@@ -1,6 +1,6 @@
 //! Runs on whole sentences.
-ghost use Rattle.std.specs.Prelude.{◌<◌, ◌^◌, length, IfOk, All};
-ghost use Rattle.mh_tables.specs.Run.{VerdictOf};
+ghost use Rattle.std.specs.Prelude.{◌≡◌, ◌<◌, ◌^◌, length, IfOk, All};
+ghost use Rattle.mh_tables.specs.Run.{VerdictOf, Overshot, Rejected, top_of};
 ghost use Rattle.mh_run.specs.code.Following.{RunsSo};
 ghost use Rattle.mh_run.specs.Verdicts.{ending_for};
 
@@ -27,6 +27,28 @@ pub fn verdict(
     Ok(verdict)
 }
 
+/// The end of a run whose state on top refuses the token at this place.
+fn refused(stack: &[u32], at: usize) -> Verdict
+    requires some { 0 < length stack.now }
+    requires few { at < 2 ^ 32 }
+    ensures { ending_for result ≡ Rejected at (top_of stack.now) }
+{
+    Verdict::Reject {
+        at: at as u32,
+        state: stack[stack.len() - 1],
+    }
+}
+
+/// The end of a run whose state on top asks for a token where none is left.
+fn overshot(stack: &[u32]) -> Verdict
+    requires { 0 < length stack.now }
+    ensures { ending_for result ≡ Overshot (top_of stack.now) }
+{
+    Verdict::Overshoot {
+        state: stack[stack.len() - 1],
+    }
+}
+
 /// The run of a start on a sentence, with what goes along.
 pub(crate) fn run<F: Follow>(
     alloc: Global,
@@ -50,13 +72,7 @@ pub(crate) fn run<F: Follow>(
                 stack.push(target)?;
             }
             Choice::Accept => return Ok(Verdict::Accept { read: at as u32 }),
-            Choice::Refuse => {
-                let state = stack[stack.len() - 1];
-                return Ok(Verdict::Reject {
-                    at: at as u32,
-                    state,
-                });
-            }
+            Choice::Refuse => return Ok(refused(stack.as_slice(), at)),
             Choice::Ask => unreachable!(),
             Choice::Reduce(_) => unreachable!(),
         }
@@ -65,10 +81,7 @@ pub(crate) fn run<F: Follow>(
         Choice::Accept => Ok(Verdict::Accept {
             read: sentence.len() as u32,
         }),
-        Choice::Ask => {
-            let state = stack[stack.len() - 1];
-            Ok(Verdict::Overshoot { state })
-        }
+        Choice::Ask => Ok(overshot(stack.as_slice())),
         Choice::Refuse => unreachable!(),
         Choice::Shift(_) => unreachable!(),
         Choice::Reduce(_) => unreachable!(),

@@ -1,5 +1,5 @@
 use Rattle.std.proofs.Common.{◌≡◌, ◌<◌, length, rules, arith}
-use Rattle.mh_report.proofs.Parts.{kernel_items}
+use Rattle.mh_notation.proofs.Kernels.{kernel_items}
 use Rattle.mh_comments.proofs.Writing.{refuses, state_below, kernel_has, some_item, commented}
 use Rattle.mh_comments.proofs.lines.comment_lines.Goals as goal
 

@@ -1,7 +1,8 @@
 use Rattle.std.proofs.Common.{◌≡◌, ◌++◌, rules}
 use Rattle.mh_kernels.specs.Automaton.{kernel_at}
 use Rattle.mh_report.specs.Automata.{kernel_lines}
-use Rattle.mh_report.proofs.Parts.{kernel_items, kernel_text_is, on_ok}
+use Rattle.mh_notation.proofs.Kernels.{kernel_items}
+use Rattle.mh_report.proofs.Parts.{kernel_text_is, on_ok}
 use Rattle.mh_report.proofs.automata.write_kernel.Goals as goal
 
 pub write_item_lines-requires : goal.write_item_lines-requires

@@ -1,6 +1,6 @@
 use Rattle.std.proofs.Common.{◌≡◌, ◌++◌, drop}
-use Rattle.mh_report.specs.Items.{item_lines}
-use Rattle.mh_report.proofs.items.write_item_lines.Given as goal
+use Rattle.mh_notation.specs.Items.{item_lines}
+use Rattle.mh_notation.proofs.items.write_item_lines.Given as goal
 
 abbrev pub invariant-loop-item : goal.invariant-loop-item
 invariant-loop-item g l = record {

@@ -1,6 +1,6 @@
 use Rattle.std.proofs.Common.{◌≡◌, ◌++◌}
-use Rattle.mh_report.specs.Items.{looks_after}
-use Rattle.mh_report.proofs.items.write_looks.Given as goal
+use Rattle.mh_notation.specs.Items.{looks_after}
+use Rattle.mh_notation.proofs.items.write_looks.Given as goal
 
 abbrev pub invariant-loop-look : goal.invariant-loop-look
 invariant-loop-look g l = record {

@@ -1,6 +1,6 @@
 use Rattle.std.proofs.Common.{◌≡◌, ◌++◌, drop}
-use Rattle.mh_report.specs.Items.{names_after}
-use Rattle.mh_report.proofs.items.write_names.Given as goal
+use Rattle.mh_notation.specs.Items.{names_after}
+use Rattle.mh_notation.proofs.items.write_names.Given as goal
 
 abbrev pub invariant-loop-symbol : goal.invariant-loop-symbol
 invariant-loop-symbol l = record {

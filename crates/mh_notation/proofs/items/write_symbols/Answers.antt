@@ -2,8 +2,8 @@ use Rattle.std.proofs.Common.{◌≡◌, ◌++◌, ◌∙◌, ℕ, List, Option,
 use Rattle.std.specs.Prelude.{OnOk, codes}
 use Rattle.mh_grammar.specs.declared.types.Symbol.{Symbol}
 use Rattle.mh_grammar.specs.Text.{Text}
-use Rattle.mh_report.specs.Items.{names_after, symbols_text}
-use Rattle.mh_report.proofs.items.write_symbols.Goals as goal
+use Rattle.mh_notation.specs.Items.{names_after, symbols_text}
+use Rattle.mh_notation.proofs.items.write_symbols.Goals as goal
 
 pub returns-in-Some : goal.returns-in-Some
 returns-in-Some c =

@@ -4,7 +4,7 @@ ghost use Rattle.std.specs.List.{All};
 ghost use Rattle.mh_grammar.specs.Plain.{plain_of, rhs_of};
 ghost use Rattle.mh_kernels.specs.Kernels.{IsKernelItem};
 ghost use Rattle.mh_cells.specs.Names.{look_name};
-ghost use Rattle.mh_report.specs.Items.{names_after, symbols_text, left_side, production_text, looks_after, kernel_text, item_line, item_lines};
+ghost use Rattle.mh_notation.specs.Items.{names_after, symbols_text, left_side, production_text, looks_after, kernel_text, item_line, item_lines};
 
 use mh_grammar::{
     Grammar, Look, Memory, Symbol, left_side_name, nonterminal_name, symbol_name, token_name,
@@ -22,8 +22,8 @@ pub fn write_number(alloc: Global, text: &mut Vec<u8>, number: u32) -> Result<()
     Ok(())
 }
 
-/// Writes a number between two texts.
-pub(crate) fn write_between(
+/// Writes a number between two texts. Fails for want of memory alone; then a front of them may be written.
+pub fn write_between(
     alloc: Global,
     text: &mut Vec<u8>,
     before: &[u8],

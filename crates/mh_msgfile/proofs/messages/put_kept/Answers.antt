@@ -1,0 +1,8 @@
+use Rattle.std.proofs.Common.{rules}
+use Rattle.mh_msgfile.proofs.messages.put_kept.Goals as goal
+
+pub returns-in_ok-push : goal.returns-in_ok-push
+returns-in_ok-push c = search rules
+
+pub returns-else-not-is_taken_out : goal.returns-else-not-is_taken_out
+returns-else-not-is_taken_out c = search rules
