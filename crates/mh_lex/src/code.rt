@@ -161,12 +161,12 @@ fn step_at(ends: Ends, rest: &[u8]) -> Step
     ensures within { Within (length rest.now) result }
 {
     if let Some(closing) = closing_length(ends, rest) {
-        Step::Closes(closing)
-    } else if passes_comments(ends) && starts_comment(rest) {
-        Step::Remark
-    } else {
-        plain_step(ends, rest)
+        return Step::Closes(closing);
     }
+    if passes_comments(ends) && starts_comment(rest) {
+        return Step::Remark;
+    }
+    plain_step(ends, rest)
 }
 
 /// What stands at a place inside of code.

@@ -52,7 +52,7 @@ pub(crate) fn word_length(rest: &[u8]) -> usize
 fn is_free(taken: bool, byte: u8, wanted: u8) -> bool
     ensures { result ≡ (not taken && byte == wanted) }
 {
-    !taken && byte == wanted
+    if taken { false } else { byte == wanted }
 }
 
 /// How many bytes there are up to and with a string's closing quote.

@@ -1,7 +1,7 @@
 //! Lines of a source, read a byte at a time.
-ghost use Rattle.std.specs.Prelude.{◌≡◌, ◌<◌, ◌^◌, List, ℕ, Option, length};
+ghost use Rattle.std.specs.Prelude.{◌≡◌, ◌<◌, ◌^◌, List, ℕ, Option, MatchOption, length};
 ghost use Rattle.mh_outside.specs.declared.lines.LineFault.TheVariants.{Failed as Failed'};
-ghost use Rattle.mh_outside.specs.Lines.{ReadsByte, ReadsLine, FindsLine, LineCounts};
+ghost use Rattle.mh_outside.specs.Lines.{AddsByte, ReadsByte, ReadsLine, FindsLine, LineCounts};
 ghost use Rattle.mh_outside.specs.Faults.{Counts};
 
 use crate::{Failed, Source};
@@ -40,6 +40,29 @@ fn read_byte<S: Source>(source: &mut S) -> Result<Option<u8>, Failed>
     }
 }
 
+/// The line at the end of the input, where a byte is in it.
+fn last_line(line: Vec<u8>) -> Option<Vec<u8>>
+    ensures { MatchOption result (length line.items ≡ 0) (λ last. (last.items ≡ line.items) × (0 < length last.items)) }
+{
+    if line.is_empty() {
+        return None;
+    }
+    Some(line)
+}
+
+/// Adds a byte to a line of at most so many bytes.
+fn add_byte(line: &mut Vec<u8>, byte: u8, limit: usize) -> Result<(), LineFault>
+    ensures { AddsByte limit line.old.items line.new.items byte result }
+{
+    if line.len() >= limit {
+        return Err(LineFault::TooBig);
+    }
+    if line.push(byte).is_err() {
+        return Err(LineFault::Memory);
+    }
+    Ok(())
+}
+
 /// What `read_line` does, said by the bytes that it takes.
 fn take_line<S: Source>(
     alloc: Global,
@@ -52,17 +75,12 @@ fn take_line<S: Source>(
     let mut line = Vec::new(alloc);
     loop {
         match read_byte(source)? {
-            None => return Ok(if line.is_empty() { None } else { Some(line) }),
+            None => return Ok(last_line(line)),
             Some(LF) => return Ok(Some(line)),
-            Some(byte) => {
-                let is_full = line.len() == limit;
-                if is_full {
-                    return Err(LineFault::TooBig);
-                }
-                if line.push(byte).is_err() {
-                    return Err(LineFault::Memory);
-                }
-            }
+            Some(byte) => match add_byte(&mut line, byte, limit) {
+                Ok(()) => (),
+                Err(fault) => return Err(fault),
+            },
         }
     }
 }
