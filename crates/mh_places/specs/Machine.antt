@@ -101,6 +101,10 @@ token_of name o c = record { name = name; alias = o; cost = c }
 abbrev pub with_token : Module → TokenDecl → Module
 with_token m t = record m { tokens = m.tokens ++ t ∷ [] }
 
+abbrev pub is_quoted : Sign → Bool
+is_quoted signs.Quoted = true
+is_quoted _ = false
+
 abbrev pub at_token : Module → List ℕ → Option ℕ → Sign → List ℕ → Option Reader
 at_token m name c signs.Quoted text = goes m (places.TokenAliased (token_of name (Some text) c))
 at_token m name c g text = at_items (with_token m (token_of name None c)) lists.Tokens g text

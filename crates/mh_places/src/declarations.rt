@@ -1,8 +1,9 @@
 //! Declarations and their lists.
-ghost use Rattle.std.specs.Prelude.{◌≡◌, ◌∷◌, ◌++◌, [], IfOk};
+ghost use Rattle.std.specs.Prelude.{◌≡◌, ◌∷◌, ◌++◌, [], IfOk, Some};
 ghost use Rattle.mh_places.specs.Signs.{is_capital};
 ghost use Rattle.mh_places.specs.Machine as machine;
 ghost use Rattle.mh_places.specs.Machine.{Refers};
+ghost use Rattle.mh_places.specs.declared.places.Place.TheVariants as variants;
 
 use crate::places::{Listing, Place, Purpose, Reader, Refusal, go_to, lost, no_memory, unexpected};
 use crate::signs::{Sign, is_capital_word};
@@ -232,9 +233,43 @@ pub fn at_type(alloc: Global, made: Module, sign: Sign) -> Result<Reader, Refusa
 pub fn at_parameter(made: Module, sign: Sign) -> Result<Reader, Refusal>
     ensures { Refers (machine.at_parameter made sign) result }
 {
+    if let Sign::TypeText = sign {
+        return go_to(made, Place::Declarations);
+    }
+    unexpected(made)
+}
+
+/// Whether a lexeme is an alias.
+fn is_alias(sign: Sign) -> bool
+    ensures { result ≡ machine.is_quoted sign }
+{
     match sign {
-        Sign::TypeText => go_to(made, Place::Declarations),
-        _ => unexpected(made),
+        Sign::Quoted => true,
+        _ => false,
+    }
+}
+
+/// Where a token's alias leads.
+fn alias_place(name: Name, alias: Name, cost: Option<u32>) -> Place
+    ensures { result ≡ variants.TokenAliased (machine.token_of name (Some alias) cost) }
+{
+    let alias = Some(alias);
+    Place::TokenAliased(TokenDecl { name, alias, cost })
+}
+
+/// A token's alias.
+fn with_alias(
+    alloc: Global,
+    made: Module,
+    name: Name,
+    cost: Option<u32>,
+    text: &[u8],
+) -> Result<Reader, Refusal>
+    ensures { Refers (machine.goes made (variants.TokenAliased (machine.token_of name (Some text.now) cost))) result }
+{
+    match from_bytes(alloc, text) {
+        Ok(alias) => go_to(made, alias_place(name, alias, cost)),
+        Err(_) => no_memory((made, name)),
     }
 }
 
@@ -249,23 +284,15 @@ pub fn at_token(
 ) -> Result<Reader, Refusal>
     ensures { Refers (machine.at_token made name cost sign text.now) result }
 {
-    match sign {
-        Sign::Quoted => match from_bytes(alloc, text) {
-            Ok(alias) => {
-                let alias = Some(alias);
-                go_to(made, Place::TokenAliased(TokenDecl { name, alias, cost }))
-            }
-            Err(_) => no_memory((made, name)),
-        },
-        _ => {
-            let token = TokenDecl {
-                name,
-                alias: None,
-                cost,
-            };
-            at_items(alloc, add_token(made, token)?, Listing::Tokens, sign, text)
-        }
+    if is_alias(sign) {
+        return with_alias(alloc, made, name, cost, text);
     }
+    let token = TokenDecl {
+        name,
+        alias: None,
+        cost,
+    };
+    at_aliased(alloc, made, token, sign, text)
 }
 
 /// Behind a token's alias.

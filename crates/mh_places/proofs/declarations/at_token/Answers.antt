@@ -1,8 +1,12 @@
-use Rattle.std.proofs.Common.{sym, subst}
+use Rattle.std.proofs.Common.{sym, subst, ◌∙◌}
 use Rattle.mh_places.specs.Machine.{Refers}
-use Rattle.mh_places.proofs.Steps.{token_else}
+use Rattle.mh_places.proofs.Steps.{token_with, token_without}
 use Rattle.mh_places.proofs.declarations.at_token.Goals as goal
 
-pub returns-in_ok-add_token-in_default : goal.returns-in_ok-add_token-in_default
-returns-in_ok-add_token-in_default c =
-    subst (λ step. Refers step c.at_items.result) (sym (token_else c.args.made c.args.name c.args.cost c.args.sign c.args.text.now c.in_default.not-Quoted)) (rw c.in_ok-add_token-in_default.ensures at c.at_items.ensures)
+pub returns-then-is_alias : goal.returns-then-is_alias
+returns-then-is_alias c =
+    subst (λ step. Refers step c.with_alias.result) (sym (token_with c.args.made c.args.name c.args.cost c.args.sign c.args.text.now (sym c.is_alias.ensures ∙ c.if-is_alias.true))) c.with_alias.ensures
+
+pub returns : goal.returns
+returns c =
+    subst (λ step. Refers step c.at_aliased.result) (sym (token_without c.args.made c.args.name c.args.cost c.args.sign c.args.text.now (sym c.is_alias.ensures ∙ c.if-is_alias.false))) c.at_aliased.ensures
