@@ -1,15 +1,22 @@
 //! The edges of a state beside the moves of its closure.
 ghost use Rattle.std.specs.Prelude.{◌≡◌, ◌<◌, ◌≤◌, ◌↔◌, length, IsTrue, IfOk};
 ghost use Rattle.std.specs.List.{AllZip};
+ghost use Rattle.mh_grammar.specs.Names.{symbol_name as name_of_symbol};
 ghost use Rattle.mh_validate.specs.Leading.{Leads, IsRowOf, edges_on as edges_of_moves};
 
 use crate::header::is_named;
 use crate::targets::is_kernel_within;
-use mh_grammar::{Edge, Grammar, Memory, Sequence, symbol_name};
+use mh_grammar::{Edge, Grammar, Memory, Name, Sequence, Symbol, symbol_name};
 use mh_kernels::Kernel;
 use mh_moves::Move;
 use mh_tabform::RawEdge;
 use std::alloc::Global;
+
+fn is_on(grammar: &Grammar, symbol: Symbol, name: &Name) -> bool
+    ensures { IsTrue result ↔ (name.now ≡ name_of_symbol grammar.now symbol) }
+{
+    is_named(name, symbol_name(grammar, symbol))
+}
 
 fn leads<const W: usize>(
     grammar: &Grammar,
@@ -20,7 +27,7 @@ fn leads<const W: usize>(
     requires few { W ≤ 8 }
     ensures { IsTrue result ↔ Leads grammar.now kernels.now found.now raw.now }
 {
-    if !is_named(&raw.symbol, symbol_name(grammar, found.symbol)) {
+    if !is_on(grammar, found.symbol, &raw.symbol) {
         return false;
     }
     if raw.target as usize >= kernels.len() {
