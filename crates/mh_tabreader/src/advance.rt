@@ -15,7 +15,7 @@ use std::alloc::Global;
 use std::mem;
 
 /// Why a line is not taken.
-#[derive(Clone, Copy, Drop)]
+#[derive(Clone, Copy)]
 pub(crate) enum Refusal {
     Unexpected,
     Memory,

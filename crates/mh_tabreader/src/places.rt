@@ -4,7 +4,7 @@ use mh_grammar::{Name, Sequence};
 use mh_tabform::{RawCell, RawEdge, RawItem, RawProduction, RawState};
 
 /// What the first word of a line may be.
-#[derive(Clone, Copy, Drop)]
+#[derive(Clone, Copy)]
 pub(crate) enum Kind {
     Head,
     Tokens,
@@ -22,7 +22,7 @@ pub(crate) enum Kind {
 }
 
 /// Which line may come next. The numbers are those of productions or states that are still to come.
-#[derive(Clone, Copy, Drop)]
+#[derive(Clone, Copy)]
 pub(crate) enum Place {
     Head,
     Tokens,

@@ -1,13 +1,13 @@
 //! Table files, read.
-ghost use Rattle.std.specs.Prelude.{◌≡◌, ◌<◌, ◌≤◌, ◌+◌, ◌^◌, ◌==◌, ℕ, max, map, length, IfOk, Err, Ok, ◌⊎◌};
+ghost use Rattle.std.specs.Prelude.{◌≡◌, ◌<◌, ◌≤◌, ◌+◌, ◌^◌, ◌==◌, ℕ, max, map, length, IfOk, Err, Ok, ◌⊎◌, true, false};
 ghost use Rattle.std.specs.List.{slice_split};
 ghost use Rattle.mh_tabform.specs.declared.types.RawTable.{RawTable as Raw};
 ghost use Rattle.mh_tabform.specs.Form.{IsFileOf};
 ghost use Rattle.mh_tabreader.specs.Reading.{IsOtherVersion, IsReading};
-ghost use Rattle.mh_tabreader.specs.code.Machine.{start, finish};
+ghost use Rattle.mh_tabreader.specs.code.Machine.{start, next, finish, Goes};
 ghost use Rattle.mh_tabreader.specs.code.Words;
 ghost use Rattle.mh_tabreader.specs.code.Lines;
-ghost use Rattle.mh_tabreader.specs.code.Lines.{lines_in, Reaches, EndsAt, is_other_head as is_head_of_other};
+ghost use Rattle.mh_tabreader.specs.code.Lines.{words_of, lines_in, Reaches, HasRead, EndsAt, is_other_head as is_head_of_other};
 
 use crate::advance::{Refusal, advance};
 use crate::places::{Place, Reader};
@@ -18,7 +18,7 @@ use mh_tabform::RawTable;
 use std::alloc::{AllocError, Global};
 
 /// Why bytes are no table file.
-#[derive(Clone, Copy, Debug, Drop, PartialEq, Eq)]
+#[derive(Clone, Copy)]
 pub enum TabFault {
     /// The file is of another version.
     Version,
@@ -91,17 +91,24 @@ fn fresh(alloc: Global) -> Reader
     }
 }
 
-/// Reads lines.
-fn read_lines(alloc: Global, parts: &[&[u8]]) -> Result<Reader, TabFault>
-    requires { length parts.now < 2 ^ 32 }
-    ensures { Reaches (lines_in (map (λ x. x.now) parts.now)) result }
+/// One line more, cut into its words.
+fn read_line(alloc: Global, reader: &mut Reader, part: &[u8]) -> Result<(), Refusal>
+    ensures { Goes (next reader.old (words_of part.now)) reader.new result }
 {
-    let mut reader = fresh(alloc);
+    let Ok(words) = cut(alloc, part, b' ') else {
+        return Err(Refusal::Memory);
+    };
+    advance(alloc, reader, words.as_slice())
+}
+
+/// Reads lines with a reader that has read none.
+fn read_with(alloc: Global, reader: &mut Reader, parts: &[&[u8]]) -> Result<(), TabFault>
+    requires fresh { reader.old ≡ start }
+    requires few { length parts.now < 2 ^ 32 }
+    ensures { HasRead (lines_in (map (λ x. x.now) parts.now)) reader.new result }
+{
     for (at, part) in parts.iter().enumerate() {
-        let Ok(words) = cut(alloc, part, b' ') else {
-            return Err(TabFault::Memory);
-        };
-        match advance(alloc, &mut reader, words.as_slice()) {
+        match read_line(alloc, reader, part) {
             Ok(()) => {}
             Err(Refusal::Unexpected) => {
                 return Err(TabFault::TabShape {
@@ -111,7 +118,27 @@ fn read_lines(alloc: Global, parts: &[&[u8]]) -> Result<Reader, TabFault>
             Err(Refusal::Memory) => return Err(TabFault::Memory),
         }
     }
-    Ok(reader)
+    Ok(())
+}
+
+/// Reads lines.
+fn read_lines(alloc: Global, parts: &[&[u8]]) -> Result<Reader, TabFault>
+    requires { length parts.now < 2 ^ 32 }
+    ensures { Reaches (lines_in (map (λ x. x.now) parts.now)) result }
+{
+    let mut reader = fresh(alloc);
+    match read_with(alloc, &mut reader, parts) {
+        Ok(()) => Ok(reader),
+        Err(fault) => Err(fault),
+    }
+}
+
+/// A line that is not of the form. What was read is let go in one call: letting go of a reader takes long to prove.
+fn misplaced<T: Drop>(read: T, line: u32) -> Result<RawTable, TabFault>
+    ensures { result ≡ Err (TabFault.TabShape line) }
+{
+    drop(read);
+    Err(TabFault::TabShape { line })
 }
 
 /// The table, where the file may end here.
@@ -128,8 +155,46 @@ fn ended(reader: Reader, line: u32) -> Result<RawTable, TabFault>
             productions: reader.productions,
             states: reader.states,
         }),
-        _ => Err(TabFault::TabShape { line }),
+        _ => misplaced(reader, line),
     }
+}
+
+/// Whether something stands behind the last LF.
+fn is_open(last: &[u8]) -> bool
+    ensures open { result ≡ true → 0 < length last.now }
+    ensures closed { result ≡ false → length last.now ≤ 0 }
+{
+    last.len() > 0
+}
+
+/// The table of a file that is cut into its lines and what stands behind the last LF, where its version is a known one.
+fn read_known(alloc: Global, bytes: &[u8], parts: &[&[u8]]) -> Result<RawTable, TabFault>
+    requires cut { map (λ x. x.now) parts.now ≡ slice_split (λ b. b == 10) bytes.now }
+    requires some { 0 < length parts.now }
+    requires few { length parts.now < 2 ^ 32 }
+    ensures { IsReading bytes.now result }
+{
+    let _bytes = bytes;
+    let count = parts.len() - 1;
+    let reader = match read_lines(alloc, &parts[..count]) {
+        Ok(reader) => reader,
+        Err(fault) => return Err(fault),
+    };
+    if is_open(parts[count]) {
+        return misplaced(reader, count as u32 + 1);
+    }
+    ended(reader, line_of(count as u32))
+}
+
+/// Whether a file that is cut into its lines and what stands behind the last LF is of another version.
+fn is_other(alloc: Global, bytes: &[u8], parts: &[&[u8]]) -> Result<bool, AllocError>
+    requires cut { map (λ x. x.now) parts.now ≡ slice_split (λ b. b == 10) bytes.now }
+    requires some { 0 < length parts.now }
+    ensures { IfOk result (λ other. (other ≡ true → IsOtherVersion bytes.now) × (other ≡ false → IsOtherVersion bytes.now → ⊥)) }
+{
+    let _bytes = bytes;
+    let head = cut(alloc, parts[0], b' ')?;
+    Ok(is_other_head(head.as_slice()))
 }
 
 /// The table of a file that is cut into its lines and what stands behind the last LF.
@@ -140,24 +205,13 @@ fn read_parts(alloc: Global, bytes: &[u8], parts: &[&[u8]]) -> Result<RawTable, 
     ensures reading { IsReading bytes.now result }
     ensures other { IsOtherVersion bytes.now → (result ≡ Err TabFault.Version) ⊎ (result ≡ Err TabFault.Memory) }
 {
-    let _bytes = bytes;
-    let count = parts.len() - 1;
-    let Ok(head) = cut(alloc, parts[0], b' ') else {
+    let Ok(other) = is_other(alloc, bytes, parts) else {
         return Err(TabFault::Memory);
     };
-    if is_other_head(head.as_slice()) {
+    if other {
         return Err(TabFault::Version);
     }
-    let reader = match read_lines(alloc, &parts[..count]) {
-        Ok(reader) => reader,
-        Err(fault) => return Err(fault),
-    };
-    if parts[count].len() > 0 {
-        return Err(TabFault::TabShape {
-            line: count as u32 + 1,
-        });
-    }
-    ended(reader, line_of(count as u32))
+    read_known(alloc, bytes, parts)
 }
 
 /// The last line of so many, and 1 where there is none.

@@ -50,6 +50,11 @@ Reaches ls (Err faults.Version) = ⊥
 Reaches ls (Err (faults.TabShape n)) = IsMisplaced ls n
 Reaches ls (Err faults.Memory) = Unit {0}
 
+-- the same, of a reader that is lent
+abbrev pub HasRead : {X : Type 0} → List Line → Reader → Result X TabFault → Type 0
+HasRead ls r (Ok x) = Reaches ls (Ok r)
+HasRead ls r (Err fault) = Reaches ls (Err fault)
+
 -- the file ends here, or may not
 abbrev pub EndsAt : Option RawTable → ℕ → Result RawTable TabFault → Type 0
 EndsAt o at (Ok raw) = o ≡ Some raw
