@@ -21,7 +21,7 @@ use indexmap::IndexSet;
 use mh_grammar::{Memory, Name, Sequence, TokenInfo};
 use mh_rules::{
     Expanded, Head, Instance, InstanceProduction, Joined, JoinedAlternative, JoinedRule,
-    MAX_INSTANCES,
+    MAX_INSTANCES, Part,
 };
 use std::alloc::Global;
 
@@ -273,10 +273,17 @@ fn expand_alternative(
             Err(fault) => return Err(fault),
         }
     }
-    Ok(InstanceProduction {
+    Ok(production_of(alternative, rhs))
+}
+
+/// The alternative with what its producers stand for.
+fn production_of(alternative: &JoinedAlternative, rhs: Sequence<Part>) -> InstanceProduction
+    ensures { result ≡ record { file = alternative.now.file; place = alternative.now.place; rhs = rhs; prec = alternative.now.prec } }
+{
+    InstanceProduction {
         file: alternative.file,
         place: alternative.place,
         rhs,
         prec: alternative.prec,
-    })
+    }
 }

@@ -29,4 +29,4 @@ returns-in-Err-clause-err c = λ before t e s.
 pub returns-clause-ok : goal.returns-clause-ok
 returns-clause-ok c = λ before t e s.
     let v = rw (take_all c.loop-producer.producer-index c.as_slice-producer-items.result.now c.loop-producer-test.false ∙ c.as_slice-producer-items.ensures) at (c.loop-producer.invariant.through before t e s) in
-    record { went = v.went; made = record { file = refl; place = refl; rhs = v.parts; prec = refl } }
+    rw c.production_of.ensures (record { went = v.went; made = record { file = refl; place = refl; rhs = v.parts; prec = refl } })
