@@ -1,11 +1,6 @@
-pub mod Building
-pub mod Changing
 pub mod Limits
 pub mod Only
-pub mod Knowing
 pub mod Producing
 pub mod Ranges
 pub mod Sentences
 pub mod OriginOrder
-pub mod Lasting
-pub mod Moved

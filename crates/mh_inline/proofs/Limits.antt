@@ -20,11 +20,10 @@ use Rattle.mh_cycles.specs.Instances.{IsAlternative}
 use Rattle.mh_rules.specs.Ready.{IsExpandedReady}
 use Rattle.mh_cycles.specs.Unfoldings.{own, Unfolds}
 use Rattle.mh_cycles.specs.Sizes.{longest, AreSmall, AreAllSized, IsSizing, IsWithin}
-use Rattle.mh_inline.specs.Known.{IsOriginKnown}
-use Rattle.mh_inline.specs.Uses.{KnowsUsed}
+use Rattle.mh_unfoldings.specs.Uses.{KnowsUsed}
 use Rattle.mh_inline.specs.Inlined as inlined
 use Rattle.mh_inline.specs.Inlined.{is_kept, nonterminal_of, number_of, production_of, IsOrigin, AreOrigins, AreProductions, IsInlined}
-use Rattle.mh_inline.specs.Making.{longest_side, IsOriginsSize, AreOriginsSmall}
+use Rattle.mh_inline.specs.Making.{longest_side, IsOriginKnown, IsOriginsSize, AreOriginsSmall}
 use Rattle.mh_inline.specs.Faults.{IsSmall, IsOver}
 use Rattle.mh_cycles.proofs.Choices.{append_same}
 use Rattle.mh_cycles.proofs.Same.{unfolds_same, small_part}

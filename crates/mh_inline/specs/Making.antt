@@ -17,6 +17,7 @@ use Rattle.mh_cycles.specs.declared.sizes.Size.{Size}
 use Rattle.mh_cycles.specs.Instances.{IsAlternative}
 use Rattle.mh_rules.specs.Ready.{IsPartBelow}
 use Rattle.mh_cycles.specs.Unfoldings.{own, Unfolds}
+use Rattle.mh_unfoldings.specs.Known.{AreKnown}
 use Rattle.mh_inline.specs.Inlined.{number_of, level_of, production_of, IsOrigin, IsOriginBefore, AreProductions}
 
 -- the number of each instance, as a list
@@ -72,3 +73,7 @@ pub record AddsOrigin (tokens : List TokenInfo) (is : List Instance) (s : Origin
 abbrev pub token_else : Part → Option ℕ → Option ℕ
 token_else (Token a) last = Some a
 token_else (Applied n) last = last
+
+-- the unfoldings of the inline producers in the alternative of an origin are known
+pub record IsOriginKnown (is : List Instance) (known : List (List Unfolding)) (s : Origin) : Type 0 where
+  pub each : (p : InstanceProduction) → IsAlternative is s.instance s.alternative p → AreKnown is known p.rhs

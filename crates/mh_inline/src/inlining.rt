@@ -1,5 +1,5 @@
 //! The grammar of instances, or the first fault.
-ghost use Rattle.std.specs.Prelude.{◌≡◌, ◌<◌, true, false, length, slice_index_or, IfOk, IfErr, MatchOption};
+ghost use Rattle.std.specs.Prelude.{◌≡◌, ◌<◌, true, false, length, slice_index_or, IfOk, IfErr, IfNone, MatchOption};
 ghost use Rattle.std.specs.List.{All};
 ghost use Rattle.mh_grammar.specs.Plain.{plain_of, IsInRange};
 ghost use Rattle.mh_grammar.specs.Numbering.{AreDistinct};
@@ -16,11 +16,11 @@ use crate::fault::InlineFault;
 use crate::nonterminals::{nonterminals_of, numbers_of, starts_of};
 use crate::origins::{Origin, origins_of};
 use crate::productions::{productions_of, size_of_origins};
-use crate::unfoldings::unfold_inline;
 use mh_cycles::{Search, Sizing, depth_first, first_cyclic, inline_sizes, is_inline, is_small};
 use mh_firsts::productive;
 use mh_grammar::{Grammar, Memory, Name, Production, Sequence, TokenInfo};
 use mh_rules::Expanded;
+use mh_unfoldings::unfold_inline;
 use std::alloc::Global;
 
 fn name_of(expanded: &Expanded, number: usize) -> Result<Name, Memory>
@@ -216,6 +216,26 @@ fn inline_acyclic(
     }
 }
 
+/// The grammar, or the first fault, where the first instance that reaches itself was asked for.
+fn inline_unless_cyclic(
+    alloc: Global,
+    expanded: &Expanded,
+    sizing: &Sizing,
+    cyclic: Option<usize>,
+) -> Result<Grammar, InlineFault>
+    requires ready { IsExpandedReady expanded.now }
+    requires sizing { IsSizing expanded.now.instances sizing.now }
+    requires first { MatchOption cyclic (HasNoCycle expanded.now) (IsFirstCyclicAt expanded.now) }
+    requires sized { IfNone cyclic (AreAllSized expanded.now.instances sizing.now.sizes.items) }
+    ensures grammar { IfOk result (IsGrammarOf expanded.now) }
+    ensures fault { IfErr result (IsFault expanded.now) }
+{
+    match cyclic {
+        Some(number) => Err(cycle_fault(expanded, number)),
+        None => inline_acyclic(alloc, expanded, sizing),
+    }
+}
+
 /// The grammar, or the first fault, behind a search.
 fn inline_searched(
     alloc: Global,
@@ -228,10 +248,8 @@ fn inline_searched(
     ensures fault { IfErr result (IsFault expanded.now) }
 {
     let sizing = inline_sizes(alloc, expanded, search.left.as_slice())?;
-    match first_cyclic(alloc, expanded, &sizing, search.ranks.as_slice())? {
-        Some(number) => Err(cycle_fault(expanded, number)),
-        None => inline_acyclic(alloc, expanded, &sizing),
-    }
+    let cyclic = first_cyclic(alloc, expanded, &sizing, search.ranks.as_slice())?;
+    inline_unless_cyclic(alloc, expanded, &sizing, cyclic)
 }
 
 /// The grammar that the instances give when each inline producer is replaced by each of its own alternatives, in turn fully

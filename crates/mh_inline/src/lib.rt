@@ -5,12 +5,9 @@
 mod fault;
 mod inlining;
 mod laws;
-mod moving;
 mod nonterminals;
 mod origins;
 mod productions;
-mod unfoldings;
-mod uses;
 
 pub use fault::InlineFault;
 pub use inlining::inline_rules;

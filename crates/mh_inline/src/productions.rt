@@ -5,17 +5,17 @@ ghost use Rattle.mh_grammar.specs.declared.types.TheConstants.{MAX_NUMBERED};
 ghost use Rattle.mh_cycles.specs.Instances.{IsAlternative};
 ghost use Rattle.mh_rules.specs.Ready.{IsExpandedReady};
 ghost use Rattle.mh_cycles.specs.Unfoldings.{own};
-ghost use Rattle.mh_inline.specs.Known.{IsOriginKnown};
 ghost use Rattle.mh_cycles.specs.Sizes.{AreAllSized, IsSizing};
 ghost use Rattle.mh_inline.specs.Inlined.{last_token, level_of, token_level, AreProductions, IsOrigin};
-ghost use Rattle.mh_inline.specs.Making.{production_by, token_else, AddsOrigin, AreNumbers, IsOriginsSize, IsUnfoldingBelow};
+ghost use Rattle.mh_inline.specs.Making.{production_by, token_else, AddsOrigin, AreNumbers, IsOriginKnown, IsOriginsSize, IsUnfoldingBelow};
 
 use crate::nonterminals::symbols;
 use crate::origins::Origin;
-use crate::unfoldings::{rightmost_prec, unfold_side};
+use mh_choices::rightmost_prec;
 use mh_cycles::{Size, Sizing, Unfolding, plus, size_of_side};
 use mh_grammar::{Level, Memory, Production, Sequence, Token, TokenInfo};
 use mh_rules::{Expanded, InstanceProduction, Part, Prec};
+use mh_unfoldings::unfold_side;
 use std::alloc::Global;
 
 fn last_token_of(parts: &[Part]) -> Option<Token>

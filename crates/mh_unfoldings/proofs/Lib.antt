@@ -1,0 +1,4 @@
+pub mod Building
+pub mod Knowing
+pub mod Lasting
+pub mod Moved
