@@ -16,7 +16,8 @@ use mh_grammar::{Edge, Grammar, Sequence};
 use mh_kernels::{Automaton, Kernel, StatesFault, start_kernel};
 use mh_knuth::MAX_STATES;
 use mh_moves::{Move, Mover};
-use std::alloc::{AllocError, AllocFailed, Global};
+use mh_states::{in_order, insert, number};
+use std::alloc::Global;
 
 /// The canonical LR(1) automaton of a grammar (Knuth 1965): the start kernels in order, and then what breadth-first
 /// search finds, over tokens rising and then nonterminals rising. `TooManyStates` comes exactly where it has more
@@ -95,17 +96,6 @@ fn edges_of<const W: usize>(
     place_all(alloc, grammar, moves, kernels)
 }
 
-fn in_order<const W: usize>(
-    alloc: Global,
-    kernels: IndexSet<Kernel<W>>,
-) -> Result<Sequence<Kernel<W>>, AllocError>
-    requires { W ≤ 8 }
-    ensures { IfOk result (λ list. list ≡ kernels.entry.keys) }
-{
-    let list = kernels.into_iter().collect(alloc)?;
-    Ok(Sequence::from_vec(list))
-}
-
 /// The start kernels, in order.
 fn start_kernels<const W: usize>(
     alloc: Global,
@@ -163,27 +153,4 @@ fn place<const W: usize>(
 {
     let at = insert(kernels, kernel)?;
     number(at)
-}
-
-/// The number of the state at a place.
-fn number(at: usize) -> Result<u32, StatesFault>
-    ensures ok { IfOk result (λ n. (n ≡ at) × (n < MAX_STATES)) }
-    ensures over { result ≡ Err StatesFault.TooManyStates → MAX_STATES ≤ at }
-{
-    if at >= MAX_STATES {
-        return Err(StatesFault::TooManyStates);
-    }
-    Ok(at as u32)
-}
-
-/// Where a kernel stands; a new one is put behind the others.
-fn insert<const W: usize>(
-    kernels: &mut IndexSet<Kernel<W>>,
-    kernel: Kernel<W>,
-) -> Result<usize, AllocFailed<Kernel<W>>>
-    requires { W ≤ 8 }
-    ensures { IfOk result (Placed kernels.old.keys kernels.new.keys kernel.entry) }
-{
-    let (at, _) = kernels.insert_full(kernel)?;
-    Ok(at)
 }

@@ -1,5 +1,4 @@
 pub mod Agreeing
-pub mod Candidates
 pub mod Combining
 pub mod Covering
 pub mod Finishing
@@ -7,15 +6,12 @@ pub mod Indexing
 pub mod Joining
 pub mod Limits
 pub mod Listings
-pub mod Lists
 pub mod Leaving
 pub mod OneMerged
 pub mod Only
 pub mod Origins
-pub mod Paired
 pub mod Paths
 pub mod Putting
-pub mod Queueing
 pub mod Reaching
 pub mod Readying
 pub mod Renaming

@@ -1,6 +1,6 @@
 -- The list of the code while the steps are made.
-use Rattle.std.proofs.Common.{◌≡◌, ◌+◌, ◌<◌, ◌≤◌, ℕ, zero, suc, List, [], ◌∷◌, ◌++◌, Some, replicate, length, refl, sym, ap, ◌∙◌, subst, arith, inl, inr}
-use Rattle.std.specs.List.{slice_get, range_with_len, Contains}
+use Rattle.std.proofs.Common.{◌≡◌, ◌+◌, ◌<◌, ◌≤◌, ℕ, List, [], ◌∷◌, ◌++◌, Some, replicate, length, refl, sym, ap, ◌∙◌, subst, arith, inl, inr}
+use Rattle.std.specs.List.{slice_get, Contains}
 use Rattle.std.proofs.lemmas.Bool.{cases_lt}
 use Rattle.std.proofs.lemmas.List.{length_push, replicate-append-replicate}
 use Rattle.std.proofs.lemmas.List.FromFn.{length-range_with_len}
@@ -15,6 +15,7 @@ use Rattle.mh_pager.specs.Steps.{Work, IsStep, Steps, none, more, IsBegun, AreBe
 use Rattle.mh_pager.proofs.Readying.{step_ready}
 use Rattle.mh_pager.proofs.Sound.{begun_running, start_numbers_at}
 use Rattle.mh_pager.proofs.Weights.{weight, step_weight}
+use Rattle.mh_states.proofs.Starting.{range_push}
 
 -- from so many start kernels to the first list
 pub begun_of : (g : PlainGrammar) (w : Work) → AreBegun (length g.starts) w → IsBegun g w
@@ -75,13 +76,6 @@ AreBegun-none = record { kernels = record { len = refl; each = λ i l. absurd (o
 
 replicate_push : (n : ℕ) (x : List Edge) → replicate n x ++ x ∷ [] ≡ replicate (n + 1) x
 replicate_push n x = replicate-append-replicate n 1 x
-
-range_longer : (a n m : ℕ) → a + n ≡ m → range_with_len a n ++ m ∷ [] ≡ range_with_len a (suc n)
-range_longer a zero m e = let same : m ≡ a = omega arith in ap (λ x. x ∷ []) same
-range_longer a (suc n) m e = ap (λ xs. a ∷ xs) (range_longer (a + 1) n m (omega arith))
-
-pub range_push : (n : ℕ) → range_with_len 0 n ++ n ∷ [] ≡ range_with_len 0 (n + 1)
-range_push n = let e : suc n ≡ n + 1 = omega arith in range_longer 0 n n (omega arith) ∙ ap (range_with_len 0) e
 
 pub AreBegun-push : (n : ℕ) (old new : Work) (k : Kernel) → AreBegun n old → k ≡ start_kernel n → new.kernels ≡ old.kernels ++ k ∷ [] → new.rows ≡ old.rows ++ [] ∷ [] → new.queue ≡ old.queue ++ n ∷ [] → AreBegun (n + 1) new
 AreBegun-push n old new k b is kernels rows queue = record {

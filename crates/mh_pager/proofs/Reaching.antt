@@ -19,20 +19,7 @@ use Rattle.mh_kernels.proofs.OneList.{kernel_same}
 use Rattle.mh_knuth.specs.Canonical.{targets_of}
 use Rattle.mh_pager.specs.Numbered.{AreBelow, IsRenamed, AreReached}
 use Rattle.mh_pager.specs.Steps.{symbols_of, Leads, IsOnSymbolsOf}
-use Rattle.mh_pager.proofs.Listings.{range_push}
-
-pub range_at : (count i : ℕ) → i < count → slice_get (range_with_len 0 count) i ≡ Some i
-range_at count i l =
-    let m : i < length (range_with_len 0 count) = rw (length-range_with_len 0 count) l in
-    let e : 0 + i ≡ i = omega arith in
-    slice_get-get_or (range_with_len 0 count) i i m ∙ ap Some (get_or-range_with_len 0 count i i l ∙ e)
-
-range_from : (count i n : ℕ) → slice_get (range_with_len 0 count) i ≡ Some n → (n ≡ i) × (i < count)
-range_from count i n e =
-    let l : i < count = rw (← length-range_with_len 0 count) (slice_get_within (range_with_len 0 count) i n e) in
-    let one : Some n ≡ Some i = sym e ∙ range_at count i l in
-    let same : n ≡ i = cc in
-    (same, l)
+use Rattle.mh_states.proofs.Starting.{range_at, range_from}
 
 -- different numbers below a bound are no more than it
 pub below_few : (count : ℕ) (states : List ℕ) → AreBelow count states → length states ≤ count
@@ -133,15 +120,6 @@ pub target_below : (count : ℕ) (row : List Edge) (i : ℕ) (d : Edge) → i < 
 target_below count row i d l h =
     let at : slice_get (targets_of row) i ≡ Some (get_or row i d).target = slice_get-map (λ (e : Edge). e.target) row i ∙ ap (option_map (λ (e : Edge). e.target)) (slice_get-get_or row i d l) in
     All-contains (λ t. t < count) (targets_of row) (get_or row i d).target h (contains_at (targets_of row) i (get_or row i d).target at)
-
-pub placed_next : (old new : List ℕ) (s n : ℕ) → old ≡ range_with_len 0 s → Placed old new s n → new ≡ range_with_len 0 (s + 1)
-placed_next old new s n e p = elim p.grown [
-  | inl g ↦ absurd (
-      let at : slice_get (range_with_len 0 s) n ≡ Some s = rw (sym e ∙ sym g.0) p.at in
-      let is = range_from s n s at in
-      omega arith)
-  | inr g ↦ g.0 ∙ ap (λ xs. xs ++ s ∷ []) e ∙ range_push s
-]
 
 pub placed_small : (count : ℕ) (old new : List ℕ) (x n : ℕ) → AreBelow count old → x < count → Placed old new x n → n < count
 placed_small count old new x n b l p =

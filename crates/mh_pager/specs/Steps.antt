@@ -13,6 +13,8 @@ use Rattle.mh_kernels.specs.Kernels.{Holds, IsItemList}
 use Rattle.mh_knuth.specs.Canonical.{HasItem, targets_of}
 use Rattle.mh_knuth.specs.Found.{AreStarts}
 use Rattle.mh_pager.specs.Weak.{OneCore, Covers, AreCompatible, IsJoin}
+pub use Rattle.mh_states.specs.First.{IsFirst, HasNone}
+pub use Rattle.mh_states.specs.Queued.{Queues}
 
 -- the list of states, the edges that each was given last, and the states that wait, the oldest first
 pub record Work : Type 0 where
@@ -27,19 +29,6 @@ Keeps move k = OneCore (Holds k) (Holds move) × Covers (Holds k) (Holds move)
 -- a state has the move's core and is weakly compatible with it
 abbrev pub Takes : Kernel → Kernel → Type 0
 Takes move k = OneCore (Holds k) (Holds move) × AreCompatible (Holds k) (Holds move)
-
--- the first state of a list with a property
-pub record IsFirst (P : Kernel → Type 0) (kernels : List Kernel) (n : ℕ) (k : Kernel) : Type 0 where
-  pub at : slice_get kernels n ≡ Some k
-  pub has : P k
-  pub earlier : (m : ℕ) (j : Kernel) → m < n → slice_get kernels m ≡ Some j → P j → ⊥
-
-abbrev pub HasNone : (Kernel → Type 0) → List Kernel → Type 0
-HasNone P kernels = (m : ℕ) (j : Kernel) → slice_get kernels m ≡ Some j → P j → ⊥
-
--- a state is queued unless it stands in the queue
-abbrev pub Queues : List ℕ → ℕ → List ℕ → Type 0
-Queues old n new = (Contains old n × (new ≡ old)) ⊎ ((Contains old n → ⊥) × (new ≡ old ++ n ∷ []))
 
 -- 1. a state that keeps the move is found
 pub record Finds (move : Kernel) (old new : Work) (n : ℕ) : Type 0 where

@@ -7,13 +7,12 @@ ghost use Rattle.mh_pager.specs.Listing.{work_of, IsKept, IsGroupIn, TakesIn, Ap
 ghost use Rattle.mh_pager.specs.Fits.{HasFit};
 ghost use Rattle.mh_pager.specs.Steps.{Work, Keeps, HasNone, IsFirst, Puts, IsReady};
 
-use crate::finding::{Fit, first_fitting};
 use crate::index::Index;
-use crate::queue::Queue;
 use crate::unions::joined;
 use mh_grammar::{Edge, Grammar, Memory, Sequence};
 use mh_kernels::{Kernel, StatesFault};
 use mh_knuth::MAX_STATES;
+use mh_states::{Fit, Queue, first_fitting, number};
 use std::alloc::Global;
 
 /// The states by their kernels, the edges that each was given last, the states that wait, and the states of each core.
@@ -158,12 +157,13 @@ fn append<const W: usize>(
     ensures kept { OnOk result (IsKept listing.new) }
     ensures over { result ≡ Err StatesFault.TooManyStates → length listing.old.kernels.items ≡ MAX_STATES }
 {
-    let n = listing.kernels.len();
-    if n >= MAX_STATES {
-        return Err(StatesFault::TooManyStates);
+    match number(listing.kernels.len()) {
+        Ok(n) => {
+            push(alloc, listing, core, kernel)?;
+            Ok(n)
+        }
+        Err(fault) => Err(fault),
     }
-    push(alloc, listing, core, kernel)?;
-    Ok(n as u32)
 }
 
 /// Puts a kernel at the end as a new state, which is queued and has no edges yet.

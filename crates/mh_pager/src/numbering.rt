@@ -12,7 +12,8 @@ use indexmap::IndexSet;
 use mh_grammar::{Edge, Memory, Sequence};
 use mh_kernels::Kernel;
 use mh_knuth::MAX_STATES;
-use std::alloc::{AllocFailed, Global};
+use mh_states::{first_states, place_state};
+use std::alloc::Global;
 
 /// The states that the starts reach, by their old numbers in the order of the new ones, and their edges.
 pub(crate) fn reached(
@@ -55,19 +56,6 @@ fn reach(
     Ok(())
 }
 
-/// The numbers of the starts.
-fn first_states(alloc: Global, starts: usize, count: usize) -> Result<IndexSet<u32>, Memory>
-    requires within { starts ≤ count }
-    requires few { count ≤ MAX_STATES }
-    ensures { IfOk result (λ s. s.keys ≡ range_with_len 0 starts) }
-{
-    let mut states = IndexSet::new(alloc);
-    for start in 0..starts {
-        insert(&mut states, start as u32)?;
-    }
-    Ok(states)
-}
-
 /// A row with its targets named anew.
 fn renamed(
     alloc: Global,
@@ -99,15 +87,8 @@ fn place(states: &mut IndexSet<u32>, state: u32, count: usize) -> Result<u32, Me
     ensures { IfOk result (Placed states.old.keys states.new.keys state) }
 {
     let _count = count;
-    let at = insert(states, state)?;
+    let at = place_state(states, state)?;
     Ok(at as u32)
-}
-
-fn insert(states: &mut IndexSet<u32>, state: u32) -> Result<usize, AllocFailed<u32>>
-    ensures { IfOk result (Placed states.old.keys states.new.keys state) }
-{
-    let (at, _) = states.insert_full(state)?;
-    Ok(at)
 }
 
 /// The kernels of states.

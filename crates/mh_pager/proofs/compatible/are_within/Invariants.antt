@@ -1,6 +1,0 @@
-use Rattle.mh_pager.specs.Kernels.{Within}
-use Rattle.mh_pager.proofs.Lists.{PairsBelow}
-use Rattle.mh_pager.proofs.compatible.are_within.Given as goal
-
-abbrev pub invariant-loop-i : goal.invariant-loop-i
-invariant-loop-i g l = PairsBelow (λ x y. Within x.looks y.looks) l.left l.right l.i

@@ -1,9 +1,0 @@
-use Rattle.std.proofs.Common.{◌≡◌, arith}
-use Rattle.mh_pager.proofs.Reaching.{placed_next}
-use Rattle.mh_pager.proofs.numbering.first_states.Goals as goal
-
-pub loop-start-preserved : goal.loop-start-preserved
-loop-start-preserved c = placed_next c.loop-start.states.keys c.insert.new.states.keys c.loop-start.start c.in_ok-insert.field-0 c.loop-start.invariant c.in_ok-insert.ensures
-
-pub returns : goal.returns
-returns c = let whole : c.loop-start.start ≡ c.args.starts = omega (arith, c.loop-start.auto.start-end, c.loop-start-test.false) in rw whole at c.loop-start.invariant

@@ -1,0 +1,6 @@
+pub mod Cores
+pub mod First
+pub mod Fits
+pub mod Kernels
+pub mod Queued
+pub mod Weak
