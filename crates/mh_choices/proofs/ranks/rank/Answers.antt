@@ -1,6 +1,6 @@
 use Rattle.std.proofs.Common.{refl}
-use Rattle.mh_inline.proofs.OriginOrder.{rank_else}
-use Rattle.mh_inline.proofs.origins.rank.Goals as goal
+use Rattle.mh_choices.proofs.FileOrder.{rank_else}
+use Rattle.mh_choices.proofs.ranks.rank.Goals as goal
 
 pub returns-then-file-eq0 : goal.returns-then-file-eq0
 returns-then-file-eq0 c = rw c.if-file-eq0.true refl
