@@ -1,4 +1,7 @@
 //! Why rules are not expanded.
+ghost use Rattle.std.specs.Prelude.{◌≡◌};
+ghost use Rattle.mh_instances.specs.Counts as spec;
+
 use mh_grammar::{Memory, Name};
 use std::alloc::{AllocError, AllocFailed};
 use thiserror::Error;
@@ -19,9 +22,19 @@ pub enum ExpandFault {
     Memory,
 }
 
+/// The fault of a term with a wrong count of arguments that has this name, whatever else is wrong with it.
+pub fn count_fault(name: Option<Name>) -> ExpandFault
+    ensures { result ≡ spec.count_fault name }
+{
+    match name {
+        Some(instance) => ExpandFault::Arity { instance },
+        None => ExpandFault::Memory,
+    }
+}
+
 impl From<Memory> for ExpandFault {
     ghost use Rattle.std.specs.Prelude.{◌≡◌};
-    ghost use Rattle.mh_expand.specs.declared.fault.ExpandFault.TheVariants.{Memory as memory};
+    ghost use Rattle.mh_instances.specs.declared.fault.ExpandFault.TheVariants.{Memory as memory};
 
     ghost from_gives = { λ _ e. e ≡ memory };
 
@@ -32,7 +45,7 @@ impl From<Memory> for ExpandFault {
 
 impl From<AllocError> for ExpandFault {
     ghost use Rattle.std.specs.Prelude.{◌≡◌};
-    ghost use Rattle.mh_expand.specs.declared.fault.ExpandFault.TheVariants.{Memory as memory};
+    ghost use Rattle.mh_instances.specs.declared.fault.ExpandFault.TheVariants.{Memory as memory};
 
     ghost from_gives = { λ _ e. e ≡ memory };
 
@@ -43,7 +56,7 @@ impl From<AllocError> for ExpandFault {
 
 impl<T: Drop> From<AllocFailed<T>> for ExpandFault {
     ghost use Rattle.std.specs.Prelude.{◌≡◌};
-    ghost use Rattle.mh_expand.specs.declared.fault.ExpandFault.TheVariants.{Memory as memory};
+    ghost use Rattle.mh_instances.specs.declared.fault.ExpandFault.TheVariants.{Memory as memory};
 
     ghost from_gives = { λ _ e. e ≡ memory };
 
