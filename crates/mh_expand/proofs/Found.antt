@@ -15,15 +15,16 @@ use Rattle.mh_grammar.specs.Numbering.{AreDistinct}
 use Rattle.mh_grammar.proofs.Placing.{get_last, get_cases, contains_at, at_contains, AreDistinct-push}
 use Rattle.mh_grammar.proofs.Pigeon.{length-distinct_in}
 use Rattle.mh_rules.specs.declared.joined.Joined.{Joined}
-use Rattle.mh_expand.specs.declared.fault.ExpandFault.{ExpandFault}
+use Rattle.mh_instances.specs.declared.fault.ExpandFault.{ExpandFault}
+use Rattle.mh_instances.specs.Counts.{count_fault}
 use Rattle.mh_expand.specs.Terms.{Term, Atom, head_of, head_name, text}
 use Rattle.mh_rules.specs.declared.joined.Head.TheVariants.{Token}
 use Rattle.mh_expand.specs.Expansion as expansion
 use Rattle.mh_expand.specs.Expansion.{IsInstance, IsNew, IsFull, IsFault, IsClear, Fits, Causes}
 use Rattle.mh_rules.specs.declared.instances.Part.TheVariants as parts
-use Rattle.mh_expand.specs.declared.fault.ExpandFault.TheVariants.{Arity, Expansion, Memory}
+use Rattle.mh_instances.specs.declared.fault.ExpandFault.TheVariants.{Arity, Expansion, Memory}
 use Rattle.mh_expand.specs.Sharing.{term_at, terms_at}
-use Rattle.mh_expand.specs.Searching.{IsSight, AreFound, IsSearch, Finds}
+use Rattle.mh_expand.specs.Searching.{IsSight, AreFound, IsSearch, IsTextWithin, Finds}
 use Rattle.mh_expand.proofs.Shared.{get_term, term_got}
 
 pub IsClear-none : (j : Joined) → IsClear j []
@@ -188,6 +189,10 @@ empty_list [] e = refl
 empty_list (x ∷ xs) e = absurd (omega (arith, e))
 
 -- a cause that follows from another
+pub wrong_count : (j : Joined) (before : List Term) (t : Term) (most : ℕ) (name : Option (List ℕ)) (e : ExpandFault) → (Fits j t → ⊥) → IsTextWithin most (text j t) name → e ≡ count_fault name → Causes (IsFault j before t) e
+wrong_count j before t most (Some n) e count within is = rw (is, within.0) (expansion.IsFault.count count)
+wrong_count j before t most None e count within is = rw is tt
+
 pub Causes-from : (P Q : ExpandFault → Type 0) → ((e : ExpandFault) → P e → Q e) → (e : ExpandFault) → Causes P e → Causes Q e
 Causes-from P Q h (Arity n) c = h (Arity n) c
 Causes-from P Q h (Expansion n) c = h (Expansion n) c

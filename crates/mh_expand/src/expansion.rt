@@ -2,7 +2,7 @@
 ghost use Rattle.std.specs.Prelude.{◌≡◌, ◌<◌, ◌≤◌, ◌++◌, ℕ, List, [], length, slice_index, nat_eq, IsSome, IfOk, IfErr};
 ghost use Rattle.std.specs.List.{All};
 ghost use Rattle.indexmap.specs.IndexMap.{get};
-ghost use Rattle.mh_expand.specs.declared.fault.ExpandFault.{ExpandFault};
+ghost use Rattle.mh_instances.specs.declared.fault.ExpandFault.{ExpandFault};
 ghost use Rattle.mh_expand.specs.Terms.{Term, arguments, text};
 ghost use Rattle.mh_expand.specs.Expansion.{Fails, Causes, IsExpanded, IsFirstFault, producers_of, right_side, rule_at, start_terms};
 ghost use Rattle.mh_rules.specs.Ready.{IsReady, IsExpandedReady};
@@ -11,14 +11,14 @@ ghost use Rattle.mh_expand.specs.Sharing.{terms_of, term_at, terms_at, Grows};
 ghost use Rattle.mh_expand.specs.Whole.{IsExpandedWhole};
 ghost use Rattle.mh_expand.specs.Searching.{IsSearch, IsFit, AreRanks, WentStarts, WentInstance, WentAlternative, IsExpanding, AreExpanded};
 
-use crate::fault::ExpandFault;
 use crate::ranks::{Ranks, rank_of, ranks_of};
 use crate::replacing::replace;
 use crate::search::{MAX_NAME, find, find_instance};
-use crate::terms::{Application, Terms};
+use crate::terms::Terms;
 use crate::texts::text_within;
 use indexmap::IndexSet;
 use mh_grammar::{Memory, Name, Sequence, TokenInfo};
+use mh_instances::{Application, ExpandFault, next_place, production_of};
 use mh_rules::{
     Expanded, Head, Instance, InstanceProduction, Joined, JoinedAlternative, JoinedRule,
     MAX_INSTANCES, Part,
@@ -127,8 +127,8 @@ fn expand_all(
     ensures err { IfErr result (Causes (IsFirstFault joined.now)) }
 {
     let mut instances = Sequence::new(alloc);
-    'instances: while instances.len() < found.len() {
-        match expand_instance(alloc, joined, terms, ranks, found, instances.len()) {
+    'instances: while let Some(place) = next_place(instances.len(), found.len()) {
+        match expand_instance(alloc, joined, terms, ranks, found, place) {
             Ok(instance) => instances.push(instance)?,
             Err(fault) => return Err(fault),
         }
@@ -274,16 +274,4 @@ fn expand_alternative(
         }
     }
     Ok(production_of(alternative, rhs))
-}
-
-/// The alternative with what its producers stand for.
-fn production_of(alternative: &JoinedAlternative, rhs: Sequence<Part>) -> InstanceProduction
-    ensures { result ≡ record { file = alternative.now.file; place = alternative.now.place; rhs = rhs; prec = alternative.now.prec } }
-{
-    InstanceProduction {
-        file: alternative.file,
-        place: alternative.place,
-        rhs,
-        prec: alternative.prec,
-    }
 }

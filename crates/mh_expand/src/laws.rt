@@ -2,7 +2,7 @@
 ghost use Rattle.std.specs.Prelude.{◌≡◌};
 ghost use Rattle.mh_expand.specs.Expansion.{IsExpanded, IsFirstFault};
 
-use crate::fault::ExpandFault;
+use mh_instances::ExpandFault;
 use mh_rules::{Expanded, Joined};
 
 /// Two expansions of the same rules are one, with the same numbers and the same order of productions.

@@ -2,7 +2,6 @@
 #![tactic(auto)]
 
 mod expansion;
-mod fault;
 mod laws;
 mod ranks;
 mod replacing;
@@ -11,6 +10,6 @@ mod terms;
 mod texts;
 
 pub use expansion::expand;
-pub use fault::ExpandFault;
 pub use laws::{is_one_expansion, is_one_fault};
+pub use mh_instances::ExpandFault;
 pub use mh_rules::{Expanded, Instance, InstanceProduction, Part};

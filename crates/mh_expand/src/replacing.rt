@@ -4,8 +4,9 @@ ghost use Rattle.std.specs.List.{All};
 ghost use Rattle.mh_expand.specs.Terms.{replaced, replaced_head, term_of};
 ghost use Rattle.mh_expand.specs.Sharing.{terms_of, terms_at, Grows, IsNode};
 
-use crate::terms::{Application, Terms};
+use crate::terms::Terms;
 use mh_grammar::{Memory, Sequence};
+use mh_instances::Application;
 use mh_rules::{Applied, Head};
 use std::alloc::Global;
 
@@ -25,7 +26,7 @@ pub(crate) fn replace(
     let mut node = replace_head(alloc, terms, formals, applied.head)?;
     for arg in applied.args.as_slice() {
         let number = replace(alloc, terms, formals, arg)?;
-        node.args.push(number)?;
+        node.add_argument(number)?;
     }
     Ok(terms.insert(node)?)
 }
@@ -43,11 +44,8 @@ fn replace_head(
 {
     if let Head::Formal(place) = head {
         if let Some(number) = formals.get(place as usize) {
-            let node = terms.at(*number);
-            return Ok(Application {
-                head: node.head,
-                args: node.args.clone()?,
-            });
+            let node = terms.at(*number).copied()?;
+            return Ok(node);
         }
     }
     Ok(Application {

@@ -6,11 +6,11 @@ ghost use Rattle.mh_expand.specs.Expansion.{IsInstance, Fits, IsFault, Causes};
 ghost use Rattle.mh_expand.specs.Sharing.{terms_of, term_at};
 ghost use Rattle.mh_expand.specs.Searching.{IsSearch, Finds};
 
-use crate::fault::ExpandFault;
 use crate::terms::Terms;
 use crate::texts::text_within;
 use indexmap::IndexSet;
 use mh_grammar::{Memory, Name};
+use mh_instances::{ExpandFault, count_fault};
 use mh_rules::{Head, Joined, JoinedRule, MAX_INSTANCES, Part};
 use std::alloc::{AllocFailed, Global};
 
@@ -158,8 +158,8 @@ fn wrong_count(alloc: Global, joined: &Joined, terms: &Terms, number: usize) -> 
         Causes (IsFault joined.now before (term_at (terms_of terms.now.nodes.keys) number)) result }
 {
     match text_within(alloc, joined, terms, number, MAX_FAULT_NAME) {
-        Ok(Some(instance)) => ExpandFault::Arity { instance },
-        _ => ExpandFault::Memory,
+        Ok(name) => count_fault(name),
+        Err(_) => ExpandFault::Memory,
     }
 }
 

@@ -5,16 +5,8 @@ ghost use Rattle.mh_grammar.specs.Placed.{Placed};
 ghost use Rattle.mh_expand.specs.Sharing.{AreNodes, terms_of, node_term};
 
 use indexmap::IndexSet;
-use mh_grammar::Sequence;
-use mh_rules::Head;
+use mh_instances::Application;
 use std::alloc::{AllocError, AllocFailed, Global};
-
-/// A head with the numbers of its arguments.
-#[derive(Drop, PartialEq, Eq, Hash)]
-pub(crate) struct Application {
-    pub head: Head,
-    pub args: Sequence<usize>,
-}
 
 /// Terms by number, each once, their arguments before them.
 #[derive(Drop)]

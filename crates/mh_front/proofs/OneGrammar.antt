@@ -17,7 +17,7 @@ use Rattle.mh_rules.specs.declared.joined.TheConstants.{MAX_TOKENS}
 use Rattle.mh_rules.specs.Ready.{AreModulesReady, IsExpandedReady}
 use Rattle.mh_join.proofs.Readying as joins
 use Rattle.mh_meanings.proofs.Resolving.{front_nil, back_nil}
-use Rattle.mh_expand.specs.declared.fault.ExpandFault.{ExpandFault}
+use Rattle.mh_instances.specs.declared.fault.ExpandFault.{ExpandFault}
 use Rattle.mh_expand.specs.Expansion.{IsFirstFault}
 use Rattle.mh_expand.proofs.Few.{few_instances}
 use Rattle.mh_expand.proofs.Order as order

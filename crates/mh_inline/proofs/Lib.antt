@@ -4,3 +4,4 @@ pub mod Producing
 pub mod Ranges
 pub mod Sentences
 pub mod OriginOrder
+pub mod Hindered

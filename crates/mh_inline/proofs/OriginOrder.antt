@@ -1,5 +1,5 @@
 -- Origins in their order, as they are put among others.
-use Rattle.std.proofs.Common.{◌≡◌, ℕ, zero, suc, ◌+◌, ◌-◌, ◌<◌, ◌≤◌, ◌⊎◌, true, false, List, [], Some, length, refl, sym, ap, ◌∙◌, arith, inl, inr, subst}
+use Rattle.std.proofs.Common.{◌≡◌, ℕ, ◌+◌, ◌<◌, ◌≤◌, ◌⊎◌, true, false, List, [], Some, length, refl, sym, ap, ◌∙◌, arith, inl, inr, subst}
 use Rattle.std.specs.List.{slice_get}
 use Rattle.std.specs.declared.cmp.Ordering.{Ordering}
 use Rattle.std.specs.declared.cmp.Ordering.TheVariants.{Less, Equal, Greater}
@@ -159,6 +159,3 @@ AreOrigins-all is n xs all h = record {
 }
 
 -- the rank of a file that is not the prelude
-pub rank_else : (file : ℕ) → (file ≡ 0 → ⊥) → file - 1 ≡ rank_of file
-rank_else zero some = absurd (some refl)
-rank_else (suc k) some = let before : suc k - 1 ≡ k = omega arith in before

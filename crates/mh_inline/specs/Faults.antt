@@ -10,6 +10,8 @@ use Rattle.mh_inline.specs.declared.fault.InlineFault.{InlineFault}
 use Rattle.mh_inline.specs.declared.fault.InlineFault.TheVariants.{InlineCycle, InlineStart, TooManyProductions, EmptyLanguage, Memory}
 use Rattle.mh_cycles.specs.declared.sizes.TheConstants.{MAX_PRODUCTIONS, MAX_SYMBOLS}
 use Rattle.mh_cycles.specs.Instances.{is_inlined}
+use Rattle.mh_choices.specs.declared.hindrances.Hindrance.{Hindrance}
+use Rattle.mh_choices.specs.declared.hindrances.Hindrance.TheVariants.{Cycle, InlineStart as Start}
 use Rattle.mh_cycles.specs.Cycles.{IsFirstCyclicAt, HasNoCycle}
 use Rattle.mh_inline.specs.Inlined.{IsInlined, number_of}
 
@@ -39,6 +41,11 @@ pub record IsFirstInlineStart (e : Expanded) (name : List ℕ) : Type 0 where
 
 abbrev pub HasNoInlineStart : Expanded → Type 0
 HasNoInlineStart e = All (λ s. is_inlined e.instances s ≡ false) e.starts
+
+-- a hindrance of theirs, which is a fault
+abbrev pub IsHindrance : Expanded → Hindrance → Type 0
+IsHindrance e (Cycle n) = IsFirstCyclicAt e n
+IsHindrance e (Start n) = HasNoCycle e × IsFirstInlineStartAt e n
 
 -- within the limits
 pub record IsSmall (g : Grammar) : Type 0 where

@@ -1,5 +1,5 @@
 -- The grammar that instances give when the inline ones are replaced by their alternatives.
-use Rattle.std.specs.Prelude.{◌≡◌, ◌<◌, ◌↔◌, ◌⊎◌, ◌-◌, ◌++◌, ◌^◌, ℕ, zero, suc, Bool, not, false, List, [], ◌∷◌, Option, Some, None, slice_get, take, map, filter, count_by}
+use Rattle.std.specs.Prelude.{◌≡◌, ◌<◌, ◌↔◌, ◌⊎◌, ◌++◌, ℕ, Bool, not, false, List, [], ◌∷◌, Option, Some, None, slice_get, take, map, filter, count_by}
 use Rattle.std.specs.Option.{option_and_then}
 use Rattle.std.specs.List.{Contains}
 use Rattle.mh_grammar.specs.declared.types.Level.{Level}
@@ -19,6 +19,7 @@ use Rattle.mh_rules.specs.declared.instances.Instance.{Instance}
 use Rattle.mh_rules.specs.declared.instances.Expanded.{Expanded}
 use Rattle.mh_cycles.specs.declared.unfolding.Unfolding.{Unfolding}
 use Rattle.mh_inline.specs.declared.origins.Origin.{Origin}
+pub use Rattle.mh_choices.specs.Ranks.{rank_of}
 use Rattle.mh_cycles.specs.Instances.{is_inlined, IsAlternative}
 use Rattle.mh_cycles.specs.Unfoldings.{own, Unfolds}
 
@@ -56,11 +57,6 @@ level_of tokens Absent rhs = option_and_then (token_level tokens) (last_token rh
 
 abbrev pub production_of : List TokenInfo → List Instance → ℕ → Unfolding → Production
 production_of tokens is n u = record { lhs = number_of is n; rhs = map (symbol_of is) u.rhs; level = level_of tokens u.prec u.rhs }
-
--- the files in order of the command line, the prelude, which is file 0, last
-abbrev pub rank_of : ℕ → ℕ
-rank_of zero = 2 ^ 64 - 1
-rank_of (suc k) = k
 
 -- an alternative of an instance that is not inline, with the rank of its file and its place there
 pub record IsOrigin (is : List Instance) (s : Origin) : Type 0 where

@@ -8,7 +8,7 @@ ghost use Rattle.mh_cycles.specs.Sizes.{AreAllSized, IsSizing};
 ghost use Rattle.mh_inline.specs.Inlined.{AreOrigins, AreProductions, IsInlined};
 ghost use Rattle.mh_inline.specs.Making.{AreNumbers, AreOriginsSmall};
 ghost use Rattle.mh_cycles.specs.Cycles.{HasNoCycle, IsFirstCyclicAt};
-ghost use Rattle.mh_inline.specs.Faults.{HasEmptyStart, HasNoInlineStart, IsFault, IsFirstInlineStartAt, IsFirstUnmarked, IsGrammarOf, IsNamed, IsSmall};
+ghost use Rattle.mh_inline.specs.Faults.{HasEmptyStart, HasNoInlineStart, IsFault, IsFirstInlineStartAt, IsFirstUnmarked, IsGrammarOf, IsHindrance, IsNamed, IsSmall};
 ghost use Rattle.mh_cycles.specs.Searching.{IsSearch};
 ghost use Rattle.mh_inline.specs.Sentences.{KeepsSentences};
 
@@ -16,6 +16,7 @@ use crate::fault::InlineFault;
 use crate::nonterminals::{nonterminals_of, numbers_of, starts_of};
 use crate::origins::{Origin, origins_of};
 use crate::productions::{productions_of, size_of_origins};
+use mh_choices::{Hindrance, first_hindrance};
 use mh_cycles::{Search, Sizing, depth_first, first_cyclic, inline_sizes, is_inline, is_small};
 use mh_firsts::productive;
 use mh_grammar::{Grammar, Memory, Name, Production, Sequence, TokenInfo};
@@ -74,6 +75,17 @@ fn start_fault(expanded: &Expanded, number: usize) -> InlineFault
     match name_of(expanded, number) {
         Ok(name) => InlineFault::InlineStart { name },
         Err(_) => InlineFault::Memory,
+    }
+}
+
+fn hindrance_fault(expanded: &Expanded, hindrance: Hindrance) -> InlineFault
+    requires ready { IsExpandedReady expanded.now }
+    requires hindered { IsHindrance expanded.now hindrance }
+    ensures { IsFault expanded.now result }
+{
+    match hindrance {
+        Hindrance::Cycle(number) => cycle_fault(expanded, number),
+        Hindrance::InlineStart(number) => start_fault(expanded, number as usize),
     }
 }
 
@@ -197,25 +209,6 @@ fn inline_kept(alloc: Global, expanded: &Expanded, sizing: &Sizing) -> Result<Gr
     with_trees(alloc, expanded, grammar)
 }
 
-/// The grammar, where no inline instance reaches itself.
-fn inline_acyclic(
-    alloc: Global,
-    expanded: &Expanded,
-    sizing: &Sizing,
-) -> Result<Grammar, InlineFault>
-    requires ready { IsExpandedReady expanded.now }
-    requires sizing { IsSizing expanded.now.instances sizing.now }
-    requires sized { AreAllSized expanded.now.instances sizing.now.sizes.items }
-    requires acyclic { HasNoCycle expanded.now }
-    ensures grammar { IfOk result (IsGrammarOf expanded.now) }
-    ensures fault { IfErr result (IsFault expanded.now) }
-{
-    match first_inline_start(expanded) {
-        Some(number) => Err(start_fault(expanded, number as usize)),
-        None => inline_kept(alloc, expanded, sizing),
-    }
-}
-
 /// The grammar, or the first fault, where the first instance that reaches itself was asked for.
 fn inline_unless_cyclic(
     alloc: Global,
@@ -230,9 +223,9 @@ fn inline_unless_cyclic(
     ensures grammar { IfOk result (IsGrammarOf expanded.now) }
     ensures fault { IfErr result (IsFault expanded.now) }
 {
-    match cyclic {
-        Some(number) => Err(cycle_fault(expanded, number)),
-        None => inline_acyclic(alloc, expanded, sizing),
+    match first_hindrance(cyclic, first_inline_start(expanded)) {
+        Some(hindrance) => Err(hindrance_fault(expanded, hindrance)),
+        None => inline_kept(alloc, expanded, sizing),
     }
 }
 

@@ -6,6 +6,7 @@ ghost use Rattle.mh_rules.specs.Ready.{IsExpandedReady};
 ghost use Rattle.mh_inline.specs.Inlined.{rank_of, AreOrigins};
 ghost use Rattle.mh_inline.specs.Making.{AreOriginsBelow};
 
+use mh_choices::rank;
 use mh_cycles::is_inline;
 use mh_grammar::Memory;
 use mh_rules::{Expanded, InstanceProduction};
@@ -20,13 +21,6 @@ pub struct Origin {
     pub place: u64,
     pub instance: u32,
     pub alternative: u64,
-}
-
-/// The prelude, which is file 0, comes last.
-fn rank(file: u64) -> u64
-    ensures { result ≡ rank_of file }
-{
-    if file == 0 { u64::MAX } else { file - 1 }
 }
 
 fn origin_of(number: u32, alternative: u64, production: &InstanceProduction) -> Origin

@@ -5,7 +5,7 @@ ghost use Rattle.mh_meanings.specs.Maps.{meanings_in};
 
 use mh_duplicates::check_duplicates;
 use mh_faults::{check_others, check_undefined};
-use mh_meanings::{JoinFault, Names};
+use mh_meanings::{JoinFault, Names, first_fault};
 use mh_rules::Module;
 use std::alloc::Global;
 
@@ -14,11 +14,9 @@ pub fn check(alloc: Global, names: &Names, modules: &[Module]) -> Result<(), Joi
     requires { AreModulesReady modules.now }
     ensures { Finds (faults_by (meanings_in names.now) modules.now) result }
 {
-    if let Err(fault) = check_undefined(alloc, names, modules) {
-        return Err(fault);
-    }
-    if let Err(fault) = check_duplicates(alloc, names, modules) {
-        return Err(fault);
-    }
-    check_others(names, modules)
+    first_fault(
+        check_undefined(alloc, names, modules),
+        check_duplicates(alloc, names, modules),
+        check_others(names, modules),
+    )
 }

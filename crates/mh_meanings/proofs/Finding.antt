@@ -1,5 +1,6 @@
 -- Faults that are sought one after the other.
-use Rattle.std.proofs.Common.{◌≡◌, ℕ, suc, ◌+◌, ◌<◌, List, [], ◌∷◌, ◌++◌, Some, None, Result, length, get_or, drop, sym, ap, subst, ◌∙◌, ◌⊎◌, inl, inr, arith, add-one, drop-cons}
+use Rattle.std.proofs.Common.{◌≡◌, ℕ, suc, ◌+◌, ◌<◌, List, [], ◌∷◌, ◌++◌, Some, None, Ok, Err, Result, length, get_or, drop, sym, ap, subst, ◌∙◌, ◌⊎◌, inl, inr, arith, add-one, drop-cons}
+use Rattle.std.specs.Result.{result_and}
 use Rattle.std.specs.List.{flat_map, enumerate_from}
 use Rattle.mh_meanings.specs.declared.fault.JoinFault.{JoinFault}
 use Rattle.mh_meanings.specs.declared.fault.JoinFault.TheVariants as faults
@@ -16,6 +17,10 @@ first_then (x ∷ es) fs e (inr p) = inr p
 
 pub finds_then : {X : Type 0} (es fs : List JoinFault) (r : Result X JoinFault) → es ≡ [] → Finds fs r → Finds (es ++ fs) r
 finds_then es fs r e h = subst (λ k. Finds (k ++ fs) r) (sym e) h
+
+pub finds_and : {X Y : Type 0} (es fs : List JoinFault) (r : Result X JoinFault) (s : Result Y JoinFault) → Finds es r → Finds fs s → Finds (es ++ fs) (result_and r s)
+finds_and es fs (Ok x) s p q = finds_then es fs s p q
+finds_and es fs (Err e) s p q = first_then es fs e p
 
 pub drop_item : {A : Type 0} (xs : List A) (i : ℕ) (x : A) → i < length xs → x ≡ get_or xs i x → drop i xs ≡ x ∷ drop (i + 1) xs
 drop_item xs i x h e = rw (add-one, drop-cons xs i x) (ap (λ k. k ∷ drop (suc i) xs) (sym e))

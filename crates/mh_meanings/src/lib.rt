@@ -3,7 +3,9 @@
 
 mod agreement;
 mod aliases;
+mod costs;
 mod fault;
+mod first;
 mod formals;
 mod kinds;
 mod maps;
@@ -14,11 +16,13 @@ mod publics;
 
 pub use agreement::{same_level, same_shape};
 pub use aliases::{Aliases, name_by};
+pub use costs::add_cost;
 pub use fault::JoinFault;
+pub use first::first_fault;
 pub use formals::{Formals, formals_of};
 pub use kinds::Kind;
 pub use maps::{put_first, put_name};
 pub use names::{Costs, Definers, DefinersOf, Kinds, Levels, Names};
 pub use numbering::Numbering;
 pub use outlines::Outline;
-pub use publics::{is_public, marked_public, owner_in};
+pub use publics::{is_public, library_owner, marked_public, owner_in};

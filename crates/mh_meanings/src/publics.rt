@@ -1,5 +1,5 @@
 //! Which rules of a file are public.
-ghost use Rattle.std.specs.Prelude.{◌≡◌, ◌||◌, ◌&&◌, if◌then◌else◌, IfOk, OnOk};
+ghost use Rattle.std.specs.Prelude.{◌≡◌, ◌||◌, ◌&&◌, Some, if◌then◌else◌, IfOk, OnOk};
 ghost use Rattle.std.specs.List.{list_any};
 ghost use Rattle.indexmap.specs.IndexSet.{contains};
 ghost use Rattle.mh_grammar.specs.Text.{Text};
@@ -57,4 +57,11 @@ pub fn owner_in(
     } else {
         Some(file)
     }
+}
+
+/// Who owns the rules of the prelude: they are its own, so that none is joined with a rule of a file.
+pub fn library_owner() -> Option<u64>
+    ensures { result ≡ Some 0 }
+{
+    Some(0)
 }

@@ -7,17 +7,8 @@ ghost use Rattle.mh_meanings.specs.Names.{same, cost_of, given_cost};
 ghost use Rattle.mh_meanings.specs.Puts.{Puts};
 
 use mh_grammar::Memory;
-use mh_meanings::{Costs, put_first};
+use mh_meanings::{Costs, add_cost};
 use mh_rules::{Module, TokenDecl};
-
-fn add_cost(costs: &mut Costs, token: &TokenDecl) -> Result<(), Memory>
-    ensures { OnOk result (Puts costs.old (given_cost token.now) costs.new) }
-{
-    if let Some(cost) = token.cost {
-        put_first(costs, &token.name, cost)?;
-    }
-    Ok(())
-}
 
 fn add_costs(costs: &mut Costs, tokens: &[TokenDecl]) -> Result<(), Memory>
     ensures { OnOk result (Puts costs.old (flat_map given_cost tokens.now) costs.new) }

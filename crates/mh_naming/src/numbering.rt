@@ -10,7 +10,7 @@ ghost use Rattle.mh_naming.specs.Blank.{HasNone};
 
 use indexmap::{IndexMap, IndexSet};
 use mh_grammar::{Memory, Name};
-use mh_meanings::{Numbering, Outline, marked_public, owner_in, put_first};
+use mh_meanings::{Numbering, Outline, library_owner, marked_public, owner_in, put_first};
 use mh_rules::{Module, Rule};
 use std::alloc::Global;
 
@@ -138,7 +138,7 @@ fn add_prelude(numbering: &mut Numbering, rules: &[Rule]) -> Result<(), Memory>
     ensures { OnOk result (Numbers numbering.old numbering.new (map (outline_by (Some 0)) rules.now)) }
 {
     for rule in rules {
-        add_rule(numbering, Some(0), rule)?;
+        add_rule(numbering, library_owner(), rule)?;
     }
     Ok(())
 }

@@ -27,7 +27,7 @@ loop-arg-preserved t c =
     let same = terms_at-kept old mid c.args.formals.now inv.grows c.requires in
     let term : slice_get new c.in_ok-number.number ≡ Some (stands fs c.arg-item.result) =
     c.in_ok-number.ensures.term ∙ ap (λ ts. Some (stands ts c.arg-item.result)) same in
-    rw c.in_ok-push.ensures.ok (IsReplacing-step old mid new fs c.loop-arg.node c.arg-item.result (drop (i + 1) items) (stands fs c.args.applied.now) c.in_ok-number.number (rw front at inv) c.in_ok-number.ensures.grows term)
+    rw c.in_ok-add_argument.ensures (IsReplacing-step old mid new fs c.loop-arg.node c.arg-item.result (drop (i + 1) items) (stands fs c.args.applied.now) c.in_ok-number.number (rw front at inv) c.in_ok-number.ensures.grows term)
 
 pub insert-requires : goal.insert-requires
 insert-requires t c = c.loop-arg.invariant.below

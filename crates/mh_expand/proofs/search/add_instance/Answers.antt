@@ -1,6 +1,6 @@
 use Rattle.std.proofs.Common.{◌≡◌, ◌<◌, length, arith, inl, inr}
 use Rattle.mh_expand.specs.Sharing.{terms_of, term_at}
-use Rattle.mh_expand.specs.declared.fault.ExpandFault.TheVariants.{Expansion}
+use Rattle.mh_instances.specs.declared.fault.ExpandFault.TheVariants.{Expansion}
 use Rattle.mh_expand.specs.Expansion.{IsFault}
 use Rattle.mh_expand.proofs.Shared.{get_term, terms_of-distinct}
 use Rattle.mh_expand.proofs.Found.{Finds-old, Finds-new, IsFault-new, Causes-from}

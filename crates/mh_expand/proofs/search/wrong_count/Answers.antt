@@ -1,8 +1,9 @@
-use Rattle.mh_expand.specs.Expansion as expansion
+use Rattle.mh_expand.proofs.Found.{wrong_count}
+use Rattle.mh_expand.specs.Sharing.{terms_of, term_at}
 use Rattle.mh_expand.proofs.search.wrong_count.Goals as goal
 
-pub returns-in-Ok-Some : goal.returns-in-Ok-Some
-returns-in-Ok-Some c = λ before. let e = rw c.in-Ok-Some.field-0-is at c.in-Ok-Some.ensures in rw e.0 (expansion.IsFault.count c.requires.count)
+pub returns-in-Ok : goal.returns-in-Ok
+returns-in-Ok c = λ before. wrong_count c.args.joined.now before (term_at (terms_of c.args.terms.now.nodes.keys) c.args.number) 16777216 c.in-Ok.name c.count_fault.result c.requires.count c.in-Ok.ensures c.count_fault.ensures
 
-pub returns-in_default : goal.returns-in_default
-returns-in_default c = λ before. tt
+pub returns-in-Err : goal.returns-in-Err
+returns-in-Err c = λ before. tt

@@ -1,8 +1,11 @@
-use Rattle.std.proofs.Common.{rules}
+use Rattle.std.specs.List.{flat_map}
+use Rattle.mh_meanings.specs.Names.{files}
+use Rattle.mh_meanings.specs.Faults.{undefined_in_file, duplicates, other_faults}
+use Rattle.mh_meanings.specs.Maps.{meanings_in}
 use Rattle.mh_join.proofs.checking.check.Goals as goal
 
-pub returns-in-Err : goal.returns-in-Err
-returns-in-Err c = search rules
-
 pub returns : goal.returns
-returns c = search rules
+returns c =
+    let w = meanings_in c.args.names.now in
+    let ms = c.args.modules.now in
+    c.first_fault.ensures (flat_map (undefined_in_file w) (files ms)) (duplicates w ms) (other_faults w ms) c.check_undefined.ensures c.check_duplicates.ensures c.check_others.ensures

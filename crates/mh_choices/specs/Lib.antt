@@ -1,0 +1,2 @@
+pub mod Hindrances
+pub mod Ranks
