@@ -1,5 +1,5 @@
 use Rattle.std.proofs.Common.{rules}
-use Rattle.mh_search.proofs.joins.reduces.Goals as goal
+use Rattle.mh_meeting.proofs.meeting.reduces.Goals as goal
 
 pub returns-then-production-inner : goal.returns-then-production-inner
 returns-then-production-inner c = search rules

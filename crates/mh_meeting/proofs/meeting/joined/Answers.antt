@@ -1,5 +1,5 @@
 use Rattle.std.proofs.Common.{rules}
-use Rattle.mh_search.proofs.joins.joined.Goals as goal
+use Rattle.mh_meeting.proofs.meeting.joined.Goals as goal
 
 pub returns-then-not-fits : goal.returns-then-not-fits
 returns-then-not-fits c = search rules
