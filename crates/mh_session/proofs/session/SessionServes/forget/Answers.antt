@@ -5,7 +5,7 @@ use Rattle.mh_session.specs.Names.{at_name, same}
 use Rattle.mh_session.specs.Puts.{Puts}
 use Rattle.mh_session.proofs.Naming.{removal_of}
 use Rattle.mh_session.proofs.Serving.{forget_served}
-use Rattle.mh_session.proofs.session.Session.forget.Goals as goal
+use Rattle.mh_session.proofs.session.SessionServes.forget.Goals as goal
 
 pub invariant_of-self-2 : goal.invariant_of-self-2
 invariant_of-self-2 c = removal_of c.self.inside.table.now c.self.inside.branches.entries c.swap_remove.new.self.entries c.args.name.now c.self.invariant c.swap_remove.ensures.updates.0

@@ -8,10 +8,10 @@ use Rattle.mh_session.specs.Moments.{Moment}
 use Rattle.mh_session.specs.Names.{at_name}
 use Rattle.mh_session.proofs.Naming.{removal_of}
 use Rattle.mh_session.proofs.Serving.{found_none, begin_served, offer_served, resume_served, deep_served, resumed_of, fork_served, forget_served, DidPut}
-use Rattle.mh_session.proofs.session.Session.offer.Goals as goal
+use Rattle.mh_session.proofs.session.SessionServes.fork.Goals as goal
 
 pub returns : goal.returns
 returns c =
-    offer_served c.args.self.now c.put.new.self c.args.name.now c.args.token c.in-InputNeeded.state c.in-Some.checkpoint.now c.in_ok-offered.offered c.put.result (sym c.in-Some.ensures.found) c.in-Some.ensures.table (sym c.in-InputNeeded.ensures)
-    c.in_ok-offered.ensures.made
+    fork_served c.args.self.now c.put.new.self c.args.name.now c.args.fresh.now c.in-Some.checkpoint.now c.in_ok-forked.forked c.put.result (sym c.in-Some.ensures.found) c.in-Some.ensures.table
+    (found_none c.find-2.result _ c.find-2.ensures.found (sym c.is_some.ensures ∙ c.if-is_some.false)) c.in_ok-forked.ensures
     (record { cloned = c.in_ok-clone.field-0; same_name = c.in_ok-clone.ensures.cases; reply = c.put.ensures.reply; fault = c.put.ensures.fault; put = c.put.ensures.put; same = c.put.ensures.same })

@@ -8,7 +8,7 @@ use Rattle.mh_session.specs.Moments.{Moment}
 use Rattle.mh_session.specs.Names.{at_name}
 use Rattle.mh_session.proofs.Naming.{removal_of}
 use Rattle.mh_session.proofs.Serving.{found_none, begin_served, offer_served, resume_served, deep_served, resumed_of, fork_served, forget_served, DidPut}
-use Rattle.mh_session.proofs.session.Session.resume.Goals as goal
+use Rattle.mh_session.proofs.session.SessionServes.resume.Goals as goal
 
 pub returns-in-Err-TooDeep : goal.returns-in-Err-TooDeep
 returns-in-Err-TooDeep c =
