@@ -1,5 +1,4 @@
-use Rattle.std.proofs.Common.{refl}
 use Rattle.mh_bounds.proofs.standing.first_state.Goals as goal
 
 pub returns : goal.returns
-returns c = refl
+returns c = c.from.ensures
