@@ -14,6 +14,7 @@ ghost use Rattle.mh_engine.specs.declared.fault.ResumeFault.TheVariants as fault
 use crate::fault::ResumeFault;
 use crate::phase::Phase;
 use crate::stack::Stack;
+use mh_bounds::{first_state, left_refused};
 use mh_grammar::{Memory, Token};
 use mh_tables::{Choice, Halting, choose};
 use mh_tree::{Tree, can_be_children, leaf, node};
@@ -55,7 +56,7 @@ pub fn begin<'t>(table: &'t Halting, start: u16) -> Checkpoint<'t>
 {
     Checkpoint {
         table,
-        stack: Stack::bottom(u32::from(start)),
+        stack: Stack::bottom(first_state(start)),
         pending: None,
         refused: false,
     }
@@ -152,11 +153,10 @@ impl<'t> Checkpoint<'t> {
     fn refuse(&self) -> Result<Checkpoint<'t>, Memory>
         ensures { IfOk result (λ c. c ≡ refused_at self.now) }
     {
-        let waiting = self.pending;
         Ok(Checkpoint {
             table: self.table,
             stack: self.stack.share()?,
-            pending: waiting,
+            pending: left_refused(self.pending),
             refused: true,
         })
     }

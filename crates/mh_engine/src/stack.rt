@@ -5,14 +5,12 @@ ghost use Rattle.mh_tables.specs.Deep.{max_depth};
 ghost use Rattle.mh_engine.specs.Pairs.{Pairs};
 ghost use Rattle.mh_engine.specs.Cells.{bottom, pushed, taken};
 
+use mh_bounds::has_room;
 use mh_grammar::Memory;
 use mh_tree::Tree;
 use std::alloc::Global;
 use std::marker::Model;
 use std::rc::Rc;
-
-/// The most pairs of a state and a tree: this project's own limit.
-const MAX_PAIRS: u32 = 4000;
 
 /// The states of a run, with a tree above each but the first.
 #[cycle(stack)]
@@ -102,7 +100,7 @@ impl Stack {
     pub(crate) fn has_room(&self) -> bool
         ensures { IsTrue result ↔ (length self.now.trees < max_depth) }
     {
-        self.count < MAX_PAIRS
+        has_room(self.count)
     }
 
     /// The newest state.

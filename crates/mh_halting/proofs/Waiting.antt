@@ -1,13 +1,15 @@
 -- What a relative run does with no token it does with each.
-use Rattle.std.proofs.Common.{◌≡◌, ℕ, zero, suc, List, [], ◌∷◌, Some, None, Option, refl, ap, arith, ◌∙◌}
+use Rattle.std.proofs.Common.{◌≡◌, ℕ, zero, suc, Bool, true, false, List, [], ◌∷◌, Some, None, Option, refl, ap, arith, ◌∙◌}
+use Rattle.std.specs.Prelude.{IfSome, IfNone}
 use Rattle.mh_tables.specs.declared.parts.Action.{Action}
 use Rattle.mh_tables.specs.declared.parts.Action.TheVariants as actions
 use Rattle.mh_tables.specs.declared.parts.Fallback.{Fallback}
 use Rattle.mh_tables.specs.declared.parts.Fallback.TheVariants as fallbacks
 use Rattle.mh_tables.specs.Table.{TableData, fallback_of, cell_of}
 use Rattle.mh_tables.specs.Run.{Move, Reduces, move_of, move_by_default, move_of_next, top_of, reduced_by, reduction, reductions}
+use Rattle.mh_tables.specs.declared.halting.TheConstants.{MAX_REDUCTIONS}
 use Rattle.mh_tables.specs.Halting.{Loops, Clear, look_list, beginning}
-use Rattle.mh_halting.specs.code.Relative.{RunsOut, Waits}
+use Rattle.mh_halting.specs.code.Relative.{RunsOut, Waits, StoppedOr, LoopsOr, TriedOr}
 use Rattle.mh_tables.proofs.Reductions.{action_reduces, reduction_some, reduction_is, reductions_zero, reductions_none, reductions_split, reductions_before}
 use Rattle.mh_tables.proofs.Longer.{move_longer}
 use Rattle.mh_halting.proofs.Trying.{not_more, no_reduction}
@@ -41,6 +43,16 @@ pub out_not : (t : TableData) (below : Option ℕ) (s : ℕ) (look : Option ℕ)
 out_not t below s look stack out loops =
     let few = out.few in
     not_more t (look_list look) out.count 10001 (beginning below s) stack loops.0 out.made out.over (omega arith) loops.1
+
+-- one that was tried loops exactly where it did not stop
+module _ (t : TableData) (below : Option ℕ) (s : ℕ) (look : Option ℕ) (stack : List ℕ) where
+  pub loops_or : (stopped : Option ℕ) (found : Bool) → IfSome stopped (λ n. found ≡ false) → IfNone stopped (found ≡ true) → StoppedOr t below s look MAX_REDUCTIONS stack stopped → LoopsOr t below s look found
+  loops_or None found some none made = rw none (stack, made)
+  loops_or (Some count) found some none stops = rw some (out_not t below s look stack (record { count = count; few = stops.few; made = stops.made; over = stops.over }))
+
+  pub tried_or : (stopped : Option ℕ) (found : Bool) → IfSome stopped (λ n. found ≡ false) → IfNone stopped (found ≡ true) → StoppedOr t below s look MAX_REDUCTIONS stack stopped → TriedOr t below s look stack found
+  tried_or None found some none made = rw none (stack, made)
+  tried_or (Some count) found some none stops = rw some (record { count = count; few = stops.few; made = stops.made; over = stops.over })
 
 -- nor does one with a token, where it is over in a state with a default
 pub clear_by_default : (t : TableData) (below : Option ℕ) (s top : ℕ) (stack : List ℕ) (f : Fallback) → RunsOut t below s None stack → top ≡ top_of stack → fallback_of t top ≡ Some f → Clear t below s

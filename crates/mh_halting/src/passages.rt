@@ -2,22 +2,19 @@
 //! with its upper state alone is the same above each lower one; where that takes off just the upper state, the run goes on above an
 //! edge of the lower state on the left side. So a bound of one symbol follows from those of others, and where these passages
 //! from symbol to symbol lead in no circle, no run above an edge need be tried.
-ghost use Rattle.std.specs.Prelude.{◌≡◌, ◌<◌, ◌≤◌, ◌+◌, ℕ, true, false, length, vec_len, slice_index, All, Contains, IfOk, OnOk};
+ghost use Rattle.std.specs.Prelude.{◌≡◌, ◌<◌, ◌≤◌, true, false, length, vec_len, slice_index, All, Contains, IfOk, OnOk};
 ghost use Rattle.mh_grammar.specs.Plain.{production_count, rhs_of, IsSymbolBelow};
 ghost use Rattle.mh_tables.specs.Halting.{IsLook, look_list};
 ghost use Rattle.mh_halting.specs.code.Passages.{symbol_place, symbol_count, GoesSo, IsKnown, KeepsAll, IsUnclear, UnitIsIn, UnitsAreIn, EmptyNext, PassageOr, IsCoveredOn, IsCoveredFrom, IsCovered, AreAll, IsLifted, AreSettled};
 
 use crate::relative::{next_reduction, reduced_within};
+use mh_bounds::{MAX_BOUND, asked};
 use mh_grammar::{Symbol, Token};
 use mh_tables::{Choice, Table, choose};
 use std::alloc::{AllocError, Global};
 
 // The most reductions of a state alone that are tried.
 const MAX_TRIED: u32 = 100;
-
-/// The highest bound that tells something. A run of a symbol with that bound makes at most `MAX_TRIED` reductions more, so at most
-/// `MAX_REDUCTIONS`.
-pub(crate) const MAX_BOUND: u32 = 9_900;
 
 // The rounds in which bounds rise by what passages ask, before those that still rise are given up.
 const PATIENCE: u32 = 200;
@@ -292,16 +289,6 @@ fn passages_of(
     Ok(passages)
 }
 
-// What a passage asks of the bound where it begins, if the one where it ends is known.
-fn asked(passage: Passage, onward: u32) -> u32
-    ensures { (b : ℕ) → result ≤ b → b ≤ MAX_BOUND → passage.count + 1 + onward ≤ b }
-{
-    if MAX_BOUND <= onward || MAX_BOUND <= passage.count {
-        return MAX_BOUND + 1;
-    }
-    passage.count + 1 + onward
-}
-
 // Lifts the bound where a passage begins to what it asks, or gives it up if there is no more patience. Says whether it was lower.
 fn lift(bounds: &mut Vec<u32>, passage: Passage, patient: bool) -> bool
     requires from { passage.from < vec_len bounds.old }
@@ -310,7 +297,7 @@ fn lift(bounds: &mut Vec<u32>, passage: Passage, patient: bool) -> bool
     ensures same { result ≡ false → bounds.new.items ≡ bounds.old.items }
     ensures lifted { result ≡ false → IsLifted bounds.old.items passage }
 {
-    let asked = asked(passage, bounds[passage.to as usize]);
+    let asked = asked(passage.count, bounds[passage.to as usize]);
     if asked <= bounds[passage.from as usize] {
         return false;
     }

@@ -9,9 +9,10 @@ ghost use Rattle.mh_tables.specs.Halting.{IsLook, look_list, IsBeginning, beginn
 ghost use Rattle.mh_halting.specs.code.Relative.{ReducedOr, ReducesNext, StackReduced, StoppedOr, TriedOr, LoopsOr, Waits, LookFound, TokenFound, StateFound, AddsTarget, AreTargets, TestFound};
 ghost use Rattle.mh_halting.specs.code.Passages.{symbol_count, AreSettled};
 
-use crate::passages::{MAX_BOUND, bounds_of, place_of};
+use crate::passages::{bounds_of, place_of};
+use mh_bounds::{MAX_BOUND, attempts, is_loop, look_tried};
 use mh_grammar::{Edge, Token};
-use mh_tables::{Action, Choice, MAX_REDUCTIONS, Table, choose};
+use mh_tables::{Choice, MAX_REDUCTIONS, Table, choose};
 use std::alloc::{AllocError, Global};
 
 /// Where a relative run begins: in a state, alone or above another, with this next token or none.
@@ -124,7 +125,7 @@ pub(crate) fn reduced_within(
     ensures known { OnOk result (All (λ s. s < length table.now.states) stack.new.items) }
 {
     begin(table, stack, below, state)?;
-    'tries: for count in 0..most + 1 {
+    'tries: for count in 0..attempts(most) {
         if !reduce_once(table, stack, look)? {
             return Ok(Some(count));
         }
@@ -148,10 +149,8 @@ fn loops(
     ensures begun { OnOk result (0 < length stack.new.items) }
     ensures known { OnOk result (All (λ s. s < length table.now.states) stack.new.items) }
 {
-    match reduced_within(table, stack, below, state, look, MAX_REDUCTIONS)? {
-        Some(_) => Ok(false),
-        None => Ok(true),
-    }
+    let stopped = reduced_within(table, stack, below, state, look, MAX_REDUCTIONS)?;
+    Ok(is_loop(stopped))
 }
 
 // Whether the relative run makes more than `MAX_REDUCTIONS` reductions with a token, where it stops in a state without default
@@ -171,9 +170,9 @@ fn loops_on(
     requires waits { Waits table.now below state top }
     ensures { IfOk result (λ found. LoopsOr table.now below state (Some token) found) }
 {
-    match table.action(top, token) {
-        Action::Reduce(_) => loops(table, stack, below, state, Some(token)),
-        _ => Ok(false),
+    match look_tried(table.action(top, token), token) {
+        Some(look) => loops(table, stack, below, state, look),
+        None => Ok(false),
     }
 }
 

@@ -63,6 +63,11 @@ IsFirstOfBoth t facts spots None b best = best ≡ b
 IsFirstOfBoth t facts spots (Some a) None best = best ≡ Some a
 IsFirstOfBoth t facts spots (Some a) (Some b) best = (x : Best) × (best ≡ Some x) × IsFirstOf t facts spots a b x
 
+-- the cost of an arrival, where there is one
+abbrev pub cost_in : Option Arrival → Option ℕ
+cost_in None = None
+cost_in (Some r) = Some r.cost
+
 -- how a state refuses a token behind an arrival
 abbrev pub best_for : TableData → Classes → ℕ → ℕ → Arrival → Best
 best_for t c s z r = record { cost = min (r.cost + cost_of_token t z) cap; spot = spot_of c s z; token = z }

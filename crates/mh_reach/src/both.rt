@@ -1,19 +1,20 @@
 //! Both searches, and the best way to fail in each state.
 ghost use Rattle.std.specs.Prelude.{◌≡◌, ◌<◌, IfOk, IfSome, length};
 ghost use Rattle.mh_ways.specs.Classes.{IsClasses};
-ghost use Rattle.mh_arrivals.specs.Arriving.{HasArrived};
+ghost use Rattle.mh_arrivals.specs.Arriving.{HasArrived, arrival_at};
 ghost use Rattle.mh_arrivals.specs.Comparing.{ComesLater, IsTold};
-ghost use Rattle.mh_reach.specs.Reaching.{AreCheap, BestOn, BestBelow, AreBest, IsFirstOf, IsFirstOfBoth, step_of};
+ghost use Rattle.mh_reach.specs.Reaching.{AreCheap, BestOn, BestBelow, AreBest, IsFirstOf, IsFirstOfBoth, cost_in, step_of};
 
 use crate::sentences::{Best, Reach};
 use mh_arrivals::arrive::arrive;
 use mh_arrivals::{Arrivals, Spot, Step, arrival_of, comes_later};
 use mh_found::Found;
 use mh_grammar::{Memory, Token};
+use mh_meeting::{Cheaper, Rivals, cheaper_of, failing_cost, rivals_of, sooner};
 use mh_past::classes_of;
 use mh_search::search;
 use mh_tables::{Choice, Halting, Table, choose};
-use mh_ways::{Classes, add_token, class_of};
+use mh_ways::{Classes, class_of};
 use std::alloc::Global;
 
 /// The step behind which a state refuses the token.
@@ -23,6 +24,16 @@ fn step_of(best: Best) -> Step
     Step::Shift {
         from: best.spot,
         token: best.token,
+    }
+}
+
+/// The cost at which a spot is reached, where it is.
+fn cost_at(arrivals: &Arrivals, spot: Spot) -> Option<u32>
+    ensures { result ≡ cost_in (arrival_at arrivals.now.spots.entries spot) }
+{
+    match arrival_of(arrivals, spot) {
+        None => None,
+        Some(arrival) => Some(arrival.cost),
     }
 }
 
@@ -47,13 +58,9 @@ fn best_on(
                 state,
                 next: class_of(table, classes, state, token).representative,
             };
-            match arrival_of(arrivals, spot) {
+            match failing_cost(table, cost_at(arrivals, spot), token) {
                 None => None,
-                Some(arrival) => Some(Best {
-                    cost: add_token(table, arrival.cost, token),
-                    spot,
-                    token,
-                }),
+                Some(cost) => Some(Best { cost, spot, token }),
             }
         }
         _ => None,
@@ -93,14 +100,14 @@ fn sooner_of(
     requires right { HasArrived arrivals.now.spots.entries right.spot }
     ensures { IfOk result (IsFirstOf table.now found.now.store arrivals.now.spots.entries left right) }
 {
-    if left.cost < right.cost {
-        return Ok(left);
+    match cheaper_of(left.cost, right.cost) {
+        Cheaper::Left => Ok(left),
+        Cheaper::Right => Ok(right),
+        Cheaper::Neither => {
+            let behind = is_behind(alloc, table, found, arrivals, left, right)?;
+            Ok(sooner(behind, left, right))
+        }
     }
-    if right.cost < left.cost {
-        return Ok(right);
-    }
-    let behind = is_behind(alloc, table, found, arrivals, left, right)?;
-    if behind { Ok(right) } else { Ok(left) }
 }
 
 /// The best of those so far and one more.
@@ -117,10 +124,11 @@ fn first_of(
     requires more { IfSome more (λ b. HasArrived arrivals.now.spots.entries b.spot) }
     ensures { IfOk result (IsFirstOfBoth table.now found.now.store arrivals.now.spots.entries best more) }
 {
-    match (best, more) {
-        (None, more) => Ok(more),
-        (Some(best), None) => Ok(Some(best)),
-        (Some(best), Some(more)) => Ok(Some(sooner_of(alloc, table, found, arrivals, best, more)?)),
+    match rivals_of(best, more) {
+        Rivals::One(one) => Ok(one),
+        Rivals::Both(left, right) => Ok(Some(sooner_of(
+            alloc, table, found, arrivals, left, right,
+        )?)),
     }
 }
 

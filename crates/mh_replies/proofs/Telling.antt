@@ -5,7 +5,7 @@ use Rattle.std.specs.declared.alloc.Global.{Global}
 use Rattle.mh_grammar.specs.declared.types.Grammar.{Grammar}
 use Rattle.mh_grammar.specs.declared.types.Memory.{Memory}
 use Rattle.mh_msgfile.specs.Sentences.{Vocabulary, vocabulary_of}
-use Rattle.mh_session.specs.declared.command.Command.{Command}
+use Rattle.mh_commands.specs.declared.command.Command.{Command}
 use Rattle.mh_session.specs.declared.command.SessionFault.TheVariants as faults
 use Rattle.mh_grammar.specs.Text.{Text}
 use Rattle.mh_session.specs.Moments.{Moment}

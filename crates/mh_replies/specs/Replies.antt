@@ -8,8 +8,8 @@ use Rattle.mh_report.specs.Items.{production_text}
 use Rattle.mh_engine.specs.declared.phase.Phase.{Phase}
 use Rattle.mh_engine.specs.declared.phase.Phase.TheVariants as phases
 use Rattle.mh_msgfile.specs.Sentences.{vocabulary_of}
-use Rattle.mh_session.specs.declared.command.Command.{Command}
-use Rattle.mh_session.specs.declared.command.Command.TheVariants as commands
+use Rattle.mh_commands.specs.declared.command.Command.{Command}
+use Rattle.mh_commands.specs.declared.command.Command.TheVariants as commands
 use Rattle.mh_session.specs.declared.command.Reply.{Reply}
 use Rattle.mh_session.specs.declared.command.Reply.TheVariants as replies
 use Rattle.mh_session.specs.declared.command.SessionFault.{SessionFault}

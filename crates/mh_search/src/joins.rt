@@ -1,5 +1,5 @@
 //! What follows from settled facts.
-ghost use Rattle.std.specs.Prelude.{◌≡◌, ◌<◌, ◌≤◌, ◌↔◌, ◌+◌, ◌^◌, ◌∷◌, [], IsTrue, IfOk, OnOk, false, min, length, slice_get, Some};
+ghost use Rattle.std.specs.Prelude.{◌≡◌, ◌<◌, ◌≤◌, ◌+◌, ◌^◌, IfOk, OnOk, false, length, slice_get, Some};
 ghost use Rattle.mh_grammar.specs.declared.types.Symbol.TheVariants.{T, N};
 ghost use Rattle.mh_grammar.specs.Plain.{rhs_of, lhs_of};
 ghost use Rattle.mh_tables.specs.Table.{edge_of};
@@ -9,15 +9,15 @@ ghost use Rattle.mh_ways.specs.declared.work.Whole.{Whole};
 ghost use Rattle.mh_ways.specs.declared.work.Path.{Path};
 ghost use Rattle.mh_ways.specs.Rows.{Gains, Among, IsOne, Files};
 ghost use Rattle.mh_ways.specs.Classes.{IsClasses, rep_of, place_of};
-ghost use Rattle.mh_ways.specs.Rules.{InRange, FollowsShift, FollowsWay, OnlyAt, HasRows, IsReady, Expanded, whole_of, wholes_at};
+ghost use Rattle.mh_ways.specs.Rules.{InRange, FollowsShift, FollowsWay, HasRows, IsReady, Expanded, whole_of, wholes_at};
 ghost use Rattle.mh_search.specs.Adding.{WithNext, Adds, MeetsOn};
 ghost use Rattle.mh_ways.specs.Rows.{Collects};
-ghost use Rattle.mh_tables.specs.Run.{Reduces, move_of};
 ghost use Rattle.mh_ways.specs.Classes.{list_at};
 
 use indexmap::IndexSet;
 use mh_facts::{Back, FactKey};
 use mh_grammar::{Memory, Symbol, Token};
+use mh_meeting::{joined, reduces};
 use mh_tables::{Choice, Table, choose};
 use mh_ways::queue::{Queue, push};
 use mh_ways::{Classes, Item, Path, Way, Whole, Work, add_costs, add_token, class_of, list_of};
@@ -79,35 +79,6 @@ fn shift(
         }
         _ => Ok(()),
     }
-}
-
-/// The fact that a path and a way behind it lead to.
-fn joined(table: &Table, path: Path, whole: Whole) -> Option<Item>
-    requires { InRange table.now path }
-    ensures { OnlyAt (FollowsWay table.now path whole) (min (path.cost + whole.cost) cap) result }
-{
-    table.facts();
-    if path.key.dot >= table.length_of(path.key.production) {
-        return None;
-    }
-    let fits = whole.inner.from == path.end
-        && whole.inner.first == path.key.next
-        && table.symbol_of(path.key.production, path.key.dot) == Symbol::N(whole.nonterminal);
-    if !fits {
-        return None;
-    }
-    Some(Item {
-        key: FactKey {
-            dot: path.key.dot + 1,
-            next: whole.next,
-            ..path.key
-        },
-        end: whole.target,
-        back: Back::Reduced {
-            path: path.key,
-            inner: whole.inner,
-        },
-    })
 }
 
 /// What follows from a path and a way behind it.
@@ -193,22 +164,6 @@ fn meet_path(
     )?;
     work.paths[place].push(path)?;
     Ok(())
-}
-
-/// Whether a whole path is reduced in front of a token.
-fn reduces(table: &Table, classes: &Classes, inner: Path, next: Token) -> bool
-    requires classes { IsClasses table.now classes.now }
-    requires inner { InRange table.now inner }
-    requires next { next < table.now.grammar.tokens }
-    ensures { IsTrue result ↔ ((move_of table.now inner.end (next ∷ []) ≡ Reduces inner.key.production) × (rep_of classes.now inner.end next ≡ inner.key.next)) }
-{
-    match choose(table, inner.end, Some(next)) {
-        Choice::Reduce(production) => {
-            production == inner.key.production
-                && class_of(table, classes, inner.end, next).representative == inner.key.next
-        }
-        _ => false,
-    }
 }
 
 /// Puts a way in. Whether it was not known.

@@ -1,13 +1,13 @@
 //! Words of settled facts get numbers, so that no two words are compared that were compared before.
-ghost use Rattle.std.specs.Prelude.{◌≡◌, ◌↔◌, ◌⊎◌, IsTrue, IfOk, length};
-ghost use Rattle.mh_least.specs.Orders.{cap};
+ghost use Rattle.std.specs.Prelude.{◌≡◌, IfOk, length};
 ghost use Rattle.mh_search.specs.Numbering.{AreEmpty, AreMade, AreNumbered, AreToNumber, IsLast, IsMade};
 
 use mh_facts::{Back, FactKey, FactStore};
 use mh_found::{EMPTY, Numbering, number_of, token_before};
 use mh_grammar::Memory;
+use mh_meeting::is_plain;
 use mh_tables::Table;
-use mh_ways::{CAP, Item};
+use mh_ways::Item;
 use mh_words::{Last, Made};
 use std::alloc::Global;
 
@@ -56,13 +56,6 @@ fn all_made(
         made.push(made_of(table, store, numbering, *item))?;
     }
     Ok(made)
-}
-
-/// Whether words of a cost need no number: the empty one has one, and those that are too dear get none.
-fn is_plain(cost: u32) -> bool
-    ensures { IsTrue result ↔ ((cost ≡ 0) ⊎ (cost ≡ cap)) }
-{
-    cost == 0 || cost == CAP
 }
 
 /// The number of the empty word for each item.

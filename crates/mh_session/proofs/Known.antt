@@ -6,8 +6,8 @@ use Rattle.mh_grammar.specs.Plain.{PlainGrammar, plain_of}
 use Rattle.mh_tables.specs.Table.{TableData}
 use Rattle.mh_msgfile.specs.Sentences.{Vocabulary, vocabulary_of, start_name, start_names, token_names}
 use Rattle.mh_msgfile.proofs.Below.{bounded}
-use Rattle.mh_session.specs.declared.command.Command.{Command}
-use Rattle.mh_session.specs.declared.command.Command.TheVariants as commands
+use Rattle.mh_commands.specs.declared.command.Command.{Command}
+use Rattle.mh_commands.specs.declared.command.Command.TheVariants as commands
 use Rattle.mh_grammar.specs.Text.{Text}
 use Rattle.mh_session.specs.Answers.{IsKnown}
 use Rattle.mh_session.specs.Lines.{Form, BeginOnly, BeginAt, OfferTo, ResumeOf, ForkTo, ShowOf, TreeOf, ForgetOf, Said, Asks, NamesNoStart, LacksStart, NamesNoToken, at_only, at_start, with_token_of, said_by, LineSays}

@@ -4,7 +4,7 @@ use Rattle.std.specs.Prelude.{codes, if◌then◌else◌}
 use Rattle.std.specs.List.{list_all}
 use Rattle.mh_lex.specs.Words.{is_word}
 use Rattle.mh_msgfile.specs.Sentences.{Vocabulary, pieces}
-use Rattle.mh_session.specs.declared.command.Command.{Command}
+use Rattle.mh_commands.specs.declared.command.Command.{Command}
 use Rattle.mh_session.specs.declared.fault.CommandFault.{CommandFault}
 use Rattle.mh_session.specs.declared.fault.CommandFault.TheVariants as faults
 use Rattle.mh_grammar.specs.Text.{Text}

@@ -1,7 +1,7 @@
 -- What an answer by the histories says of the reply, of the fault and of the session behind it.
 use Rattle.std.proofs.Common.{◌≡◌, ◌⊎◌, inl, inr, Result, Ok, Err, refl, ap}
 use Rattle.std.specs.Prelude.{IfOk, IfErr, OnOk, OnErr}
-use Rattle.mh_session.specs.declared.command.Command.{Command}
+use Rattle.mh_commands.specs.declared.command.Command.{Command}
 use Rattle.mh_session.specs.declared.command.SessionFault.{SessionFault}
 use Rattle.mh_session.specs.declared.command.SessionFault.TheVariants as faults
 use Rattle.mh_session.specs.Moments.{Moment}

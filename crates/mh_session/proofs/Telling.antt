@@ -3,7 +3,7 @@ use Rattle.std.proofs.Common.{◌≡◌, ℕ, suc, ◌+◌, ◌<◌, List, [], �
 use Rattle.std.specs.List.{All}
 use Rattle.std.proofs.lemmas.List.{drop_more}
 use Rattle.mh_tables.specs.Table.{TableData}
-use Rattle.mh_session.specs.declared.command.Command.{Command}
+use Rattle.mh_commands.specs.declared.command.Command.{Command}
 use Rattle.mh_session.specs.declared.command.SessionFault.{SessionFault}
 use Rattle.mh_session.specs.declared.command.SessionFault.TheVariants as faults
 use Rattle.mh_session.specs.Moments.{Moment}

@@ -8,8 +8,8 @@ use Rattle.mh_engine.specs.Phases.{phase_of}
 use Rattle.mh_engine.specs.Branches.{Branch, new_branch, with_token, with_step, position_of}
 use Rattle.mh_engine.specs.declared.phase.Phase.{Phase}
 use Rattle.mh_engine.specs.declared.phase.Phase.TheVariants as phases
-use Rattle.mh_session.specs.declared.command.Command.{Command}
-use Rattle.mh_session.specs.declared.command.Command.TheVariants as commands
+use Rattle.mh_commands.specs.declared.command.Command.{Command}
+use Rattle.mh_commands.specs.declared.command.Command.TheVariants as commands
 use Rattle.mh_session.specs.declared.command.Reply.{Reply}
 use Rattle.mh_session.specs.declared.command.Reply.TheVariants as replies
 use Rattle.mh_session.specs.declared.command.SessionFault.{SessionFault}

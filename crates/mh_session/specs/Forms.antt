@@ -9,7 +9,7 @@ use Rattle.mh_session.specs.Names.{same}
 use Rattle.mh_session.specs.Lines.{Form, BeginOnly, BeginAt, OfferTo, ResumeOf, ForkTo, ShowOf, TreeOf, ForgetOf, Said, Asks, NamesNoStart, LacksStart, NamesNoToken}
 use Rattle.mh_session.specs.declared.reading.Spelled.{Spelled}
 use Rattle.mh_session.specs.declared.reading.Spelled.TheVariants as spelled
-use Rattle.mh_session.specs.declared.command.Command.{Command}
+use Rattle.mh_commands.specs.declared.command.Command.{Command}
 use Rattle.mh_session.specs.declared.fault.CommandFault.{CommandFault}
 use Rattle.mh_session.specs.declared.fault.CommandFault.TheVariants as faults
 

@@ -1,7 +1,7 @@
 -- A command is answered by the histories of the branches.
 use Rattle.std.specs.Prelude.{◌≡◌, Result, Ok, Err}
 use Rattle.mh_engine.specs.declared.phase.Phase.{Phase}
-use Rattle.mh_session.specs.declared.command.Command.{Command}
+use Rattle.mh_commands.specs.declared.command.Command.{Command}
 use Rattle.mh_session.specs.declared.command.SessionFault.{SessionFault}
 use Rattle.mh_session.specs.declared.command.SessionFault.TheVariants as faults
 use Rattle.mh_session.specs.Moments.{Moment}

@@ -7,8 +7,9 @@ mod reading;
 mod run;
 mod session;
 
-pub use command::{Command, Reply, SessionFault};
+pub use command::{Reply, SessionFault};
 pub use fault::CommandFault;
+pub use mh_commands::Command;
 pub use reading::{read_command, read_command_by};
 pub use run::answer_all;
 pub use session::Session;

@@ -7,8 +7,8 @@ ghost use Rattle.mh_session.specs.Names.{same};
 ghost use Rattle.mh_session.specs.Lines.{ReadsCommand, said_by};
 ghost use Rattle.mh_session.specs.Forms.{of_one, of_two, form_by, form_of, as_form, as_forms, FirstWord, ReadsSaid};
 
-use crate::command::Command;
 use crate::fault::CommandFault;
+use mh_commands::Command;
 use mh_grammar::{Grammar, from_bytes};
 use mh_lex::is_word;
 use mh_msgfile::{Lexicon, first_piece};

@@ -4,8 +4,9 @@ ghost use Rattle.mh_session.specs.declared.command.SessionFault.TheVariants as f
 ghost use Rattle.std.specs.List.{All};
 ghost use Rattle.mh_session.specs.Answers.{IsKnown, answers};
 
-use crate::command::{Command, Reply, SessionFault};
+use crate::command::{Reply, SessionFault};
 use crate::session::Session;
+use mh_commands::Command;
 use mh_grammar::Memory;
 use mh_tables::Halting;
 use std::alloc::Global;

@@ -9,10 +9,11 @@ ghost use Rattle.mh_session.specs.Puts.{Puts};
 ghost use Rattle.mh_session.specs.Answers.{IsKnown, Branches, answer, next};
 ghost use Rattle.mh_session.specs.Standing.{StandsFor};
 ghost use Rattle.mh_session.specs.Served.{IsServed};
-ghost use Rattle.mh_session.specs.declared.command.Command.TheVariants as commands;
+ghost use Rattle.mh_commands.specs.declared.command.Command.TheVariants as commands;
 
-use crate::command::{Command, Reply, SessionFault};
+use crate::command::{Reply, SessionFault};
 use indexmap::IndexMap;
+use mh_commands::{Command, Serves, held, serve};
 use mh_engine::{Checkpoint, Phase, ResumeFault, begin};
 use mh_grammar::{Name, Token};
 use mh_tables::Halting;
@@ -74,8 +75,34 @@ impl<'t> Session<'t> {
         ensures found { option_copied result ≡ at_name name.now self.now.held }
         ensures table { IfSome result (λ c. c.now.table ≡ self.now.table) }
     {
-        self.branches.get(name)
+        held(&self.branches, name)
     }
+
+    /// Answers a command. A refused one changes nothing.
+    pub fn step(&mut self, command: &Command) -> Result<Reply, SessionFault>
+        requires { IsKnown self.old.table command.now }
+        ensures served { IsServed self.old command.now self.new result }
+        ensures reply { IfOk result (λ r. (bs : Branches) → StandsFor self.old bs → answer self.old.table bs command.now ≡ Ok r) }
+        ensures next { OnOk result ((bs : Branches) → StandsFor self.old bs → StandsFor self.new (next self.old.table bs command.now)) }
+        ensures same { OnErr result (self.new ≡ self.old) }
+        ensures fault { IfErr result (λ f. (f ≡ faults.Memory) ⊎ ((bs : Branches) → StandsFor self.old bs → answer self.old.table bs command.now ≡ Err f)) }
+        ensures table { self.new.table ≡ self.old.table }
+    {
+        serve(self, command)
+    }
+}
+
+impl<'t> Serves for Session<'t> {
+    ghost use Rattle.mh_session.specs.Answers.{IsKnown};
+    ghost use Rattle.mh_session.specs.Served.{IsServed};
+
+    type Reply = Reply;
+
+    type Fault = SessionFault;
+
+    ghost is_known = { λ s. IsKnown s.table };
+
+    ghost is_served = { λ old. IsServed old };
 
     fn begin(&mut self, name: &Name, start: u16) -> Result<Reply, SessionFault>
         requires { start < length self.old.table.grammar.starts }
@@ -164,35 +191,6 @@ impl<'t> Session<'t> {
             return Err(SessionFault::UnknownName);
         };
         Ok(Reply::Forgotten)
-    }
-
-    // Answers a command by the histories of the branches.
-    fn serve(&mut self, command: &Command) -> Result<Reply, SessionFault>
-        requires { IsKnown self.old.table command.now }
-        ensures { IsServed self.old command.now self.new result }
-    {
-        match command {
-            Command::Begin { name, start } => self.begin(name, *start),
-            Command::Offer { name, token } => self.offer(name, *token),
-            Command::Resume { name } => self.resume(name),
-            Command::Fork { name, fresh } => self.fork(name, fresh),
-            Command::Show { name } => self.show(name),
-            Command::Tree { name } => self.tree(name),
-            Command::Forget { name } => self.forget(name),
-        }
-    }
-
-    /// Answers a command. A refused one changes nothing.
-    pub fn step(&mut self, command: &Command) -> Result<Reply, SessionFault>
-        requires { IsKnown self.old.table command.now }
-        ensures served { IsServed self.old command.now self.new result }
-        ensures reply { IfOk result (λ r. (bs : Branches) → StandsFor self.old bs → answer self.old.table bs command.now ≡ Ok r) }
-        ensures next { OnOk result ((bs : Branches) → StandsFor self.old bs → StandsFor self.new (next self.old.table bs command.now)) }
-        ensures same { OnErr result (self.new ≡ self.old) }
-        ensures fault { IfErr result (λ f. (f ≡ faults.Memory) ⊎ ((bs : Branches) → StandsFor self.old bs → answer self.old.table bs command.now ≡ Err f)) }
-        ensures table { self.new.table ≡ self.old.table }
-    {
-        self.serve(command)
     }
 }
 

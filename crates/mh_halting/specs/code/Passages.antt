@@ -10,7 +10,8 @@ use Rattle.mh_tables.specs.Halting.{IsLook, Clear, look_list}
 use Rattle.mh_halting.specs.declared.passages.Passage.{Passage}
 use Rattle.mh_halting.specs.declared.passages.Course.{Course}
 use Rattle.mh_halting.specs.declared.passages.Course.TheVariants as courses
-use Rattle.mh_halting.specs.declared.passages.TheConstants.{MAX_TRIED, MAX_BOUND}
+use Rattle.mh_bounds.specs.declared.passing.TheConstants.{MAX_BOUND}
+use Rattle.mh_halting.specs.declared.passages.TheConstants.{MAX_TRIED}
 use Rattle.mh_halting.specs.code.Relative.{StopsWithin}
 
 -- symbols have places: tokens come first

@@ -1,12 +1,8 @@
-use Rattle.mh_halting.proofs.Waiting.{out_not}
+use Rattle.mh_halting.proofs.Waiting.{loops_or, tried_or}
 use Rattle.mh_halting.proofs.relative.loops.Goals as goal
 
-pub returns-in-Some-clause-loops : goal.returns-in-Some-clause-loops
-returns-in-Some-clause-loops c =
-    let stops = rw c.in-Some.is at c.in_ok-reduced_within.ensures.made in
-    out_not c.args.table.now c.args.below c.args.state c.args.look c.reduced_within.new.stack.items (record { count = c.in-Some.field-0; few = stops.few; made = stops.made; over = stops.over })
+pub returns-clause-loops : goal.returns-clause-loops
+returns-clause-loops c = loops_or c.args.table.now c.args.below c.args.state c.args.look c.reduced_within.new.stack.items c.in_ok-stopped.stopped c.is_loop.result c.is_loop.ensures.some c.is_loop.ensures.none c.in_ok-stopped.ensures.made
 
-pub returns-in-Some-clause-tried : goal.returns-in-Some-clause-tried
-returns-in-Some-clause-tried c =
-    let stops = rw c.in-Some.is at c.in_ok-reduced_within.ensures.made in
-    record { count = c.in-Some.field-0; few = stops.few; made = stops.made; over = stops.over }
+pub returns-clause-tried : goal.returns-clause-tried
+returns-clause-tried c = tried_or c.args.table.now c.args.below c.args.state c.args.look c.reduced_within.new.stack.items c.in_ok-stopped.stopped c.is_loop.result c.is_loop.ensures.some c.is_loop.ensures.none c.in_ok-stopped.ensures.made

@@ -1,8 +1,13 @@
-use Rattle.std.proofs.Common.{rules}
+use Rattle.std.proofs.Common.{refl, inl, inr}
+use Rattle.mh_reach.proofs.Choosing.{first_same}
 use Rattle.mh_reach.proofs.both.sooner_of.Goals as goal
 
-pub returns-then-behind : goal.returns-then-behind
-returns-then-behind c = search rules
+pub returns-in-Left : goal.returns-in-Left
+returns-in-Left c = inl (refl, inl c.in-Left.ensures)
 
-pub returns-else-behind : goal.returns-else-behind
-returns-else-behind c = search rules
+pub returns-in-Right : goal.returns-in-Right
+returns-in-Right c = inr (refl, inl c.in-Right.ensures)
+
+pub returns-in_ok-behind-in-Neither : goal.returns-in_ok-behind-in-Neither
+returns-in_ok-behind-in-Neither c =
+    first_same c.args.table.now c.args.found.now.store c.args.arrivals.now.spots.entries c.args.left c.args.right c.sooner.result c.in_ok-behind-in-Neither.behind c.in-Neither.ensures c.in_ok-behind-in-Neither.ensures c.sooner.ensures.behind c.sooner.ensures.ahead
