@@ -1,8 +1,8 @@
 use Rattle.std.proofs.Common.{◌≡◌, ◌++◌, sym, subst}
 use Rattle.std.proofs.lemmas.List.{append-nil}
 use Rattle.mh_cells.specs.declared.kinds.ConflictKind.{ConflictKind}
-use Rattle.mh_report.specs.Warnings.{warning_line}
-use Rattle.mh_report.proofs.warnings.write_warning.Goals as goal
+use Rattle.mh_notation.specs.Warnings.{warning_line}
+use Rattle.mh_notation.proofs.warnings.write_warning.Goals as goal
 
 pub returns-in-Solved : goal.returns-in-Solved
 returns-in-Solved c =
