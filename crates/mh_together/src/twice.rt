@@ -1,18 +1,18 @@
 //! The option that may stand twice. clap takes an option once, so the second use gets another name before clap reads the words.
 ghost use Rattle.std.specs.Prelude.{◌≡◌, ◌++◌, IfOk, map, nat_eq, string_bytes};
 ghost use Rattle.std.specs.List.{starts_with};
-ghost use Rattle.mh_opts.specs.Twice as twice;
+ghost use Rattle.mh_together.specs.Twice as twice;
 
 use std::alloc::{AllocError, Global};
 
 /// The option as it is written.
-pub(crate) const ONCE: &str = "--compare-errors";
+pub const ONCE: &str = "--compare-errors";
 
 /// The same with its value in one word, up to the value.
-pub(crate) const ONCE_WITH_VALUE: &str = "--compare-errors=";
+pub const ONCE_WITH_VALUE: &str = "--compare-errors=";
 
 /// The name of the second use, as it would be written.
-pub(crate) const AGAIN: &str = "--compare-errors-2";
+pub const AGAIN: &str = "--compare-errors-2";
 
 /// What the words before hold of the option.
 #[derive(Clone, Copy)]
@@ -100,7 +100,7 @@ fn word_with(alloc: Global, seen: Seen, word: &str) -> Result<String, AllocError
 }
 
 /// The words as clap reads them.
-pub(crate) fn renamed(alloc: Global, words: &[String]) -> Result<Vec<String>, AllocError>
+pub fn renamed(alloc: Global, words: &[String]) -> Result<Vec<String>, AllocError>
     ensures { IfOk result (λ new. map string_bytes new.items ≡ twice.renamed (map string_bytes words.now)) }
 {
     let mut renamed = Vec::new(alloc);
@@ -113,7 +113,7 @@ pub(crate) fn renamed(alloc: Global, words: &[String]) -> Result<Vec<String>, Al
 }
 
 /// Whether a word before the end of the options begins with the other name.
-pub(crate) fn is_reserved(words: &[String]) -> bool
+pub fn is_reserved(words: &[String]) -> bool
     ensures { result ≡ twice.is_reserved (map string_bytes words.now) }
 {
     for word in words {

@@ -1,9 +1,9 @@
 use Rattle.std.proofs.Common.{◌≡◌, ◌++◌, ◌∙◌, string_bytes}
 use Rattle.std.proofs.lemmas.Result.{IfOk-weaker}
-use Rattle.mh_opts.specs.Twice as twice
-use Rattle.mh_opts.specs.declared.twice.TheConstants.{AGAIN, ONCE}
-use Rattle.mh_opts.proofs.Renaming.{kept_is, renamed_is}
-use Rattle.mh_opts.proofs.twice.again.Goals as goal
+use Rattle.mh_together.specs.Twice as twice
+use Rattle.mh_together.specs.declared.twice.TheConstants.{AGAIN, ONCE}
+use Rattle.mh_together.proofs.Renaming.{kept_is, renamed_is}
+use Rattle.mh_together.proofs.twice.again.Goals as goal
 
 pub returns-in-Some : goal.returns-in-Some
 returns-in-Some c =

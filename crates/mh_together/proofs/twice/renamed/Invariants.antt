@@ -1,6 +1,6 @@
 use Rattle.std.proofs.Common.{◌≡◌, ◌++◌, drop, map, string_bytes}
-use Rattle.mh_opts.specs.Twice as twice
-use Rattle.mh_opts.proofs.twice.renamed.Given as goal
+use Rattle.mh_together.specs.Twice as twice
+use Rattle.mh_together.proofs.twice.renamed.Given as goal
 
 abbrev pub invariant-loop-word : goal.invariant-loop-word
 invariant-loop-word l =

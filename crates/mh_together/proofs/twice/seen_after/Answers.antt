@@ -1,8 +1,8 @@
 use Rattle.std.proofs.Common.{◌≡◌, refl, sym, subst, ◌∙◌}
-use Rattle.mh_opts.specs.declared.twice.Seen.{Seen}
-use Rattle.mh_opts.specs.declared.twice.Seen.TheVariants.{All}
-use Rattle.mh_opts.specs.Twice.{if_use, seen_after}
-use Rattle.mh_opts.proofs.twice.seen_after.Goals as goal
+use Rattle.mh_together.specs.declared.twice.Seen.{Seen}
+use Rattle.mh_together.specs.declared.twice.Seen.TheVariants.{All}
+use Rattle.mh_together.specs.Twice.{if_use, seen_after}
+use Rattle.mh_together.proofs.twice.seen_after.Goals as goal
 
 pub returns-in-One : goal.returns-in-One
 returns-in-One c =
