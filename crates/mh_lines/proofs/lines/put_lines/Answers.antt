@@ -1,7 +1,7 @@
 use Rattle.std.proofs.Common.{arith, rules}
 use Rattle.std.proofs.lemmas.Grind.{common_steps}
-use Rattle.mh_msgfile.proofs.Lines.{split_are}
-use Rattle.mh_msgfile.proofs.messages.put_lines.Goals as goal
+use Rattle.mh_lines.proofs.Splitting.{split_are}
+use Rattle.mh_lines.proofs.lines.put_lines.Goals as goal
 
 pub returns-clause-lines : goal.returns-clause-lines
 returns-clause-lines c = split_are c.args.bytes.now _ (first_of (search rules, grind (arith, common_steps)))

@@ -1,6 +1,6 @@
 use Rattle.std.proofs.Common.{arith}
 use Rattle.std.proofs.lemmas.Grind.{common_steps}
-use Rattle.mh_msgfile.proofs.lexicon.only_start.Goals as goal
+use Rattle.mh_lines.proofs.starts.only_start.Goals as goal
 
 pub returns-then-len-eq1 : goal.returns-then-len-eq1
 returns-then-len-eq1 c = grind (arith, common_steps)

@@ -8,7 +8,7 @@ use Rattle.bstr.specs.Text.{lines_of, without_terminator, no_cr}
 use Rattle.bstr.proofs.lemmas.LengthLemmas.{length-lines}
 use Rattle.bstr.proofs.lemmas.LineLemmas.{lines-nil, lines-append, lines-one}
 use Rattle.mh_grammar.specs.Text.{Text}
-use Rattle.mh_msgfile.specs.Messages.{HasNoEnd, AreLines, NoLine, LastLine, EndedLine}
+use Rattle.mh_lines.specs.Lines.{HasNoEnd, AreLines, NoLine, LastLine, EndedLine}
 
 -- ---- a line with its LF
 
