@@ -4,5 +4,5 @@ use Rattle.mh_msgfile.proofs.messages.fault_of_last.Goals as goal
 
 pub returns : goal.returns
 returns c =
-    last_told (vocabulary_in c.args.lexicon.now) c.args.lines.now c.args.block.now c.put_sentences.result c.put_sentences.new.sentences c.first_line.result c.first_fault.result c.put_sentences.ensures c.first_line.ensures
+    last_told (vocabulary_in c.args.lexicon.now) c.args.lines.now c.args.block.now c.put_sentences-read.result c.put_sentences-read.new.sentences c.first_line-line.result c.first_fault.result c.put_sentences-read.ensures c.first_line-line.ensures
     c.first_fault.ensures
