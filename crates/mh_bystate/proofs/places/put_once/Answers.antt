@@ -1,4 +1,4 @@
-use Rattle.std.proofs.Common.{◌≡◌, None, Some, refl}
+use Rattle.std.proofs.Common.{None, Some, refl}
 use Rattle.mh_bystate.proofs.Reading.{at_place}
 use Rattle.mh_bystate.proofs.places.put_once.Goals as goal
 
