@@ -1,15 +1,16 @@
 -- Sentences by the states that they fail in, one after another.
-use Rattle.std.proofs.Common.{◌≡◌, ◌≢◌, ℕ, zero, suc, ◌+◌, ◌-◌, ◌<◌, ◌≤◌, List, [], ◌∷◌, ◌++◌, length, Option, None, Some, set, get_or, replicate, refl, sym, ◌∙◌, ap, subst, arith, inl, inr, append_assoc, add-one}
+use Rattle.std.proofs.Common.{◌≡◌, ◌≢◌, ℕ, zero, suc, ◌+◌, ◌-◌, ◌<◌, ◌≤◌, List, [], ◌∷◌, ◌++◌, length, Option, None, Some, set, get_or, replicate, refl, sym, ◌∙◌, ap, subst, arith, inl, inr, append_assoc, add-one, true, false, ◌==◌}
 use Rattle.std.specs.List.{slice_get, Contains}
-use Rattle.std.proofs.lemmas.Bool.{cases_eq}
+use Rattle.std.proofs.lemmas.Bool.{cases_eq, eq-eqb, ne_eqb}
 use Rattle.std.proofs.Math.Numerals.{lt_of_le_of_ne}
 use Rattle.std.proofs.lemmas.List.{map-append, length-set, get_or-set_same, get_or-set_other, get_or-replicate, length-replicate}
-use Rattle.std.proofs.lemmas.Option.{slice_get-get_or, get_or_from_slice_get, slice_get_within, slice_get-map, slice_get_read}
+use Rattle.std.proofs.lemmas.Option.{slice_get-get_or, get_or_from_slice_get, slice_get_within, slice_get-map}
 use Rattle.mh_grammar.proofs.Lists.{get_cases, contains_push, contains_none, contains_last, contains_at, at_contains}
 use Rattle.std.proofs.lemmas.List.Elements.{Contains-append_left, recursion_from_All}
 use Rattle.mh_tables.specs.Table.{TableData}
 use Rattle.mh_tables.specs.Run.{VerdictOf, Rejected}
 use Rattle.mh_msgfile.specs.declared.messages.MsgSentence.{MsgSentence}
+use Rattle.mh_bystate.specs.Places.{PutsOnce}
 use Rattle.mh_check.specs.declared.places.Place.{Place}
 use Rattle.mh_check.specs.declared.compiling.CheckFault.{CheckFault}
 use Rattle.mh_check.specs.declared.compiling.CheckFault.TheVariants as faults
@@ -226,5 +227,18 @@ module _ (t : TableData) (x : MsgSentence) (ts : List ℕ) (same : ts ≡ x.toke
       NotRefused (ending_for v) (subst (λ (u : Verdict). IsNoRefusal (ending_for u)) (sym is) (Overshoots state)) (verdict_is v v refl verdict)
 
 -- what stands at a place
-pub at_place : (places : List (Option Place)) (s : ℕ) (o r : Option Place) → r ≡ get_or places s r → s < length places → r ≡ o → slice_get places s ≡ Some o
-at_place places s o r is lt same = slice_get_read places (length places) s r refl lt is ∙ ap Some same
+-- what was put in, or was there
+pub was_free : (old new : List (Option Place)) (s : ℕ) (p : Place) (o : Option Place) → PutsOnce old s p new o → o ≡ None → (slice_get old s ≡ Some None) × (new ≡ set old s (Some p))
+was_free old new s p None puts is = puts
+was_free old new s p (Some earlier) puts is = cc
+
+pub was_taken : (old new : List (Option Place)) (s : ℕ) (p earlier : Place) (o : Option Place) → PutsOnce old s p new o → o ≡ Some earlier → slice_get old s ≡ Some (Some earlier)
+was_taken old new s p earlier None puts is = cc
+was_taken old new s p earlier (Some found) puts is = puts.0 ∙ ap Some is
+
+-- a test of two numbers
+pub are_equal : (m n : ℕ) → (m == n) ≡ true → m ≡ n
+are_equal m n yes = elim (cases_eq m n) [ inl is ↦ is | inr other ↦ (let no : true ≡ false = sym yes ∙ ne_eqb m n other in cc) ]
+
+pub are_apart : (m n : ℕ) → (m == n) ≡ false → m ≡ n → ⊥
+are_apart m n no is = let told : true ≡ false = sym (eq-eqb m n is) ∙ no in cc

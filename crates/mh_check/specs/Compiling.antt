@@ -7,6 +7,7 @@ use Rattle.mh_msgfile.specs.declared.messages.MsgSentence.{MsgSentence}
 use Rattle.mh_msgfile.specs.declared.messages.Entry.{Entry}
 use Rattle.mh_msgfile.specs.declared.messages.MsgFile.{MsgFile}
 use Rattle.mh_run.specs.Verdicts.{ending_for}
+use Rattle.mh_bystate.specs.Places.{kept_at}
 use Rattle.mh_check.specs.declared.places.Place.{Place}
 use Rattle.mh_check.specs.declared.compiling.CheckFault.{CheckFault}
 use Rattle.mh_check.specs.declared.compiling.CheckFault.TheVariants as faults
@@ -71,7 +72,7 @@ itself_place o = o
 
 -- the place of a state, if it has one
 abbrev pub place_in : List (Option Place) → ℕ → Option Place
-place_in places s = option_and_then itself_place (slice_get places s)
+place_in places s = kept_at places s
 
 -- the message of the entry at a place
 abbrev pub message_of_place : List (List ℕ) → Option Place → Option (List ℕ)

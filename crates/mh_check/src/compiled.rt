@@ -1,8 +1,9 @@
 //! The messages of states.
 ghost use Rattle.std.specs.Prelude.{◌≡◌, ◌≤◌, ◌^◌, ◌∷◌, ◌++◌, [], length, map, filter, is_some, slice_get, MatchOption, IfOk, OnOk, Some, None};
-ghost use Rattle.mh_check.specs.Compiling.{message_at, message_of_place, place_in, is_missing, missing};
+ghost use Rattle.mh_check.specs.Compiling.{message_at, message_of_place, is_missing, missing};
 
 use crate::places::Place;
+use mh_bystate::{place_at, put_lacking};
 use mh_grammar::{Memory, Sequence};
 use std::alloc::Global;
 use std::marker::Model;
@@ -28,16 +29,6 @@ pub(crate) fn compiled_of(places: Vec<Option<Place>>, messages: Vec<Sequence<u8>
     ensures { result ≡ map (message_of_place messages.items) places.items }
 {
     Compiled { places, messages }
-}
-
-/// The place of a state, if it has one.
-fn place_at(places: &[Option<Place>], state: u32) -> Option<Place>
-    ensures { result ≡ place_in places.now state }
-{
-    match places.get(state as usize) {
-        Some(place) => *place,
-        None => None,
-    }
 }
 
 /// The message of an entry.
@@ -89,10 +80,12 @@ fn put_missing(
 ) -> Result<(), Memory>
     ensures { OnOk result (states.new.items ≡ states.old.items ++ filter (is_missing left.now right.now) (state ∷ [])) }
 {
-    if left.has_message(state) && !right.has_message(state) {
-        states.push(state)?;
-    }
-    Ok(())
+    put_lacking(
+        states,
+        left.has_message(state),
+        right.has_message(state),
+        state,
+    )
 }
 
 /// The states for which the first has a message and the second has none, rising. `Memory` only where there was none.

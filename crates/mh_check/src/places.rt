@@ -7,6 +7,7 @@ ghost use Rattle.mh_check.specs.Checks.{Breaks, FailsIn};
 ghost use Rattle.mh_check.specs.Compiling.{Item, item, items_of, Placed, PlacesAll, PlacesMore, Tells, listed};
 
 use crate::compiling::CheckFault;
+use mh_bystate::{is_last, put_once};
 use mh_grammar::Memory;
 use mh_msgfile::{Entry, MsgSentence};
 use mh_run::{Verdict, verdict};
@@ -55,7 +56,7 @@ fn failing_state(alloc: Global, table: &Halting, sentence: &MsgSentence) -> Resu
         Err(Memory) => return Err(CheckFault::Memory),
     };
     match ended {
-        Verdict::Reject { at, state } if at as usize + 1 == tokens.len() => Ok(state),
+        Verdict::Reject { at, state } if is_last(at, tokens.len()) => Ok(state),
         Verdict::Reject { at, .. } => Err(CheckFault::RefusedEarly { line, at }),
         Verdict::Accept { .. } => Err(CheckFault::NotRefused {
             line,
@@ -86,16 +87,13 @@ fn place_sentence(
         Ok(state) => state,
         Err(fault) => return Err(fault),
     };
-    match places[state as usize] {
+    match put_once(places, state, Place { line, entry }) {
         Some(earlier) => Err(CheckFault::SharedState {
             first: earlier.line,
             second: line,
             state,
         }),
-        None => {
-            places[state as usize] = Some(Place { line, entry });
-            Ok(())
-        }
+        None => Ok(()),
     }
 }
 

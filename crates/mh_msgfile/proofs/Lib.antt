@@ -1,7 +1,6 @@
 pub mod Fields
 pub mod Lexicons
 pub mod Below
-pub mod Lines
 pub mod Kept
 pub mod Turns
 pub mod Fitting

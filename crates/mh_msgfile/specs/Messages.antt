@@ -1,11 +1,11 @@
 -- Messages files: blocks of sentence lines, and behind each the block that is its message. Source: the Menhir manual
 -- (messages files), and this project's profile.
-use Rattle.std.specs.Prelude.{◌≡◌, ◌≢◌, ℕ, zero, suc, ◌+◌, ◌-◌, ◌^◌, ◌<◌, ◌==◌, not, Bool, false, List, [], ◌∷◌, ◌++◌, All, filter, flat_map, length, slice_index_or, Result, Ok, Err, ⊤}
-use Rattle.std.specs.List.{list_all, AllByRecursion}
-use Rattle.bstr.specs.Text.{no_cr}
+use Rattle.std.specs.Prelude.{◌≡◌, ℕ, zero, suc, ◌+◌, ◌^◌, ◌<◌, List, [], ◌∷◌, ◌++◌, All, filter, flat_map, length, Result, Ok, Err, ⊤}
+use Rattle.std.specs.List.{AllByRecursion}
 use Rattle.mh_grammar.specs.declared.types.Grammar.{Grammar}
 use Rattle.mh_grammar.specs.Text.{Text}
-use Rattle.mh_msgfile.specs.Sentences.{Vocabulary, vocabulary_of, LineFound, IsSentence, IsUnreadable, NamesNoStart, LacksStart, NamesUnknown, sentence_in, is_blank, runs}
+pub use Rattle.mh_lines.specs.Lines.{HasNoEnd, AreLines, NoLine, LastLine, EndedLine, line_at, is_taken_out, is_kept, is_blank_line}
+use Rattle.mh_msgfile.specs.Sentences.{Vocabulary, vocabulary_of, LineFound, IsSentence, IsUnreadable, NamesNoStart, LacksStart, NamesUnknown, sentence_in, runs}
 use Rattle.mh_msgfile.specs.declared.messages.MsgSentence.{MsgSentence}
 use Rattle.mh_msgfile.specs.declared.messages.Entry.{Entry}
 use Rattle.mh_msgfile.specs.declared.messages.MsgFile.{MsgFile}
@@ -14,40 +14,15 @@ use Rattle.mh_msgfile.specs.declared.messages.MsgFault.TheVariants as faults
 
 -- ---- lines
 
--- no LF stands in the bytes
-abbrev pub HasNoEnd : Text → Type 0
-HasNoEnd bytes = All (λ b. b ≢ 10) bytes
-
--- An LF, or a CR and an LF, ends a line and is no part of it. Behind the last LF stands a line only if it is not empty.
-pub data AreLines : Text → List Text → Type 0 where
-  NoLine : AreLines [] []
-  LastLine : (line : Text) → HasNoEnd line → 0 < length line → AreLines line (line ∷ [])
-  EndedLine : (line rest : Text) (lines : List Text) → HasNoEnd line → AreLines rest lines → AreLines (line ++ 10 ∷ rest) (no_cr line ∷ lines)
-
--- lines are numbered from 1
-abbrev pub line_at : List Text → ℕ → Text
-line_at lines number = slice_index_or lines (number - 1) []
-
 -- so many numbers, from one on
 abbrev pub numbers_from : ℕ → ℕ → List ℕ
 numbers_from number zero = []
 numbers_from number (suc count) = number ∷ numbers_from (number + 1) count
 
--- lines whose first byte is # are taken out
-abbrev pub is_taken_out : Text → Bool
-is_taken_out [] = false
-is_taken_out (b ∷ line) = b == 35
-
-abbrev pub is_kept : List Text → ℕ → Bool
-is_kept lines number = not (is_taken_out (line_at lines number))
-
 abbrev pub kept_lines : List Text → List ℕ
 kept_lines lines = filter (is_kept lines) (numbers_from 1 (length lines))
 
 -- ---- blocks, by the numbers of their lines
-
-abbrev pub is_blank_line : List Text → ℕ → Bool
-is_blank_line lines number = list_all is_blank (line_at lines number)
 
 -- runs of lines that are not blank, as if the lines that are taken out were not there
 abbrev pub blocks : List Text → List (List ℕ)

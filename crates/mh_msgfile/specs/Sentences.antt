@@ -8,6 +8,8 @@ use Rattle.mh_grammar.specs.declared.types.Grammar.{Grammar}
 use Rattle.mh_grammar.specs.declared.types.Sentence.{Sentence}
 use Rattle.mh_lex.specs.Words.{is_word}
 use Rattle.std.specs.declared.alloc.Global.{Global}
+pub use Rattle.mh_lines.specs.Lines.{is_blank}
+pub use Rattle.mh_lines.specs.Starts.{start_name, start_names, only_one}
 use Rattle.mh_msgfile.specs.declared.lexicon.Lexicon.{Lexicon}
 use Rattle.mh_msgfile.specs.declared.sentence.StartName.{StartName}
 use Rattle.mh_msgfile.specs.declared.sentence.StartName.TheVariants.{Named, LeftOut}
@@ -16,10 +18,6 @@ use Rattle.mh_msgfile.specs.declared.sentence.SentenceFault.TheVariants as fault
 use Rattle.mh_grammar.specs.Text.{Text}
 
 -- ---- names
-
--- space, tab, CR
-abbrev pub is_blank : ℕ → Bool
-is_blank b = b == 32 || (b == 9 || b == 13)
 
 -- x in front of the first list
 abbrev pub put_first : {A : Type 0} → A → List (List A) → List (List A)
@@ -52,20 +50,9 @@ pub record Vocabulary : Type 0 where
 abbrev pub token_names : Grammar → List Text
 token_names g = map (λ token. token.name) g.tokens
 
--- a start is named as its nonterminal
-abbrev pub start_name : Grammar → ℕ → Text
-start_name g start = slice_index_or (map (λ n. n.name) g.nonterminals) start []
-
-abbrev pub start_names : Grammar → List Text
-start_names g = map (start_name g) g.starts
-
 -- the number of the first of this name
 abbrev pub number_of : List Text → Text → Option ℕ
 number_of names name = position_from (bytes_eq name) 0 names
-
-abbrev pub only_one : List Text → Option ℕ
-only_one (name ∷ []) = Some 0
-only_one _ = None
 
 abbrev pub vocabulary_of : Grammar → Vocabulary
 vocabulary_of g = record { start_named = number_of (start_names g); only_start = only_one (start_names g); token_named = number_of (token_names g) }

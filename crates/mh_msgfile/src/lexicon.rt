@@ -6,6 +6,7 @@ ghost use Rattle.mh_msgfile.specs.Sentences.{AreNumbers, PutsName, start_names, 
 
 use indexmap::IndexMap;
 use mh_grammar::{Grammar, Memory, Token, TokenInfo};
+use mh_lines::only_start;
 use std::alloc::Global;
 
 /// The numbers of a grammar's starts and tokens by their names, made once for all of its lines. A start has the name of its
@@ -65,16 +66,6 @@ fn number_starts(
         put_name(alloc, numbers, nonterminal.name.as_slice(), number as u16)?;
     }
     Ok(())
-}
-
-fn only_start(grammar: &Grammar) -> Option<u16>
-    ensures { result ≡ only_one (start_names grammar.now) }
-{
-    if grammar.starts.len() == 1 {
-        Some(0)
-    } else {
-        None
-    }
 }
 
 impl Lexicon {

@@ -1,16 +1,14 @@
 //! Messages files: blocks of sentence lines, and behind each the block that is its message.
 ghost use Rattle.std.specs.Prelude.{◌≡◌, ◌<◌, ◌≤◌, ◌^◌, ◌∷◌, ◌++◌, [], length, filter, Err, IfOk, OnOk};
-ghost use Rattle.std.specs.List.{list_all};
 ghost use Rattle.mh_grammar.specs.Plain.{plain_of, IsInRange};
 ghost use Rattle.mh_grammar.specs.declared.types.Grammar.{Grammar as Grammar'};
-ghost use Rattle.mh_msgfile.specs.Sentences.{vocabulary_in, vocabulary_of, LineFound, FirstPiece, is_blank as is_separator, blank_count, piece_size, runs, ReadsSentence};
-ghost use Rattle.mh_msgfile.specs.Messages.{AreLines, line_at as line_text, is_taken_out as has_number_sign, is_kept, kept_lines as kept, is_blank_line as is_blank_number, blocks, first_number, message_of as message_text, AreOf, given, ReadsMessages, ReadsBlock, ReadsEntry, TellsLast, ReadsEntries, TellsLine};
+ghost use Rattle.mh_msgfile.specs.Sentences.{vocabulary_in, vocabulary_of, LineFound, FirstPiece, blank_count, piece_size, runs, ReadsSentence};
+ghost use Rattle.mh_msgfile.specs.Messages.{is_kept as is_kept_number, kept_lines as kept, is_blank_line as is_blank_number, blocks, first_number, message_of as message_text, AreOf, given, ReadsMessages, ReadsBlock, ReadsEntry, TellsLast, ReadsEntries, TellsLine};
 
 use crate::lexicon::Lexicon;
-use crate::pieces::is_blank;
 use crate::sentence::SentenceFault;
-use bstr::ByteSlice;
-use mh_grammar::{Grammar, Memory, Name, Sequence, Token, from_bytes};
+use mh_grammar::{Grammar, Memory, Name, Sequence, Token};
+use mh_lines::{first_fault, is_blank_line, is_kept, line_at, put_lines};
 use std::alloc::{AllocError, AllocFailed, Global};
 
 /// A sentence of a messages file.
@@ -54,43 +52,11 @@ pub enum MsgFault {
     Memory,
 }
 
-/// Puts in the lines of a file.
-fn put_lines(alloc: Global, lines: &mut Sequence<Name>, bytes: &[u8]) -> Result<(), Memory>
-    requires { lines.old ≡ [] }
-    ensures lines { OnOk result (AreLines bytes.now lines.new) }
-    ensures few { OnOk result (length lines.new ≤ length bytes.now) }
-{
-    for line in bytes.lines() {
-        lines.push(from_bytes(alloc, line)?)?;
-    }
-    Ok(())
-}
-
-/// The line of a number.
-fn line_at(lines: &[Name], number: u32) -> &[u8]
-    ensures { result.now ≡ line_text lines.now number }
-{
-    match lines.get((number as usize).saturating_sub(1)) {
-        Some(line) => line.as_slice(),
-        None => b"",
-    }
-}
-
-/// Whether the first byte is `#`.
-fn is_taken_out(line: &[u8]) -> bool
-    ensures { result ≡ has_number_sign line.now }
-{
-    match line.first() {
-        Some(first) => *first == b'#',
-        None => false,
-    }
-}
-
 /// Puts in the number of a line, if it is not taken out.
 fn put_kept(numbers: &mut Vec<u32>, lines: &[Name], number: u32) -> Result<(), Memory>
-    ensures { OnOk result (numbers.new.items ≡ numbers.old.items ++ filter (is_kept lines.now) (number ∷ [])) }
+    ensures { OnOk result (numbers.new.items ≡ numbers.old.items ++ filter (is_kept_number lines.now) (number ∷ [])) }
 {
-    if !is_taken_out(line_at(lines, number)) {
+    if is_kept(lines, number) {
         numbers.push(number)?;
     }
     Ok(())
@@ -106,20 +72,6 @@ fn kept_lines(alloc: Global, lines: &[Name]) -> Result<Vec<u32>, Memory>
         put_kept(&mut numbers, lines, place as u32 + 1)?;
     }
     Ok(numbers)
-}
-
-/// Whether nothing but blanks stands in a line.
-fn is_blank_text(line: &[u8]) -> bool
-    ensures { result ≡ list_all is_separator line.now }
-{
-    line.iter().all(|byte| is_blank(*byte))
-}
-
-/// Whether nothing but blanks stands in the line of this number.
-fn is_blank_line(lines: &[Name], number: u32) -> bool
-    ensures { result ≡ is_blank_number lines.now number }
-{
-    is_blank_text(line_at(lines, number))
 }
 
 /// How many lines in front are blank.
@@ -252,12 +204,9 @@ fn fault_of_last(alloc: Global, lexicon: &Lexicon, lines: &[Name], block: &[u32]
     ensures { TellsLast (vocabulary_in lexicon.now) lines.now block.now result }
 {
     let mut sentences = Sequence::new(alloc);
-    match put_sentences(alloc, lexicon, lines, block, &mut sentences) {
-        Ok(()) => MsgFault::Shape {
-            line: first_line(block),
-        },
-        Err(fault) => fault,
-    }
+    let read = put_sentences(alloc, lexicon, lines, block, &mut sentences);
+    let line = first_line(block);
+    first_fault(read, MsgFault::Shape { line })
 }
 
 /// Puts in the entries of the blocks of these lines.

@@ -2,11 +2,7 @@
 ghost use Rattle.std.specs.Prelude.{◌≡◌, ◌≤◌, length};
 ghost use Rattle.mh_msgfile.specs.Sentences.{is_blank as is_blank_byte, blank_count, piece_size, FirstPiece};
 
-pub(crate) fn is_blank(byte: u8) -> bool
-    ensures { result ≡ is_blank_byte byte }
-{
-    byte == b' ' || byte == b'\t' || byte == b'\r'
-}
+use mh_lines::is_blank;
 
 /// How many blanks stand in front.
 fn count_blanks(bytes: &[u8]) -> usize

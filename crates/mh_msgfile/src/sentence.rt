@@ -8,6 +8,7 @@ use crate::lexicon::Lexicon;
 use crate::pieces::first_piece;
 use mh_grammar::{Grammar, Memory, Name, Sentence, Sequence, Token, from_bytes};
 use mh_lex::is_word;
+use mh_lines::{first_of, told_name};
 use std::alloc::{AllocError, AllocFailed, Global};
 
 /// Why a line is no sentence.
@@ -91,7 +92,7 @@ fn put_tokens<'a>(
                     return Err(SentenceFault::Memory);
                 }
             }
-            None => unknown = unknown.or(Some(name)),
+            None => unknown = first_of(unknown, name),
         }
         rest = behind;
     }
@@ -140,13 +141,13 @@ fn put_sentence(
     ensures few { OnOk result (length tokens.new.items ≤ length names.now) }
 {
     match put_tokens(tokens, lexicon, names) {
-        Ok(unknown) => match find_start(alloc, lexicon, start) {
-            Ok(start) => match unknown {
+        Ok(unknown) => {
+            let found = find_start(alloc, lexicon, start);
+            match told_name(found.is_ok(), unknown) {
                 Some(name) => Err(unknown_token(alloc, name)),
-                None => Ok(start),
-            },
-            Err(no_start) => Err(no_start),
-        },
+                None => found,
+            }
+        }
         Err(fault) => Err(fault),
     }
 }

@@ -1,8 +1,12 @@
-//! How numbers, symbols, productions and items are written.
+//! How numbers, symbols, productions, items, holes and warnings are written.
 #![tactic(auto)]
 
+mod cells;
 mod items;
+mod warnings;
 
+pub use cells::{write_indented, write_refusal};
 pub use items::{
     look_name, write_between, write_item_lines, write_names, write_number, write_production,
 };
+pub use warnings::write_warning;

@@ -3,7 +3,6 @@ pub mod Files
 pub mod Given
 pub mod Known
 pub mod Once
-pub mod Renaming
 pub mod Rows
 pub mod Taken
 pub mod Told

@@ -3,7 +3,7 @@
 use Rattle.std.specs.Prelude.{Some, List, [], ◌∷◌, codes, map, true}
 use Rattle.clap.specs.Words.{App, Rule, Text, new_app, new_rule, with_rule}
 use Rattle.clap.specs.Simple.{on_top}
-use Rattle.clap.specs.declared.builder.action.ArgAction.TheVariants.{Append}
+use Rattle.mh_together.specs.Files.{files_rule}
 use Rattle.mh_opts.specs.declared.jobs.Opt.{Opt}
 use Rattle.mh_opts.specs.declared.jobs.TheConstants.{GRAMMARS, OPTIONS}
 
@@ -22,7 +22,7 @@ option_rule option = record (new_rule option.name) { long = Some option.name; ac
 
 -- the words that are no options
 abbrev pub grammars_rule : Rule
-grammars_rule = record (new_rule GRAMMARS.now) { action = Some Append }
+grammars_rule = files_rule GRAMMARS.now
 
 -- the program's name is no word
 abbrev pub bare_app : App

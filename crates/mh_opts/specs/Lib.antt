@@ -1,4 +1,5 @@
 pub mod App
+pub mod Asking
 pub mod Numbers
 pub mod Orders
 pub mod Reading

@@ -4,6 +4,7 @@ use Rattle.std.specs.Prelude.{◌≡◌, ℕ, ◌++◌, is_none, Bool, true, fal
 use Rattle.clap.specs.Words.{Row, Text, all_of, first_of, fault_of, matches_of}
 use Rattle.clap.specs.Walk.{is_empty}
 use Rattle.clap.specs.Takes.{is_given}
+use Rattle.mh_together.specs.Tables.{has_own_table}
 use Rattle.mh_opts.specs.declared.jobs.Mode.{Mode}
 use Rattle.mh_opts.specs.declared.jobs.Mode.TheVariants as mode
 use Rattle.mh_opts.specs.declared.jobs.Need.{Need}
@@ -109,7 +110,7 @@ is_sample mode = false
 
 -- A table file is named beside the mode of a table that is to be built, or beside a sample.
 abbrev pub clashes : List Row → Mode → Bool
-clashes rows mode = is_given TABLES.now rows && (is_given CANONICAL.now rows || is_sample mode)
+clashes rows mode = is_given TABLES.now rows && has_own_table (is_given CANONICAL.now rows) (is_sample mode)
 
 -- A sample has its own grammar; each other mode needs a grammar file.
 abbrev pub order_with : List Row → Mode → Option Text → Result Order UsageFault

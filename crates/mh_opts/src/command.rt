@@ -4,7 +4,8 @@ ghost use Rattle.clap.specs.Words.{app_of, rule_of, with_rule};
 ghost use Rattle.mh_opts.specs.App.{bare_app, grammars_rule, menhir_app, option_rule, plain, plain_rows, with_options};
 
 use crate::jobs::{GRAMMARS, Opt, options};
-use clap::{Arg, ArgAction, Command};
+use clap::{Arg, Command};
+use mh_together::files;
 use std::alloc::{AllocError, Global};
 
 /// The argument of an option.
@@ -14,14 +15,6 @@ fn argument<'a>(alloc: Global, option: &Opt<&'a str>) -> Arg<'a>
 {
     let name = option.name;
     Arg::new(alloc, name).long(name).action(option.action)
-}
-
-/// The argument of the words that are no options.
-fn grammar_files<'a>(alloc: Global) -> Arg<'a>
-    ensures rule { rule_of result ≡ grammars_rule }
-    ensures local { result.global ≡ false }
-{
-    Arg::new(alloc, GRAMMARS).action(ArgAction::Append)
 }
 
 /// The command with these options more. Each argument is made by a function of its own, which holds no command: the steps that hold
@@ -45,7 +38,7 @@ fn bare_command<'a>(alloc: Global) -> Result<Command<'a>, AllocError>
 {
     Command::new(alloc, "menhir")
         .no_binary_name(true)
-        .arg(grammar_files(alloc))
+        .arg(files(alloc, GRAMMARS))
 }
 
 /// The command.

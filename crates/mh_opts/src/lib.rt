@@ -7,7 +7,6 @@ mod jobs;
 mod laws;
 mod numbers;
 mod order;
-mod twice;
 mod words;
 
 pub use jobs::Job;

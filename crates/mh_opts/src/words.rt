@@ -1,9 +1,9 @@
 //! The order that words spell.
-ghost use Rattle.std.specs.Prelude.{◌≡◌, ◌||◌, IfOk, Ok, not, option_map, map, string_bytes};
-ghost use Rattle.clap.specs.Takes.{is_given as is_given_in};
+ghost use Rattle.std.specs.Prelude.{◌≡◌, IfOk, Ok, not, option_map, map, string_bytes};
 ghost use Rattle.clap.specs.Walk.{is_empty};
 ghost use Rattle.clap.specs.Words.{first_of, found_of, rows_of};
 ghost use Rattle.mh_opts.specs.Orders as orders;
+ghost use Rattle.mh_opts.specs.Asking.{asked_in, only_of};
 ghost use Rattle.mh_opts.specs.Orders.{Answers, grammars_of, lacks, misplaced_in, mode_at, mode_in, needs, order_in, order_of, order_renamed, plain_need, written};
 ghost use Rattle.mh_opts.specs.App.{options, plain};
 ghost use Rattle.mh_opts.specs.declared.jobs.TheConstants as constants;
@@ -15,10 +15,10 @@ use crate::jobs::{
     TABLES, job_of, needs, options,
 };
 use crate::order::{Order, UsageFault};
-use crate::twice::{is_reserved, renamed};
 use clap::ArgMatches;
 use clap::error::ErrorKind;
 use mh_grammar::{Memory, Name, Sequence, from_bytes};
+use mh_together::{Asked, has_own_table, is_reserved, renamed, with_next};
 use std::alloc::Global;
 
 /// The mode of an option, where the words hold it.
@@ -32,21 +32,34 @@ fn mode_of(matches: &ArgMatches<'_>, option: &Opt<&str>) -> Option<Mode>
     }
 }
 
+/// The modes that the words hold.
+fn modes_of(matches: &ArgMatches<'_>) -> Asked<Mode>
+    ensures { result ≡ asked_in (rows_of (found_of matches.now)) options }
+{
+    let options = options();
+    let mut asked = Asked::Nothing;
+    for option in options {
+        asked = with_next(asked, mode_of(matches, option));
+    }
+    asked
+}
+
+/// The only one of these modes.
+fn only(asked: Asked<Mode>) -> Result<Mode, UsageFault>
+    ensures { result ≡ only_of asked }
+{
+    match asked {
+        Asked::Nothing => Err(UsageFault::NoMode),
+        Asked::One(mode) => Ok(mode),
+        Asked::Several => Err(UsageFault::TwoModes),
+    }
+}
+
 /// The only mode.
 fn only_mode(matches: &ArgMatches<'_>) -> Result<Mode, UsageFault>
     ensures { Answers (mode_in (rows_of (found_of matches.now)) options) result }
 {
-    let options = options();
-    let mut found = None;
-    for option in options {
-        if let Some(mode) = mode_of(matches, option) {
-            if found.is_some() {
-                return Err(UsageFault::TwoModes);
-            }
-            found = Some(mode);
-        }
-    }
-    found.ok_or(UsageFault::NoMode)
+    only(modes_of(matches))
 }
 
 /// Whether an option stands without what it needs.
@@ -155,18 +168,11 @@ fn is_sample(mode: Mode) -> bool
     matches!(mode, Mode::Sample)
 }
 
-/// Whether a mode works with a table that no file gives: that of a sample, or the one that is asked for by its kind.
-fn has_own_table(matches: &ArgMatches<'_>, mode: Mode) -> bool
-    ensures { result ≡ (is_given_in constants.CANONICAL.now (rows_of (found_of matches.now)) || orders.is_sample mode) }
-{
-    is_given(matches, CANONICAL) || is_sample(mode)
-}
-
 /// Whether a table file is named where its table would not be used: it has a mode of its own, and is for a grammar that files spell.
 fn clashes(matches: &ArgMatches<'_>, mode: Mode) -> bool
     ensures { result ≡ orders.clashes (rows_of (found_of matches.now)) mode }
 {
-    is_given(matches, TABLES) && has_own_table(matches, mode)
+    is_given(matches, TABLES) && has_own_table(is_given(matches, CANONICAL), is_sample(mode))
 }
 
 /// The order for a mode, where each option has a meaning and there is a grammar.

@@ -19,6 +19,7 @@ use Rattle.mh_cells.specs.States.{state_of}
 use Rattle.mh_cells.specs.Holes.{AreHoles}
 use Rattle.mh_grammar.specs.Text.{Text}
 use Rattle.mh_notation.specs.Items.{production_text, item_lines}
+use Rattle.mh_notation.specs.Cells.{refusal_line}
 
 abbrev pub title : Mode → ℕ → Text
 title mode states = mode_name mode ++ codes ": " ++ decimal states ++ codes " states\n"
@@ -30,8 +31,7 @@ kernel_lines g items = item_lines (codes "  ") g items
 abbrev pub cell_line : Grammar → ℕ → Action → Bool → Text
 cell_line g z (Shift j) hole = codes "  " ++ token_name g z ++ codes ": shift " ++ decimal j ++ codes "\n"
 cell_line g z (Reduce p) hole = codes "  " ++ token_name g z ++ codes ": reduce " ++ production_text g p ++ codes "\n"
-cell_line g z Refuse true = codes "  " ++ token_name g z ++ codes ": hole\n"
-cell_line g z Refuse false = []
+cell_line g z Refuse hole = refusal_line g z hole
 
 -- the lines of the first n tokens
 abbrev pub cell_lines : Grammar → TableData → ℕ → List Bool → ℕ → Text

@@ -4,7 +4,6 @@ ghost use Rattle.std.specs.List.{All};
 ghost use Rattle.mh_grammar.specs.Plain.{plain_of, IsInRange};
 ghost use Rattle.mh_kernels.specs.Kernels.{IsKernelItem};
 ghost use Rattle.mh_kernels.specs.Automaton.{IsAutomaton, kernel_at, edges_at};
-ghost use Rattle.mh_tables.specs.declared.parts.Action.TheVariants.{Refuse};
 ghost use Rattle.mh_tables.specs.Table.{cell_of, fallback_of};
 ghost use Rattle.mh_cells.specs.declared.kinds.Mode.{Mode as ModeOf};
 ghost use Rattle.mh_cells.specs.States.{IsTableOf};
@@ -15,7 +14,9 @@ ghost use Rattle.mh_report.specs.Automata.{title, kernel_lines, cell_line, cell_
 use mh_cells::{Mode, holes_of};
 use mh_grammar::{Edge, Grammar, Memory, Symbol, Token, nonterminal_name, token_name};
 use mh_kernels::{Automaton, KernelItem};
-use mh_notation::{write_between, write_item_lines, write_production};
+use mh_notation::{
+    write_between, write_indented, write_item_lines, write_production, write_refusal,
+};
 use mh_tables::{Action, Fallback, Halting, Table};
 use std::alloc::Global;
 
@@ -36,15 +37,6 @@ fn write_title(alloc: Global, text: &mut Vec<u8>, mode: Mode, states: u32) -> Re
     write_between(alloc, text, b": ", states, b" states\n")
 }
 
-// A name, two spaces in.
-fn write_indented(text: &mut Vec<u8>, name: &[u8]) -> Result<(), Memory>
-    ensures { OnOk result (text.new.items ≡ text.old.items ++ (codes "  " ++ name.now)) }
-{
-    text.extend_from_slice(b"  ")?;
-    text.extend_from_slice(name)?;
-    Ok(())
-}
-
 // A line that ends in a production.
 fn write_reduction(
     text: &mut Vec<u8>,
@@ -58,23 +50,6 @@ fn write_reduction(
     text.extend_from_slice(front)?;
     write_production(text, grammar, production)?;
     text.push(b'\n')?;
-    Ok(())
-}
-
-// A cell that refuses: a line where it is a hole.
-fn write_refusal(
-    text: &mut Vec<u8>,
-    grammar: &Grammar,
-    token: Token,
-    is_hole: bool,
-) -> Result<(), Memory>
-    ensures { OnOk result (text.new.items ≡ text.old.items
-        ++ cell_line grammar.now token Refuse is_hole) }
-{
-    if is_hole {
-        write_indented(text, token_name(grammar, token))?;
-        text.extend_from_slice(b": hole\n")?;
-    }
     Ok(())
 }
 

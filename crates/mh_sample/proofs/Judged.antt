@@ -41,7 +41,9 @@ module _ (t : TableData) where
       subst (λ (l : List Sentence). HaveEndings t l (map ending_for new)) same (adds (each_from f 0 k) so_far)
 
   -- of all sentences of a sample
-  pub endings_all : (g : Grammar) (number k : ℕ) (v : Vocabulary) (vs : List Ending) → v ≡ vocabulary_of g → k ≡ operators_of number → HaveEndings t (each_from (sentences_at v k) 0 3000) vs → HaveEndings t (sample_sentences g number) vs
+  pub endings_all : (g : Grammar) (number k count : ℕ) (v : Vocabulary) (vs : List Ending) → v ≡ vocabulary_of g → k ≡ operators_of number → count ≡ 3000 → HaveEndings t (each_from (sentences_at v k) 0 count) vs
+      → HaveEndings t (sample_sentences g number) vs
   unfolding sample_sentences
-  endings_all g number k v vs words operators all =
-      subst (λ (n : ℕ). HaveEndings t (each_from (sentences_at (vocabulary_of g) n) 0 3000) vs) operators (subst (λ (u : Vocabulary). HaveEndings t (each_from (sentences_at u k) 0 3000) vs) words all)
+  endings_all g number k count v vs words operators sentences all =
+      subst (λ (n : ℕ). HaveEndings t (each_from (sentences_at (vocabulary_of g) n) 0 3000) vs) operators
+      (subst (λ (u : Vocabulary). HaveEndings t (each_from (sentences_at u k) 0 3000) vs) words (subst (λ (n : ℕ). HaveEndings t (each_from (sentences_at v k) 0 n) vs) sentences all))

@@ -1,14 +1,15 @@
 -- What the sentences of a sample come to on a table. The line is this project's own.
-use Rattle.std.specs.Prelude.{◌≡◌, ℕ, Bool, true, false, List, [], ◌∷◌, ◌++◌, length, count_by, codes, decimal}
+use Rattle.std.specs.Prelude.{◌≡◌, ℕ, List, [], ◌∷◌, ◌++◌, length, count_by, codes, decimal}
 use Rattle.std.specs.List.{AllZip}
 use Rattle.mh_grammar.specs.declared.types.Grammar.{Grammar}
 use Rattle.mh_grammar.specs.declared.types.Sentence.{Sentence}
 use Rattle.mh_grammar.specs.Plain.{plain_of}
 use Rattle.mh_tables.specs.Table.{TableData}
-use Rattle.mh_tables.specs.Run.{VerdictOf, Ending, Accepted, Overshot, Rejected}
+use Rattle.mh_tables.specs.Run.{VerdictOf, Ending}
 use Rattle.mh_msgfile.specs.Sentences.{Vocabulary, vocabulary_of, vocabulary_in, LineFound, IsSentence, sentence_in}
 use Rattle.mh_msgfile.specs.declared.lexicon.Lexicon.{Lexicon}
-use Rattle.mh_sample.specs.declared.texts.TheConstants.{SENTENCES}
+use Rattle.mh_amounts.specs.declared.amounts.TheConstants.{SENTENCES}
+pub use Rattle.mh_amounts.specs.Endings.{is_accepted, is_overshot, is_rejected}
 use Rattle.mh_grammar.specs.Text.{Text}
 use Rattle.mh_sample.specs.Texts.{each_from, operators_of, sentence_text}
 
@@ -32,21 +33,6 @@ abbrev pub HaveEndings : TableData → List Sentence → List Ending → Type 0
 HaveEndings t sentences endings = AllZip (λ s how. VerdictOf t s.start s.tokens how) sentences endings
 
 -- ---- the line
-
-abbrev pub is_accepted : Ending → Bool
-is_accepted (Accepted read) = true
-is_accepted (Overshot state) = false
-is_accepted (Rejected at state) = false
-
-abbrev pub is_overshot : Ending → Bool
-is_overshot (Accepted read) = false
-is_overshot (Overshot state) = true
-is_overshot (Rejected at state) = false
-
-abbrev pub is_rejected : Ending → Bool
-is_rejected (Accepted read) = false
-is_rejected (Overshot state) = false
-is_rejected (Rejected at state) = true
 
 -- the number, and the sizes of the grammar
 unfoldable pub grammar_sizes : ℕ → ℕ → ℕ → Text

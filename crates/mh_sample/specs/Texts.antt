@@ -1,7 +1,8 @@
 -- The sample: for each number a grammar of expressions with so many levels, and sentences of it, of which a part lacks its last
 -- parenthesis. All of it is this project's own.
-use Rattle.std.specs.Prelude.{ℕ, zero, suc, ◌+◌, ◌-◌, ◌*◌, ◌%◌, List, [], ◌∷◌, ◌++◌, nat_eq, if◌then◌else◌, codes, decimal}
-use Rattle.mh_sample.specs.declared.texts.TheConstants.{SENTENCES}
+use Rattle.std.specs.Prelude.{ℕ, zero, suc, ◌+◌, ◌-◌, ◌%◌, List, [], ◌∷◌, ◌++◌, codes, decimal}
+use Rattle.mh_amounts.specs.declared.amounts.TheConstants.{SENTENCES}
+pub use Rattle.mh_amounts.specs.Amounts.{operators_of, operator_at, opened, closed}
 use Rattle.mh_grammar.specs.Text.{Text}
 
 -- a text so many times
@@ -15,10 +16,6 @@ each_from f number zero = []
 each_from f number (suc count) = f number ++ each_from f (number + 1) count
 
 -- ---- the grammar
-
--- from 2 to 31
-abbrev pub operators_of : ℕ → ℕ
-operators_of number = 2 + number % 30
 
 unfoldable pub token_line : ℕ → Text
 token_line j = codes "%token OP" ++ decimal j ++ codes "\n"
@@ -45,20 +42,8 @@ grammar_text number =
 
 -- ---- the sentences
 
--- the operator at a place of a sentence, counted from 1
-abbrev pub operator_at : ℕ → ℕ → ℕ → ℕ
-operator_at operators sentence place = 1 + (sentence * place) % operators
-
 unfoldable pub operand_text : ℕ → Text
 operand_text operator = codes " OP" ++ decimal operator ++ codes " INT"
-
--- how many parentheses it opens
-abbrev pub opened : ℕ → ℕ
-opened sentence = sentence % 17
-
--- and closes: in each third sentence one too few, where it opens any
-abbrev pub closed : ℕ → ℕ
-closed sentence = if nat_eq (sentence % 3) 0 then opened sentence - 1 else opened sentence
 
 -- names with one space between them
 unfoldable pub sentence_text : ℕ → ℕ → Text

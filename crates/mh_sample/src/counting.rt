@@ -5,11 +5,12 @@ ghost use Rattle.mh_grammar.specs.Plain.{plain_of, IsInRange};
 ghost use Rattle.mh_grammar.specs.declared.types.Sentence.{Sentence as Sentence'};
 ghost use Rattle.mh_run.specs.Verdicts.{ending_for};
 ghost use Rattle.mh_msgfile.specs.Sentences.{vocabulary_in, vocabulary_of, sentence_in};
-ghost use Rattle.mh_sample.specs.declared.texts.TheConstants.{SENTENCES};
+ghost use Rattle.mh_amounts.specs.declared.amounts.TheConstants.{SENTENCES};
 ghost use Rattle.mh_sample.specs.Texts.{each_from, operators_of, sentence_text};
 ghost use Rattle.mh_sample.specs.Counts.{HaveEndings, IsSampleLine, SpeaksOf, counts_line as counts_text, endings_text, grammar_sizes, table_sizes, is_accepted, is_overshot, is_rejected, sample_sentences, sentences_of, sentences_at};
 
-use crate::texts::{SENTENCES, operators, write_sentence};
+use crate::texts::write_sentence;
+use mh_amounts::{accepts, operators, overshoots, rejects, sentences};
 use mh_grammar::{Grammar, Memory, Sentence};
 use mh_msgfile::{Lexicon, SentenceFault};
 use mh_run::{Verdict, verdict};
@@ -108,37 +109,7 @@ fn judge_sample(
     ensures { IfOk result (λ verdicts. HaveEndings table.now (sample_sentences grammar.now number) (map ending_for verdicts.items)) }
 {
     let lexicon = Lexicon::new(alloc, grammar)?;
-    judge_sentences(alloc, &lexicon, table, operators(number), SENTENCES)
-}
-
-fn accepts(verdict: Verdict) -> bool
-    ensures { result ≡ is_accepted (ending_for verdict) }
-{
-    match verdict {
-        Verdict::Accept { .. } => true,
-        Verdict::Overshoot { .. } => false,
-        Verdict::Reject { .. } => false,
-    }
-}
-
-fn overshoots(verdict: Verdict) -> bool
-    ensures { result ≡ is_overshot (ending_for verdict) }
-{
-    match verdict {
-        Verdict::Accept { .. } => false,
-        Verdict::Overshoot { .. } => true,
-        Verdict::Reject { .. } => false,
-    }
-}
-
-fn rejects(verdict: Verdict) -> bool
-    ensures { result ≡ is_rejected (ending_for verdict) }
-{
-    match verdict {
-        Verdict::Accept { .. } => false,
-        Verdict::Overshoot { .. } => false,
-        Verdict::Reject { .. } => true,
-    }
+    judge_sentences(alloc, &lexicon, table, operators(number), sentences())
 }
 
 fn count_accepts(verdicts: &[Verdict]) -> usize

@@ -1,9 +1,10 @@
 //! The grammar and the sentences of a number.
 ghost use Rattle.std.specs.Prelude.{◌≡◌, ◌<◌, ◌≤◌, ◌+◌, ◌-◌, ◌%◌, ◌++◌, IfOk, OnOk};
-ghost use Rattle.mh_sample.specs.declared.texts.TheConstants.{SENTENCES};
+ghost use Rattle.mh_amounts.specs.declared.amounts.TheConstants.{SENTENCES};
 ghost use Rattle.mh_sample.specs.Texts.{operators_of, each_from, token_line, left_text, right_text, level_line, last_level_line, grammar_text, operator_at, operand_text, opened, closed, sentence_text, sentence_line, sentences_text};
 
 use crate::repeating::write_times;
+use mh_amounts::{count_closed, operator, operators, sentences};
 use mh_grammar::Memory;
 use std::alloc::Global;
 
@@ -12,16 +13,6 @@ use std::alloc::Global;
 pub struct Sample {
     pub grammar: Vec<u8>,
     pub sentences: Vec<u8>,
-}
-
-/// How many sentences a sample has.
-pub(crate) const SENTENCES: u32 = 3_000;
-
-/// How many operators the grammar of a number has.
-pub(crate) fn operators(number: u32) -> u32
-    ensures { result ≡ operators_of number }
-{
-    2 + number % 30
 }
 
 #[tactic(auto, unfolding(crate::specs::Texts::token_line))]
@@ -120,17 +111,6 @@ fn write_operand(alloc: Global, text: &mut Vec<u8>, operator: u32) -> Result<(),
     Ok(())
 }
 
-/// The operator at a place of a sentence.
-fn operator(operators: u32, sentence: u32, place: u32) -> u32
-    requires some { 0 < operators }
-    requires few { operators < 32 }
-    requires sentence { sentence < SENTENCES }
-    requires place { place < 5 }
-    ensures { result ≡ operator_at operators sentence place }
-{
-    1 + sentence * place % operators
-}
-
 /// Writes the operators of a sentence with their operands.
 fn write_operands(
     alloc: Global,
@@ -147,18 +127,6 @@ fn write_operands(
         write_operand(alloc, text, operator(operators, sentence, place + 1))?;
     }
     Ok(())
-}
-
-/// How many parentheses a sentence closes: one too few in each third, where it opens any.
-fn count_closed(sentence: u32) -> u32
-    ensures { result ≡ closed sentence }
-{
-    let count = sentence % 17;
-    if sentence % 3 == 0 {
-        count.saturating_sub(1)
-    } else {
-        count
-    }
 }
 
 /// Writes a sentence without an LF.
@@ -222,6 +190,6 @@ pub(crate) fn sample_sentences(alloc: Global, number: u32) -> Result<Vec<u8>, Me
     ensures { IfOk result (λ text. text.items ≡ sentences_text number) }
 {
     let mut text = Vec::new(alloc);
-    write_sentences(alloc, &mut text, operators(number), SENTENCES)?;
+    write_sentences(alloc, &mut text, operators(number), sentences())?;
     Ok(text)
 }

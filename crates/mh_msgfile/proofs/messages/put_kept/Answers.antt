@@ -4,5 +4,5 @@ use Rattle.mh_msgfile.proofs.messages.put_kept.Goals as goal
 pub returns-in_ok-push : goal.returns-in_ok-push
 returns-in_ok-push c = search rules
 
-pub returns-else-not-is_taken_out : goal.returns-else-not-is_taken_out
-returns-else-not-is_taken_out c = search rules
+pub returns-else-is_kept : goal.returns-else-is_kept
+returns-else-is_kept c = search rules

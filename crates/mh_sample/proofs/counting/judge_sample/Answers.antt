@@ -7,4 +7,4 @@ use Rattle.mh_sample.proofs.counting.judge_sample.Goals as goal
 pub returns : goal.returns
 returns c =
     more_if_ok c.judge_sentences.result _ _
-    (λ vs all. endings_all c.args.table.now c.args.grammar.now c.args.number c.operators.result (vocabulary_in c.in_ok-lexicon.lexicon) (map ending_for vs.items) c.in_ok-lexicon.ensures c.operators.ensures all) c.judge_sentences.ensures
+    (λ vs all. endings_all c.args.table.now c.args.grammar.now c.args.number c.operators.result c.sentences.result (vocabulary_in c.in_ok-lexicon.lexicon) (map ending_for vs.items) c.in_ok-lexicon.ensures c.operators.ensures c.sentences.ensures all) c.judge_sentences.ensures

@@ -1,0 +1,3 @@
+pub mod First
+pub mod Lines
+pub mod Starts

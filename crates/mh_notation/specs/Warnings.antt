@@ -1,0 +1,23 @@
+-- The warning on a conflict of a table (the texts are this project's own).
+use Rattle.std.specs.Prelude.{ℕ, [], ◌++◌, codes, decimal}
+use Rattle.mh_grammar.specs.declared.types.Grammar.{Grammar}
+use Rattle.mh_grammar.specs.declared.types.Look.{Look}
+use Rattle.mh_cells.specs.declared.kinds.ConflictKind.{ConflictKind}
+use Rattle.mh_cells.specs.declared.kinds.ConflictKind.TheVariants.{Solved, Unsolved, Stream}
+use Rattle.mh_grammar.specs.Text.{Text}
+use Rattle.mh_cells.specs.Names.{look_name}
+
+unfoldable pub conflict_place : ℕ → Text
+conflict_place s = codes "menhir: warning: conflict in state " ++ decimal s ++ codes " on "
+
+abbrev pub unsolved_line : Grammar → ℕ → Look → Text
+unsolved_line g s look = conflict_place s ++ look_name g look ++ codes "\n"
+
+abbrev pub stream_line : ℕ → Text
+stream_line s = codes "menhir: warning: end-of-stream conflict in state " ++ decimal s ++ codes "\n"
+
+-- a solved conflict is not warned of
+abbrev pub warning_line : Grammar → ℕ → Look → ConflictKind → Text
+warning_line g s look Solved = []
+warning_line g s look Unsolved = unsolved_line g s look
+warning_line g s look Stream = stream_line s

@@ -1,0 +1,12 @@
+use Rattle.std.proofs.Common.{◌≡◌, drop, map}
+use Rattle.clap.specs.Words.{found_of, rows_of}
+use Rattle.mh_together.specs.Modes.{with_all}
+use Rattle.mh_opts.specs.App.{options, plain_rows}
+use Rattle.mh_opts.specs.Asking.{asked_in}
+use Rattle.mh_opts.specs.Orders.{mode_at}
+use Rattle.mh_opts.proofs.words.modes_of.Given as goal
+
+abbrev pub invariant-loop-option : goal.invariant-loop-option
+invariant-loop-option l =
+    let rows = rows_of (found_of l.matches) in
+    with_all l.asked (map (mode_at rows) (plain_rows (drop l.option-index l.options) (λ name. name.now))) ≡ asked_in rows options

@@ -1,0 +1,4 @@
+pub mod Files
+pub mod Modes
+pub mod Tables
+pub mod Twice
