@@ -1,6 +1,6 @@
 use Rattle.std.proofs.Common.{◌≡◌, Some, ap, sym, ◌∙◌}
-use Rattle.mh_prepare.proofs.Going.{built_numbered, built_source, order_source}
-use Rattle.mh_prepare.proofs.table_file.source_of.Goals as goal
+use Rattle.mh_sources.proofs.Sourcing.{built_numbered, built_source, order_source}
+use Rattle.mh_sources.proofs.sources.source_of.Goals as goal
 
 pub returns-in-Some-clause-source : goal.returns-in-Some-clause-source
 returns-in-Some-clause-source g c =

@@ -7,8 +7,8 @@ use Rattle.mh_drive.specs.Stages.{StageHas, Halts}
 use Rattle.mh_drive.specs.declared.stop.Cause.TheVariants.{Refused}
 use Rattle.mh_drive.specs.declared.stop.Stop.{Stop}
 use Rattle.mh_drive.specs.declared.stop.Stop.TheVariants.{Halted, ShelfFailed, InputFailed, WriteFailed, OutOfMemory}
-use Rattle.mh_prepare.specs.TableFile.{HasTableFault, IsTableFile}
-use Rattle.mh_prepare.specs.TableTexts.{table_line}
+use Rattle.mh_sources.specs.TableFile.{HasTableFault, IsTableFile}
+use Rattle.mh_sources.specs.TableTexts.{table_line}
 
 pub rejected_so : (name bytes : Text) (fault : TabFault) (stop : Stop) → HasTableFault bytes fault → Halts (Refused (table_line name fault)) stop → StageHas {A = RawTable} (IsTableFile name bytes) (Err stop)
 rejected_so name bytes fault (Halted cause) has halts = record { fault = fault; has = has; cause_is = halts }
