@@ -1,5 +1,5 @@
-use Rattle.mh_loading.proofs.Misspelled.{misspelled}
-use Rattle.mh_loading.proofs.grammar_file.module_in.Goals as goal
+use Rattle.mh_modules.proofs.Misspelled.{misspelled}
+use Rattle.mh_modules.proofs.grammar_file.module_in.Goals as goal
 
 pub returns-in-Ok : goal.returns-in-Ok
 returns-in-Ok c = c.in-Ok.ensures.spelled

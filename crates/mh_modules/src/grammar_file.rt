@@ -1,7 +1,7 @@
 //! Grammar files: the module that the bytes of one spell.
 ghost use Rattle.std.specs.Prelude.{◌≡◌, ◌<◌, ◌^◌, ◌++◌, length, IfOk, codes, decimal, string_bytes};
-ghost use Rattle.mh_loading.specs.GrammarFile.{IsModule};
-ghost use Rattle.mh_loading.specs.Texts.{syntax_error};
+ghost use Rattle.mh_modules.specs.GrammarFile.{IsModule};
+ghost use Rattle.mh_modules.specs.Texts.{syntax_error};
 ghost use Rattle.mh_drive.specs.Stages.{Halts, StageHas};
 ghost use Rattle.mh_drive.specs.declared.stop.Cause.TheVariants.{Refused};
 
@@ -44,7 +44,7 @@ pub(crate) fn module_in(alloc: Global, name: &[u8], bytes: &[u8]) -> Result<Modu
 }
 
 impl Spelling<Module> for GrammarFiles {
-    ghost use Rattle.mh_loading.specs.GrammarFile.{IsModule};
+    ghost use Rattle.mh_modules.specs.GrammarFile.{IsModule};
 
     ghost Spells = { λ s. IsModule };
 

@@ -1,6 +1,6 @@
-use Rattle.mh_loading.proofs.Apart.{names_apart}
-use Rattle.mh_loading.proofs.Refusing.{refused_so}
-use Rattle.mh_loading.proofs.grammar.grammar_in.Goals as goal
+use Rattle.mh_modules.proofs.Apart.{names_apart}
+use Rattle.mh_modules.proofs.Refusing.{refused_so}
+use Rattle.mh_modules.proofs.grammar.grammar_in.Goals as goal
 
 pub returns-clause-grammar : goal.returns-clause-grammar
 returns-clause-grammar c = refused_so c.args.prelude c.args.modules.items c.in-Err.fault c.stop_of.result (rw c.deref.ensures.value at c.in-Err.ensures.fault) c.stop_of.ensures

@@ -15,8 +15,8 @@ use Rattle.mh_drive.specs.Stages.{FilesGive, ShelfCounts, StageHas, listed}
 use Rattle.mh_drive.specs.declared.stop.Stop.{Stop}
 use Rattle.mh_drive.specs.declared.stop.Stop.TheVariants.{Halted, ShelfFailed, InputFailed, WriteFailed, OutOfMemory}
 use Rattle.mh_drive.proofs.Binding.{no_names, then_stops}
-use Rattle.mh_loading.specs.GrammarFile.{IsModule}
-use Rattle.mh_loading.specs.Modules.{AreModules, AreModulesBy, IsSampleModule, grammar_files, names_by, sample_file, sample_of}
+use Rattle.mh_modules.specs.GrammarFile.{IsModule}
+use Rattle.mh_modules.specs.Modules.{AreModules, AreModulesBy, IsSampleModule, grammar_files, names_by, sample_file, sample_of}
 use Rattle.mh_files.specs.Turns.{IsTurn}
 
 -- ---- the text is short

@@ -9,8 +9,8 @@ use Rattle.mh_drive.specs.Stages.{StageHas, Halts}
 use Rattle.mh_drive.specs.declared.stop.Cause.TheVariants.{Refused}
 use Rattle.mh_drive.specs.declared.stop.Stop.{Stop}
 use Rattle.mh_drive.specs.declared.stop.Stop.TheVariants.{Halted, ShelfFailed, InputFailed, WriteFailed, OutOfMemory}
-use Rattle.mh_loading.specs.GrammarFile.{IsModule}
-use Rattle.mh_loading.specs.Texts.{syntax_error}
+use Rattle.mh_modules.specs.GrammarFile.{IsModule}
+use Rattle.mh_modules.specs.Texts.{syntax_error}
 
 pub misspelled : (name bytes : Text) (line : ℕ) (stop : Stop) → IsSyntaxLine bytes line → ((m : Module) → Spells bytes m → ⊥) → Halts (Refused (syntax_error name line)) stop → StageHas {A = Module} (IsModule name bytes) (Err stop)
 misspelled name bytes line (Halted cause) stops spelled halts = record { line = line; stops = stops; spelled = spelled; cause_is = halts }

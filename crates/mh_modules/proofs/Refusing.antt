@@ -6,9 +6,9 @@ use Rattle.mh_rules.specs.declared.modules.Module.{Module}
 use Rattle.mh_front.specs.declared.fault.GrammarFault.{GrammarFault}
 use Rattle.mh_front.specs.declared.fault.GrammarFault.TheVariants.{Join, Expand, Inline, Memory}
 use Rattle.mh_front.specs.Stages.{IsGrammarFault, Causes}
-use Rattle.mh_loading.specs.GrammarStage.{IsGrammarStage}
-use Rattle.mh_loading.specs.Texts.{refusal}
-use Rattle.mh_loading.specs.Faults.{RefusesBy}
+use Rattle.mh_modules.specs.GrammarStage.{IsGrammarStage}
+use Rattle.mh_modules.specs.Texts.{refusal}
+use Rattle.mh_modules.specs.Faults.{RefusesBy}
 use Rattle.mh_drive.specs.Stages.{StageHas, Halts}
 use Rattle.mh_drive.specs.declared.stop.Cause.TheVariants.{Refused}
 use Rattle.mh_drive.specs.declared.stop.Stop.{Stop}

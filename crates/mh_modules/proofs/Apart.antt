@@ -23,7 +23,7 @@ use Rattle.mh_places.specs.Signs.{is_capital}
 use Rattle.mh_front.specs.Stages.{IsGrammarOfModules}
 use Rattle.mh_valid.specs.Valid.{AreNamesApart}
 use Rattle.mh_grammar.specs.Text.{Text}
-use Rattle.mh_loading.specs.Modules.{HasCapitals}
+use Rattle.mh_modules.specs.Modules.{HasCapitals}
 
 same_itself : (k : Text) → same k k ≡ true
 same_itself k = (slice_eq-Decides Decides-eqb k k (same k k) refl).1 refl

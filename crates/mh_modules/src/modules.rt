@@ -3,8 +3,8 @@ ghost use Rattle.std.specs.Prelude.{◌≡◌, ◌<◌, ◌^◌, ◌∷◌, [], 
 ghost use Rattle.std.specs.List.{All};
 ghost use Rattle.mh_sample.specs.Texts.{grammar_text};
 ghost use Rattle.mh_drive.specs.Stages.{FilesGive, ShelfCounts, StageHas, listed};
-ghost use Rattle.mh_loading.specs.GrammarFile.{IsModule};
-ghost use Rattle.mh_loading.specs.Modules.{AreModules, IsSampleModule, grammar_files, sample_of as sample_in};
+ghost use Rattle.mh_modules.specs.GrammarFile.{IsModule};
+ghost use Rattle.mh_modules.specs.Modules.{AreModules, IsSampleModule, grammar_files, sample_of as sample_in};
 ghost use Rattle.mh_files.specs.Turns.{IsTurn};
 
 use crate::grammar_file::{GrammarFiles, module_in};
@@ -56,7 +56,7 @@ fn sample_modules(alloc: Global, number: u32) -> Result<Vec<Module>, Stop>
 }
 
 /// The modules of an order.
-pub(crate) fn modules_of<F: Shelf>(
+pub fn modules_of<F: Shelf>(
     alloc: Global,
     shelf: &mut F,
     order: &Order,

@@ -5,10 +5,10 @@ ghost use Rattle.mh_grammar.specs.Plain.{plain_of, IsInRange};
 ghost use Rattle.std.specs.List.{All};
 ghost use Rattle.mh_rules.specs.Ready.{AreModulesReady};
 ghost use Rattle.mh_valid.specs.Valid.{AreNamesApart};
-ghost use Rattle.mh_loading.specs.GrammarStage.{IsGrammarStage};
-ghost use Rattle.mh_loading.specs.Modules.{HasCapitals};
-ghost use Rattle.mh_loading.specs.Texts.{refusal};
-ghost use Rattle.mh_loading.specs.Faults.{RefusesBy};
+ghost use Rattle.mh_modules.specs.GrammarStage.{IsGrammarStage};
+ghost use Rattle.mh_modules.specs.Modules.{HasCapitals};
+ghost use Rattle.mh_modules.specs.Texts.{refusal};
+ghost use Rattle.mh_modules.specs.Faults.{RefusesBy};
 ghost use Rattle.mh_drive.specs.Stages.{StageHas, Halts};
 ghost use Rattle.mh_drive.specs.declared.stop.Cause.TheVariants.{Refused};
 
@@ -37,11 +37,7 @@ fn stop_of(alloc: Global, fault: &GrammarFault) -> Stop
 }
 
 /// The grammar that modules give, with the prelude or without. The modules are let go.
-pub(crate) fn grammar_in(
-    alloc: Global,
-    modules: Vec<Module>,
-    prelude: bool,
-) -> Result<Grammar, Stop>
+pub fn grammar_in(alloc: Global, modules: Vec<Module>, prelude: bool) -> Result<Grammar, Stop>
     requires ready { AreModulesReady modules.items }
     requires capitals { All HasCapitals modules.items }
     ensures grammar { StageHas (IsGrammarStage prelude modules.items) result }
