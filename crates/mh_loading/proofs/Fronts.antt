@@ -12,12 +12,12 @@ use Rattle.mh_front.proofs.OneGrammar.{have_costs, in_range}
 use Rattle.mh_valid.specs.Valid.{AreNamesApart}
 use Rattle.mh_grammar.specs.Text.{Text}
 use Rattle.mh_drive.specs.Causes.{Staged, Go, Halt, On, Then, Gives}
-use Rattle.mh_loading.specs.GrammarStage.{IsGrammarStage}
-use Rattle.mh_loading.specs.Modules.{AreModules, HasCapitals, sample_of}
+use Rattle.mh_modules.specs.GrammarStage.{IsGrammarStage}
+use Rattle.mh_modules.specs.Modules.{AreModules, HasCapitals, sample_of}
 use Rattle.mh_loading.specs.Order.{staged_order}
 use Rattle.mh_loading.specs.FrontStage.{IsFront}
 use Rattle.mh_loading.specs.declared.front.Front.{Front}
-use Rattle.mh_loading.proofs.Apart.{names_apart}
+use Rattle.mh_modules.proofs.Apart.{names_apart}
 use Rattle.mh_loading.proofs.Ready.{modules_capital, modules_ready}
 
 pub record IsGrammarReady (g : Grammar) : Type 0 where

@@ -12,10 +12,10 @@ use Rattle.mh_drive.proofs.Binding.{IsOne, on_once, then_once}
 use Rattle.mh_files.specs.FileStage.{AreFiles, IsFile, IsLoaded}
 use Rattle.mh_files.proofs.Once.{gives_once, loaded_once}
 use Rattle.mh_loading.specs.Order.{staged_order}
-use Rattle.mh_loading.specs.GrammarFile.{IsModule}
-use Rattle.mh_loading.specs.Modules.{AreModules, AreModulesBy, sample_file, sample_of}
-use Rattle.mh_loading.specs.GrammarStage.{IsGrammarStage}
-use Rattle.mh_loading.specs.Texts.{refusal, syntax_error}
+use Rattle.mh_modules.specs.GrammarFile.{IsModule}
+use Rattle.mh_modules.specs.Modules.{AreModules, AreModulesBy, sample_file, sample_of}
+use Rattle.mh_modules.specs.GrammarStage.{IsGrammarStage}
+use Rattle.mh_modules.specs.Texts.{refusal, syntax_error}
 use Rattle.mh_loading.specs.FrontStage.{IsFront}
 
 -- ---- files

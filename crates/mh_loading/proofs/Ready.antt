@@ -16,8 +16,8 @@ use Rattle.mh_grammar.specs.Text.{Text}
 use Rattle.mh_drive.specs.Causes.{Staged, Go, Halt, On, Then, Gives}
 use Rattle.mh_sample.specs.Texts.{grammar_text}
 use Rattle.mh_files.specs.FileStage.{AreFiles, IsFile}
-use Rattle.mh_loading.specs.GrammarFile.{IsModule}
-use Rattle.mh_loading.specs.Modules.{AreModulesBy, HasCapitals, sample_file}
+use Rattle.mh_modules.specs.GrammarFile.{IsModule}
+use Rattle.mh_modules.specs.Modules.{AreModulesBy, HasCapitals, sample_file}
 
 module _ (P : Module → Type 0) (each : (bytes : Text) (m : Module) → Spells bytes m → P m) where
   of_file : (files : Option Files) (name : Text) (m : Module) → IsFile files IsModule name (Go m) → P m

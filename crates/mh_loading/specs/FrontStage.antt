@@ -4,8 +4,8 @@ use Rattle.mh_outside.specs.Shelf.{Files}
 use Rattle.mh_grammar.specs.Text.{Text}
 use Rattle.mh_drive.specs.Causes.{Staged, On, Then, Gives}
 use Rattle.mh_loading.specs.Order.{staged_order}
-use Rattle.mh_loading.specs.Modules.{AreModules}
-use Rattle.mh_loading.specs.GrammarStage.{IsGrammarStage}
+use Rattle.mh_modules.specs.Modules.{AreModules}
+use Rattle.mh_modules.specs.GrammarStage.{IsGrammarStage}
 use Rattle.mh_loading.specs.declared.front.Front.{Front}
 
 -- the order that the words spell, and the grammar of its modules

@@ -6,8 +6,8 @@ use Rattle.mh_opts.specs.declared.order.Order.{Order}
 use Rattle.mh_grammar.specs.Text.{Text}
 use Rattle.mh_drive.specs.Causes.{Go}
 use Rattle.mh_files.specs.Turns.{IsTurn}
-use Rattle.mh_loading.specs.GrammarFile.{IsModule}
-use Rattle.mh_loading.specs.Modules.{grammar_files}
+use Rattle.mh_modules.specs.GrammarFile.{IsModule}
+use Rattle.mh_modules.specs.Modules.{grammar_files}
 use Rattle.mh_loading.specs.Order.{staged_order}
 
 -- the turn of one of the grammar files that the words name has come

@@ -1,11 +1,10 @@
 -- The lines on err that tell why there is no grammar.
-use Rattle.std.specs.Prelude.{ℕ, ◌++◌, codes, decimal}
-use Rattle.mh_front.specs.declared.fault.GrammarFault.{GrammarFault}
-use Rattle.mh_front.specs.Texts.{fault_text}
+use Rattle.std.specs.Prelude.{◌++◌, codes}
 use Rattle.mh_grammar.specs.Text.{Text}
 use Rattle.mh_drive.specs.Text.{out_of_memory}
 use Rattle.mh_opts.specs.declared.order.UsageFault.{UsageFault}
 use Rattle.mh_opts.specs.declared.order.UsageFault.TheVariants.{Parse, Number, NoMode, TwoModes, Misplaced, NoGrammar, Memory}
+pub use Rattle.mh_modules.specs.Texts.{refusal, syntax_error}
 
 abbrev pub bad_words : Text
 bad_words = codes "menhir: usage: bad words\n"
@@ -34,9 +33,3 @@ usage_line TwoModes = two_modes
 usage_line (Misplaced option) = misplaced option
 usage_line NoGrammar = no_grammar
 usage_line Memory = out_of_memory
-
-abbrev pub syntax_error : Text → ℕ → Text
-syntax_error name line = codes "menhir: " ++ (name ++ (codes ":" ++ (decimal line ++ codes ": syntax error\n")))
-
-abbrev pub refusal : GrammarFault → Text
-refusal fault = codes "menhir: " ++ (fault_text fault ++ codes "\n")

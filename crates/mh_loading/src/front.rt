@@ -9,11 +9,10 @@ ghost use Rattle.mh_loading.specs.Order.{staged_order};
 ghost use Rattle.mh_drive.specs.Stages.{FilesGive, ShelfCounts};
 ghost use Rattle.mh_valid.specs.Valid.{AreNamesApart};
 
-use crate::grammar::grammar_in;
-use crate::modules::modules_of;
 use crate::order::order_in;
 use mh_drive::Stop;
 use mh_grammar::Grammar;
+use mh_modules::{grammar_in, modules_of};
 use mh_opts::Order;
 use mh_outside::Shelf;
 use std::alloc::Global;

@@ -2,9 +2,6 @@
 #![tactic(auto)]
 
 mod front;
-mod grammar;
-mod grammar_file;
-mod modules;
 mod order;
 
 pub use front::{Front, front_of};

@@ -1,8 +1,7 @@
 -- How the work goes on from the grammar to the table.
-use Rattle.std.proofs.Common.{◌≡◌, ◌≤◌, ◌<◌, ◌^◌, ℕ, Bool, true, false, List, length, Option, Some, None, refl, subst, sym, ap, ◌∙◌, arith}
+use Rattle.std.proofs.Common.{◌≡◌, ◌≤◌, ℕ, Bool, true, false, List, Option, Some, None, refl, subst, sym, arith}
 use Rattle.std.specs.Prelude.{Result, Ok, Err, IfOk}
 use Rattle.mh_grammar.specs.declared.types.Grammar.{Grammar}
-use Rattle.mh_opts.specs.declared.order.Order.{Order}
 use Rattle.mh_outside.specs.Shelf.{Files}
 use Rattle.mh_grammar.specs.Text.{Text}
 use Rattle.mh_drive.specs.Causes.{Staged, Go, Halt, On, Gives}
@@ -10,7 +9,7 @@ use Rattle.mh_drive.specs.Stages.{FilesGive, Halts, ShelfCounts, StageHas}
 use Rattle.mh_drive.specs.declared.stop.Cause.TheVariants.{Refused}
 use Rattle.mh_drive.specs.declared.stop.Stop.{Stop}
 use Rattle.mh_drive.specs.declared.stop.Stop.TheVariants.{Halted, ShelfFailed, InputFailed, WriteFailed, OutOfMemory}
-use Rattle.mh_drive.proofs.Binding.{names_wider, no_names, then_on, then_stops}
+use Rattle.mh_drive.proofs.Binding.{no_names, then_on, then_stops}
 use Rattle.mh_grammar.specs.Plain.{plain_of}
 use Rattle.mh_kernels.specs.Automaton.{IsAutomaton}
 use Rattle.mh_kernels.specs.Shapes.{Automaton}
@@ -23,43 +22,19 @@ use Rattle.mh_validate.specs.declared.fault.ValidFault.{ValidFault}
 use Rattle.mh_validate.specs.declared.fault.ValidFault.TheVariants as tables
 use Rattle.mh_prepare.specs.Faults.{RejectsBy}
 use Rattle.mh_files.specs.FileStage.{IsFile}
-use Rattle.mh_prepare.specs.TableFile.{IsBuilt, IsNumbered, IsTableFile}
-use Rattle.mh_prepare.specs.TableStage.{IsAutomatonStage, IsResolvedStage, IsSource, IsSourceBy, IsTableStage, built_by, mode_of}
+use Rattle.mh_prepare.specs.TableFile.{IsBuilt}
+use Rattle.mh_prepare.specs.TableStage.{IsAutomatonStage, IsResolvedStage, IsTableStage, mode_of}
+use Rattle.mh_sources.specs.TableFile.{IsTableFile}
+use Rattle.mh_sources.specs.Sources.{IsNumbered, IsSource, IsSourceBy, built_by}
+use Rattle.mh_sources.proofs.Sourcing.{built_numbered, read_numbered}
 use Rattle.mh_prepare.specs.TableTexts.{invalid_line}
 use Rattle.mh_loading.specs.declared.front.Front.{Front}
 use Rattle.mh_prepare.specs.Preparing.{IsTabledFrom, IsTabledFront}
 use Rattle.mh_prepared.specs.Shapes.{Prepared, Tabled}
-use Rattle.mh_prepare.specs.declared.tabled.Source.{Source}
-use Rattle.mh_prepare.specs.declared.tabled.Source.TheVariants.{File}
+use Rattle.mh_sources.specs.declared.sources.Source.{Source}
+use Rattle.mh_sources.specs.declared.sources.Source.TheVariants.{File}
 
--- the automaton of the named file
-pub file_source : (files : Option Files) (name : Text) (canonical : Bool) (raw : RawTable) → IsFile files IsTableFile name (Go raw) → IsSourceBy (Some name) canonical files (Go (File name raw))
-file_source files name canonical raw is = (Go raw, is, refl)
-
-pub file_stops : (files : Option Files) (name : Text) (canonical : Bool) (stop : Stop) → FilesGive {A = RawTable} (IsFile files IsTableFile name) (λ other. other ≡ name) (Err stop) → FilesGive {A = Source} (IsSourceBy (Some name) canonical files) (λ other. other ≡ name) (Err stop)
-file_stops files name canonical stop has = then_stops (IsFile files IsTableFile name) (λ raw. Gives (File name raw)) (λ other. other ≡ name) stop has
-
--- what is read numbers its states
-pub read_numbered : (files : Option Files) (name : Text) (raw : RawTable) → IsFile files IsTableFile name (Go raw) → length raw.states < 2 ^ 32
-read_numbered files name raw is = at is.0 is.2
-  where
-    at : (read : Staged Text) → On read (IsTableFile name) (Go raw) → length raw.states < 2 ^ 32
-    at (Go bytes) file = file.spelled.few_states
-    at (Halt cause) same = absurd (cc)
-
--- that of the order
-pub order_source : (files : Option Files) (order : Order) (name : Text) (r : Result Source Stop) → order.tables ≡ Some name → FilesGive (IsSourceBy (Some name) order.canonical files) (λ other. other ≡ name) r → FilesGive (IsSource files order) (λ other. order.tables ≡ Some other) r
-order_source files order name r is has =
-    names_wider (IsSource files order) (λ other. other ≡ name) (λ other. order.tables ≡ Some other) r (λ other same. is ∙ ap Some (sym same)) (subst (λ (t : Option Text). FilesGive (IsSourceBy t order.canonical files) (λ other. other ≡ name) r) (sym is) has)
-
-pub built_source : (files : Option Files) (order : Order) (source : Source) → order.tables ≡ None → source ≡ built_by order.canonical → IsSource files order (Go source)
-built_source files order source is same = subst (λ (t : Option Text). IsSourceBy t order.canonical files (Go source)) (sym is) (ap Go same)
-
-pub built_numbered : (canonical : Bool) (source : Source) → source ≡ built_by canonical → IsNumbered source
-built_numbered true source is = subst IsNumbered (sym is) tt
-built_numbered false source is = subst IsNumbered (sym is) tt
-
--- in short
+-- where the automaton of an order comes from
 pub source_numbered : (files : Option Files) (tables : Option Text) (canonical : Bool) (source : Source) → IsSourceBy tables canonical files (Go source) → IsNumbered source
 source_numbered files None canonical source is = let one : source ≡ built_by canonical = cc in built_numbered canonical source one
 source_numbered files (Some name) canonical source is = at is.0 is.1 is.2

@@ -2,4 +2,3 @@ pub mod Tabling
 pub mod Going
 pub mod Made
 pub mod OnePrepared
-pub mod Rejecting

@@ -10,9 +10,10 @@ use Rattle.mh_loading.specs.declared.front.Front.{Front}
 use Rattle.mh_loading.proofs.Fronts.{IsGrammarReady, front_order, front_ready}
 use Rattle.mh_prepared.specs.Shapes.{Prepared, Tabled}
 use Rattle.mh_prepare.specs.Preparing.{IsPrepared, IsTabledFrom, IsTabledFront}
-use Rattle.mh_prepare.specs.TableFile.{IsBuilt, IsNumbered}
-use Rattle.mh_prepare.specs.TableStage.{IsSource, IsTableStage}
-use Rattle.mh_prepare.specs.declared.tabled.Source.{Source}
+use Rattle.mh_prepare.specs.TableFile.{IsBuilt}
+use Rattle.mh_prepare.specs.TableStage.{IsTableStage}
+use Rattle.mh_sources.specs.Sources.{IsNumbered, IsSource}
+use Rattle.mh_sources.specs.declared.sources.Source.{Source}
 use Rattle.mh_prepare.proofs.Going.{source_built, source_numbered}
 
 module _ (words : List Text) (files : Option Files) where

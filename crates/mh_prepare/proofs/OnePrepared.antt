@@ -35,12 +35,15 @@ use Rattle.mh_valid.specs.Valid.{AreNamesApart, IsValidFor}
 use Rattle.mh_valid.proofs.Apart.{apart}
 use Rattle.mh_valid.proofs.Once.{automaton_is_one, test_is_one}
 use Rattle.mh_prepared.specs.Shapes.{Tabled}
-use Rattle.mh_prepare.specs.TableTexts.{invalid_line, loops_line, table_line}
-use Rattle.mh_prepare.specs.TableFile.{HasTableFault, IsInvalid, IsTableFile}
-use Rattle.mh_prepare.specs.TableStage.{AreTabled, IsAutomatonStage, IsResolvedStage, IsSource, IsSourceBy, IsTableStage, LoopsFirst, built_by, mode_of}
+use Rattle.mh_prepare.specs.TableTexts.{invalid_line, loops_line}
+use Rattle.mh_prepare.specs.TableFile.{IsInvalid}
+use Rattle.mh_prepare.specs.TableStage.{AreTabled, IsAutomatonStage, IsResolvedStage, IsTableStage, LoopsFirst, mode_of}
+use Rattle.mh_sources.specs.TableTexts.{table_line}
+use Rattle.mh_sources.specs.TableFile.{HasTableFault, IsTableFile}
+use Rattle.mh_sources.specs.Sources.{IsSource, IsSourceBy, built_by}
 use Rattle.mh_prepare.specs.Preparing.{IsPrepared, IsTabledFrom, IsTabledFront}
-use Rattle.mh_prepare.specs.declared.tabled.Source.{Source}
-use Rattle.mh_prepare.specs.declared.tabled.Source.TheVariants.{Canonical, Merged, File}
+use Rattle.mh_sources.specs.declared.sources.Source.{Source}
+use Rattle.mh_sources.specs.declared.sources.Source.TheVariants.{Canonical, Merged, File}
 
 -- ---- a table file
 

@@ -6,8 +6,9 @@ use Rattle.mh_drive.specs.Causes.{Staged, Then, Gives}
 use Rattle.mh_loading.specs.FrontStage.{IsFront}
 use Rattle.mh_loading.specs.declared.front.Front.{Front}
 use Rattle.mh_prepared.specs.Shapes.{Prepared}
-use Rattle.mh_prepare.specs.TableStage.{IsSource, IsTableStage}
-use Rattle.mh_prepare.specs.declared.tabled.Source.{Source}
+use Rattle.mh_sources.specs.Sources.{IsSource}
+use Rattle.mh_prepare.specs.TableStage.{IsTableStage}
+use Rattle.mh_sources.specs.declared.sources.Source.{Source}
 
 -- the order, its grammar and its table, by where its automaton comes from
 abbrev pub IsTabledFrom : Front → Source → Staged Prepared → Type 0

@@ -1,37 +1,17 @@
 -- Table files: what one says, and whether it is valid for the grammar.
-use Rattle.std.specs.Prelude.{◌≡◌, ◌<◌, ◌^◌, ℕ, Option, length, ⊤}
+use Rattle.std.specs.Prelude.{◌≡◌, ℕ, Option, ⊤}
 use Rattle.mh_grammar.specs.declared.types.Grammar.{Grammar}
 use Rattle.mh_tabform.specs.declared.types.RawTable.{RawTable}
-use Rattle.mh_tabreader.specs.declared.reading.TabFault.{TabFault}
-use Rattle.mh_tabreader.specs.declared.reading.TabFault.TheVariants.{Version, TabShape, Memory}
-use Rattle.mh_tabform.specs.Form.{IsFileOf}
-use Rattle.mh_tabreader.specs.Reading.{IsOtherVersion, IsBadLine}
 use Rattle.mh_valid.specs.declared.reason.Reason.{Reason}
 use Rattle.mh_valid.specs.Valid.{IsInvalidAt}
 use Rattle.mh_grammar.specs.Text.{Text}
-use Rattle.mh_drive.specs.Causes.{Staged, Go, Halt}
 use Rattle.mh_drive.specs.declared.stop.Cause.{Cause}
 use Rattle.mh_drive.specs.declared.stop.Cause.TheVariants.{Refused}
-use Rattle.mh_prepare.specs.TableTexts.{invalid_line, table_line}
-use Rattle.mh_prepare.specs.declared.tabled.Source.{Source}
-use Rattle.mh_prepare.specs.declared.tabled.Source.TheVariants.{Canonical, Merged, File}
-
--- why bytes are no table file: they are of another version; or else this is the first of their lines that is not of the form
-abbrev pub HasTableFault : Text → TabFault → Type 0
-HasTableFault bytes Version = IsOtherVersion bytes
-HasTableFault bytes (TabShape line) = (IsOtherVersion bytes → ⊥) × IsBadLine bytes line
-HasTableFault bytes Memory = ⊥
-
--- the bytes are no table file, and the cause has the line that says why
-pub record IsTableFault (name bytes : Text) (cause : Cause) : Type 0 where
-  pub fault : TabFault
-  pub has : HasTableFault bytes fault
-  pub cause_is : cause ≡ Refused (table_line name fault)
-
--- what the bytes of a table file say
-abbrev pub IsTableFile : Text → Text → Staged RawTable → Type 0
-IsTableFile name bytes (Go raw) = IsFileOf bytes raw
-IsTableFile name bytes (Halt cause) = IsTableFault name bytes cause
+use Rattle.mh_prepare.specs.TableTexts.{invalid_line}
+use Rattle.mh_sources.specs.declared.sources.Source.{Source}
+use Rattle.mh_sources.specs.declared.sources.Source.TheVariants.{Canonical, Merged, File}
+pub use Rattle.mh_sources.specs.TableFile.{HasTableFault, IsTableFault, IsTableFile}
+pub use Rattle.mh_sources.specs.Sources.{IsNumbered}
 
 -- the file is not valid for the grammar, and the cause has the line that tells the first test that fails
 pub record IsInvalid (name : Text) (g : Grammar) (raw : RawTable) (cause : Cause) : Type 0 where
@@ -45,9 +25,3 @@ abbrev pub IsBuilt : Source → Type 0
 IsBuilt Merged = ⊤
 IsBuilt Canonical = ⊤
 IsBuilt (File name raw) = ⊥
-
--- the states of a table file that was read have numbers
-abbrev pub IsNumbered : Source → Type 0
-IsNumbered Merged = ⊤
-IsNumbered Canonical = ⊤
-IsNumbered (File name raw) = length raw.states < 2 ^ 32

@@ -1,5 +1,5 @@
 -- The automaton of a grammar, built or from a table file, with its table, where every run on it ends, and the list of its conflicts.
-use Rattle.std.specs.Prelude.{if◌then◌else◌, ◌≡◌, ℕ, Bool, List, Option, None, Some, Result, Ok, Err}
+use Rattle.std.specs.Prelude.{◌≡◌, ℕ, List, Option, Result, Ok, Err}
 use Rattle.mh_grammar.specs.declared.types.Grammar.{Grammar}
 use Rattle.mh_grammar.specs.Plain.{plain_of}
 use Rattle.mh_kernels.specs.Shapes.{Automaton}
@@ -18,33 +18,18 @@ use Rattle.mh_tabform.specs.declared.types.RawTable.{RawTable}
 use Rattle.mh_valid.specs.Valid.{IsValidFor}
 use Rattle.mh_validate.specs.Outcome.{Gives as IsValidGiven}
 use Rattle.mh_validate.specs.declared.validation.Valid.{Valid}
-use Rattle.mh_outside.specs.Shelf.{Files}
 use Rattle.mh_grammar.specs.Text.{Text}
-use Rattle.mh_drive.specs.Causes.{Staged, Go, Halt, Then, Gives}
+use Rattle.mh_drive.specs.Causes.{Staged, Go, Halt, Then}
 use Rattle.mh_msgfile.specs.Sentences.{token_names}
-use Rattle.mh_opts.specs.declared.order.Order.{Order}
 use Rattle.mh_drive.specs.declared.stop.Cause.{Cause}
 use Rattle.mh_drive.specs.declared.stop.Cause.TheVariants.{Refused}
 use Rattle.mh_drive.specs.Stages.{StageHas}
 use Rattle.mh_drive.specs.declared.stop.Stop.{Stop}
-use Rattle.mh_prepare.specs.declared.tabled.Source.{Source}
-use Rattle.mh_prepare.specs.declared.tabled.Source.TheVariants.{Canonical, Merged, File}
-use Rattle.mh_files.specs.FileStage.{IsFile}
-use Rattle.mh_prepare.specs.TableFile.{IsInvalid, IsTableFile}
+use Rattle.mh_sources.specs.declared.sources.Source.{Source}
+use Rattle.mh_sources.specs.declared.sources.Source.TheVariants.{Canonical, Merged, File}
+use Rattle.mh_prepare.specs.TableFile.{IsInvalid}
 use Rattle.mh_prepared.specs.Shapes.{Tabled}
-
--- ---- where the automaton comes from
-
-abbrev pub built_by : Bool → Source
-built_by canonical = if canonical then Canonical else Merged
-
--- from the table file that is named, where one is
-abbrev pub IsSourceBy : Option Text → Bool → Option Files → Staged Source → Type 0
-IsSourceBy None canonical files s = Gives (built_by canonical) s
-IsSourceBy (Some name) canonical files s = Then (IsFile files IsTableFile name) (λ raw. Gives (File name raw)) s
-
-abbrev pub IsSource : Option Files → Order → Staged Source → Type 0
-IsSource files order s = IsSourceBy order.tables order.canonical files s
+pub use Rattle.mh_sources.specs.Sources.{IsSource, IsSourceBy, built_by}
 
 -- ---- the automaton
 

@@ -1,11 +1,9 @@
 -- The lines on err that tell why there is no table.
 use Rattle.std.specs.Prelude.{ℕ, List, [], ◌++◌, Option, None, Some, codes, decimal, slice_index_or}
 use Rattle.mh_grammar.specs.Text.{Text}
-use Rattle.mh_drive.specs.Text.{out_of_memory}
-use Rattle.mh_tabreader.specs.declared.reading.TabFault.{TabFault}
-use Rattle.mh_tabreader.specs.declared.reading.TabFault.TheVariants as tables
 use Rattle.mh_valid.specs.declared.reason.Reason.{Reason}
 use Rattle.mh_valid.specs.declared.reason.Reason.TheVariants.{Header, States, Kernel, Edge, Cell, Fallback}
+pub use Rattle.mh_sources.specs.TableTexts.{table_line}
 
 abbrev pub too_many_states : Text
 too_many_states = codes "menhir: too many states\n"
@@ -22,12 +20,6 @@ look_text names (Some token) = slice_index_or names token []
 
 abbrev pub loops_line : List Text → Option ℕ → ℕ → Option ℕ → Text
 loops_line names below s look = loop_place below s ++ (look_text names look ++ codes "\n")
-
--- the line for a table file that is of another version, or not of the form; no bytes spell want of memory
-abbrev pub table_line : Text → TabFault → Text
-table_line name tables.Version = codes "menhir: " ++ (name ++ codes ": version\n")
-table_line name (tables.TabShape line) = codes "menhir: " ++ (name ++ (codes ":" ++ (decimal line ++ codes ": shape\n")))
-table_line name tables.Memory = out_of_memory
 
 abbrev pub reason_name : Reason → Text
 reason_name Header = codes "header"

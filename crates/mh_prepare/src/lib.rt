@@ -5,5 +5,5 @@ mod prepared;
 mod table_file;
 mod tabled;
 
+pub use mh_sources::Source;
 pub use prepared::prepare;
-pub use tabled::Source;

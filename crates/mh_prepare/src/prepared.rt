@@ -3,18 +3,18 @@ ghost use Rattle.std.specs.Prelude.{◌≡◌, ◌≤◌, ◌*◌, List, ℕ, le
 ghost use Rattle.mh_grammar.specs.Costs.{HaveCosts};
 ghost use Rattle.mh_grammar.specs.Plain.{plain_of, IsInRange};
 ghost use Rattle.mh_prepared.specs.Prepared.{IsFit};
-ghost use Rattle.mh_prepare.specs.TableTurns.{AsksForTables};
+ghost use Rattle.mh_sources.specs.Turns.{AsksForTables};
 ghost use Rattle.mh_drive.specs.Stages.{FilesGive, ShelfCounts, StageHas};
-ghost use Rattle.mh_prepare.specs.TableFile.{IsNumbered};
+ghost use Rattle.mh_sources.specs.Sources.{IsNumbered};
 ghost use Rattle.mh_valid.specs.Valid.{AreNamesApart};
 ghost use Rattle.mh_prepare.specs.Preparing.{IsTabledFrom, IsTabledFront};
 
-use crate::table_file::source_of;
-use crate::tabled::{Source, table_of};
+use crate::tabled::table_of;
 use mh_drive::Stop;
 use mh_loading::Front;
 use mh_outside::Shelf;
 use mh_prepared::{Prepared, PreparedWith};
+use mh_sources::{Source, source_of};
 use std::alloc::Global;
 
 /// The table of an order's grammar, by where its automaton comes from. Where there is none, what was loaded is let go by one

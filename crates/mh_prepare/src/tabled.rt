@@ -7,8 +7,8 @@ ghost use Rattle.mh_prepare.specs.TableStage.{IsAutomatonStage, IsResolvedStage,
 ghost use Rattle.mh_prepare.specs.TableTexts.{loop_place, look_text, loops_line, too_many_states as too_many_states_line};
 ghost use Rattle.mh_drive.specs.Stages.{Halts, StageHas};
 ghost use Rattle.mh_msgfile.specs.Sentences.{token_names};
-ghost use Rattle.mh_prepare.specs.declared.tabled.Source.TheVariants.{Canonical, File, Merged};
-ghost use Rattle.mh_prepare.specs.TableFile.{IsNumbered};
+ghost use Rattle.mh_sources.specs.declared.sources.Source.TheVariants.{Canonical, File, Merged};
+ghost use Rattle.mh_sources.specs.Sources.{IsNumbered};
 ghost use Rattle.mh_cells.specs.States.{IsTableOf};
 ghost use Rattle.mh_cells.specs.Conflicts.{AreConflicts};
 ghost use Rattle.mh_valid.specs.Valid.{AreNamesApart};
@@ -18,27 +18,17 @@ use crate::table_file::not_valid;
 use mh_canon::canonical;
 use mh_cells::{Conflict, Mode};
 use mh_drive::{Stop, refused};
-use mh_grammar::{Grammar, Name, Sequence, Token};
+use mh_grammar::{Grammar, Sequence, Token};
 use mh_halting::{HaltFault, check_halts};
 use mh_kernels::{Automaton, StatesFault};
 use mh_pager::merged;
 use mh_prepared::{Tabled, TabledWith};
 use mh_resolve::resolve;
+use mh_sources::Source;
 use mh_tabform::RawTable;
 use mh_tables::Table;
 use mh_validate::{Valid, validate};
 use std::alloc::{AllocError, Global};
-
-/// Where the automaton comes from.
-#[derive(Drop)]
-pub enum Source {
-    /// It is the merged one of the grammar.
-    Merged,
-    /// It is the canonical one of the grammar.
-    Canonical,
-    /// It is that of the named file, which says this.
-    File { name: Name, raw: RawTable },
-}
 
 fn too_many_states(alloc: Global) -> Stop
     ensures { Halts (Refused too_many_states_line) result }

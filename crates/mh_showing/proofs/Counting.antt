@@ -1,14 +1,12 @@
 -- A sample has one line of counts, or one refusal; and how they are written.
-use Rattle.std.proofs.Common.{◌≡◌, ◌++◌, ℕ, List, [], map, length, Option, None, Some, refl, sym, ◌∙◌, ap, subst, inl, inr}
-use Rattle.std.proofs.lemmas.List.{append-nil, length-map}
+use Rattle.std.proofs.Common.{◌≡◌, ℕ, List, [], length, Option, None, Some, refl, sym, ◌∙◌, ap, subst, inl}
+use Rattle.std.proofs.lemmas.List.{append-nil}
 use Rattle.std.specs.Prelude.{Result, Ok, Err}
 use Rattle.std.specs.Io.KnownBytes.{Appends}
 use Rattle.mh_grammar.specs.declared.types.Grammar.{Grammar}
 use Rattle.mh_tables.specs.Table.{TableData}
-use Rattle.mh_tables.specs.Failing.{Row, Catalogue, TooLongAt}
+use Rattle.mh_tables.specs.Failing.{Row, TooLongAt}
 use Rattle.mh_tables.proofs.Catalogues.{catalogue_once}
-use Rattle.mh_catalogue.specs.Rows.{row_of, rows_of}
-use Rattle.mh_catalogue.specs.declared.rows.Row.{Row as MadeRow}
 use Rattle.mh_catalogue.specs.declared.rows.CatalogueFault.{CatalogueFault}
 use Rattle.mh_catalogue.specs.declared.rows.CatalogueFault.TheVariants as faults
 use Rattle.mh_sample.specs.Counts.{IsSampleLine}
@@ -21,11 +19,12 @@ use Rattle.mh_drive.specs.declared.stop.Cause.TheVariants.{Refused}
 use Rattle.mh_drive.specs.declared.stop.Stop.{Stop}
 use Rattle.mh_drive.specs.declared.stop.Stop.TheVariants.{Halted, ShelfFailed, InputFailed, WriteFailed, OutOfMemory}
 use Rattle.mh_prepared.specs.Shapes.{Prepared}
-use Rattle.mh_showing.specs.Counted.{CountedRows}
-use Rattle.mh_showing.specs.Entries.{FaultStops, TextRan}
+use Rattle.mh_listed.specs.Counted.{CountedRows}
+use Rattle.mh_listed.specs.Faults.{FaultStops}
+use Rattle.mh_showing.specs.Entries.{TextRan}
 use Rattle.mh_plans.specs.Listing.{too_long}
 use Rattle.mh_plans.specs.Plan.{EndsBy, Sampled}
-use Rattle.mh_plans.specs.Sampled.{CountsSample, Counts, TooLong, IsCountsText}
+use Rattle.mh_plans.specs.Sampled.{CountsSample, Counts, TooLong}
 use Rattle.mh_showing.proofs.Refusals.{too_long_once}
 
 -- ---- one
@@ -49,17 +48,7 @@ module _ (g : Grammar) (t : TableData) (number : ℕ) where
   counts_right Is may none cause out (Counts never same text) = subst Is (sym same) none
   counts_right Is may none cause out (TooLong s long same empty) = subst Is (sym same) (may (too_long s))
 
--- ---- the rows are counted
-
-module _ (t : TableData) where
-  pub counted : (rows : List MadeRow) (count : ℕ) → count ≡ length rows → Catalogue t (rows_of rows) → ((s : ℕ) → TooLongAt t s → ⊥) → CountedRows t (Ok count)
-  counted rows count is catalogue none = (none, rows_of rows, catalogue, is ∙ sym (length-map rows row_of))
-
-  pub uncounted : (fault : CatalogueFault) → ((s : ℕ) → fault ≡ faults.TooLong s → TooLongAt t s) → CountedRows t (Err fault)
-  uncounted (faults.TooLong s) long = long s refl
-  uncounted faults.Memory long = tt
-
--- ---- and written
+-- ---- the counts are written
 
 module _ (p : Prepared) (number : ℕ) (out0 out1 : Option Text) where
   abbrev Ends : Option Text → Option Text → Result (Unit {0}) Stop → Type 0

@@ -25,7 +25,8 @@ use Rattle.mh_grammar.specs.Text.{Text}
 use Rattle.mh_plans.specs.Listing.{too_long, Lists, TooLong}
 use Rattle.mh_drive.specs.Ways.{Finish}
 use Rattle.mh_plans.specs.Plan.{EndsBy, Errors}
-use Rattle.mh_showing.specs.Entries.{AreEntriesOf, AreRowsFit, FaultStops, IsEntryOf, IsRowFit, PartRan, TextRan}
+use Rattle.mh_listed.specs.Faults.{FaultStops}
+use Rattle.mh_showing.specs.Entries.{AreEntriesOf, AreRowsFit, IsEntryOf, IsRowFit, PartRan, TextRan}
 use Rattle.mh_prepared.specs.Prepared.{IsFit}
 use Rattle.mh_prepared.specs.Shapes.{Prepared}
 use Rattle.mh_drive.specs.Stages.{Halts}

@@ -5,16 +5,13 @@ use Rattle.std.specs.Io.KnownBytes.{Appends}
 use Rattle.mh_outside.specs.Sink.{AppendsPrefix}
 use Rattle.mh_tables.specs.Table.{TableData}
 use Rattle.mh_tables.specs.Failing.{Row, Fails, dearest}
-use Rattle.mh_catalogue.specs.declared.rows.CatalogueFault.{CatalogueFault}
-use Rattle.mh_catalogue.specs.declared.rows.CatalogueFault.TheVariants.{TooLong, Memory}
 use Rattle.mh_comments.specs.Comments.{IsEntryText}
 use Rattle.mh_grammar.specs.Text.{Text}
-use Rattle.mh_plans.specs.Listing.{too_long, AreEntries}
+use Rattle.mh_plans.specs.Listing.{AreEntries}
 use Rattle.mh_prepared.specs.Shapes.{Prepared}
-use Rattle.mh_drive.specs.Stages.{Halts}
-use Rattle.mh_drive.specs.declared.stop.Cause.TheVariants.{Refused}
 use Rattle.mh_drive.specs.declared.stop.Stop.{Stop}
 use Rattle.mh_drive.specs.declared.stop.Stop.TheVariants.{WriteFailed, OutOfMemory}
+pub use Rattle.mh_listed.specs.Faults.{FaultStops}
 
 -- the sentence of a row fails in its state, and is not too long
 pub record IsRowFit (t : TableData) (row : Row) : Type 0 where
@@ -29,11 +26,6 @@ IsEntryOf p row text = IsEntryText p.grammar p.tabled.automaton p.tabled.halting
 
 abbrev pub AreEntriesOf : Prepared → List Row → Text → Type 0
 AreEntriesOf p rows text = AreEntries p.grammar p.tabled.automaton p.tabled.halting rows text
-
--- what a fault of the catalogue comes to: its line, or want of memory
-abbrev pub FaultStops : CatalogueFault → Stop → Type 0
-FaultStops (TooLong s) stop = Halts (Refused (too_long s)) stop
-FaultStops Memory stop = stop ≡ OutOfMemory
 
 -- the text was written, or a front of it; or memory was wanted before any of it
 abbrev pub TextRan : (Text → Type 0) → Option Text → Option Text → Result (Unit {0}) Stop → Type 0

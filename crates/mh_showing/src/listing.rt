@@ -1,16 +1,14 @@
 //! The list of errors: the catalogue of the table is made, and then its entries are written, each as it is made.
 ghost use Rattle.std.specs.Prelude.{◌≤◌};
 ghost use Rattle.mh_catalogue.specs.Rows.{row_of, rows_of};
-ghost use Rattle.mh_showing.specs.Entries.{AreEntriesOf, AreRowsFit, FaultStops, IsEntryOf, IsRowFit, PartRan, TextRan};
+ghost use Rattle.mh_showing.specs.Entries.{AreEntriesOf, AreRowsFit, IsEntryOf, IsRowFit, PartRan, TextRan};
 ghost use Rattle.mh_prepared.specs.Prepared.{IsFit};
-ghost use Rattle.mh_drive.specs.Stages.{Halts};
 ghost use Rattle.mh_drive.specs.Steps.{OutCounts};
-ghost use Rattle.mh_plans.specs.Listing.{too_long as too_long_line};
-ghost use Rattle.mh_drive.specs.declared.stop.Cause.TheVariants.{Refused};
 
-use mh_catalogue::{CatalogueFault, Row, catalogue};
+use mh_catalogue::{Row, catalogue};
 use mh_comments::entry_text;
-use mh_drive::{Stop, refused, write_text};
+use mh_drive::{Stop, write_text};
+use mh_listed::stop_of;
 use mh_outside::Sink;
 use mh_plans::Writer;
 use mh_prepared::Prepared;
@@ -61,26 +59,6 @@ fn write_entries<O: Sink, const W: usize>(
         }
     }
     Ok(())
-}
-
-/// The refusal where each sentence that fails in a state is too dear.
-fn too_long(alloc: Global, state: u32) -> Stop
-    ensures { Halts (Refused (too_long_line state)) result }
-{
-    match format!(in alloc; "menhir: too long: state {state}\n") {
-        Ok(line) => refused(alloc, line.as_bytes(), b"", b""),
-        Err(_) => Stop::OutOfMemory,
-    }
-}
-
-/// Why there is no catalogue.
-pub(crate) fn stop_of(alloc: Global, fault: CatalogueFault) -> Stop
-    ensures { FaultStops fault result }
-{
-    match fault {
-        CatalogueFault::TooLong { state } => too_long(alloc, state),
-        CatalogueFault::Memory => Stop::OutOfMemory,
-    }
 }
 
 /// What writes the list of errors.

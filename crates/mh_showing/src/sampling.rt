@@ -4,16 +4,13 @@ ghost use Rattle.mh_sample.specs.Counts.{IsSampleLine};
 ghost use Rattle.mh_prepared.specs.Prepared.{IsFit};
 ghost use Rattle.mh_drive.specs.Steps.{OutCounts};
 ghost use Rattle.mh_showing.specs.Entries.{TextRan};
-ghost use Rattle.mh_showing.specs.Counted.{CountedRows};
 
-use crate::listing::stop_of;
-use mh_catalogue::{CatalogueFault, catalogue};
 use mh_drive::{Stop, write_text};
+use mh_listed::{count_rows, stop_of};
 use mh_outside::Sink;
 use mh_plans::Writer;
 use mh_prepared::Prepared;
 use mh_sample::sample_line;
-use mh_tables::Halting;
 use std::alloc::Global;
 
 /// What writes the counts of a sample.
@@ -21,16 +18,6 @@ use std::alloc::Global;
 pub struct Sampling<'a, const W: usize> {
     pub prepared: &'a Prepared<W>,
     pub number: u32,
-}
-
-/// How many rows the catalogue of a table has.
-fn count_rows(alloc: Global, table: &Halting) -> Result<usize, CatalogueFault>
-    ensures { CountedRows table.now result }
-{
-    match catalogue(alloc, table) {
-        Ok(rows) => Ok(rows.as_slice().len()),
-        Err(fault) => Err(fault),
-    }
 }
 
 /// Writes the counts, where the catalogue has so many rows.

@@ -37,8 +37,8 @@ use Rattle.mh_loading.specs.declared.front.Front.{Front}
 use Rattle.mh_prepared.specs.Shapes.{Prepared, Tabled}
 use Rattle.mh_drive.specs.declared.stop.Cause.{Cause}
 use Rattle.mh_drive.specs.declared.stop.Cause.TheVariants.{Refused, Misused, Missing, LongFile, LongInput}
-use Rattle.mh_prepare.specs.declared.tabled.Source.{Source}
-use Rattle.mh_prepare.specs.declared.tabled.Source.TheVariants.{Canonical, File, Merged}
+use Rattle.mh_sources.specs.declared.sources.Source.{Source}
+use Rattle.mh_sources.specs.declared.sources.Source.TheVariants.{Canonical, File, Merged}
 use Rattle.mh_files.proofs.Turns.{turn_first, turn_later}
 use Rattle.mh_prepare.proofs.OnePrepared.{prepared_once}
 use Rattle.mh_plans.proofs.Turning.{nil_not}

@@ -53,8 +53,8 @@ use Rattle.mh_top.specs.Exact.{IsClear, IsClearTable, IsLR1, NameNoTables, Answe
 use Rattle.mh_prepared.specs.Prepared.{IsFit}
 use Rattle.mh_prepared.specs.Shapes.{Prepared}
 use Rattle.mh_drive.specs.declared.stop.Cause.{Cause}
-use Rattle.mh_prepare.specs.declared.tabled.Source.{Source}
-use Rattle.mh_prepare.specs.declared.tabled.Source.TheVariants.{Canonical, File, Merged}
+use Rattle.mh_sources.specs.declared.sources.Source.{Source}
+use Rattle.mh_sources.specs.declared.sources.Source.TheVariants.{Canonical, File, Merged}
 use Rattle.mh_tables.specs.Halting.{AlwaysHalts}
 use Rattle.mh_plans.proofs.Reading.{Runs}
 use Rattle.mh_modes.proofs.EachMode.{facts_of as job_facts}

@@ -1,4 +1,4 @@
-use Rattle.mh_prepare.specs.declared.tabled.Source.TheVariants.{Canonical}
+use Rattle.mh_sources.specs.declared.sources.Source.TheVariants.{Canonical}
 use Rattle.mh_prepare.proofs.Going.{automaton_goes, automaton_stops}
 use Rattle.mh_prepare.proofs.tabled.canonical_table.Goals as goal
 

@@ -1,5 +1,5 @@
 use Rattle.std.proofs.Common.{rules}
-use Rattle.mh_prepare.specs.declared.tabled.Source.TheVariants.{File}
+use Rattle.mh_sources.specs.declared.sources.Source.TheVariants.{File}
 use Rattle.mh_prepare.proofs.Going.{automaton_kept, automaton_stops, valid_table}
 use Rattle.mh_prepare.proofs.tabled.table_in.Goals as goal
 

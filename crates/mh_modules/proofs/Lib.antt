@@ -1,0 +1,4 @@
+pub mod Misspelled
+pub mod Sampling
+pub mod Refusing
+pub mod Apart

@@ -1,0 +1,5 @@
+pub mod Texts
+pub mod Faults
+pub mod GrammarFile
+pub mod Modules
+pub mod GrammarStage

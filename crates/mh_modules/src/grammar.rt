@@ -1,0 +1,53 @@
+//! The grammar of modules.
+ghost use Rattle.std.specs.Prelude.{◌≤◌, length, IfOk};
+ghost use Rattle.mh_grammar.specs.Costs.{HaveCosts};
+ghost use Rattle.mh_grammar.specs.Plain.{plain_of, IsInRange};
+ghost use Rattle.std.specs.List.{All};
+ghost use Rattle.mh_rules.specs.Ready.{AreModulesReady};
+ghost use Rattle.mh_valid.specs.Valid.{AreNamesApart};
+ghost use Rattle.mh_modules.specs.GrammarStage.{IsGrammarStage};
+ghost use Rattle.mh_modules.specs.Modules.{HasCapitals};
+ghost use Rattle.mh_modules.specs.Texts.{refusal};
+ghost use Rattle.mh_modules.specs.Faults.{RefusesBy};
+ghost use Rattle.mh_drive.specs.Stages.{StageHas, Halts};
+ghost use Rattle.mh_drive.specs.declared.stop.Cause.TheVariants.{Refused};
+
+use mh_drive::{Stop, refused};
+use mh_front::{GrammarFault, fault_line, grammar_of};
+use mh_grammar::Grammar;
+use mh_reader::Module;
+use std::alloc::Global;
+
+fn refused_by(alloc: Global, fault: &GrammarFault) -> Stop
+    ensures { Halts (Refused (refusal fault.now)) result }
+{
+    match fault_line(alloc, fault) {
+        Ok(line) => refused(alloc, b"menhir: ", &line, b"\n"),
+        Err(_) => Stop::OutOfMemory,
+    }
+}
+
+fn stop_of(alloc: Global, fault: &GrammarFault) -> Stop
+    ensures { RefusesBy fault.now result }
+{
+    match fault {
+        GrammarFault::Memory => Stop::OutOfMemory,
+        _ => refused_by(alloc, fault),
+    }
+}
+
+/// The grammar that modules give, with the prelude or without. The modules are let go.
+pub fn grammar_in(alloc: Global, modules: Vec<Module>, prelude: bool) -> Result<Grammar, Stop>
+    requires ready { AreModulesReady modules.items }
+    requires capitals { All HasCapitals modules.items }
+    ensures grammar { StageHas (IsGrammarStage prelude modules.items) result }
+    ensures range { IfOk result (λ grammar. IsInRange (plain_of grammar)) }
+    ensures costs { IfOk result (λ grammar. HaveCosts grammar.tokens) }
+    ensures tokens { IfOk result (λ grammar. length grammar.tokens ≤ 512) }
+    ensures apart { IfOk result AreNamesApart }
+{
+    match grammar_of(alloc, &modules, prelude) {
+        Ok(grammar) => Ok(grammar),
+        Err(fault) => Err(stop_of(alloc, &fault)),
+    }
+}
