@@ -1,5 +1,5 @@
 -- Two rising lists of items as one.
-use Rattle.std.specs.Prelude.{◌≡◌, ◌<◌, ◌≤◌, ◌↔◌, ◌⊎◌, ℕ, List, Some, length, slice_get, nat_lt, if◌then◌else◌}
+use Rattle.std.specs.Prelude.{◌≡◌, ◌<◌, ◌≤◌, ◌↔◌, ◌⊎◌, ℕ, List, Some, length, slice_get}
 use Rattle.std.specs.List.{Contains}
 use Rattle.std.specs.declared.cmp.Ordering.{Ordering}
 use Rattle.std.specs.declared.cmp.Ordering.TheVariants.{Less, Equal, Greater}
@@ -8,6 +8,7 @@ use Rattle.mh_grammar.specs.Plain.{PlainGrammar}
 use Rattle.mh_grammar.specs.Edges.{IsRising, IsLookBefore}
 use Rattle.mh_kernels.specs.Shapes.{KernelItem}
 use Rattle.mh_kernels.specs.Kernels.{Holds, IsItemList, IsItemBefore}
+pub use Rattle.mh_kernels.specs.Order.{place_order}
 
 -- the items of both, and no others
 pub record IsUnion (g : PlainGrammar) (left right items : List KernelItem) : Type 0 where
@@ -24,10 +25,6 @@ pub record IsMerged (g : PlainGrammar) (left : List KernelItem) (i : ℕ) (right
   pub origin : (p d : ℕ) (b : Look) → Holds (record { items = items }) p d b → Holds (record { items = left }) p d b ⊎ Holds (record { items = right }) p d b
   pub has_left : (y : KernelItem) (k : ℕ) (b : Look) → k < i → slice_get left k ≡ Some y → Contains y.looks b → Holds (record { items = items }) y.production y.dot b
   pub has_right : (y : KernelItem) (k : ℕ) (b : Look) → k < j → slice_get right k ≡ Some y → Contains y.looks b → Holds (record { items = items }) y.production y.dot b
-
--- by production, then by dot
-abbrev pub place_order : KernelItem → KernelItem → Ordering
-place_order x y = if nat_lt x.production y.production then Less else if nat_lt y.production x.production then Greater else if nat_lt x.dot y.dot then Less else if nat_lt y.dot x.dot then Greater else Equal
 
 -- which list has the next item, or both
 abbrev pub IsTurn : List KernelItem → ℕ → List KernelItem → ℕ → Ordering → Type 0

@@ -13,7 +13,7 @@ ghost use Rattle.mh_items.specs.Added.{AreAdded, IsNumber};
 use crate::asked::Asked;
 use crate::first_sets::Firsts;
 use mh_grammar::{Grammar, Memory};
-use mh_kernels::KernelItem;
+use mh_kernels::{KernelItem, first_item};
 use std::alloc::Global;
 
 /// The productions of the nonterminals that a closure asks for, rising, each with its looks.
@@ -37,11 +37,7 @@ pub(crate) fn added_items<const W: usize>(
     let mut items = Vec::new(alloc);
     for number in numbers.as_slice() {
         let production = &grammar.productions[*number as usize - starts];
-        items.push(KernelItem {
-            production: *number,
-            dot: 0,
-            looks: set.looks[usize::from(production.lhs)].copied(),
-        })?;
+        items.push(first_item(*number, set.looks[usize::from(production.lhs)].copied()))?;
     }
     Ok(items)
 }

@@ -1,12 +1,12 @@
 //! What a closure asks for: for each nonterminal the looks to add its productions with.
-ghost use Rattle.std.specs.Prelude.{◌≡◌, ◌<◌, ◌≤◌, ◌⊎◌, ◌↔◌, ℕ, true, List, length, vec_len, slice_get, Some, IfOk, OnOk};
-ghost use Rattle.std.specs.List.{All, Contains};
-ghost use Rattle.mh_grammar.specs.declared.types.Look.{Look as LookOf};
+ghost use Rattle.std.specs.Prelude.{◌≡◌, ◌<◌, ◌≤◌, ◌↔◌, ℕ, true, List, length, vec_len, slice_get, Some, IfOk, OnOk};
+ghost use Rattle.std.specs.List.{All};
 ghost use Rattle.mh_grammar.specs.declared.types.TheConstants.{MAX_NUMBERED};
 ghost use Rattle.mh_items.specs.Asked.{IsTable, IsNothing, Adds, IsAt, IsStep, IsWaiting};
 
 use crate::links::Link;
 use mh_grammar::Memory;
+use mh_kernels::passed_on;
 use mh_sets::TokenSet;
 use std::alloc::Global;
 
@@ -76,19 +76,4 @@ impl<const W: usize> Asked<W> {
         }
         Ok(())
     }
-}
-
-/// The tokens, and where they pass the looks on, the looks.
-pub(crate) fn passed_on<const W: usize>(
-    tokens: &TokenSet<W>,
-    passes: bool,
-    looks: &TokenSet<W>,
-) -> TokenSet<W>
-    ensures { (b : LookOf) → Contains result b ↔ (Contains tokens.now b ⊎ ((passes ≡ true) × Contains looks.now b)) }
-{
-    let mut added = tokens.copied();
-    if passes {
-        added.union_into(looks);
-    }
-    added
 }

@@ -10,13 +10,13 @@ ghost use Rattle.mh_items.specs.Asked.{IsTable, IsNothing, Adds};
 ghost use Rattle.mh_items.specs.Wanted.{Follows, IsItemSeed, IsSeedOf};
 
 use crate::added::added_items;
-use crate::asked::{Asked, passed_on};
+use crate::asked::Asked;
 use crate::first_sets::{Firsts, Sets};
 use crate::links::rest_of;
 use crate::merging::merged;
 use crate::spreading::spread;
 use mh_grammar::{Grammar, Memory, Symbol};
-use mh_kernels::{Closure, Kernel, KernelItem, behind, symbol_at};
+use mh_kernels::{Closure, Kernel, KernelItem, behind, passed_on, symbol_at};
 use mh_sets::TokenSet;
 use std::alloc::Global;
 

@@ -2,10 +2,10 @@
 ghost use Rattle.std.specs.Prelude.{◌≡◌, ◌<◌, ◌≤◌, ◌+◌, ◌⊎◌, length, IfOk};
 ghost use Rattle.mh_grammar.specs.Plain.{plain_of, IsInRange};
 ghost use Rattle.mh_kernels.specs.Kernels.{IsItemList};
-ghost use Rattle.mh_items.specs.Merging.{IsUnion, IsMerged, IsJoined, IsTurn, place_order};
+ghost use Rattle.mh_items.specs.Merging.{IsUnion, IsMerged, IsJoined, IsTurn};
 
 use mh_grammar::{Grammar, Memory, Sequence};
-use mh_kernels::{Closure, KernelItem};
+use mh_kernels::{Closure, KernelItem, order};
 use std::alloc::Global;
 use std::cmp::Ordering;
 
@@ -87,24 +87,6 @@ fn turn<const W: usize>(
         return Ordering::Greater;
     }
     order(&left[i], &right[j])
-}
-
-fn order<const W: usize>(x: &KernelItem<W>, y: &KernelItem<W>) -> Ordering
-    ensures { result ≡ place_order x.now y.now }
-{
-    if x.production < y.production {
-        return Ordering::Less;
-    }
-    if y.production < x.production {
-        return Ordering::Greater;
-    }
-    if x.dot < y.dot {
-        return Ordering::Less;
-    }
-    if y.dot < x.dot {
-        return Ordering::Greater;
-    }
-    Ordering::Equal
 }
 
 fn copied<const W: usize>(item: &KernelItem<W>) -> KernelItem<W>

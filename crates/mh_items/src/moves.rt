@@ -1,11 +1,11 @@
 //! The moves of a closure.
-ghost use Rattle.std.specs.Prelude.{◌≡◌, ◌<◌, ◌≤◌, ◌+◌, ◌^◌, ◌↔◌, ℕ, Some, slice_get, IsTrue, IfOk};
+ghost use Rattle.std.specs.Prelude.{◌≡◌, ◌<◌, ◌≤◌, ◌↔◌, ℕ, Some, slice_get, IsTrue, IfOk};
 ghost use Rattle.mh_grammar.specs.Plain.{plain_of, rhs_of, production_count, IsInRange};
 ghost use Rattle.mh_grammar.specs.ItemSets.{AreSame, Moved};
 ghost use Rattle.mh_kernels.specs.Kernels.{Holds, IsItemList};
 
 use mh_grammar::{Grammar, Memory, Sequence, Symbol};
-use mh_kernels::{Closure, Kernel, KernelItem, symbol_at};
+use mh_kernels::{Closure, Kernel, KernelItem, advanced, symbol_at};
 use std::alloc::Global;
 
 /// The items of a closure with the dot moved past the symbol, rising (Knuth 1965). It fails for want of memory alone.
@@ -39,16 +39,4 @@ fn is_before<const W: usize>(grammar: &Grammar, item: &KernelItem<W>, symbol: Sy
     ensures { IsTrue result ↔ (slice_get (rhs_of (plain_of grammar.now) item.now.production) item.now.dot ≡ Some symbol) }
 {
     symbol_at(grammar, item.production, item.dot) == Some(symbol)
-}
-
-/// The item with the dot behind the next symbol.
-fn advanced<const W: usize>(item: &KernelItem<W>) -> KernelItem<W>
-    requires { item.now.dot + 1 < 2 ^ 32 }
-    ensures { result ≡ record item.now { dot = item.now.dot + 1 } }
-{
-    KernelItem {
-        production: item.production,
-        dot: item.dot + 1,
-        looks: item.looks.copied(),
-    }
 }

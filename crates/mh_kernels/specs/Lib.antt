@@ -3,4 +3,5 @@ pub mod Collection
 pub mod Conflicts
 pub mod Empties
 pub mod Kernels
+pub mod Order
 pub mod Shapes

@@ -1,11 +1,13 @@
 //! LR(1) kernels, what stands at their dots, and what every layer needs of an automaton.
 #![tactic(auto)]
 
+mod items;
 mod kernels;
 mod laws;
 mod places;
 mod starts;
 
+pub use items::{advanced, first_item, is_marked, order, passed_on};
 pub use kernels::{
     Automaton, AutomatonWith, Closure, ItemWith, ItemsWith, Kernel, KernelItem, StatesFault,
 };

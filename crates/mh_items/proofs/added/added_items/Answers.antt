@@ -51,7 +51,7 @@ loop-number-preserved _ c =
     let at = rw c.from.ensures at c.index.ensures in
     let looks : c.copied.result ≡ looks_at s n = c.copied.ensures ∙ get_or_read s.looks.items n c.index.result.now within at [] in
     let set : IsSet _ c.copied.result = rw looks (c.requires.table.sets n [] within) in
-    rw c.in_ok-push.ensures.items
+    rw (c.in_ok-push.ensures.items, c.first_item.ensures)
     (AddedSoFar-push g c.requires.range w.0 w.1 s c.requires.table xs c.loop-number.items.items i (get_or xs i 0) n w.2 (rw c.as_slice-number-items.ensures.value c.in_ok-numbers.ensures.rising) c.loop-number.invariant next.at is.0 is.1
     c.copied.result set looks)
 

@@ -1,5 +1,4 @@
-use Rattle.std.proofs.Common.{◌≡◌, ◌<◌, false, length, get_or}
-use Rattle.std.proofs.lemmas.List.{get_or_read}
+use Rattle.std.proofs.Common.{◌<◌, length}
 use Rattle.mh_items.proofs.Linking.{add_token, add_row, row_of}
 use Rattle.mh_items.proofs.links.add_symbol.Goals as goal
 
@@ -13,9 +12,4 @@ returns-in-N-clause-first _ c = λ g s.
     rw c.in-N.is (add_row g c.args.tokens.now c.index.result.now c.union_into.new.self c.in-N.n c.union_into.ensures.members (row_of g c.args.sets.now c.in-N.n c.index.result.now s c.requires.len l at))
 
 pub returns-in-N-clause-empty : goal.returns-in-N-clause-empty
-returns-in-N-clause-empty _ c = λ g s.
-    let flags = c.args.sets.now.nullable in
-    let l : c.in-N.n < length flags = rw c.in-N.is at c.requires.symbol in
-    let at = rw c.from-in-N.ensures at c.index-in-N.ensures in
-    let flag : c.index-in-N.result.now ≡ get_or flags c.in-N.n false = get_or_read flags c.in-N.n c.index-in-N.result.now l at false in
-    rw (c.in-N.is, flag) (s.nullable c.in-N.n)
+returns-in-N-clause-empty _ c = λ g s. rw (c.in-N.is, c.is_marked.ensures, c.as_slice.ensures) (s.nullable c.in-N.n)

@@ -1,5 +1,5 @@
 use Rattle.std.proofs.Common.{refl}
-use Rattle.mh_items.proofs.moves.advanced.Goals as goal
+use Rattle.mh_kernels.proofs.items.advanced.Goals as goal
 
 pub returns : goal.returns
 returns _ c = rw c.copied.ensures refl

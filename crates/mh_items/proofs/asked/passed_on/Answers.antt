@@ -1,9 +1,0 @@
-use Rattle.std.proofs.Common.{inl, inr}
-use Rattle.mh_items.proofs.asked.passed_on.Goals as goal
-
-pub returns-then-passes : goal.returns-then-passes
-returns-then-passes g c b =
-    let m = c.union_into.ensures.members b in (
-      (λ k. elim (m.0 k) [ inl a ↦ inl (rw c.copied-added.ensures at a) | inr a ↦ inr (c.if-passes.true, a) ]),
-      (λ s. elim s [ inl a ↦ m.1 (inl (rw (← c.copied-added.ensures) at a)) | inr a ↦ m.1 (inr a.1) ]),
-    )
