@@ -12,7 +12,7 @@ use Rattle.mh_arrivals.specs.declared.arrivals.Arrival.{Arrival}
 use Rattle.mh_arrivals.specs.Arriving.{Spots, HasArrived, arrival_at}
 use Rattle.mh_arrivals.specs.Comparing.{ComesLater}
 use Rattle.mh_reach.specs.declared.sentences.Best.{Best}
-use Rattle.mh_reach.specs.Reaching.{IsFirstOf, IsFirstOfBoth, BestOn, cost_in, spot_of, step_of}
+use Rattle.mh_reach.specs.Reaching.{IsFirstOf, IsFirstOfBoth, BestOn, best_for, cost_in, spot_of, step_of}
 
 module _ (t : TableData) (z : ℕ) where
   none_there : (a : Option Arrival) → FailsAt t z (cost_in a) None → (r : Arrival) → a ≡ Some r → ⊥
@@ -31,10 +31,13 @@ module _ (t : TableData) (c : Classes) (spots : Spots) (s z : ℕ) where
   pub on_none : FailsAt t z (cost_in (arrival_at spots (spot_of c s z))) None → BestOn t c spots s z None
   on_none h r refuses e = none_there t z (arrival_at spots (spot_of c s z)) h r e
 
+  same_best : (cost : ℕ) (r : Arrival) → cost ≡ min (r.cost + cost_of_token t z) cap → best_for t c s z r ≡ record { cost = cost; spot = spot_of c s z; token = z }
+  same_best cost r e = rw e refl
+
   pub on_some : (cost : ℕ) → move_of t s (z ∷ []) ≡ Refuses → FailsAt t z (cost_in (arrival_at spots (spot_of c s z))) (Some cost) → BestOn t c spots s z (Some (record { cost = cost; spot = spot_of c s z; token = z }))
   on_some cost refuses h =
       let there = some_there t z (arrival_at spots (spot_of c s z)) cost h in
-      (there.0, refuses, there.1, rw there.2 refl)
+      (there.0, refuses, there.1, sym (same_best cost there.0 there.2))
 
 module _ (t : TableData) (facts : Facts) (spots : Spots) where
   -- of two that cost the same
