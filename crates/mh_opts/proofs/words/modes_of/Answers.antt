@@ -11,5 +11,5 @@ loop-option-init c = ap (asked_in (rows_of (found_of c.args.matches.now))) c.opt
 pub loop-option-preserved : goal.loop-option-preserved
 loop-option-preserved c =
     let rows = rows_of (found_of c.args.matches.now) in
-    one_more rows c.options-options.result.now (λ name. name.now) c.loop-option.option-index _ c.loop-option.asked c.with_next.result (asked_in rows options) c.mode_of.result c.loop-option-test.true c.mode_of.ensures c.with_next.ensures
+    one_more rows c.options-options.result.now (λ name. name.now) c.loop-option.option-index _ c.loop-option.asked c.with_next-asked.result (asked_in rows options) c.mode_of.result c.loop-option-test.true c.mode_of.ensures c.with_next-asked.ensures
     c.loop-option.invariant
