@@ -1,7 +1,7 @@
 -- Sentences by the states that they fail in, one after another.
-use Rattle.std.proofs.Common.{◌≡◌, ◌≢◌, ℕ, zero, suc, ◌+◌, ◌-◌, ◌<◌, ◌≤◌, List, [], ◌∷◌, ◌++◌, length, Option, None, Some, set, get_or, replicate, refl, sym, ◌∙◌, ap, subst, arith, inl, inr, append_assoc, add-one, true, false, ◌==◌}
+use Rattle.std.proofs.Common.{◌≡◌, ◌≢◌, ℕ, zero, suc, ◌+◌, ◌-◌, ◌<◌, ◌≤◌, List, [], ◌∷◌, ◌++◌, length, Option, None, Some, set, get_or, replicate, refl, sym, ◌∙◌, ap, subst, arith, inl, inr, append_assoc, add-one}
 use Rattle.std.specs.List.{slice_get, Contains}
-use Rattle.std.proofs.lemmas.Bool.{cases_eq, eq-eqb, ne_eqb}
+use Rattle.std.proofs.lemmas.Bool.{cases_eq}
 use Rattle.std.proofs.Math.Numerals.{lt_of_le_of_ne}
 use Rattle.std.proofs.lemmas.List.{map-append, length-set, get_or-set_same, get_or-set_other, get_or-replicate, length-replicate}
 use Rattle.std.proofs.lemmas.Option.{slice_get-get_or, get_or_from_slice_get, slice_get_within, slice_get-map}
@@ -235,10 +235,3 @@ was_free old new s p (Some earlier) puts is = cc
 pub was_taken : (old new : List (Option Place)) (s : ℕ) (p earlier : Place) (o : Option Place) → PutsOnce old s p new o → o ≡ Some earlier → slice_get old s ≡ Some (Some earlier)
 was_taken old new s p earlier None puts is = cc
 was_taken old new s p earlier (Some found) puts is = puts.0 ∙ ap Some is
-
--- a test of two numbers
-pub are_equal : (m n : ℕ) → (m == n) ≡ true → m ≡ n
-are_equal m n yes = elim (cases_eq m n) [ inl is ↦ is | inr other ↦ (let no : true ≡ false = sym yes ∙ ne_eqb m n other in cc) ]
-
-pub are_apart : (m n : ℕ) → (m == n) ≡ false → m ≡ n → ⊥
-are_apart m n no is = let told : true ≡ false = sym (eq-eqb m n is) ∙ no in cc

@@ -97,7 +97,8 @@ fn come_behind_each(all: &mut [Unfolding], other: &Unfolding) -> Result<(), Memo
     Ok(())
 }
 
-/// Each of the first with each of the second, where the first go on as they are if there is one second.
+/// Puts the second unfoldings behind the first: each of the first with each of the second, in that order. Where there is
+/// one second, the first are kept and only go on.
 pub fn put_behind(
     alloc: Global,
     all: &mut Vec<Unfolding>,
@@ -114,7 +115,8 @@ pub fn put_behind(
     }
 }
 
-/// The same, where the second stay if there is one first.
+/// Puts the first unfoldings in front of the second: each of the first with each of the second, in that order. Where there
+/// is one first, the second are kept and only grow at their front.
 pub fn put_in_front(
     alloc: Global,
     firsts: &[Unfolding],
@@ -184,7 +186,7 @@ pub fn with_own(prec: Prec, mut unfoldings: Vec<Unfolding>) -> Vec<Unfolding>
     }
 }
 
-/// Puts them behind others.
+/// Adds unfoldings, with the `%prec` of the alternative that they are inlined into, at the end of a list.
 pub fn add_own(
     all: &mut Vec<Unfolding>,
     prec: Prec,

@@ -1,43 +1,39 @@
 //! The choice of a width.
-ghost use Rattle.std.specs.Prelude.{◌≡◌, ◌≤◌, ◌*◌};
+ghost use Rattle.std.specs.Prelude.{◌≡◌, ◌≢◌, ◌≤◌, ◌<◌, ◌+◌, ◌*◌};
 
-/// Calls a function at the least width that holds so many tokens, of which there are at most 512:
+/// The least width, from 1 to 8 and of 64 tokens each, that holds so many tokens; 8 where none does, of more than 512.
+pub fn width_for(tokens: usize) -> usize
+    ensures holds { tokens ≤ 512 → tokens ≤ 64 * result }
+    ensures least { result ≢ 1 → 64 * result < tokens + 64 }
+    ensures some { 1 ≤ result }
+    ensures few { result ≤ 8 }
+{
+    match tokens {
+        0..=64 => 1,
+        65..=128 => 2,
+        129..=192 => 3,
+        193..=256 => 4,
+        257..=320 => 5,
+        321..=384 => 6,
+        385..=448 => 7,
+        _ => 8,
+    }
+}
+
+/// Calls a function at the least width that holds so many tokens:
 /// `with_width!(tokens; f; types; arguments)` is `f::<types, W>(arguments)`.
 #[macro_export]
 macro_rules! with_width {
-    ($tokens:expr; $f:ident; $($types:ty),*; $($arguments:expr),*) => {{
-        let tokens: usize = $tokens;
-        if tokens <= 64 {
-            $f::<$($types,)* 1>($($arguments),*)
-        } else if tokens <= 128 {
-            $f::<$($types,)* 2>($($arguments),*)
-        } else if tokens <= 192 {
-            $f::<$($types,)* 3>($($arguments),*)
-        } else if tokens <= 256 {
-            $f::<$($types,)* 4>($($arguments),*)
-        } else if tokens <= 320 {
-            $f::<$($types,)* 5>($($arguments),*)
-        } else if tokens <= 384 {
-            $f::<$($types,)* 6>($($arguments),*)
-        } else if tokens <= 448 {
-            $f::<$($types,)* 7>($($arguments),*)
-        } else {
-            $f::<$($types,)* 8>($($arguments),*)
+    ($tokens:expr; $f:ident; $($types:ty),*; $($arguments:expr),*) => {
+        match $crate::width_for($tokens) {
+            1 => $f::<$($types,)* 1>($($arguments),*),
+            2 => $f::<$($types,)* 2>($($arguments),*),
+            3 => $f::<$($types,)* 3>($($arguments),*),
+            4 => $f::<$($types,)* 4>($($arguments),*),
+            5 => $f::<$($types,)* 5>($($arguments),*),
+            6 => $f::<$($types,)* 6>($($arguments),*),
+            7 => $f::<$($types,)* 7>($($arguments),*),
+            _ => $f::<$($types,)* 8>($($arguments),*),
         }
-    }};
-}
-
-fn width<const W: usize>() -> usize
-    ensures { result ≡ W }
-{
-    W
-}
-
-/// The width that the macro chooses: one that holds so many tokens.
-pub fn width_for(tokens: usize) -> usize
-    requires { tokens ≤ 512 }
-    ensures holds { tokens ≤ 64 * result }
-    ensures few { result ≤ 8 }
-{
-    with_width!(tokens; width;;)
+    };
 }
