@@ -2,9 +2,10 @@
 ghost use Rattle.std.specs.Prelude.{◌≡◌, ◌++◌, OnOk};
 ghost use Rattle.mh_notation.specs.Warnings.{conflict_place, unsolved_line, stream_line, warning_line};
 
-use crate::items::{look_name, write_between};
+use crate::items::look_name;
 use mh_cells::ConflictKind;
 use mh_grammar::{Grammar, Look, Memory};
+use mh_parts::write_between;
 use std::alloc::Global;
 
 #[tactic(auto, unfolding(crate::specs::Warnings::conflict_place))]

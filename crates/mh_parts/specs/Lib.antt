@@ -1,0 +1,3 @@
+pub mod Commented
+pub mod Kept
+pub mod Productions
