@@ -1,6 +1,6 @@
 //! The lines of cells that refuse.
 ghost use Rattle.std.specs.Prelude.{◌≡◌, ◌++◌, codes, OnOk};
-ghost use Rattle.mh_notation.specs.Cells.{refusal_line};
+ghost use Rattle.mh_parts.specs.Cells.{refusal_line};
 
 use mh_grammar::{Grammar, Memory, Token, token_name};
 
