@@ -6,7 +6,7 @@ use Rattle.mh_update.proofs.comments.check_sentence.Goals as goal
 pub returns-in-Reject : goal.returns-in-Reject
 returns-in-Reject c =
     early_by c.args.table.now c.args.sentence.now _ c.as_slice-tokens.ensures c.in-Ok.ended c.in-Reject.at c.in-Reject.state c.in-Reject.is
-        (not_last c.in-Reject.at (length c.as_slice-tokens.result.now) c.is_early.result c.is_early.ensures c.if-is_early.true) c.in-Ok.ensures []
+    (not_last c.in-Reject.at (length c.as_slice-tokens.result.now) c.is_early.result c.is_early.ensures c.if-is_early.true) c.in-Ok.ensures []
 
 pub returns-in-Reject-2 : goal.returns-in-Reject-2
 returns-in-Reject-2 c =
