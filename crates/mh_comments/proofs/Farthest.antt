@@ -1,5 +1,6 @@
 -- The item with the farthest dot, found by looking at one item after the other.
 use Rattle.std.proofs.Common.{◌≡◌, ◌⊎◌, inl, inr, ℕ, zero, suc, ◌+◌, ◌<◌, ◌≤◌, List, [], ◌∷◌, length, get_or, refl, sym, ◌∙◌, ap, subst, arith}
+use Rattle.std.specs.List.{All}
 use Rattle.std.proofs.lemmas.Bool.{cases_lt}
 use Rattle.std.proofs.lemmas.List.{get_or_default}
 use Rattle.mh_kernels.specs.Shapes.{KernelItem}
@@ -39,6 +40,10 @@ so_far_more items i item old new h lt is (inr (same, nearer)) =
 
 pub so_far_all : (items : List KernelItem) (n : ℕ) (best : KernelItem) → SoFar items n best → length items ≤ n → IsFarthest items best
 so_far_all items n best h all = record { place = h.place; within = h.within; there = h.there; first = λ k less. h.first k best less; farthest = λ k less. h.each k best (omega arith) }
+
+-- it is one of them
+pub farthest_among : (P : KernelItem → Type 0) (items : List KernelItem) (item : KernelItem) → All P items → IsFarthest items item → P item
+farthest_among P items item all far = subst P far.there (all far.place item far.within)
 
 -- there is one
 pub farthest_once : (items : List KernelItem) (x y : KernelItem) → IsFarthest items x → IsFarthest items y → x ≡ y

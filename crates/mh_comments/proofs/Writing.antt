@@ -26,13 +26,7 @@ pieces old a b c d t1 t2 t3 t4 e1 e2 e3 e4 =
     ∙ ap (λ (t : Text). t ++ d) (e3 ∙ ap (λ (t : Text). t ++ c) (e2 ∙ ap (λ (t : Text). t ++ b) e1 ∙ append_assoc old a b) ∙ append_assoc old (a ++ b) c)
     ∙ append_assoc old (a ++ b ++ c) d
 
--- three pieces behind a text
-pub three_pieces : (old a b c t1 t2 t3 : Text) → t1 ≡ old ++ a → t2 ≡ t1 ++ b → t3 ≡ t2 ++ c → t3 ≡ old ++ (a ++ b ++ c)
-three_pieces old a b c t1 t2 t3 e1 e2 e3 = e3 ∙ ap (λ (t : Text). t ++ c) (e2 ∙ ap (λ (t : Text). t ++ b) e1 ∙ append_assoc old a b) ∙ append_assoc old (a ++ b) c
-
-pub entry_is : (old sentence comments slice t1 t2 t3 t4 : Text) → old ≡ [] → t1 ≡ old ++ sentence → t2 ≡ t1 ++ 10 ∷ [] → slice ≡ comments → t3 ≡ t2 ++ slice → t4 ≡ t3 ++ codes "\n<YOUR SYNTAX ERROR MESSAGE HERE>\n\n"
-    → t4 ≡ sentence ++ codes "\n" ++ comments ++ message_here
-unfolding message_here
+pub entry_is : (old sentence comments slice t1 t2 t3 t4 : Text) → old ≡ [] → t1 ≡ old ++ sentence → t2 ≡ t1 ++ 10 ∷ [] → slice ≡ comments → t3 ≡ t2 ++ slice → t4 ≡ t3 ++ message_here → t4 ≡ sentence ++ codes "\n" ++ comments ++ message_here
 entry_is old sentence comments slice t1 t2 t3 t4 none e1 e2 same e3 e4 =
     pieces old sentence (codes "\n") comments message_here t1 t2 t3 t4 e1 e2 (e3 ∙ ap (λ (l : Text). t2 ++ l) same) e4 ∙ ap (λ (t : Text). t ++ (sentence ++ codes "\n" ++ comments ++ message_here)) none
 

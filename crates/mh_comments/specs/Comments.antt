@@ -1,6 +1,6 @@
 -- The comment lines of a sentence that fails, and the entry that lists it. Source: the Menhir manual (`--list-errors`); the layout
 -- is this project's own.
-use Rattle.std.specs.Prelude.{◌≡◌, ◌-◌, ◌<◌, ◌≤◌, ℕ, List, [], ◌∷◌, ◌++◌, length, slice_index_or, take, codes, decimal}
+use Rattle.std.specs.Prelude.{◌≡◌, ◌-◌, ◌<◌, ◌≤◌, ℕ, List, ◌++◌, length, slice_index_or, take, codes}
 use Rattle.mh_grammar.specs.declared.types.Symbol.{Symbol}
 use Rattle.mh_grammar.specs.declared.types.Grammar.{Grammar}
 use Rattle.mh_grammar.specs.Plain.{plain_of, rhs_of}
@@ -12,7 +12,8 @@ use Rattle.mh_tables.specs.Failing.{Fails}
 use Rattle.mh_run.specs.Trace.{TraceOf}
 use Rattle.mh_msgfile.specs.Printed.{sentence_text}
 use Rattle.mh_grammar.specs.Text.{Text}
-use Rattle.mh_notation.specs.Items.{names_after, production_text, item_lines}
+use Rattle.mh_notation.specs.Items.{item_lines}
+pub use Rattle.mh_parts.specs.Commented.{ends_in, suffix_follows, suffix_comment, reduced_before, reduced_comment, reduced_comments, message_here}
 
 -- the first of the items whose dot is as far as any
 pub record IsFarthest (items : List KernelItem) (item : KernelItem) : Type 0 where
@@ -26,28 +27,8 @@ pub record IsFarthest (items : List KernelItem) (item : KernelItem) : Type 0 whe
 abbrev pub before_dot : Grammar → KernelItem → List Symbol
 before_dot g item = take item.dot (rhs_of (plain_of g) item.production)
 
-unfoldable pub ends_in : ℕ → Text
-ends_in s = codes "##\n## Ends in an error in state: " ++ decimal s ++ codes ".\n##\n"
-
 abbrev pub kernel_comments : Grammar → List KernelItem → Text
 kernel_comments g items = item_lines (codes "## ") g items
-
-unfoldable pub suffix_follows : Text
-suffix_follows = codes "##\n## The known suffix of the stack is as follows:\n##"
-
--- each after a space
-abbrev pub suffix_comment : Grammar → List Symbol → Text
-suffix_comment g symbols = suffix_follows ++ names_after g symbols ++ codes "\n##\n"
-
-unfoldable pub reduced_before : Text
-reduced_before = codes "## Reduced before the error: "
-
-abbrev pub reduced_comment : Grammar → ℕ → Text
-reduced_comment g p = reduced_before ++ production_text g p ++ codes "\n"
-
-abbrev pub reduced_comments : Grammar → List ℕ → Text
-reduced_comments g [] = []
-reduced_comments g (p ∷ ps) = reduced_comment g p ++ reduced_comments g ps
 
 -- the state with its kernel, the symbols that are known to stand on the stack, and the productions reduced since the last shift
 abbrev pub comments : Grammar → List KernelItem → ℕ → KernelItem → List ℕ → Text
@@ -66,9 +47,6 @@ pub record IsCommentText (g : Grammar) (a : Automaton) (t : TableData) (start : 
 -- the comment lines of a state, for the item with the farthest dot, are written behind a text
 abbrev pub WritesComments : Grammar → List KernelItem → ℕ → List ℕ → Text → Text → Type 0
 WritesComments g items s ps old new = (item : KernelItem) × IsFarthest items item × (new ≡ old ++ comments g items s item ps)
-
-unfoldable pub message_here : Text
-message_here = codes "\n<YOUR SYNTAX ERROR MESSAGE HERE>\n\n"
 
 -- the entry of a sentence that fails: its line, its comment lines, an empty line, a place for the message, an empty line
 pub record IsEntryText (g : Grammar) (a : Automaton) (t : TableData) (start : ℕ) (w : List ℕ) (text : Text) : Type 0 where

@@ -1,17 +1,17 @@
 //! The comment lines of a sentence that fails, and the entry that lists it.
-ghost use Rattle.std.specs.Prelude.{◌≡◌, ◌<◌, ◌≤◌, ◌^◌, ◌++◌, ℕ, List, length, codes, IfOk, OnOk};
-ghost use Rattle.std.specs.List.{All, slice_get};
+ghost use Rattle.std.specs.Prelude.{◌≡◌, ◌<◌, ◌≤◌, ◌^◌, ℕ, length, IfOk, OnOk};
+ghost use Rattle.std.specs.List.{All};
 ghost use Rattle.mh_grammar.specs.Plain.{plain_of};
 ghost use Rattle.mh_kernels.specs.Kernels.{IsKernelItem};
-ghost use Rattle.mh_kernels.specs.Automaton.{IsAutomaton, kernel_at};
+ghost use Rattle.mh_kernels.specs.Automaton.{IsAutomaton};
 ghost use Rattle.mh_tables.specs.Failing.{Fails};
-ghost use Rattle.mh_notation.specs.Items.{names_after};
-ghost use Rattle.mh_comments.specs.Comments.{IsFarthest, before_dot, ends_in, suffix_follows, suffix_comment, reduced_comment, reduced_comments, WritesComments, IsCommentText, IsEntryText};
+ghost use Rattle.mh_comments.specs.Comments.{IsFarthest, WritesComments, IsCommentText, IsEntryText};
 
-use mh_grammar::{Grammar, Memory, Symbol, Token};
+use mh_grammar::{Grammar, Memory, Token};
 use mh_kernels::{Automaton, KernelItem};
 use mh_msgfile::write_sentence;
-use mh_notation::{write_item_lines, write_names, write_number, write_production};
+use mh_notation::write_item_lines;
+use mh_parts::{write_all_reduced, write_message_place, write_state, write_suffix};
 use mh_run::{Verdict, trace};
 use mh_tables::Halting;
 use std::alloc::Global;
@@ -31,89 +31,6 @@ fn farthest<const W: usize>(items: &[KernelItem<W>]) -> &KernelItem<W>
     best
 }
 
-fn write_state(alloc: Global, text: &mut Vec<u8>, state: u32) -> Result<(), Memory>
-    ensures { OnOk result (text.new.items ≡ text.old.items ++ ends_in state) }
-{
-    text.extend_from_slice(b"##\n## Ends in an error in state: ")?;
-    write_number(alloc, text, state)?;
-    text.extend_from_slice(b".\n##\n")?;
-    Ok(())
-}
-
-/// The symbols before an item's dot, each after a space.
-#[tactic(auto, unfolding(mh_grammar::specs::Plain::rhs_of))]
-fn write_before_dot<const W: usize>(
-    text: &mut Vec<u8>,
-    grammar: &Grammar,
-    item: &KernelItem<W>,
-) -> Result<(), Memory>
-    requires few { W ≤ 8 }
-    requires item { IsKernelItem (plain_of grammar.now) item.now }
-    ensures { OnOk result (text.new.items ≡ text.old.items
-        ++ names_after grammar.now (before_dot grammar.now item.now)) }
-{
-    let place = item.production as usize;
-    let starts = grammar.starts.len();
-    let dot = item.dot as usize;
-    if place < starts {
-        let symbols = [Symbol::N(grammar.starts[place])];
-        return write_names(text, grammar, &symbols[..dot]);
-    }
-    match grammar.productions.get(place - starts) {
-        Some(found) => write_names(text, grammar, &found.rhs.as_slice()[..dot]),
-        None => write_names(text, grammar, &[]),
-    }
-}
-
-#[tactic(auto, unfolding(crate::specs::Comments::suffix_follows))]
-fn write_suffix_title(text: &mut Vec<u8>) -> Result<(), Memory>
-    ensures { OnOk result (text.new.items ≡ text.old.items ++ suffix_follows) }
-{
-    text.extend_from_slice(b"##\n## The known suffix of the stack is as follows:\n##")?;
-    Ok(())
-}
-
-fn write_suffix<const W: usize>(
-    text: &mut Vec<u8>,
-    grammar: &Grammar,
-    item: &KernelItem<W>,
-) -> Result<(), Memory>
-    requires few { W ≤ 8 }
-    requires item { IsKernelItem (plain_of grammar.now) item.now }
-    ensures { OnOk result (text.new.items ≡ text.old.items
-        ++ suffix_comment grammar.now (before_dot grammar.now item.now)) }
-{
-    write_suffix_title(text)?;
-    write_before_dot(text, grammar, item)?;
-    text.extend_from_slice(b"\n##\n")?;
-    Ok(())
-}
-
-#[tactic(auto, unfolding(crate::specs::Comments::reduced_before))]
-fn write_reduced(text: &mut Vec<u8>, grammar: &Grammar, production: u32) -> Result<(), Memory>
-    ensures { OnOk result (text.new.items ≡ text.old.items
-        ++ reduced_comment grammar.now production) }
-{
-    text.extend_from_slice(b"## Reduced before the error: ")?;
-    write_production(text, grammar, production)?;
-    text.push(b'\n')?;
-    Ok(())
-}
-
-fn write_all_reduced(
-    text: &mut Vec<u8>,
-    grammar: &Grammar,
-    productions: &[u32],
-) -> Result<(), Memory>
-    ensures { OnOk result (text.new.items ≡ text.old.items
-        ++ reduced_comments grammar.now productions.now) }
-{
-    for production in productions {
-        write_reduced(text, grammar, *production)?;
-    }
-    Ok(())
-}
-
 /// The comment lines of a state with these items, in which these productions were reduced since the last shift.
 fn write_comments<const W: usize>(
     alloc: Global,
@@ -131,7 +48,7 @@ fn write_comments<const W: usize>(
     let item = farthest(items);
     write_state(alloc, text, state)?;
     write_item_lines(text, grammar, b"## ", items)?;
-    write_suffix(text, grammar, item)?;
+    write_suffix(text, grammar, item.production, item.dot)?;
     write_all_reduced(text, grammar, reduced)?;
     Ok(())
 }
@@ -186,6 +103,6 @@ pub fn entry_text<const W: usize>(
     write_sentence(&mut text, grammar, start, sentence)?;
     text.push(b'\n')?;
     text.extend_from_slice(comments.as_slice())?;
-    text.extend_from_slice(b"\n<YOUR SYNTAX ERROR MESSAGE HERE>\n\n")?;
+    write_message_place(&mut text)?;
     Ok(text)
 }

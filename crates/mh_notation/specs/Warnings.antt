@@ -1,20 +1,16 @@
 -- The warning on a conflict of a table (the texts are this project's own).
-use Rattle.std.specs.Prelude.{ℕ, [], ◌++◌, codes, decimal}
+use Rattle.std.specs.Prelude.{ℕ, []}
 use Rattle.mh_grammar.specs.declared.types.Grammar.{Grammar}
 use Rattle.mh_grammar.specs.declared.types.Look.{Look}
 use Rattle.mh_cells.specs.declared.kinds.ConflictKind.{ConflictKind}
 use Rattle.mh_cells.specs.declared.kinds.ConflictKind.TheVariants.{Solved, Unsolved, Stream}
 use Rattle.mh_grammar.specs.Text.{Text}
 use Rattle.mh_cells.specs.Names.{look_name}
-
-unfoldable pub conflict_place : ℕ → Text
-conflict_place s = codes "menhir: warning: conflict in state " ++ decimal s ++ codes " on "
+use Rattle.mh_parts.specs.Conflicts.{look_line}
+pub use Rattle.mh_parts.specs.Conflicts.{conflict_place, stream_line}
 
 abbrev pub unsolved_line : Grammar → ℕ → Look → Text
-unsolved_line g s look = conflict_place s ++ look_name g look ++ codes "\n"
-
-abbrev pub stream_line : ℕ → Text
-stream_line s = codes "menhir: warning: end-of-stream conflict in state " ++ decimal s ++ codes "\n"
+unsolved_line g s look = look_line s (look_name g look)
 
 -- a solved conflict is not warned of
 abbrev pub warning_line : Grammar → ℕ → Look → ConflictKind → Text

@@ -1,10 +1,10 @@
 //! The text that shows a tree.
-ghost use Rattle.std.specs.Prelude.{◌≡◌, ◌++◌, ◌∷◌, [], IfOk, OnOk};
-ghost use Rattle.mh_grammar.specs.Names.{left_side_name as left_side_name_of, token_name as token_name_of};
+ghost use Rattle.std.specs.Prelude.{◌≡◌, ◌++◌, IfOk, OnOk};
 ghost use Rattle.mh_grammar.specs.Trees.{text_of, forest_text, forest_of};
 
 use crate::tree::{Shape, Tree};
-use mh_grammar::{Grammar, Memory, Token, left_side_name, token_name};
+use mh_grammar::{Grammar, Memory};
+use mh_nodes::{close_node, open_node, write_leaf};
 use std::alloc::Global;
 
 /// The tree's text, which `--interpret-show-cst` of the Menhir manual asks for, on one line: a leaf is the name of its
@@ -16,32 +16,6 @@ pub fn print_tree(alloc: Global, grammar: &Grammar, tree: &Tree) -> Result<Vec<u
     let mut text = Vec::new(alloc);
     write_tree(&mut text, grammar, tree)?;
     Ok(text)
-}
-
-// A leaf: the name of its token.
-fn write_leaf(text: &mut Vec<u8>, grammar: &Grammar, token: Token) -> Result<(), Memory>
-    ensures { OnOk result (text.new.items ≡ text.old.items ++ token_name_of grammar.now token) }
-{
-    text.extend_from_slice(token_name(grammar, token))?;
-    Ok(())
-}
-
-// What stands before the children of a node.
-fn open_node(text: &mut Vec<u8>, grammar: &Grammar, production: u32) -> Result<(), Memory>
-    ensures { OnOk result (text.new.items ≡ text.old.items ++ 91 ∷ left_side_name_of grammar.now production ++ 58 ∷ []) }
-{
-    text.push(b'[')?;
-    text.extend_from_slice(left_side_name(grammar, production))?;
-    text.push(b':')?;
-    Ok(())
-}
-
-// What stands behind them.
-fn close_node(text: &mut Vec<u8>) -> Result<(), Memory>
-    ensures { OnOk result (text.new.items ≡ text.old.items ++ 93 ∷ []) }
-{
-    text.push(b']')?;
-    Ok(())
 }
 
 #[cycle(texts)]

@@ -5,6 +5,7 @@ ghost use Rattle.mh_grammar.specs.Trees.{forest_yield, forest_of};
 
 use crate::tree::{Shape, Tree};
 use mh_grammar::{Memory, Token};
+use mh_nodes::put_token;
 use std::alloc::Global;
 
 /// The tokens of the tree's leaves, from left to right: its yield (Aho, Lam, Sethi and Ullman). Fails for want of memory
@@ -22,7 +23,7 @@ fn push_tokens(tokens: &mut Vec<Token>, tree: &Tree) -> Result<(), Memory>
     ensures { OnOk result (tokens.new.items ≡ tokens.old.items ++ spec.yield_of tree.now) }
 {
     match tree.shape() {
-        Shape::Leaf(token) => tokens.push(*token)?,
+        Shape::Leaf(token) => put_token(tokens, *token)?,
         Shape::Node(_, children) => push_children(tokens, children.as_slice())?,
     }
     Ok(())

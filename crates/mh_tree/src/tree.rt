@@ -6,6 +6,7 @@ ghost use Rattle.mh_grammar.specs.Trees.{height_of, forest_height, Leaf, Node, f
 ghost use Rattle.mh_tree.specs.Shapes.{tree_of};
 
 use mh_grammar::{MAX_HEIGHT, Memory, Token};
+use mh_nodes::height_over;
 use std::alloc::Global;
 use std::marker::Model;
 use std::rc::Rc;
@@ -134,7 +135,7 @@ pub fn node(alloc: Global, production: u32, children: Vec<Tree>) -> Result<Tree,
     requires { All (λ t. height_of t < MAX_HEIGHT) children.items }
     ensures { IfOk result (λ t. t ≡ Node production (forest_of children.items)) }
 {
-    let height = highest(children.as_slice()) + 1;
+    let height = height_over(highest(children.as_slice()));
     Ok(Tree {
         shape: Rc::new(alloc, Shape::Node(production, children))?,
         height,

@@ -5,3 +5,4 @@ pub mod Alike
 pub mod Tales
 pub mod Twice
 pub mod Unfit
+pub mod Refused

@@ -24,12 +24,14 @@ use Rattle.mh_kernels.specs.Automaton.{kernel_at}
 use Rattle.mh_tables.specs.Table.{TableData}
 use Rattle.mh_tables.specs.Facts.{Facts}
 use Rattle.mh_cells.specs.Names.{look_name}
-use Rattle.mh_notation.specs.Items.{names_after, left_side, production_text, looks_after, kernel_text, item_line}
+use Rattle.mh_notation.specs.Items.{looks_after, kernel_text, item_line}
+use Rattle.mh_parts.specs.Productions.{names_after, left_side, production_text}
 use Rattle.mh_msgfile.proofs.Endings.{with_ends, IsWhole, ends_in_cr}
 use Rattle.mh_tables.proofs.Refusing.{state_refused}
-use Rattle.mh_comments.specs.Comments.{before_dot, ends_in, kernel_comments, suffix_follows, suffix_comment, reduced_before, reduced_comment, reduced_comments, comments, IsCommentText}
+use Rattle.mh_comments.specs.Comments.{before_dot, kernel_comments, comments, IsCommentText}
+use Rattle.mh_parts.specs.Commented.{ends_in, suffix_follows, suffix_comment, reduced_before, reduced_comment, reduced_comments}
 use Rattle.mh_grammar.specs.Text.{Text}
-use Rattle.mh_update.specs.Updates.{is_made}
+use Rattle.mh_parts.specs.Kept.{is_made}
 use Rattle.mh_update.specs.Lines.{is_inner, IsInLine, HasLineNames}
 use Rattle.mh_update.proofs.Walks.{IsMadeLine}
 

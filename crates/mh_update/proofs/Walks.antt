@@ -12,7 +12,8 @@ use Rattle.mh_msgfile.specs.declared.messages.MsgSentence.{MsgSentence}
 use Rattle.mh_msgfile.proofs.Endings.{with_ends, IsWhole}
 use Rattle.mh_update.specs.declared.comments.Comment.{Comment}
 use Rattle.mh_grammar.specs.Text.{Text}
-use Rattle.mh_update.specs.Updates.{is_made, own_text, own_texts, updated_from}
+use Rattle.mh_update.specs.Updates.{updated_from}
+use Rattle.mh_parts.specs.Kept.{is_made, own_text, own_texts}
 
 -- ---- places
 

@@ -1,7 +1,7 @@
 -- What a messages file becomes when it is brought up to date. Source: the Menhir manual (`--update-errors`); which lines are made
 -- anew is this project's own.
-use Rattle.std.specs.Prelude.{◌≡◌, ℕ, ◌-◌, Bool, List, [], ◌∷◌, ◌++◌, take, drop, flat_map, codes, Result, Ok, Err, nat_eq, if◌then◌else◌}
-use Rattle.std.specs.List.{AllZip, Contains, starts_with}
+use Rattle.std.specs.Prelude.{◌≡◌, ℕ, ◌-◌, List, [], ◌∷◌, ◌++◌, take, drop, Result, Ok, Err}
+use Rattle.std.specs.List.{AllZip, Contains}
 use Rattle.mh_grammar.specs.declared.types.Grammar.{Grammar}
 use Rattle.mh_kernels.specs.Shapes.{Automaton}
 use Rattle.mh_tables.specs.Table.{TableData}
@@ -13,6 +13,7 @@ use Rattle.mh_check.specs.Compiling.{Tells}
 use Rattle.mh_check.specs.declared.compiling.CheckFault.{CheckFault}
 use Rattle.mh_update.specs.declared.comments.Comment.{Comment}
 use Rattle.mh_grammar.specs.Text.{Text}
+pub use Rattle.mh_parts.specs.Kept.{is_made, own_text, own_texts}
 
 -- ---- comment lines
 
@@ -25,17 +26,6 @@ abbrev pub AreComments : Grammar → Automaton → TableData → List MsgSentenc
 AreComments g a t xs cs = AllZip (IsComment g a t) xs cs
 
 -- ---- lines
-
--- two number signs begin the lines that are made anew
-abbrev pub is_made : Text → Bool
-is_made line = starts_with nat_eq line (codes "##")
-
-abbrev pub own_text : Text → Text
-own_text line = if is_made line then [] else line ++ 10 ∷ []
-
--- the other lines, each with an LF behind it
-abbrev pub own_texts : List Text → Text
-own_texts lines = flat_map own_text lines
 
 -- behind so many lines: those up to a sentence's, its comment lines, and so on; lines are counted from 1
 abbrev pub updated_from : ℕ → List Text → List Comment → Text

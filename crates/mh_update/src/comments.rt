@@ -14,6 +14,7 @@ use mh_comments::comment_lines;
 use mh_grammar::{Grammar, Memory, Sequence};
 use mh_kernels::Automaton;
 use mh_msgfile::{Entry, MsgSentence};
+use mh_parts::is_early;
 use mh_run::{Verdict, verdict};
 use mh_tables::Halting;
 use std::alloc::Global;
@@ -38,8 +39,10 @@ fn check_sentence(alloc: Global, table: &Halting, sentence: &MsgSentence) -> Res
         Err(Memory) => return Err(CheckFault::Memory),
     };
     match ended {
-        Verdict::Reject { at, .. } if at as usize + 1 == tokens.len() => Ok(()),
-        Verdict::Reject { at, .. } => Err(CheckFault::RefusedEarly { line, at }),
+        Verdict::Reject { at, .. } if is_early(at, tokens.len()) => {
+            Err(CheckFault::RefusedEarly { line, at })
+        }
+        Verdict::Reject { .. } => Ok(()),
         Verdict::Accept { .. } => Err(CheckFault::NotRefused {
             line,
             verdict: ended,

@@ -5,64 +5,16 @@ ghost use Rattle.mh_kernels.specs.Automaton.{IsAutomaton};
 ghost use Rattle.mh_msgfile.specs.Messages.{AreOf};
 ghost use Rattle.mh_check.specs.Checks.{sentences_of};
 ghost use Rattle.mh_check.specs.Compiling.{Tells};
-ghost use Rattle.mh_update.specs.Updates.{FirstUnfit, IsUpdated, is_made as is_made_line, own_text, own_texts, updated};
+ghost use Rattle.mh_update.specs.Updates.{FirstUnfit, IsUpdated, own_texts, updated};
 
 use crate::comments::{Comment, all_comments};
 use mh_check::CheckFault;
 use mh_grammar::{Grammar, Memory, Name};
 use mh_kernels::Automaton;
 use mh_msgfile::MsgFile;
+use mh_parts::{lines_up_to, write_lines_behind, write_lines_up_to};
 use mh_tables::Halting;
 use std::alloc::Global;
-
-/// Whether a line is made anew: it begins with two number signs.
-fn is_made(line: &[u8]) -> bool
-    ensures { result ≡ is_made_line line.now }
-{
-    line.starts_with(b"##")
-}
-
-fn write_own(text: &mut Vec<u8>, line: &[u8]) -> Result<(), Memory>
-    ensures { OnOk result (text.new.items ≡ text.old.items ++ own_text line.now) }
-{
-    if !is_made(line) {
-        text.extend_from_slice(line)?;
-        text.push(b'\n')?;
-    }
-    Ok(())
-}
-
-/// Writes the lines that are not made anew.
-fn write_all_own(text: &mut Vec<u8>, lines: &[Name]) -> Result<(), Memory>
-    ensures { OnOk result (text.new.items ≡ text.old.items ++ own_texts lines.now) }
-{
-    for line in lines {
-        write_own(text, line.as_slice())?;
-    }
-    Ok(())
-}
-
-/// The lines behind the first ones.
-fn behind(lines: &[Name], count: usize) -> &[Name]
-    ensures { result.now ≡ drop count lines.now }
-{
-    if count < lines.len() {
-        &lines[count..]
-    } else {
-        &lines[..0]
-    }
-}
-
-/// The first lines.
-fn first(lines: &[Name], count: usize) -> &[Name]
-    ensures { result.now ≡ take count lines.now }
-{
-    if count < lines.len() {
-        &lines[..count]
-    } else {
-        lines
-    }
-}
 
 /// Writes the lines up to a sentence's, where the first ones are written, and its comment lines.
 fn write_comment(
@@ -73,8 +25,7 @@ fn write_comment(
 ) -> Result<(), Memory>
     ensures { OnOk result (text.new.items ≡ text.old.items ++ own_texts (take (comment.now.line - written) (drop written lines.now)) ++ comment.now.text) }
 {
-    let count = (comment.line as usize).saturating_sub(written);
-    write_all_own(text, first(behind(lines, written), count))?;
+    write_lines_up_to(text, lines, written, comment.line)?;
     text.extend_from_slice(comment.text.as_slice())?;
     Ok(())
 }
@@ -87,9 +38,9 @@ fn with_comments(alloc: Global, lines: &[Name], comments: &[Comment]) -> Result<
     let mut written = 0usize;
     for comment in comments {
         write_comment(&mut text, lines, written, comment)?;
-        written = comment.line as usize;
+        written = lines_up_to(comment.line);
     }
-    write_all_own(&mut text, behind(lines, written))?;
+    write_lines_behind(&mut text, lines, written)?;
     Ok(text)
 }
 

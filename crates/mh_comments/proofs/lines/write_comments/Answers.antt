@@ -1,5 +1,11 @@
+use Rattle.mh_grammar.specs.Plain.{plain_of}
+use Rattle.mh_kernels.specs.Kernels.{IsKernelItem}
+use Rattle.mh_comments.proofs.Farthest.{farthest_among}
 use Rattle.mh_comments.proofs.Writing.{pieces}
 use Rattle.mh_comments.proofs.lines.write_comments.Goals as goal
+
+pub write_suffix-requires : goal.write_suffix-requires
+write_suffix-requires g c = (farthest_among (IsKernelItem (plain_of c.args.grammar.now)) c.args.items.now c.farthest-item.result.now c.requires.items c.farthest-item.ensures).dot
 
 pub returns : goal.returns
 returns g c = (

@@ -7,5 +7,5 @@ push_children-push_tokens-requires t c =
     let below = item_height_le c.args.children.now c.loop-child.child-index c.child-item.result c.loop-child-test.true c.child-item.is in
     (omega (arith, below, c.decreases), tt)
 
-pub push_tokens-returns-in_ok-push-in-Leaf : goal.push_tokens-returns-in_ok-push-in-Leaf
-push_tokens-returns-in_ok-push-in-Leaf t c = search rules
+pub push_tokens-returns-in_ok-put_token-in-Leaf : goal.push_tokens-returns-in_ok-put_token-in-Leaf
+push_tokens-returns-in_ok-put_token-in-Leaf t c = search rules

@@ -1,0 +1,5 @@
+pub mod Cells
+pub mod Commented
+pub mod Conflicts
+pub mod Kept
+pub mod Productions
