@@ -1,5 +1,5 @@
 use Rattle.std.proofs.Common.{rules}
-use Rattle.mh_cells.proofs.levels.compare.Goals as goal
+use Rattle.mh_actions.proofs.levels.compare.Goals as goal
 
 pub returns-in-Left : goal.returns-in-Left
 returns-in-Left c = search rules

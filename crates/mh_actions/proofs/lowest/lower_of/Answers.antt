@@ -1,5 +1,5 @@
 use Rattle.std.proofs.Common.{rules}
-use Rattle.mh_cells.proofs.cells.lower_of.Goals as goal
+use Rattle.mh_actions.proofs.lowest.lower_of.Goals as goal
 
 pub returns-then-production-lowest : goal.returns-then-production-lowest
 returns-then-production-lowest c = search rules
