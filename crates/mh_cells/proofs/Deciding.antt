@@ -6,8 +6,8 @@ use Rattle.mh_tables.specs.declared.parts.Action.{Action}
 use Rattle.mh_tables.specs.declared.parts.Action.TheVariants.{Shift, Reduce, Refuse}
 use Rattle.mh_grammar.specs.ItemSets.{ItemSet}
 use Rattle.mh_grammar.specs.declared.types.Grammar.{Grammar}
-use Rattle.mh_cells.specs.declared.kinds.Comparison.{Comparison}
-use Rattle.mh_cells.specs.declared.kinds.Comparison.TheVariants.{Reduces, Unknown}
+use Rattle.mh_actions.specs.declared.levels.Comparison.{Comparison}
+use Rattle.mh_actions.specs.declared.levels.Comparison.TheVariants.{Reduces, Unknown}
 use Rattle.mh_cells.specs.declared.kinds.ConflictKind.TheVariants.{Solved, Unsolved}
 use Rattle.mh_cells.specs.declared.cells.Tally.{Tally}
 use Rattle.mh_cells.specs.Cells.{IsForShift, Stays, HasTwo}

@@ -9,7 +9,7 @@ use Rattle.mh_grammar.specs.declared.types.Look.TheVariants.{Token, End}
 use Rattle.mh_tables.specs.declared.parts.Action.{Action}
 use Rattle.mh_tables.specs.declared.parts.Action.TheVariants.{Shift, Reduce}
 use Rattle.mh_grammar.specs.Edges.{IsRising}
-use Rattle.mh_cells.specs.declared.kinds.Comparison.{Comparison}
+use Rattle.mh_actions.specs.declared.levels.Comparison.{Comparison}
 use Rattle.mh_cells.specs.declared.kinds.ConflictKind.{ConflictKind}
 use Rattle.mh_cells.specs.declared.kinds.ConflictKind.TheVariants.{Solved, Unsolved, Stream}
 use Rattle.mh_cells.specs.declared.conflicts.Conflict.{Conflict}

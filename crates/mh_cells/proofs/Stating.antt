@@ -11,7 +11,7 @@ use Rattle.mh_tables.specs.declared.parts.Action.{Action}
 use Rattle.mh_tables.specs.declared.parts.Action.TheVariants.{Shift, Reduce, Refuse}
 use Rattle.mh_cells.specs.declared.kinds.Mode.{Mode}
 use Rattle.mh_cells.specs.declared.kinds.Mode.TheVariants.{Merged, Canonical}
-use Rattle.mh_cells.specs.declared.kinds.Comparison.TheVariants.{Reduces, Shifts, Unknown}
+use Rattle.mh_actions.specs.declared.levels.Comparison.TheVariants.{Reduces, Shifts, Unknown}
 use Rattle.mh_cells.specs.declared.cells.Cell.{Cell}
 use Rattle.mh_cells.specs.Levels.{compared}
 use Rattle.mh_cells.specs.Cells.{Stays}

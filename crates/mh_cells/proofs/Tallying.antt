@@ -2,8 +2,8 @@
 use Rattle.std.proofs.Common.{◌≡◌, ℕ, ◌⊎◌, Option, Some, None, Bool, true, false, ◌||◌, lt-ltb, le-ltb, ap, sym, ◌∙◌, arith, inl, inr}
 use Rattle.std.specs.Prelude.{MatchBool}
 use Rattle.std.proofs.lemmas.Bool.{cases_lt}
-use Rattle.mh_cells.specs.declared.kinds.Comparison.{Comparison}
-use Rattle.mh_cells.specs.declared.kinds.Comparison.TheVariants.{Reduces, Shifts, Neither, Unknown}
+use Rattle.mh_actions.specs.declared.levels.Comparison.{Comparison}
+use Rattle.mh_actions.specs.declared.levels.Comparison.TheVariants.{Reduces, Shifts, Neither, Unknown}
 use Rattle.mh_cells.specs.declared.cells.Tally.{Tally}
 use Rattle.mh_cells.specs.Cells.{IsForShift}
 use Rattle.mh_cells.specs.code.Tallies.{empty_tally, lower, is_other, tally_with, IsLowest, AreTwo, IsTally}

@@ -3,8 +3,8 @@
 use Rattle.std.specs.Prelude.{◌≡◌, ◌<◌, ◌≤◌, ◌⊎◌, ℕ}
 use Rattle.mh_tables.specs.declared.parts.Action.{Action}
 use Rattle.mh_tables.specs.declared.parts.Action.TheVariants.{Shift, Reduce, Refuse}
-use Rattle.mh_cells.specs.declared.kinds.Comparison.{Comparison}
-use Rattle.mh_cells.specs.declared.kinds.Comparison.TheVariants.{Reduces, Shifts, Unknown}
+use Rattle.mh_actions.specs.declared.levels.Comparison.{Comparison}
+use Rattle.mh_actions.specs.declared.levels.Comparison.TheVariants.{Reduces, Shifts, Unknown}
 
 -- the shift is to be taken
 abbrev pub IsForShift : Comparison → Type 0

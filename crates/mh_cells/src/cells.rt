@@ -1,10 +1,11 @@
 //! One cell of a state.
 ghost use Rattle.std.specs.Prelude.{◌≡◌};
 ghost use Rattle.mh_cells.specs.Levels.{compared};
-ghost use Rattle.mh_cells.specs.code.Tallies.{empty_tally, lower, is_other, tally_with, weighed, cell_from};
+ghost use Rattle.mh_cells.specs.code.Tallies.{empty_tally, is_other, tally_with, weighed, cell_from};
 
-use crate::kinds::{Comparison, ConflictKind};
+use crate::kinds::ConflictKind;
 use crate::levels::compare_on;
+use mh_actions::{Comparison, lower_of};
 use mh_grammar::{Grammar, Look};
 use mh_tables::Action;
 
@@ -37,21 +38,6 @@ pub fn new_tally() -> Tally
         two: false,
         shifts: true,
         unknown: false,
-    }
-}
-
-fn lower_of(lowest: Option<u32>, production: u32) -> u32
-    ensures { result ≡ lower lowest production }
-{
-    match lowest {
-        None => production,
-        Some(lowest) => {
-            if production < lowest {
-                production
-            } else {
-                lowest
-            }
-        }
     }
 }
 

@@ -5,6 +5,7 @@ ghost use Rattle.mh_cells.specs.States.{IsForErrors};
 ghost use Rattle.mh_cells.specs.code.Rows.{listed, rank_in, best_with, IsLooked};
 
 use crate::levels::{length_of, rank_of};
+use mh_actions::still_tied;
 use mh_grammar::Grammar;
 use mh_kernels::KernelItem;
 
@@ -47,7 +48,7 @@ fn better(best: Option<Best>, production: u32, rank: u64) -> Best
                 old
             } else {
                 Best {
-                    tied: old.tied || production != old.production,
+                    tied: still_tied(old.tied, production, old.production),
                     ..old
                 }
             }

@@ -20,16 +20,3 @@ pub enum ConflictKind {
     /// There was an action at the end of the stream and another one on a token: the first is dropped.
     Stream,
 }
-
-/// What the levels of a production and of a token say of reducing against shifting.
-#[derive(Clone, Copy)]
-pub enum Comparison {
-    /// The reduction is taken.
-    Reduces,
-    /// The shift is taken.
-    Shifts,
-    /// Neither is: the levels are equal, and not associative.
-    Neither,
-    /// A level is missing, or the two are not comparable: the shift is taken.
-    Unknown,
-}

@@ -15,5 +15,6 @@ pub use conflicts::Conflict;
 pub use counting::{Tallies, shifts_of, tallies_of};
 pub use errors::{Best, for_errors};
 pub use holes::holes_of;
-pub use kinds::{Comparison, ConflictKind, Mode};
-pub use row::{cells_of, default_of, is_stream_conflict, kept_action};
+pub use kinds::{ConflictKind, Mode};
+pub use mh_actions::{Comparison, kept_action};
+pub use row::{cells_of, default_of, is_stream_conflict};

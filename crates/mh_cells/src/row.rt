@@ -1,11 +1,11 @@
 //! The cells of a state together: the end of the stream, and the default.
 ghost use Rattle.std.specs.Prelude.{◌≡◌, ◌≢◌, ◌<◌, ◌↔◌, ℕ, length, IsTrue, IfOk, MatchOption};
 ghost use Rattle.std.specs.List.{All};
-ghost use Rattle.mh_cells.specs.code.Whole.{kept_of};
 ghost use Rattle.mh_cells.specs.code.Rows.{AreSettled, IsStreamIn, IsChoice, IsDefaultIn, IsOtherwise, HasReduction, IsFit};
 
 use crate::cells::{Cell, Tally, settle};
 use crate::kinds::Mode;
+use mh_actions::fits;
 use mh_grammar::Memory;
 use mh_tables::Action;
 use std::alloc::Global;
@@ -46,13 +46,6 @@ pub fn is_stream_conflict(cells: &[Cell], last: Action) -> bool
     !is_same(last, Action::Refuse) && cells.iter().any(|cell| acts_otherwise(cell, last))
 }
 
-/// What the end of the stream keeps: nothing where it conflicts.
-pub fn kept_action(stream: bool, last: Action) -> Action
-    ensures { result ≡ kept_of stream last }
-{
-    if stream { Action::Refuse } else { last }
-}
-
 fn reduction_of(action: Action) -> Option<u32>
     ensures { MatchOption result ((p : ℕ) → action ≢ Action.Reduce p) (λ p. action ≡ Action.Reduce p) }
 {
@@ -75,17 +68,16 @@ fn first_reduction(cells: &[Cell]) -> Option<u32>
 }
 
 // Whether a cell reduces a production, or is empty and no hole.
-fn fits(cell: &Cell, production: u32) -> bool
+fn is_fit(cell: &Cell, production: u32) -> bool
     ensures { IsTrue result ↔ IsFit production cell.now }
 {
-    is_same(cell.action, Action::Reduce(production))
-        || (is_same(cell.action, Action::Refuse) && !cell.raw)
+    fits(cell.action, cell.raw, production)
 }
 
 fn all_fit(cells: &[Cell], production: u32) -> bool
     ensures { IsTrue result ↔ All (IsFit production) cells.now }
 {
-    cells.iter().all(|cell| fits(cell, production))
+    cells.iter().all(|cell| is_fit(cell, production))
 }
 
 // The only production that a default may reduce.

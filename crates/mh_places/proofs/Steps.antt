@@ -1,32 +1,32 @@
 -- What a step gives of a lexeme that it does not name: what another step gives of it.
-use Rattle.std.proofs.Common.{◌≡◌, ℕ, true, false, List, Option, None, Some, Result, refl, sym}
-use Rattle.std.proofs.lemmas.Bool.{false≢true}
+use Rattle.std.proofs.Common.{◌≡◌, ℕ, false, List, Option, None, refl}
 use Rattle.mh_rules.specs.declared.modules.Rule.{Rule}
 use Rattle.mh_rules.specs.declared.modules.Module.{Module}
 use Rattle.mh_places.specs.declared.signs.Sign.{Sign}
 use Rattle.mh_places.specs.declared.signs.Sign.TheVariants as signs
 use Rattle.mh_places.specs.declared.places.Draft.{Draft}
 use Rattle.mh_places.specs.declared.places.Place.TheVariants as places
-use Rattle.mh_places.specs.declared.places.Reader.{Reader}
-use Rattle.mh_places.specs.declared.places.Refusal.{Refusal}
-use Rattle.mh_places.specs.Machine.{Refers, goes, is_quoted, at_token, at_aliased, at_parameter, token_of, in_rules, in_production, at_begin, drafted, at_spaced, behind_group, ruled, at_group, grouped, at_rule_end}
+use Rattle.mh_steps.specs.Due.{if_due}
+use Rattle.mh_steps.specs.Tokens.{definition_of}
+use Rattle.mh_places.specs.Machine.{onward, is_type, alias_by, at_token, behind_name, at_parameter, in_rules, in_production, at_begin, drafted, at_spaced, behind_group, ruled, at_group, grouped, at_rule_end}
 
-pub not_quoted : (g : Sign) → (g ≡ signs.Quoted → ⊥) → false ≡ is_quoted g
-not_quoted signs.Quoted h = absurd (h refl)
-not_quoted _ h = refl
+-- behind a token's name its alias may stand
+pub token_is : (m : Module) (name : List ℕ) (c : Option ℕ) (g : Sign) (text : List ℕ) → at_token m name c g text ≡ behind_name m (definition_of name (alias_by g text) c) g text
+token_is m name c signs.Quoted text = refl
+token_is m name c _ text = refl
 
-pub token_with : (m : Module) (name : List ℕ) (c : Option ℕ) (g : Sign) (text : List ℕ) → is_quoted g ≡ true → at_token m name c g text ≡ goes m (places.TokenAliased (token_of name (Some text) c))
-token_with m name c signs.Quoted text h = refl
-token_with m name c _ text h = absurd (false≢true h)
+pub no_alias : (g : Sign) (text : List ℕ) → (g ≡ signs.Quoted → ⊥) → None ≡ alias_by g text
+no_alias signs.Quoted text h = absurd (h refl)
+no_alias _ text h = refl
 
-pub token_without : (m : Module) (name : List ℕ) (c : Option ℕ) (g : Sign) (text : List ℕ) → is_quoted g ≡ false → at_token m name c g text ≡ at_aliased m (token_of name None c) g text
-token_without m name c signs.Quoted text h = absurd (false≢true (sym h))
-token_without m name c _ text h = refl
+pub no_type : (g : Sign) → (g ≡ signs.TypeText → ⊥) → false ≡ is_type g
+no_type signs.TypeText h = absurd (h refl)
+no_type _ h = refl
 
 -- behind %parameter only a type is taken
-pub parameter_refuses : (m : Module) (g : Sign) (r : Result Reader Refusal) → (g ≡ signs.TypeText → ⊥) → Refers None r → Refers (at_parameter m g) r
-parameter_refuses m signs.TypeText r h none = absurd (h refl)
-parameter_refuses m _ r h none = none
+pub parameter_is : (m : Module) (g : Sign) → at_parameter m g ≡ onward m (if_due (is_type g) places.Declarations)
+parameter_is m signs.TypeText = refl
+parameter_is m _ = refl
 
 pub begin_else : (m : Module) (r : Rule) (g : Sign) (text : List ℕ) → (g ≡ signs.Bar → ⊥) → at_begin m r g text ≡ in_production m (drafted r) g text
 begin_else m r signs.Bar text h = absurd (h refl)

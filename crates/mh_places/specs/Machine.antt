@@ -24,12 +24,23 @@ use Rattle.mh_places.specs.declared.places.Refusal.TheVariants.{Unexpected, Memo
 use Rattle.mh_places.specs.Signs.{Read, is_capital}
 use Rattle.mh_rules.specs.Modules.{applied, alternative, no_module}
 use Rattle.mh_places.specs.Spelling.{ref_by, suffix_of, with_prec}
+use Rattle.mh_steps.specs.declared.tokens.Definition.{Definition}
+use Rattle.mh_steps.specs.declared.tokens.Definition.TheVariants as definitions
+pub use Rattle.mh_steps.specs.Tokens.{token_of}
 
 abbrev pub at : Module → Place → Reader
 at m p = record { made = m; place = p }
 
 abbrev pub goes : Module → Place → Option Reader
 goes m p = Some (at m p)
+
+abbrev pub onward : Module → Option Place → Option Reader
+onward m None = None
+onward m (Some p) = goes m p
+
+abbrev pub is_type : Sign → Bool
+is_type signs.TypeText = true
+is_type _ = false
 
 -- DECLARATIONS
 
@@ -95,15 +106,12 @@ abbrev pub at_parameter : Module → Sign → Option Reader
 at_parameter m signs.TypeText = goes m places.Declarations
 at_parameter m _ = None
 
-abbrev pub token_of : List ℕ → Option (List ℕ) → Option ℕ → TokenDecl
-token_of name o c = record { name = name; alias = o; cost = c }
-
 abbrev pub with_token : Module → TokenDecl → Module
 with_token m t = record m { tokens = m.tokens ++ t ∷ [] }
 
-abbrev pub is_quoted : Sign → Bool
-is_quoted signs.Quoted = true
-is_quoted _ = false
+abbrev pub alias_by : Sign → List ℕ → Option (List ℕ)
+alias_by signs.Quoted text = Some text
+alias_by _ text = None
 
 abbrev pub at_token : Module → List ℕ → Option ℕ → Sign → List ℕ → Option Reader
 at_token m name c signs.Quoted text = goes m (places.TokenAliased (token_of name (Some text) c))
@@ -111,6 +119,11 @@ at_token m name c g text = at_items (with_token m (token_of name None c)) lists.
 
 abbrev pub at_aliased : Module → TokenDecl → Sign → List ℕ → Option Reader
 at_aliased m t g text = at_items (with_token m t) lists.Tokens g text
+
+-- behind the lexeme that follows a token's name
+abbrev pub behind_name : Module → Definition → Sign → List ℕ → Option Reader
+behind_name m (definitions.Aliased t) g text = goes m (places.TokenAliased t)
+behind_name m (definitions.Whole t) g text = at_aliased m t g text
 
 -- RULES
 

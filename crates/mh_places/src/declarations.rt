@@ -1,15 +1,15 @@
 //! Declarations and their lists.
-ghost use Rattle.std.specs.Prelude.{◌≡◌, ◌∷◌, ◌++◌, [], IfOk, Some};
+ghost use Rattle.std.specs.Prelude.{◌≡◌, ◌∷◌, ◌++◌, [], IfOk};
 ghost use Rattle.mh_places.specs.Signs.{is_capital};
 ghost use Rattle.mh_places.specs.Machine as machine;
 ghost use Rattle.mh_places.specs.Machine.{Refers};
-ghost use Rattle.mh_places.specs.declared.places.Place.TheVariants as variants;
 
 use crate::places::{Listing, Place, Purpose, Reader, Refusal, go_to, lost, no_memory, unexpected};
 use crate::signs::{Sign, is_capital_word};
 use crate::stack::Stack;
 use mh_grammar::{Memory, Name, Sequence, from_bytes};
 use mh_rules::{Actual, LevelDecl, Module, Ref, TokenDecl};
+use mh_steps::{Definition, definition_of, if_due};
 use std::alloc::Global;
 
 /// A declaration of levels.
@@ -229,47 +229,59 @@ pub fn at_type(alloc: Global, made: Module, sign: Sign) -> Result<Reader, Refusa
     }
 }
 
-/// Where a parameter's type has to stand.
-pub fn at_parameter(made: Module, sign: Sign) -> Result<Reader, Refusal>
-    ensures { Refers (machine.at_parameter made sign) result }
-{
-    if let Sign::TypeText = sign {
-        return go_to(made, Place::Declarations);
-    }
-    unexpected(made)
-}
-
-/// Whether a lexeme is an alias.
-fn is_alias(sign: Sign) -> bool
-    ensures { result ≡ machine.is_quoted sign }
+/// Whether a lexeme is a type.
+fn is_type(sign: Sign) -> bool
+    ensures { result ≡ machine.is_type sign }
 {
     match sign {
-        Sign::Quoted => true,
+        Sign::TypeText => true,
         _ => false,
     }
 }
 
-/// Where a token's alias leads.
-fn alias_place(name: Name, alias: Name, cost: Option<u32>) -> Place
-    ensures { result ≡ variants.TokenAliased (machine.token_of name (Some alias) cost) }
+/// The reader goes on at a place, where there is one for the lexeme.
+fn go_onward(made: Module, place: Option<Place>) -> Result<Reader, Refusal>
+    ensures { Refers (machine.onward made place) result }
 {
-    let alias = Some(alias);
-    Place::TokenAliased(TokenDecl { name, alias, cost })
+    match place {
+        Some(place) => go_to(made, place),
+        None => unexpected(made),
+    }
 }
 
-/// A token's alias.
-fn with_alias(
+/// Where a parameter's type has to stand.
+pub fn at_parameter(made: Module, sign: Sign) -> Result<Reader, Refusal>
+    ensures { Refers (machine.at_parameter made sign) result }
+{
+    go_onward(made, if_due(is_type(sign), Place::Declarations))
+}
+
+/// The alias that a lexeme is, where it is one.
+fn alias_of(alloc: Global, sign: Sign, text: &[u8]) -> Result<Option<Name>, Memory>
+    ensures { IfOk result (λ alias. alias ≡ machine.alias_by sign text.now) }
+{
+    match sign {
+        Sign::Quoted => {
+            let alias = from_bytes(alloc, text)?;
+            Ok(Some(alias))
+        }
+        _ => Ok(None),
+    }
+}
+
+/// Behind the lexeme that follows a token's name.
+fn behind_name(
     alloc: Global,
     made: Module,
-    name: Name,
-    cost: Option<u32>,
+    definition: Definition,
+    sign: Sign,
     text: &[u8],
 ) -> Result<Reader, Refusal>
-    ensures { Refers (machine.goes made (variants.TokenAliased (machine.token_of name (Some text.now) cost))) result }
+    ensures { Refers (machine.behind_name made definition sign text.now) result }
 {
-    match from_bytes(alloc, text) {
-        Ok(alias) => go_to(made, alias_place(name, alias, cost)),
-        Err(_) => no_memory((made, name)),
+    match definition {
+        Definition::Aliased(token) => go_to(made, Place::TokenAliased(token)),
+        Definition::Whole(token) => at_aliased(alloc, made, token, sign, text),
     }
 }
 
@@ -284,15 +296,10 @@ pub fn at_token(
 ) -> Result<Reader, Refusal>
     ensures { Refers (machine.at_token made name cost sign text.now) result }
 {
-    if is_alias(sign) {
-        return with_alias(alloc, made, name, cost, text);
+    match alias_of(alloc, sign, text) {
+        Ok(alias) => behind_name(alloc, made, definition_of(name, alias, cost), sign, text),
+        Err(_) => no_memory((made, name)),
     }
-    let token = TokenDecl {
-        name,
-        alias: None,
-        cost,
-    };
-    at_aliased(alloc, made, token, sign, text)
 }
 
 /// Behind a token's alias.

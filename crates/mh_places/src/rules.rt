@@ -1,5 +1,5 @@
 //! Rules but for their actuals.
-ghost use Rattle.std.specs.Prelude.{◌≡◌, ◌∷◌, ◌++◌, [], IfOk, OnOk, Some, is_some, map, not};
+ghost use Rattle.std.specs.Prelude.{◌≡◌, ◌∷◌, ◌++◌, [], IfOk, OnOk, Some, map};
 ghost use Rattle.mh_places.specs.Spelling.{ref_by, with_prec};
 ghost use Rattle.mh_places.specs.Machine as machine;
 ghost use Rattle.mh_places.specs.Machine.{Refers, ruled, grouped, grouped_with, produced, drafted, named, with_formal};
@@ -9,6 +9,7 @@ use crate::signs::Sign;
 use crate::stack::Stack;
 use mh_grammar::{Memory, Name, Sequence, from_bytes};
 use mh_rules::{Alternative, Module, Ref, Rule};
+use mh_steps::lacks_level;
 use std::alloc::Global;
 use std::mem;
 
@@ -426,13 +427,6 @@ fn copied_ref(alloc: Global, found: &Ref) -> Result<Ref, Memory>
             Ok(Ref::Alias(copy))
         }
     }
-}
-
-/// Whether a production has no level of its own.
-fn lacks_level(production: &Alternative) -> bool
-    ensures { result ≡ not (is_some production.now.prec) }
-{
-    production.prec.is_none()
 }
 
 /// The group's level goes to a production without its own.

@@ -3,7 +3,7 @@ use Rattle.std.proofs.Common.{ℕ, Option, Some, None, Bool, true, false, inl, i
 use Rattle.std.specs.Prelude.{MatchBool}
 use Rattle.mh_tables.specs.declared.parts.Action.{Action}
 use Rattle.mh_tables.specs.declared.parts.Action.TheVariants.{Shift, Reduce, Refuse}
-use Rattle.mh_cells.specs.declared.kinds.Comparison.{Comparison}
+use Rattle.mh_cells.specs.Levels.{Comparison}
 use Rattle.mh_cells.specs.declared.kinds.ConflictKind.{ConflictKind}
 use Rattle.mh_cells.specs.declared.kinds.ConflictKind.TheVariants.{Solved, Unsolved, Stream}
 use Rattle.mh_cells.specs.declared.cells.Cell.{Cell}

@@ -2,8 +2,9 @@
 use Rattle.std.specs.Prelude.{◌≡◌, ◌<◌, ◌≤◌, ◌⊎◌, ℕ, Bool, true, false, ◌&&◌, ◌||◌, nat_lt, if◌then◌else◌, Option, Some, None, is_some, MatchBool}
 use Rattle.mh_tables.specs.declared.parts.Action.{Action}
 use Rattle.mh_tables.specs.declared.parts.Action.TheVariants.{Shift, Reduce, Refuse}
-use Rattle.mh_cells.specs.declared.kinds.Comparison.{Comparison}
-use Rattle.mh_cells.specs.declared.kinds.Comparison.TheVariants.{Reduces, Shifts, Neither, Unknown}
+use Rattle.mh_actions.specs.declared.levels.Comparison.{Comparison}
+use Rattle.mh_actions.specs.declared.levels.Comparison.TheVariants.{Reduces, Shifts, Neither, Unknown}
+pub use Rattle.mh_actions.specs.Lowest.{lower}
 use Rattle.mh_cells.specs.declared.kinds.ConflictKind.{ConflictKind}
 use Rattle.mh_cells.specs.declared.kinds.ConflictKind.TheVariants.{Solved, Unsolved, Stream}
 use Rattle.mh_cells.specs.declared.cells.Cell.{Cell}
@@ -12,10 +13,6 @@ use Rattle.mh_cells.specs.Cells.{IsForShift, Stays, Takes, IsConflict, IsUnsolve
 
 abbrev pub empty_tally : Tally
 empty_tally = record { lowest = None; some = false; two = false; shifts = true; unknown = false }
-
-abbrev pub lower : Option ℕ → ℕ → ℕ
-lower None p = p
-lower (Some q) p = if nat_lt p q then p else q
 
 abbrev pub is_other : Option ℕ → ℕ → Bool
 is_other None p = false

@@ -15,16 +15,13 @@ use Rattle.mh_grammar.specs.Plain.{plain_of, IsLookBelow}
 use Rattle.mh_grammar.specs.Edges.{find_edge}
 use Rattle.mh_grammar.specs.declared.types.Symbol.TheVariants.{T}
 use Rattle.mh_cells.specs.declared.cells.Cell.{Cell}
+pub use Rattle.mh_actions.specs.Rows.{kept_of}
 use Rattle.mh_cells.specs.States.{State, Raw, IsStreamConflict, IsForErrors}
 use Rattle.mh_cells.specs.code.Rows.{AreCells, IsDecidedOn}
 
 -- the state of a kernel
 abbrev pub closed_state : Grammar → Kernel → List Edge → State
 closed_state g kernel edges = record { grammar = g; items = Close (plain_of g) (Holds kernel); edges = edges }
-
-abbrev pub kept_of : Bool → Action → Action
-kept_of true last = Refuse
-kept_of false last = last
 
 -- the reduction that fills cells without raw action, where there is no default
 abbrev pub IsFiller : State → Option ℕ → Option ℕ → Type 0

@@ -1,6 +1,8 @@
-use Rattle.std.proofs.Common.{rules}
-use Rattle.mh_places.proofs.Steps.{parameter_refuses}
+use Rattle.std.proofs.Common.{sym, subst}
+use Rattle.mh_places.specs.Machine.{Refers}
+use Rattle.mh_places.proofs.Steps.{parameter_is}
 use Rattle.mh_places.proofs.declarations.at_parameter.Goals as goal
 
 pub returns : goal.returns
-returns c = parameter_refuses c.args.made c.args.sign _ c.in_default.not-TypeText (search rules)
+returns c =
+    subst (λ step. Refers step c.go_onward.result) (sym (parameter_is c.args.made c.args.sign)) (rw (c.if_due.ensures, c.is_type.ensures) at c.go_onward.ensures)

@@ -1,12 +1,8 @@
-use Rattle.std.proofs.Common.{sym, subst, ◌∙◌}
+use Rattle.std.proofs.Common.{sym, subst}
 use Rattle.mh_places.specs.Machine.{Refers}
-use Rattle.mh_places.proofs.Steps.{token_with, token_without}
+use Rattle.mh_places.proofs.Steps.{token_is}
 use Rattle.mh_places.proofs.declarations.at_token.Goals as goal
 
-pub returns-then-is_alias : goal.returns-then-is_alias
-returns-then-is_alias c =
-    subst (λ step. Refers step c.with_alias.result) (sym (token_with c.args.made c.args.name c.args.cost c.args.sign c.args.text.now (sym c.is_alias.ensures ∙ c.if-is_alias.true))) c.with_alias.ensures
-
-pub returns : goal.returns
-returns c =
-    subst (λ step. Refers step c.at_aliased.result) (sym (token_without c.args.made c.args.name c.args.cost c.args.sign c.args.text.now (sym c.is_alias.ensures ∙ c.if-is_alias.false))) c.at_aliased.ensures
+pub returns-in-Ok : goal.returns-in-Ok
+returns-in-Ok c =
+    subst (λ step. Refers step c.behind_name.result) (sym (token_is c.args.made c.args.name c.args.cost c.args.sign c.args.text.now)) (rw (c.definition_of.ensures, c.in-Ok.ensures) at c.behind_name.ensures)
