@@ -17,8 +17,9 @@ use Rattle.mh_tabreader.specs.declared.reading.TabFault.TheVariants as faults
 use Rattle.mh_tabreader.specs.code.Machine.{run, start, finish}
 use Rattle.mh_tabreader.specs.code.Lines.{words_of, lines_in, IsMisplaced, Reaches, EndsAt, is_other_head, is_other_number, is_mode}
 use Rattle.mh_tabreader.specs.code.Words.{same_word, number_of, mode_of}
+use Rattle.mh_tablines.specs.Versions.{first_line, version_fault}
 use Rattle.mh_tabform.proofs.Plain.{both, not_equal}
-use Rattle.mh_tabreader.proofs.Tellings.{chosen, number_sound, mode_sound}
+use Rattle.mh_tabreader.proofs.Tellings.{chosen, none_some, same_some, number_sound, mode_sound}
 use Rattle.mh_tabreader.proofs.Exact.{taken_begin, taken_whole, taken_early}
 
 -- Parts.
@@ -239,6 +240,14 @@ first_part bytes first (p ∷ ps) e = (10 ∷ join_with_byte 10 (p ∷ ps), inr 
 other_of : (bytes first : List ℕ) → IsOtherHead (words_of first) → (rest : List ℕ) × ((rest ≡ []) ⊎ ((more : List ℕ) × (rest ≡ 10 ∷ more))) × (bytes ≡ first ++ rest) → IsOtherVersion bytes
 other_of bytes first h (rest, ends, whole) = record { version = h.version; mode = h.mode; number = h.number; not_one = h.not_one; not_two = h.not_two; rest = rest; ends = ends; first = whole ∙ ap (λ l. l ++ rest) (sym (join_with_byte-slice_split 32 first) ∙ ap (join_with_byte 32) h.are) }
 
-pub other_version : (bytes : List ℕ) (parts : List (Bor (List ℕ))) (d : Bor (List ℕ)) (ws : Line) → seen parts ≡ slice_split (λ b. b == 10) bytes → 0 < length parts → ws ≡ words_of (get_or parts 0 d).now → is_other_head ws ≡ true → IsOtherVersion bytes
-other_version bytes [] d ws e some i h = absurd (omega (arith, some))
-other_version bytes (p ∷ ps) d ws e some i h = other_of bytes p.now (subst IsOtherHead i (other_head ws h)) (first_part bytes p.now (seen ps) e)
+pub other_version : (bytes : List ℕ) (parts : List (Bor (List ℕ))) (ws : Line) → seen parts ≡ slice_split (λ b. b == 10) bytes → 0 < length parts → ws ≡ words_of (first_line (seen parts)) → is_other_head ws ≡ true → IsOtherVersion bytes
+other_version bytes [] ws e some i h = absurd (omega (arith, some))
+other_version bytes (p ∷ ps) ws e some i h = other_of bytes p.now (subst IsOtherHead i (other_head ws h)) (first_part bytes p.now (seen ps) e)
+
+pub told : (other : Bool) (fault : TabFault) (o : Option TabFault) → o ≡ version_fault other faults.Version → o ≡ Some fault → (other ≡ true) × (fault ≡ faults.Version)
+told true fault o e s = (refl, same_some fault faults.Version (sym s ∙ e))
+told false fault o e s = absurd (none_some fault (sym e ∙ s))
+
+pub untold : (other : Bool) (o : Option TabFault) → o ≡ version_fault other faults.Version → o ≡ None → other ≡ false
+untold true o e s = absurd (none_some faults.Version (sym s ∙ e))
+untold false o e s = refl

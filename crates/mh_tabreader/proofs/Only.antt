@@ -1,5 +1,5 @@
 -- A file is read as what it is, and as nothing else.
-use Rattle.std.proofs.Common.{inl, inr, ◌⊎◌, ◌≡◌, ◌≢◌, ◌+◌, ◌<◌, ◌≤◌, ◌^◌, ◌==◌, ◌&&◌, ℕ, suc, Bool, true, false, List, [], ◌∷◌, ◌++◌, length, map, Option, Some, None, Result, Ok, Err, refl, sym, ap, ◌∙◌, subst, arith, append_assoc, append-nil, length-append, codes, decimal, true≢false, ne_eqb, All, nat_eq, not, cond, Bor, get_or}
+use Rattle.std.proofs.Common.{inl, inr, ◌⊎◌, ◌≡◌, ◌≢◌, ◌+◌, ◌<◌, ◌≤◌, ◌^◌, ◌==◌, ◌&&◌, ℕ, suc, Bool, true, false, List, [], ◌∷◌, ◌++◌, length, map, Option, Some, None, Result, Ok, Err, refl, sym, ap, ◌∙◌, subst, arith, append_assoc, append-nil, length-append, codes, decimal, true≢false, ne_eqb, All, nat_eq, not, cond, Bor}
 use Rattle.std.specs.List.{AllByRecursion, slice_split, join_with_byte}
 use Rattle.std.proofs.lemmas.List.Elements.{All-from_recursion}
 use Rattle.std.proofs.lemmas.List.Splits.{slice_split_at, slice_split_none, join_with_byte-slice_split}
@@ -14,6 +14,7 @@ use Rattle.mh_cells.specs.Names.{mode_name}
 use Rattle.mh_tabreader.specs.Reading.{IsOtherVersion, IsBadLine, IsReading}
 use Rattle.mh_tabform.specs.Form.{lines_of, head_line, version_of, Line, line_text, text, IsInWord, IsLine, Spells, Begins, IsFileOf}
 use Rattle.mh_tabreader.specs.code.Lines.{words_of, is_other_head, is_other_number, is_mode}
+use Rattle.mh_tablines.specs.Versions.{first_line}
 use Rattle.mh_tabform.proofs.Plain.{plain, number_plain, mode_plain}
 use Rattle.mh_tabreader.proofs.Cuts.{split_some, regroup, seen}
 use Rattle.mh_tabreader.proofs.Tellings.{number_again, mode_again}
@@ -161,9 +162,9 @@ view_other bytes h =
       | inr (more, e) ↦ (view more, ap view (h.first ∙ ap (λ r. join_with_byte 32 ws ++ r) e ∙ regroup (join_with_byte 32 ws) [] more) ∙ view_again (ws ∷ []) more (is, tt))
     ]
 
-pub never_other : (bytes : List ℕ) (parts : List (Bor (List ℕ))) (d : Bor (List ℕ)) (ws : Line) → seen parts ≡ slice_split (λ b. b == 10) bytes → 0 < length parts → ws ≡ words_of (get_or parts 0 d).now → is_other_head ws ≡ false → IsOtherVersion bytes → ⊥
-never_other bytes [] d ws e some i f h = omega (arith, some)
-never_other bytes (p ∷ ps) d ws e some i f h =
+pub never_other : (bytes : List ℕ) (parts : List (Bor (List ℕ))) (ws : Line) → seen parts ≡ slice_split (λ b. b == 10) bytes → 0 < length parts → ws ≡ words_of (first_line (seen parts)) → is_other_head ws ≡ false → IsOtherVersion bytes → ⊥
+never_other bytes [] ws e some i f h = omega (arith, some)
+never_other bytes (p ∷ ps) ws e some i f h =
     let (more, v) = view_other bytes h in
     let first : words_of p.now ≡ head_line h.version h.mode = first_same (words_of p.now) (head_line h.version h.mode) (map words_of (seen ps)) more (ap (map words_of) e ∙ v) in
     true≢false (sym (ap is_other_head (i ∙ first) ∙ head_again h.version h.mode h.number h.not_one h.not_two) ∙ f)

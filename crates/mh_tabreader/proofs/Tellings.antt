@@ -1,5 +1,5 @@
 -- What words are read as is what spells them.
-use Rattle.std.proofs.Common.{inl, inr, ◌⊎◌, ◌≡◌, ◌≢◌, ◌+◌, ◌*◌, ◌-◌, ◌^◌, ◌<◌, ◌≤◌, ℕ, suc, Bool, true, false, not, ◌&&◌, nat_lt, nat_eq, cond, List, [], ◌∷◌, map, length, get_or, drop, Option, Some, None, refl, sym, ap, ◌∙◌, subst, codes, decimal, arith, rules, true≢false, eq-zero-or-pos, lt-ltb, ltb-true, le-ltb, drop-cons}
+use Rattle.std.proofs.Common.{inl, inr, ◌⊎◌, ◌≡◌, ◌≢◌, ◌-◌, ◌^◌, ◌<◌, ℕ, Bool, true, false, not, ◌&&◌, nat_lt, nat_eq, cond, List, [], ◌∷◌, map, length, get_or, Option, Some, None, refl, sym, ap, ◌∙◌, subst, codes, decimal, arith, rules, true≢false, eq-zero-or-pos, lt-ltb, ltb-true}
 use Rattle.std.specs.List.{AllByRecursion, list_all}
 use Rattle.std.specs.Cmp.Lexicographic.{same_text}
 use Rattle.std.proofs.lemmas.Str.Parse.{IsNumeralModel, numerals_by_fold}
@@ -84,18 +84,6 @@ number_sound word n e = elim (chosen (list_all is_digit word && not (has_zero_fi
       (subst (λ k. k < 2 ^ 32) small.1 small.0, (sym (decimal-digits_value own word tests.0 first.0 first.1 (omega (arith, small.0))) ∙ ap decimal small.1))
   | inr (b, f) ↦ absurd (none_some _ f)
 ]
-
-value_grows : (n : ℕ) (ds : List ℕ) → n ≤ value_from n ds
-value_grows n [] = omega arith
-value_grows n (d ∷ ds) = omega (arith, value_grows (10 * n + (d - 48)) ds)
-
-too_large : (w : List ℕ) → 2 ^ 32 ≤ value_from 0 w → None ≡ small_value w
-too_large w h = ap (λ b. cond b (Some (value_from 0 w)) None) (sym (le-ltb (value_from 0 w) (2 ^ 32) h))
-
-pub large : (word : List ℕ) (i v m : ℕ) → i < length word → value_from v (drop i word) ≡ value_from 0 word → m ≡ 10 * v + (get_or word i 0 - 48) → 2 ^ 32 ≤ m → None ≡ small_value word
-large word i v m inside same e h =
-    let split : value_from v (drop i word) ≡ value_from (10 * v + (get_or word i 0 - 48)) (drop (suc i) word) = ap (value_from v) (drop-cons word i 0 inside) in
-    too_large word (omega (arith, h, e, value_grows (10 * v + (get_or word i 0 - 48)) (drop (suc i) word), sym split ∙ same))
 
 -- Names.
 

@@ -11,6 +11,7 @@ use crate::words::{
 };
 use mh_grammar::Sequence;
 use mh_tabform::{RawCell, RawCells, RawEdge, RawItem, RawProduction, RawState};
+use mh_tablines::is_alone;
 use std::alloc::Global;
 use std::mem;
 
@@ -189,8 +190,11 @@ fn at_state(
 fn at_end(reader: &mut Reader, kind: Kind, words: &[&[u8]]) -> Result<(), Refusal>
     ensures { Goes (machine.at_end reader.old kind (map (λ w. w.now) words.now)) reader.new result }
 {
-    match (kind, words) {
-        (Kind::End, []) => {
+    match kind {
+        Kind::End => {
+            if !is_alone(words) {
+                return Err(Refusal::Unexpected);
+            }
             reader.place = Place::Ended;
             Ok(())
         }

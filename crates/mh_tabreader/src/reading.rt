@@ -11,10 +11,11 @@ ghost use Rattle.mh_tabreader.specs.code.Lines.{words_of, lines_in, Reaches, Has
 
 use crate::advance::{Refusal, advance};
 use crate::places::{Place, Reader};
-use crate::words::{is_word, mode_in, number_of};
+use crate::words::{is_word, mode_in};
 use mh_cells::Mode;
 use mh_grammar::Sequence;
 use mh_tabform::RawTable;
+use mh_tablines::{first_line, is_open, is_other_number, version_fault};
 use std::alloc::{AllocError, Global};
 
 /// Why bytes are no table file.
@@ -33,15 +34,6 @@ fn cut(alloc: Global, bytes: &[u8], separator: u8) -> Result<Vec<&[u8]>, AllocEr
     ensures { IfOk result (λ v. map (λ x. x.now) v.items ≡ slice_split (λ b. b == separator) bytes.now) }
 {
     bytes.split(|byte| *byte == separator).collect(alloc)
-}
-
-fn is_other_number(word: &[u8]) -> bool
-    ensures { result ≡ Lines.is_other_number (Words.number_of word.now) }
-{
-    match number_of(word) {
-        None => false,
-        Some(number) => number != 1 && number != 2,
-    }
 }
 
 fn is_mode(word: &[u8]) -> bool
@@ -159,14 +151,6 @@ fn ended(reader: Reader, line: u32) -> Result<RawTable, TabFault>
     }
 }
 
-/// Whether something stands behind the last LF.
-fn is_open(last: &[u8]) -> bool
-    ensures open { result ≡ true → 0 < length last.now }
-    ensures closed { result ≡ false → length last.now ≤ 0 }
-{
-    last.len() > 0
-}
-
 /// The table of a file that is cut into its lines and what stands behind the last LF, where its version is a known one.
 fn read_known(alloc: Global, bytes: &[u8], parts: &[&[u8]]) -> Result<RawTable, TabFault>
     requires cut { map (λ x. x.now) parts.now ≡ slice_split (λ b. b == 10) bytes.now }
@@ -193,7 +177,7 @@ fn is_other(alloc: Global, bytes: &[u8], parts: &[&[u8]]) -> Result<bool, AllocE
     ensures { IfOk result (λ other. (other ≡ true → IsOtherVersion bytes.now) × (other ≡ false → IsOtherVersion bytes.now → ⊥)) }
 {
     let _bytes = bytes;
-    let head = cut(alloc, parts[0], b' ')?;
+    let head = cut(alloc, first_line(parts), b' ')?;
     Ok(is_other_head(head.as_slice()))
 }
 
@@ -208,10 +192,10 @@ fn read_parts(alloc: Global, bytes: &[u8], parts: &[&[u8]]) -> Result<RawTable, 
     let Ok(other) = is_other(alloc, bytes, parts) else {
         return Err(TabFault::Memory);
     };
-    if other {
-        return Err(TabFault::Version);
+    match version_fault(other, TabFault::Version) {
+        Some(fault) => Err(fault),
+        None => read_known(alloc, bytes, parts),
     }
-    read_known(alloc, bytes, parts)
 }
 
 /// The last line of so many, and 1 where there is none.

@@ -1,8 +1,8 @@
 //! What words and lines are read as.
-ghost use Rattle.std.specs.Prelude.{◌≡◌, ◌<◌, ◌≤◌, ◌^◌, length, map, IfOk, Some, None, IsTrue, ◌↔◌, true};
+ghost use Rattle.std.specs.Prelude.{◌≡◌, map, IfOk, Some};
 ghost use Rattle.std.specs.List.{list_all};
 ghost use Rattle.mh_tabreader.specs.code.Words as words_read;
-ghost use Rattle.mh_tabreader.specs.code.Words.{Refers, is_name as is_name_text, is_digit as is_digit_byte, same_word, small_value, has_zero_first as zero_first, number_of as number_read};
+ghost use Rattle.mh_tabreader.specs.code.Words.{Refers, is_name as is_name_text, same_word, number_of as number_read};
 
 use crate::advance::Refusal;
 use crate::places::Kind;
@@ -10,6 +10,7 @@ use mh_cells::Mode;
 use mh_grammar::{Memory, Name, Sequence, from_bytes};
 use mh_tabform::{RawCell, RawEdge, RawItem, RawProduction};
 use mh_tables::{Action, Fallback};
+use mh_tablines::number_of;
 use std::alloc::Global;
 
 /// Whether two words are one.
@@ -71,54 +72,6 @@ pub(crate) fn names_of(alloc: Global, words: &[&[u8]]) -> Result<Sequence<Name>,
         return Err(Refusal::Memory);
     };
     Ok(names)
-}
-
-fn is_digit(byte: u8) -> bool
-    ensures { result ≡ is_digit_byte byte }
-{
-    byte >= 48 && byte <= 57
-}
-
-fn are_digits(word: &[u8]) -> bool
-    ensures { result ≡ list_all is_digit_byte word.now }
-{
-    word.iter().all(|byte| is_digit(*byte))
-}
-
-fn has_zero_first(word: &[u8]) -> bool
-    ensures { result ≡ zero_first word.now }
-{
-    match word {
-        [] => true,
-        [_] => false,
-        [first, _, ..] => *first == 48,
-    }
-}
-
-/// The value of digits, where it has 32 bits.
-fn value_of(word: &[u8]) -> Option<u32>
-    requires { list_all is_digit_byte word.now ≡ true }
-    ensures { result ≡ small_value word.now }
-{
-    let mut value = 0u64;
-    for byte in word {
-        value = value * 10 + u64::from(*byte - 48);
-        if value > 0xffff_ffff {
-            return None;
-        }
-    }
-    Some(value as u32)
-}
-
-/// The number that a word is.
-#[tactic(auto, unfolding(crate::specs::code::Words::number_of))]
-pub(crate) fn number_of(word: &[u8]) -> Option<u32>
-    ensures { result ≡ number_read word.now }
-{
-    if !are_digits(word) || has_zero_first(word) {
-        return None;
-    }
-    value_of(word)
 }
 
 pub(crate) fn number(word: &[u8]) -> Result<u32, Refusal>

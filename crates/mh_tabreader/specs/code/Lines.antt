@@ -1,5 +1,5 @@
 -- Bytes as lines, and what reading them line by line tells.
-use Rattle.std.specs.Prelude.{◌≡◌, ◌+◌, ◌==◌, ◌&&◌, ℕ, Bool, true, false, not, if◌then◌else◌, List, [], ◌∷◌, ◌++◌, map, length, Option, Some, None, Result, Ok, Err, codes}
+use Rattle.std.specs.Prelude.{◌≡◌, ◌+◌, ◌==◌, ℕ, Bool, true, false, if◌then◌else◌, List, [], ◌∷◌, ◌++◌, map, length, Option, Some, None, Result, Ok, Err, codes}
 use Rattle.std.specs.List.{slice_split}
 use Rattle.mh_cells.specs.declared.kinds.Mode.{Mode}
 use Rattle.mh_tabform.specs.declared.types.RawTable.{RawTable}
@@ -7,6 +7,7 @@ use Rattle.mh_tabreader.specs.declared.places.Reader.{Reader}
 use Rattle.mh_tabreader.specs.declared.reading.TabFault.{TabFault}
 use Rattle.mh_tabreader.specs.declared.reading.TabFault.TheVariants as faults
 use Rattle.mh_tabform.specs.Form.{Line, Begins}
+pub use Rattle.mh_tablines.specs.Versions.{is_other_number}
 use Rattle.mh_tabreader.specs.code.Words.{same_word, number_of, mode_of}
 use Rattle.mh_tabreader.specs.code.Machine.{run, start, finish}
 
@@ -15,10 +16,6 @@ words_of = slice_split (λ b. b == 32)
 
 abbrev pub lines_in : List (List ℕ) → List Line
 lines_in parts = map words_of parts
-
-abbrev pub is_other_number : Option ℕ → Bool
-is_other_number None = false
-is_other_number (Some n) = not (n == 1) && not (n == 2)
 
 abbrev pub is_mode : Option Mode → Bool
 is_mode None = false

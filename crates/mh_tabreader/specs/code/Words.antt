@@ -1,7 +1,9 @@
 -- What words and lines are read as.
-use Rattle.std.specs.Prelude.{◌≡◌, ◌+◌, ◌*◌, ◌-◌, ◌^◌, ◌<◌, ◌≤◌, ℕ, Bool, true, false, not, ◌&&◌, ◌||◌, ◌==◌, nat_lt, nat_le, nat_eq, if◌then◌else◌, List, [], ◌∷◌, ◌++◌, length, Option, Some, None, codes, get_or, Result, Ok, Err}
+use Rattle.std.specs.Prelude.{◌≡◌, ℕ, Bool, true, false, ◌&&◌, nat_eq, if◌then◌else◌, List, [], ◌∷◌, ◌++◌, Option, Some, None, codes, Result, Ok, Err}
 use Rattle.std.specs.List.{list_all}
 use Rattle.std.specs.Cmp.Lexicographic.{pointwise}
+pub use Rattle.mh_tablines.specs.Numbers.{is_digit, value_from, has_zero_first, small_value}
+unfoldable pub use Rattle.mh_tablines.specs.Numbers.{number_of}
 use Rattle.mh_tabform.specs.Form.{Line}
 use Rattle.mh_tabreader.specs.declared.advance.Refusal.{Refusal}
 use Rattle.mh_tabreader.specs.declared.advance.Refusal.TheVariants.{Unexpected, Memory}
@@ -32,25 +34,6 @@ is_name (b ∷ bs) = true
 
 unfoldable pub names_of : Line → Option Line
 names_of words = if list_all is_name words then Some words else None
-
--- decimal digits with no zero in front of others, for a number of 32 bits
-abbrev pub is_digit : ℕ → Bool
-is_digit b = nat_le 48 b && nat_le b 57
-
-abbrev pub value_from : ℕ → List ℕ → ℕ
-value_from n [] = n
-value_from n (b ∷ bs) = value_from (10 * n + (b - 48)) bs
-
-abbrev pub has_zero_first : List ℕ → Bool
-has_zero_first [] = true
-has_zero_first (b ∷ []) = false
-has_zero_first (b ∷ c ∷ bs) = b == 48
-
-abbrev pub small_value : List ℕ → Option ℕ
-small_value word = if nat_lt (value_from 0 word) (2 ^ 32) then Some (value_from 0 word) else None
-
-unfoldable pub number_of : List ℕ → Option ℕ
-number_of word = if list_all is_digit word && not (has_zero_first word) then small_value word else None
 
 abbrev pub numbers_of : Line → Option (List ℕ)
 numbers_of [] = Some []

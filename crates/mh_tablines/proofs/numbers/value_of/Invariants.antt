@@ -1,7 +1,7 @@
 use Rattle.std.proofs.Common.{◌≡◌, ◌<◌, ◌^◌, drop, true}
 use Rattle.std.specs.List.{list_all}
-use Rattle.mh_tabreader.specs.code.Words.{is_digit, value_from}
-use Rattle.mh_tabreader.proofs.words.value_of.Given as goal
+use Rattle.mh_tablines.specs.Numbers.{is_digit, value_from}
+use Rattle.mh_tablines.proofs.numbers.value_of.Given as goal
 
 abbrev pub invariant-loop-byte : goal.invariant-loop-byte
 invariant-loop-byte l = record {

@@ -1,5 +1,5 @@
 use Rattle.std.proofs.Common.{rules}
-use Rattle.mh_tabreader.proofs.reading.is_open.Goals as goal
+use Rattle.mh_tablines.proofs.ends.is_open.Goals as goal
 
 pub returns-clause-open : goal.returns-clause-open
 returns-clause-open c = search rules

@@ -1,5 +1,5 @@
 use Rattle.std.proofs.Common.{rules}
-use Rattle.mh_tabreader.proofs.reading.is_other_number.Goals as goal
+use Rattle.mh_tablines.proofs.versions.is_other_number.Goals as goal
 
 pub returns-then-number-ne1 : goal.returns-then-number-ne1
 returns-then-number-ne1 c = search rules
