@@ -1,20 +1,15 @@
--- A sample has one line of counts, or one refusal; and how they are written.
-use Rattle.std.proofs.Common.{◌≡◌, ℕ, List, [], length, Option, None, Some, refl, sym, ◌∙◌, ap, subst, inl}
+-- The counts of a sample as the code writes them.
+use Rattle.std.proofs.Common.{ℕ, [], Option, None, Some, refl, sym, ap, subst, inl}
 use Rattle.std.proofs.lemmas.List.{append-nil}
 use Rattle.std.specs.Prelude.{Result, Ok, Err}
 use Rattle.std.specs.Io.KnownBytes.{Appends}
-use Rattle.mh_grammar.specs.declared.types.Grammar.{Grammar}
-use Rattle.mh_tables.specs.Table.{TableData}
-use Rattle.mh_tables.specs.Failing.{Row, TooLongAt}
-use Rattle.mh_tables.proofs.Catalogues.{catalogue_once}
+use Rattle.mh_tables.specs.Failing.{TooLongAt}
 use Rattle.mh_catalogue.specs.declared.rows.CatalogueFault.{CatalogueFault}
 use Rattle.mh_catalogue.specs.declared.rows.CatalogueFault.TheVariants as faults
 use Rattle.mh_sample.specs.Counts.{IsSampleLine}
-use Rattle.mh_sample.proofs.Once.{line_once}
 use Rattle.mh_grammar.specs.Text.{Text}
 use Rattle.mh_drive.specs.Stages.{Halts}
 use Rattle.mh_drive.specs.Steps.{EndRan}
-use Rattle.mh_drive.specs.declared.stop.Cause.{Cause}
 use Rattle.mh_drive.specs.declared.stop.Cause.TheVariants.{Refused}
 use Rattle.mh_drive.specs.declared.stop.Stop.{Stop}
 use Rattle.mh_drive.specs.declared.stop.Stop.TheVariants.{Halted, ShelfFailed, InputFailed, WriteFailed, OutOfMemory}
@@ -24,31 +19,7 @@ use Rattle.mh_listed.specs.Faults.{FaultStops}
 use Rattle.mh_listing.specs.Entries.{TextRan}
 use Rattle.mh_plans.specs.Listing.{too_long}
 use Rattle.mh_plans.specs.Plan.{EndsBy, Sampled}
-use Rattle.mh_plans.specs.Sampled.{CountsSample, Counts, TooLong}
-use Rattle.mh_listing.proofs.Refusals.{too_long_once}
-
--- ---- one
-
-module _ (g : Grammar) (t : TableData) (number : ℕ) where
-  pub counts_cause_once : (c d : Option Cause) (x y : Text) → CountsSample g t number c x → CountsSample g t number d y → c ≡ d
-  counts_cause_once c d x y (Counts none cause text) (Counts none' cause' text') = cause ∙ sym cause'
-  counts_cause_once c d x y (Counts none cause text) (TooLong s long cause' out) = absurd (none s long)
-  counts_cause_once c d x y (TooLong s long cause out) (Counts none cause' text) = absurd (none s long)
-  counts_cause_once c d x y (TooLong s long cause out) (TooLong r also cause' out') = cause ∙ ap (λ (n : ℕ). Some (Refused (too_long n))) (too_long_once t s r long also) ∙ sym cause'
-
-  pub counts_out_once : (c d : Option Cause) (x y : Text) → CountsSample g t number c x → CountsSample g t number d y → x ≡ y
-  counts_out_once c d x y (Counts none cause text) (Counts none' cause' text') =
-      let same : text'.rows ≡ text.rows = catalogue_once t text'.rows text.rows text'.catalogue text.catalogue in
-      line_once t g number (length text.rows) x y text.line (subst (λ (rows : List Row). IsSampleLine g t number (length rows) y) same text'.line)
-  counts_out_once c d x y (Counts none cause text) (TooLong s long cause' out) = absurd (none s long)
-  counts_out_once c d x y (TooLong s long cause out) (Counts none cause' text) = absurd (none s long)
-  counts_out_once c d x y (TooLong s long cause out) (TooLong r also cause' out') = out ∙ sym out'
-
-  pub counts_right : (Is : Option Cause → Type 0) → ((line : Text) → Is (Some (Refused line))) → Is None → (cause : Option Cause) (out : Text) → CountsSample g t number cause out → Is cause
-  counts_right Is may none cause out (Counts never same text) = subst Is (sym same) none
-  counts_right Is may none cause out (TooLong s long same empty) = subst Is (sym same) (may (too_long s))
-
--- ---- the counts are written
+use Rattle.mh_plans.specs.Sampled.{Counts, TooLong}
 
 module _ (p : Prepared) (number : ℕ) (out0 out1 : Option Text) where
   abbrev Ends : Option Text → Option Text → Result (Unit {0}) Stop → Type 0

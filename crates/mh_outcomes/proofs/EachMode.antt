@@ -35,9 +35,9 @@ use Rattle.mh_keeping.proofs.Both.{two_files}
 use Rattle.mh_keeping.proofs.Updated.{one_updated}
 use Rattle.mh_plans.proofs.Reading.{IsRead, Runs, StagedRight, one_file}
 use Rattle.mh_plans.proofs.Turning.{Turn, no_turn, turn_of_named}
-use Rattle.mh_listing.proofs.Refusals.{list_cause_once, list_out_once}
+use Rattle.mh_outcomes.proofs.Refusals.{list_cause_once, list_out_once}
 use Rattle.mh_explaining.proofs.Telling.{told_once}
-use Rattle.mh_listing.proofs.Counting.{counts_cause_once, counts_out_once, counts_right}
+use Rattle.mh_outcomes.proofs.Counts.{counts_cause_once, counts_out_once, counts_right}
 
 -- ---- for which causes a mode may end
 
