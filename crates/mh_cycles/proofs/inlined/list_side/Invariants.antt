@@ -1,6 +1,0 @@
-use Rattle.std.proofs.Common.{take}
-use Rattle.mh_cycles.specs.Found.{IsAmong, Lists}
-use Rattle.mh_cycles.proofs.inlined.list_side.Given as goal
-
-abbrev pub invariant-loop-part : goal.invariant-loop-part
-invariant-loop-part l = Lists (IsAmong l.expanded.instances (take l.part-index l.producers)) l.initial.list.items l.list.items
