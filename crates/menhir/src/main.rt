@@ -55,24 +55,21 @@ fn refuse<E: Sink>(err: &mut E, line: &[u8], status: u8) -> ExitCode
     }
 }
 
+/// Does what the words ask for, over the files and streams of the process.
+fn work<E: Sink>(rt: &HostRuntime, words: &[String], err: &mut E) -> ExitCode {
+    let Ok(mut input) = StdSource::new(rt.alloc(), rt.stdin()) else {
+        return refuse(err, NO_MEMORY, status::OUT_OF_MEMORY);
+    };
+    let mut shelf = FileShelf::new(rt);
+    let mut out = StdSink::new(rt.stdout());
+    run(rt.alloc(), words, &mut shelf, &mut input, &mut out, err)
+}
+
 fn main(rt: HostRuntime) -> ExitCode {
     let mut err = StdSink::new(rt.stderr());
-    let words = match words(&rt) {
-        Ok(words) => words,
-        Err(WordsFault::Unreadable) => return refuse(&mut err, BAD_WORDS, status::MISUSED),
-        Err(WordsFault::Memory) => return refuse(&mut err, NO_MEMORY, status::OUT_OF_MEMORY),
-    };
-    let Ok(mut input) = StdSource::new(rt.alloc(), rt.stdin()) else {
-        return refuse(&mut err, NO_MEMORY, status::OUT_OF_MEMORY);
-    };
-    let mut shelf = FileShelf::new(&rt);
-    let mut out = StdSink::new(rt.stdout());
-    run(
-        rt.alloc(),
-        &words,
-        &mut shelf,
-        &mut input,
-        &mut out,
-        &mut err,
-    )
+    match words(&rt) {
+        Ok(words) => work(&rt, &words, &mut err),
+        Err(WordsFault::Unreadable) => refuse(&mut err, BAD_WORDS, status::MISUSED),
+        Err(WordsFault::Memory) => refuse(&mut err, NO_MEMORY, status::OUT_OF_MEMORY),
+    }
 }
