@@ -1,16 +1,16 @@
 -- Actions, headers and attributes are code, in the words of the format.
-use Rattle.std.proofs.Common.{◌≡◌, ℕ, zero, suc, ◌+◌, ◌<◌, List, [], ◌∷◌, ◌++◌, length, take, drop, Option, Some, None, true, false, refl, sym, ap, subst, ◌∙◌, append_assoc}
+use Rattle.std.proofs.Common.{◌≡◌, ℕ, zero, suc, ◌<◌, List, [], ◌∷◌, ◌++◌, take, drop, Option, Some, None, true, false, refl, sym, ap, subst, ◌∙◌, append_assoc}
 use Rattle.std.specs.List.{AllByRecursion}
 use Rattle.std.proofs.lemmas.List.{take-append-drop}
-use Rattle.mh_lex.specs.declared.kinds.Ends.{Ends}
-use Rattle.mh_lex.specs.declared.kinds.Step.{Step}
-use Rattle.mh_lex.specs.declared.kinds.Step.TheVariants.{Closes, Passes, Nests, Remark}
+use Rattle.mh_bytes.specs.declared.code.Ends.{Ends}
+use Rattle.mh_bytes.specs.declared.code.Step.{Step}
+use Rattle.mh_bytes.specs.declared.code.Step.TheVariants.{Closes, Passes, Nests, Remark}
 use Rattle.mh_lex.specs.declared.kinds.Kind.{Kind}
 use Rattle.mh_lex.specs.declared.kinds.Kind.TheVariants as kinds
 use Rattle.mh_lex.specs.declared.kinds.Lexeme.{Lexeme}
 use Rattle.mh_lex.specs.Bodies.{Body}
 use Rattle.mh_lex.specs.Bodies.Body.{closes, passes, nests, remark}
-use Rattle.mh_lex.specs.InCode.{Item, Starts, Code, IsOpened, HasCode, IsCode, SpansCode}
+use Rattle.mh_lex.specs.InCode.{Item, Starts, Code, IsOpened, IsCode, SpansCode}
 use Rattle.mh_lex.specs.InCode.{Code as code}
 use Rattle.mh_lex.specs.InCode.{HasCode as coded}
 use Rattle.mh_lex.specs.Lexing.{Taken, Lexes}

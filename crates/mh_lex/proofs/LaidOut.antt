@@ -1,17 +1,15 @@
 -- Texts with spaces behind them are lexed to themselves.
-use Rattle.std.proofs.Common.{◌≡◌, ℕ, zero, suc, ◌+◌, ◌-◌, ◌<◌, ◌==◌, ◌&&◌, ◌||◌, Bool, true, false, not, cond, List, [], ◌∷◌, ◌++◌, length, take, drop, Some, None, refl, sym, ap, subst, ◌∙◌, arith, length-append}
-use Rattle.std.specs.Prelude.{codes}
+use Rattle.std.proofs.Common.{◌≡◌, ℕ, zero, suc, ◌+◌, ◌-◌, ◌<◌, ◌==◌, ◌&&◌, ◌||◌, Bool, true, false, not, List, [], ◌∷◌, ◌++◌, length, take, drop, Some, None, refl, sym, ap, subst, ◌∙◌, arith, length-append}
 use Rattle.std.specs.List.{AllByRecursion, list_all}
 use Rattle.std.proofs.lemmas.Bool.{not-true}
 use Rattle.std.proofs.lemmas.Bool.Decides.{nat_tests, Decides-eqb}
 use Rattle.std.proofs.lemmas.List.Elements.{recursion_from_All}
 use Rattle.std.proofs.lemmas.List.Sums.{AllPass-from_list_all}
-use Rattle.mh_lex.specs.declared.kinds.Ends.TheVariants as ends
-use Rattle.mh_lex.specs.declared.kinds.Step.TheVariants.{Closes, Passes}
+use Rattle.mh_bytes.specs.declared.code.Ends.TheVariants as ends
+use Rattle.mh_bytes.specs.declared.code.Step.TheVariants.{Closes, Passes}
 use Rattle.mh_lex.specs.declared.kinds.Kind.{Kind}
 use Rattle.mh_lex.specs.declared.kinds.Kind.TheVariants as kinds
 use Rattle.mh_lex.specs.declared.kinds.Lexeme.{Lexeme}
-use Rattle.mh_lex.specs.declared.kinds.Front.{Front}
 use Rattle.mh_lex.specs.declared.kinds.Front.TheVariants.{Ended, Short, Long}
 use Rattle.mh_lex.specs.Bytes.{is_word_start, is_word_byte, is_blank, is_mark, is_decimal}
 use Rattle.mh_lex.specs.Spellings.{more, word_rest, string_rest, literal, quoted_opening}
@@ -26,7 +24,7 @@ use Rattle.mh_lex.specs.Lexing.Taken.{short, long}
 use Rattle.mh_lex.specs.Lexing.LexesFrom.{ended, taken}
 use Rattle.mh_lex.specs.Texts.{LexemeText, IsText, is_content, laid, places, one_of, count_of_percents}
 use Rattle.mh_lex.specs.Texts.LexemeText.{word, mark, percents, keyword, quoted, empty_action, cost}
-use Rattle.mh_lex.proofs.Rows.{keyword_is_word}
+use Rattle.mh_bytes.proofs.Rows.{keyword_is_word}
 use Rattle.mh_lex.proofs.Tests.{both, third, fourth}
 
 -- one of two

@@ -1,6 +1,6 @@
 pub mod Sums
 pub mod Tests
-pub mod Rows
+pub mod Choosing
 pub mod Levels
 pub mod Takes
 pub mod Spans

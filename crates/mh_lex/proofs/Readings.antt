@@ -1,14 +1,14 @@
 -- What stands at a place inside of code, in the words of the format.
-use Rattle.std.proofs.Common.{◌≡◌, ◌≢◌, ℕ, zero, suc, ◌+◌, ◌-◌, ◌<◌, ◌==◌, ◌&&◌, ◌||◌, Bool, true, false, not, cond, List, [], ◌∷◌, ◌++◌, length, take, drop, Option, Some, None, refl, sym, ap, subst, ◌∙◌, arith, append_assoc, length-append, add-one, true≢false, eqb-true}
+use Rattle.std.proofs.Common.{◌≡◌, ◌≢◌, ℕ, suc, ◌+◌, ◌-◌, ◌<◌, ◌==◌, ◌&&◌, ◌||◌, Bool, true, false, not, cond, List, [], ◌∷◌, ◌++◌, length, take, drop, Option, Some, None, refl, sym, ap, subst, ◌∙◌, arith, append_assoc, length-append, add-one, true≢false}
 use Rattle.std.specs.Prelude.{nat_lt, nat_eq}
 use Rattle.std.specs.List.{AllByRecursion, starts_with}
 use Rattle.std.proofs.lemmas.List.{take-append-drop}
 use Rattle.std.proofs.lemmas.Slice.Eq.{starts_is}
 use Rattle.std.proofs.lemmas.Bool.Decides.{nat_tests, Decides-eqb}
-use Rattle.mh_lex.specs.declared.kinds.Ends.{Ends}
-use Rattle.mh_lex.specs.declared.kinds.Ends.TheVariants.{Comment, Brace, Bracket, Header, Angle, Slash}
-use Rattle.mh_lex.specs.declared.kinds.Step.{Step}
-use Rattle.mh_lex.specs.declared.kinds.Step.TheVariants.{Closes, Passes, Nests, Remark, Stuck}
+use Rattle.mh_bytes.specs.declared.code.Ends.{Ends}
+use Rattle.mh_bytes.specs.declared.code.Ends.TheVariants.{Comment, Brace, Bracket, Header, Angle, Slash}
+use Rattle.mh_bytes.specs.declared.code.Step.{Step}
+use Rattle.mh_bytes.specs.declared.code.Step.TheVariants.{Closes, Passes, Nests, Remark, Stuck}
 use Rattle.mh_lex.specs.Bytes.{byte_at, has, is_end, is_word_start, is_word_byte, is_decimal, is_octal, is_hexadecimal, is_id_byte, is_escape}
 use Rattle.mh_lex.specs.Spellings.{more, word_rest, string_rest, id_rest, quoted_opening, quoted_id, closes_quoted, quoted_rest, escaped, literal}
 use Rattle.mh_lex.specs.Steps.{passed, begins_comment, nests_in, single, item, plain, closer, has_remarks, step}

@@ -1,19 +1,19 @@
 -- Code in the words of the format is taken up to its end.
-use Rattle.std.proofs.Common.{◌≡◌, ◌≢◌, ℕ, suc, ◌+◌, ◌<◌, ◌==◌, ◌&&◌, Bool, true, false, not, cond, List, [], ◌∷◌, ◌++◌, length, take, drop, Option, Some, None, refl, sym, ap, subst, ◌∙◌, arith, append_assoc, length-append, add-one, true≢false}
+use Rattle.std.proofs.Common.{◌≡◌, ◌≢◌, ℕ, suc, ◌+◌, ◌==◌, ◌&&◌, Bool, true, false, cond, List, [], ◌∷◌, ◌++◌, length, take, drop, Option, Some, refl, sym, ap, subst, ◌∙◌, arith, append_assoc, length-append}
 use Rattle.std.specs.Prelude.{nat_lt}
 use Rattle.std.specs.List.{AllByRecursion}
 use Rattle.std.proofs.lemmas.List.{take-append-drop}
 use Rattle.std.proofs.lemmas.Bool.Decides.{nat_tests, Decides-eqb}
-use Rattle.mh_lex.specs.declared.kinds.Ends.{Ends}
-use Rattle.mh_lex.specs.declared.kinds.Ends.TheVariants.{Comment, Brace, Bracket, Header, Angle, Slash}
-use Rattle.mh_lex.specs.declared.kinds.Step.{Step}
-use Rattle.mh_lex.specs.declared.kinds.Step.TheVariants.{Closes, Passes, Nests, Remark}
+use Rattle.mh_bytes.specs.declared.code.Ends.{Ends}
+use Rattle.mh_bytes.specs.declared.code.Ends.TheVariants.{Comment, Brace, Bracket, Header, Angle, Slash}
+use Rattle.mh_bytes.specs.declared.code.Step.{Step}
+use Rattle.mh_bytes.specs.declared.code.Step.TheVariants.{Closes, Passes, Nests, Remark}
 use Rattle.mh_lex.specs.declared.kinds.Kind.{Kind}
 use Rattle.mh_lex.specs.declared.kinds.Kind.TheVariants as kinds
 use Rattle.mh_lex.specs.declared.kinds.Front.TheVariants.{Long}
 use Rattle.mh_lex.specs.Bytes.{byte_at, has, is_word_start, is_word_byte}
 use Rattle.mh_lex.specs.Spellings.{more, word_rest, string_rest, literal, quoted_opening, quoted_id, closes_quoted, quoted_rest}
-use Rattle.mh_lex.specs.Steps.{passed, single, item, closer, step}
+use Rattle.mh_lex.specs.Steps.{passed, single, item, step}
 use Rattle.mh_lex.specs.Texts.{is_content}
 use Rattle.mh_lex.specs.Begins.{front, percent}
 use Rattle.mh_lex.specs.Bodies.{Body}

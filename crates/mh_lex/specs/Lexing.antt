@@ -1,15 +1,15 @@
 -- Bytes and their lexemes. Source: the Menhir manual's syntax of grammars, and this project's profile.
-use Rattle.std.specs.Prelude.{◌≡◌, ◌≢◌, ℕ, suc, ◌+◌, ◌-◌, ◌<◌, ◌≤◌, List, [], ◌∷◌, ◌++◌, length, Option, Some, None, drop, take, ◌==◌, Result, Ok, Err}
-use Rattle.std.specs.List.{count_by}
+use Rattle.std.specs.Prelude.{◌≡◌, ◌≢◌, ℕ, suc, ◌-◌, ◌<◌, ◌≤◌, List, [], ◌∷◌, ◌++◌, length, Option, Some, None, drop, Result, Ok, Err}
 use Rattle.mh_lex.specs.declared.kinds.SyntaxFault.{SyntaxFault}
 use Rattle.mh_lex.specs.declared.kinds.SyntaxFault.TheVariants.{Syntax, Memory}
-use Rattle.mh_lex.specs.declared.kinds.Ends.{Ends}
+use Rattle.mh_bytes.specs.declared.code.Ends.{Ends}
 use Rattle.mh_lex.specs.declared.kinds.Kind.{Kind}
 use Rattle.mh_lex.specs.declared.kinds.Kind.TheVariants as kinds
 use Rattle.mh_lex.specs.declared.kinds.Lexeme.{Lexeme}
 use Rattle.mh_lex.specs.declared.kinds.Front.TheVariants.{Ended, Short, Long}
 use Rattle.mh_lex.specs.declared.kinds.Taking.{Taking}
 use Rattle.mh_lex.specs.declared.kinds.Taking.TheVariants as takings
+pub use Rattle.mh_bytes.specs.Lines.{line_at}
 use Rattle.mh_lex.specs.Begins.{front}
 use Rattle.mh_lex.specs.Bodies.{Body}
 
@@ -68,10 +68,6 @@ abbrev pub Finds : List ℕ → ℕ → Taking → Type 0
 Finds bytes at takings.Ended = front (drop at bytes) ≡ Ended
 Finds bytes at (takings.Piece what end) = (at < end) × (end ≤ length bytes) × Taken (drop at bytes) what (drop end bytes)
 Finds bytes at takings.Fault = (front (drop at bytes) ≢ Ended) × ((what : Option Kind) (rest : List ℕ) → Taken (drop at bytes) what rest → ⊥)
-
--- the line of a place, from 1 on
-abbrev pub line_at : List ℕ → ℕ → ℕ
-line_at bytes place = 1 + count_by (λ b. b == 10) (take place bytes)
 
 -- the line of the first fault
 abbrev pub Refuses : {X : Type 0} → List ℕ → Result X SyntaxFault → Type 0

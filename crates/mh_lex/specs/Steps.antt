@@ -1,10 +1,11 @@
 -- What stands at the front inside of code, comments and types. Source: this project's profile; the Menhir manual leaves
 -- what is in actions to OCaml.
-use Rattle.std.specs.Prelude.{ℕ, zero, suc, ◌+◌, ◌<◌, ◌≤◌, ◌&&◌, Bool, true, false, cond, List, Option, Some, None, drop, nat_lt}
-use Rattle.mh_lex.specs.declared.kinds.Ends.{Ends}
-use Rattle.mh_lex.specs.declared.kinds.Ends.TheVariants.{Comment, Brace, Bracket, Header, Angle, Slash}
-use Rattle.mh_lex.specs.declared.kinds.Step.{Step}
-use Rattle.mh_lex.specs.declared.kinds.Step.TheVariants.{Closes, Passes, Nests, Remark, Stuck}
+use Rattle.std.specs.Prelude.{ℕ, zero, suc, ◌+◌, ◌<◌, ◌≤◌, ◌&&◌, Bool, false, cond, List, Option, Some, None, drop, nat_lt}
+use Rattle.mh_bytes.specs.declared.code.Ends.{Ends}
+use Rattle.mh_bytes.specs.declared.code.Ends.TheVariants.{Comment, Brace, Bracket, Header, Angle, Slash}
+use Rattle.mh_bytes.specs.declared.code.Step.{Step}
+use Rattle.mh_bytes.specs.declared.code.Step.TheVariants.{Closes, Passes, Nests, Remark, Stuck}
+pub use Rattle.mh_bytes.specs.Code.{has_remarks}
 use Rattle.mh_lex.specs.Bytes.{byte_at, has, is_end, is_word_start}
 use Rattle.mh_lex.specs.Spellings.{string_rest, word_rest, literal, quoted_opening, quoted_id, quoted_rest}
 
@@ -59,14 +60,9 @@ closer Header s = cond (has s 0 37 && has s 1 125) 2 0
 closer Angle s = cond (has s 0 62) 1 0
 closer Slash s = cond (has s 0 42 && has s 1 47) 2 0
 
--- comments inside are passed over whole
-abbrev pub has_remarks : Ends → Bool
-has_remarks Comment = true
-has_remarks Brace = true
-has_remarks Bracket = true
-has_remarks Header = true
-has_remarks Angle = true
-has_remarks Slash = false
+-- where nothing closes a comment comes first
+abbrev pub opened : Ends → List ℕ → Step
+opened e s = cond (has_remarks e && begins_comment s) Remark (plain e s)
 
 -- What closes comes first, then a comment, then what is passed over or nests.
 unfoldable pub step : Ends → List ℕ → Step

@@ -4,13 +4,12 @@ ghost use Rattle.std.specs.Option.{unwrap_or};
 ghost use Rattle.mh_lex.specs.Bytes.{byte_at, is_word_start};
 ghost use Rattle.mh_lex.specs.Spellings.{quoted_id, quoted_rest};
 ghost use Rattle.mh_lex.specs.Bodies.{Body};
-ghost use Rattle.mh_lex.specs.Steps.{begins_comment, passed, nests_in, innermost_of, single, item, plain, closer, has_remarks, step, Within};
+ghost use Rattle.mh_lex.specs.Steps.{begins_comment, passed, nests_in, innermost_of, single, item, plain, closer, opened, step, Within};
 
 use crate::items::{
-    has_byte, literal_length, quoted_length, quoted_opening_length, starts_word, string_length,
-    word_length,
+    literal_length, quoted_length, quoted_opening_length, starts_word, string_length, word_length,
 };
-use crate::kinds::{Ends, Step};
+use mh_bytes::{Ends, Step, has_byte, passes_arrow, reads_items, remark_in};
 
 /// Whether a comment begins here.
 pub(crate) fn starts_comment(rest: &[u8]) -> bool
@@ -97,14 +96,12 @@ fn plain_step(ends: Ends, rest: &[u8]) -> Step
     ensures value { result ≡ plain ends rest.now }
     ensures within { Within (length rest.now) result }
 {
-    match ends {
-        Ends::Comment | Ends::Brace | Ends::Bracket | Ends::Header => item_at(ends, rest),
-        Ends::Angle => if has_byte(rest, 0, b'-') && has_byte(rest, 1, b'>') {
-            Step::Passes(2)
-        } else {
-            single_step(ends, rest)
-        },
-        Ends::Slash => single_step(ends, rest),
+    if reads_items(ends) {
+        item_at(ends, rest)
+    } else if passes_arrow(ends, rest) {
+        Step::Passes(2)
+    } else {
+        single_step(ends, rest)
     }
 }
 
@@ -147,11 +144,15 @@ fn closing_length(ends: Ends, rest: &[u8]) -> Option<usize>
     }
 }
 
-/// Whether comments inside are passed over whole.
-fn passes_comments(ends: Ends) -> bool
-    ensures { result ≡ has_remarks ends }
+/// What stands at the front where nothing closes.
+fn open_step(ends: Ends, rest: &[u8]) -> Step
+    ensures value { result ≡ opened ends rest.now }
+    ensures within { Within (length rest.now) result }
 {
-    !matches!(ends, Ends::Slash)
+    match remark_in(ends, starts_comment(rest)) {
+        Some(remark) => remark,
+        None => plain_step(ends, rest),
+    }
 }
 
 /// What stands at the front inside of code.
@@ -163,10 +164,7 @@ fn step_at(ends: Ends, rest: &[u8]) -> Step
     if let Some(closing) = closing_length(ends, rest) {
         return Step::Closes(closing);
     }
-    if passes_comments(ends) && starts_comment(rest) {
-        return Step::Remark;
-    }
-    plain_step(ends, rest)
+    open_step(ends, rest)
 }
 
 /// What stands at a place inside of code.

@@ -1,12 +1,13 @@
 //! What begins a lexeme.
 ghost use Rattle.std.specs.Prelude.{◌≡◌, ◌+◌, ◌-◌, ◌<◌, ◌≤◌, length, drop};
 ghost use Rattle.mh_lex.specs.Bytes.{is_blank, is_mark};
+ghost use Rattle.mh_lex.specs.Keywords.{is_keyword};
 ghost use Rattle.mh_lex.specs.Begins.{line_rest, keyword_of, percent, slash, front, Begins};
 
 use crate::code::starts_comment;
-use crate::items::{has_byte, starts_word, string_length, word_length};
-use crate::keywords::is_keyword_text;
-use crate::kinds::{Ends, Front, Kind};
+use crate::items::{starts_word, string_length, word_length};
+use crate::kinds::{Front, Kind};
+use mh_bytes::{Ends, has_byte, keyword_of as keyword_named};
 
 fn is_blank_byte(byte: u8) -> bool
     ensures { result ≡ is_blank byte }
@@ -42,6 +43,13 @@ fn line_length(rest: &[u8]) -> usize
         length += 1;
     }
     length
+}
+
+/// Whether this word may stand behind a percent sign.
+fn is_keyword_text(word: &[u8]) -> bool
+    ensures { result ≡ is_keyword word.now }
+{
+    keyword_named(word).is_some()
 }
 
 /// The keyword of which this is the word behind its percent sign.

@@ -1,19 +1,10 @@
 //! Words, strings, quoted strings and character literals.
-ghost use Rattle.std.specs.Prelude.{◌≡◌, ◌+◌, ◌<◌, ◌≤◌, ◌==◌, ◌&&◌, not, false, length, drop, IfSome, IsTrue};
+ghost use Rattle.std.specs.Prelude.{◌≡◌, ◌+◌, ◌<◌, ◌≤◌, ◌==◌, ◌&&◌, false, length, drop, IfSome, IsTrue};
 ghost use Rattle.std.specs.Option.{unwrap_or};
-ghost use Rattle.mh_lex.specs.Bytes.{byte_at, has, is_word_start, is_word_byte, is_decimal, is_octal, is_hexadecimal, is_id_byte, is_escape};
+ghost use Rattle.mh_lex.specs.Bytes.{byte_at, is_word_start, is_word_byte, is_decimal, is_octal, is_hexadecimal, is_id_byte, is_escape};
 ghost use Rattle.mh_lex.specs.Spellings.{word_rest, string_rest, id_rest, quoted_opening, closes_quoted, quoted_rest, escaped, literal};
 
-/// Whether this byte stands at a place.
-pub(crate) fn has_byte(rest: &[u8], place: usize, byte: u8) -> bool
-    ensures value { result ≡ has rest.now place byte }
-    ensures within { IsTrue result → place < length rest.now }
-{
-    match rest.get(place) {
-        Some(found) => *found == byte,
-        None => false,
-    }
-}
+use mh_bytes::{has_byte, is_free};
 
 pub(crate) fn starts_word(byte: u8) -> bool
     ensures { result ≡ is_word_start byte }
@@ -46,13 +37,6 @@ pub(crate) fn word_length(rest: &[u8]) -> usize
         length += 1;
     }
     length
-}
-
-/// Whether this is the wanted byte, not taken by a backslash.
-fn is_free(taken: bool, byte: u8, wanted: u8) -> bool
-    ensures { result ≡ (not taken && byte == wanted) }
-{
-    if taken { false } else { byte == wanted }
 }
 
 /// How many bytes there are up to and with a string's closing quote.

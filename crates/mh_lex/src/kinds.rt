@@ -2,6 +2,7 @@
 ghost use Rattle.std.specs.Prelude.{◌≡◌};
 ghost use Rattle.mh_lex.specs.declared.kinds.SyntaxFault.TheVariants.{Memory};
 
+use mh_bytes::Ends;
 use std::alloc::AllocError;
 use thiserror::Error;
 
@@ -53,38 +54,6 @@ impl From<AllocError> for SyntaxFault {
     fn from(_error: AllocError) -> SyntaxFault {
         SyntaxFault::Memory
     }
-}
-
-/// What closes a stretch of code, a comment or a type.
-#[derive(Clone, Copy, Drop)]
-pub(crate) enum Ends {
-    /// `*)`
-    Comment,
-    /// `}`
-    Brace,
-    /// `]`
-    Bracket,
-    /// `%}`
-    Header,
-    /// `>`
-    Angle,
-    /// `*/`
-    Slash,
-}
-
-/// What stands at the front inside of code, with its length.
-#[derive(Clone, Copy, Drop)]
-pub(crate) enum Step {
-    /// What closes this level of the code.
-    Closes(usize),
-    /// What is passed over whole.
-    Passes(usize),
-    /// One byte, behind which a level inside begins.
-    Nests,
-    /// The two bytes that open a comment.
-    Remark,
-    /// Nothing to go on with: the bytes end here, or a string begins that is not closed.
-    Stuck,
 }
 
 /// What stands at the front outside of code, with its length. What has no kind is dropped.

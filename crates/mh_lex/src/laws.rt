@@ -1,11 +1,9 @@
 //! What holds of bytes and their lexemes.
 ghost use Rattle.std.specs.Prelude.{◌≡◌, ◌<◌, ◌++◌, ℕ, List, Option, None, Some};
 ghost use Rattle.std.specs.List.{All};
-ghost use Rattle.mh_lex.specs.declared.keywords.Keyword.{Keyword};
 ghost use Rattle.mh_lex.specs.declared.kinds.Kind.{Kind};
 ghost use Rattle.mh_lex.specs.declared.kinds.Lexeme.{Lexeme};
 ghost use Rattle.mh_lex.specs.InCode.{HasCode, SpansCode};
-ghost use Rattle.mh_lex.specs.Keywords.{keyword_named};
 ghost use Rattle.mh_lex.specs.Lexing.{Lexes, Taken};
 ghost use Rattle.mh_lex.specs.Texts.{IsText, IsSpelled, laid, places, count_of_percents};
 
@@ -30,12 +28,6 @@ pub fn lexed_apart()
 pub fn lexed_texts()
     ensures { (bytes : List ℕ) (lexemes : List Lexeme) (f : Option ℕ)
         → Lexes bytes lexemes f → All (IsSpelled bytes) lexemes }
-{}
-
-/// No two words are one keyword.
-pub fn keywords_differ()
-    ensures { (one two : List ℕ) (keyword : Keyword)
-        → keyword_named one ≡ Some keyword → keyword_named two ≡ Some keyword → two ≡ one }
 {}
 
 /// Each action, header and attribute among the lexemes of a file is its opening and then code, up to the first place that closes it:

@@ -1,13 +1,14 @@
 //! The lexemes of a file.
-ghost use Rattle.std.specs.Prelude.{◌≡◌, ℕ, List, ◌-◌, ◌<◌, ◌≤◌, ◌^◌, length, drop, IfSome, IfNone, IfOk, OnOk, Option, None, ◌++◌, ◌==◌};
-ghost use Rattle.std.specs.List.{All, count_by};
+ghost use Rattle.std.specs.Prelude.{◌≡◌, ℕ, List, ◌-◌, ◌<◌, ◌≤◌, ◌^◌, length, drop, IfSome, IfNone, IfOk, OnOk, Option, None, ◌++◌};
+ghost use Rattle.std.specs.List.{All};
 ghost use Rattle.mh_lex.specs.declared.kinds.Lexeme.{Lexeme};
 ghost use Rattle.mh_lex.specs.Bodies.{Body};
-ghost use Rattle.mh_lex.specs.Lexing.{Lexes, Finds, Rises, IsWithin, line_at, left_after, piece, Refuses};
+ghost use Rattle.mh_lex.specs.Lexing.{Lexes, Finds, Rises, IsWithin, left_after, piece, Refuses};
 
 use crate::code::code_length;
 use crate::fronts::front_from;
-use crate::kinds::{Ends, Front, Kind, Lexeme, SyntaxFault, Taking};
+use crate::kinds::{Front, Kind, Lexeme, SyntaxFault, Taking};
+use mh_bytes::{Ends, line_of};
 use std::alloc::{AllocError, Global};
 
 /// How many bytes there are from a place up to what closes the code.
@@ -36,30 +37,6 @@ fn taken_at(bytes: &[u8], at: usize) -> Taking
         }
         Front::Fault => Taking::Fault,
     }
-}
-
-/// How many line feeds there are.
-fn count_line_feeds(bytes: &[u8]) -> u32
-    requires { length bytes.now < 2 ^ 31 }
-    ensures value { result ≡ count_by (λ b. b == 10) bytes.now }
-    ensures within { result ≤ length bytes.now }
-{
-    let mut count = 0;
-    for byte in bytes {
-        if *byte == b'\n' {
-            count += 1;
-        }
-    }
-    count
-}
-
-/// The line of a place, from 1 on: one more than the line feeds before it.
-pub fn line_of(bytes: &[u8], place: usize) -> u32
-    requires within { place ≤ length bytes.now }
-    requires short { length bytes.now < 2 ^ 31 }
-    ensures { result ≡ line_at bytes.now place }
-{
-    1 + count_line_feeds(&bytes[..place])
 }
 
 /// Adds what has a kind.

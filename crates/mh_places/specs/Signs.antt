@@ -2,8 +2,8 @@
 use Rattle.std.specs.Prelude.{ℕ, ◌-◌, ◌==◌, ◌&&◌, Bool, false, cond, List, [], ◌∷◌, ◌++◌, length, Option, Some, None, drop, take, nat_le}
 use Rattle.std.specs.Option.{option_or}
 use Rattle.mh_grammar.specs.declared.types.Assoc.TheVariants.{Left, Right, Nonassoc}
-use Rattle.mh_lex.specs.declared.keywords.Keyword.{Keyword}
-use Rattle.mh_lex.specs.declared.keywords.Keyword.TheVariants as keywords
+use Rattle.mh_bytes.specs.declared.keywords.Keyword.{Keyword}
+use Rattle.mh_bytes.specs.declared.keywords.Keyword.TheVariants as keywords
 use Rattle.mh_lex.specs.declared.kinds.Kind.{Kind}
 use Rattle.mh_lex.specs.declared.kinds.Kind.TheVariants as kinds
 use Rattle.mh_lex.specs.declared.kinds.Lexeme.{Lexeme}

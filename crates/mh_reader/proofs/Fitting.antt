@@ -5,8 +5,8 @@ use Rattle.std.specs.Prelude.{IfSome}
 use Rattle.std.specs.Option.{option_or}
 use Rattle.std.specs.List.{AllByRecursion}
 use Rattle.mh_grammar.specs.declared.types.Assoc.TheVariants.{Left, Right, Nonassoc}
-use Rattle.mh_lex.specs.declared.keywords.Keyword.{Keyword}
-use Rattle.mh_lex.specs.declared.keywords.Keyword.TheVariants as keywords
+use Rattle.mh_bytes.specs.declared.keywords.Keyword.{Keyword}
+use Rattle.mh_bytes.specs.declared.keywords.Keyword.TheVariants as keywords
 use Rattle.mh_lex.specs.declared.kinds.Kind.{Kind}
 use Rattle.mh_lex.specs.declared.kinds.Kind.TheVariants as kinds
 use Rattle.mh_lex.specs.declared.kinds.Lexeme.{Lexeme}

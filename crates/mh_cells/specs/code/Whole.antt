@@ -1,5 +1,5 @@
 -- What the code gives of a whole state.
-use Rattle.std.specs.Prelude.{◌≡◌, ◌<◌, ◌↔◌, ℕ, Bool, true, false, nat_lt, if◌then◌else◌, List, Option, Some, None, length, MatchOption, IsTrue}
+use Rattle.std.specs.Prelude.{◌≡◌, ◌<◌, ◌↔◌, ℕ, Bool, nat_lt, if◌then◌else◌, List, Option, Some, None, length, MatchOption, IsTrue}
 use Rattle.mh_grammar.specs.declared.types.Grammar.{Grammar}
 use Rattle.mh_grammar.specs.declared.types.Look.{Look}
 use Rattle.mh_grammar.specs.declared.types.Look.TheVariants.{End}
