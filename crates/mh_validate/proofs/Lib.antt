@@ -1,5 +1,5 @@
 mod Within
-mod Rowing
+mod Lacking
 mod Reading
 mod Named
 mod Itemed

@@ -11,7 +11,7 @@ use Rattle.mh_kernels.specs.Automaton.{start_kernel}
 use Rattle.mh_tabform.specs.declared.types.RawItem.{RawItem}
 use Rattle.mh_cells.specs.Names.{look_name}
 use Rattle.mh_tabform.specs.Written.{raw_item}
-use Rattle.mh_valid.specs.Valid.{IsAtEnd}
+pub use Rattle.mh_matches.specs.Items.{IsMovedItem}
 
 -- what is found is such a thing, and where nothing is found there is none
 abbrev pub Finds : {X : Type 0} → (X → Type 0) → Option X → Type 0
@@ -48,11 +48,6 @@ pub record IsItemOf (g : Grammar) (raw : RawItem) (item : KernelItem) : Type 0 w
 
 abbrev pub AreItemsOf : Grammar → List RawItem → List KernelItem → Type 0
 AreItemsOf g = AreRead (raw_item g) (IsKernelItem (plain_of g)) IsItemBefore
-
--- an item that a state has which is not of a start
-pub record IsMovedItem (g : Grammar) (item : KernelItem) : Type 0 where
-  pub at_end : IsAtEnd g item
-  pub moved : 0 < item.dot
 
 -- what is asked of the items of a state, apart from their numbers and their order
 pub record MayHave (g : Grammar) (s : ℕ) (items : List KernelItem) : Type 0 where

@@ -1,22 +1,15 @@
 //! The edges of a state beside the moves of its closure.
 ghost use Rattle.std.specs.Prelude.{◌≡◌, ◌<◌, ◌≤◌, ◌↔◌, length, IsTrue, IfOk};
 ghost use Rattle.std.specs.List.{AllZip};
-ghost use Rattle.mh_grammar.specs.Names.{symbol_name as name_of_symbol};
 ghost use Rattle.mh_validate.specs.Leading.{Leads, IsRowOf, edges_on as edges_of_moves};
 
-use crate::header::is_named;
 use crate::targets::is_kernel_within;
-use mh_grammar::{Edge, Grammar, Memory, Name, Sequence, Symbol, symbol_name};
+use mh_grammar::{Edge, Grammar, Memory, Sequence};
 use mh_kernels::Kernel;
+use mh_matches::is_on;
 use mh_moves::Move;
 use mh_tabform::RawEdge;
 use std::alloc::Global;
-
-fn is_on(grammar: &Grammar, symbol: Symbol, name: &Name) -> bool
-    ensures { IsTrue result ↔ (name.now ≡ name_of_symbol grammar.now symbol) }
-{
-    is_named(name, symbol_name(grammar, symbol))
-}
 
 fn leads<const W: usize>(
     grammar: &Grammar,

@@ -1,35 +1,12 @@
 //! The first test: the header.
 ghost use Rattle.std.specs.Prelude.{◌≡◌, ◌↔◌, map, IsTrue};
 ghost use Rattle.mh_grammar.specs.Names.{nonterminal_name as name_of_nonterminal, symbol_name as name_of_symbol};
-ghost use Rattle.mh_grammar.specs.Costs.{costs_of};
 ghost use Rattle.mh_tabform.specs.Written.{raw_production};
-ghost use Rattle.mh_valid.specs.Valid.{AreCostsOf, HasHeader};
+ghost use Rattle.mh_valid.specs.Valid.{HasHeader};
 
-use mh_grammar::{
-    Grammar, Name, Production, Sequence, Symbol, TokenInfo, nonterminal_name, symbol_name,
-};
+use mh_grammar::{Grammar, Name, Production, Symbol, nonterminal_name, symbol_name};
+use mh_matches::{has_tokens, is_named};
 use mh_tabform::{RawProduction, RawTable};
-
-pub(crate) fn is_named(name: &Name, bytes: &[u8]) -> bool
-    ensures { IsTrue result ↔ (name.now ≡ bytes.now) }
-{
-    name.as_slice() == bytes
-}
-
-/// Whether the names are those of the tokens, in order.
-fn are_tokens(names: &[Name], tokens: &[TokenInfo]) -> bool
-    ensures { IsTrue result ↔ (names.now ≡ map (λ t. t.name) tokens.now) }
-{
-    if names.len() != tokens.len() {
-        return false;
-    }
-    for at in 0..names.len() {
-        if !is_named(&names[at], tokens[at].name.as_slice()) {
-            return false;
-        }
-    }
-    true
-}
 
 fn are_symbols(grammar: &Grammar, names: &[Name], symbols: &[Symbol]) -> bool
     ensures { IsTrue result ↔ (names.now ≡ map (name_of_symbol grammar.now) symbols.now) }
@@ -80,35 +57,11 @@ fn are_productions(grammar: &Grammar, raws: &[RawProduction], productions: &[Pro
     true
 }
 
-fn are_costs(costs: &[u32], tokens: &[TokenInfo]) -> bool
-    ensures { IsTrue result ↔ (costs.now ≡ costs_of tokens.now) }
-{
-    if costs.len() != tokens.len() {
-        return false;
-    }
-    for at in 0..costs.len() {
-        if costs[at] != tokens[at].cost {
-            return false;
-        }
-    }
-    true
-}
-
-fn have_costs(grammar: &Grammar, costs: &Option<Sequence<u32>>) -> bool
-    ensures { IsTrue result ↔ AreCostsOf grammar.now costs.now }
-{
-    match costs {
-        None => true,
-        Some(costs) => are_costs(costs.as_slice(), grammar.tokens.as_slice()),
-    }
-}
-
 /// Whether the tokens, the costs, the starts and the productions are the grammar's.
 pub(crate) fn has_header(grammar: &Grammar, raw: &RawTable) -> bool
     ensures { IsTrue result ↔ HasHeader grammar.now raw.now }
 {
-    are_tokens(raw.tokens.as_slice(), grammar.tokens.as_slice())
-        && have_costs(grammar, &raw.costs)
+    has_tokens(grammar, raw)
         && are_starts(grammar, raw.starts.as_slice(), grammar.starts.as_slice())
         && are_productions(
             grammar,

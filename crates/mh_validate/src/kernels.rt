@@ -1,7 +1,6 @@
 //! The kernels that states have.
 ghost use Rattle.std.specs.Prelude.{◌≡◌, ◌<◌, ◌≤◌, ◌*◌, ◌↔◌, [], ◌∷◌, length, IsTrue, IfOk, OnOk};
 ghost use Rattle.std.specs.List.{AllByRecursion};
-ghost use Rattle.mh_grammar.specs.declared.types.Look.TheVariants.{End};
 ghost use Rattle.mh_grammar.specs.Plain.{plain_of, IsInRange};
 ghost use Rattle.mh_kernels.specs.Automaton.{start_kernel};
 ghost use Rattle.mh_msgfile.specs.Sentences.{vocabulary_in, vocabulary_of};
@@ -10,10 +9,10 @@ ghost use Rattle.mh_validate.specs.Looking.{Finds, IsMovedItem, MayHave};
 ghost use Rattle.mh_validate.specs.Comparing.{AreFirstKernels};
 
 use crate::items::items_of;
-use mh_grammar::{Grammar, Look, Memory, Sequence};
+use mh_grammar::{Grammar, Memory, Sequence};
 use mh_kernels::{Kernel, KernelItem};
+use mh_matches::{is_end, is_moved};
 use mh_msgfile::Lexicon;
-use mh_sets::TokenSet;
 use mh_tabform::{RawItem, RawTable};
 use std::alloc::Global;
 
@@ -23,25 +22,6 @@ fn items_at(raw: &RawTable, state: usize) -> &[RawItem]
     ensures { result.now ≡ (raw_state raw.now state).items }
 {
     raw.states[state].items.as_slice()
-}
-
-/// Whether the end of the stream stands alone.
-fn is_end<const W: usize>(looks: &TokenSet<W>) -> bool
-    requires few { W ≤ 8 }
-    ensures { IsTrue result ↔ (looks.now ≡ End ∷ []) }
-{
-    *looks == TokenSet::only(Look::End)
-}
-
-/// Whether an item may stand in a state that is not of a start.
-fn is_moved<const W: usize>(grammar: &Grammar, item: &KernelItem<W>) -> bool
-    requires few { W ≤ 8 }
-    ensures { IsTrue result ↔ IsMovedItem grammar.now item.now }
-{
-    if item.dot == 0 {
-        return false;
-    }
-    item.production as usize >= grammar.starts.len() || is_end(&item.looks)
 }
 
 fn are_moved<const W: usize>(grammar: &Grammar, items: &[KernelItem<W>]) -> bool

@@ -5,8 +5,8 @@ ghost use Rattle.mh_msgfile.specs.Sentences.{vocabulary_in, vocabulary_of};
 ghost use Rattle.mh_valid.specs.Valid.{AreNamesApart};
 ghost use Rattle.mh_validate.specs.Looking.{Finds, Behind, IsLookOf, AreLooksOf};
 
-use crate::header::is_named;
 use mh_grammar::{Grammar, Look, Name};
+use mh_matches::is_named;
 use mh_msgfile::Lexicon;
 use mh_sets::TokenSet;
 

@@ -4,19 +4,7 @@ ghost use Rattle.std.specs.List.{AllZip};
 ghost use Rattle.mh_valid.specs.Within.{IsItemWithin, IsKernelWithin};
 
 use mh_kernels::{Kernel, KernelItem};
-
-fn is_item_within<const W: usize>(inner: &KernelItem<W>, outer: &KernelItem<W>) -> bool
-    requires few { W ≤ 8 }
-    ensures { IsTrue result ↔ IsItemWithin inner.now outer.now }
-{
-    if inner.production != outer.production {
-        return false;
-    }
-    if inner.dot != outer.dot {
-        return false;
-    }
-    inner.looks.is_subset(&outer.looks)
-}
+use mh_matches::is_item_within;
 
 fn are_items_within<const W: usize>(inner: &[KernelItem<W>], outer: &[KernelItem<W>]) -> bool
     requires few { W ≤ 8 }

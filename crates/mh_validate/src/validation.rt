@@ -21,6 +21,7 @@ use mh_cells::{Conflict, Mode};
 use mh_grammar::{Edge, Grammar, Memory, Sequence};
 use mh_items::Closer;
 use mh_kernels::{Automaton, Kernel};
+use mh_matches::first_lacking;
 use mh_resolve::{resolve_one, resolve_states};
 use mh_tabform::RawTable;
 use mh_tables::{StateParts, Table, table_of};
@@ -120,7 +121,7 @@ fn fault_within<const W: usize>(
     requires small { length raw.now.states < 2 ^ 32 }
     requires kernels { AreKernels grammar.now raw.now kernels.now }
     requires rows { AreFirstRows grammar.now raw.now kernels.now rows.now }
-    requires short { length rows.now < length kernels.now }
+    requires short { length rows.now < length raw.now.states }
     ensures { IsFault grammar.now raw.now result }
 {
     let Ok(parts) = resolve_rows(alloc, grammar, raw, kernels, rows) else {
@@ -204,7 +205,7 @@ fn with_kernels<const W: usize>(
     let Ok(rows) = first_rows(alloc, grammar, raw, kernels.as_slice()) else {
         return Err(ValidFault::Memory);
     };
-    if rows.len() < kernels.len() {
+    if rows.len() < raw.states.len() {
         return Err(fault_within(alloc, grammar, raw, kernels.as_slice(), rows.as_slice()));
     }
     with_table(
@@ -247,13 +248,13 @@ fn judged<const W: usize>(
     let Ok(kernels) = first_kernels(alloc, grammar, raw) else {
         return Err(ValidFault::Memory);
     };
-    if kernels.len() < raw.states.len() {
-        return Err(ValidFault::Invalid {
-            state: Some(kernels.len() as u32),
+    match first_lacking(kernels.len(), raw.states.len()) {
+        Some(state) => Err(ValidFault::Invalid {
+            state: Some(state),
             reason: Reason::Kernel,
-        });
+        }),
+        None => with_kernels(alloc, grammar, raw, kernels),
     }
-    with_kernels(alloc, grammar, raw, kernels)
 }
 
 /// The automaton of a table file, with its table and its conflicts, where the file is valid for the grammar; else the first test

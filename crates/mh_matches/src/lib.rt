@@ -1,0 +1,17 @@
+//! Whether single things of a table file are what is due: the tokens and their costs, an item of a state, the symbol of an edge,
+//! the cells of a state; and which state is told to have no kernel.
+#![tactic(auto)]
+
+mod cells;
+mod costs;
+mod edges;
+mod items;
+mod lacking;
+mod tokens;
+
+pub use cells::{is_same, is_told};
+pub use costs::has_tokens;
+pub use edges::is_on;
+pub use items::{is_end, is_item_within, is_moved};
+pub use lacking::first_lacking;
+pub use tokens::is_named;
