@@ -2,27 +2,25 @@
 ghost use Rattle.std.specs.Prelude.{◌≡◌, IfOk, Some};
 ghost use Rattle.mh_outside.specs.Fakes.{sink_written, sink_calls};
 
-use crate::cases::{check, parts, put, release};
+use crate::cases::{Subject, check, check_cases, digit, put, release};
 use mh_outside::{
     Failed, LineFault, MemShelf, MemSink, MemSource, Shelf, ShelfFault, Sink, Source, WriteFault,
     read_line, write_whole,
 };
 use std::alloc::{AllocError, Global};
-use std::process::Abort;
 use std::test::Fail;
 
-/// A value and another, where making that one did not fail.
-fn beside<A: Drop, B>(value: A, other: Result<B, AllocError>) -> Result<(A, B), AllocError> {
-    match other {
-        Ok(other) => Ok((value, other)),
-        Err(fault) => Err(fault),
-    }
+/// Some numbers. Where memory is out there are none, and something else happens than what is wanted.
+fn calls(alloc: Global, numbers: &[u64]) -> Vec<u64> {
+    let mut calls = Vec::new(alloc);
+    let _ = calls.extend_from_slice(numbers);
+    calls
 }
 
-fn source(alloc: Global, bytes: &[u8], fails: &[u64]) -> Result<MemSource, AllocError> {
-    let bytes = bytes.to_vec(alloc)?;
-    let (bytes, fails) = beside(bytes, fails.to_vec(alloc))?;
-    Ok(MemSource::new(bytes, fails))
+fn source(alloc: Global, bytes: &[u8], fails: &[u64]) -> MemSource {
+    let mut input = Vec::new(alloc);
+    put(&mut input, bytes);
+    MemSource::new(input, calls(alloc, fails))
 }
 
 /// Adds a line of the input behind a `>`, or a `!` where a read failed, or `+` where a line was too big. Whether there was one.
@@ -40,23 +38,22 @@ fn push_line(alloc: Global, text: &mut Vec<u8>, input: &mut MemSource, limit: us
     true
 }
 
-/// The lines of the input.
-fn lines(alloc: Global, input: &mut MemSource, limit: usize) -> Vec<u8> {
-    let mut text = Vec::new(alloc);
+/// Adds the lines of an input.
+fn put_read_lines(alloc: Global, text: &mut Vec<u8>, input: &mut MemSource, limit: usize) {
     for _ in 0..9 {
-        if !push_line(alloc, &mut text, input, limit) {
+        if !push_line(alloc, text, input, limit) {
             break;
         }
     }
-    text
 }
 
-/// The lines of these bytes, where these reads fail.
-fn lines_of(alloc: Global, bytes: &[u8], fails: &[u64], limit: usize) -> Result<Vec<u8>, Fail> {
-    let mut input = source(alloc, bytes, fails)?;
-    let text = lines(alloc, &mut input, limit);
+/// Adds the lines of bytes, before which there are the limit of a line and the number of the read that fails.
+pub fn put_lines(alloc: Global, text: &mut Vec<u8>, given: &str) {
+    let (limit, given) = given.split_once(' ').unwrap_or(("", given));
+    let (fail, bytes) = given.split_once(' ').unwrap_or(("", given));
+    let mut input = source(alloc, bytes.as_bytes(), &[fail.parse().unwrap_or(99)]);
+    put_read_lines(alloc, text, &mut input, limit.parse().unwrap_or(99));
     release(input);
-    Ok(text)
 }
 
 /// The limit of a line, the number of the read that fails, or 0, and the bytes, with `~` before what is read and `^` between cases. The
@@ -77,39 +74,32 @@ const LINES: &str = "9 0 ~^\
      9 6 ab\nc~>ab>c!^\
      9 7 ab\nc~>ab>c";
 
-fn check_lines(rt: &impl Abort, alloc: Global, case: &str) -> Result<(), Fail> {
-    let (given, wanted) = parts(case)?;
-    let (limit, given) = given.split_once(' ').ok_or("a case without a limit")?;
-    let (fail, bytes) = given.split_once(' ').ok_or("a case without a read")?;
-    let found = lines_of(alloc, bytes.as_bytes(), &[fail.parse()?], limit.parse()?)?;
-    check(rt, found, wanted, case);
-    Ok(())
-}
-
 #[test]
 fn lines_are_read(rt: HostRuntime) -> Result<(), Fail> {
-    for case in LINES.split('^') {
-        check_lines(&rt, rt.alloc(), case)?;
-    }
-    Ok(())
+    check_cases(rt.alloc(), &Subject::Lines, LINES, 15)
 }
 
-/// Writes a piece, and compares whether it is taken whole with what is wanted.
-fn check_write(rt: &impl Abort, sink: &mut MemSink, piece: &[u8], wanted: Result<(), WriteFault>) {
-    assert_eq!(rt; write_whole(sink, piece), wanted);
+/// Writes a piece, and adds `+` where it is taken whole, and `!` where a write fails.
+fn put_write<S: Sink>(text: &mut Vec<u8>, sink: &mut S, piece: &[u8]) {
+    put(
+        text,
+        match write_whole(sink, piece) {
+            Ok(()) => b"+",
+            Err(WriteFault::Failed) => b"!",
+        },
+    );
 }
 
 #[test]
 fn pieces_are_written(rt: HostRuntime) -> Result<(), Fail> {
-    let fails = [2].to_vec(rt.alloc())?;
-    let mut sink = MemSink::new(rt.alloc(), fails);
-    check_write(&rt, &mut sink, b"ab", Ok(()));
-    check_write(&rt, &mut sink, b"cd", Err(WriteFault::Failed));
-    check_write(&rt, &mut sink, b"", Ok(()));
-    check_write(&rt, &mut sink, b"ef", Ok(()));
-    assert!(rt; sink.written() == b"abef".as_slice());
+    let mut text = Vec::new(rt.alloc());
+    let mut sink = MemSink::new(rt.alloc(), calls(rt.alloc(), &[2]));
+    for piece in [b"ab".as_slice(), b"cd", b"", b"ef"] {
+        put_write(&mut text, &mut sink, piece);
+    }
+    put(&mut text, sink.written());
     release(sink);
-    Ok(())
+    check(rt.alloc(), text, "+!++abef", "a sink")
 }
 
 /// A sink that takes one byte a call.
@@ -128,28 +118,24 @@ impl Sink for Trickle {
     }
 }
 
-/// What was written of `abcd` where a write fails, behind a `!` where not all was.
-fn trickled(alloc: Global, fail: u64) -> Result<Vec<u8>, Fail> {
-    let fails = [fail].to_vec(alloc)?;
+/// Adds what was written of `abcd` where a write fails, behind a `!` where not all was.
+pub fn put_trickled(alloc: Global, text: &mut Vec<u8>, fail: &str) {
+    let fails = calls(alloc, &[fail.parse().unwrap_or(99)]);
     let mut trickle = Trickle {
         sink: MemSink::new(alloc, fails),
     };
-    let mut text = Vec::new(alloc);
     if write_whole(&mut trickle, b"abcd").is_err() {
-        put(&mut text, b"!");
+        put(text, b"!");
     }
-    put(&mut text, trickle.sink.written());
+    put(text, trickle.sink.written());
     release(trickle);
-    Ok(text)
 }
 
 /// Each of four short writes fails in turn, and the bytes before it were written.
 #[test]
 fn each_write_fails_in_turn(rt: HostRuntime) -> Result<(), Fail> {
-    for (fail, wanted) in [(1, "!"), (2, "!a"), (3, "!ab"), (4, "!abc"), (5, "abcd")] {
-        check(&rt, trickled(rt.alloc(), fail)?, wanted, wanted);
-    }
-    Ok(())
+    let cases = "1~!^2~!a^3~!ab^4~!abc^5~abcd";
+    check_cases(rt.alloc(), &Subject::Trickled, cases, 5)
 }
 
 fn file(alloc: Global, name: &[u8], bytes: &[u8]) -> Result<(Vec<u8>, Vec<u8>), AllocError>
@@ -167,74 +153,74 @@ fn shelf(alloc: Global) -> Result<MemShelf, Fail> {
     Ok(MemShelf::new(files, [3].to_vec(alloc)?))
 }
 
-/// The bytes of a file, or the fault.
-fn read_shown(alloc: Global, shelf: &mut MemShelf, name: &[u8], limit: usize) -> Vec<u8> {
+fn fault_name(fault: ShelfFault) -> &'static [u8] {
+    match fault {
+        ShelfFault::TooBig => b"too big",
+        ShelfFault::Failed => b"failed",
+        ShelfFault::Absent => b"absent",
+        ShelfFault::Memory => b"memory",
+    }
+}
+
+/// Adds the bytes of a file, or the fault.
+fn put_file(alloc: Global, text: &mut Vec<u8>, shelf: &mut MemShelf, name: &[u8], limit: usize) {
     match shelf.read_file(alloc, name, limit) {
-        Ok(bytes) => bytes,
-        Err(fault) => {
-            let mut text = Vec::new(alloc);
-            put(
-                &mut text,
-                match fault {
-                    ShelfFault::TooBig => b"too big".as_slice(),
-                    ShelfFault::Failed => b"failed",
-                    ShelfFault::Absent => b"absent",
-                    ShelfFault::Memory => b"memory",
-                },
-            );
-            text
+        Ok(bytes) => {
+            put(text, &bytes);
+            release(bytes);
         }
+        Err(fault) => put(text, fault_name(fault)),
     }
 }
 
 /// The file and the limit, with `~` before what is read and `^` between the calls.
 const READS: &str = "g 5~HELLO^g 4~too big^g 5~failed^i 5~absent^h 0~";
 
-fn check_read(
-    rt: &impl Abort,
-    alloc: Global,
-    shelf: &mut MemShelf,
-    case: &str,
-) -> Result<(), Fail> {
-    let (given, wanted) = parts(case)?;
-    let (name, limit) = given.split_once(' ').ok_or("a case without a limit")?;
-    let found = read_shown(alloc, shelf, name.as_bytes(), limit.parse()?);
-    check(rt, found, wanted, case);
-    Ok(())
-}
-
-fn check_reads(rt: &impl Abort, alloc: Global, shelf: &mut MemShelf) -> Result<(), Fail> {
-    for case in READS.split('^') {
-        check_read(rt, alloc, shelf, case)?;
-    }
-    Ok(())
+/// Adds a call again, with what is read now behind its `~`.
+fn put_call(alloc: Global, text: &mut Vec<u8>, shelf: &mut MemShelf, case: &str) {
+    let (given, _) = case.split_once('~').unwrap_or(("", ""));
+    let (name, limit) = given.split_once(' ').unwrap_or(("", ""));
+    put(text, if text.is_empty() { b"" } else { b"^" });
+    put(text, given.as_bytes());
+    put(text, b"~");
+    put_file(
+        alloc,
+        text,
+        shelf,
+        name.as_bytes(),
+        limit.parse().unwrap_or(0),
+    );
 }
 
 #[test]
 fn files_are_read(rt: HostRuntime) -> Result<(), Fail> {
     let mut shelf = shelf(rt.alloc())?;
-    let result = check_reads(&rt, rt.alloc(), &mut shelf);
+    let mut text = Vec::new(rt.alloc());
+    for case in READS.split('^') {
+        put_call(rt.alloc(), &mut text, &mut shelf, case);
+    }
     release(shelf);
-    result
+    check(rt.alloc(), text, READS, "a shelf")
 }
 
-fn check_fits(rt: &impl Abort, input: &mut MemSource) {
-    let mut buf = [0u8; 2];
-    let found = [
-        input.read(&mut buf),
-        input.read(&mut buf),
-        input.read(&mut buf),
-        input.read(&mut buf),
-    ];
-    assert_eq!(rt; found, [Ok(2), Err(Failed), Ok(1), Ok(0)]);
-    assert!(rt; buf == *b"cb");
+/// Reads, and adds how many bytes came, or `!` where the read fails.
+fn put_count(text: &mut Vec<u8>, input: &mut MemSource, buf: &mut [u8; 2]) {
+    match input.read(buf) {
+        Ok(count) => put(text, &[digit(count as u64)]),
+        Err(Failed) => put(text, b"!"),
+    }
 }
 
 /// A read takes as much as there is room for, and 0 comes at the end alone.
 #[test]
 fn reads_take_what_fits(rt: HostRuntime) -> Result<(), Fail> {
-    let mut input = source(rt.alloc(), b"abc", &[2])?;
-    check_fits(&rt, &mut input);
+    let mut text = Vec::new(rt.alloc());
+    let mut input = source(rt.alloc(), b"abc", &[2]);
+    let mut buf = [0u8; 2];
+    for _ in 0..4 {
+        put_count(&mut text, &mut input, &mut buf);
+    }
+    put(&mut text, &buf);
     release(input);
-    Ok(())
+    check(rt.alloc(), text, "2!10cb", "a source")
 }

@@ -1,7 +1,5 @@
 //! Grammar files and their lexemes, worked out by hand.
-ghost use Rattle.std.specs.Prelude.{◌<◌, ◌^◌, length};
-
-use crate::cases::{check, digit, parts, put, release};
+use crate::cases::{Subject, check_cases, digit, put, release};
 use mh_lex::{
     Kind, Lexeme, SyntaxFault, code_is_taken, keywords_differ, lex, lexed_always, lexed_apart,
     lexed_code, lexed_once, lexed_texts,
@@ -38,30 +36,26 @@ fn put_letters(letters: &mut Vec<u8>, lexeme: &Lexeme) {
 }
 
 /// Puts in the letters of each lexeme, and a dot for each byte that is dropped.
-fn put_lexemes(letters: &mut Vec<u8>, size: usize, lexemes: &[Lexeme]) {
+fn put_all_letters(letters: &mut Vec<u8>, size: usize, lexemes: &[Lexeme]) {
     let _ = letters.resize(size, b'.');
     for lexeme in lexemes {
         put_letters(letters, lexeme);
     }
 }
 
-/// A letter for each byte. Where bytes are refused, `!` and the line's digit.
-fn shown(alloc: Global, bytes: &[u8]) -> Vec<u8>
-    requires { length bytes.now < 2 ^ 31 }
-{
-    let mut letters = Vec::new(alloc);
+/// A letter for each byte of a short file. Where bytes are refused, `!` and the line's digit.
+pub fn put_lexemes(alloc: Global, letters: &mut Vec<u8>, bytes: &[u8]) {
+    if bytes.len() >= 1000 {
+        return put(letters, b"long");
+    }
     match lex(alloc, bytes) {
         Ok(lexemes) => {
-            put_lexemes(&mut letters, bytes.len(), &lexemes);
+            put_all_letters(letters, bytes.len(), &lexemes);
             release(lexemes);
         }
-        Err(SyntaxFault::Syntax { line }) => {
-            put(&mut letters, b"!");
-            put(&mut letters, &[digit(u64::from(line))]);
-        }
-        Err(SyntaxFault::Memory) => put(&mut letters, b"no memory"),
+        Err(SyntaxFault::Syntax { line }) => put(letters, &[b'!', digit(u64::from(line))]),
+        Err(SyntaxFault::Memory) => put(letters, b"no memory"),
     }
-    letters
 }
 
 /// Files and what is shown of them, with `~` between the two and `^` between cases.
@@ -172,12 +166,6 @@ fn cases() -> &'static str {
 
 #[test]
 fn lexes(rt: HostRuntime) -> Result<(), Fail> {
-    for case in cases().split('^') {
-        let (bytes, expected) = parts(case)?;
-        assert!(rt; bytes.len() < 1000);
-        check(&rt, shown(rt.alloc(), bytes.as_bytes()), expected, bytes);
-    }
-    assert!(rt; cases().split('^').count() == 102);
     lexed_always();
     lexed_once();
     lexed_apart();
@@ -185,5 +173,5 @@ fn lexes(rt: HostRuntime) -> Result<(), Fail> {
     lexed_code();
     code_is_taken();
     keywords_differ();
-    Ok(())
+    check_cases(rt.alloc(), &Subject::Lexemes, cases(), 102)
 }

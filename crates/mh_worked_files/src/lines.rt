@@ -1,65 +1,57 @@
 //! Lines and what they are, worked out by hand.
+ghost use Rattle.std.specs.Prelude.{◌<◌, ◌^◌, length};
 ghost use Rattle.mh_grammar.specs.Plain.{plain_of, IsInRange};
 
-use crate::cases::{check, digit, parts, put, release};
+use crate::cases::{Subject, check_cases, digit, put, release};
+use crate::messages::{put_echoed, put_printed};
 use mh_grammar::{Grammar, Memory, NontermInfo, Sentence, Sequence, TokenInfo, from_bytes};
 use mh_msgfile::{SentenceFault, read_sentence};
 use mh_range::is_in_range;
 use std::alloc::Global;
-use std::process::Abort;
 use std::test::Fail;
 
-fn tokens(alloc: Global) -> Result<Sequence<TokenInfo>, Memory> {
-    let mut tokens = Sequence::new(alloc);
-    for name in ["A", "B'", "EOF"] {
-        let name = from_bytes(alloc, name.as_bytes())?;
-        tokens.push(TokenInfo {
-            name,
-            level: None,
-            cost: 1,
-        })?;
+fn add_token(alloc: Global, grammar: &mut Grammar, name: &str) -> Result<(), Memory> {
+    let name = from_bytes(alloc, name.as_bytes())?;
+    grammar.tokens.push(TokenInfo {
+        name,
+        level: None,
+        cost: 1,
+    })?;
+    Ok(())
+}
+
+fn add_nonterminal(alloc: Global, grammar: &mut Grammar, name: &str) -> Result<(), Memory> {
+    let name = from_bytes(alloc, name.as_bytes())?;
+    grammar.nonterminals.push(NontermInfo {
+        name,
+        on_error: None,
+    })?;
+    Ok(())
+}
+
+fn add_starts(grammar: &mut Grammar, starts: &[u16]) {
+    for start in starts {
+        let _ = grammar.starts.push(*start);
     }
-    Ok(tokens)
 }
 
-fn nonterminals(alloc: Global) -> Result<Sequence<NontermInfo>, Memory> {
-    let mut nonterminals = Sequence::new(alloc);
-    for name in ["r", "s"] {
-        let name = from_bytes(alloc, name.as_bytes())?;
-        nonterminals.push(NontermInfo {
-            name,
-            on_error: None,
-        })?;
-    }
-    Ok(nonterminals)
-}
-
-/// Both, or want of memory. What it lets go is let go in one call.
-fn both<A: Drop, B: Drop>(
-    first: Result<A, Memory>,
-    second: Result<B, Memory>,
-) -> Result<(A, B), Memory> {
-    let first = first?;
-    let second = second?;
-    Ok((first, second))
-}
-
-fn starts_of(alloc: Global, starts: &[u16]) -> Result<Sequence<u16>, Memory> {
-    Ok(Sequence::from_vec(Vec::from_slice(alloc, starts)?))
-}
-
-/// A grammar of the tokens `A`, `B'` and `EOF` and the nonterminals `r` and `s`, with these starts.
-pub fn sample(alloc: Global, starts: &[u16]) -> Result<Grammar, Memory> {
-    let (tokens, (nonterminals, starts)) = both(
-        tokens(alloc),
-        both(nonterminals(alloc), starts_of(alloc, starts)),
-    )?;
-    Ok(Grammar {
-        tokens,
-        nonterminals,
+/// A grammar of the tokens `A`, `B'` and `EOF` and the nonterminals `r` and `s`, with these starts. Where memory is out it lacks
+/// some of them, and no answer is what is wanted.
+fn sample(alloc: Global, starts: &[u16]) -> Grammar {
+    let mut grammar = Grammar {
+        tokens: Sequence::new(alloc),
+        nonterminals: Sequence::new(alloc),
         productions: Sequence::new(alloc),
-        starts,
-    })
+        starts: Sequence::new(alloc),
+    };
+    for name in ["A", "B'", "EOF"] {
+        let _ = add_token(alloc, &mut grammar, name);
+    }
+    for name in ["r", "s"] {
+        let _ = add_nonterminal(alloc, &mut grammar, name);
+    }
+    add_starts(&mut grammar, starts);
+    grammar
 }
 
 pub fn put_both(text: &mut Vec<u8>, front: &str, name: &[u8]) {
@@ -75,22 +67,20 @@ fn put_digits(text: &mut Vec<u8>, sentence: &Sentence) {
     }
 }
 
-/// The digits of a line's sentence, or its fault, with the name.
-fn shown(alloc: Global, grammar: &Grammar, line: &[u8]) -> Vec<u8>
+/// Adds the digits of a line's sentence, or its fault, with the name.
+fn put_sentence(alloc: Global, text: &mut Vec<u8>, grammar: &Grammar, line: &[u8])
     requires { IsInRange (plain_of grammar.now) }
 {
-    let mut text = Vec::new(alloc);
     match read_sentence(alloc, grammar, line) {
         Ok(sentence) => {
-            put_digits(&mut text, &sentence);
+            put_digits(text, &sentence);
             release(sentence);
         }
         Err(fault) => {
-            put_fault(&mut text, &fault);
+            put_fault(text, &fault);
             release(fault);
         }
     }
-    text
 }
 
 fn put_fault(text: &mut Vec<u8>, fault: &SentenceFault) {
@@ -101,6 +91,45 @@ fn put_fault(text: &mut Vec<u8>, fault: &SentenceFault) {
         SentenceFault::UnknownToken { name } => put_both(text, "no token ", name.as_slice()),
         SentenceFault::Memory => put_both(text, "no memory", b""),
     }
+}
+
+/// What is told of bytes.
+#[derive(Clone, Copy)]
+pub enum Reading {
+    /// The sentence of a line.
+    Sentence,
+    /// The text that a messages file is printed as.
+    Printed,
+    /// The sentences of a messages file alone.
+    Echoed,
+}
+
+fn put_read(alloc: Global, text: &mut Vec<u8>, grammar: &Grammar, reading: Reading, bytes: &[u8])
+    requires range { IsInRange (plain_of grammar.now) }
+    requires size { length bytes.now < 2 ^ 31 }
+{
+    match reading {
+        Reading::Sentence => put_sentence(alloc, text, grammar, bytes),
+        Reading::Printed => put_printed(alloc, text, grammar, bytes),
+        Reading::Echoed => put_echoed(alloc, text, grammar, bytes),
+    }
+}
+
+/// Adds what bytes are to the grammar with these starts.
+pub fn put_reading(
+    alloc: Global,
+    text: &mut Vec<u8>,
+    reading: Reading,
+    starts: &[u16],
+    bytes: &[u8],
+) {
+    let grammar = sample(alloc, starts);
+    if is_in_range(&grammar) && bytes.len() < 1_000 {
+        put_read(alloc, text, &grammar, reading, bytes);
+    } else {
+        put(text, b"out of range");
+    }
+    release(grammar);
 }
 
 /// Lines where `s` is the only start, with `~` before what they are and `^` between cases.
@@ -137,33 +166,10 @@ const OF_TWO_STARTS: &str = "s: A~0:0^\
      A 1~unreadable^\
      :~unreadable";
 
-fn check_line(rt: &impl Abort, alloc: Global, grammar: &Grammar, case: &str) -> Result<(), Fail>
-    requires range { IsInRange (plain_of grammar.now) }
-{
-    let (line, expected) = parts(case)?;
-    check(rt, shown(alloc, grammar, line.as_bytes()), expected, line);
-    Ok(())
-}
-
-fn check_lines(rt: &impl Abort, alloc: Global, grammar: &Grammar, cases: &str) -> Result<(), Fail> {
-    assert!(rt; is_in_range(grammar));
-    for case in cases.split('^') {
-        check_line(rt, alloc, grammar, case)?;
-    }
-    Ok(())
-}
-
-fn check_starts(rt: &impl Abort, alloc: Global, starts: &[u16], cases: &str) -> Result<(), Fail> {
-    let grammar = sample(alloc, starts)?;
-    let result = check_lines(rt, alloc, &grammar, cases);
-    release(grammar);
-    result
-}
-
 #[test]
 fn lines(rt: HostRuntime) -> Result<(), Fail> {
-    assert!(rt; OF_ONE_START.split('^').count() == 22);
-    check_starts(&rt, rt.alloc(), &[1], OF_ONE_START)?;
-    assert!(rt; OF_TWO_STARTS.split('^').count() == 8);
-    check_starts(&rt, rt.alloc(), &[1, 0], OF_TWO_STARTS)
+    let of_one = Subject::OfGrammar(Reading::Sentence, &[1]);
+    check_cases(rt.alloc(), &of_one, OF_ONE_START, 22)?;
+    let of_two = Subject::OfGrammar(Reading::Sentence, &[1, 0]);
+    check_cases(rt.alloc(), &of_two, OF_TWO_STARTS, 8)
 }

@@ -2,13 +2,11 @@
 ghost use Rattle.std.specs.Prelude.{◌<◌, ◌^◌, length};
 ghost use Rattle.mh_grammar.specs.Plain.{plain_of, IsInRange};
 
-use crate::cases::{check, digit, parts, release};
-use crate::lines::{put_both, sample};
+use crate::cases::{Subject, check_cases, digit, put, release};
+use crate::lines::{Reading, put_both};
 use mh_grammar::{Grammar, Memory};
 use mh_msgfile::{MsgFault, echo, print_messages, read_messages};
-use mh_range::is_in_range;
 use std::alloc::Global;
-use std::process::Abort;
 use std::test::Fail;
 
 /// Adds a fault, with the digit of its line.
@@ -23,40 +21,47 @@ fn put_fault(text: &mut Vec<u8>, fault: &MsgFault) {
     put_both(text, words, &[digit(u64::from(line))]);
 }
 
-/// The text of the file that these bytes spell, or the fault with its line.
-fn printed(alloc: Global, grammar: &Grammar, bytes: &[u8]) -> Result<Vec<u8>, Memory>
+/// Adds a text, which it lets go.
+pub fn put_made(text: &mut Vec<u8>, made: Result<Vec<u8>, Memory>) {
+    match made {
+        Ok(made) => {
+            put(text, &made);
+            release(made);
+        }
+        Err(_) => put(text, b"no memory"),
+    }
+}
+
+/// Adds the text of the file that these bytes spell, or the fault with its line.
+pub fn put_printed(alloc: Global, text: &mut Vec<u8>, grammar: &Grammar, bytes: &[u8])
     requires range { IsInRange (plain_of grammar.now) }
     requires size { length bytes.now < 2 ^ 31 }
 {
     match read_messages(alloc, bytes, grammar) {
         Ok(file) => {
-            let text = print_messages(alloc, grammar, &file);
+            put_made(text, print_messages(alloc, grammar, &file));
             release(file);
-            text
         }
         Err(fault) => {
-            let mut text = Vec::new(alloc);
-            put_fault(&mut text, &fault);
+            put_fault(text, &fault);
             release(fault);
-            Ok(text)
         }
     }
 }
 
-/// The sentences alone.
-fn echoed(alloc: Global, grammar: &Grammar, bytes: &[u8]) -> Result<Vec<u8>, Memory>
+/// Adds the sentences alone.
+pub fn put_echoed(alloc: Global, text: &mut Vec<u8>, grammar: &Grammar, bytes: &[u8])
     requires range { IsInRange (plain_of grammar.now) }
     requires size { length bytes.now < 2 ^ 31 }
 {
     match read_messages(alloc, bytes, grammar) {
         Ok(file) => {
-            let text = echo(alloc, grammar, &file);
+            put_made(text, echo(alloc, grammar, &file));
             release(file);
-            text
         }
         Err(fault) => {
+            put_fault(text, &fault);
             release(fault);
-            Err(Memory)
         }
     }
 }
@@ -80,52 +85,17 @@ const FILES: &str = "~^\
 /// The sentences of a file, one a line.
 const SENTENCES: &str = "EOF\n  A A\r\n\nM\n\ns : EOF A\n\nN\n~s: EOF\ns: A A\ns: EOF A\n";
 
-fn check_printed(rt: &impl Abort, alloc: Global, grammar: &Grammar, case: &str) -> Result<(), Fail>
-    requires range { IsInRange (plain_of grammar.now) }
-{
-    let (text, expected) = parts(case)?;
-    assert!(rt; text.len() < 1_000);
-    check(
-        rt,
-        printed(alloc, grammar, text.as_bytes())?,
-        expected,
-        text,
-    );
-    Ok(())
-}
-
-fn check_echoed(rt: &impl Abort, alloc: Global, grammar: &Grammar, case: &str) -> Result<(), Fail>
-    requires range { IsInRange (plain_of grammar.now) }
-{
-    let (text, expected) = parts(case)?;
-    assert!(rt; text.len() < 1_000);
-    check(rt, echoed(alloc, grammar, text.as_bytes())?, expected, text);
-    Ok(())
-}
-
-fn check_files(rt: &impl Abort, alloc: Global, grammar: &Grammar) -> Result<(), Fail> {
-    assert!(rt; is_in_range(grammar));
-    for case in FILES.split('^') {
-        check_printed(rt, alloc, grammar, case)?;
-    }
-    assert!(rt; FILES.split('^').count() == 14);
-    check_echoed(rt, alloc, grammar, SENTENCES)
-}
-
 #[test]
 fn files(rt: HostRuntime) -> Result<(), Fail> {
-    let grammar = sample(rt.alloc(), &[1])?;
-    let result = check_files(&rt, rt.alloc(), &grammar);
-    release(grammar);
-    result
+    let printed = Subject::OfGrammar(Reading::Printed, &[1]);
+    check_cases(rt.alloc(), &printed, FILES, 14)?;
+    let echoed = Subject::OfGrammar(Reading::Echoed, &[1]);
+    check_cases(rt.alloc(), &echoed, SENTENCES, 1)
 }
 
 /// Two starts: a sentence has to name one.
 #[test]
 fn starts(rt: HostRuntime) -> Result<(), Fail> {
-    let grammar = sample(rt.alloc(), &[1, 0])?;
-    assert!(rt; is_in_range(&grammar));
-    let result = check_printed(&rt, rt.alloc(), &grammar, "EOF A\n~missing start 1");
-    release(grammar);
-    result
+    let printed = Subject::OfGrammar(Reading::Printed, &[1, 0]);
+    check_cases(rt.alloc(), &printed, "EOF A\n~missing start 1", 1)
 }

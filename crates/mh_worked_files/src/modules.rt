@@ -1,27 +1,78 @@
 //! Grammar files and what they spell, worked out by hand.
-ghost use Rattle.std.specs.Prelude.{◌<◌, ◌^◌, length};
-
-use crate::cases::{check, parts, put, release};
+use crate::cases::{Subject, check_answer, check_cases, put, put_number, release};
+use crate::messages::put_made;
 use mh_grammar::Memory;
 use mh_lex::SyntaxFault;
 use mh_printing::print_module;
 use mh_reader::{Module, read_module, spelled_once};
-use std::alloc::{AllocError, Global};
-use std::fmt::Write;
-use std::process::Abort;
+use std::alloc::Global;
 use std::test::Fail;
 
-/// `+` where the bytes spell a module, else the line.
-fn verdict(alloc: Global, bytes: &[u8]) -> Result<String, AllocError>
-    requires { length bytes.now < 2 ^ 31 }
-{
-    match read_module(alloc, bytes) {
+/// The module of a short file.
+fn module_of(alloc: Global, bytes: &[u8]) -> Result<Module, SyntaxFault> {
+    if bytes.len() > 10_000 {
+        return Err(SyntaxFault::Memory);
+    }
+    read_module(alloc, bytes)
+}
+
+/// Adds `+` where the bytes spell a module, else the line.
+fn put_verdict(alloc: Global, text: &mut Vec<u8>, bytes: &[u8]) {
+    match module_of(alloc, bytes) {
         Ok(module) => {
             release(module);
-            format!(in alloc; "+")
+            put(text, b"+");
         }
-        Err(SyntaxFault::Syntax { line }) => format!(in alloc; "{line}"),
-        Err(SyntaxFault::Memory) => Err(AllocError),
+        Err(SyntaxFault::Syntax { line }) => put_number(alloc, text, u64::from(line)),
+        Err(SyntaxFault::Memory) => put(text, b"no memory"),
+    }
+}
+
+/// What the module of a short file is printed as; nothing where it spells none.
+fn printed(alloc: Global, bytes: &[u8]) -> Result<Vec<u8>, Memory> {
+    if bytes.len() > 10_000 {
+        return Ok(Vec::new(alloc));
+    }
+    match read_module(alloc, bytes) {
+        Ok(module) => {
+            let text = print_module(alloc, &module);
+            release(module);
+            text
+        }
+        Err(_) => Ok(Vec::new(alloc)),
+    }
+}
+
+/// Adds what the module of a short file is printed as.
+pub fn put_printed(alloc: Global, text: &mut Vec<u8>, bytes: &[u8]) {
+    put_made(text, printed(alloc, bytes));
+}
+
+/// Whether a file is printed as itself.
+fn is_printed(alloc: Global, bytes: &[u8]) -> bool {
+    match printed(alloc, bytes) {
+        Ok(text) => text.as_slice() == bytes,
+        Err(_) => false,
+    }
+}
+
+/// Whether a file that spells a module is printed as one that spells it, which is then printed alike.
+fn is_kept(alloc: Global, bytes: &[u8]) -> bool {
+    match printed(alloc, bytes) {
+        Ok(text) => {
+            let is_same = !text.is_empty() && is_printed(alloc, text.as_slice());
+            release(text);
+            is_same
+        }
+        Err(_) => false,
+    }
+}
+
+/// Adds `+` where the bytes spell a module, else the line; and more where a module is not kept, or something else is.
+pub fn put_kept(alloc: Global, text: &mut Vec<u8>, bytes: &[u8]) {
+    put_verdict(alloc, text, bytes);
+    if is_kept(alloc, bytes) != (text.as_slice() == b"+".as_slice()) {
+        put(text, b" but not when printed");
     }
 }
 
@@ -118,24 +169,6 @@ fn cases() -> &'static str {
      %%s:{}t:|{}|{}%%%%~+"
 }
 
-fn check_verdict(rt: &impl Abort, alloc: Global, bytes: &[u8], expected: &str) -> Result<(), Fail> {
-    assert!(rt; bytes.len() < 10_000);
-    let found = verdict(alloc, bytes)?;
-    assert_eq!(rt; found.as_str(), expected, "at {bytes:?}");
-    Ok(())
-}
-
-#[test]
-fn verdicts(rt: HostRuntime) -> Result<(), Fail> {
-    for case in cases().split('^') {
-        let (bytes, expected) = parts(case)?;
-        check_verdict(&rt, rt.alloc(), bytes.as_bytes(), expected)?;
-    }
-    assert!(rt; cases().split('^').count() == 89);
-    spelled_once();
-    Ok(())
-}
-
 /// An actual behind so many brackets or with so many suffixes.
 fn deep_file(alloc: Global, front: &str, repeated: &str, times: usize, back: &str) -> Vec<u8> {
     let mut bytes = Vec::new(alloc);
@@ -158,23 +191,16 @@ const DEPTHS: &str = "%%\n\n\ns: A~?~999~\n{}\n~+^\
      %%\n%%\n~a(~1001~a~+^\
      %type <t> a~*~1000~%%~1";
 
-fn check_depth(rt: &impl Abort, alloc: Global, case: &str) -> Result<(), Fail> {
-    let (front, rest) = parts(case)?;
-    let (repeated, rest) = parts(rest)?;
-    let (times, rest) = parts(rest)?;
-    let (back, expected) = parts(rest)?;
-    let bytes = deep_file(alloc, front, repeated, times.parse()?, back);
-    let result = check_verdict(rt, alloc, bytes.as_slice(), expected);
+/// Adds the verdict of a file that is made so.
+pub fn put_depth(alloc: Global, text: &mut Vec<u8>, given: &str) {
+    let mut parts = given.split('~');
+    let front = parts.next().unwrap_or("");
+    let repeated = parts.next().unwrap_or("");
+    let times = parts.next().unwrap_or("").parse().unwrap_or(0);
+    let back = parts.next().unwrap_or("");
+    let bytes = deep_file(alloc, front, repeated, times, back);
+    put_verdict(alloc, text, &bytes);
     release(bytes);
-    result
-}
-
-#[test]
-fn depths(rt: HostRuntime) -> Result<(), Fail> {
-    for case in DEPTHS.split('^') {
-        check_depth(&rt, rt.alloc(), case)?;
-    }
-    Ok(())
 }
 
 const FILE: &str =
@@ -188,61 +214,6 @@ const PRINTED: &str = "%token INT \"1\\\"\" %token EOF %token C %start s %start 
     %left INT \"+\" %nonassoc %right C D %on_error_reduce a b ( c , option ( d ) ) %on_error_reduce list ( e ) %% \
     %public s : | INT option ( e ( INT , \"1\" ) ) EOF {} | B %prec \"+\" {} | C %prec INT {} | D {} \
     %public %inline e ( x , y ) : | a ( list ( b ( c ) ) ) nonempty_list ( \"q\" ) {} %inline u : | {} ";
-
-/// What the module of a short file is printed as; nothing where it spells none.
-fn printed(alloc: Global, bytes: &[u8]) -> Result<Vec<u8>, Memory> {
-    if bytes.len() > 10_000 {
-        return Ok(Vec::new(alloc));
-    }
-    match read_module(alloc, bytes) {
-        Ok(module) => {
-            let text = print_module(alloc, &module);
-            release(module);
-            text
-        }
-        Err(_) => Ok(Vec::new(alloc)),
-    }
-}
-
-#[test]
-fn a_module(rt: HostRuntime) -> Result<(), Fail> {
-    check(&rt, printed(rt.alloc(), FILE.as_bytes())?, PRINTED, FILE);
-    Ok(())
-}
-
-/// Whether a file that spells a module is printed as one that spells it, which is then printed alike.
-fn is_kept(alloc: Global, bytes: &[u8]) -> Result<bool, Memory> {
-    let text = printed(alloc, bytes)?;
-    let is_same = !text.is_empty() && is_printed(alloc, text.as_slice());
-    release(text);
-    Ok(is_same)
-}
-
-/// Whether a file is printed as itself.
-fn is_printed(alloc: Global, bytes: &[u8]) -> bool {
-    match printed(alloc, bytes) {
-        Ok(text) => text.as_slice() == bytes,
-        Err(_) => false,
-    }
-}
-
-fn check_kept(rt: &impl Abort, alloc: Global, bytes: &str, expected: &str) -> Result<(), Fail> {
-    let found = is_kept(alloc, bytes.as_bytes())?;
-    assert!(rt; found == (expected == "+"), "at {bytes:?}");
-    Ok(())
-}
-
-#[test]
-fn printed_files(rt: HostRuntime) -> Result<(), Fail> {
-    let mut kept = 0u32;
-    for case in cases().split('^') {
-        let (bytes, expected) = parts(case)?;
-        check_kept(&rt, rt.alloc(), bytes, expected)?;
-        kept = kept.wrapping_add(u32::from(expected == "+"));
-    }
-    assert!(rt; kept == 40);
-    Ok(())
-}
 
 /// Declarations, with `~` before the cost of each token that they declare, `-` where there is none; `^` between cases.
 const COSTS: &str = "%token A [@cost 5] B %%~5 -^\
@@ -262,47 +233,53 @@ const COSTS: &str = "%token A [@cost 5] B %%~5 -^\
      %token <t> A [@cost 9] %token A [@cost 3] %%~9 3^\
      %start [@cost 3] s %token A [@cost 999] %%~999";
 
-fn push_costs(text: &mut String, module: &Module) {
+fn put_costs_of(alloc: Global, text: &mut Vec<u8>, module: &Module) {
     for token in module.tokens.as_slice() {
-        let _ = match token.cost {
-            Some(cost) => write!(text, "{cost} "),
-            None => text.push_str("- "),
-        };
-    }
-}
-
-/// The costs of the tokens of a short file; nothing where it spells no module.
-fn costs_of(alloc: Global, bytes: &[u8]) -> String {
-    let mut text = String::new(alloc);
-    if bytes.len() <= 10_000 {
-        if let Ok(module) = read_module(alloc, bytes) {
-            push_costs(&mut text, &module);
-            release(module);
+        put(text, if text.is_empty() { b"" } else { b" " });
+        match token.cost {
+            Some(cost) => put_number(alloc, text, u64::from(cost)),
+            None => put(text, b"-"),
         }
     }
-    text
 }
 
-fn check_costs(rt: &impl Abort, alloc: Global, bytes: &[u8], expected: &str) {
-    let found = costs_of(alloc, bytes);
-    assert_eq!(rt; found.trim(), expected, "at {bytes:?}");
+/// Adds the costs of the tokens of a short file; nothing where it spells no module.
+pub fn put_costs(alloc: Global, text: &mut Vec<u8>, bytes: &[u8]) {
+    if let Ok(module) = module_of(alloc, bytes) {
+        put_costs_of(alloc, text, &module);
+        release(module);
+    }
 }
 
-/// The costs of a file's tokens are those of what its module is printed as.
-fn check_again(rt: &impl Abort, alloc: Global, bytes: &[u8], expected: &str) -> Result<(), Fail> {
-    let again = printed(alloc, bytes)?;
-    check_costs(rt, alloc, again.as_slice(), expected);
-    release(again);
-    Ok(())
+/// The costs of the tokens of what a file's module is printed as.
+pub fn put_costs_again(alloc: Global, text: &mut Vec<u8>, bytes: &[u8]) {
+    if let Ok(again) = printed(alloc, bytes) {
+        put_costs(alloc, text, &again);
+        release(again);
+    }
+}
+
+/// Of the files 40 spell a module.
+#[test]
+fn verdicts(rt: HostRuntime) -> Result<(), Fail> {
+    spelled_once();
+    assert!(rt; cases().split("~+").count() == 41);
+    check_cases(rt.alloc(), &Subject::Kept, cases(), 89)
 }
 
 #[test]
+fn depths(rt: HostRuntime) -> Result<(), Fail> {
+    check_cases(rt.alloc(), &Subject::Depth, DEPTHS, 9)
+}
+
+#[test]
+fn a_module(rt: HostRuntime) -> Result<(), Fail> {
+    check_answer(rt.alloc(), &Subject::Printed, FILE, PRINTED)
+}
+
+/// The costs of a file's tokens are those of what its module is printed as.
+#[test]
 fn costs(rt: HostRuntime) -> Result<(), Fail> {
-    for case in COSTS.split('^') {
-        let (bytes, expected) = parts(case)?;
-        check_costs(&rt, rt.alloc(), bytes.as_bytes(), expected);
-        check_again(&rt, rt.alloc(), bytes.as_bytes(), expected)?;
-    }
-    assert!(rt; COSTS.split('^').count() == 16);
-    Ok(())
+    check_cases(rt.alloc(), &Subject::Costs, COSTS, 16)?;
+    check_cases(rt.alloc(), &Subject::CostsAgain, COSTS, 16)
 }

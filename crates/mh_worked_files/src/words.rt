@@ -1,16 +1,8 @@
 //! Words, and the orders that they spell by hand.
-use crate::cases::{check, parts, put, release};
+use crate::cases::{Subject, check, check_cases, put, put_number, release};
 use mh_opts::{Job, Order, UsageFault, read_words};
-use std::alloc::{AllocError, Global};
-use std::process::Abort;
+use std::alloc::Global;
 use std::test::Fail;
-
-fn put_number(alloc: Global, text: &mut Vec<u8>, number: u32) {
-    if let Ok(digits) = format!(in alloc; " {number}") {
-        put(text, digits.as_bytes());
-        release(digits);
-    }
-}
 
 /// Adds the job with its number, what is on, and each file behind a colon.
 fn put_order(alloc: Global, text: &mut Vec<u8>, order: &Order) {
@@ -31,7 +23,8 @@ fn put_order(alloc: Global, text: &mut Vec<u8>, order: &Order) {
         },
     );
     if let Job::Sample { number } = order.job {
-        put_number(alloc, text, number);
+        put(text, b" ");
+        put_number(alloc, text, u64::from(number));
     }
     put(text, if order.canonical { b" canonical" } else { b"" });
     put(text, if order.strict { b" strict" } else { b"" });
@@ -58,20 +51,18 @@ fn put_fault(text: &mut Vec<u8>, fault: &UsageFault) {
     );
 }
 
-/// What the words come to.
-fn answer(alloc: Global, words: &[String]) -> Vec<u8> {
-    let mut text = Vec::new(alloc);
+/// Adds what the words come to.
+fn put_read(alloc: Global, text: &mut Vec<u8>, words: &[String]) {
     match read_words(alloc, words) {
         Ok(order) => {
-            put_order(alloc, &mut text, &order);
+            put_order(alloc, text, &order);
             release(order);
         }
         Err(fault) => {
-            put_fault(&mut text, &fault);
+            put_fault(text, &fault);
             release(fault);
         }
     }
-    text
 }
 
 /// Words with spaces between them, and what they come to behind a `~`; `^` between cases.
@@ -132,39 +123,27 @@ const CASES: &str = "--interpret g.mly~interpret :g.mly^\
     -h~bad words^\
     --version~bad words";
 
-fn push_words(alloc: Global, words: &mut Vec<String>, line: &str) -> Result<(), AllocError> {
-    for word in line.split(' ') {
-        words.push(String::from_str(alloc, word)?)?;
+/// Adds a word. Words that find no memory lack it, and do not come to what is wanted.
+fn push_word(alloc: Global, words: &mut Vec<String>, word: &str) {
+    if let Ok(word) = String::from_str(alloc, word) {
+        let _ = words.push(word);
     }
-    Ok(())
 }
 
-/// What a line of words comes to.
-fn answer_of(alloc: Global, line: &str) -> Result<Vec<u8>, AllocError> {
+/// Adds what a line of words comes to.
+pub fn put_words(alloc: Global, text: &mut Vec<u8>, line: &str) {
     let mut words = Vec::new(alloc);
-    let pushed = push_words(alloc, &mut words, line);
-    let text = answer(alloc, words.as_slice());
-    release(words);
-    match pushed {
-        Ok(()) => Ok(text),
-        Err(fault) => {
-            release(text);
-            Err(fault)
-        }
+    for word in line.split(' ') {
+        push_word(alloc, &mut words, word);
     }
-}
-
-fn check_case(rt: &impl Abort, alloc: Global, case: &str) -> Result<(), Fail> {
-    let (line, expected) = parts(case)?;
-    check(rt, answer_of(alloc, line)?, expected, line);
-    Ok(())
+    put_read(alloc, text, &words);
+    release(words);
 }
 
 #[test]
 fn cases(rt: HostRuntime) -> Result<(), Fail> {
-    for case in CASES.split('^') {
-        check_case(&rt, rt.alloc(), case)?;
-    }
-    check(&rt, answer(rt.alloc(), &[]), "no mode", "");
-    Ok(())
+    check_cases(rt.alloc(), &Subject::Words, CASES, 56)?;
+    let mut text = Vec::new(rt.alloc());
+    put_read(rt.alloc(), &mut text, &[]);
+    check(rt.alloc(), text, "no mode", "")
 }
