@@ -40,10 +40,11 @@ pub fn write_conflict(
     ensures { OnOk result (text.new.items ≡ text.old.items
         ++ conflict_line is_solved state name.now) }
 {
-    if !is_solved {
-        write_look(alloc, text, state, name)?;
+    if is_solved {
+        Ok(())
+    } else {
+        write_look(alloc, text, state, name)
     }
-    Ok(())
 }
 
 /// A line for an end-of-stream conflict in a state.
