@@ -3,9 +3,9 @@ use Rattle.std.proofs.Common.{◌≡◌, ◌<◌, ◌+◌, ◌++◌, ◌∷◌, 
 use Rattle.std.proofs.lemmas.List.{append-nil, get_or_default, map-append, take_at, take_more}
 use Rattle.std.proofs.lemmas.List.Edits.{map_over_more}
 use Rattle.mh_rules.specs.declared.joined.Prec.TheVariants.{Absent}
-use Rattle.mh_cycles.specs.declared.unfolding.Unfolding.{Unfolding}
-use Rattle.mh_cycles.specs.Unfoldings.{choices, joined, own}
-use Rattle.mh_cycles.proofs.Choices.{choices-one_right}
+use Rattle.mh_producers.specs.declared.unfolding.Unfolding.{Unfolding}
+use Rattle.mh_producers.specs.Unfoldings.{choices, joined, own}
+use Rattle.mh_producers.proofs.Choices.{choices-one_right}
 
 -- those before a place were changed: with the one at the place, those before the next
 pub each_more : (f : Unfolding → Unfolding) (xs ys : List Unfolding) (i : ℕ) (d : Unfolding) → i < length ys → i < length xs → ys ≡ map f (take i xs) ++ drop i xs → set ys i (f (get_or ys i d)) ≡ map f (take (i + 1) xs) ++ drop (i + 1) xs

@@ -1,9 +1,9 @@
 //! Lists of unfoldings: each with each of another list, in order, and each with the `%prec` of what it is inlined into.
 ghost use Rattle.std.specs.Prelude.{◌≡◌, ◌++◌, ◌∷◌, [], map, IfOk, OnOk};
-ghost use Rattle.mh_cycles.specs.Unfoldings.{choices, joined, nothing, only, own, rightmost};
+ghost use Rattle.mh_producers.specs.Unfoldings.{choices, joined, nothing, only, own, rightmost};
 
-use mh_cycles::{Ends, Unfolding};
 use mh_grammar::Memory;
+use mh_producers::{Ends, Unfolding};
 use mh_rules::{Part, Prec};
 use std::alloc::Global;
 

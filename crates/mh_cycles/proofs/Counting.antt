@@ -8,15 +8,15 @@ use Rattle.mh_rules.specs.declared.instances.Part.{Part}
 use Rattle.mh_rules.specs.declared.instances.Part.TheVariants.{Instance as Applied}
 use Rattle.mh_rules.specs.declared.instances.InstanceProduction.{InstanceProduction}
 use Rattle.mh_rules.specs.declared.instances.Instance.{Instance}
-use Rattle.mh_cycles.specs.declared.sizes.Size.{Size}
-use Rattle.mh_cycles.specs.Instances.{inline_number, is_inlined, IsKept}
-use Rattle.mh_cycles.specs.Unfoldings as unfoldings
-use Rattle.mh_cycles.specs.Unfoldings.{only, own, nothing, choices}
-use Rattle.mh_cycles.specs.Sizes.{IsPartSize, IsSideSize, IsEachSize, IsBlocked, AreSizes, AreSized, AreEachSized}
+use Rattle.mh_producers.specs.declared.sizes.Size.{Size}
+use Rattle.mh_producers.specs.Instances.{inline_number, is_inlined, IsKept}
+use Rattle.mh_producers.specs.Unfoldings as unfoldings
+use Rattle.mh_producers.specs.Unfoldings.{only, own, nothing, choices}
+use Rattle.mh_producers.specs.Sizes.{IsPartSize, IsSideSize, IsEachSize, IsBlocked, AreSizes, AreSized, AreEachSized}
 use Rattle.mh_grammar.proofs.Placing.{get_cases}
-use Rattle.mh_cycles.proofs.Choices.{Unfolds-push, UnfoldsEach-push}
-use Rattle.mh_cycles.proofs.Same.{length-choices, longest-choices, longest-append, longest-own, times_some}
-use Rattle.mh_cycles.proofs.Producers.{inline_some, inline_none}
+use Rattle.mh_producers.proofs.Choices.{Unfolds-push, UnfoldsEach-push}
+use Rattle.mh_producers.proofs.Same.{length-choices, longest-choices, longest-append, longest-own, times_some}
+use Rattle.mh_producers.proofs.Producers.{inline_some, inline_none}
 
 min_times : (m a b : ℕ) → min (min a m * min b m) m ≡ min (a * b) m
 min_times m a b = elim (cases_lt 0 m) [

@@ -13,15 +13,16 @@ use Rattle.mh_rules.specs.declared.instances.Part.TheVariants.{Instance as Appli
 use Rattle.mh_rules.specs.declared.instances.InstanceProduction.{InstanceProduction}
 use Rattle.mh_rules.specs.declared.instances.Instance.{Instance}
 use Rattle.mh_cycles.specs.declared.cycles.Found.{Found}
-use Rattle.mh_cycles.specs.declared.unfolding.Unfolding.{Unfolding}
-use Rattle.mh_cycles.specs.declared.sizes.Size.{Size}
-use Rattle.mh_cycles.specs.Instances.{is_inlined, Inlines, Reaches}
-use Rattle.mh_cycles.specs.Instances as instances
-use Rattle.mh_cycles.specs.Unfoldings as unfoldings
-use Rattle.mh_cycles.specs.Unfoldings.{UnfoldsPart, Unfolds, UnfoldsEach}
-use Rattle.mh_cycles.specs.Sizes.{AreSettled, AreSizes, AreAllSized}
-use Rattle.mh_cycles.specs.Found.{IsMadeOf, Adds, IsTable}
-use Rattle.mh_cycles.proofs.Producers.{inline_instance}
+use Rattle.mh_producers.specs.declared.unfolding.Unfolding.{Unfolding}
+use Rattle.mh_producers.specs.declared.sizes.Size.{Size}
+use Rattle.mh_producers.specs.Instances.{is_inlined, Inlines, Reaches}
+use Rattle.mh_producers.specs.Instances as instances
+use Rattle.mh_producers.specs.Unfoldings as unfoldings
+use Rattle.mh_producers.specs.Unfoldings.{UnfoldsPart, Unfolds, UnfoldsEach}
+use Rattle.mh_producers.specs.Sizes.{AreSettled, AreSizes, AreAllSized}
+use Rattle.mh_producers.specs.MadeOf.{IsMadeOf}
+use Rattle.mh_cycles.specs.Found.{Adds, IsTable}
+use Rattle.mh_producers.proofs.Producers.{inline_instance}
 use Rattle.mh_cycles.proofs.Finding.{kept_contains}
 
 -- the numbers below n

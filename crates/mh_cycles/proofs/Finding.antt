@@ -11,9 +11,12 @@ use Rattle.mh_rules.specs.declared.instances.Part.{Part}
 use Rattle.mh_rules.specs.declared.instances.InstanceProduction.{InstanceProduction}
 use Rattle.mh_rules.specs.declared.instances.Instance.{Instance}
 use Rattle.mh_cycles.specs.declared.cycles.Found.{Found}
-use Rattle.mh_cycles.specs.Instances.{inline_number}
-use Rattle.mh_cycles.specs.Found.{IsAmong, IsIn, IsMadeOf, AreQueued, Adds, IsTable, IsSame}
-use Rattle.mh_cycles.proofs.Among.{among_one, one_among, kept_none, among_cases, among_front, among_last, in_cases, in_front, in_last, made_in, in_made}
+use Rattle.mh_producers.specs.Instances.{inline_number}
+use Rattle.mh_producers.specs.MadeOf.{IsAmong}
+use Rattle.mh_producers.specs.MadeOf.{IsIn}
+use Rattle.mh_producers.specs.MadeOf.{IsMadeOf}
+use Rattle.mh_cycles.specs.Found.{AreQueued, Adds, IsTable, IsSame}
+use Rattle.mh_producers.proofs.Among.{among_one, one_among, kept_none, among_cases, among_front, among_last, in_cases, in_front, in_last, made_in, in_made}
 
 pub Adds-none : (P : ℕ → Type 0) (f : Found) → AreQueued f → ((m : ℕ) → P m → ⊥) → Adds P f f
 Adds-none P f q none = record { len = refl; sets = q; room = refl; kept = λ i m e. e; origin = λ m c. inl c; added = λ m p. absurd (none m p) }

@@ -1,10 +1,5 @@
-pub mod Among
-pub mod Choices
 pub mod Counting
 pub mod Cycling
 pub mod Finding
-pub mod Listed
 pub mod Ordering
-pub mod Producers
 pub mod Ranked
-pub mod Same

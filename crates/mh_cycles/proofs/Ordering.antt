@@ -8,11 +8,11 @@ use Rattle.std.proofs.lemmas.Option.{same_Some, none-some, slice_get_within}
 use Rattle.mh_grammar.proofs.Lists.{get_cases, set_here, set_elsewhere}
 use Rattle.mh_rules.specs.declared.instances.Part.TheVariants.{Instance as Applied}
 use Rattle.mh_rules.specs.declared.instances.Instance.{Instance}
-use Rattle.mh_cycles.specs.declared.sizes.Size.{Size}
-use Rattle.mh_cycles.specs.Instances.{is_inlined}
-use Rattle.mh_cycles.specs.Unfoldings as unfoldings
-use Rattle.mh_cycles.specs.Sizes.{IsPartSize, IsEachSize, AreEachSized, IsEachBlocked, AreOrdered, IsOrdered, IsSettled}
-use Rattle.mh_cycles.proofs.Same.{AreSome}
+use Rattle.mh_producers.specs.declared.sizes.Size.{Size}
+use Rattle.mh_producers.specs.Instances.{is_inlined}
+use Rattle.mh_producers.specs.Unfoldings as unfoldings
+use Rattle.mh_producers.specs.Sizes.{IsPartSize, IsEachSize, AreEachSized, IsEachBlocked, AreOrdered, IsOrdered, IsSettled}
+use Rattle.mh_producers.proofs.Same.{AreSome}
 
 module _ (is : List Instance) (h : AreSome is) (sizes : List (Option Size)) (order : List ℕ) (s : AreOrdered is sizes order) where
   module _ (n : ℕ) (i : Instance) (z : Size) (at : slice_get is n ≡ Some i) (inline : is_inlined is n ≡ true) (open_ : slice_get sizes n ≡ Some None) (size : IsEachSize is i.productions z) (sized : AreEachSized is sizes i.productions) where

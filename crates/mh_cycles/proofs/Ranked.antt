@@ -5,11 +5,11 @@ use Rattle.std.specs.List.{All, Contains}
 use Rattle.std.proofs.lemmas.Bool.{false≢true}
 use Rattle.std.proofs.lemmas.List.Elements.{All-contains}
 use Rattle.mh_rules.specs.declared.instances.Instance.{Instance}
-use Rattle.mh_cycles.specs.Instances.{is_inlined, Inlines, Reaches}
-use Rattle.mh_cycles.specs.Instances.Reaches.{one, more}
-use Rattle.mh_cycles.specs.Found.{IsMadeOf}
+use Rattle.mh_producers.specs.Instances.{is_inlined, Inlines, Reaches}
+use Rattle.mh_producers.specs.Instances.Reaches.{one, more}
+use Rattle.mh_producers.specs.MadeOf.{IsMadeOf}
 use Rattle.mh_cycles.specs.Ranks.{IsRanked, AreRanked, IsAbove}
-use Rattle.mh_cycles.proofs.Producers.{inline_instance}
+use Rattle.mh_producers.proofs.Producers.{inline_instance}
 
 module _ (is : List Instance) (ranks : List ℕ) where
   made_by : (n m : ℕ) → Inlines is n m → IsMadeOf is n m

@@ -1,7 +1,7 @@
 -- Inline instances that reach themselves.
 use Rattle.std.specs.Prelude.{◌<◌, ℕ}
 use Rattle.mh_rules.specs.declared.instances.Expanded.{Expanded}
-use Rattle.mh_cycles.specs.Instances.{Reaches}
+use Rattle.mh_producers.specs.Instances.{Reaches}
 
 -- an inline instance reaches itself through inline instances
 abbrev pub IsCyclic : Expanded → ℕ → Type 0

@@ -1,8 +1,8 @@
 -- Ranks of instances.
 use Rattle.std.specs.Prelude.{◌<◌, ◌≤◌, ℕ, List, slice_index_or}
 use Rattle.mh_rules.specs.declared.instances.Instance.{Instance}
-use Rattle.mh_cycles.specs.Instances.{Inlines}
-use Rattle.mh_cycles.specs.Found.{IsMadeOf}
+use Rattle.mh_producers.specs.Instances.{Inlines}
+use Rattle.mh_producers.specs.MadeOf.{IsMadeOf}
 
 -- what an inline instance is made of has no higher rank
 pub record IsRanked (is : List Instance) (ranks : List ℕ) (n : ℕ) : Type 0 where

@@ -1,15 +1,17 @@
 //! Inline instances that reach themselves.
 ghost use Rattle.std.specs.Prelude.{◌≡◌, ◌<◌, ◌↔◌, ◌∷◌, [], true, false, length, replicate, IfNone, IfOk, OnOk, IsTrue, MatchOption};
-ghost use Rattle.mh_cycles.specs.Instances.{is_inlined, Reaches};
+ghost use Rattle.mh_producers.specs.Instances.{is_inlined, Reaches};
 ghost use Rattle.mh_cycles.specs.Cycles.{HasNoCycle, IsFirstCyclicAt};
-ghost use Rattle.mh_cycles.specs.Found.{Adds, AreQueued, IsAmong, IsIn, IsMadeOf, IsSame, IsTable};
+ghost use Rattle.mh_producers.specs.MadeOf.{IsAmong};
+ghost use Rattle.mh_producers.specs.MadeOf.{IsIn};
+ghost use Rattle.mh_producers.specs.MadeOf.{IsMadeOf};
+ghost use Rattle.mh_cycles.specs.Found.{Adds, AreQueued, IsSame, IsTable};
 ghost use Rattle.mh_cycles.specs.Ranks.{AreRanked};
-ghost use Rattle.mh_cycles.specs.Sizes.{AreAllSized, AreSettled, IsSizing};
+ghost use Rattle.mh_producers.specs.Sizes.{AreAllSized, AreSettled, IsSizing};
 
-use crate::instances::{inline_part, is_inline};
 use crate::ranks::{are_ranked, is_on_no_cycle};
-use crate::sizes::Sizing;
 use mh_grammar::Memory;
+use mh_producers::{Sizing, inline_part, is_inline};
 use mh_rules::{Expanded, InstanceProduction, Part};
 use std::alloc::Global;
 

@@ -5,8 +5,8 @@ ghost use Rattle.std.specs.Prelude.{◌<◌, length, IfOk, OnOk};
 ghost use Rattle.std.specs.List.{All};
 ghost use Rattle.mh_cycles.specs.Searching.{IsSearch, IsVisitBelow};
 
-use crate::inlined::inlined_in;
 use mh_grammar::Memory;
+use mh_producers::inlined_in;
 use mh_rules::{Expanded, InstanceProduction};
 use std::alloc::Global;
 

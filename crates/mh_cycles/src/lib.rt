@@ -4,19 +4,13 @@
 
 mod cycles;
 mod depth;
-mod ends;
-mod inlined;
-mod instances;
 mod ranks;
 mod sizes;
-mod unfolding;
 
 pub use cycles::first_cyclic;
 pub use depth::{Search, depth_first};
-pub use ends::Ends;
-pub use inlined::inlined_in;
-pub use instances::{inline_part, is_inline};
-pub use sizes::{
-    MAX_PRODUCTIONS, MAX_SYMBOLS, Size, Sizing, inline_sizes, is_small, plus, size_of_side,
+pub use mh_producers::{
+    Ends, MAX_PRODUCTIONS, MAX_SYMBOLS, Size, Sizing, Unfolding, inline_part, inlined_in,
+    is_inline, is_small, plus,
 };
-pub use unfolding::Unfolding;
+pub use sizes::{inline_sizes, size_of_side};

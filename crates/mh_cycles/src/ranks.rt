@@ -1,12 +1,11 @@
 //! Ranks of instances: what an inline instance is made of has no higher rank, and a lower one where it lies on no cycle with it.
 ghost use Rattle.std.specs.Prelude.{◌≡◌, ◌<◌, length, slice_index_or, IfOk, IsTrue};
 ghost use Rattle.std.specs.List.{All};
-ghost use Rattle.mh_cycles.specs.Instances.{Reaches};
+ghost use Rattle.mh_producers.specs.Instances.{Reaches};
 ghost use Rattle.mh_cycles.specs.Ranks.{AreRanked, IsAbove, IsRanked};
 
-use crate::inlined::inlined_in;
-use crate::instances::is_inline;
 use mh_grammar::Memory;
+use mh_producers::{inlined_in, is_inline};
 use mh_rules::Expanded;
 use std::alloc::Global;
 

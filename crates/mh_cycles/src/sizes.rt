@@ -1,33 +1,13 @@
 //! How many unfoldings there are, and how long they are, without making them: there may be exponentially many.
-ghost use Rattle.std.specs.Prelude.{◌≡◌, ◌+◌, ◌*◌, ◌<◌, ◌↔◌, [], ◌∷◌, false, min, max, length, IfOk, OnOk, OnSome, IsTrue, MatchOption};
+ghost use Rattle.std.specs.Prelude.{◌≡◌, ◌+◌, ◌*◌, ◌<◌, ◌↔◌, [], ◌∷◌, false, min, length, IfOk, OnOk, OnSome, IsTrue, MatchOption};
 ghost use Rattle.std.specs.List.{All};
 ghost use Rattle.mh_rules.specs.Ready.{IsExpandedReady};
-ghost use Rattle.mh_cycles.specs.Sizes.{AreEachSized, AreSettled, AreSized, AreSizes, IsBlocked, IsEachBlocked, IsEachSize, IsPartSize, IsSettled, IsSideSize, IsSizing, IsWithin, unsized_count};
+ghost use Rattle.mh_producers.specs.Sizes.{AreEachSized, AreSettled, AreSized, AreSizes, IsBlocked, IsEachBlocked, IsEachSize, IsPartSize, IsSettled, IsSideSize, IsSizing, unsized_count};
 
-use crate::instances::{inline_part, is_inline};
 use mh_grammar::Memory;
+use mh_producers::{MAX_PRODUCTIONS, MAX_SYMBOLS, Size, Sizing, inline_part, is_inline, plus};
 use mh_rules::{Expanded, InstanceProduction, Part};
 use std::alloc::Global;
-
-/// The most productions that a grammar may have.
-pub const MAX_PRODUCTIONS: u64 = 20_000;
-
-/// The most symbols that the right side of a production may have.
-pub const MAX_SYMBOLS: u64 = 10_000;
-
-/// How many unfoldings there are, and how long the longest is, both at most one more than the limit.
-#[derive(Clone, Copy)]
-pub struct Size {
-    pub count: u64,
-    pub longest: u64,
-}
-
-/// The sizes of the inline instances that are known, and these instances, each behind those that it is made of.
-#[derive(Drop)]
-pub struct Sizing {
-    pub sizes: Vec<Option<Size>>,
-    pub order: Vec<u32>,
-}
 
 fn times(left: Size, right: Size) -> Size
     ensures count { result.count ≡ min (left.count * right.count) (MAX_PRODUCTIONS + 1) }
@@ -42,28 +22,6 @@ fn times(left: Size, right: Size) -> Size
             .longest
             .saturating_add(right.longest)
             .min(MAX_SYMBOLS + 1),
-    }
-}
-
-pub fn plus(left: Size, right: Size) -> Size
-    ensures count { result.count ≡ min (left.count + right.count) (MAX_PRODUCTIONS + 1) }
-    ensures longest { result.longest ≡ max left.longest right.longest }
-{
-    Size {
-        count: left
-            .count
-            .saturating_add(right.count)
-            .min(MAX_PRODUCTIONS + 1),
-        longest: left.longest.max(right.longest),
-    }
-}
-
-pub fn is_small(size: Option<Size>) -> bool
-    ensures { IsTrue result ↔ IsWithin size }
-{
-    match size {
-        Some(size) => size.count <= MAX_PRODUCTIONS && size.longest <= MAX_SYMBOLS,
-        None => false,
     }
 }
 

@@ -15,7 +15,7 @@ use Rattle.mh_rules.specs.declared.instances.InstanceProduction.{InstanceProduct
 use Rattle.mh_rules.specs.declared.instances.Instance.{Instance}
 use Rattle.mh_inline.specs.declared.origins.Origin.{Origin}
 use Rattle.mh_inline.specs.contracts.origins.OriginOrd.TheImpl as order
-use Rattle.mh_cycles.specs.Instances.{is_inlined}
+use Rattle.mh_producers.specs.Instances.{is_inlined}
 use Rattle.mh_inline.specs.Inlined.{rank_of, IsOrigin, IsOriginBefore, AreOrigins}
 use Rattle.mh_inline.specs.Making.{IsBelow, AreOriginsBelow}
 

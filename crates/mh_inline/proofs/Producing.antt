@@ -13,14 +13,14 @@ use Rattle.mh_rules.specs.declared.instances.Part.TheVariants.{Token, Instance a
 use Rattle.mh_rules.specs.declared.instances.InstanceProduction.{InstanceProduction}
 use Rattle.mh_rules.specs.declared.instances.Instance.{Instance}
 use Rattle.mh_rules.specs.declared.instances.Expanded.{Expanded}
-use Rattle.mh_cycles.specs.declared.unfolding.Unfolding.{Unfolding}
+use Rattle.mh_producers.specs.declared.unfolding.Unfolding.{Unfolding}
 use Rattle.mh_inline.specs.declared.origins.Origin.{Origin}
-use Rattle.mh_cycles.specs.declared.sizes.Size.{Size}
-use Rattle.mh_cycles.specs.Instances.{IsAlternative, IsKept}
+use Rattle.mh_producers.specs.declared.sizes.Size.{Size}
+use Rattle.mh_producers.specs.Instances.{IsAlternative, IsKept}
 use Rattle.mh_rules.specs.Ready.{IsPartBelow, IsInstanceReady, IsExpandedReady}
-use Rattle.mh_cycles.specs.Unfoldings as unfoldings
-use Rattle.mh_cycles.specs.Unfoldings.{only, own, joined, choices, UnfoldsPart, Unfolds, UnfoldsEach}
-use Rattle.mh_cycles.specs.Sizes.{longest, IsSideSize, IsBlocked, AreAllSized}
+use Rattle.mh_producers.specs.Unfoldings as unfoldings
+use Rattle.mh_producers.specs.Unfoldings.{only, own, joined, choices, UnfoldsPart, Unfolds, UnfoldsEach}
+use Rattle.mh_producers.specs.Sizes.{longest, IsSideSize, IsBlocked, AreAllSized}
 use Rattle.mh_inline.specs.Inlined as inlined
 use Rattle.mh_inline.specs.Inlined.{symbol_of, last_token, production_of, AreProductions}
 use Rattle.mh_inline.specs.Making.{symbol_by, production_by, token_else, longest_side, AreNumbers, AddsOrigin, IsOriginsSize, IsUnfoldingBelow}

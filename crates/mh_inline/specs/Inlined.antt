@@ -17,11 +17,11 @@ use Rattle.mh_rules.specs.declared.instances.Part.TheVariants.{Token, Instance a
 use Rattle.mh_rules.specs.declared.instances.InstanceProduction.{InstanceProduction}
 use Rattle.mh_rules.specs.declared.instances.Instance.{Instance}
 use Rattle.mh_rules.specs.declared.instances.Expanded.{Expanded}
-use Rattle.mh_cycles.specs.declared.unfolding.Unfolding.{Unfolding}
+use Rattle.mh_producers.specs.declared.unfolding.Unfolding.{Unfolding}
 use Rattle.mh_inline.specs.declared.origins.Origin.{Origin}
 pub use Rattle.mh_choices.specs.Ranks.{rank_of}
-use Rattle.mh_cycles.specs.Instances.{is_inlined, IsAlternative}
-use Rattle.mh_cycles.specs.Unfoldings.{own, Unfolds}
+use Rattle.mh_producers.specs.Instances.{is_inlined, IsAlternative}
+use Rattle.mh_producers.specs.Unfoldings.{own, Unfolds}
 
 -- the nonterminals are the instances that are not inline, in order
 abbrev pub is_kept : Instance → Bool

@@ -1,14 +1,14 @@
 //! The alternatives of the instances that are not inline, in the order of their productions.
 ghost use Rattle.std.specs.Prelude.{◌≡◌, ◌+◌, ◌<◌, ◌≤◌, false, length, IfOk, OnOk};
-ghost use Rattle.mh_cycles.specs.Instances.{is_inlined};
+ghost use Rattle.mh_producers.specs.Instances.{is_inlined};
 ghost use Rattle.mh_rules.specs.declared.instances.TheConstants.{MAX_INSTANCES};
 ghost use Rattle.mh_rules.specs.Ready.{IsExpandedReady};
 ghost use Rattle.mh_inline.specs.Inlined.{rank_of, AreOrigins};
 ghost use Rattle.mh_inline.specs.Making.{AreOriginsBelow};
 
 use mh_choices::rank;
-use mh_cycles::is_inline;
 use mh_grammar::Memory;
+use mh_producers::is_inline;
 use mh_rules::{Expanded, InstanceProduction};
 use std::alloc::{AllocError, Global};
 use std::collections::BTreeSet;

@@ -2,18 +2,19 @@
 ghost use Rattle.std.specs.Prelude.{◌≡◌, ◌+◌, ◌++◌, length, map, IfOk, OnOk};
 ghost use Rattle.std.specs.List.{All};
 ghost use Rattle.mh_grammar.specs.declared.types.TheConstants.{MAX_NUMBERED};
-ghost use Rattle.mh_cycles.specs.Instances.{IsAlternative};
+ghost use Rattle.mh_producers.specs.Instances.{IsAlternative};
 ghost use Rattle.mh_rules.specs.Ready.{IsExpandedReady};
-ghost use Rattle.mh_cycles.specs.Unfoldings.{own};
-ghost use Rattle.mh_cycles.specs.Sizes.{AreAllSized, IsSizing};
+ghost use Rattle.mh_producers.specs.Unfoldings.{own};
+ghost use Rattle.mh_producers.specs.Sizes.{AreAllSized, IsSizing};
 ghost use Rattle.mh_inline.specs.Inlined.{last_token, level_of, token_level, AreProductions, IsOrigin};
 ghost use Rattle.mh_inline.specs.Making.{production_by, token_else, AddsOrigin, AreNumbers, IsOriginKnown, IsOriginsSize, IsUnfoldingBelow};
 
 use crate::nonterminals::symbols;
 use crate::origins::Origin;
 use mh_choices::rightmost_prec;
-use mh_cycles::{Size, Sizing, Unfolding, plus, size_of_side};
+use mh_cycles::size_of_side;
 use mh_grammar::{Level, Memory, Production, Sequence, Token, TokenInfo};
+use mh_producers::{Size, Sizing, Unfolding, plus};
 use mh_rules::{Expanded, InstanceProduction, Part, Prec};
 use mh_unfoldings::unfold_side;
 use std::alloc::Global;

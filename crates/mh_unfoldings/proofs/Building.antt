@@ -6,16 +6,16 @@ use Rattle.std.proofs.lemmas.Option.{same_Some, none-some}
 use Rattle.mh_rules.specs.declared.instances.Part.TheVariants.{Instance as Applied}
 use Rattle.mh_rules.specs.declared.instances.Instance.{Instance}
 use Rattle.mh_grammar.proofs.Placing.{at_contains}
-use Rattle.mh_cycles.specs.declared.unfolding.Unfolding.{Unfolding}
-use Rattle.mh_cycles.specs.declared.sizes.Size.{Size}
-use Rattle.mh_cycles.specs.declared.sizes.Sizing.{Sizing}
-use Rattle.mh_cycles.specs.Instances.{is_inlined, Inlines}
-use Rattle.mh_cycles.specs.Unfoldings as unfoldings
-use Rattle.mh_cycles.specs.Unfoldings.{UnfoldsPart, UnfoldsEach}
-use Rattle.mh_cycles.specs.Sizes.{IsSize, IsSizing, AreSmall}
+use Rattle.mh_producers.specs.declared.unfolding.Unfolding.{Unfolding}
+use Rattle.mh_producers.specs.declared.sizes.Size.{Size}
+use Rattle.mh_producers.specs.declared.sizes.Sizing.{Sizing}
+use Rattle.mh_producers.specs.Instances.{is_inlined, Inlines}
+use Rattle.mh_producers.specs.Unfoldings as unfoldings
+use Rattle.mh_producers.specs.Unfoldings.{UnfoldsPart, UnfoldsEach}
+use Rattle.mh_producers.specs.Sizes.{IsSize, IsSizing, AreSmall}
 use Rattle.mh_unfoldings.specs.Known.{AreEachKnown, IsNext}
 use Rattle.mh_unfoldings.specs.Uses.{AreLast, KnowsNeeded}
-use Rattle.mh_cycles.proofs.Same.{AreSome, small_part, small_alternative}
+use Rattle.mh_producers.proofs.Same.{AreSome, small_part, small_alternative}
 
 pub small_size : (us : List Unfolding) (s : Size) → IsSize us s → s.count ≤ 20000 → s.longest ≤ 10000 → AreSmall us
 small_size us s z k l = let e = z.count in let f = z.longest in record { few = omega arith; short = omega arith }

@@ -3,16 +3,16 @@ use Rattle.std.proofs.Common.{◌≡◌, ℕ, zero, suc, ◌+◌, ◌<◌, true,
 use Rattle.std.specs.List.{slice_get}
 use Rattle.std.proofs.lemmas.Option.{none-some, slice_get-get_or, get_or_from_slice_get}
 use Rattle.std.proofs.lemmas.List.{take_more}
-use Rattle.mh_cycles.proofs.Producers.{inline_some, inline_none}
-use Rattle.mh_cycles.proofs.Choices.{Unfolds-push, UnfoldsEach-push}
+use Rattle.mh_producers.proofs.Producers.{inline_some, inline_none}
+use Rattle.mh_producers.proofs.Choices.{Unfolds-push, UnfoldsEach-push}
 use Rattle.mh_rules.specs.declared.instances.Part.{Part}
 use Rattle.mh_rules.specs.declared.instances.Part.TheVariants.{Instance as Applied}
 use Rattle.mh_rules.specs.declared.instances.InstanceProduction.{InstanceProduction}
 use Rattle.mh_rules.specs.declared.instances.Instance.{Instance}
-use Rattle.mh_cycles.specs.declared.unfolding.Unfolding.{Unfolding}
-use Rattle.mh_cycles.specs.Instances.{is_inlined, inline_number}
-use Rattle.mh_cycles.specs.Unfoldings as unfoldings
-use Rattle.mh_cycles.specs.Unfoldings.{only, own, choices, UnfoldsPart, Unfolds, UnfoldsEach}
+use Rattle.mh_producers.specs.declared.unfolding.Unfolding.{Unfolding}
+use Rattle.mh_producers.specs.Instances.{is_inlined, inline_number}
+use Rattle.mh_producers.specs.Unfoldings as unfoldings
+use Rattle.mh_producers.specs.Unfoldings.{only, own, choices, UnfoldsPart, Unfolds, UnfoldsEach}
 use Rattle.mh_unfoldings.specs.Known.{IsKnown, AreKnown, Extends}
 
 module _ (is : List Instance) (known : List (List Unfolding)) where

@@ -9,14 +9,14 @@ use Rattle.std.proofs.lemmas.Option.{same_Some, slice_get_within, slice_get-get_
 use Rattle.mh_grammar.proofs.Lists.{contains_none, set_here, set_elsewhere}
 use Rattle.mh_rules.specs.declared.instances.Part.TheVariants.{Instance as Applied}
 use Rattle.mh_rules.specs.declared.instances.Instance.{Instance}
-use Rattle.mh_cycles.specs.declared.unfolding.Unfolding.{Unfolding}
-use Rattle.mh_cycles.specs.declared.sizes.Sizing.{Sizing}
-use Rattle.mh_cycles.specs.Instances.{is_inlined}
-use Rattle.mh_cycles.specs.Unfoldings.{UnfoldsPart}
-use Rattle.mh_cycles.specs.Sizes.{AreSmall, IsSizing}
-use Rattle.mh_cycles.specs.Found.{IsMadeOf}
+use Rattle.mh_producers.specs.declared.unfolding.Unfolding.{Unfolding}
+use Rattle.mh_producers.specs.declared.sizes.Sizing.{Sizing}
+use Rattle.mh_producers.specs.Instances.{is_inlined}
+use Rattle.mh_producers.specs.Unfoldings.{UnfoldsPart}
+use Rattle.mh_producers.specs.Sizes.{AreSmall, IsSizing}
+use Rattle.mh_producers.specs.MadeOf.{IsMadeOf}
 use Rattle.mh_unfoldings.specs.Uses.{IsPartOfKept, PutsOff, AreLast, Forgets, KnowsNeeded, KnowsUsed}
-use Rattle.mh_cycles.proofs.Producers.{inline_instance}
+use Rattle.mh_producers.proofs.Producers.{inline_instance}
 
 -- what stands in the order of sizes is an instance
 pub ordered_within : (is : List Instance) (s : Sizing) → IsSizing is s → (k n : ℕ) → slice_get s.order.items k ≡ Some n → n < length is

@@ -12,16 +12,16 @@ use Rattle.mh_rules.specs.declared.instances.Part.TheVariants.{Instance as Appli
 use Rattle.mh_rules.specs.declared.instances.InstanceProduction.{InstanceProduction}
 use Rattle.mh_rules.specs.declared.instances.Instance.{Instance}
 use Rattle.mh_unfoldings.specs.declared.moving.LastUse.{LastUse}
-use Rattle.mh_cycles.specs.declared.unfolding.Unfolding.{Unfolding}
-use Rattle.mh_cycles.specs.Instances.{is_inlined}
+use Rattle.mh_producers.specs.declared.unfolding.Unfolding.{Unfolding}
+use Rattle.mh_producers.specs.Instances.{is_inlined}
 use Rattle.mh_unfoldings.specs.LastUse.{IsCandidate, IsLastIn, IsLastOf, IsLastUse, MayLack}
-use Rattle.mh_cycles.specs.Unfoldings as unfoldings
-use Rattle.mh_cycles.specs.Unfoldings.{own, choices, UnfoldsPart, Unfolds, UnfoldsEach}
+use Rattle.mh_producers.specs.Unfoldings as unfoldings
+use Rattle.mh_producers.specs.Unfoldings.{own, choices, UnfoldsPart, Unfolds, UnfoldsEach}
 use Rattle.mh_unfoldings.specs.Known.{IsKnown, AreKnown, AreEachKnown}
 use Rattle.mh_unfoldings.specs.Uses.{Forgets}
 use Rattle.mh_unfoldings.proofs.Building.{get_taken}
-use Rattle.mh_cycles.proofs.Choices.{choices-nothing_left, choices-nothing_right, choices_assoc}
-use Rattle.mh_cycles.proofs.Producers.{inline_some}
+use Rattle.mh_producers.proofs.Choices.{choices-nothing_left, choices-nothing_right, choices_assoc}
+use Rattle.mh_producers.proofs.Producers.{inline_some}
 use Rattle.mh_choices.proofs.Changing.{own-absent}
 
 -- LISTS

@@ -4,11 +4,11 @@ use Rattle.mh_rules.specs.declared.instances.Part.{Part}
 use Rattle.mh_rules.specs.declared.instances.Part.TheVariants.{Instance as Applied}
 use Rattle.mh_rules.specs.declared.instances.InstanceProduction.{InstanceProduction}
 use Rattle.mh_rules.specs.declared.instances.Instance.{Instance}
-use Rattle.mh_cycles.specs.declared.unfolding.Unfolding.{Unfolding}
-use Rattle.mh_cycles.specs.declared.sizes.Size.{Size}
-use Rattle.mh_cycles.specs.Instances.{is_inlined, Inlines}
-use Rattle.mh_cycles.specs.Unfoldings.{choices, UnfoldsPart}
-use Rattle.mh_cycles.specs.Sizes.{AreSmall, IsPartSize}
+use Rattle.mh_producers.specs.declared.unfolding.Unfolding.{Unfolding}
+use Rattle.mh_producers.specs.declared.sizes.Size.{Size}
+use Rattle.mh_producers.specs.Instances.{is_inlined, Inlines}
+use Rattle.mh_producers.specs.Unfoldings.{choices, UnfoldsPart}
+use Rattle.mh_producers.specs.Sizes.{AreSmall, IsPartSize}
 
 pub record IsKnown (is : List Instance) (known : List (List Unfolding)) (n : ℕ) : Type 0 where
   pub unfoldings : List Unfolding

@@ -5,8 +5,8 @@ use Rattle.mh_rules.specs.declared.instances.Part.TheVariants.{Instance as Appli
 use Rattle.mh_rules.specs.declared.instances.InstanceProduction.{InstanceProduction}
 use Rattle.mh_rules.specs.declared.instances.Instance.{Instance}
 use Rattle.mh_unfoldings.specs.declared.moving.LastUse.{LastUse}
-use Rattle.mh_cycles.specs.declared.unfolding.Unfolding.{Unfolding}
-use Rattle.mh_cycles.specs.Instances.{is_inlined, inline_number}
+use Rattle.mh_producers.specs.declared.unfolding.Unfolding.{Unfolding}
+use Rattle.mh_producers.specs.Instances.{is_inlined, inline_number}
 
 -- an inline producer, where its instance is not needed behind the place
 pub record IsCandidate (is : List Instance) (last : List ℕ) (place k j : ℕ) (X : Part) (q : LastUse) : Type 0 where

@@ -3,11 +3,11 @@ use Rattle.std.specs.Prelude.{◌≡◌, ◌<◌, ◌≤◌, ℕ, false, List, S
 use Rattle.std.specs.List.{Contains}
 use Rattle.mh_rules.specs.declared.instances.Part.TheVariants.{Instance as Applied}
 use Rattle.mh_rules.specs.declared.instances.Instance.{Instance}
-use Rattle.mh_cycles.specs.declared.unfolding.Unfolding.{Unfolding}
-use Rattle.mh_cycles.specs.Instances.{is_inlined}
-use Rattle.mh_cycles.specs.Unfoldings.{UnfoldsPart}
-use Rattle.mh_cycles.specs.Sizes.{AreSmall}
-use Rattle.mh_cycles.specs.Found.{IsMadeOf}
+use Rattle.mh_producers.specs.declared.unfolding.Unfolding.{Unfolding}
+use Rattle.mh_producers.specs.Instances.{is_inlined}
+use Rattle.mh_producers.specs.Unfoldings.{UnfoldsPart}
+use Rattle.mh_producers.specs.Sizes.{AreSmall}
+use Rattle.mh_producers.specs.MadeOf.{IsMadeOf}
 
 -- an instance that is not inline is made of it
 pub record IsUsed (is : List Instance) (m : ℕ) : Type 0 where

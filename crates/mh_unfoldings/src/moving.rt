@@ -2,15 +2,15 @@
 //! are not copied. So each link of a chain of inline instances costs what it adds.
 ghost use Rattle.std.specs.Prelude.{◌≡◌, ◌<◌, ◌≤◌, ◌⊎◌, ◌++◌, ◌+◌, [], ◌∷◌, Some, suc, true, false, length, map, drop, slice_get, slice_set, slice_index_or, take, IfOk, IfSome, OnOk};
 ghost use Rattle.mh_rules.specs.declared.instances.Instance.{Instance as Row};
-ghost use Rattle.mh_cycles.specs.Instances.{is_inlined};
+ghost use Rattle.mh_producers.specs.Instances.{is_inlined};
 ghost use Rattle.mh_unfoldings.specs.Known.{AreEachKnown, AreKnown, IsKnown};
 ghost use Rattle.mh_unfoldings.specs.LastUse.{IsCandidate, IsLastIn, IsLastOf, IsLastUse, MayLack};
-ghost use Rattle.mh_cycles.specs.Unfoldings.{own, Unfolds, UnfoldsEach};
+ghost use Rattle.mh_producers.specs.Unfoldings.{own, Unfolds, UnfoldsEach};
 
 use crate::unfoldings::{unfold_alternatives, unfold_side};
 use mh_choices::{add_own, put_behind, put_in_front, with_own};
-use mh_cycles::{Unfolding, inline_part};
 use mh_grammar::{Memory, Sequence};
+use mh_producers::{Unfolding, inline_part};
 use mh_rules::{Expanded, InstanceProduction, Part, Prec};
 use std::alloc::Global;
 use std::mem;

@@ -1,19 +1,19 @@
 //! The unfoldings of producers, of alternatives and of inline instances, each made from those of the instances that it is made of.
 ghost use Rattle.std.specs.Prelude.{◌≡◌, ◌+◌, ◌<◌, ◌∷◌, [], List, Some, IfOk, OnOk, IfSome, length, slice_get};
-ghost use Rattle.mh_cycles.specs.declared.unfolding.Unfolding.{Unfolding as Unfolded};
+ghost use Rattle.mh_producers.specs.declared.unfolding.Unfolding.{Unfolding as Unfolded};
 ghost use Rattle.mh_rules.specs.Ready.{IsExpandedReady};
-ghost use Rattle.mh_cycles.specs.Unfoldings.{Unfolds, UnfoldsEach, UnfoldsPart};
+ghost use Rattle.mh_producers.specs.Unfoldings.{Unfolds, UnfoldsEach, UnfoldsPart};
 ghost use Rattle.mh_unfoldings.specs.Known.{AreKnown, AreEachKnown, Extends, IsNext};
 ghost use Rattle.mh_unfoldings.specs.LastUse.{IsLastOf, MayLack};
 ghost use Rattle.mh_rules.specs.declared.instances.Instance.{Instance as Row};
 ghost use Rattle.mh_unfoldings.specs.Uses.{AreLast, KnowsNeeded, KnowsUsed};
-ghost use Rattle.mh_cycles.specs.Sizes.{AreSmall, IsSizing};
+ghost use Rattle.mh_producers.specs.Sizes.{AreSmall, IsSizing};
 
 use crate::moving::{LastUse, last_use_of, unfold_with};
 use crate::uses::{forget_inlined, last_uses};
 use mh_choices::{add_own, just_nothing, put_behind, put_part};
-use mh_cycles::{Sizing, Unfolding, inline_part, is_small};
 use mh_grammar::{Memory, Sequence};
+use mh_producers::{Sizing, Unfolding, inline_part, is_small};
 use mh_rules::{Expanded, InstanceProduction, Part};
 use std::alloc::Global;
 

@@ -1,11 +1,11 @@
 //! Until when the unfoldings of inline instances are needed.
 ghost use Rattle.std.specs.Prelude.{◌≡◌, ◌<◌, length, IfOk, OnOk};
 ghost use Rattle.std.specs.List.{All, Contains};
-ghost use Rattle.mh_cycles.specs.Found.{IsMadeOf};
+ghost use Rattle.mh_producers.specs.MadeOf.{IsMadeOf};
 ghost use Rattle.mh_unfoldings.specs.Uses.{AreLast, Forgets, IsPartOfKept, PutsOff};
 
-use mh_cycles::{Unfolding, inlined_in, is_inline};
 use mh_grammar::{Memory, Sequence};
+use mh_producers::{Unfolding, inlined_in, is_inline};
 use mh_rules::Expanded;
 use std::alloc::Global;
 

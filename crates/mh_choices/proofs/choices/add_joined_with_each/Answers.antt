@@ -1,6 +1,6 @@
 use Rattle.std.proofs.Common.{◌++◌, map, sym, ap, ◌∙◌, arith}
 use Rattle.std.proofs.lemmas.List.{append-nil, take_all}
-use Rattle.mh_cycles.specs.Unfoldings.{joined}
+use Rattle.mh_producers.specs.Unfoldings.{joined}
 use Rattle.mh_choices.proofs.Changing.{behind_more}
 use Rattle.mh_choices.proofs.choices.add_joined_with_each.Goals as goal
 

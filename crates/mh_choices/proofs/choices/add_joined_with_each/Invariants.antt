@@ -1,5 +1,5 @@
 use Rattle.std.proofs.Common.{◌≡◌, ◌++◌, map, take}
-use Rattle.mh_cycles.specs.Unfoldings.{joined}
+use Rattle.mh_producers.specs.Unfoldings.{joined}
 use Rattle.mh_choices.proofs.choices.add_joined_with_each.Given as goal
 
 abbrev pub invariant-loop-second : goal.invariant-loop-second

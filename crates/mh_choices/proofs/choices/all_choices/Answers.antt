@@ -1,7 +1,7 @@
 use Rattle.std.proofs.Common.{◌++◌, ◌∷◌, [], take, map, sym, ap, ◌∙◌, arith}
 use Rattle.std.proofs.lemmas.List.{take_more, take_all}
-use Rattle.mh_cycles.specs.Unfoldings.{choices, joined}
-use Rattle.mh_cycles.proofs.Choices.{choices-push}
+use Rattle.mh_producers.specs.Unfoldings.{choices, joined}
+use Rattle.mh_producers.proofs.Choices.{choices-push}
 use Rattle.mh_choices.proofs.choices.all_choices.Goals as goal
 
 pub loop-first-init : goal.loop-first-init

@@ -1,5 +1,5 @@
 use Rattle.std.proofs.Common.{◌≡◌, take}
-use Rattle.mh_cycles.specs.Unfoldings.{choices}
+use Rattle.mh_producers.specs.Unfoldings.{choices}
 use Rattle.mh_choices.proofs.choices.all_choices.Given as goal
 
 abbrev pub invariant-loop-first : goal.invariant-loop-first

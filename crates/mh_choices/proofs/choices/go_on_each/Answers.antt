@@ -1,5 +1,5 @@
 use Rattle.std.proofs.Common.{set, ap, ◌∙◌, arith}
-use Rattle.mh_cycles.specs.Unfoldings.{joined}
+use Rattle.mh_producers.specs.Unfoldings.{joined}
 use Rattle.mh_choices.proofs.Changing.{each_more}
 use Rattle.mh_choices.proofs.choices.go_on_each.Goals as goal
 

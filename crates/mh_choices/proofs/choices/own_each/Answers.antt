@@ -1,6 +1,6 @@
 use Rattle.std.proofs.Common.{get_or, set, ap, ◌∙◌, arith}
 use Rattle.mh_choices.proofs.Changing.{each_more}
-use Rattle.mh_cycles.specs.Unfoldings.{own}
+use Rattle.mh_producers.specs.Unfoldings.{own}
 use Rattle.mh_choices.proofs.choices.own_each.Goals as goal
 
 pub loop-choice-preserved : goal.loop-choice-preserved

@@ -1,5 +1,5 @@
 use Rattle.std.proofs.Common.{◌≡◌, ◌++◌, map, take, drop}
-use Rattle.mh_cycles.specs.Unfoldings.{own}
+use Rattle.mh_producers.specs.Unfoldings.{own}
 use Rattle.mh_choices.proofs.choices.own_each.Given as goal
 
 abbrev pub invariant-loop-choice : goal.invariant-loop-choice

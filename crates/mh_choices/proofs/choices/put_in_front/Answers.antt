@@ -1,6 +1,6 @@
 use Rattle.std.proofs.Common.{◌∙◌, arith}
 use Rattle.std.proofs.lemmas.Result.{on_ok_weaker}
-use Rattle.mh_cycles.specs.Unfoldings.{joined}
+use Rattle.mh_producers.specs.Unfoldings.{joined}
 use Rattle.mh_choices.proofs.Changing.{all_changed, one_first}
 use Rattle.mh_choices.proofs.choices.put_in_front.Goals as goal
 

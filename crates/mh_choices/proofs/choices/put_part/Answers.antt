@@ -1,7 +1,7 @@
 use Rattle.std.proofs.Common.{◌∷◌, [], sym, ap, ◌∙◌, arith}
 use Rattle.std.proofs.lemmas.Result.{on_ok_weaker}
-use Rattle.mh_cycles.specs.Unfoldings.{choices, joined}
-use Rattle.mh_cycles.proofs.Choices.{choices-one_right}
+use Rattle.mh_producers.specs.Unfoldings.{choices, joined}
+use Rattle.mh_producers.proofs.Choices.{choices-one_right}
 use Rattle.mh_choices.proofs.Changing.{all_changed}
 use Rattle.mh_choices.proofs.choices.put_part.Goals as goal
 

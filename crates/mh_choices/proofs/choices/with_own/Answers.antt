@@ -1,5 +1,5 @@
 use Rattle.std.proofs.Common.{arith}
-use Rattle.mh_cycles.specs.Unfoldings.{own}
+use Rattle.mh_producers.specs.Unfoldings.{own}
 use Rattle.mh_choices.proofs.Changing.{all_changed, own-absent}
 use Rattle.mh_choices.proofs.choices.with_own.Goals as goal
 

@@ -1,4 +1,4 @@
-use Rattle.mh_cycles.proofs.Among.{each_none}
+use Rattle.mh_producers.proofs.Among.{each_none}
 use Rattle.mh_cycles.proofs.Finding.{Adds-none, IsTable-after, each_step}
 use Rattle.mh_cycles.proofs.cycles.add_alternatives.Goals as goal
 

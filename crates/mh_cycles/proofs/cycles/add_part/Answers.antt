@@ -1,6 +1,6 @@
 use Rattle.std.proofs.Common.{sym, ◌∙◌}
 use Rattle.std.proofs.lemmas.Result.{on_ok_weaker}
-use Rattle.mh_cycles.proofs.Producers.{inline_within}
+use Rattle.mh_producers.proofs.Producers.{inline_within}
 use Rattle.mh_cycles.proofs.Finding.{part_inline, part_kept}
 use Rattle.mh_cycles.proofs.cycles.add_part.Goals as goal
 

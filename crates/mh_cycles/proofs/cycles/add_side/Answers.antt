@@ -1,5 +1,5 @@
 use Rattle.mh_rules.specs.declared.instances.Part.TheVariants.{Token}
-use Rattle.mh_cycles.proofs.Among.{side_none}
+use Rattle.mh_producers.proofs.Among.{side_none}
 use Rattle.mh_cycles.proofs.Finding.{Adds-none, IsTable-after, side_step}
 use Rattle.mh_cycles.proofs.cycles.add_side.Goals as goal
 

@@ -1,5 +1,5 @@
 use Rattle.std.proofs.Common.{arith}
-use Rattle.mh_cycles.proofs.Producers.{inline_instance}
+use Rattle.mh_producers.proofs.Producers.{inline_instance}
 use Rattle.mh_cycles.proofs.Cycling.{reaches_user, all_sized}
 use Rattle.mh_cycles.proofs.cycles.first_cyclic_by.Goals as goal
 

@@ -1,5 +1,5 @@
 use Rattle.std.proofs.Common.{ℕ, ◌<◌}
-use Rattle.mh_cycles.specs.Instances.{Reaches}
+use Rattle.mh_producers.specs.Instances.{Reaches}
 use Rattle.mh_cycles.proofs.cycles.first_cyclic_by.Given as goal
 
 abbrev pub invariant-loop-number : goal.invariant-loop-number

@@ -1,7 +1,7 @@
 use Rattle.std.proofs.Common.{◌<◌, length, refl, arith}
 use Rattle.std.proofs.lemmas.Option.{slice_get_read}
 use Rattle.mh_grammar.proofs.Placing.{contains_at}
-use Rattle.mh_cycles.proofs.Producers.{inline_instance}
+use Rattle.mh_producers.proofs.Producers.{inline_instance}
 use Rattle.mh_cycles.proofs.Finding.{IsTable-empty}
 use Rattle.mh_cycles.proofs.Cycling.{Searched-start, Searched-step, searched, reaches_used}
 use Rattle.mh_cycles.proofs.cycles.is_cyclic.Goals as goal

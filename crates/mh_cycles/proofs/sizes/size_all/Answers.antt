@@ -1,5 +1,5 @@
 use Rattle.std.proofs.Common.{ap}
-use Rattle.mh_cycles.specs.Sizes.{unsized_count}
+use Rattle.mh_producers.specs.Sizes.{unsized_count}
 use Rattle.mh_cycles.proofs.Ordering.{measure_falls}
 use Rattle.mh_cycles.proofs.sizes.size_all.Goals as goal
 

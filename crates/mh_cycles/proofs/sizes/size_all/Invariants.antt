@@ -1,5 +1,5 @@
 use Rattle.std.proofs.Common.{◌≡◌, ◌+◌, false, if◌then◌else◌}
-use Rattle.mh_cycles.specs.Sizes.{AreSettled, IsSizing, unsized_count}
+use Rattle.mh_producers.specs.Sizes.{AreSettled, IsSizing, unsized_count}
 use Rattle.mh_cycles.proofs.sizes.size_all.Given as goal
 
 abbrev pub invariant-loop-changed : goal.invariant-loop-changed

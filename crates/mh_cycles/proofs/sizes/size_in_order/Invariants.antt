@@ -1,4 +1,4 @@
-use Rattle.mh_cycles.specs.Sizes.{IsSizing}
+use Rattle.mh_producers.specs.Sizes.{IsSizing}
 use Rattle.mh_cycles.proofs.sizes.size_in_order.Given as goal
 
 abbrev pub invariant-loop-number : goal.invariant-loop-number

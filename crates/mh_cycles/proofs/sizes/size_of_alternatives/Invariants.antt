@@ -1,5 +1,5 @@
 use Rattle.std.proofs.Common.{take}
-use Rattle.mh_cycles.specs.Sizes.{AreEachSized, IsEachSize}
+use Rattle.mh_producers.specs.Sizes.{AreEachSized, IsEachSize}
 use Rattle.mh_cycles.proofs.sizes.size_of_alternatives.Given as goal
 
 abbrev pub invariant-loop-production : goal.invariant-loop-production

@@ -1,5 +1,5 @@
 use Rattle.std.proofs.Common.{refl, sym, ◌∙◌}
-use Rattle.mh_cycles.proofs.Producers.{inline_within}
+use Rattle.mh_producers.proofs.Producers.{inline_within}
 use Rattle.mh_cycles.proofs.Counting.{kept_size, part_sized, sized_inline, sized_kept}
 use Rattle.mh_cycles.proofs.sizes.size_of_part.Goals as goal
 

@@ -1,5 +1,5 @@
 use Rattle.std.proofs.Common.{take}
-use Rattle.mh_cycles.specs.Sizes.{AreSized, IsSideSize}
+use Rattle.mh_producers.specs.Sizes.{AreSized, IsSideSize}
 use Rattle.mh_cycles.proofs.sizes.size_of_side.Given as goal
 
 abbrev pub invariant-loop-part : goal.invariant-loop-part

@@ -1,7 +1,7 @@
 use Rattle.std.proofs.Common.{◌-◌, sym, ap, ◌∙◌, arith, inl, inr, subst}
 use Rattle.std.proofs.lemmas.Bool.{cases_eq}
-use Rattle.mh_cycles.specs.declared.sizes.Sizing.{Sizing}
-use Rattle.mh_cycles.specs.Sizes.{IsSettled, unsized_count}
+use Rattle.mh_producers.specs.declared.sizes.Sizing.{Sizing}
+use Rattle.mh_producers.specs.Sizes.{IsSettled, unsized_count}
 use Rattle.mh_cycles.proofs.Ordering.{or_false, more_step}
 use Rattle.mh_cycles.proofs.sizes.size_once.Goals as goal
 

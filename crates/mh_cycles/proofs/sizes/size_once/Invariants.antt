@@ -1,5 +1,5 @@
 use Rattle.std.proofs.Common.{◌≡◌, ◌<◌, ◌≤◌, ◌+◌, ℕ, true, false, length}
-use Rattle.mh_cycles.specs.Sizes.{IsSettled, IsSizing, unsized_count}
+use Rattle.mh_producers.specs.Sizes.{IsSettled, IsSizing, unsized_count}
 use Rattle.mh_cycles.proofs.sizes.size_once.Given as goal
 
 abbrev pub invariant-loop-done : goal.invariant-loop-done

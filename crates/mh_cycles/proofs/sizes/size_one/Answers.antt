@@ -1,7 +1,7 @@
 use Rattle.std.proofs.Common.{◌≡◌, ◌<◌, length, Some, None, refl, sym, ap, ◌∙◌, arith}
 use Rattle.std.proofs.lemmas.Option.{slice_get_read}
 use Rattle.mh_cycles.proofs.Ordering.{AreOrdered-push, settled_blocked, none_of}
-use Rattle.mh_cycles.proofs.Same.{some_ready}
+use Rattle.mh_producers.proofs.Same.{some_ready}
 use Rattle.mh_cycles.proofs.sizes.size_one.Goals as goal
 
 pub returns-in_default-clause-same : goal.returns-in_default-clause-same

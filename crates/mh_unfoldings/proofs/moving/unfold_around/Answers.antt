@@ -2,7 +2,7 @@ use Rattle.std.proofs.Common.{◌≡◌, ◌∷◌, ◌++◌, [], drop, suc, sym
 use Rattle.std.proofs.lemmas.Option.{slice_get_within}
 use Rattle.std.proofs.lemmas.Result.{IfOk-weaker}
 use Rattle.mh_rules.specs.declared.instances.Part.TheVariants.{Instance as Applied}
-use Rattle.mh_cycles.specs.Unfoldings.{choices, Unfolds}
+use Rattle.mh_producers.specs.Unfoldings.{choices, Unfolds}
 use Rattle.mh_unfoldings.proofs.Moved.{no_items, known_front, known_behind, side_done, side_ends}
 use Rattle.mh_unfoldings.proofs.moving.unfold_around.Goals as goal
 

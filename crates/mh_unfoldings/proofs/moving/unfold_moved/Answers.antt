@@ -1,7 +1,7 @@
 use Rattle.std.proofs.Common.{◌≡◌, ◌++◌, drop, map, suc, sym, ap, ◌∙◌, subst}
 use Rattle.std.proofs.lemmas.Option.{slice_get_within}
 use Rattle.mh_rules.specs.declared.joined.Prec.TheVariants.{Absent}
-use Rattle.mh_cycles.specs.Unfoldings.{own, UnfoldsEach}
+use Rattle.mh_producers.specs.Unfoldings.{own, UnfoldsEach}
 use Rattle.mh_unfoldings.proofs.Moved.{each_behind, each_done}
 use Rattle.mh_unfoldings.proofs.moving.unfold_moved.Goals as goal
 

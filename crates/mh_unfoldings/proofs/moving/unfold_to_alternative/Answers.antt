@@ -4,7 +4,7 @@ use Rattle.std.proofs.lemmas.Option.{same_Some, slice_get_within, slice_get_read
 use Rattle.std.proofs.lemmas.Result.{IfOk-weaker}
 use Rattle.mh_rules.specs.declared.instances.Part.TheVariants.{Instance as Applied}
 use Rattle.mh_rules.specs.declared.instances.InstanceProduction.{InstanceProduction}
-use Rattle.mh_cycles.specs.Unfoldings.{own, UnfoldsEach}
+use Rattle.mh_producers.specs.Unfoldings.{own, UnfoldsEach}
 use Rattle.mh_unfoldings.proofs.Moved.{each_front, each_then}
 use Rattle.mh_unfoldings.proofs.moving.unfold_to_alternative.Goals as goal
 

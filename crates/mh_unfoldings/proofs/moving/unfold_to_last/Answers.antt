@@ -1,7 +1,7 @@
 use Rattle.std.proofs.Common.{◌≡◌, ◌∷◌, ◌++◌, [], sym, ap, ◌∙◌, subst}
 use Rattle.std.proofs.lemmas.Option.{slice_get_within}
 use Rattle.mh_rules.specs.declared.instances.Part.TheVariants.{Instance as Applied}
-use Rattle.mh_cycles.specs.Unfoldings.{choices, Unfolds}
+use Rattle.mh_producers.specs.Unfoldings.{choices, Unfolds}
 use Rattle.mh_unfoldings.proofs.Moved.{no_items, one_unfolds, taken_unfolds, Unfolds-append}
 use Rattle.mh_unfoldings.proofs.moving.unfold_to_last.Goals as goal
 

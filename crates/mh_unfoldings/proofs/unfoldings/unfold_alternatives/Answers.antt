@@ -1,7 +1,7 @@
 use Rattle.std.proofs.Common.{length, refl, subst, arith}
 use Rattle.std.proofs.lemmas.List.{take_all}
 use Rattle.std.proofs.lemmas.Option.{slice_get_read}
-use Rattle.mh_cycles.specs.Unfoldings as unfoldings
+use Rattle.mh_producers.specs.Unfoldings as unfoldings
 use Rattle.mh_unfoldings.proofs.Knowing.{UnfoldsEach-more}
 use Rattle.mh_unfoldings.proofs.unfoldings.unfold_alternatives.Goals as goal
 

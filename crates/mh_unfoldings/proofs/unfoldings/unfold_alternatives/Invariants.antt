@@ -1,5 +1,5 @@
 use Rattle.std.proofs.Common.{take}
-use Rattle.mh_cycles.specs.Unfoldings.{UnfoldsEach}
+use Rattle.mh_producers.specs.Unfoldings.{UnfoldsEach}
 use Rattle.mh_unfoldings.proofs.unfoldings.unfold_alternatives.Given as goal
 
 abbrev pub invariant-loop-production : goal.invariant-loop-production

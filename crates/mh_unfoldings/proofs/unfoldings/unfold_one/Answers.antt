@@ -1,10 +1,10 @@
 use Rattle.std.proofs.Common.{◌≡◌, ◌<◌, Some, length, refl, sym, ◌∙◌, subst}
 use Rattle.std.proofs.lemmas.Bool.{false≢true}
 use Rattle.std.proofs.lemmas.Option.{slice_get_read, get_or_from_slice_get}
-use Rattle.mh_cycles.specs.Sizes.{IsWithin}
-use Rattle.mh_cycles.proofs.Same.{part_same, each_same}
-use Rattle.mh_cycles.proofs.Producers.{inline_instance}
-use Rattle.mh_cycles.proofs.Same.{some_ready}
+use Rattle.mh_producers.specs.Sizes.{IsWithin}
+use Rattle.mh_producers.proofs.Same.{part_same, each_same}
+use Rattle.mh_producers.proofs.Producers.{inline_instance}
+use Rattle.mh_producers.proofs.Same.{some_ready}
 use Rattle.mh_unfoldings.proofs.Building.{size_small, each_known, each_of_part}
 use Rattle.mh_unfoldings.proofs.Moved.{lacks_same}
 use Rattle.mh_unfoldings.proofs.unfoldings.unfold_one.Goals as goal

@@ -1,7 +1,7 @@
 use Rattle.std.proofs.Common.{sym, ap, ◌∙◌}
 use Rattle.std.proofs.lemmas.Option.{slice_get_within}
 use Rattle.std.proofs.lemmas.Result.{on_ok_weaker}
-use Rattle.mh_cycles.specs.Unfoldings.{choices}
+use Rattle.mh_producers.specs.Unfoldings.{choices}
 use Rattle.mh_unfoldings.proofs.Knowing.{known_part, extends_known, extends_kept}
 use Rattle.mh_unfoldings.proofs.unfoldings.unfold_part.Goals as goal
 

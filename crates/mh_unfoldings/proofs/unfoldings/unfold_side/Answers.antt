@@ -1,5 +1,5 @@
 use Rattle.mh_rules.specs.declared.instances.Part.TheVariants.{Token}
-use Rattle.mh_cycles.specs.Unfoldings as unfoldings
+use Rattle.mh_producers.specs.Unfoldings as unfoldings
 use Rattle.mh_unfoldings.proofs.Knowing.{known_at, Unfolds-more}
 use Rattle.mh_unfoldings.proofs.unfoldings.unfold_side.Goals as goal
 

@@ -1,5 +1,5 @@
 use Rattle.std.proofs.Common.{take}
-use Rattle.mh_cycles.specs.Unfoldings.{Unfolds}
+use Rattle.mh_producers.specs.Unfoldings.{Unfolds}
 use Rattle.mh_unfoldings.proofs.unfoldings.unfold_side.Given as goal
 
 abbrev pub invariant-loop-part : goal.invariant-loop-part

@@ -1,6 +1,7 @@
 use Rattle.std.proofs.Common.{take}
-use Rattle.mh_cycles.specs.Found.{IsAmong, Lists}
-use Rattle.mh_cycles.proofs.inlined.list_side.Given as goal
+use Rattle.mh_producers.specs.MadeOf.{IsAmong}
+use Rattle.mh_producers.specs.MadeOf.{Lists}
+use Rattle.mh_producers.proofs.inlined.list_side.Given as goal
 
 abbrev pub invariant-loop-part : goal.invariant-loop-part
 invariant-loop-part l = Lists (IsAmong l.expanded.instances (take l.part-index l.producers)) l.initial.list.items l.list.items

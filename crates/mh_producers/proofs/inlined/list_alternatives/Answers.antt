@@ -1,6 +1,6 @@
-use Rattle.mh_cycles.proofs.Among.{each_none}
-use Rattle.mh_cycles.proofs.Listed.{Lists-none, each_listed}
-use Rattle.mh_cycles.proofs.inlined.list_alternatives.Goals as goal
+use Rattle.mh_producers.proofs.Among.{each_none}
+use Rattle.mh_producers.proofs.Listed.{Lists-none, each_listed}
+use Rattle.mh_producers.proofs.inlined.list_alternatives.Goals as goal
 
 pub loop-production-init : goal.loop-production-init
 loop-production-init c = Lists-none _ c.args.list.now.items (each_none c.args.expanded.now.instances)

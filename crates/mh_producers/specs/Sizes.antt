@@ -6,12 +6,12 @@ use Rattle.mh_rules.specs.declared.instances.Part.{Part}
 use Rattle.mh_rules.specs.declared.instances.Part.TheVariants.{Instance as Applied}
 use Rattle.mh_rules.specs.declared.instances.InstanceProduction.{InstanceProduction}
 use Rattle.mh_rules.specs.declared.instances.Instance.{Instance}
-use Rattle.mh_cycles.specs.declared.unfolding.Unfolding.{Unfolding}
-use Rattle.mh_cycles.specs.declared.sizes.TheConstants.{MAX_PRODUCTIONS, MAX_SYMBOLS}
-use Rattle.mh_cycles.specs.declared.sizes.Size.{Size}
-use Rattle.mh_cycles.specs.declared.sizes.Sizing.{Sizing}
-use Rattle.mh_cycles.specs.Instances.{is_inlined, Inlines}
-use Rattle.mh_cycles.specs.Unfoldings.{UnfoldsPart, Unfolds, UnfoldsEach}
+use Rattle.mh_producers.specs.declared.unfolding.Unfolding.{Unfolding}
+use Rattle.mh_producers.specs.declared.sizes.TheConstants.{MAX_PRODUCTIONS, MAX_SYMBOLS}
+use Rattle.mh_producers.specs.declared.sizes.Size.{Size}
+use Rattle.mh_producers.specs.declared.sizes.Sizing.{Sizing}
+use Rattle.mh_producers.specs.Instances.{is_inlined, Inlines}
+use Rattle.mh_producers.specs.Unfoldings.{UnfoldsPart, Unfolds, UnfoldsEach}
 
 abbrev pub longest : List Unfolding → ℕ
 longest [] = 0

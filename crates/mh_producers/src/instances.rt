@@ -1,6 +1,6 @@
 //! Which producers are inline.
 ghost use Rattle.std.specs.Prelude.{◌≡◌};
-ghost use Rattle.mh_cycles.specs.Instances.{inline_number, is_inlined};
+ghost use Rattle.mh_producers.specs.Instances.{inline_number, is_inlined};
 
 use mh_rules::{Expanded, Part};
 

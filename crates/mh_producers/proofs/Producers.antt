@@ -6,7 +6,7 @@ use Rattle.std.proofs.lemmas.Bool.{false≢true}
 use Rattle.mh_rules.specs.declared.instances.Part.{Part}
 use Rattle.mh_rules.specs.declared.instances.Part.TheVariants.{Token, Instance as Applied}
 use Rattle.mh_rules.specs.declared.instances.Instance.{Instance}
-use Rattle.mh_cycles.specs.Instances.{is_inlined, inline_number, IsKept}
+use Rattle.mh_producers.specs.Instances.{is_inlined, inline_number, IsKept}
 
 pub record IsInline (is : List Instance) (X : Part) (n : ℕ) : Type 0 where
   pub same : X ≡ Applied n

@@ -8,9 +8,11 @@ use Rattle.mh_rules.specs.declared.instances.Part.{Part}
 use Rattle.mh_rules.specs.declared.instances.Part.TheVariants.{Instance as Applied}
 use Rattle.mh_rules.specs.declared.instances.InstanceProduction.{InstanceProduction}
 use Rattle.mh_rules.specs.declared.instances.Instance.{Instance}
-use Rattle.mh_cycles.specs.Instances.{is_inlined, inline_number, IsKept}
-use Rattle.mh_cycles.specs.Found.{IsAmong, IsIn, IsMadeOf}
-use Rattle.mh_cycles.proofs.Producers.{inline_some, inline_none}
+use Rattle.mh_producers.specs.Instances.{is_inlined, inline_number, IsKept}
+use Rattle.mh_producers.specs.MadeOf.{IsAmong}
+use Rattle.mh_producers.specs.MadeOf.{IsIn}
+use Rattle.mh_producers.specs.MadeOf.{IsMadeOf}
+use Rattle.mh_producers.proofs.Producers.{inline_some, inline_none}
 
 module _ (is : List Instance) where
   -- one producer alone

@@ -1,7 +1,10 @@
 //! The inline instances that an instance is made of, as a list.
 ghost use Rattle.std.specs.Prelude.{◌<◌, ◌↔◌, ◌∷◌, [], ℕ, length, IfOk, OnOk};
 ghost use Rattle.std.specs.List.{All, Contains};
-ghost use Rattle.mh_cycles.specs.Found.{IsAmong, IsIn, IsMadeOf, Lists};
+ghost use Rattle.mh_producers.specs.MadeOf.{IsAmong};
+ghost use Rattle.mh_producers.specs.MadeOf.{IsIn};
+ghost use Rattle.mh_producers.specs.MadeOf.{IsMadeOf};
+ghost use Rattle.mh_producers.specs.MadeOf.{Lists};
 
 use crate::instances::inline_part;
 use mh_grammar::Memory;

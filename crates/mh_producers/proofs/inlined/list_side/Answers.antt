@@ -1,7 +1,7 @@
 use Rattle.mh_rules.specs.declared.instances.Part.TheVariants.{Token}
-use Rattle.mh_cycles.proofs.Among.{side_none}
-use Rattle.mh_cycles.proofs.Listed.{Lists-none, side_listed}
-use Rattle.mh_cycles.proofs.inlined.list_side.Goals as goal
+use Rattle.mh_producers.proofs.Among.{side_none}
+use Rattle.mh_producers.proofs.Listed.{Lists-none, side_listed}
+use Rattle.mh_producers.proofs.inlined.list_side.Goals as goal
 
 pub loop-part-init : goal.loop-part-init
 loop-part-init c = Lists-none _ c.args.list.now.items (side_none c.args.expanded.now.instances)

@@ -1,7 +1,7 @@
 use Rattle.std.proofs.Common.{length, refl}
 use Rattle.std.proofs.lemmas.Option.{slice_get_read}
-use Rattle.mh_cycles.proofs.Listed.{all_listed, all_within}
-use Rattle.mh_cycles.proofs.inlined.inlined_in.Goals as goal
+use Rattle.mh_producers.proofs.Listed.{all_listed, all_within}
+use Rattle.mh_producers.proofs.inlined.inlined_in.Goals as goal
 
 pub returns-clause-exact : goal.returns-clause-exact
 returns-clause-exact c =

@@ -7,9 +7,9 @@ use Rattle.mh_rules.specs.declared.joined.Prec.TheVariants.{Absent, Given}
 use Rattle.mh_rules.specs.declared.instances.Part.{Part}
 use Rattle.mh_rules.specs.declared.instances.InstanceProduction.{InstanceProduction}
 use Rattle.mh_rules.specs.declared.instances.Instance.{Instance}
-use Rattle.mh_cycles.specs.declared.unfolding.Unfolding.{Unfolding}
-use Rattle.mh_cycles.specs.Unfoldings as unfoldings
-use Rattle.mh_cycles.specs.Unfoldings.{rightmost, nothing, joined, own, choices, Unfolds, UnfoldsPart, UnfoldsEach}
+use Rattle.mh_producers.specs.declared.unfolding.Unfolding.{Unfolding}
+use Rattle.mh_producers.specs.Unfoldings as unfoldings
+use Rattle.mh_producers.specs.Unfoldings.{rightmost, nothing, joined, own, choices, Unfolds, UnfoldsPart, UnfoldsEach}
 
 pub rightmost-absent : (p : Prec) → rightmost Absent p ≡ p
 rightmost-absent Absent = refl

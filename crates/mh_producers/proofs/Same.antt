@@ -4,18 +4,18 @@ use Rattle.std.specs.List.{slice_get}
 use Rattle.std.proofs.lemmas.Bool.{false≢true}
 use Rattle.std.proofs.lemmas.Option.{same_Some, none-some, slice_get_within, get_or_from_slice_get}
 use Rattle.std.proofs.lemmas.List.{length-map}
-use Rattle.mh_cycles.proofs.Choices.{append_same}
+use Rattle.mh_producers.proofs.Choices.{append_same}
 use Rattle.mh_rules.specs.declared.joined.Prec.{Prec}
 use Rattle.mh_rules.specs.declared.instances.Part.{Part}
 use Rattle.mh_rules.specs.declared.instances.InstanceProduction.{InstanceProduction}
 use Rattle.mh_rules.specs.declared.instances.Instance.{Instance}
 use Rattle.mh_rules.specs.declared.instances.Expanded.{Expanded}
 use Rattle.mh_rules.specs.Ready.{IsExpandedReady, IsInstanceReady}
-use Rattle.mh_cycles.specs.declared.unfolding.Unfolding.{Unfolding}
-use Rattle.mh_cycles.specs.Instances.{is_inlined}
-use Rattle.mh_cycles.specs.Unfoldings as unfoldings
-use Rattle.mh_cycles.specs.Unfoldings.{joined, own, choices, UnfoldsPart, Unfolds, UnfoldsEach}
-use Rattle.mh_cycles.specs.Sizes.{longest, AreSmall}
+use Rattle.mh_producers.specs.declared.unfolding.Unfolding.{Unfolding}
+use Rattle.mh_producers.specs.Instances.{is_inlined}
+use Rattle.mh_producers.specs.Unfoldings as unfoldings
+use Rattle.mh_producers.specs.Unfoldings.{joined, own, choices, UnfoldsPart, Unfolds, UnfoldsEach}
+use Rattle.mh_producers.specs.Sizes.{longest, AreSmall}
 
 inlined_at : (is : List Instance) (n : ℕ) (i : Instance) → slice_get is n ≡ Some i → i.inlined ≡ true → is_inlined is n ≡ false → ⊥
 inlined_at is n i at e f = false≢true (sym (rw at at f) ∙ e)

@@ -7,10 +7,13 @@ use Rattle.std.proofs.lemmas.List.Elements.{Contains-push, Contains-push_cases, 
 use Rattle.mh_rules.specs.declared.instances.Part.{Part}
 use Rattle.mh_rules.specs.declared.instances.InstanceProduction.{InstanceProduction}
 use Rattle.mh_rules.specs.declared.instances.Instance.{Instance}
-use Rattle.mh_cycles.specs.Instances.{inline_number}
-use Rattle.mh_cycles.specs.Found.{IsAmong, IsIn, IsMadeOf, Lists}
-use Rattle.mh_cycles.proofs.Producers.{inline_instance}
-use Rattle.mh_cycles.proofs.Among.{among_one, one_among, kept_none, among_cases, among_front, among_last, in_cases, in_front, in_last, made_in, in_made}
+use Rattle.mh_producers.specs.Instances.{inline_number}
+use Rattle.mh_producers.specs.MadeOf.{IsAmong}
+use Rattle.mh_producers.specs.MadeOf.{IsIn}
+use Rattle.mh_producers.specs.MadeOf.{IsMadeOf}
+use Rattle.mh_producers.specs.MadeOf.{Lists}
+use Rattle.mh_producers.proofs.Producers.{inline_instance}
+use Rattle.mh_producers.proofs.Among.{among_one, one_among, kept_none, among_cases, among_front, among_last, in_cases, in_front, in_last, made_in, in_made}
 
 pub Lists-none : (P : ℕ → Type 0) (ns : List ℕ) → ((m : ℕ) → P m → ⊥) → Lists P ns ns
 Lists-none P ns none = record { kept = λ m c. c; origin = λ m c. inl c; added = λ m p. absurd (none m p) }

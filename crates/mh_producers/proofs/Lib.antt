@@ -1,0 +1,5 @@
+pub mod Among
+pub mod Choices
+pub mod Listed
+pub mod Producers
+pub mod Same

@@ -1,0 +1,4 @@
+pub mod Instances
+pub mod MadeOf
+pub mod Sizes
+pub mod Unfoldings
