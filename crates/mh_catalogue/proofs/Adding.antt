@@ -14,7 +14,7 @@ use Rattle.mh_tables.specs.Facts.{Facts}
 use Rattle.mh_least.specs.Orders.{cap}
 use Rattle.mh_least.proofs.Complete.{fails_refused}
 use Rattle.mh_least.proofs.Sound.{reaches_known}
-use Rattle.mh_reach.specs.Reaching.{LeastCost}
+use Rattle.mh_sentences.specs.Reaching.{LeastCost}
 use Rattle.mh_catalogue.specs.declared.rows.Row.{Row}
 use Rattle.mh_catalogue.specs.declared.rows.CatalogueFault.{CatalogueFault}
 use Rattle.mh_catalogue.specs.Rows.{row_of, rows_of, AreShort, RowsBelow}

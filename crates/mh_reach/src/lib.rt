@@ -1,9 +1,7 @@
-//! The least sentence that fails in each state: how states are reached, and the best way to fail there.
+//! The least sentence that fails in each state of a table: both searches, and what is kept of them.
 #![tactic(auto)]
 
 mod both;
-mod sentences;
-mod spell;
 
 pub use both::reach;
-pub use sentences::Reach;
+pub use mh_sentences::Reach;

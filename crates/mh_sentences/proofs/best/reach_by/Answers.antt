@@ -1,0 +1,26 @@
+use Rattle.std.proofs.Common.{subst, sym}
+use Rattle.mh_tables.specs.Table.{TableData}
+use Rattle.mh_ways.specs.Classes.{IsClasses}
+use Rattle.mh_arrivals.specs.Arriving.{ArrivedIn}
+use Rattle.mh_sentences.specs.Reaching.{IsReach}
+use Rattle.mh_sentences.proofs.Costing.{are_cheap, are_told, is_reach}
+use Rattle.mh_sentences.proofs.best.reach_by.Goals as goal
+
+pub all_best-requires-clause-classes : goal.all_best-requires-clause-classes
+all_best-requires-clause-classes c = subst (λ (t : TableData). IsClasses t c.args.classes.now) (sym c.table-inner.ensures.table) c.requires.classes
+
+pub all_best-requires-clause-arrivals : goal.all_best-requires-clause-arrivals
+all_best-requires-clause-arrivals c =
+    let arrived = subst (λ (t : TableData). ArrivedIn t c.args.classes.now c.args.found c.args.arrivals.spots.entries) (sym c.table-inner.ensures.table) c.requires.arrivals in
+    are_cheap c.table-inner.result.now c.facts.ensures c.args.classes.now c.args.found c.args.arrivals.spots.entries arrived
+
+pub all_best-requires-clause-told : goal.all_best-requires-clause-told
+all_best-requires-clause-told c =
+    let arrived = subst (λ (t : TableData). ArrivedIn t c.args.classes.now c.args.found c.args.arrivals.spots.entries) (sym c.table-inner.ensures.table) c.requires.arrivals in
+    are_told c.table-inner.result.now c.facts.ensures c.args.classes.now c.args.found c.args.arrivals.spots.entries arrived
+
+pub invariant_of-result : goal.invariant_of-result
+invariant_of-result c =
+    let arrived = subst (λ (t : TableData). ArrivedIn t c.args.classes.now c.args.found c.args.arrivals.spots.entries) (sym c.table-inner.ensures.table) c.requires.arrivals in
+    subst (λ (t : TableData). IsReach t c.args.found.store c.args.arrivals.spots.entries c.in_ok-best.best.items) c.table-inner.ensures.table
+    (is_reach c.table-inner.result.now c.facts.ensures c.args.classes.now c.args.found c.args.arrivals.spots.entries arrived c.in_ok-best.best.items c.in_ok-best.ensures)
