@@ -1,2 +1,1 @@
-pub mod EachMode
 pub mod Following

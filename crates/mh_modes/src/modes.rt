@@ -8,13 +8,16 @@ ghost use Rattle.mh_plans.specs.Plan.{IsPlanOfJob};
 ghost use Rattle.mh_prepared.specs.Prepared.{IsFit};
 
 use mh_drive::{Stop, drive, drive_opened};
-use mh_judging::{explain_by, judge_by, serve_on};
+use mh_explaining::explain_by;
+use mh_judging::judge_by;
 use mh_keeping::{compare_by, compile_by, echo_by, update_by};
+use mh_listing::{Listing, Sampling};
 use mh_opts::Job;
 use mh_outside::{Shelf, Sink, Source};
 use mh_plans::AtEnd;
 use mh_prepared::Prepared;
-use mh_showing::{Exporting, Listing, Sampling, Showing};
+use mh_serving::serve_on;
+use mh_showing::{Exporting, Showing};
 use std::alloc::Global;
 
 /// Does what the job asks for. A mode that reads files of its own takes them from the shelf.

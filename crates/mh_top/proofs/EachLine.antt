@@ -11,7 +11,7 @@ use Rattle.mh_top.specs.Work.{Work, IsPlanUnless, IsWork, IsWorkOf, has_warning}
 use Rattle.mh_prepare.specs.Preparing.{IsPrepared}
 use Rattle.mh_prepared.specs.Shapes.{Prepared}
 use Rattle.mh_plans.proofs.Reading.{Runs}
-use Rattle.mh_modes.proofs.EachMode.{facts_of}
+use Rattle.mh_outcomes.proofs.EachMode.{facts_of}
 use Rattle.mh_top.proofs.Exactly.{prepared_runs}
 
 pub answered_at : (plan last : Plan) (before : List Text) (line : Text) (after : List Text) (text : Text) → AnswersAll by_plan plan (before ++ line ∷ after) text last → IsAnsweredAt plan before line after text last

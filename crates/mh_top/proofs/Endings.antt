@@ -42,7 +42,7 @@ use Rattle.mh_sources.specs.declared.sources.Source.TheVariants.{Canonical, File
 use Rattle.mh_files.proofs.Turns.{turn_first, turn_later}
 use Rattle.mh_prepare.proofs.OnePrepared.{prepared_once}
 use Rattle.mh_plans.proofs.Turning.{nil_not}
-use Rattle.mh_modes.proofs.EachMode.{EndsRight, IsRight, answer_right, ends_right, facts_of}
+use Rattle.mh_outcomes.proofs.EachMode.{EndsRight, IsRight, answer_right, ends_right, facts_of}
 
 -- a cause that no words, no file and no input have to account for
 abbrev IsRefusal : Cause → Type 0

@@ -57,7 +57,7 @@ use Rattle.mh_sources.specs.declared.sources.Source.{Source}
 use Rattle.mh_sources.specs.declared.sources.Source.TheVariants.{Canonical, File, Merged}
 use Rattle.mh_tables.specs.Halting.{AlwaysHalts}
 use Rattle.mh_plans.proofs.Reading.{Runs}
-use Rattle.mh_modes.proofs.EachMode.{facts_of as job_facts}
+use Rattle.mh_outcomes.proofs.EachMode.{facts_of as job_facts}
 
 -- ---- the grammar and the table that verdicts go by
 

@@ -13,7 +13,7 @@ use Rattle.mh_prepared.specs.Shapes.{Prepared}
 use Rattle.mh_drive.specs.declared.stop.Cause.{Cause}
 use Rattle.mh_drive.proofs.Binding.{IsOne}
 use Rattle.mh_prepare.proofs.OnePrepared.{prepared_once}
-use Rattle.mh_modes.proofs.EachMode.{answer_once, cause_once, out_once, facts_of}
+use Rattle.mh_outcomes.proofs.EachMode.{answer_once, cause_once, out_once, facts_of}
 
 -- ---- the work
 

@@ -1,0 +1,6 @@
+//! The mode that tells the entry of the first line of the input.
+#![tactic(auto)]
+
+mod explaining;
+
+pub use explaining::{Explaining, explain_by};

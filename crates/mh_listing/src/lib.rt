@@ -1,0 +1,8 @@
+//! The modes that write what the catalogue of the table gives: the list of errors, and the counts of a sample.
+#![tactic(auto)]
+
+mod listing;
+mod sampling;
+
+pub use listing::Listing;
+pub use sampling::Sampling;

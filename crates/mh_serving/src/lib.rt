@@ -1,0 +1,6 @@
+//! The mode that serves sessions on the lines of the input.
+#![tactic(auto)]
+
+mod serving;
+
+pub use serving::{Serving, serve_on};
