@@ -2,16 +2,141 @@
 ghost use Rattle.std.specs.Prelude.{IfOk};
 ghost use Rattle.mh_rules.specs.Ready.{IsModuleReady, AreModulesReady, IsReady};
 
-use mh_grammar::{Level, Name};
+use crate::expanding::put_instances;
+use crate::fronts::put_front;
+use crate::inlining::put_grammar;
+use crate::joining::put_joined;
+use mh_grammar::{Level, Name, Symbol};
 use mh_join::{Joined, Prec, join};
 use mh_reader::{Module, read_module};
 use std::alloc::Global;
-use std::process::Abort;
 use std::test::Fail;
 
-/// The files of a case, and what they give.
-pub fn parts(case: &str) -> Result<(&str, &str), Fail> {
-    Ok(case.split_once('~').ok_or("a case without a `~`")?)
+/// What is told of the files of each case.
+#[derive(Clone, Copy)]
+pub enum Subject {
+    /// Their joined rules, and whether the prelude stands behind them.
+    Joined(bool),
+    /// The instances of their rules, without the prelude.
+    Instances,
+    /// Their grammar, as it is inlined.
+    Grammar,
+    /// Their grammar, or what is told of their fault, and whether the prelude stands behind them.
+    Front(bool),
+}
+
+/// Adds what is told of files.
+fn put_answer(
+    alloc: Global,
+    text: &mut Vec<u8>,
+    subject: &Subject,
+    files: &str,
+) -> Result<(), Fail> {
+    match subject {
+        Subject::Joined(prelude) => put_joined(alloc, text, files, *prelude),
+        Subject::Instances => put_instances(alloc, text, files),
+        Subject::Grammar => put_grammar(alloc, text, files),
+        Subject::Front(prelude) => put_front(alloc, text, files, *prelude),
+    }
+}
+
+/// A fault that tells a text and where it was found.
+fn unlike(alloc: Global, found: &[u8], at: &str) -> Fail {
+    let found = str::from_utf8(found).unwrap_or("no text");
+    match format!(in alloc; "{found:?} at {at:?}") {
+        Ok(text) => Fail::new(text),
+        Err(_) => Fail::from("another text"),
+    }
+}
+
+/// What a text has to be.
+#[derive(Clone, Copy)]
+pub enum Wanted<'a> {
+    /// This text.
+    Whole(&'a str),
+    /// One of so many bytes, which begins so and ends so.
+    Ends(usize, &'a str, &'a str),
+}
+
+fn is_wanted(found: &[u8], wanted: &Wanted) -> bool {
+    match wanted {
+        Wanted::Whole(text) => found == text.as_bytes(),
+        Wanted::Ends(length, front, end) => {
+            let has_ends = found.starts_with(front.as_bytes()) & found.ends_with(end.as_bytes());
+            has_ends & (found.len() == *length)
+        }
+    }
+}
+
+/// Compares a text with what is wanted.
+pub fn check(alloc: Global, found: &[u8], wanted: &Wanted, at: &str) -> Result<(), Fail> {
+    if is_wanted(found, wanted) {
+        Ok(())
+    } else {
+        Err(unlike(alloc, found, at))
+    }
+}
+
+fn put_and_check(
+    alloc: Global,
+    text: &mut Vec<u8>,
+    subject: &Subject,
+    files: &str,
+    wanted: &Wanted,
+) -> Result<(), Fail> {
+    put_answer(alloc, text, subject, files)?;
+    check(alloc, text, wanted, files)
+}
+
+/// Compares what is told of files with what is wanted.
+pub fn check_answer(
+    alloc: Global,
+    subject: &Subject,
+    files: &str,
+    wanted: &Wanted,
+) -> Result<(), Fail> {
+    let mut text = Vec::new(alloc);
+    let result = put_and_check(alloc, &mut text, subject, files, wanted);
+    release(text);
+    result
+}
+
+/// The same of files that were built, which it lets go.
+pub fn check_built(
+    alloc: Global,
+    subject: &Subject,
+    files: String,
+    wanted: &Wanted,
+) -> Result<(), Fail> {
+    let result = check_answer(alloc, subject, &files, wanted);
+    release(files);
+    result
+}
+
+fn check_case(alloc: Global, subject: &Subject, case: &str) -> Result<(), Fail> {
+    match case.split_once('~') {
+        Some((files, wanted)) => check_answer(alloc, subject, files, &Wanted::Whole(wanted)),
+        None => Err(Fail::from("a case without a `~`")),
+    }
+}
+
+/// Compares what is told of each case, of so many, with what is wanted.
+pub fn check_cases(
+    alloc: Global,
+    subject: &Subject,
+    cases: &str,
+    count: usize,
+) -> Result<(), Fail> {
+    let mut left = count;
+    for case in cases.split('^') {
+        check_case(alloc, subject, case)?;
+        left = left.wrapping_sub(1);
+    }
+    if left == 0 {
+        Ok(())
+    } else {
+        Err(Fail::from("another count of cases"))
+    }
 }
 
 /// Lets a value go. Where its type is known, each way out that lets it go would be long to prove.
@@ -49,19 +174,6 @@ pub fn joined_of(alloc: Global, files: &str, prelude: bool) -> Result<Joined, Fa
     let joined = join(alloc, modules.as_slice(), prelude);
     release(modules);
     Ok(joined?)
-}
-
-/// Compares what was found with what is wanted, and lets it go.
-pub fn check(rt: &impl Abort, found: Vec<u8>, wanted: &str, at: &str) {
-    assert_eq!(rt; found.as_slice(), wanted.as_bytes(), "at {at:?}");
-}
-
-/// Compares the length of what was found, its front and its end with what is wanted, and lets it go.
-pub fn check_ends(rt: &impl Abort, found: Vec<u8>, length: usize, (front, end): (&str, &str)) {
-    let has_length = found.len() == length;
-    let has_ends = found.starts_with(front.as_bytes()) & found.ends_with(end.as_bytes());
-    release(found);
-    assert!(rt; has_length & has_ends, "at {front:?}, {end:?}");
 }
 
 /// Adds bytes to a text. One that finds no memory lacks them, and is not what is wanted.
@@ -114,4 +226,14 @@ pub fn push_prec(out: &mut Vec<u8>, prec: Prec) {
         Prec::Given(None) => put(out, b"-"),
         Prec::Given(Some(level)) => push_level(out, level),
     }
+}
+
+/// A token `t0`, or a nonterminal `n0`.
+pub fn push_symbol(out: &mut Vec<u8>, symbol: Symbol) {
+    let (kind, number) = match symbol {
+        Symbol::T(number) => (b"t", number),
+        Symbol::N(number) => (b"n", number),
+    };
+    put(out, kind);
+    push_digit(out, u64::from(number));
 }

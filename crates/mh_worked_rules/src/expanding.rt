@@ -4,7 +4,8 @@ ghost use Rattle.mh_rules.specs.Ready.{IsReady};
 ghost use Rattle.mh_expand.specs.Expansion.{IsFirstFault};
 
 use crate::cases::{
-    check, check_ends, joined_of, parts, push_digit, push_named, push_prec, put, release,
+    Subject, Wanted, check_answer, check_built, check_cases, joined_of, push_digit, push_named,
+    push_prec, put, release,
 };
 use mh_expand::{
     ExpandFault, Expanded, Instance, InstanceProduction, Part, expand, is_one_expansion,
@@ -12,20 +13,15 @@ use mh_expand::{
 };
 use mh_join::Joined;
 use std::alloc::Global;
-use std::process::Abort;
 use std::test::Fail;
 
 fn push_part(out: &mut Vec<u8>, part: Part) {
-    match part {
-        Part::Token(number) => {
-            put(out, b"t");
-            push_digit(out, u64::from(number));
-        }
-        Part::Instance(number) => {
-            put(out, b"i");
-            push_digit(out, u64::from(number));
-        }
-    }
+    let (kind, number) = match part {
+        Part::Token(number) => (b"t", u64::from(number)),
+        Part::Instance(number) => (b"i", u64::from(number)),
+    };
+    put(out, kind);
+    push_digit(out, number);
 }
 
 fn push_production(out: &mut Vec<u8>, production: &InstanceProduction) {
@@ -91,14 +87,6 @@ fn push_answer(alloc: Global, out: &mut Vec<u8>, joined: &Joined)
     }
 }
 
-fn answer(alloc: Global, joined: &Joined) -> Vec<u8>
-    requires { IsReady joined.now }
-{
-    let mut out = Vec::new(alloc);
-    push_answer(alloc, &mut out, joined);
-    out
-}
-
 /// Files and their instances.
 ///
 /// A fault is `A INSTANCE` (arity) or `E NAME` (expansion). Else there is `>` and the instance of each start, `:`, and each
@@ -134,66 +122,50 @@ fn cases() -> &'static str {
      %token A %start s %% s: t(A) {} t(x): t(a(x)) t(b(x)) {} a(x): {} b(x): {}~E t"
 }
 
-/// The instances of the rules of a file, or their fault.
-fn found(alloc: Global, text: &str) -> Result<Vec<u8>, Fail> {
-    let joined = joined_of(alloc, text, false)?;
-    let text = answer(alloc, &joined);
+/// Adds the instances of the rules of a file, or their fault.
+pub fn put_instances(alloc: Global, text: &mut Vec<u8>, file: &str) -> Result<(), Fail> {
+    let joined = joined_of(alloc, file, false)?;
+    push_answer(alloc, text, &joined);
     release(joined);
-    Ok(text)
-}
-
-fn check_case(rt: &impl Abort, alloc: Global, case: &str) -> Result<(), Fail> {
-    let (text, expected) = parts(case)?;
-    check(rt, found(alloc, text)?, expected, text);
     Ok(())
 }
 
 #[test]
 fn files(rt: HostRuntime) -> Result<(), Fail> {
-    for case in cases().split('^') {
-        check_case(&rt, rt.alloc(), case)?;
-    }
-    Ok(())
+    check_cases(rt.alloc(), &Subject::Instances, cases(), 13)
 }
 
-/// A name of so many letters.
-fn letters(alloc: Global, count: usize) -> String {
-    let mut name = String::new(alloc);
+/// A file whose one rule has a name of so many letters.
+fn file_of_letters(alloc: Global, count: usize) -> String {
+    let mut file = String::new(alloc);
+    let _ = file.push_str("%start ");
+    push_letters(&mut file, count);
+    let _ = file.push_str(" %% ");
+    push_letters(&mut file, count);
+    let _ = file.push_str(": {}");
+    file
+}
+
+fn push_letters(file: &mut String, count: usize) {
     for _ in 0..count {
-        let _ = name.push('s');
+        let _ = file.push('s');
     }
-    name
 }
 
-fn found_in(alloc: Global, text: String) -> Result<Vec<u8>, Fail> {
-    let found = found(alloc, &text);
-    release(text);
-    found
-}
-
-/// What a file gives whose one rule has a name of so many letters.
-fn found_of_letters(alloc: Global, count: usize) -> Result<Vec<u8>, Fail> {
-    let name = letters(alloc, count);
-    let text = format!(in alloc; "%start {name} %% {name}: {{}}");
-    release(name);
-    found_in(alloc, text?)
-}
-
-fn check_letters(
-    rt: &impl Abort,
-    alloc: Global,
-    count: usize,
-    length: usize,
-    front: &str,
-) -> Result<(), Fail> {
-    check_ends(rt, found_of_letters(alloc, count)?, length, (front, ""));
-    Ok(())
+fn check_letters(alloc: Global, count: usize, length: usize, front: &str) -> Result<(), Fail> {
+    let file = file_of_letters(alloc, count);
+    check_built(
+        alloc,
+        &Subject::Instances,
+        file,
+        &Wanted::Ends(length, front, ""),
+    )
 }
 
 #[test]
 fn long_starts(rt: HostRuntime) -> Result<(), Fail> {
-    check_letters(&rt, rt.alloc(), 1000, 1008, ">0:s")?;
-    check_letters(&rt, rt.alloc(), 1001, 1003, "E s")
+    check_letters(rt.alloc(), 1000, 1008, ">0:s")?;
+    check_letters(rt.alloc(), 1001, 1003, "E s")
 }
 
 /// The term with eight pairs in one another has 1,276 bytes, and `i` has one argument too few.
@@ -202,9 +174,9 @@ fn arity_before_expansion(rt: HostRuntime) -> Result<(), Fail> {
     let text = "%token A %start s %% s: a(A) {} a(x): b(p(x, x)) {} b(x): c(p(x, x)) {} \
                 c(x): d(p(x, x)) {} d(x): e(p(x, x)) {} e(x): f(p(x, x)) {} f(x): g(p(x, x)) {} \
                 g(x): h(p(x, x)) {} h(x): i(p(x, x)) {} i(x, y): {} p(x, y): {}";
-    let ends = ("A i(p(p(p(p(p(p(p(p(A,A),p(A,A)),", "p(A,A)))))))))");
-    check_ends(&rt, found(rt.alloc(), text)?, 1276 + 5, ends);
-    Ok(())
+    let (front, end) = ("A i(p(p(p(p(p(p(p(p(A,A),p(A,A)),", "p(A,A)))))))))");
+    let wanted = Wanted::Ends(1276 + 5, front, end);
+    check_answer(rt.alloc(), &Subject::Instances, text, &wanted)
 }
 
 fn check_expansion(alloc: Global, joined: &Joined) -> Result<(), Fail>

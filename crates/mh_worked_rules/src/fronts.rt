@@ -1,25 +1,23 @@
 //! Files and their grammars or faults, worked out by hand.
 ghost use Rattle.mh_rules.specs.Ready.{AreModulesReady};
 
-use crate::cases::{check, modules_of, parts, push_digit, put, release};
+use crate::cases::{
+    Subject, Wanted, check, check_answer, check_built, check_cases, modules_of, push_digit,
+    push_symbol, put, release,
+};
 use mh_front::{GrammarFault, fault_line, grammar_of};
-use mh_grammar::{Grammar, Symbol};
+use mh_grammar::{Grammar, Production};
 use mh_reader::Module;
 use std::alloc::Global;
 use std::fmt::Write;
-use std::process::Abort;
 use std::test::Fail;
 
-fn push_symbol(out: &mut Vec<u8>, symbol: Symbol) {
-    match symbol {
-        Symbol::T(token) => {
-            put(out, b"t");
-            push_digit(out, u64::from(token));
-        }
-        Symbol::N(nonterminal) => {
-            put(out, b"n");
-            push_digit(out, u64::from(nonterminal));
-        }
+fn push_production(out: &mut Vec<u8>, production: &Production) {
+    put(out, b" n");
+    push_digit(out, u64::from(production.lhs));
+    put(out, b":");
+    for symbol in production.rhs.as_slice() {
+        push_symbol(out, *symbol);
     }
 }
 
@@ -38,39 +36,43 @@ fn push_grammar(out: &mut Vec<u8>, grammar: &Grammar) {
         push_digit(out, u64::from(*start));
     }
     for production in grammar.productions.as_slice() {
-        put(out, b" n");
-        push_digit(out, u64::from(production.lhs));
-        put(out, b":");
-        for symbol in production.rhs.as_slice() {
-            push_symbol(out, *symbol);
-        }
+        push_production(out, production);
     }
 }
 
-fn answer_of(alloc: Global, modules: &[Module], prelude: bool) -> Result<Vec<u8>, Fail>
+fn put_line(alloc: Global, text: &mut Vec<u8>, fault: &GrammarFault) {
+    if let Ok(line) = fault_line(alloc, fault) {
+        put(text, &line);
+        release(line);
+    }
+}
+
+fn put_answer(alloc: Global, text: &mut Vec<u8>, modules: &[Module], prelude: bool)
     requires { AreModulesReady modules.now }
 {
     match grammar_of(alloc, modules, prelude) {
         Ok(grammar) => {
-            let mut text = Vec::new(alloc);
-            push_grammar(&mut text, &grammar);
+            push_grammar(text, &grammar);
             release(grammar);
-            Ok(text)
         }
         Err(fault) => {
-            let line = fault_line(alloc, &fault);
+            put_line(alloc, text, &fault);
             release(fault);
-            Ok(line?)
         }
     }
 }
 
-/// The grammar of files in short, or what is told of its fault.
-fn answer(alloc: Global, files: &str, prelude: bool) -> Result<Vec<u8>, Fail> {
+/// Adds the grammar of files in short, or what is told of its fault.
+pub fn put_front(
+    alloc: Global,
+    text: &mut Vec<u8>,
+    files: &str,
+    prelude: bool,
+) -> Result<(), Fail> {
     let modules = modules_of(alloc, files)?;
-    let text = answer_of(alloc, modules.as_slice(), prelude);
+    put_answer(alloc, text, modules.as_slice(), prelude);
     release(modules);
-    text
+    Ok(())
 }
 
 /// Files and what is told of them.
@@ -96,29 +98,9 @@ fn cases() -> &'static str {
      X Y EOF main unit@1 nonempty_list(item) item >0 n0:n1n2t2 n3:t0 n1: n3:t1 n2:n3 n2:n3n2"
 }
 
-fn check_files(rt: &impl Abort, alloc: Global, text: &str, wanted: &str) -> Result<(), Fail> {
-    check(rt, answer(alloc, text, true)?, wanted, text);
-    Ok(())
-}
-
-fn check_case(rt: &impl Abort, alloc: Global, case: &str) -> Result<(), Fail> {
-    let (text, expected) = parts(case)?;
-    check_files(rt, alloc, text, expected)
-}
-
 #[test]
 fn worked_files(rt: HostRuntime) -> Result<(), Fail> {
-    for case in cases().split('^') {
-        check_case(&rt, rt.alloc(), case)?;
-    }
-    Ok(())
-}
-
-/// The same of a text that was built, which is let go.
-fn check_built(rt: &impl Abort, alloc: Global, text: String, wanted: &str) -> Result<(), Fail> {
-    let result = check_files(rt, alloc, &text, wanted);
-    release(text);
-    result
+    check_cases(rt.alloc(), &Subject::Front(true), cases(), 14)
 }
 
 fn push_tokens(text: &mut String) {
@@ -133,7 +115,8 @@ fn push_tokens(text: &mut String) {
 fn one_token_too_many(rt: HostRuntime) -> Result<(), Fail> {
     let mut text = String::new(rt.alloc());
     push_tokens(&mut text);
-    check_built(&rt, rt.alloc(), text, "too many tokens: 513")
+    let wanted = Wanted::Whole("too many tokens: 513");
+    check_built(rt.alloc(), &Subject::Front(true), text, &wanted)
 }
 
 /// Inline rules that double: the last has 2^14 symbols.
@@ -149,24 +132,22 @@ fn push_doubles(text: &mut String) {
 fn one_production_too_long(rt: HostRuntime) -> Result<(), Fail> {
     let mut text = String::new(rt.alloc());
     push_doubles(&mut text);
-    check_built(&rt, rt.alloc(), text, "too many productions")
+    let wanted = Wanted::Whole("too many productions");
+    check_built(rt.alloc(), &Subject::Front(true), text, &wanted)
 }
 
 #[test]
 fn no_prelude(rt: HostRuntime) -> Result<(), Fail> {
     let text = "%token A %start s %% s: option(A) {}";
-    check(
-        &rt,
-        answer(rt.alloc(), text, false)?,
-        "undefined: option",
-        text,
-    );
-    Ok(())
+    let wanted = Wanted::Whole("undefined: option");
+    check_answer(rt.alloc(), &Subject::Front(false), text, &wanted)
 }
 
 #[test]
 fn want_of_memory_is_told(rt: HostRuntime) -> Result<(), Fail> {
-    let line = fault_line(rt.alloc(), &GrammarFault::Memory)?;
-    check(&rt, line, "out of memory", "memory");
-    Ok(())
+    let mut text = Vec::new(rt.alloc());
+    put_line(rt.alloc(), &mut text, &GrammarFault::Memory);
+    let result = check(rt.alloc(), &text, &Wanted::Whole("out of memory"), "memory");
+    release(text);
+    result
 }

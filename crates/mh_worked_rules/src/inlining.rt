@@ -2,12 +2,13 @@
 ghost use Rattle.std.specs.Prelude.{IfOk};
 ghost use Rattle.mh_rules.specs.Ready.{IsExpandedReady};
 
-use crate::cases::{check, joined_of, parts, push_digit, push_level, push_named, put, release};
+use crate::cases::{
+    Subject, check_cases, joined_of, push_digit, push_level, push_named, push_symbol, put, release,
+};
 use mh_expand::{Expanded, expand};
-use mh_grammar::{Grammar, Production, Symbol};
+use mh_grammar::{Grammar, NontermInfo, Production};
 use mh_inline::{InlineFault, inline_rules, is_grammar_or_fault, is_one_fault, is_one_grammar};
 use std::alloc::Global;
-use std::process::Abort;
 use std::test::Fail;
 
 /// The instances of files that have no fault so far.
@@ -18,19 +19,6 @@ fn expanded_of(alloc: Global, files: &str) -> Result<Expanded, Fail>
     let expanded = expand(alloc, &joined);
     release(joined);
     Ok(expanded?)
-}
-
-fn push_symbol(out: &mut Vec<u8>, symbol: Symbol) {
-    match symbol {
-        Symbol::T(number) => {
-            put(out, b"t");
-            push_digit(out, u64::from(number));
-        }
-        Symbol::N(number) => {
-            put(out, b"n");
-            push_digit(out, u64::from(number));
-        }
-    }
 }
 
 fn push_production(out: &mut Vec<u8>, production: &Production) {
@@ -45,6 +33,15 @@ fn push_production(out: &mut Vec<u8>, production: &Production) {
     put(out, b";");
 }
 
+fn push_nonterminal(out: &mut Vec<u8>, nonterminal: &NontermInfo) {
+    put(out, b" ");
+    put(out, nonterminal.name.as_slice());
+    if let Some(rank) = nonterminal.on_error {
+        put(out, b"<");
+        push_digit(out, rank);
+    }
+}
+
 /// The starts, the nonterminals and the productions in short.
 fn push_grammar(out: &mut Vec<u8>, grammar: &Grammar) {
     for start in grammar.starts.as_slice() {
@@ -52,12 +49,7 @@ fn push_grammar(out: &mut Vec<u8>, grammar: &Grammar) {
         push_digit(out, u64::from(*start));
     }
     for nonterminal in grammar.nonterminals.as_slice() {
-        put(out, b" ");
-        put(out, nonterminal.name.as_slice());
-        if let Some(rank) = nonterminal.on_error {
-            put(out, b"<");
-            push_digit(out, rank);
-        }
+        push_nonterminal(out, nonterminal);
     }
     put(out, b":");
     for production in grammar.productions.as_slice() {
@@ -89,14 +81,6 @@ fn push_answer(alloc: Global, out: &mut Vec<u8>, expanded: &Expanded)
             release(fault);
         }
     }
-}
-
-fn answer(alloc: Global, expanded: &Expanded) -> Vec<u8>
-    requires { IsExpandedReady expanded.now }
-{
-    let mut out = Vec::new(alloc);
-    push_answer(alloc, &mut out, expanded);
-    out
 }
 
 /// Files and their grammars.
@@ -134,26 +118,17 @@ fn cases() -> &'static str {
      %token A %start s t %% s: A {} t: t A {}~E t"
 }
 
-/// The grammar of files, or their fault.
-fn found(alloc: Global, texts: &str) -> Result<Vec<u8>, Fail> {
-    let expanded = expanded_of(alloc, texts)?;
-    let text = answer(alloc, &expanded);
+/// Adds the grammar of files, or their fault.
+pub fn put_grammar(alloc: Global, text: &mut Vec<u8>, files: &str) -> Result<(), Fail> {
+    let expanded = expanded_of(alloc, files)?;
+    push_answer(alloc, text, &expanded);
     release(expanded);
-    Ok(text)
-}
-
-fn check_case(rt: &impl Abort, alloc: Global, case: &str) -> Result<(), Fail> {
-    let (texts, expected) = parts(case)?;
-    check(rt, found(alloc, texts)?, expected, texts);
     Ok(())
 }
 
 #[test]
 fn files(rt: HostRuntime) -> Result<(), Fail> {
-    for case in cases().split('^') {
-        check_case(&rt, rt.alloc(), case)?;
-    }
-    Ok(())
+    check_cases(rt.alloc(), &Subject::Grammar, cases(), 17)
 }
 
 fn check_grammar(alloc: Global, expanded: &Expanded) -> Result<(), Fail>

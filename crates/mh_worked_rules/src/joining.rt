@@ -2,21 +2,21 @@
 ghost use Rattle.mh_rules.specs.Ready.{AreModulesReady};
 
 use crate::cases::{
-    check, check_ends, modules_of, parts, push_digit, push_level, push_named, push_number,
-    push_prec, put, release,
+    Subject, Wanted, check_built, check_cases, modules_of, push_digit, push_level, push_named,
+    push_number, push_prec, put, release,
 };
+use mh_grammar::TokenInfo;
 use mh_join::{
     Applied, Head, JoinFault, Joined, JoinedAlternative, JoinedRule, is_joined_or_fault,
     is_one_fault, is_one_joined, join, prelude_rules,
 };
-use mh_reader::{Actual, Module, Ref, Rule};
+use mh_reader::{Actual, Alternative, Module, Ref, Rule};
 use std::alloc::Global;
 use std::fmt::Write;
-use std::process::Abort;
 use std::test::Fail;
 
-fn push_applied(out: &mut Vec<u8>, applied: &Applied) {
-    match applied.head {
+fn push_head(out: &mut Vec<u8>, head: Head) {
+    match head {
         Head::Formal(number) => {
             put(out, b"f");
             push_digit(out, number);
@@ -30,6 +30,10 @@ fn push_applied(out: &mut Vec<u8>, applied: &Applied) {
             push_number(out, number);
         }
     }
+}
+
+fn push_applied(out: &mut Vec<u8>, applied: &Applied) {
+    push_head(out, applied.head);
     if !applied.args.is_empty() {
         put(out, b"(");
         for arg in applied.args.as_slice() {
@@ -134,14 +138,6 @@ fn push_answer(alloc: Global, out: &mut Vec<u8>, modules: &[Module], prelude: bo
             release(fault);
         }
     }
-}
-
-fn answer(alloc: Global, modules: &[Module], prelude: bool) -> Vec<u8>
-    requires { AreModulesReady modules.now }
-{
-    let mut out = Vec::new(alloc);
-    push_answer(alloc, &mut out, modules, prelude);
-    out
 }
 
 /// Files without the prelude, and what they give.
@@ -249,32 +245,23 @@ fn cases_with_prelude() -> &'static str {
      %token X %start s %% s: {} option(Y): Y {}~X >0:s0|1.0;option1|1.1 f0;option@01|0.0|0.1 f0;"
 }
 
-/// What the files of a case give.
-fn found(alloc: Global, texts: &str, prelude: bool) -> Result<Vec<u8>, Fail> {
-    let modules = modules_of(alloc, texts)?;
-    let text = answer(alloc, modules.as_slice(), prelude);
+/// Adds what files give.
+pub fn put_joined(
+    alloc: Global,
+    text: &mut Vec<u8>,
+    files: &str,
+    prelude: bool,
+) -> Result<(), Fail> {
+    let modules = modules_of(alloc, files)?;
+    push_answer(alloc, text, modules.as_slice(), prelude);
     release(modules);
-    Ok(text)
-}
-
-/// Compares what the files of a case give with what it says.
-fn check_case(rt: &impl Abort, alloc: Global, case: &str, prelude: bool) -> Result<(), Fail> {
-    let (texts, expected) = parts(case)?;
-    check(rt, found(alloc, texts, prelude)?, expected, texts);
-    Ok(())
-}
-
-fn check_cases(rt: &impl Abort, alloc: Global, cases: &str, prelude: bool) -> Result<(), Fail> {
-    for case in cases.split('^') {
-        check_case(rt, alloc, case, prelude)?;
-    }
     Ok(())
 }
 
 #[test]
 fn files(rt: HostRuntime) -> Result<(), Fail> {
-    check_cases(&rt, rt.alloc(), cases(), false)?;
-    check_cases(&rt, rt.alloc(), cases_with_prelude(), true)
+    check_cases(rt.alloc(), &Subject::Joined(false), cases(), 65)?;
+    check_cases(rt.alloc(), &Subject::Joined(true), cases_with_prelude(), 15)
 }
 
 fn check_answer(alloc: Global, modules: &[Module]) -> Result<(), Fail>
@@ -295,20 +282,23 @@ fn one_answer(rt: HostRuntime) -> Result<(), Fail> {
     result
 }
 
-fn check_fault(rt: &impl Abort, alloc: Global, modules: &[Module]) -> Result<(), Fail>
+fn check_fault(alloc: Global, modules: &[Module]) -> Result<(), Fail>
     requires { AreModulesReady modules.now }
 {
     match join(alloc, modules, false) {
         Ok(joined) => {
             release(joined);
-            Err("no fault".into())
+            Err(Fail::from("no fault"))
         }
         Err(fault) => {
             is_one_fault(false, modules, &fault, &fault);
             let is_no_start = fault == JoinFault::NoStart;
             release(fault);
-            assert!(rt; is_no_start);
-            Ok(())
+            if is_no_start {
+                Ok(())
+            } else {
+                Err(Fail::from("another fault"))
+            }
         }
     }
 }
@@ -316,7 +306,7 @@ fn check_fault(rt: &impl Abort, alloc: Global, modules: &[Module]) -> Result<(),
 #[test]
 fn one_fault(rt: HostRuntime) -> Result<(), Fail> {
     let modules = modules_of(rt.alloc(), "%% s: {}")?;
-    let result = check_fault(&rt, rt.alloc(), modules.as_slice());
+    let result = check_fault(rt.alloc(), modules.as_slice());
     release(modules);
     result
 }
@@ -332,15 +322,6 @@ fn push_tokens(texts: &mut String, more: &str) {
     let _ = texts.push_str(more);
 }
 
-/// What a file with 512 tokens and this text gives, with the files behind it.
-fn with_tokens(alloc: Global, more: &str) -> Result<Vec<u8>, Fail> {
-    let mut texts = String::new(alloc);
-    push_tokens(&mut texts, more);
-    let found = found(alloc, &texts, false);
-    release(texts);
-    found
-}
-
 /// Text behind 512 tokens, and how many bytes its answer has and what they end with; `~` between these, and `^` between cases.
 const COUNTS: &str = " %start s %% s: {}~1802~Pp_ >0:s0|1.0;^\
      \x20Z %start s %% s: {}~12~too many 513^\
@@ -349,19 +330,26 @@ const COUNTS: &str = " %start s %% s: {}~1802~Pp_ >0:s0|1.0;^\
      \x20%start s %% s: {}#%token Pp_ Z Aa %%~12~too many 513^\
      \x20Z %start s %% s: {} %prec y~3~L y";
 
-fn check_count(rt: &impl Abort, alloc: Global, case: &str) -> Result<(), Fail> {
-    let (more, rest) = parts(case)?;
-    let (length, end) = parts(rest)?;
-    let length = length.parse()?;
-    check_ends(rt, with_tokens(alloc, more)?, length, ("", end));
-    Ok(())
+/// Adds 512 tokens and a text, and compares what the files give.
+fn check_behind(alloc: Global, more: &str, wanted: &Wanted) -> Result<(), Fail> {
+    let mut files = String::new(alloc);
+    push_tokens(&mut files, more);
+    check_built(alloc, &Subject::Joined(false), files, wanted)
+}
+
+fn check_count(alloc: Global, case: &str) -> Result<(), Fail> {
+    let mut parts = case.split('~');
+    let more = parts.next().unwrap_or("");
+    let length = parts.next().unwrap_or("").parse().unwrap_or(0);
+    let end = parts.next().unwrap_or("another end");
+    check_behind(alloc, more, &Wanted::Ends(length, "", end))
 }
 
 /// Each of 256 pairs of tokens is 7 bytes of the answer.
 #[test]
 fn counts_of_tokens(rt: HostRuntime) -> Result<(), Fail> {
     for case in COUNTS.split('^') {
-        check_count(&rt, rt.alloc(), case)?;
+        check_count(rt.alloc(), case)?;
     }
     Ok(())
 }
@@ -410,6 +398,17 @@ fn push_actual(out: &mut Vec<u8>, actual: &Actual) {
     put(out, b")");
 }
 
+fn push_source_alternative(out: &mut Vec<u8>, alternative: &Alternative) {
+    put(out, b"|");
+    for producer in alternative.producers.as_slice() {
+        push_actual(out, producer);
+    }
+    if let Some(reference) = &alternative.prec {
+        put(out, b"%");
+        push_reference(out, reference);
+    }
+}
+
 /// Everything that a rule holds, each part with an end of its own.
 fn push_source(out: &mut Vec<u8>, rule: &Rule) {
     put(out, if rule.public { b"p" } else { b"o" });
@@ -420,14 +419,7 @@ fn push_source(out: &mut Vec<u8>, rule: &Rule) {
         put(out, formal.as_slice());
     }
     for alternative in rule.alternatives.as_slice() {
-        put(out, b"|");
-        for producer in alternative.producers.as_slice() {
-            push_actual(out, producer);
-        }
-        if let Some(reference) = &alternative.prec {
-            put(out, b"%");
-            push_reference(out, reference);
-        }
+        push_source_alternative(out, alternative);
     }
     put(out, b";");
 }
@@ -440,29 +432,38 @@ fn sources(alloc: Global, rules: &[Rule]) -> Vec<u8> {
     out
 }
 
-fn check_rules(rt: &impl Abort, alloc: Global, found: &[Rule], rules: &[Rule]) {
+fn are_same(alloc: Global, found: &[Rule], rules: &[Rule]) -> bool {
     let sources_of_found = sources(alloc, found);
     let sources_of_rules = sources(alloc, rules);
-    assert!(rt; rules.len() == 18 && sources_of_found == sources_of_rules);
+    let are_same = sources_of_found == sources_of_rules;
+    release(sources_of_found);
+    release(sources_of_rules);
+    are_same
 }
 
-fn check_prelude(rt: &impl Abort, alloc: Global, modules: &[Module]) -> Result<(), Fail> {
-    let [found] = modules else {
-        return Err("not one file".into());
-    };
+/// Whether a file has no declarations, and the rules of the prelude.
+fn is_prelude(alloc: Global, found: &Module) -> bool {
     let has_no_tokens = found.tokens.is_empty() & found.starts.is_empty();
     let has_no_levels = found.levels.is_empty() & found.on_error.is_empty();
-    assert!(rt; has_no_tokens & has_no_levels);
-    let rules = prelude_rules(alloc, true)?;
-    check_rules(rt, alloc, found.rules.as_slice(), rules.as_slice());
-    release(rules);
-    Ok(())
+    match prelude_rules(alloc, true) {
+        Ok(rules) => {
+            let has_rules = rules.len() == 18
+                && are_same(alloc, found.rules.as_slice(), rules.as_slice());
+            release(rules);
+            has_rules & has_no_tokens & has_no_levels
+        }
+        Err(_) => false,
+    }
 }
 
 #[test]
 fn prelude_is_what_its_text_spells(rt: HostRuntime) -> Result<(), Fail> {
     let modules = modules_of(rt.alloc(), prelude_text())?;
-    let result = check_prelude(&rt, rt.alloc(), modules.as_slice());
+    let is_prelude = match modules.as_slice() {
+        [found] => is_prelude(rt.alloc(), found),
+        _ => false,
+    };
     release(modules);
-    result
+    assert!(rt; is_prelude);
+    Ok(())
 }
