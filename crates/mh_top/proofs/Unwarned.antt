@@ -13,7 +13,8 @@ use Rattle.mh_grammar.specs.ItemSets.{ItemSet}
 use Rattle.mh_kernels.specs.Shapes.{Automaton}
 use Rattle.mh_cells.specs.Names.{look_name}
 use Rattle.mh_grammar.specs.Text.{Text}
-use Rattle.mh_notation.specs.Warnings.{conflict_place, warning_line}
+use Rattle.mh_parts.specs.Conflicts.{conflict_place}
+use Rattle.mh_notation.specs.Warnings.{warning_line}
 use Rattle.mh_report.specs.Warnings.{warning_lines}
 use Rattle.mh_tables.specs.declared.parts.Action.{Action}
 use Rattle.mh_tables.specs.declared.parts.Action.TheVariants.{Shift, Reduce, Refuse}
