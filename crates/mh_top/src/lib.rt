@@ -3,12 +3,11 @@
 
 mod exit;
 mod following;
-mod laws;
 mod top;
 
 pub use exit::run;
-pub use laws::{
+pub use mh_drive::{Cause, status};
+pub use mh_program::{
     lines_are_answered, runs_are_one, some_work_is_asked, unwarned_is_clear, work_is_one,
 };
-pub use mh_drive::{Cause, status};
 pub use top::menhir;

@@ -1,5 +1,5 @@
-use Rattle.mh_top.proofs.EachLine.{answered_at, verdict_at}
-use Rattle.mh_top.proofs.laws.lines_are_answered.Goals as goal
+use Rattle.mh_program.proofs.EachLine.{answered_at, verdict_at}
+use Rattle.mh_program.proofs.laws.lines_are_answered.Goals as goal
 
 pub returns-clause-each : goal.returns-clause-each
 returns-clause-each c = λ plan last before after line text all. answered_at plan last before line after text all

@@ -6,13 +6,13 @@ use Rattle.mh_drive.specs.Causes.{Staged, Go, Halt}
 use Rattle.mh_plans.specs.Verdicts.{Answering}
 use Rattle.mh_plans.specs.Plan.{Plan, Judges, Answers, by_plan}
 use Rattle.mh_drive.specs.Ways.{AnswersAll}
-use Rattle.mh_top.specs.AtLine.{IsAnsweredAt, HasVerdictAt}
-use Rattle.mh_top.specs.Work.{Work, IsPlanUnless, IsWork, IsWorkOf, has_warning}
+use Rattle.mh_program.specs.AtLine.{IsAnsweredAt, HasVerdictAt}
+use Rattle.mh_program.specs.Work.{Work, IsPlanUnless, IsWork, IsWorkOf, has_warning}
 use Rattle.mh_prepare.specs.Preparing.{IsPrepared}
 use Rattle.mh_prepared.specs.Shapes.{Prepared}
 use Rattle.mh_plans.proofs.Reading.{Runs}
 use Rattle.mh_outcomes.proofs.EachMode.{facts_of}
-use Rattle.mh_top.proofs.Exactly.{prepared_runs}
+use Rattle.mh_program.proofs.Exactly.{prepared_runs}
 
 pub answered_at : (plan last : Plan) (before : List Text) (line : Text) (after : List Text) (text : Text) → AnswersAll by_plan plan (before ++ line ∷ after) text last → IsAnsweredAt plan before line after text last
 answered_at plan last [] line after text all = record { front = []; answer = all.0; rest = all.1; mid = plan; next = all.2; all_before = (refl, refl); answers = all.3; all_after = all.4; text_is = all.5 }

@@ -26,11 +26,11 @@ use Rattle.mh_prepare.specs.TableFile.{IsTableFile}
 use Rattle.mh_prepare.specs.TableStage.{IsAutomatonStage, IsResolvedStage, IsSource, IsSourceBy, IsTableStage, mode_of}
 use Rattle.mh_drive.specs.Ways.{Finish, AnswersAll, AsksFor, EndsBehind, Outcome, Yields}
 use Rattle.mh_plans.specs.Plan.{Plan, EndsWith, asks_of, halts, by_plan}
-use Rattle.mh_top.specs.Work.{Work, IsPlanUnless, IsWork, IsWorkOf, has_warning, warnings_of}
+use Rattle.mh_program.specs.Work.{Work, IsPlanUnless, IsWork, IsWorkOf, has_warning, warnings_of}
 use Rattle.mh_loading.specs.FrontStage.{IsFront}
 use Rattle.mh_prepare.specs.Preparing.{IsPrepared, IsTabledFrom, IsTabledFront}
-use Rattle.mh_top.specs.Run.{err_of, IsDue, OfGrammar, OfTables, OfMode, IsTurnBehind, IsTurnUnless}
-use Rattle.mh_top.specs.Claims.{AsksLines, HoldsFile, IsPast}
+use Rattle.mh_program.specs.Run.{err_of, IsDue, OfGrammar, OfTables, OfMode, IsTurnBehind, IsTurnUnless}
+use Rattle.mh_program.specs.Claims.{AsksLines, HoldsFile, IsPast}
 use Rattle.mh_drive.specs.declared.driving.Asks.{Asks}
 use Rattle.mh_drive.specs.declared.driving.Asks.TheVariants.{NoLine, FirstLine, EachLine}
 use Rattle.mh_loading.specs.declared.front.Front.{Front}

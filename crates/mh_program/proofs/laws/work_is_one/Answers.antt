@@ -1,5 +1,5 @@
-use Rattle.mh_top.proofs.Once.{outcome_once, work_once}
-use Rattle.mh_top.proofs.laws.work_is_one.Goals as goal
+use Rattle.mh_program.proofs.Once.{outcome_once, work_once}
+use Rattle.mh_program.proofs.laws.work_is_one.Goals as goal
 
 pub returns-clause-work : goal.returns-clause-work
 returns-clause-work c = work_once

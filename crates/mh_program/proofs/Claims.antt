@@ -10,16 +10,16 @@ use Rattle.mh_drive.specs.Statuses.{status_of}
 use Rattle.mh_loading.specs.Order.{staged_order}
 use Rattle.mh_plans.specs.Plan.{Plan, asks_of, by_plan}
 use Rattle.mh_drive.specs.Ways.{AnswersAll, AsksFor, EndsBehind, Outcome, Yields}
-use Rattle.mh_top.specs.Work.{Work, IsWork}
+use Rattle.mh_program.specs.Work.{Work, IsWork}
 use Rattle.mh_drive.specs.Drive.{AreFirst, Partly, GotAt, CutAt, WantsAt, IsOfEnd, IsOfLine}
-use Rattle.mh_top.specs.Run.{World, Ran, Finished, CannotReadFile, CannotReadInput, CannotWarn, CannotWrite, CannotSay, NoMemory, Behind, Done, Nothing, Warned, Begun, EndedSo, Says, OfCause, OfFile, OfInput, OfMemory, Does, IsStill}
-use Rattle.mh_top.specs.Claims.{AbsentIsSaid, AsksLines, Completes, Finishes, IsAbsent, IsDone, IsLongFile, IsLongInput, IsOutPart, IsPast, IsStatus, Keeps, LongFileIsSaid, LongInputIsSaid, MisuseHasCause, ReadFaultHasCause, TooBigHasCause, WantKeeps, WriteFaultHasCause, WriteFaultIsSaid, WriteFaultStops, WritesPart, WritesPartOfEach}
+use Rattle.mh_program.specs.Run.{World, Ran, Finished, CannotReadFile, CannotReadInput, CannotWarn, CannotWrite, CannotSay, NoMemory, Behind, Done, Nothing, Warned, Begun, EndedSo, Says, OfCause, OfFile, OfInput, OfMemory, Does, IsStill}
+use Rattle.mh_program.specs.Claims.{AbsentIsSaid, AsksLines, Completes, Finishes, IsAbsent, IsDone, IsLongFile, IsLongInput, IsOutPart, IsPast, IsStatus, Keeps, LongFileIsSaid, LongInputIsSaid, MisuseHasCause, ReadFaultHasCause, TooBigHasCause, WantKeeps, WriteFaultHasCause, WriteFaultIsSaid, WriteFaultStops, WritesPart, WritesPartOfEach}
 use Rattle.mh_drive.specs.declared.driving.Asks.{Asks}
 use Rattle.mh_drive.specs.declared.driving.Asks.TheVariants.{NoLine, FirstLine, EachLine}
 use Rattle.mh_drive.specs.declared.stop.Cause.{Cause}
 use Rattle.mh_drive.specs.declared.stop.Cause.TheVariants.{Refused, Misused, Missing, LongFile, LongInput}
-use Rattle.mh_top.proofs.Endings.{AccountsOn, ended, long_gives, misused_says, missing_gives}
-use Rattle.mh_top.proofs.Once.{work_once}
+use Rattle.mh_program.proofs.Endings.{AccountsOn, ended, long_gives, misused_says, missing_gives}
+use Rattle.mh_program.proofs.Once.{work_once}
 
 Appends-nil : (out : Option Text) → Appends out out []
 Appends-nil None = tt

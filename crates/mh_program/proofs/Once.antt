@@ -5,7 +5,7 @@ use Rattle.mh_grammar.specs.Text.{Text}
 use Rattle.mh_drive.specs.Causes.{Staged, Go, Halt}
 use Rattle.mh_plans.specs.Plan.{Plan, asks_of, by_plan}
 use Rattle.mh_drive.specs.Ways.{AnswersAll, AsksFor, EndsBehind, Outcome, Yields, left_behind}
-use Rattle.mh_top.specs.Work.{Work, IsPlanUnless, IsWork, IsWorkOf, has_warning}
+use Rattle.mh_program.specs.Work.{Work, IsPlanUnless, IsWork, IsWorkOf, has_warning}
 use Rattle.mh_prepare.specs.Preparing.{IsPrepared}
 use Rattle.mh_drive.specs.declared.driving.Asks.{Asks}
 use Rattle.mh_drive.specs.declared.driving.Asks.TheVariants.{NoLine, FirstLine, EachLine}

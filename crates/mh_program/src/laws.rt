@@ -1,14 +1,14 @@
 //! What the definition of the work says: empty calls that tell it to contracts.
 ghost use Rattle.std.specs.Prelude.{◌≡◌, ◌∷◌, ◌++◌, List, Option, Some};
 ghost use Rattle.mh_outside.specs.Shelf.{Files};
-ghost use Rattle.mh_top.specs.AtLine.{IsAnsweredAt, HasVerdictAt};
-ghost use Rattle.mh_top.specs.Exact.{ClearWhereUnwarned};
+ghost use Rattle.mh_program.specs.AtLine.{IsAnsweredAt, HasVerdictAt};
+ghost use Rattle.mh_program.specs.Exact.{ClearWhereUnwarned};
 ghost use Rattle.mh_drive.specs.Causes.{Staged};
 ghost use Rattle.mh_plans.specs.Plan.{Plan, Judges, by_plan};
 ghost use Rattle.mh_drive.specs.Ways.{AnswersAll, Outcome, Yields};
 ghost use Rattle.mh_grammar.specs.Text.{Text};
 ghost use Rattle.mh_plans.specs.Verdicts.{Answering};
-ghost use Rattle.mh_top.specs.Work.{Work, IsWork};
+ghost use Rattle.mh_program.specs.Work.{Work, IsWork};
 ghost use Rattle.mh_prepare.specs.Preparing.{IsPrepared};
 ghost use Rattle.mh_prepared.specs.Shapes.{Prepared};
 

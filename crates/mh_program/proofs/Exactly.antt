@@ -18,8 +18,8 @@ use Rattle.mh_knuth.proofs.Only.{one_canonical}
 use Rattle.mh_knuth.proofs.States.{IsOver-states}
 use Rattle.mh_pager.proofs.Finishing.{merged_automaton}
 use Rattle.mh_pager.proofs.Limits.{merged_few}
-use Rattle.mh_top.proofs.Merging.{merged_clear}
-use Rattle.mh_top.proofs.Unwarned.{unwarned_clear}
+use Rattle.mh_program.proofs.Merging.{merged_clear}
+use Rattle.mh_program.proofs.Unwarned.{unwarned_clear}
 use Rattle.mh_cells.specs.Clear.{HasNoConflicts}
 use Rattle.mh_cells.specs.States.{IsTableOf}
 use Rattle.mh_cells.proofs.Resolving.{facts_of}
@@ -47,9 +47,9 @@ use Rattle.mh_msgfile.proofs.Below.{sentence_start}
 use Rattle.mh_plans.specs.Verdicts.{Answering, FoundBy, SentenceText, behind_refusal, verdict_text, outcome_text}
 use Rattle.mh_plans.specs.MessagesStage.{Messages}
 use Rattle.mh_plans.specs.Plan.{Judges, halts}
-use Rattle.mh_top.specs.Work.{Work, IsPlanUnless, IsWork, IsWorkOf, has_warning, warnings_of}
+use Rattle.mh_program.specs.Work.{Work, IsPlanUnless, IsWork, IsWorkOf, has_warning, warnings_of}
 use Rattle.mh_prepare.specs.Preparing.{IsPrepared}
-use Rattle.mh_top.specs.Exact.{IsClear, IsClearTable, IsLR1, NameNoTables, AnswersSentence, Accepts, Rejects, IsTooDeepText, ShowsTree, AcceptsExactly, RejectsRightly, OvershootsRightly, AcceptsRightly, TooDeepExactly, HasNoLevels, ClearWhereUnwarned}
+use Rattle.mh_program.specs.Exact.{IsClear, IsClearTable, IsLR1, NameNoTables, AnswersSentence, Accepts, Rejects, IsTooDeepText, ShowsTree, AcceptsExactly, RejectsRightly, OvershootsRightly, AcceptsRightly, TooDeepExactly, HasNoLevels, ClearWhereUnwarned}
 use Rattle.mh_prepared.specs.Prepared.{IsFit}
 use Rattle.mh_prepared.specs.Shapes.{Prepared}
 use Rattle.mh_drive.specs.declared.stop.Cause.{Cause}

@@ -7,19 +7,19 @@ use Rattle.mh_opts.specs.declared.jobs.Job.TheVariants.{ListErrors}
 use Rattle.mh_outside.specs.Shelf.{Files}
 use Rattle.mh_drive.specs.Causes.{Staged, Go, Halt}
 use Rattle.mh_drive.specs.Statuses.{said, status_of}
-use Rattle.mh_top.specs.ErrorLists.{AnsweredErrors, AsksForErrors, Listed, ListsErrorsExactly, Refused}
+use Rattle.mh_program.specs.ErrorLists.{AnsweredErrors, AsksForErrors, Listed, ListsErrorsExactly, Refused}
 use Rattle.mh_plans.specs.Listing.{ListsErrors, Lists, TooLong}
 use Rattle.mh_drive.specs.Ways.{Finish, AnswersAll, AsksFor, EndsBehind, Outcome, Yields}
 use Rattle.mh_plans.specs.Plan.{Plan, EndsBy, EndsWith, IsPlanOfJob, Ends, Errors, by_plan}
-use Rattle.mh_top.specs.Run.{World, Does, err_of}
-use Rattle.mh_top.specs.Run as runs
+use Rattle.mh_program.specs.Run.{World, Does, err_of}
+use Rattle.mh_program.specs.Run as runs
 use Rattle.mh_prepared.specs.Shapes.{Prepared}
 use Rattle.mh_grammar.specs.Text.{Text}
-use Rattle.mh_top.specs.Work.{Work, IsPlanUnless, IsWork, IsWorkOf, has_warning, warnings_of}
+use Rattle.mh_program.specs.Work.{Work, IsPlanUnless, IsWork, IsWorkOf, has_warning, warnings_of}
 use Rattle.mh_prepare.specs.Preparing.{IsPrepared}
 use Rattle.mh_drive.specs.declared.driving.Asks.TheVariants.{NoLine}
 use Rattle.mh_drive.specs.declared.stop.Cause.{Cause}
-use Rattle.mh_top.proofs.Claims.{completes}
+use Rattle.mh_program.proofs.Claims.{completes}
 use Rattle.mh_prepare.proofs.OnePrepared.{prepared_once}
 
 -- the mode that is asked for

@@ -27,7 +27,7 @@ use Rattle.mh_cells.specs.Conflicts.{AreConflicts, IsConflictOf}
 use Rattle.mh_cells.specs.Levels.{compared, comparison, look_level, production_level}
 use Rattle.mh_cells.specs.States.{Raw, RawOf, shift_on, state_of}
 use Rattle.mh_grammar.proofs.Lists.{at_contains}
-use Rattle.mh_top.specs.Exact.{HasNoLevels}
+use Rattle.mh_program.specs.Exact.{HasNoLevels}
 
 -- ---- without levels no comparison is known
 
