@@ -18,22 +18,24 @@ use Rattle.mh_ways.specs.declared.work.Whole.{Whole}
 use Rattle.mh_ways.specs.declared.work.Way.{Way}
 use Rattle.mh_ways.specs.declared.work.Work.{Work}
 use Rattle.mh_ways.specs.declared.classes.Classes.{Classes}
-use Rattle.mh_arrivals.specs.declared.arrivals.Spot.{Spot}
-use Rattle.mh_arrivals.specs.declared.arrivals.Step.TheVariants as steps
-use Rattle.mh_arrivals.specs.declared.arrivals.Arrival.{Arrival}
-use Rattle.mh_arrivals.specs.declared.arrivals.Coming.{Coming}
+use Rattle.mh_spots.specs.declared.arrivals.Spot.{Spot}
+use Rattle.mh_spots.specs.declared.arrivals.Step.TheVariants as steps
+use Rattle.mh_spots.specs.declared.arrivals.Arrival.{Arrival}
+use Rattle.mh_arrivals.specs.declared.comings.Coming.{Coming}
 use Rattle.mh_ways.specs.Rows.{Waits, Gains, Among}
 use Rattle.mh_ways.specs.Classes.{IsClasses, rep_of, place_of}
 use Rattle.mh_ways.specs.Rules.{wholes_at}
 use Rattle.mh_ways.specs.Tales.{NoLater, capped}
 use Rattle.mh_found.specs.Found.{WaysIn, WholeOk}
-use Rattle.mh_arrivals.specs.Arriving.{NoLaterAt, NoLaterBy, Spots, spot, StepsAlong, StepsShift, StepsWay, GoesOn, Starts, Journey, LabelBy, ComingOk, Waiting, PendingAt, GoodAt, InOrderAt, HasArrived, ComesNext, Arrived, labels_at}
+use Rattle.mh_spots.specs.Spots.{NoLaterAt, Spots, spot, Journey, LabelBy, HasArrived, Arrived, labels_at}
+use Rattle.mh_arrivals.specs.Arriving.{NoLaterBy, StepsAlong, StepsShift, StepsWay, GoesOn, Starts, ComingOk, Waiting, PendingAt, GoodAt, InOrderAt, ComesNext}
 use Rattle.mh_words.specs.Rising.{Rises}
 use Rattle.mh_ways.proofs.Rowing.{none_in, row_past}
 use Rattle.mh_ways.proofs.Wording.{some_is, capped_one, capped_both, min_cap, no_lower}
 use Rattle.mh_ways.proofs.Keyed.{at_cases}
-use Rattle.mh_arrivals.proofs.Spots.{label_kept, label_one, journey_more, new_labels, labels_kept, labels_here, labels_only, spot_keys}
-use Rattle.mh_arrivals.proofs.Labelling.{label_laws, same_label, over_from}
+use Rattle.mh_spots.proofs.Spots.{label_one, spot_keys}
+use Rattle.mh_arrivals.proofs.Journeys.{label_kept, journey_more, new_labels, labels_kept, labels_here, labels_only}
+use Rattle.mh_spots.proofs.Labelling.{label_laws, same_label, over_from}
 use Rattle.mh_words.proofs.Listing.{rises_by}
 
 abbrev pub Comings : Type 0

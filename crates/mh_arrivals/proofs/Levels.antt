@@ -19,19 +19,21 @@ use Rattle.mh_ways.specs.Tales.{Tale, capped}
 use Rattle.mh_found.specs.Found.{WholeOk}
 use Rattle.mh_ways.proofs.Wording.{fact_of_word}
 use Rattle.mh_found.proofs.Telling.{all_numbered}
-use Rattle.mh_arrivals.specs.declared.arrivals.Spot.{Spot}
-use Rattle.mh_arrivals.specs.declared.arrivals.Step.{Step}
-use Rattle.mh_arrivals.specs.declared.arrivals.Step.TheVariants as steps
-use Rattle.mh_arrivals.specs.declared.arrivals.Coming.{Coming}
-use Rattle.mh_arrivals.specs.Arriving.{NoLaterBy, Spots, Journey, LabelBy, Waiting, GoodAt, InOrderAt, ReadyAt, IsDone, NoneComes, TakesAll, GoodIn}
-use Rattle.mh_arrivals.specs.Comparing.{PrecedesBy, IsKnown, IsTold, AreKnown, InTurn}
+use Rattle.mh_spots.specs.declared.arrivals.Spot.{Spot}
+use Rattle.mh_spots.specs.declared.arrivals.Step.{Step}
+use Rattle.mh_spots.specs.declared.arrivals.Step.TheVariants as steps
+use Rattle.mh_arrivals.specs.declared.comings.Coming.{Coming}
+use Rattle.mh_spots.specs.Spots.{Spots, Journey, LabelBy}
+use Rattle.mh_arrivals.specs.Arriving.{NoLaterBy, Waiting, GoodAt, InOrderAt, ReadyAt, IsDone, NoneComes, TakesAll, GoodIn}
+use Rattle.mh_spots.specs.Comparing.{PrecedesBy, IsKnown, IsTold}
+use Rattle.mh_arrivals.specs.Ordering.{AreKnown, InTurn}
 use Rattle.mh_words.specs.Rising.{Rises, Same}
 use Rattle.mh_found.proofs.Queueing.{moves_taken, moves_sorted, moves_pushed, moves_drained, moves_higher, above}
 use Rattle.mh_arrivals.proofs.Arriving.{Comings, good_moves}
-use Rattle.mh_arrivals.proofs.Labelling.{label_laws, both_over, cheaper_at, by_numbers}
+use Rattle.mh_spots.proofs.Labelling.{label_laws, both_over, cheaper_at, by_numbers}
 use Rattle.mh_words.proofs.Listing.{here, rises_by, rises_all}
-use Rattle.mh_arrivals.proofs.Spots.{label_one}
-use Rattle.mh_arrivals.proofs.Walking.{arrived_at}
+use Rattle.mh_spots.proofs.Spots.{label_one}
+use Rattle.mh_spots.proofs.Walking.{arrived_at}
 
 module _ (t : TableData) (f : Facts t) (c : Classes) (cls : IsClasses t c) (words : FactKey → Option (List ℕ)) (work : Work) (ways_ok : (n : ℕ) (w : Whole) → Contains (wholes_at work n) w → WholeOk t (rep_of c) words cap w) (spots : Spots) (old : Comings) (level : ℕ) where
   -- what waited with the level's cost waits beside the queue

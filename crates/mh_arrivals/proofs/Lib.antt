@@ -1,8 +1,6 @@
 mod Arriving
-pub mod Labelling
+mod Journeys
 mod Levels
-pub mod Spots
+mod Ordering
 mod Spotting
 mod Stepping
-pub mod Tracing
-pub mod Walking

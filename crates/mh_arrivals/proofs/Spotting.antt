@@ -1,11 +1,11 @@
 -- How many spots are not reached: it falls with each arrival that is settled.
-use Rattle.std.proofs.Common.{◌≡◌, ℕ, ◌<◌, [], ◌∷◌, ◌++◌, None, refl}
+use Rattle.std.proofs.Common.{◌≡◌, ℕ, ◌<◌, [], ◌∷◌, ◌++◌, None}
 use Rattle.std.specs.Prelude.{◌^◌}
-use Rattle.mh_arrivals.specs.declared.arrivals.Spot.{Spot}
-use Rattle.mh_arrivals.specs.declared.arrivals.Arrival.{Arrival}
-use Rattle.mh_arrivals.specs.Arriving.{Spots, arrival_at, spot}
+use Rattle.mh_spots.specs.declared.arrivals.Spot.{Spot}
+use Rattle.mh_spots.specs.declared.arrivals.Arrival.{Arrival}
+use Rattle.mh_spots.specs.Spots.{Spots, arrival_at, spot}
 use Rattle.mh_ways.proofs.Counting.{total, total_le, total_less, bit, bit_le, bit_less, wide, narrow}
-use Rattle.mh_arrivals.proofs.Spots.{spot_keys}
+use Rattle.mh_spots.proofs.Spots.{spot_keys}
 
 unfoldable pub unreached : Spots → ℕ
 unreached spots = total wide (λ s. total narrow (λ z. bit (arrival_at spots (spot s z))))

@@ -8,10 +8,10 @@ use Rattle.mh_tables.specs.Facts.{Facts}
 use Rattle.mh_tables.specs.Run.{Shifts, move_of}
 use Rattle.mh_grammar.specs.declared.types.Symbol.TheVariants.{T}
 use Rattle.mh_least.specs.Orders.{cap}
-use Rattle.mh_arrivals.specs.declared.arrivals.Spot.{Spot}
-use Rattle.mh_arrivals.specs.declared.arrivals.Step.TheVariants as steps
-use Rattle.mh_arrivals.specs.declared.arrivals.Arrival.{Arrival}
-use Rattle.mh_arrivals.specs.declared.arrivals.Coming.{Coming}
+use Rattle.mh_spots.specs.declared.arrivals.Spot.{Spot}
+use Rattle.mh_spots.specs.declared.arrivals.Step.TheVariants as steps
+use Rattle.mh_spots.specs.declared.arrivals.Arrival.{Arrival}
+use Rattle.mh_arrivals.specs.declared.comings.Coming.{Coming}
 use Rattle.mh_ways.specs.declared.classes.Classes.{Classes}
 use Rattle.mh_ways.specs.Rows.{Gains, Among}
 use Rattle.mh_ways.specs.Classes.{rep_of, list_at}

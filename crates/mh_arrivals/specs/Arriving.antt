@@ -1,84 +1,30 @@
 -- The second search: how a state is reached with a token to come.
-use Rattle.std.specs.Prelude.{◌≡◌, ℕ, List, [], ◌∷◌, length, fold, Option, Some, None, Bool, if◌then◌else◌, nat_eq, ◌&&◌, ◌<◌, ◌≤◌, ◌⊎◌, ◌+◌, min}
+use Rattle.std.specs.Prelude.{◌≡◌, ℕ, List, [], ◌∷◌, length, Option, Some, None, ◌<◌, ◌≤◌, ◌⊎◌, ◌+◌, min}
 use Rattle.std.specs.List.{Contains}
-use Rattle.std.specs.Map.{lookup}
 use Rattle.mh_tables.specs.Table.{TableData, cost_of_token}
 use Rattle.mh_tables.specs.Run.{Shifts, move_of}
 use Rattle.mh_grammar.specs.declared.types.Symbol.TheVariants.{T}
 use Rattle.mh_grammar.specs.declared.edges.Edge.{Edge}
 use Rattle.mh_facts.specs.declared.store.FactKey.{FactKey}
-use Rattle.mh_least.specs.Least.{Label, longer, HoldsAt, ClosesAt, SoundReach}
-use Rattle.mh_least.specs.Orders.{cap, SentenceLe}
+use Rattle.mh_least.specs.Least.{Label, HoldsAt, ClosesAt, SoundReach}
+use Rattle.mh_least.specs.Orders.{cap}
 use Rattle.mh_ways.specs.declared.work.Whole.{Whole}
 use Rattle.mh_ways.specs.declared.work.Work.{Work}
 use Rattle.mh_ways.specs.declared.classes.Classes.{Classes}
-use Rattle.mh_arrivals.specs.declared.arrivals.Spot.{Spot}
-use Rattle.mh_arrivals.specs.declared.arrivals.Step.{Step}
-use Rattle.mh_arrivals.specs.declared.arrivals.Step.TheVariants as steps
-use Rattle.mh_arrivals.specs.declared.arrivals.Arrival.{Arrival}
-use Rattle.mh_arrivals.specs.declared.arrivals.Coming.{Coming}
+use Rattle.mh_spots.specs.declared.arrivals.Spot.{Spot}
+use Rattle.mh_spots.specs.declared.arrivals.Step.{Step}
+use Rattle.mh_spots.specs.declared.arrivals.Step.TheVariants as steps
+use Rattle.mh_spots.specs.declared.arrivals.Arrival.{Arrival}
+use Rattle.mh_arrivals.specs.declared.comings.Coming.{Coming}
 use Rattle.mh_ways.specs.Rows.{Waits, Beside, IsOne, Below, Among}
 use Rattle.mh_found.specs.Drawn.{DrawsOne, DrawsNone, Keeps, DrawsSome, DrawsAll}
 use Rattle.mh_ways.specs.Classes.{rep_of, place_of, list_at}
 use Rattle.mh_ways.specs.Rules.{wholes_at}
-use Rattle.mh_ways.specs.Tales.{weigh, capped}
+use Rattle.mh_ways.specs.Tales.{capped}
 use Rattle.mh_found.specs.declared.found.Found.{Found}
 use Rattle.mh_found.specs.Found.{WaysIn, IsFound}
 use Rattle.mh_words.specs.Rising.{Rises}
-
--- sentences by cost, then by start, then by the numbers of their tokens
-abbrev pub NoLaterAt : TableData → Label → Label → Type 0
-NoLaterAt t k l = SentenceLe (weigh t) k l
-
-abbrev pub Spots : Type 0
-Spots = List (Spot × Arrival)
-
-abbrev pub same_spot : Spot → Spot → Bool
-same_spot x y = nat_eq x.state y.state && nat_eq x.next y.next
-
-abbrev pub arrival_at : Spots → Spot → Option Arrival
-arrival_at spots k = lookup (same_spot k) spots
-
-abbrev pub spot : ℕ → ℕ → Spot
-spot s z = record { state = s; next = z }
-
--- with one value more
-abbrev pub put_at : {V : Type 0} → (Spot → V) → Spot → V → Spot → V
-put_at f k v other = if same_spot other k then v else f other
-
--- each arrival stands higher than the one that it came from
-abbrev pub height_by : (Spot → ℕ) → Step → ℕ
-height_by heights (steps.Begin start) = 1
-height_by heights (steps.Shift from token) = heights from + 1
-height_by heights (steps.Way from inner) = heights from + 1
-
-abbrev pub with_height : (Spot → ℕ) → Spot × Arrival → Spot → ℕ
-with_height heights e = put_at heights e.0 (height_by heights e.1.step)
-
-abbrev pub heights_of : Spots → Spot → ℕ
-heights_of spots = fold (λ heights e. with_height heights e) (λ k. 0) spots
-
--- the sentence of an arrival by the step that it came by
-abbrev pub LabelBy : (FactKey → Option (List ℕ)) → (Spot → Option Label) → Step → Label → Type 0
-LabelBy words labels (steps.Begin start) l = l ≡ record { start = start; word = [] }
-LabelBy words labels (steps.Shift from token) l = (k : Label) × (labels from ≡ Some k) × (l ≡ longer k (token ∷ []))
-LabelBy words labels (steps.Way from inner) l = (k : Label) × (v : List ℕ) × (labels from ≡ Some k) × (words inner ≡ Some v) × (l ≡ longer k v)
-
-pub record Reached (t : TableData) (words : FactKey → Option (List ℕ)) (labels : Spot → Option Label) (heights : Spot → ℕ) (k : Spot) (r : Arrival) : Type 0 where
-  pub label : Label
-  pub is : labels k ≡ Some label
-  pub cost_is : r.cost ≡ capped t label.word
-  pub by : LabelBy words labels r.step label
-  pub height : height_by heights r.step ≤ heights k
-
--- what the arrivals tell
-pub record Journey (t : TableData) (words : FactKey → Option (List ℕ)) (spots : Spots) : Type 0 where
-  pub labels : Spot → Option Label
-  pub none : (k : Spot) → arrival_at spots k ≡ None → labels k ≡ None
-  pub some : (k : Spot) (r : Arrival) → arrival_at spots k ≡ Some r → Reached t words labels (heights_of spots) k r
-
-abbrev pub labels_at : (Spot → Option Label) → ℕ → ℕ → Option Label
-labels_at labels s z = labels (spot s z)
+pub use Rattle.mh_spots.specs.Spots.{NoLaterAt, Spots, same_spot, arrival_at, spot, put_at, height_by, with_height, heights_of, LabelBy, Reached, Journey, labels_at, HasArrived, Arrived, ArrivedIn}
 
 -- an arrival with some token to come
 abbrev pub StepsOn : ℕ → ℕ → Step → ℕ → ℕ → Coming → Type 0
@@ -164,10 +110,6 @@ pub record ReadyAt (t : TableData) (c : Classes) (words : FactKey → Option (Li
   pub none : (o : Coming) → Waits q level o → ⊥
   pub rising : Rises (NoLaterBy t words good.journey.labels) beside
 
--- some arrival is stored for the spot
-abbrev pub HasArrived : Spots → Spot → Type 0
-HasArrived spots k = (r : Arrival) × (arrival_at spots k ≡ Some r)
-
 abbrev pub IsDone : Spots → Coming → Type 0
 IsDone spots o = HasArrived spots o.spot
 
@@ -211,13 +153,3 @@ pub record InOrderIn (t : TableData) (c : Classes) (found : Found) (spots : Spot
 pub record ReadyIn (t : TableData) (c : Classes) (found : Found) (spots : Spots) (q : List (Rattle.std.specs.Global.Vec Coming)) (level : ℕ) (beside : List Coming) : Type 0 where
   pub found_is : IsFound t c found
   pub ready : ReadyAt t c found_is.tale.words found.work spots q level beside
-
--- what the second search leaves
-pub record Arrived (t : TableData) (c : Classes) (words : FactKey → Option (List ℕ)) (work : Work) (spots : Spots) : Type 0 where
-  pub journey : Journey t words spots
-  pub closed : ClosesAt t (rep_of c) (WaysIn c words work) (labels_at journey.labels) (HoldsAt (NoLaterAt t) (labels_at journey.labels))
-  pub sound : (s z : ℕ) (l : Label) → journey.labels (spot s z) ≡ Some l → SoundReach t (rep_of c) s z l
-
-pub record ArrivedIn (t : TableData) (c : Classes) (found : Found) (spots : Spots) : Type 0 where
-  pub found_is : IsFound t c found
-  pub arrived : Arrived t c found_is.tale.words found.work spots

@@ -1,2 +1,2 @@
 pub mod Arriving
-pub mod Comparing
+pub mod Ordering

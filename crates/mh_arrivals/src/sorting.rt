@@ -1,11 +1,12 @@
 //! Arrivals of one cost in the order of their sentences.
 ghost use Rattle.std.specs.Prelude.{◌≡◌, IfOk, IsTrue};
-ghost use Rattle.mh_arrivals.specs.Comparing.{InTurn, IsKnown, IsTold};
+ghost use Rattle.mh_spots.specs.Comparing.{IsKnown, IsTold};
+ghost use Rattle.mh_arrivals.specs.Ordering.{InTurn};
 
-use crate::arrivals::{Arrivals, Coming, Step};
-use crate::comparing::comes_later;
+use crate::comings::Coming;
 use mh_found::Found;
 use mh_grammar::Memory;
+use mh_spots::{Arrivals, Step, comes_later};
 use mh_tables::Table;
 use mh_words::Order;
 use std::alloc::Global;

@@ -8,9 +8,9 @@ use Rattle.mh_least.specs.Orders.{cap}
 use Rattle.mh_meeting.specs.Failing.{FailsAt, AreRivals}
 use Rattle.mh_meeting.specs.declared.failing.Rivals.TheVariants as rivals
 use Rattle.mh_ways.specs.declared.classes.Classes.{Classes}
-use Rattle.mh_arrivals.specs.declared.arrivals.Arrival.{Arrival}
-use Rattle.mh_arrivals.specs.Arriving.{Spots, HasArrived, arrival_at}
-use Rattle.mh_arrivals.specs.Comparing.{ComesLater}
+use Rattle.mh_spots.specs.declared.arrivals.Arrival.{Arrival}
+use Rattle.mh_spots.specs.Spots.{Spots, HasArrived, arrival_at}
+use Rattle.mh_spots.specs.Comparing.{ComesLater}
 use Rattle.mh_sentences.specs.declared.sentences.Best.{Best}
 use Rattle.mh_sentences.specs.Reaching.{IsFirstOf, IsFirstOfBoth, BestOn, best_for, cost_in, spot_of, step_of}
 

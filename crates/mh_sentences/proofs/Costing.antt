@@ -20,20 +20,20 @@ use Rattle.mh_grammar.proofs.WordOrder.{lex_same}
 use Rattle.mh_ways.specs.declared.classes.Classes.{Classes}
 use Rattle.mh_found.specs.declared.found.Found.{Found}
 use Rattle.mh_found.proofs.Telling.{all_numbered}
-use Rattle.mh_arrivals.specs.declared.arrivals.Spot.{Spot}
-use Rattle.mh_arrivals.specs.declared.arrivals.Arrival.{Arrival}
+use Rattle.mh_spots.specs.declared.arrivals.Spot.{Spot}
+use Rattle.mh_spots.specs.declared.arrivals.Arrival.{Arrival}
 use Rattle.mh_sentences.specs.declared.sentences.Best.{Best}
 use Rattle.mh_ways.specs.Classes.{rep_of}
 use Rattle.mh_ways.specs.Tales.{NoLater, capped, weigh}
 use Rattle.mh_found.specs.Found.{WaysIn}
-use Rattle.mh_arrivals.specs.Arriving.{NoLaterAt, Spots, LabelBy, HasArrived, arrival_at, labels_at, ArrivedIn}
-use Rattle.mh_arrivals.specs.Comparing.{IsTold, numbers_of}
+use Rattle.mh_spots.specs.Spots.{NoLaterAt, Spots, LabelBy, HasArrived, arrival_at, labels_at, ArrivedIn}
+use Rattle.mh_spots.specs.Comparing.{IsTold, numbers_of}
 use Rattle.mh_sentences.specs.Reaching.{AreCheap, InOrderOr, Leads, IsFirstOf, IsFirstOfBoth, BestOn, BestBelow, best_for, step_of, spot_of, BestOk, BestAt, AreBest, IsReach, LeastCost}
 use Rattle.mh_ways.proofs.Wording.{capped_one, weigh_word, order_laws, min_cap, some_is}
-use Rattle.mh_arrivals.proofs.Labelling.{label_laws, by_numbers, cheaper_at, both_over}
-use Rattle.mh_arrivals.proofs.Spots.{label_one}
-use Rattle.mh_arrivals.proofs.Tracing.{precedes_after}
-use Rattle.mh_arrivals.proofs.Walking.{arrived_at}
+use Rattle.mh_spots.proofs.Labelling.{label_laws, by_numbers, cheaper_at, both_over}
+use Rattle.mh_spots.proofs.Spots.{label_one}
+use Rattle.mh_spots.proofs.Tracing.{precedes_after}
+use Rattle.mh_spots.proofs.Walking.{arrived_at}
 
 below_next : (z n : ℕ) → z < n + 1 → (z < n) ⊎ (z ≡ n)
 below_next z n lt = elim (cases_lt z n) [ inl l ↦ inl l | inr le ↦ inr (omega arith) ]

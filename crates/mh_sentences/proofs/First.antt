@@ -6,7 +6,7 @@ use Rattle.mh_tables.specs.Failing.{Fails, FailsFirst, FailsCheaply, IsInOrder, 
 use Rattle.mh_facts.specs.declared.store.FactKey.{FactKey}
 use Rattle.mh_least.specs.Least.{Label}
 use Rattle.mh_least.specs.Orders.{cap}
-use Rattle.mh_arrivals.specs.declared.arrivals.Spot.{Spot}
+use Rattle.mh_spots.specs.declared.arrivals.Spot.{Spot}
 use Rattle.mh_sentences.specs.declared.sentences.Best.{Best}
 use Rattle.mh_sentences.specs.Reaching.{InOrderOr, BestOk}
 

@@ -9,14 +9,14 @@ use Rattle.mh_least.specs.Least.{Label}
 use Rattle.mh_least.specs.Orders.{cap}
 use Rattle.mh_sentences.specs.declared.sentences.Best.{Best}
 use Rattle.mh_ways.specs.Tales.{Tale}
-use Rattle.mh_arrivals.specs.declared.arrivals.Spot.{Spot}
-use Rattle.mh_arrivals.specs.declared.arrivals.Step.{Step}
-use Rattle.mh_arrivals.specs.declared.arrivals.Step.TheVariants as steps
-use Rattle.mh_arrivals.specs.declared.arrivals.Arrival.{Arrival}
+use Rattle.mh_spots.specs.declared.arrivals.Spot.{Spot}
+use Rattle.mh_spots.specs.declared.arrivals.Step.{Step}
+use Rattle.mh_spots.specs.declared.arrivals.Step.TheVariants as steps
+use Rattle.mh_spots.specs.declared.arrivals.Arrival.{Arrival}
 use Rattle.mh_ways.specs.declared.classes.Classes.{Classes}
 use Rattle.mh_ways.specs.Classes.{rep_of}
-use Rattle.mh_arrivals.specs.Arriving.{Spots, Journey, arrival_at, spot}
-use Rattle.mh_arrivals.specs.Comparing.{Precedes}
+use Rattle.mh_spots.specs.Spots.{Spots, Journey, arrival_at, spot}
+use Rattle.mh_spots.specs.Comparing.{Precedes}
 
 -- no sentence fails in the state, or this is the least cost of one that does, up to the highest
 abbrev pub LeastCost : TableData → ℕ → Option ℕ → Type 0

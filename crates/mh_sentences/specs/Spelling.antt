@@ -7,9 +7,9 @@ use Rattle.mh_facts.specs.declared.store.Back.{Back}
 use Rattle.mh_facts.specs.declared.store.Back.TheVariants as backs
 use Rattle.mh_facts.specs.Stored.{Facts, fact_at}
 use Rattle.mh_least.specs.Least.{Label}
-use Rattle.mh_arrivals.specs.declared.arrivals.Spot.{Spot}
+use Rattle.mh_spots.specs.declared.arrivals.Spot.{Spot}
 use Rattle.mh_ways.specs.Tales.{Tale, before_dot}
-use Rattle.mh_arrivals.specs.Arriving.{Spots, Journey}
+use Rattle.mh_spots.specs.Spots.{Spots, Journey}
 
 -- the fact is stored
 abbrev pub HasWord : TableData → Facts → FactKey → Type 0

@@ -1,15 +1,15 @@
 //! The best way to fail in each state, by what both searches found.
 ghost use Rattle.std.specs.Prelude.{◌≡◌, ◌<◌, IfOk, IfSome, length};
 ghost use Rattle.mh_ways.specs.Classes.{IsClasses};
-ghost use Rattle.mh_arrivals.specs.Arriving.{ArrivedIn, HasArrived, arrival_at};
-ghost use Rattle.mh_arrivals.specs.Comparing.{ComesLater, IsTold};
+ghost use Rattle.mh_spots.specs.Spots.{ArrivedIn, HasArrived, arrival_at};
+ghost use Rattle.mh_spots.specs.Comparing.{ComesLater, IsTold};
 ghost use Rattle.mh_sentences.specs.Reaching.{AreCheap, BestOn, BestBelow, AreBest, IsFirstOf, IsFirstOfBoth, cost_in, step_of};
 
 use crate::sentences::{Best, Reach};
-use mh_arrivals::{Arrivals, Spot, Step, arrival_of, comes_later};
 use mh_found::Found;
 use mh_grammar::{Memory, Token};
 use mh_meeting::{Cheaper, Rivals, cheaper_of, failing_cost, rivals_of, sooner};
+use mh_spots::{Arrivals, Spot, Step, arrival_of, comes_later};
 use mh_tables::{Choice, Halting, Table, choose};
 use mh_ways::{Classes, class_of};
 use std::alloc::Global;

@@ -5,9 +5,9 @@ ghost use Rattle.mh_sentences.specs.Spelling.{HasLabel, Walks};
 ghost use Rattle.mh_sentences.specs.Reaching.{LeastCost};
 
 use crate::spell::spell;
-use mh_arrivals::{Arrivals, Spot, Step, arrival_of};
 use mh_facts::FactStore;
 use mh_grammar::{Memory, Sentence, Sequence, Token};
+use mh_spots::{Arrivals, Spot, Step, arrival_of};
 use mh_tables::{Halting, Table};
 use std::alloc::Global;
 use std::marker::Model;

@@ -1,6 +1,6 @@
 use Rattle.std.proofs.Common.{◌≤◌, List, arith, length, subst}
 use Rattle.std.proofs.Math.ListN.{drop_of_length-le}
-use Rattle.mh_arrivals.specs.declared.arrivals.Coming.{Coming}
+use Rattle.mh_arrivals.specs.declared.comings.Coming.{Coming}
 use Rattle.mh_arrivals.specs.Arriving.{ReadyIn}
 use Rattle.mh_arrivals.proofs.Levels.{level_done}
 use Rattle.mh_words.proofs.Listing.{rest_after}

@@ -1,4 +1,4 @@
-use Rattle.mh_arrivals.proofs.Tracing.{in_turn_after}
+use Rattle.mh_arrivals.proofs.Ordering.{in_turn_after}
 use Rattle.mh_arrivals.proofs.arrive.ordered.Goals as goal
 
 pub sorted-requires-clause-transitive : goal.sorted-requires-clause-transitive

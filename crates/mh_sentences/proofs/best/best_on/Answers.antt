@@ -1,5 +1,5 @@
 use Rattle.std.proofs.Common.{sym}
-use Rattle.mh_arrivals.specs.Arriving.{arrival_at, spot}
+use Rattle.mh_spots.specs.Spots.{arrival_at, spot}
 use Rattle.mh_sentences.proofs.Choosing.{cheap_in, on_none, on_some}
 use Rattle.mh_sentences.proofs.best.best_on.Goals as goal
 

@@ -1,7 +1,7 @@
 use Rattle.std.proofs.Common.{subst, sym}
 use Rattle.mh_tables.specs.Table.{TableData}
 use Rattle.mh_ways.specs.Classes.{IsClasses}
-use Rattle.mh_arrivals.specs.Arriving.{ArrivedIn}
+use Rattle.mh_spots.specs.Spots.{ArrivedIn}
 use Rattle.mh_sentences.specs.Reaching.{IsReach}
 use Rattle.mh_sentences.proofs.Costing.{are_cheap, are_told, is_reach}
 use Rattle.mh_sentences.proofs.best.reach_by.Goals as goal

@@ -1,7 +1,7 @@
 use Rattle.std.proofs.Common.{◌≡◌, ◌<◌, ◌≤◌, arith, refl, sym, ◌∙◌, None, Some}
-use Rattle.mh_arrivals.specs.declared.arrivals.Step.TheVariants as steps
-use Rattle.mh_arrivals.specs.Arriving.{heights_of, height_by}
-use Rattle.mh_arrivals.proofs.Walking.{arrived_at, ends_walk, shift_walk, way_walk, inner_word, lower}
+use Rattle.mh_spots.specs.declared.arrivals.Step.TheVariants as steps
+use Rattle.mh_spots.specs.Spots.{heights_of, height_by}
+use Rattle.mh_spots.proofs.Walking.{arrived_at, ends_walk, shift_walk, way_walk, inner_word, lower}
 use Rattle.mh_sentences.proofs.sentences.walk.Goals as goal
 
 pub spots-init : goal.spots-init

@@ -2,8 +2,8 @@ use Rattle.std.proofs.Common.{◌≡◌, ◌++◌, Some}
 use Rattle.std.specs.Prelude.{reverse}
 use Rattle.mh_least.specs.Least.{Label}
 use Rattle.mh_ways.specs.Tales.{Tale}
-use Rattle.mh_arrivals.specs.Arriving.{Journey, heights_of}
-use Rattle.mh_arrivals.proofs.Walking.{LeadsTo}
+use Rattle.mh_spots.specs.Spots.{Journey, heights_of}
+use Rattle.mh_spots.proofs.Walking.{LeadsTo}
 use Rattle.mh_sentences.proofs.sentences.walk.Given as goal
 
 abbrev pub invariant-spots : goal.invariant-spots

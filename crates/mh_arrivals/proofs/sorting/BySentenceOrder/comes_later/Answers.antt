@@ -1,5 +1,5 @@
 use Rattle.std.proofs.lemmas.Result.{IfOk-weaker}
-use Rattle.mh_arrivals.proofs.Tracing.{in_turn_later}
+use Rattle.mh_arrivals.proofs.Ordering.{in_turn_later}
 use Rattle.mh_arrivals.proofs.sorting.BySentenceOrder.comes_later.Goals as goal
 
 pub returns : goal.returns

@@ -1,4 +1,4 @@
-use Rattle.mh_arrivals.proofs.Tracing.{same_alike}
+use Rattle.mh_arrivals.proofs.Ordering.{same_alike}
 use Rattle.mh_arrivals.proofs.sorting.BySentenceOrder.is_alike.Goals as goal
 
 pub returns : goal.returns

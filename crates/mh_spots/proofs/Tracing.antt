@@ -1,5 +1,5 @@
 -- What sentences are made of, and what a comparison of their parts tells.
-use Rattle.std.proofs.Common.{◌≡◌, ℕ, ◌+◌, ◌<◌, List, [], ◌∷◌, ◌++◌, Some, None, Option, Bool, true, false, refl, ap, sym, subst, arith, append_assoc, ◌∙◌}
+use Rattle.std.proofs.Common.{◌≡◌, ℕ, ◌+◌, ◌<◌, List, [], ◌∷◌, ◌++◌, Some, None, Option, Bool, true, false, refl, ap, sym, arith, append_assoc, ◌∙◌}
 use Rattle.std.proofs.lemmas.List.{append-nil}
 use Rattle.mh_tables.specs.Table.{TableData}
 use Rattle.mh_facts.specs.declared.store.FactKey.{FactKey}
@@ -12,15 +12,13 @@ use Rattle.mh_found.specs.declared.found.Found.{Found}
 use Rattle.mh_grammar.proofs.WordOrder.{lex_after}
 use Rattle.mh_found.proofs.Compared.{parts_append}
 use Rattle.mh_ways.proofs.Wording.{some_is}
-use Rattle.mh_arrivals.specs.declared.arrivals.Spot.{Spot}
-use Rattle.mh_arrivals.specs.declared.arrivals.Step.{Step}
-use Rattle.mh_arrivals.specs.declared.arrivals.Step.TheVariants as steps
-use Rattle.mh_arrivals.specs.declared.arrivals.Arrival.{Arrival}
-use Rattle.mh_arrivals.specs.declared.arrivals.Coming.{Coming}
-use Rattle.mh_arrivals.specs.Arriving.{Spots, arrival_at, Journey, LabelBy, heights_of, height_by}
-use Rattle.mh_arrivals.specs.Comparing.{part_of, from_of, numbers_of, ArePartsOf, HasSentence, IsKnown, IsTold, Precedes, ComesLater, InTurn}
-use Rattle.mh_words.specs.Rising.{IsLater as IsLaterBy, IsTransitive, StandAlike}
-use Rattle.mh_arrivals.proofs.Walking.{arrived_at, lower}
+use Rattle.mh_spots.specs.declared.arrivals.Spot.{Spot}
+use Rattle.mh_spots.specs.declared.arrivals.Step.{Step}
+use Rattle.mh_spots.specs.declared.arrivals.Step.TheVariants as steps
+use Rattle.mh_spots.specs.declared.arrivals.Arrival.{Arrival}
+use Rattle.mh_spots.specs.Spots.{Spots, arrival_at, Journey, LabelBy, heights_of, height_by}
+use Rattle.mh_spots.specs.Comparing.{part_of, from_of, numbers_of, ArePartsOf, HasSentence, IsKnown, IsTold, Precedes, ComesLater}
+use Rattle.mh_spots.proofs.Walking.{arrived_at, lower}
 
 -- a sentence is that of a step and the word of some parts behind it
 pub record Rest (words : FactKey → Option (List ℕ)) (labels : Spot → Option Label) (step : Step) (ps : List Part) (whole : Label) : Type 0 where
@@ -135,14 +133,3 @@ pub precedes_after : (t : TableData) (facts : Stored) (spots : Spots) (x y z : S
 precedes_after t facts spots x y z known a b tale journey k m by by' =
     let l = known_label t facts spots tale journey y known in
     lex_after (numbers_of k) (numbers_of l.0) (numbers_of m) (a tale journey k l.0 by l.1) (b tale journey l.0 m l.1 by')
-
--- arrivals come as their steps do
-pub in_turn_later : (t : TableData) (facts : Stored) (spots : Spots) (x y : Coming) (later : Bool) → ComesLater t facts spots x.step y.step later → IsLaterBy (InTurn t facts spots) x y later
-in_turn_later t facts spots x y true h = h
-in_turn_later t facts spots x y false h = h
-
-pub in_turn_after : (t : TableData) (facts : Stored) (spots : Spots) → IsTransitive (λ (x : Coming). IsKnown facts spots x.step) (InTurn t facts spots)
-in_turn_after t facts spots x y z known a b = precedes_after t facts spots x.step y.step z.step known a b
-
-pub same_alike : (t : TableData) (facts : Stored) (spots : Spots) (x y : Coming) → x.step ≡ y.step → StandAlike (InTurn t facts spots) x y
-same_alike t facts spots x y same z le = subst (λ (s : Step). Precedes t facts spots s z.step) (sym same) le

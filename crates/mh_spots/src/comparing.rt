@@ -1,7 +1,7 @@
 //! Sentences of arrivals, compared by their starts and then by the numbers of their tokens: no sentence is written out.
 ghost use Rattle.std.specs.Prelude.{◌≡◌, [], IfOk, OnOk, Some};
-ghost use Rattle.mh_arrivals.specs.Arriving.{HasArrived, arrival_at};
-ghost use Rattle.mh_arrivals.specs.Comparing.{ArePartsOf, ComesLater, HasSentence, IsKnown, IsTold, from_of, part_of};
+ghost use Rattle.mh_spots.specs.Spots.{HasArrived, arrival_at};
+ghost use Rattle.mh_spots.specs.Comparing.{ArePartsOf, ComesLater, HasSentence, IsKnown, IsTold, from_of, part_of};
 
 use crate::arrivals::{Arrivals, Spot, Step, arrival_of};
 use mh_found::{Found, Part, Rests, is_later};

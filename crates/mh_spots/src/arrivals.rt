@@ -1,6 +1,6 @@
 //! How states are reached, each with a token to come.
 ghost use Rattle.std.specs.Prelude.{◌≡◌, None, [], ◌∷◌, ◌++◌, OnOk};
-ghost use Rattle.mh_arrivals.specs.Arriving.{arrival_at};
+ghost use Rattle.mh_spots.specs.Spots.{arrival_at};
 
 use indexmap::IndexMap;
 use mh_facts::FactKey;
@@ -29,13 +29,6 @@ pub enum Step {
 #[derive(Clone, Copy, Drop)]
 pub struct Arrival {
     pub cost: u32,
-    pub step: Step,
-}
-
-/// An arrival that waits.
-#[derive(Clone, Copy, Drop)]
-pub struct Coming {
-    pub spot: Spot,
     pub step: Step,
 }
 

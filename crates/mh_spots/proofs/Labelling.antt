@@ -12,8 +12,8 @@ use Rattle.mh_least.specs.Orders as orders
 use Rattle.mh_least.proofs.Orders.{cost_append, sentence_laws}
 use Rattle.mh_ways.specs.Tales.{NoLater, weigh, capped}
 use Rattle.mh_ways.proofs.Wording.{weigh_some, free_part, free_word}
-use Rattle.mh_arrivals.specs.Arriving.{NoLaterAt}
-use Rattle.mh_arrivals.specs.Comparing.{numbers_of}
+use Rattle.mh_spots.specs.Spots.{NoLaterAt}
+use Rattle.mh_spots.specs.Comparing.{numbers_of}
 
 pub label_laws : (t : TableData) → LabelLaws (NoLater t) (NoLaterAt t)
 label_laws t = sentence_laws (weigh t) (weigh_some t)

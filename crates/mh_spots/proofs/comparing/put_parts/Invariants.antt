@@ -2,9 +2,9 @@ use Rattle.std.proofs.Common.{List, ℕ, Option}
 use Rattle.mh_tables.specs.Table.{TableData}
 use Rattle.mh_facts.specs.declared.store.FactKey.{FactKey}
 use Rattle.mh_least.specs.Least.{Label}
-use Rattle.mh_arrivals.specs.Arriving.{Journey, LabelBy, heights_of, height_by}
-use Rattle.mh_arrivals.proofs.Tracing.{Rest}
-use Rattle.mh_arrivals.proofs.comparing.put_parts.Given as goal
+use Rattle.mh_spots.specs.Spots.{Journey, LabelBy, heights_of, height_by}
+use Rattle.mh_spots.proofs.Tracing.{Rest}
+use Rattle.mh_spots.proofs.comparing.put_parts.Given as goal
 
 abbrev pub invariant-steps : goal.invariant-steps
 invariant-steps l = (t : TableData) (words : FactKey → Option (List ℕ)) (journey : Journey t words l.arrivals.spots.entries) (whole : Label) → LabelBy words journey.labels l.fn.step whole → Rest words journey.labels l.step l.parts.items whole

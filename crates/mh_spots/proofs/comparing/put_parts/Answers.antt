@@ -1,6 +1,6 @@
 use Rattle.std.proofs.Common.{◌≡◌, ◌∙◌, sym, None, Some}
-use Rattle.mh_arrivals.proofs.Tracing.{rest_begins, rest_ends, rest_goes, from_there, falls}
-use Rattle.mh_arrivals.proofs.comparing.put_parts.Goals as goal
+use Rattle.mh_spots.proofs.Tracing.{rest_begins, rest_ends, rest_goes, from_there, falls}
+use Rattle.mh_spots.proofs.comparing.put_parts.Goals as goal
 
 pub steps-init : goal.steps-init
 steps-init c t words journey whole by = rw c.requires.empty (rest_begins words journey.labels c.args.step whole by)

@@ -1,6 +1,6 @@
 use Rattle.std.proofs.lemmas.Result.{IfOk-weaker}
-use Rattle.mh_arrivals.proofs.Tracing.{known_sentence, steps_comparable, steps_later}
-use Rattle.mh_arrivals.proofs.comparing.comes_later.Goals as goal
+use Rattle.mh_spots.proofs.Tracing.{known_sentence, steps_comparable, steps_later}
+use Rattle.mh_spots.proofs.comparing.comes_later.Goals as goal
 
 pub put_parts-requires-clause-known : goal.put_parts-requires-clause-known
 put_parts-requires-clause-known c = known_sentence c.args.table.now c.args.found.now c.args.arrivals.now.spots.entries c.args.left c.requires.told c.requires.left

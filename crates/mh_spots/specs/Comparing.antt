@@ -1,6 +1,5 @@
 -- Sentences that are not written out: what they are made of, and which of two comes first.
-use Rattle.std.specs.Prelude.{◌≡◌, ℕ, List, ◌∷◌, ◌++◌, Option, Some, None, Bool, true, false}
-use Rattle.std.specs.List.{Contains}
+use Rattle.std.specs.Prelude.{ℕ, List, ◌∷◌, Option, Some, None, Bool, true, false}
 use Rattle.mh_tables.specs.Table.{TableData}
 use Rattle.mh_grammar.specs.WordOrder.{LexLe}
 use Rattle.mh_facts.specs.declared.store.FactKey.{FactKey}
@@ -13,11 +12,10 @@ use Rattle.mh_ways.specs.Tales.{Tale}
 use Rattle.mh_found.specs.Found.{IsStored}
 use Rattle.mh_found.specs.Numbers.{AllNumbered}
 use Rattle.mh_found.specs.declared.found.Found.{Found}
-use Rattle.mh_arrivals.specs.declared.arrivals.Spot.{Spot}
-use Rattle.mh_arrivals.specs.declared.arrivals.Step.{Step}
-use Rattle.mh_arrivals.specs.declared.arrivals.Step.TheVariants as steps
-use Rattle.mh_arrivals.specs.declared.arrivals.Coming.{Coming}
-use Rattle.mh_arrivals.specs.Arriving.{Spots, Journey, LabelBy, HasArrived}
+use Rattle.mh_spots.specs.declared.arrivals.Spot.{Spot}
+use Rattle.mh_spots.specs.declared.arrivals.Step.{Step}
+use Rattle.mh_spots.specs.declared.arrivals.Step.TheVariants as steps
+use Rattle.mh_spots.specs.Spots.{Spots, Journey, LabelBy, HasArrived}
 
 -- what a step adds to a sentence, whose first part is the number of its start
 abbrev pub part_of : Step → Part
@@ -70,10 +68,3 @@ pub record IsTold (t : TableData) (found : Found) (spots : Spots) : Type 0 where
   pub tale : Tale t found.store
   pub journey : Journey t tale.words spots
   pub numbered : AllNumbered t found.store found.numbering
-
-abbrev pub AreKnown : Facts → Spots → List Coming → Type 0
-AreKnown facts spots xs = (o : Coming) → Contains xs o → IsKnown facts spots o.step
-
--- the arrivals by their sentences
-abbrev pub InTurn : TableData → Facts → Spots → Coming → Coming → Type 0
-InTurn t facts spots x y = Precedes t facts spots x.step y.step

@@ -1,0 +1,4 @@
+pub mod Labelling
+pub mod Spots
+pub mod Tracing
+pub mod Walking
