@@ -6,7 +6,6 @@ use Rattle.std.proofs.lemmas.Grind.{common_steps}
 use Rattle.std.proofs.lemmas.Bool.{cases_lt}
 use Rattle.mh_tables.specs.Table.{TableData, cost_of_token}
 use Rattle.mh_tables.specs.Facts.{Facts}
-use Rattle.mh_grammar.specs.WordOrder.{LexLe}
 use Rattle.mh_tables.specs.Failing.{Fails, cost_by, cost_of_word}
 use Rattle.mh_tables.specs.Run.{Refuses, move_of}
 use Rattle.mh_facts.specs.declared.store.FactKey.{FactKey}

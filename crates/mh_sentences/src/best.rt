@@ -6,6 +6,7 @@ ghost use Rattle.mh_spots.specs.Comparing.{ComesLater, IsTold};
 ghost use Rattle.mh_sentences.specs.Reaching.{AreCheap, BestOn, BestBelow, AreBest, IsFirstOf, IsFirstOfBoth, cost_in, step_of};
 
 use crate::sentences::{Best, Reach};
+use mh_facts::FactStore;
 use mh_found::Found;
 use mh_grammar::{Memory, Token};
 use mh_meeting::{Cheaper, Rivals, cheaper_of, failing_cost, rivals_of, sooner};
@@ -173,6 +174,16 @@ fn all_best(
     Ok(all)
 }
 
+/// Lets go of what is of no more use: each value goes in one call, on whatever way out.
+fn release<T: Drop>(_value: T) {}
+
+/// The store of the first search; the rest of it is let go.
+fn store_of(found: Found) -> FactStore
+    ensures { result ≡ found.store }
+{
+    found.store
+}
+
 /// What is kept of both searches of a table.
 pub fn reach_by<'t>(
     alloc: Global,
@@ -187,11 +198,17 @@ pub fn reach_by<'t>(
 {
     let inner = table.table();
     inner.facts();
-    let best = all_best(alloc, inner, classes, &found, &arrivals)?;
-    Ok(Reach {
-        table,
-        store: found.store,
-        arrivals,
-        best,
-    })
+    match all_best(alloc, inner, classes, &found, &arrivals) {
+        Ok(best) => Ok(Reach {
+            table,
+            store: store_of(found),
+            arrivals,
+            best,
+        }),
+        Err(memory) => {
+            release(found);
+            release(arrivals);
+            Err(memory)
+        }
+    }
 }

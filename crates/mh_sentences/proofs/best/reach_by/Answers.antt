@@ -22,5 +22,5 @@ all_best-requires-clause-told c =
 pub invariant_of-result : goal.invariant_of-result
 invariant_of-result c =
     let arrived = subst (λ (t : TableData). ArrivedIn t c.args.classes.now c.args.found c.args.arrivals.spots.entries) (sym c.table-inner.ensures.table) c.requires.arrivals in
-    subst (λ (t : TableData). IsReach t c.args.found.store c.args.arrivals.spots.entries c.in_ok-best.best.items) c.table-inner.ensures.table
-    (is_reach c.table-inner.result.now c.facts.ensures c.args.classes.now c.args.found c.args.arrivals.spots.entries arrived c.in_ok-best.best.items c.in_ok-best.ensures)
+    subst (λ (t : TableData). IsReach t c.store_of.result c.args.arrivals.spots.entries c.in-Ok.best.items) c.table-inner.ensures.table
+    (rw c.store_of.ensures (is_reach c.table-inner.result.now c.facts.ensures c.args.classes.now c.args.found c.args.arrivals.spots.entries arrived c.in-Ok.best.items c.in-Ok.ensures))
