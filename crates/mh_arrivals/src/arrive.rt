@@ -407,6 +407,42 @@ struct Second {
     queue: Queue<Coming>,
 }
 
+/// Settles one level after another until nothing waits.
+fn arrive_all(
+    alloc: Global,
+    table: &Table,
+    classes: &Classes,
+    found: &Found,
+    second: &mut Second,
+) -> Result<(), Memory>
+    requires classes { IsClasses table.now classes.now }
+    requires good { GoodIn table.now classes.now found.now second.old.arrivals.spots.entries second.old.queue.buckets.items 0 [] }
+    ensures { OnOk result (ArrivedIn table.now classes.now found.now second.new.arrivals.spots.entries) }
+{
+    table.facts();
+    for cost in 0..CAP + 1 {
+        let buckets = second.queue.buckets.len();
+        if buckets <= cost as usize {
+            return Ok(());
+        }
+        arrive_level(alloc, table, classes, found, second, cost)?;
+    }
+    Ok(())
+}
+
+/// There was no memory to go on with a value, which is let go in one call: to do so field by field is far longer to prove.
+fn lost<T: Drop>(value: T) -> Memory {
+    drop(value);
+    Memory
+}
+
+/// The arrivals; the queue is let go.
+fn arrivals_in(second: Second) -> Arrivals
+    ensures { result ≡ second.arrivals }
+{
+    second.arrivals
+}
+
 /// Each state and token to come that a run reaches, with the first of the sentences of least cost.
 pub fn arrive(
     alloc: Global,
@@ -423,12 +459,8 @@ pub fn arrive(
         queue: starts(alloc, table, classes)?,
         arrivals: no_arrivals(alloc),
     };
-    for cost in 0..CAP + 1 {
-        let buckets = second.queue.buckets.len();
-        if buckets <= cost as usize {
-            return Ok(second.arrivals);
-        }
-        arrive_level(alloc, table, classes, found, &mut second, cost)?;
+    match arrive_all(alloc, table, classes, found, &mut second) {
+        Ok(()) => Ok(arrivals_in(second)),
+        Err(_) => Err(lost(second)),
     }
-    Ok(second.arrivals)
 }
