@@ -3,15 +3,15 @@ use Rattle.std.specs.Prelude.{◌≡◌, ◌++◌, ℕ, Vec, Result, Err, IfOk, 
 use Rattle.std.specs.declared.alloc.Global.{Global}
 use Rattle.mh_grammar.specs.declared.types.Grammar.{Grammar}
 use Rattle.mh_grammar.specs.declared.types.Memory.{Memory}
-use Rattle.mh_session.specs.declared.command.SessionFault.TheVariants as faults
+use Rattle.mh_branches.specs.declared.command.SessionFault.TheVariants as faults
 use Rattle.mh_grammar.specs.Text.{Text}
 use Rattle.mh_session.specs.Moments.{Moment}
-use Rattle.mh_session.specs.Answers.{Branches, Answer}
+use Rattle.mh_branches.specs.Answers.{Branches, Answer}
 use Rattle.mh_session.specs.Standing.{StandsFor}
-use Rattle.mh_session.specs.Lines.{Said}
-use Rattle.mh_session.specs.declared.fault.CommandFault.{CommandFault}
-use Rattle.mh_session.specs.declared.fault.CommandFault.TheVariants as refusals
-use Rattle.mh_replies.specs.Replies.{answer_text, said_text, behind_said, AnswersLine}
+use Rattle.mh_branches.specs.Lines.{Said}
+use Rattle.mh_branches.specs.declared.fault.CommandFault.{CommandFault}
+use Rattle.mh_branches.specs.declared.fault.CommandFault.TheVariants as refusals
+use Rattle.mh_branches.specs.Replies.{answer_text, said_text, behind_said, AnswersLine}
 
 -- the text of an answer, which is not want of memory
 abbrev pub IsTold : Grammar → Text → Answer → Text → Type 0

@@ -2,9 +2,9 @@
 ghost use Rattle.std.specs.Prelude.{◌≡◌, ◌++◌, codes, IfOk};
 ghost use Rattle.mh_grammar.specs.Plain.{plain_of};
 ghost use Rattle.mh_msgfile.specs.Sentences.{vocabulary_in, vocabulary_of};
-ghost use Rattle.mh_session.specs.Answers.{IsKnown};
-ghost use Rattle.mh_session.specs.Lines.{Asks};
-ghost use Rattle.mh_replies.specs.Replies.{replying as replying_of};
+ghost use Rattle.mh_branches.specs.Answers.{IsKnown};
+ghost use Rattle.mh_branches.specs.Lines.{Asks};
+ghost use Rattle.mh_branches.specs.Replies.{replying as replying_of};
 ghost use Rattle.mh_replies.specs.Told.{IsRefusal, ToldSaid, ToldLine};
 
 use crate::texts::answer_text;

@@ -1,8 +1,8 @@
 //! The texts of replies and faults. Each function writes behind what a text holds.
 ghost use Rattle.std.specs.Prelude.{◌≡◌, ◌++◌, IfOk, OnOk, codes};
-ghost use Rattle.mh_replies.specs.Replies.{phase_word as word_of, phase_rest, reply_text, fault_text};
+ghost use Rattle.mh_branches.specs.Replies.{phase_word as word_of, phase_rest, reply_text, fault_text};
 ghost use Rattle.mh_replies.specs.Told.{IsTold};
-ghost use Rattle.mh_session.specs.declared.command.SessionFault.TheVariants as faults;
+ghost use Rattle.mh_branches.specs.declared.command.SessionFault.TheVariants as faults;
 
 use mh_engine::Phase;
 use mh_grammar::{Grammar, Memory, token_name};
