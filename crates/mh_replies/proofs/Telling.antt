@@ -17,7 +17,8 @@ use Rattle.mh_branches.specs.declared.fault.CommandFault.TheVariants as refusals
 use Rattle.mh_branches.specs.Lines.{Said, Asks, NamesNoStart, LacksStart, NamesNoToken, LineSays, ReadsCommand}
 use Rattle.mh_session.proofs.Telling.{goes}
 use Rattle.mh_branches.specs.Replies.{answer_text, replying, AnswersLine}
-use Rattle.mh_replies.specs.Told.{IsRefusal, IsTold, ToldSaid, ToldLine}
+use Rattle.mh_replies.specs.Told.{ToldSaid, ToldLine}
+use Rattle.mh_wording.specs.Told.{IsRefusal, IsTold}
 
 -- a session that was served stands for some branches
 served_some : (old new : Moment) (command : Command) (r : Answer) (bs : Branches) → IsServed old command new r → StandsFor old bs → (after : Branches) × StandsFor new after

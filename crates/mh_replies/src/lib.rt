@@ -2,7 +2,6 @@
 #![tactic(auto)]
 
 mod answering;
-mod texts;
 
 pub use answering::answer_line;
 pub use mh_branches::one_answer;
