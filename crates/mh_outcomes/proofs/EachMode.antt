@@ -6,8 +6,8 @@ use Rattle.mh_opts.specs.declared.jobs.Job.{Job}
 use Rattle.mh_opts.specs.declared.jobs.Job.TheVariants.{Interpret, InterpretError, Session, ShowAutomaton, WriteTables, ListErrors, CompareErrors, CompileErrors, EchoErrors, UpdateErrors, Sample}
 use Rattle.mh_outside.specs.Shelf.{Files, Found}
 use Rattle.mh_report.proofs.OneText.{text_once}
-use Rattle.mh_replies.proofs.Once.{answer_once as line_once}
-use Rattle.mh_session.specs.Answers.{Branches}
+use Rattle.mh_branches.proofs.Once.{answer_once as line_once}
+use Rattle.mh_branches.specs.Answers.{Branches}
 use Rattle.mh_tables.specs.Table.{TableData}
 use Rattle.mh_check.specs.Compiling.{missing}
 use Rattle.mh_check.specs.Texts.{compiled_text}

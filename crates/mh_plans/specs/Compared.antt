@@ -1,6 +1,6 @@
 -- What two messages files are told: which states the first names and the second does not.
 use Rattle.std.specs.Prelude.{ℕ, List, [], ◌∷◌}
-use Rattle.mh_update.specs.Missing.{missing_lines}
+use Rattle.mh_renewed.specs.Missing.{missing_lines}
 use Rattle.mh_grammar.specs.Text.{Text}
 use Rattle.mh_plans.specs.declared.at_end.Told.{Told}
 use Rattle.mh_plans.specs.declared.at_end.Told.TheVariants.{Said, Not}

@@ -7,7 +7,7 @@ use Rattle.mh_msgfile.specs.declared.messages.MsgFile.{MsgFile}
 use Rattle.mh_check.specs.Checks.{FaultFound, FirstFault, sentences_of}
 use Rattle.mh_check.specs.Compiling.{IsCompiled}
 use Rattle.mh_check.specs.Texts.{file_line, check_line}
-use Rattle.mh_update.specs.Updates.{FirstUnfit, IsUpdated}
+use Rattle.mh_renewed.specs.Updates.{FirstUnfit, IsUpdated}
 use Rattle.mh_outside.specs.Shelf.{Files}
 use Rattle.mh_files.specs.FileStage.{IsFile}
 use Rattle.mh_prepared.specs.Shapes.{Prepared}

@@ -8,8 +8,8 @@ use Rattle.mh_grammar.specs.declared.types.Grammar.{Grammar}
 use Rattle.mh_tabform.specs.Form.{table_text}
 use Rattle.mh_tabform.specs.Written.{raw_of}
 use Rattle.mh_tables.specs.Table.{TableData}
-use Rattle.mh_session.specs.Answers.{Branches}
-use Rattle.mh_replies.specs.Replies.{AnswersLine}
+use Rattle.mh_branches.specs.Answers.{Branches}
+use Rattle.mh_branches.specs.Replies.{AnswersLine}
 use Rattle.mh_check.specs.Compiling.{missing}
 use Rattle.mh_check.specs.Texts.{compiled_text}
 use Rattle.mh_msgfile.specs.Printed.{echo_text}

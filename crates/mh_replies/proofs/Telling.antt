@@ -6,18 +6,19 @@ use Rattle.mh_grammar.specs.declared.types.Grammar.{Grammar}
 use Rattle.mh_grammar.specs.declared.types.Memory.{Memory}
 use Rattle.mh_msgfile.specs.Sentences.{Vocabulary, vocabulary_of}
 use Rattle.mh_commands.specs.declared.command.Command.{Command}
-use Rattle.mh_session.specs.declared.command.SessionFault.TheVariants as faults
+use Rattle.mh_branches.specs.declared.command.SessionFault.TheVariants as faults
 use Rattle.mh_grammar.specs.Text.{Text}
 use Rattle.mh_session.specs.Moments.{Moment}
-use Rattle.mh_session.specs.Answers.{Branches, Answer, next}
+use Rattle.mh_branches.specs.Answers.{Branches, Answer, next}
 use Rattle.mh_session.specs.Standing.{StandsFor}
 use Rattle.mh_session.specs.Served.{IsServed}
-use Rattle.mh_session.specs.declared.fault.CommandFault.{CommandFault}
-use Rattle.mh_session.specs.declared.fault.CommandFault.TheVariants as refusals
-use Rattle.mh_session.specs.Lines.{Said, Asks, NamesNoStart, LacksStart, NamesNoToken, LineSays, ReadsCommand}
+use Rattle.mh_branches.specs.declared.fault.CommandFault.{CommandFault}
+use Rattle.mh_branches.specs.declared.fault.CommandFault.TheVariants as refusals
+use Rattle.mh_branches.specs.Lines.{Said, Asks, NamesNoStart, LacksStart, NamesNoToken, LineSays, ReadsCommand}
 use Rattle.mh_session.proofs.Telling.{goes}
-use Rattle.mh_replies.specs.Replies.{answer_text, replying, AnswersLine}
-use Rattle.mh_replies.specs.Told.{IsRefusal, IsTold, ToldSaid, ToldLine}
+use Rattle.mh_branches.specs.Replies.{answer_text, replying, AnswersLine}
+use Rattle.mh_replies.specs.Told.{ToldSaid, ToldLine}
+use Rattle.mh_wording.specs.Told.{IsRefusal, IsTold}
 
 -- a session that was served stands for some branches
 served_some : (old new : Moment) (command : Command) (r : Answer) (bs : Branches) → IsServed old command new r → StandsFor old bs → (after : Branches) × StandsFor new after

@@ -1,32 +1,16 @@
 //! The answer to a line.
-ghost use Rattle.std.specs.Prelude.{◌≡◌, ◌++◌, codes, IfOk};
+ghost use Rattle.std.specs.Prelude.{◌≡◌};
 ghost use Rattle.mh_grammar.specs.Plain.{plain_of};
 ghost use Rattle.mh_msgfile.specs.Sentences.{vocabulary_in, vocabulary_of};
-ghost use Rattle.mh_session.specs.Answers.{IsKnown};
-ghost use Rattle.mh_session.specs.Lines.{Asks};
-ghost use Rattle.mh_replies.specs.Replies.{replying as replying_of};
-ghost use Rattle.mh_replies.specs.Told.{IsRefusal, ToldSaid, ToldLine};
+ghost use Rattle.mh_branches.specs.Answers.{IsKnown};
+ghost use Rattle.mh_branches.specs.Lines.{Asks};
+ghost use Rattle.mh_replies.specs.Told.{ToldSaid, ToldLine};
 
-use crate::texts::answer_text;
 use mh_grammar::{Grammar, Memory};
 use mh_msgfile::Lexicon;
-use mh_session::{Command, CommandFault, Session, read_command_by};
+use mh_session::{Command, Session, read_command_by};
+use mh_wording::{answer_text, refusal, replying};
 use std::alloc::Global;
-
-/// The name that a reply begins with: behind a fork that of the fresh branch.
-fn replying(command: &Command) -> &[u8]
-    ensures { result.now ≡ replying_of command.now }
-{
-    match command {
-        Command::Begin { name, .. } => name.as_slice(),
-        Command::Offer { name, .. } => name.as_slice(),
-        Command::Resume { name } => name.as_slice(),
-        Command::Fork { fresh, .. } => fresh.as_slice(),
-        Command::Show { name } => name.as_slice(),
-        Command::Tree { name } => name.as_slice(),
-        Command::Forget { name } => name.as_slice(),
-    }
-}
 
 /// The answer to a command.
 fn serve(
@@ -41,33 +25,6 @@ fn serve(
 {
     let answer = session.step(command);
     answer_text(alloc, grammar, replying(command), &answer)
-}
-
-/// `error: `, some words and a name.
-fn error_on(alloc: Global, words: &[u8], name: &[u8]) -> Result<Vec<u8>, Memory>
-    ensures { IfOk result (λ text. text.items ≡ words.now ++ name.now ++ codes "\n") }
-{
-    let mut text = words.to_vec(alloc)?;
-    text.extend_from_slice(name)?;
-    text.push(b'\n')?;
-    Ok(text)
-}
-
-/// The text for a line that is no command.
-fn refusal(alloc: Global, fault: &CommandFault) -> Result<Vec<u8>, Memory>
-    ensures { IfOk result (λ text. IsRefusal fault.now text.items) }
-{
-    match fault {
-        CommandFault::Unreadable => Ok(b"error: unreadable\n".to_vec(alloc)?),
-        CommandFault::UnknownStart { name } => {
-            error_on(alloc, b"error: unknown start ", name.as_slice())
-        }
-        CommandFault::MissingStart => Ok(b"error: missing start\n".to_vec(alloc)?),
-        CommandFault::UnknownToken { name } => {
-            error_on(alloc, b"error: unknown token ", name.as_slice())
-        }
-        CommandFault::Memory => Err(Memory),
-    }
 }
 
 /// The text that answers a line of a session on a grammar's table, by the names of that grammar. Whatever branches the

@@ -2,8 +2,6 @@
 #![tactic(auto)]
 
 mod answering;
-mod laws;
-mod texts;
 
 pub use answering::answer_line;
-pub use laws::one_answer;
+pub use mh_branches::one_answer;

@@ -2,7 +2,7 @@
 ghost use Rattle.std.specs.Prelude.{◌≡◌, ◌≤◌, []};
 ghost use Rattle.mh_grammar.specs.Plain.{plain_of};
 ghost use Rattle.mh_msgfile.specs.Sentences.{vocabulary_in, vocabulary_of};
-ghost use Rattle.mh_session.specs.Answers.{Branches};
+ghost use Rattle.mh_branches.specs.Answers.{Branches};
 ghost use Rattle.mh_session.specs.Standing.{StandsFor};
 ghost use Rattle.mh_plans.specs.Modes.{Opens};
 ghost use Rattle.mh_plans.specs.Plan.{Serves};
@@ -29,7 +29,7 @@ pub struct Serving<'a> {
 
 impl<'a> Mode for Serving<'a> {
     ghost use Rattle.std.specs.Prelude.{◌≡◌};
-    ghost use Rattle.mh_session.specs.Answers.{Branches};
+    ghost use Rattle.mh_branches.specs.Answers.{Branches};
     ghost use Rattle.mh_session.specs.Standing.{StandsFor};
     ghost use Rattle.mh_plans.specs.Plan.{Plan, by_plan, Serves};
 

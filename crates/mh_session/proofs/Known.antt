@@ -9,8 +9,8 @@ use Rattle.mh_msgfile.proofs.Below.{bounded}
 use Rattle.mh_commands.specs.declared.command.Command.{Command}
 use Rattle.mh_commands.specs.declared.command.Command.TheVariants as commands
 use Rattle.mh_grammar.specs.Text.{Text}
-use Rattle.mh_session.specs.Answers.{IsKnown}
-use Rattle.mh_session.specs.Lines.{Form, BeginOnly, BeginAt, OfferTo, ResumeOf, ForkTo, ShowOf, TreeOf, ForgetOf, Said, Asks, NamesNoStart, LacksStart, NamesNoToken, at_only, at_start, with_token_of, said_by, LineSays}
+use Rattle.mh_branches.specs.Answers.{IsKnown}
+use Rattle.mh_branches.specs.Lines.{Form, BeginOnly, BeginAt, OfferTo, ResumeOf, ForkTo, ShowOf, TreeOf, ForgetOf, Said, Asks, NamesNoStart, LacksStart, NamesNoToken, at_only, at_start, with_token_of, said_by, LineSays}
 
 -- what is said has numbers below these counts
 abbrev IsSaidBelow : ℕ → ℕ → Said → Type 0

@@ -15,14 +15,14 @@ use Rattle.mh_engine.proofs.OneMore.{table_stays}
 use Rattle.mh_engine.proofs.Branching.{stands_begun, stands_offered, stands_resumed}
 use Rattle.mh_commands.specs.declared.command.Command.{Command}
 use Rattle.mh_commands.specs.declared.command.Command.TheVariants as commands
-use Rattle.mh_session.specs.declared.command.Reply.{Reply}
-use Rattle.mh_session.specs.declared.command.Reply.TheVariants as replies
-use Rattle.mh_session.specs.declared.command.SessionFault.{SessionFault}
-use Rattle.mh_session.specs.declared.command.SessionFault.TheVariants as faults
+use Rattle.mh_branches.specs.declared.command.Reply.{Reply}
+use Rattle.mh_branches.specs.declared.command.Reply.TheVariants as replies
+use Rattle.mh_branches.specs.declared.command.SessionFault.{SessionFault}
+use Rattle.mh_branches.specs.declared.command.SessionFault.TheVariants as faults
 use Rattle.mh_grammar.specs.Text.{Text}
-use Rattle.mh_session.specs.Names.{at_name, without, with_name}
+use Rattle.mh_branches.specs.Names.{at_name, without, with_name}
 use Rattle.mh_session.specs.Moments.{Moment}
-use Rattle.mh_session.specs.Answers.{Branches, Answer, answer, changed, next, next_by, phase_at, shown, of_held, of_fresh, to_offer, to_resume, step_or_deep, put_held}
+use Rattle.mh_branches.specs.Answers.{Branches, Answer, answer, changed, next, next_by, phase_at, shown, of_held, of_fresh, to_offer, to_resume, step_or_deep, put_held}
 use Rattle.mh_session.specs.Standing.{Fits, StandsFor}
 use Rattle.mh_session.specs.Puts.{Puts, AreOf}
 use Rattle.mh_session.specs.Served.{IsServed}

@@ -4,10 +4,10 @@ use Rattle.std.specs.List.{All}
 use Rattle.std.proofs.lemmas.List.{drop_more}
 use Rattle.mh_tables.specs.Table.{TableData}
 use Rattle.mh_commands.specs.declared.command.Command.{Command}
-use Rattle.mh_session.specs.declared.command.SessionFault.{SessionFault}
-use Rattle.mh_session.specs.declared.command.SessionFault.TheVariants as faults
+use Rattle.mh_branches.specs.declared.command.SessionFault.{SessionFault}
+use Rattle.mh_branches.specs.declared.command.SessionFault.TheVariants as faults
 use Rattle.mh_session.specs.Moments.{Moment}
-use Rattle.mh_session.specs.Answers.{Branches, Answer, answer, answers, next, IsKnown}
+use Rattle.mh_branches.specs.Answers.{Branches, Answer, answer, answers, next, IsKnown}
 use Rattle.mh_session.specs.Standing.{StandsFor}
 use Rattle.mh_session.specs.Served.{IsServed, IsTheirs}
 

@@ -4,7 +4,7 @@ use Rattle.std.specs.Map.{update}
 use Rattle.mh_tables.specs.Table.{TableData}
 use Rattle.mh_engine.specs.Positions.{Position}
 use Rattle.mh_grammar.specs.Text.{Text}
-use Rattle.mh_session.specs.Names.{same, at_name}
+use Rattle.mh_branches.specs.Names.{same, at_name}
 use Rattle.mh_session.specs.Moments.{Moment}
 
 -- all positions are of one table

@@ -3,11 +3,12 @@ ghost use Rattle.std.specs.Prelude.{◌≡◌, ◌∷◌, true};
 ghost use Rattle.mh_lex.specs.Words.{is_word as is_word_text};
 ghost use Rattle.mh_grammar.specs.Plain.{plain_of, IsInRange};
 ghost use Rattle.mh_msgfile.specs.Sentences.{pieces, vocabulary_in, vocabulary_of};
-ghost use Rattle.mh_session.specs.Names.{same};
-ghost use Rattle.mh_session.specs.Lines.{ReadsCommand, said_by};
-ghost use Rattle.mh_session.specs.Forms.{of_one, of_two, form_by, form_of, as_form, as_forms, FirstWord, ReadsSaid};
+ghost use Rattle.mh_branches.specs.Names.{same};
+ghost use Rattle.mh_branches.specs.Lines.{ReadsCommand, said_by};
+ghost use Rattle.mh_branches.specs.Forms.{of_one, of_two, form_by, form_of};
+ghost use Rattle.mh_session.specs.Forms.{as_form, as_forms, FirstWord, ReadsSaid};
 
-use crate::fault::CommandFault;
+use mh_branches::CommandFault;
 use mh_commands::Command;
 use mh_grammar::{Grammar, from_bytes};
 use mh_lex::is_word;
@@ -34,7 +35,7 @@ fn is_text(word: &[u8], text: &[u8]) -> bool
 }
 
 // By the first word, with one name behind it.
-#[tactic(auto, unfolding(crate::specs::Forms::of_one))]
+#[tactic(auto, unfolding(mh_branches::specs::Forms::of_one))]
 fn with_one<'a>(verb: &[u8], name: &'a [u8]) -> Option<Spelled<'a>>
     ensures { as_forms result ≡ of_one verb.now name.now }
 {
@@ -54,7 +55,7 @@ fn with_one<'a>(verb: &[u8], name: &'a [u8]) -> Option<Spelled<'a>>
 }
 
 // Or with two.
-#[tactic(auto, unfolding(crate::specs::Forms::of_two))]
+#[tactic(auto, unfolding(mh_branches::specs::Forms::of_two))]
 fn with_two<'a>(verb: &[u8], name: &'a [u8], other: &'a [u8]) -> Option<Spelled<'a>>
     ensures { as_forms result ≡ of_two verb.now name.now other.now }
 {

@@ -1,11 +1,11 @@
 //! Lists of commands.
 ghost use Rattle.std.specs.Prelude.{◌≡◌, ◌↔◌, [], IfOk, IsTrue, Err};
-ghost use Rattle.mh_session.specs.declared.command.SessionFault.TheVariants as faults;
+ghost use Rattle.mh_branches.specs.declared.command.SessionFault.TheVariants as faults;
 ghost use Rattle.std.specs.List.{All};
-ghost use Rattle.mh_session.specs.Answers.{IsKnown, answers};
+ghost use Rattle.mh_branches.specs.Answers.{IsKnown, answers};
 
-use crate::command::{Reply, SessionFault};
 use crate::session::Session;
+use mh_branches::{Reply, SessionFault};
 use mh_commands::Command;
 use mh_grammar::Memory;
 use mh_tables::Halting;

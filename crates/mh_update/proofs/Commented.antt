@@ -14,8 +14,8 @@ use Rattle.mh_check.specs.Checks.{Breaks, FailsIn}
 use Rattle.mh_check.specs.Compiling.{Tells}
 use Rattle.mh_check.specs.declared.compiling.CheckFault.{CheckFault}
 use Rattle.mh_check.proofs.Placing.{order_more, told_more}
-use Rattle.mh_update.specs.declared.comments.Comment.{Comment}
-use Rattle.mh_update.specs.Updates.{AreComments, FirstUnfit, IsComment}
+use Rattle.mh_renewed.specs.declared.comment.Comment.{Comment}
+use Rattle.mh_renewed.specs.Updates.{AreComments, FirstUnfit, IsComment}
 
 -- ---- lists up to a place
 

@@ -15,9 +15,9 @@ use Rattle.mh_msgfile.proofs.Endings.{with_ends, IsWhole, lines_end, lines_again
 use Rattle.mh_check.specs.Checks.{sentences_of}
 use Rattle.mh_comments.specs.Comments.{IsCommentText}
 use Rattle.mh_comments.proofs.OneText.{comments_once}
-use Rattle.mh_update.specs.declared.comments.Comment.{Comment}
+use Rattle.mh_renewed.specs.declared.comment.Comment.{Comment}
 use Rattle.mh_grammar.specs.Text.{Text}
-use Rattle.mh_update.specs.Updates.{IsComment, AreComments, updated, IsUpdated}
+use Rattle.mh_renewed.specs.Updates.{IsComment, AreComments, updated, IsUpdated}
 use Rattle.mh_parts.specs.Kept.{is_made}
 use Rattle.mh_update.specs.Lines.{HasLineNames, HasNoCrAtEnds}
 use Rattle.mh_update.proofs.Walks.{LinePlace, Outside, Kind, kind_of, next, Content, told, put, sentences, made_remark, Walk, Ended, Dropped, Silent, Telling, grown, text_of, tales_of, again, grown_text, again_text, grown_whole, grown_kept, text_is}

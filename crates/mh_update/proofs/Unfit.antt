@@ -24,9 +24,9 @@ use Rattle.mh_tables.proofs.Refusing.{state_refused}
 use Rattle.mh_check.proofs.Known.{one_verdict}
 use Rattle.mh_comments.specs.Comments.{comments}
 use Rattle.mh_comments.proofs.Farthest.{some_farthest}
-use Rattle.mh_update.specs.declared.comments.Comment.{Comment}
+use Rattle.mh_renewed.specs.declared.comment.Comment.{Comment}
 use Rattle.mh_grammar.specs.Text.{Text}
-use Rattle.mh_update.specs.Updates.{IsComment, AreComments, updated, IsUpdated, FirstUnfit}
+use Rattle.mh_renewed.specs.Updates.{IsComment, AreComments, updated, IsUpdated, FirstUnfit}
 
 module _ (t : TableData) where
   -- ---- one fault

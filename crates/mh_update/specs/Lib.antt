@@ -1,3 +1,1 @@
-pub mod Updates
 pub mod Lines
-pub mod Missing

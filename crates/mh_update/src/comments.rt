@@ -7,7 +7,7 @@ ghost use Rattle.mh_msgfile.specs.Messages.{IsOf};
 ghost use Rattle.mh_msgfile.specs.declared.messages.MsgSentence.{MsgSentence as MsgSentence'};
 ghost use Rattle.mh_check.specs.Checks.{Breaks, FailsIn, sentences_of};
 ghost use Rattle.mh_check.specs.Compiling.{Tells};
-ghost use Rattle.mh_update.specs.Updates.{AreComments, FirstUnfit, IsComment, Comments as CommentsOf};
+ghost use Rattle.mh_renewed.specs.Updates.{AreComments, FirstUnfit, IsComment, Comments as CommentsOf};
 
 use mh_check::CheckFault;
 use mh_comments::comment_lines;
@@ -15,17 +15,10 @@ use mh_grammar::{Grammar, Memory, Sequence};
 use mh_kernels::Automaton;
 use mh_msgfile::{Entry, MsgSentence};
 use mh_parts::is_early;
+use mh_renewed::Comment;
 use mh_run::{Verdict, verdict};
 use mh_tables::Halting;
 use std::alloc::Global;
-
-/// What stands behind the line of a sentence.
-#[derive(Drop)]
-pub struct Comment {
-    /// The number of the sentence's line, from 1.
-    pub line: u32,
-    pub text: Sequence<u8>,
-}
 
 /// Whether a sentence fails at its last token.
 fn check_sentence(alloc: Global, table: &Halting, sentence: &MsgSentence) -> Result<(), CheckFault>

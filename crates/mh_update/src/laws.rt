@@ -7,7 +7,7 @@ ghost use Rattle.mh_check.specs.Checks.{FaultFound, sentences_of};
 ghost use Rattle.mh_msgfile.specs.Printed.{HaveSameContent};
 ghost use Rattle.mh_msgfile.specs.declared.messages.MsgFile.{MsgFile};
 ghost use Rattle.mh_update.specs.Lines.{HasLineNames, HasNoCrAtEnds};
-ghost use Rattle.mh_update.specs.Updates.{FirstUnfit, IsUpdated};
+ghost use Rattle.mh_renewed.specs.Updates.{FirstUnfit, IsUpdated};
 ghost use Rattle.mh_msgfile.specs.declared.messages.MsgSentence.{MsgSentence};
 
 use mh_grammar::Grammar;

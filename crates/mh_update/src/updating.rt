@@ -5,14 +5,15 @@ ghost use Rattle.mh_kernels.specs.Automaton.{IsAutomaton};
 ghost use Rattle.mh_msgfile.specs.Messages.{AreOf};
 ghost use Rattle.mh_check.specs.Checks.{sentences_of};
 ghost use Rattle.mh_check.specs.Compiling.{Tells};
-ghost use Rattle.mh_update.specs.Updates.{FirstUnfit, IsUpdated, own_texts, updated};
+ghost use Rattle.mh_renewed.specs.Updates.{FirstUnfit, IsUpdated, own_texts, updated};
 
-use crate::comments::{Comment, all_comments};
+use crate::comments::all_comments;
 use mh_check::CheckFault;
 use mh_grammar::{Grammar, Memory, Name};
 use mh_kernels::Automaton;
 use mh_msgfile::MsgFile;
 use mh_parts::{lines_up_to, write_lines_behind, write_lines_up_to};
+use mh_renewed::Comment;
 use mh_tables::Halting;
 use std::alloc::Global;
 

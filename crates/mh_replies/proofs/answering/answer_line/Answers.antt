@@ -1,6 +1,6 @@
 use Rattle.std.proofs.Common.{Err}
 use Rattle.mh_msgfile.specs.Sentences.{vocabulary_in}
-use Rattle.mh_session.specs.Lines.{Asks}
+use Rattle.mh_branches.specs.Lines.{Asks}
 use Rattle.mh_session.proofs.Known.{command_known}
 use Rattle.mh_replies.proofs.Telling.{line_told, refusal_told, reads_of, says_of}
 use Rattle.mh_replies.proofs.answering.answer_line.Goals as goal

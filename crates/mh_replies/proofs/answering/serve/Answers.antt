@@ -1,7 +1,7 @@
 use Rattle.std.proofs.Common.{subst}
 use Rattle.std.specs.Prelude.{IfOk}
 use Rattle.mh_grammar.specs.Text.{Text}
-use Rattle.mh_replies.specs.Told.{IsTold}
+use Rattle.mh_wording.specs.Told.{IsTold}
 use Rattle.mh_replies.proofs.Telling.{said_told}
 use Rattle.mh_replies.proofs.answering.serve.Goals as goal
 

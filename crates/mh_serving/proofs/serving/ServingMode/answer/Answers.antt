@@ -4,10 +4,10 @@ use Rattle.std.specs.declared.alloc.Global.{Global}
 use Rattle.mh_grammar.specs.declared.types.Grammar.{Grammar}
 use Rattle.mh_grammar.specs.declared.types.Memory.{Memory}
 use Rattle.mh_tables.specs.Table.{TableData}
-use Rattle.mh_session.specs.Answers.{Branches}
+use Rattle.mh_branches.specs.Answers.{Branches}
 use Rattle.mh_session.specs.Moments.{Moment}
 use Rattle.mh_session.specs.Standing.{StandsFor}
-use Rattle.mh_replies.specs.Replies.{AnswersLine}
+use Rattle.mh_branches.specs.Replies.{AnswersLine}
 use Rattle.mh_replies.specs.Told.{ToldLine}
 use Rattle.mh_grammar.specs.Text.{Text}
 use Rattle.mh_plans.specs.Plan.{Plan, Serves, Answers}

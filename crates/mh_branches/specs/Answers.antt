@@ -1,8 +1,7 @@
 -- What a session answers, by the history of each branch: the branch that a command names is run anew from its start.
-use Rattle.std.specs.Prelude.{◌≡◌, ◌<◌, ℕ, Bool, true, false, List, [], ◌∷◌, length, Option, Some, None, Result, Ok, Err, is_some, cond}
+use Rattle.std.specs.Prelude.{◌<◌, ℕ, List, [], ◌∷◌, length, Option, Some, None, Result, Ok, Err, cond}
 use Rattle.mh_tables.specs.Table.{TableData}
 use Rattle.mh_grammar.specs.Trees.{SyntaxTree, Leaf}
-use Rattle.mh_engine.specs.Positions.{Position}
 use Rattle.mh_tables.specs.Deep.{too_deep}
 use Rattle.mh_engine.specs.Phases.{phase_of}
 use Rattle.mh_engine.specs.Branches.{Branch, new_branch, with_token, with_step, position_of}
@@ -10,12 +9,12 @@ use Rattle.mh_engine.specs.declared.phase.Phase.{Phase}
 use Rattle.mh_engine.specs.declared.phase.Phase.TheVariants as phases
 use Rattle.mh_commands.specs.declared.command.Command.{Command}
 use Rattle.mh_commands.specs.declared.command.Command.TheVariants as commands
-use Rattle.mh_session.specs.declared.command.Reply.{Reply}
-use Rattle.mh_session.specs.declared.command.Reply.TheVariants as replies
-use Rattle.mh_session.specs.declared.command.SessionFault.{SessionFault}
-use Rattle.mh_session.specs.declared.command.SessionFault.TheVariants as faults
+use Rattle.mh_branches.specs.declared.command.Reply.{Reply}
+use Rattle.mh_branches.specs.declared.command.Reply.TheVariants as replies
+use Rattle.mh_branches.specs.declared.command.SessionFault.{SessionFault}
+use Rattle.mh_branches.specs.declared.command.SessionFault.TheVariants as faults
 use Rattle.mh_grammar.specs.Text.{Text}
-use Rattle.mh_session.specs.Names.{at_name, without, with_name}
+use Rattle.mh_branches.specs.Names.{at_name, without, with_name}
 
 -- names with their branches
 abbrev pub Branches : Type 0

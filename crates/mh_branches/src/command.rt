@@ -1,6 +1,6 @@
 //! What commands are answered.
 ghost use Rattle.std.specs.Prelude.{◌≡◌};
-ghost use Rattle.mh_session.specs.declared.command.SessionFault.TheVariants as faults;
+ghost use Rattle.mh_branches.specs.declared.command.SessionFault.TheVariants as faults;
 
 use mh_engine::Phase;
 use mh_grammar::Memory;

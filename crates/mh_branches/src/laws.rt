@@ -3,8 +3,8 @@ ghost use Rattle.std.specs.Prelude.{◌≡◌};
 ghost use Rattle.mh_grammar.specs.declared.types.Grammar.{Grammar};
 ghost use Rattle.mh_tables.specs.Table.{TableData};
 ghost use Rattle.mh_grammar.specs.Text.{Text};
-ghost use Rattle.mh_session.specs.Answers.{Branches};
-ghost use Rattle.mh_replies.specs.Replies.{AnswersLine};
+ghost use Rattle.mh_branches.specs.Answers.{Branches};
+ghost use Rattle.mh_branches.specs.Replies.{AnswersLine};
 
 /// A line has one answer by the histories of branches, and leaves them one way.
 pub fn one_answer()

@@ -4,9 +4,9 @@ use Rattle.mh_grammar.specs.declared.types.Grammar.{Grammar}
 use Rattle.mh_tables.specs.Table.{TableData}
 use Rattle.mh_msgfile.specs.Sentences.{vocabulary_of}
 use Rattle.mh_grammar.specs.Text.{Text}
-use Rattle.mh_session.specs.Answers.{Branches}
-use Rattle.mh_session.proofs.Spelling.{says_once}
-use Rattle.mh_replies.specs.Replies.{AnswersLine, said_text, behind_said}
+use Rattle.mh_branches.specs.Answers.{Branches}
+use Rattle.mh_branches.proofs.Forms.{says_once}
+use Rattle.mh_branches.specs.Replies.{AnswersLine, said_text, behind_said}
 
 pub answer_once : (g : Grammar) (t : TableData) (bs : Branches) (line a b : Text) (x y : Branches) → AnswersLine g t bs line a x → AnswersLine g t bs line b y → (a ≡ b) × (x ≡ y)
 answer_once g t bs line a b x y (inl p) (inl q) =

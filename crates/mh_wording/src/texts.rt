@@ -1,13 +1,13 @@
 //! The texts of replies and faults. Each function writes behind what a text holds.
 ghost use Rattle.std.specs.Prelude.{◌≡◌, ◌++◌, IfOk, OnOk, codes};
-ghost use Rattle.mh_replies.specs.Replies.{phase_word as word_of, phase_rest, reply_text, fault_text};
-ghost use Rattle.mh_replies.specs.Told.{IsTold};
-ghost use Rattle.mh_session.specs.declared.command.SessionFault.TheVariants as faults;
+ghost use Rattle.mh_branches.specs.Replies.{phase_word as word_of, phase_rest, reply_text, fault_text};
+ghost use Rattle.mh_wording.specs.Told.{IsTold};
+ghost use Rattle.mh_branches.specs.declared.command.SessionFault.TheVariants as faults;
 
+use mh_branches::{Reply, SessionFault};
 use mh_engine::Phase;
 use mh_grammar::{Grammar, Memory, token_name};
-use mh_report::{write_number, write_production};
-use mh_session::{Reply, SessionFault};
+use mh_parts::{write_number, write_production};
 use mh_tree::print_tree;
 use std::alloc::Global;
 
@@ -115,7 +115,7 @@ fn write_fault(text: &mut Vec<u8>, fault: SessionFault) -> Result<(), Memory>
 }
 
 /// The text of an answer on a branch of this name. Fails for want of memory alone, also where the answer is that.
-pub(crate) fn answer_text(
+pub fn answer_text(
     alloc: Global,
     grammar: &Grammar,
     name: &[u8],

@@ -4,18 +4,18 @@ use Rattle.mh_grammar.specs.declared.types.Grammar.{Grammar}
 use Rattle.mh_grammar.specs.Names.{token_name}
 use Rattle.mh_tables.specs.Table.{TableData}
 use Rattle.mh_grammar.specs.Trees.{text_of}
-use Rattle.mh_report.specs.Items.{production_text}
+use Rattle.mh_parts.specs.Productions.{production_text}
 use Rattle.mh_engine.specs.declared.phase.Phase.{Phase}
 use Rattle.mh_engine.specs.declared.phase.Phase.TheVariants as phases
 use Rattle.mh_msgfile.specs.Sentences.{vocabulary_of}
 use Rattle.mh_commands.specs.declared.command.Command.{Command}
 use Rattle.mh_commands.specs.declared.command.Command.TheVariants as commands
-use Rattle.mh_session.specs.declared.command.Reply.{Reply}
-use Rattle.mh_session.specs.declared.command.Reply.TheVariants as replies
-use Rattle.mh_session.specs.declared.command.SessionFault.{SessionFault}
-use Rattle.mh_session.specs.declared.command.SessionFault.TheVariants as faults
-use Rattle.mh_session.specs.Answers.{Branches, Answer, answer, next}
-use Rattle.mh_session.specs.Lines.{Form, HasForm, Said, Asks, NamesNoStart, LacksStart, NamesNoToken, LineSays}
+use Rattle.mh_branches.specs.declared.command.Reply.{Reply}
+use Rattle.mh_branches.specs.declared.command.Reply.TheVariants as replies
+use Rattle.mh_branches.specs.declared.command.SessionFault.{SessionFault}
+use Rattle.mh_branches.specs.declared.command.SessionFault.TheVariants as faults
+use Rattle.mh_branches.specs.Answers.{Branches, Answer, answer, next}
+use Rattle.mh_branches.specs.Lines.{Form, HasForm, Said, Asks, NamesNoStart, LacksStart, NamesNoToken, LineSays}
 use Rattle.mh_grammar.specs.Text.{Text}
 
 -- the word for a phase

@@ -1,12 +1,12 @@
 -- Session lines (this project's profile).
-use Rattle.std.specs.Prelude.{◌≡◌, ℕ, Bool, true, List, [], ◌∷◌, Option, Some, None, Result, Ok, Err, codes, ⊤}
+use Rattle.std.specs.Prelude.{◌≡◌, ℕ, true, List, [], ◌∷◌, Option, Some, None, Result, Ok, Err, codes, ⊤}
 use Rattle.std.specs.List.{list_all}
 use Rattle.mh_lex.specs.Words.{is_word}
 use Rattle.mh_msgfile.specs.Sentences.{Vocabulary, pieces}
 use Rattle.mh_commands.specs.declared.command.Command.{Command}
 use Rattle.mh_commands.specs.declared.command.Command.TheVariants as commands
-use Rattle.mh_session.specs.declared.fault.CommandFault.{CommandFault}
-use Rattle.mh_session.specs.declared.fault.CommandFault.TheVariants as faults
+use Rattle.mh_branches.specs.declared.fault.CommandFault.{CommandFault}
+use Rattle.mh_branches.specs.declared.fault.CommandFault.TheVariants as faults
 use Rattle.mh_grammar.specs.Text.{Text}
 
 -- the forms that a line may have, with the names in it

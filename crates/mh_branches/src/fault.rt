@@ -1,6 +1,6 @@
 //! Why a line is no command.
 ghost use Rattle.std.specs.Prelude.{◌≡◌};
-ghost use Rattle.mh_session.specs.declared.fault.CommandFault.TheVariants.{Memory as Memory'};
+ghost use Rattle.mh_branches.specs.declared.fault.CommandFault.TheVariants.{Memory as Memory'};
 
 use mh_grammar::{Memory, Name};
 

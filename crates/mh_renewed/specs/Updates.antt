@@ -11,7 +11,7 @@ use Rattle.mh_comments.specs.Comments.{IsCommentText}
 use Rattle.mh_check.specs.Checks.{Breaks, FailsIn, FaultFound, sentences_of}
 use Rattle.mh_check.specs.Compiling.{Tells}
 use Rattle.mh_check.specs.declared.compiling.CheckFault.{CheckFault}
-use Rattle.mh_update.specs.declared.comments.Comment.{Comment}
+use Rattle.mh_renewed.specs.declared.comment.Comment.{Comment}
 use Rattle.mh_grammar.specs.Text.{Text}
 pub use Rattle.mh_parts.specs.Kept.{is_made, own_text, own_texts}
 

@@ -1,0 +1,10 @@
+//! Comments of sentences.
+use mh_grammar::Sequence;
+
+/// What stands behind the line of a sentence.
+#[derive(Drop)]
+pub struct Comment {
+    /// The number of the sentence's line, from 1.
+    pub line: u32,
+    pub text: Sequence<u8>,
+}
