@@ -1,8 +1,10 @@
-//! The catalogue of the states in which sentences fail.
+//! The catalogue of the states in which sentences fail: both searches of a table, and a row for each such state.
 #![tactic(auto)]
 
+mod both;
 mod making;
-mod rows;
 
+pub use both::reach;
 pub use making::catalogue;
-pub use rows::{CatalogueFault, Row};
+pub use mh_rows::{CatalogueFault, Row};
+pub use mh_sentences::Reach;

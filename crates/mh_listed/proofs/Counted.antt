@@ -4,10 +4,10 @@ use Rattle.std.proofs.lemmas.List.{length-map}
 use Rattle.std.specs.Prelude.{Ok, Err}
 use Rattle.mh_tables.specs.Table.{TableData}
 use Rattle.mh_tables.specs.Failing.{Catalogue, TooLongAt}
-use Rattle.mh_catalogue.specs.Rows.{row_of, rows_of}
-use Rattle.mh_catalogue.specs.declared.rows.Row.{Row as MadeRow}
-use Rattle.mh_catalogue.specs.declared.rows.CatalogueFault.{CatalogueFault}
-use Rattle.mh_catalogue.specs.declared.rows.CatalogueFault.TheVariants as faults
+use Rattle.mh_rows.specs.Rows.{row_of, rows_of}
+use Rattle.mh_rows.specs.declared.rows.Row.{Row as MadeRow}
+use Rattle.mh_rows.specs.declared.rows.CatalogueFault.{CatalogueFault}
+use Rattle.mh_rows.specs.declared.rows.CatalogueFault.TheVariants as faults
 use Rattle.mh_listed.specs.Counted.{CountedRows}
 
 module _ (t : TableData) where

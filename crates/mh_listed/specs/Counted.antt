@@ -2,8 +2,8 @@
 use Rattle.std.specs.Prelude.{◌≡◌, ℕ, List, length, Result, Ok, Err}
 use Rattle.mh_tables.specs.Table.{TableData}
 use Rattle.mh_tables.specs.Failing.{Row, Catalogue, TooLongAt}
-use Rattle.mh_catalogue.specs.declared.rows.CatalogueFault.{CatalogueFault}
-use Rattle.mh_catalogue.specs.declared.rows.CatalogueFault.TheVariants.{TooLong, Memory}
+use Rattle.mh_rows.specs.declared.rows.CatalogueFault.{CatalogueFault}
+use Rattle.mh_rows.specs.declared.rows.CatalogueFault.TheVariants.{TooLong, Memory}
 
 abbrev pub CountedRows : TableData → Result ℕ CatalogueFault → Type 0
 CountedRows t (Ok count) = ((s : ℕ) → TooLongAt t s → ⊥) × (rows : List Row) × Catalogue t rows × (count ≡ length rows)

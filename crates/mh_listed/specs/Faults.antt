@@ -1,7 +1,7 @@
 -- What a fault of the catalogue comes to.
 use Rattle.std.specs.Prelude.{◌≡◌}
-use Rattle.mh_catalogue.specs.declared.rows.CatalogueFault.{CatalogueFault}
-use Rattle.mh_catalogue.specs.declared.rows.CatalogueFault.TheVariants.{TooLong, Memory}
+use Rattle.mh_rows.specs.declared.rows.CatalogueFault.{CatalogueFault}
+use Rattle.mh_rows.specs.declared.rows.CatalogueFault.TheVariants.{TooLong, Memory}
 use Rattle.mh_plans.specs.Listing.{too_long}
 use Rattle.mh_drive.specs.Stages.{Halts}
 use Rattle.mh_drive.specs.declared.stop.Cause.TheVariants.{Refused}

@@ -4,5 +4,5 @@
 mod counting;
 mod refusing;
 
-pub use counting::count_rows;
+pub use counting::count_of;
 pub use refusing::stop_of;

@@ -4,8 +4,8 @@ ghost use Rattle.mh_drive.specs.Stages.{Halts};
 ghost use Rattle.mh_drive.specs.declared.stop.Cause.TheVariants.{Refused};
 ghost use Rattle.mh_plans.specs.Listing.{too_long as too_long_line};
 
-use mh_catalogue::CatalogueFault;
 use mh_drive::{Stop, refused};
+use mh_rows::CatalogueFault;
 use std::alloc::Global;
 
 /// The refusal where each sentence that fails in a state is too dear.

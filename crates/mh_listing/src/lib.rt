@@ -1,8 +1,10 @@
 //! The modes that write what the catalogue of the table gives: the list of errors, and the counts of a sample.
 #![tactic(auto)]
 
+mod counting;
 mod listing;
 mod sampling;
 
+pub use counting::count_rows;
 pub use listing::Listing;
 pub use sampling::Sampling;

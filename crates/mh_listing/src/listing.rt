@@ -1,65 +1,12 @@
 //! The list of errors: the catalogue of the table is made, and then its entries are written, each as it is made.
-ghost use Rattle.std.specs.Prelude.{◌≤◌};
-ghost use Rattle.mh_catalogue.specs.Rows.{row_of, rows_of};
-ghost use Rattle.mh_listing.specs.Entries.{AreEntriesOf, AreRowsFit, IsEntryOf, IsRowFit, PartRan, TextRan};
-ghost use Rattle.mh_prepared.specs.Prepared.{IsFit};
-ghost use Rattle.mh_drive.specs.Steps.{OutCounts};
-
-use mh_catalogue::{Row, catalogue};
-use mh_comments::entry_text;
-use mh_drive::{Stop, write_text};
+use mh_catalogue::catalogue;
+use mh_drive::Stop;
+use mh_entries::write_entries;
 use mh_listed::stop_of;
 use mh_outside::Sink;
 use mh_plans::Writer;
 use mh_prepared::Prepared;
 use std::alloc::Global;
-
-/// Writes the entry of a row.
-fn write_entry<O: Sink, const W: usize>(
-    alloc: Global,
-    prepared: &Prepared<W>,
-    row: &Row,
-    out: &mut O,
-) -> Result<(), Stop>
-    requires few { W ≤ 8 }
-    requires fit { IsFit prepared.now }
-    requires row { IsRowFit prepared.now.tabled.halting (row_of row.now) }
-    ensures text { TextRan (IsEntryOf prepared.now (row_of row.now)) (O.written out.old) (O.written out.new) result }
-    ensures counts { OutCounts (O.faults out.old) (O.faults out.new) result }
-{
-    let text = entry_text(
-        alloc,
-        &prepared.grammar,
-        &prepared.tabled.automaton,
-        &prepared.tabled.halting,
-        row.start,
-        row.sentence.as_slice(),
-    )?;
-    write_text(out, &text)
-}
-
-/// Writes the entries of rows.
-fn write_entries<O: Sink, const W: usize>(
-    alloc: Global,
-    prepared: &Prepared<W>,
-    rows: &[Row],
-    out: &mut O,
-) -> Result<(), Stop>
-    requires few { W ≤ 8 }
-    requires fit { IsFit prepared.now }
-    requires rows { AreRowsFit prepared.now.tabled.halting (rows_of rows.now) }
-    ensures text { PartRan (AreEntriesOf prepared.now (rows_of rows.now)) (O.written out.old) (O.written out.new) result }
-    ensures counts { OutCounts (O.faults out.old) (O.faults out.new) result }
-{
-    let _facts = prepared.tabled.halting.table();
-    for row in rows {
-        match write_entry(alloc, prepared, row, out) {
-            Ok(()) => {}
-            Err(stop) => return Err(stop),
-        }
-    }
-    Ok(())
-}
 
 /// What writes the list of errors.
 #[derive(Drop)]

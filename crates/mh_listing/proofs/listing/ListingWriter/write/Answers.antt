@@ -1,7 +1,9 @@
 use Rattle.std.proofs.Common.{ap, rules}
 use Rattle.std.specs.Prelude.{Err}
-use Rattle.mh_catalogue.specs.Rows.{rows_of}
-use Rattle.mh_listing.proofs.Listed.{catalogue_fit, fault_calm, fault_ends, rows_listed}
+use Rattle.mh_rows.specs.Rows.{rows_of}
+use Rattle.mh_entries.proofs.Listed.{catalogue_fit, rows_listed}
+use Rattle.mh_listed.proofs.Counted.{uncounted}
+use Rattle.mh_listed.proofs.Refused.{fault_calm, list_stops}
 use Rattle.mh_listing.proofs.listing.ListingWriter.write.Goals as goal
 
 pub write_entries-requires : goal.write_entries-requires
@@ -15,7 +17,8 @@ returns-in-Ok-clause-text g c =
     rows_listed c.args.self.prepared.now c.in-Ok.rows.items c.as_slice.result.now c.as_slice.ensures.value c.in-Ok.ensures.ok c.in-Ok.ensures.none _ _ c.write_entries.result c.write_entries.ensures.text
 
 pub returns-in-Err-clause-text : goal.returns-in-Err-clause-text
-returns-in-Err-clause-text g c = fault_ends c.args.self.prepared.now _ c.in-Err.fault c.stop_of.result c.stop_of.ensures (λ s e. c.in-Err.ensures.long s (ap Err e))
+returns-in-Err-clause-text g c =
+    list_stops c.args.self.prepared.now _ c.in-Err.fault c.stop_of.result c.stop_of.ensures (uncounted c.args.self.prepared.now.tabled.halting c.in-Err.fault (λ s e. c.in-Err.ensures.long s (ap Err e)))
 
 pub returns-in-Err-clause-counts : goal.returns-in-Err-clause-counts
 returns-in-Err-clause-counts g c = fault_calm _ c.in-Err.fault c.stop_of.result c.stop_of.ensures
