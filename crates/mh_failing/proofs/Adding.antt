@@ -3,13 +3,13 @@ use Rattle.std.proofs.Common.{◌≡◌, ℕ, ◌+◌, ◌<◌, ◌≤◌, ◌�
 use Rattle.std.specs.Prelude.{min, Ok, Err, Vec}
 use Rattle.std.specs.declared.alloc.Global.{Global}
 use Rattle.std.proofs.lemmas.Grind.{common_steps}
-use Rattle.std.specs.List.{AllByRecursion, Contains}
+use Rattle.std.specs.List.{AllByRecursion}
 use Rattle.std.proofs.lemmas.Bool.{cases_lt}
 use Rattle.std.proofs.lemmas.List.Elements.{All-get_or, Contains-push, Contains-append_left}
 use Rattle.mh_grammar.proofs.Lists.{recursion_contains, recursion-push, recursion-weaker, rising-push}
 use Rattle.mh_grammar.specs.Costs.{IsCost}
 use Rattle.mh_tables.specs.Table.{TableData, cost_of_token}
-use Rattle.mh_tables.specs.Failing.{Row as TableRow, IsRowBefore, Fails, FailsFirst, FailsCheaply, Failing, TooLongAt, Catalogue, IsInOrder, cost_of_word, dearest}
+use Rattle.mh_tables.specs.Failing.{Row as TableRow, IsRowBefore, FailsFirst, FailsCheaply, Failing, TooLongAt, Catalogue, IsInOrder, cost_of_word, dearest}
 use Rattle.mh_tables.specs.Facts.{Facts}
 use Rattle.mh_least.specs.Orders.{cap}
 use Rattle.mh_least.proofs.Complete.{fails_refused}
@@ -18,7 +18,7 @@ use Rattle.mh_sentences.specs.Reaching.{LeastCost}
 use Rattle.mh_rows.specs.declared.rows.CatalogueFault.{CatalogueFault}
 use Rattle.mh_rows.specs.declared.rows.CatalogueFault.TheVariants.{TooLong}
 use Rattle.mh_rows.specs.declared.rows.Row.{Row}
-use Rattle.mh_rows.specs.Rows.{row_of, rows_of, AreShort, IsMade, RowsBelow}
+use Rattle.mh_rows.specs.Rows.{row_of, rows_of, IsMade, RowsBelow}
 
 pub rows_push : (rows : List Row) (r : Row) → rows_of (rows ++ r ∷ []) ≡ rows_of rows ++ row_of r ∷ []
 rows_push [] r = refl

@@ -1,6 +1,6 @@
-use Rattle.std.proofs.Common.{◌≡◌, ◌+◌, Err, refl, subst}
+use Rattle.std.proofs.Common.{◌≡◌, refl, subst}
 use Rattle.mh_tables.specs.Failing.{TooLongAt}
-use Rattle.mh_rows.specs.Rows.{rows_of, RowsBelow}
+use Rattle.mh_rows.specs.Rows.{rows_of}
 use Rattle.mh_failing.proofs.Adding.{cheap_of, rows_added, rows_skip, too_long}
 use Rattle.mh_failing.proofs.gathering.add_row.Goals.{in-Err-push, in-Ok-push}
 use Rattle.mh_failing.proofs.gathering.add_row.Goals as goal
