@@ -121,8 +121,8 @@ pub fn compare_errors<F: Shelf, I: Source, O: Sink, const W: usize>(
     requires few { W ≤ 8 }
     requires fit { IsFit prepared.now }
     requires asked { F.MayAsk shelf.old files.first.now × F.MayAsk shelf.old files.second.now }
-    ensures ran { Followed (IsPlanOfJob (CompareErrors files.first.now files.second.now) (F.files shelf.old) prepared.now)
-        (IsTurnOfJob (CompareErrors files.first.now files.second.now) (F.files shelf.old) prepared.now)
+    ensures ran { Followed (IsPlanOfJob (CompareErrors files.entry.first.now files.entry.second.now) (F.files shelf.old) prepared.now)
+        (IsTurnOfJob (CompareErrors files.entry.first.now files.entry.second.now) (F.files shelf.old) prepared.now)
         (I.left input.old) (I.left input.new) (O.written out.old) (O.written out.new) result }
     ensures counts { Counts (I.faults input.old) (I.faults input.new)
         (O.faults out.old) (O.faults out.new) result }
