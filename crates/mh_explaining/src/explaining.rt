@@ -6,15 +6,17 @@ ghost use Rattle.mh_comments.specs.Comments.{IsEntryText};
 ghost use Rattle.mh_run.specs.Verdicts.{ending_for};
 ghost use Rattle.mh_check.specs.Texts.{ending_text as ending_words, early_text};
 ghost use Rattle.mh_plans.specs.Explained.{IsTold, IsToldSentence, told_not};
-ghost use Rattle.mh_plans.specs.Plan.{Explains};
+ghost use Rattle.mh_drive.specs.Drive.{Ran};
+ghost use Rattle.mh_drive.specs.Steps.{Counts};
+ghost use Rattle.mh_plans.specs.Plan.{Explains, by_plan};
 ghost use Rattle.mh_prepared.specs.Prepared.{IsFit};
 
 use mh_check::{ending_text, write_early};
 use mh_comments::entry_text;
-use mh_drive::{Asks, Mode, Stop};
+use mh_drive::{Asks, Mode, Stop, drive};
 use mh_grammar::{Memory, Sentence, Sequence};
 use mh_msgfile::{SentenceFault, read_sentence};
-use mh_outside::Sink;
+use mh_outside::{Sink, Source};
 use mh_plans::{Told, tell};
 use mh_prepared::Prepared;
 use mh_run::{Verdict, verdict};
@@ -132,7 +134,7 @@ fn told_line<const W: usize>(
 /// A mode that asks for the first line alone, and tells at its end what that is told; where there is none, what the empty line
 /// is told.
 #[derive(Drop)]
-pub struct Explaining<'a, const W: usize> {
+struct Explaining<'a, const W: usize> {
     prepared: &'a Prepared<W>,
     line: Sequence<u8>,
 }
@@ -164,7 +166,7 @@ impl<'a, const W: usize> Mode for Explaining<'a, W> {
 }
 
 /// What tells what the first line is told, from the empty one on.
-pub fn explain_by<'a, const W: usize>(alloc: Global, prepared: &'a Prepared<W>) -> Explaining<'a, W>
+fn explain_by<'a, const W: usize>(alloc: Global, prepared: &'a Prepared<W>) -> Explaining<'a, W>
     requires few { W ≤ 8 }
     requires fit { IsFit prepared.now }
     ensures { (W ≤ 8) × IsFit result.prepared.now × (length result.line < 2 ^ 32) × (Explains prepared.now [] ≡ Explains result.prepared.now result.line) }
@@ -173,4 +175,22 @@ pub fn explain_by<'a, const W: usize>(alloc: Global, prepared: &'a Prepared<W>) 
         prepared,
         line: Sequence::new(alloc),
     }
+}
+
+/// Tells the entry of the sentence on the first line of the input, or why there is none.
+pub fn explain<I: Source, O: Sink, const W: usize>(
+    alloc: Global,
+    prepared: &Prepared<W>,
+    input: &mut I,
+    out: &mut O,
+) -> Result<(), Stop>
+    requires few { W ≤ 8 }
+    requires fit { IsFit prepared.now }
+    ensures ran { Ran by_plan (Explains prepared.now []) (I.left input.old) (I.left input.new)
+        (O.written out.old) (O.written out.new) result }
+    ensures counts { Counts (I.faults input.old) (I.faults input.new)
+        (O.faults out.old) (O.faults out.new) result }
+{
+    let mode = explain_by(alloc, prepared);
+    drive(alloc, mode, input, out)
 }

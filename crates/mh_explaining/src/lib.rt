@@ -3,4 +3,4 @@
 
 mod explaining;
 
-pub use explaining::{Explaining, explain_by};
+pub use explaining::explain;

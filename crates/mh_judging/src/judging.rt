@@ -6,20 +6,21 @@ ghost use Rattle.mh_engine.specs.Outcomes.{tree_ending_for};
 ghost use Rattle.mh_run.specs.Verdicts.{ending_for};
 ghost use Rattle.mh_msgfile.specs.Sentences.{vocabulary_in, vocabulary_of};
 ghost use Rattle.mh_check.specs.Compiling.{message_at};
-ghost use Rattle.mh_plans.specs.Modes.{Opens};
+ghost use Rattle.mh_plans.specs.Modes.{Followed, Opens};
 ghost use Rattle.mh_opts.specs.declared.jobs.Job.TheVariants.{Interpret as Interpret'};
 ghost use Rattle.mh_plans.specs.Plan.{Judges, IsPlanOfJob, MessagesFor};
 ghost use Rattle.mh_plans.specs.Files.{IsTurnOfJob, named};
 ghost use Rattle.mh_drive.specs.Stages.{FilesGive, ShelfCounts};
+ghost use Rattle.mh_drive.specs.Steps.{Counts, FileCounts};
 ghost use Rattle.mh_prepared.specs.Prepared.{IsFit};
 ghost use Rattle.mh_plans.specs.Verdicts.{AnswersOne, IsOutcomeText, IsVerdictText, SentenceText, message_or, outcome_text as outcome_line, refusal_text as refusal_line, verdict_text as verdict_line};
 
 use mh_check::Compiled;
-use mh_drive::{Asks, Mode, Stop, joined};
+use mh_drive::{Asks, Mode, Stop, drive_opened, joined};
 use mh_engine::{TreeOutcome, run_with_trees};
 use mh_grammar::{Grammar, Memory, Sentence};
 use mh_msgfile::{Lexicon, SentenceFault};
-use mh_outside::{Shelf, Sink};
+use mh_outside::{Shelf, Sink, Source};
 use mh_plans::read_messages_file;
 use mh_prepared::Prepared;
 use mh_report::write_number;
@@ -30,7 +31,7 @@ use std::alloc::Global;
 
 /// What answers each line with its verdict.
 #[derive(Drop)]
-pub struct Judging<'a> {
+struct Judging<'a> {
     /// Whether what is accepted has its tree.
     trees: bool,
     grammar: &'a Grammar,
@@ -221,7 +222,7 @@ fn messages_for<F: Shelf, const W: usize>(
 }
 
 /// What judges by the table, with the messages that the order names.
-pub fn judge_by<'a, F: Shelf, const W: usize>(
+fn judge_by<'a, F: Shelf, const W: usize>(
     alloc: Global,
     prepared: &'a Prepared<W>,
     shelf: &mut F,
@@ -252,4 +253,27 @@ pub fn judge_by<'a, F: Shelf, const W: usize>(
         }),
         Err(_) => Err(Stop::OutOfMemory),
     }
+}
+
+/// Answers each line of the input with its verdict.
+pub fn interpret<F: Shelf, I: Source, O: Sink, const W: usize>(
+    alloc: Global,
+    prepared: &Prepared<W>,
+    shelf: &mut F,
+    input: &mut I,
+    out: &mut O,
+) -> Result<(), Stop>
+    requires few { W ≤ 8 }
+    requires fit { IsFit prepared.now }
+    requires asked { All (F.MayAsk shelf.old) (named prepared.now.order.messages) }
+    ensures ran { Followed (IsPlanOfJob Interpret' (F.files shelf.old) prepared.now)
+        (IsTurnOfJob Interpret' (F.files shelf.old) prepared.now)
+        (I.left input.old) (I.left input.new) (O.written out.old) (O.written out.new) result }
+    ensures counts { Counts (I.faults input.old) (I.faults input.new)
+        (O.faults out.old) (O.faults out.new) result }
+    ensures read { FileCounts (F.faults shelf.old) (F.faults shelf.new) result }
+    ensures kept { F.files shelf.new ≡ F.files shelf.old }
+{
+    let opened = judge_by(alloc, prepared, shelf);
+    drive_opened(alloc, opened, input, out)
 }

@@ -3,4 +3,4 @@
 
 mod judging;
 
-pub use judging::{Judging, judge_by};
+pub use judging::interpret;

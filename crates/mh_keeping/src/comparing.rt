@@ -5,15 +5,16 @@ ghost use Rattle.mh_opts.specs.declared.jobs.Job.TheVariants.{CompareErrors};
 ghost use Rattle.mh_plans.specs.Compared.{compared};
 ghost use Rattle.mh_plans.specs.Files.{IsTurnOfJob};
 ghost use Rattle.mh_plans.specs.MessagesStage.{AreBoth};
-ghost use Rattle.mh_plans.specs.Modes.{Opens, Tells};
+ghost use Rattle.mh_plans.specs.Modes.{Followed, Opens, Tells};
 ghost use Rattle.mh_plans.specs.Plan.{IsPlanOfJob};
 ghost use Rattle.mh_prepared.specs.Prepared.{IsFit};
 ghost use Rattle.mh_drive.specs.Stages.{FilesGive, ShelfCounts};
+ghost use Rattle.mh_drive.specs.Steps.{Counts, FileCounts};
 
 use mh_check::{Compiled, compare};
-use mh_drive::Stop;
+use mh_drive::{Stop, drive_opened};
 use mh_grammar::{Memory, Sequence};
-use mh_outside::Shelf;
+use mh_outside::{Shelf, Sink, Source};
 use mh_plans::{AtEnd, Telling, Told, read_messages_file};
 use mh_prepared::Prepared;
 use mh_update::missing_text;
@@ -78,7 +79,7 @@ fn read_both<F: Shelf, const W: usize>(
 }
 
 /// The mode that compares the named files.
-pub fn compare_by<F: Shelf, const W: usize>(
+fn compare_by<F: Shelf, const W: usize>(
     alloc: Global,
     prepared: &Prepared<W>,
     shelf: &mut F,
@@ -99,4 +100,35 @@ pub fn compare_by<F: Shelf, const W: usize>(
         Ok((left, right)) => Ok(telling(alloc, first, second, &left, &right)?),
         Err(stop) => Err(stop),
     }
+}
+
+/// The files that are compared, by their names.
+#[derive(Clone, Copy, Drop)]
+pub struct Pair<'a> {
+    pub first: &'a [u8],
+    pub second: &'a [u8],
+}
+
+/// Compares the named files: refused for the states that the first names and the second does not.
+pub fn compare_errors<F: Shelf, I: Source, O: Sink, const W: usize>(
+    alloc: Global,
+    prepared: &Prepared<W>,
+    shelf: &mut F,
+    input: &mut I,
+    out: &mut O,
+    files: Pair<'_>,
+) -> Result<(), Stop>
+    requires few { W ≤ 8 }
+    requires fit { IsFit prepared.now }
+    requires asked { F.MayAsk shelf.old files.first.now × F.MayAsk shelf.old files.second.now }
+    ensures ran { Followed (IsPlanOfJob (CompareErrors files.entry.first.now files.entry.second.now) (F.files shelf.old) prepared.now)
+        (IsTurnOfJob (CompareErrors files.entry.first.now files.entry.second.now) (F.files shelf.old) prepared.now)
+        (I.left input.old) (I.left input.new) (O.written out.old) (O.written out.new) result }
+    ensures counts { Counts (I.faults input.old) (I.faults input.new)
+        (O.faults out.old) (O.faults out.new) result }
+    ensures read { FileCounts (F.faults shelf.old) (F.faults shelf.new) result }
+    ensures kept { F.files shelf.new ≡ F.files shelf.old }
+{
+    let opened = compare_by(alloc, prepared, shelf, files.first, files.second);
+    drive_opened(alloc, opened, input, out)
 }

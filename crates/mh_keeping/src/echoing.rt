@@ -3,16 +3,17 @@ ghost use Rattle.std.specs.Prelude.{◌≡◌, ◌≤◌, IfOk};
 ghost use Rattle.mh_msgfile.specs.Printed.{echo_text};
 ghost use Rattle.mh_opts.specs.declared.jobs.Job.TheVariants.{EchoErrors};
 ghost use Rattle.mh_plans.specs.Files.{IsTurnOfJob};
-ghost use Rattle.mh_plans.specs.Modes.{Opens, Tells};
+ghost use Rattle.mh_plans.specs.Modes.{Followed, Opens, Tells};
 ghost use Rattle.mh_plans.specs.Plan.{IsPlanOfJob};
 ghost use Rattle.mh_plans.specs.declared.at_end.Told.TheVariants.{Said};
 ghost use Rattle.mh_prepared.specs.Prepared.{IsFit};
 ghost use Rattle.mh_drive.specs.Stages.{ShelfCounts};
+ghost use Rattle.mh_drive.specs.Steps.{Counts, FileCounts};
 
-use mh_drive::Stop;
+use mh_drive::{Stop, drive_opened};
 use mh_grammar::{Grammar, Memory};
 use mh_msgfile::{MsgFile, echo};
-use mh_outside::Shelf;
+use mh_outside::{Shelf, Sink, Source};
 use mh_plans::{AtEnd, Telling, read_spelled_file, saying};
 use mh_prepared::Prepared;
 use std::alloc::Global;
@@ -25,7 +26,7 @@ fn telling(alloc: Global, grammar: &Grammar, file: &MsgFile) -> Result<AtEnd<Tel
 }
 
 /// The mode that writes the sentences of the named file.
-pub fn echo_by<F: Shelf, const W: usize>(
+fn echo_by<F: Shelf, const W: usize>(
     alloc: Global,
     prepared: &Prepared<W>,
     shelf: &mut F,
@@ -44,4 +45,28 @@ pub fn echo_by<F: Shelf, const W: usize>(
         Ok(spelled) => Ok(telling(alloc, &prepared.grammar, &spelled)?),
         Err(stop) => Err(stop),
     }
+}
+
+/// Writes the sentences of the named file.
+pub fn echo_errors<F: Shelf, I: Source, O: Sink, const W: usize>(
+    alloc: Global,
+    prepared: &Prepared<W>,
+    shelf: &mut F,
+    input: &mut I,
+    out: &mut O,
+    file: &[u8],
+) -> Result<(), Stop>
+    requires few { W ≤ 8 }
+    requires fit { IsFit prepared.now }
+    requires asked { F.MayAsk shelf.old file.now }
+    ensures ran { Followed (IsPlanOfJob (EchoErrors file.now) (F.files shelf.old) prepared.now)
+        (IsTurnOfJob (EchoErrors file.now) (F.files shelf.old) prepared.now)
+        (I.left input.old) (I.left input.new) (O.written out.old) (O.written out.new) result }
+    ensures counts { Counts (I.faults input.old) (I.faults input.new)
+        (O.faults out.old) (O.faults out.new) result }
+    ensures read { FileCounts (F.faults shelf.old) (F.faults shelf.new) result }
+    ensures kept { F.files shelf.new ≡ F.files shelf.old }
+{
+    let opened = echo_by(alloc, prepared, shelf, file);
+    drive_opened(alloc, opened, input, out)
 }

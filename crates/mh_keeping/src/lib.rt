@@ -6,7 +6,7 @@ mod compiling;
 mod echoing;
 mod updating;
 
-pub use comparing::compare_by;
-pub use compiling::compile_by;
-pub use echoing::echo_by;
-pub use updating::update_by;
+pub use comparing::{Pair, compare_errors};
+pub use compiling::compile_errors;
+pub use echoing::echo_errors;
+pub use updating::update_errors;

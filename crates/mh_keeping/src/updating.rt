@@ -4,16 +4,17 @@ ghost use Rattle.mh_msgfile.specs.Messages.{AreOf};
 ghost use Rattle.mh_opts.specs.declared.jobs.Job.TheVariants.{UpdateErrors};
 ghost use Rattle.mh_plans.specs.Files.{IsTurnOfJob};
 ghost use Rattle.mh_plans.specs.MessagesStage.{IsUpdatedFile, IsUpdatedOf};
-ghost use Rattle.mh_plans.specs.Modes.{Opens, Tells};
+ghost use Rattle.mh_plans.specs.Modes.{Followed, Opens, Tells};
 ghost use Rattle.mh_plans.specs.Plan.{IsPlanOfJob};
 ghost use Rattle.mh_prepared.specs.Prepared.{IsFit};
 ghost use Rattle.mh_drive.specs.Stages.{FilesGive, ShelfCounts, StageHas};
+ghost use Rattle.mh_drive.specs.Steps.{Counts, FileCounts};
 
 use mh_check::CheckFault;
-use mh_drive::Stop;
+use mh_drive::{Stop, drive_opened};
 use mh_grammar::Sequence;
 use mh_msgfile::MsgFile;
-use mh_outside::Shelf;
+use mh_outside::{Shelf, Sink, Source};
 use mh_plans::{AtEnd, Telling, Told, no_fit, read_spelled_file};
 use mh_prepared::Prepared;
 use mh_update::update;
@@ -67,7 +68,7 @@ fn read_updated_file<F: Shelf, const W: usize>(
 }
 
 /// The mode that writes what the named file becomes.
-pub fn update_by<F: Shelf, const W: usize>(
+fn update_by<F: Shelf, const W: usize>(
     alloc: Global,
     prepared: &Prepared<W>,
     shelf: &mut F,
@@ -90,4 +91,28 @@ pub fn update_by<F: Shelf, const W: usize>(
         }),
         Err(stop) => Err(stop),
     }
+}
+
+/// Writes what the named file becomes.
+pub fn update_errors<F: Shelf, I: Source, O: Sink, const W: usize>(
+    alloc: Global,
+    prepared: &Prepared<W>,
+    shelf: &mut F,
+    input: &mut I,
+    out: &mut O,
+    file: &[u8],
+) -> Result<(), Stop>
+    requires few { W ≤ 8 }
+    requires fit { IsFit prepared.now }
+    requires asked { F.MayAsk shelf.old file.now }
+    ensures ran { Followed (IsPlanOfJob (UpdateErrors file.now) (F.files shelf.old) prepared.now)
+        (IsTurnOfJob (UpdateErrors file.now) (F.files shelf.old) prepared.now)
+        (I.left input.old) (I.left input.new) (O.written out.old) (O.written out.new) result }
+    ensures counts { Counts (I.faults input.old) (I.faults input.new)
+        (O.faults out.old) (O.faults out.new) result }
+    ensures read { FileCounts (F.faults shelf.old) (F.faults shelf.new) result }
+    ensures kept { F.files shelf.new ≡ F.files shelf.old }
+{
+    let opened = update_by(alloc, prepared, shelf, file);
+    drive_opened(alloc, opened, input, out)
 }

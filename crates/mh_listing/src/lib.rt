@@ -6,5 +6,5 @@ mod listing;
 mod sampling;
 
 pub use counting::count_rows;
-pub use listing::Listing;
-pub use sampling::Sampling;
+pub use listing::list_errors;
+pub use sampling::count_sample;

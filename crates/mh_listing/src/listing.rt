@@ -1,17 +1,23 @@
 //! The list of errors: the catalogue of the table is made, and then its entries are written, each as it is made.
+ghost use Rattle.std.specs.Prelude.{◌≤◌};
+ghost use Rattle.mh_drive.specs.Drive.{Ran};
+ghost use Rattle.mh_drive.specs.Steps.{Counts};
+ghost use Rattle.mh_plans.specs.Plan.{Ends, Errors, by_plan};
+ghost use Rattle.mh_prepared.specs.Prepared.{IsFit};
+
 use mh_catalogue::catalogue;
-use mh_drive::Stop;
+use mh_drive::{Stop, drive};
 use mh_entries::write_entries;
 use mh_listed::stop_of;
-use mh_outside::Sink;
-use mh_plans::Writer;
+use mh_outside::{Sink, Source};
+use mh_plans::{AtEnd, Writer};
 use mh_prepared::Prepared;
 use std::alloc::Global;
 
 /// What writes the list of errors.
 #[derive(Drop)]
-pub struct Listing<'a, const W: usize> {
-    pub prepared: &'a Prepared<W>,
+struct Listing<'a, const W: usize> {
+    prepared: &'a Prepared<W>,
 }
 
 impl<'a, const W: usize> Writer for Listing<'a, W> {
@@ -29,4 +35,22 @@ impl<'a, const W: usize> Writer for Listing<'a, W> {
             Err(fault) => Err(stop_of(alloc, fault)),
         }
     }
+}
+
+/// Writes the list of errors.
+pub fn list_errors<I: Source, O: Sink, const W: usize>(
+    alloc: Global,
+    prepared: &Prepared<W>,
+    input: &mut I,
+    out: &mut O,
+) -> Result<(), Stop>
+    requires few { W ≤ 8 }
+    requires fit { IsFit prepared.now }
+    ensures ran { Ran by_plan (Ends (Errors prepared.now)) (I.left input.old) (I.left input.new)
+        (O.written out.old) (O.written out.new) result }
+    ensures counts { Counts (I.faults input.old) (I.faults input.new)
+        (O.faults out.old) (O.faults out.new) result }
+{
+    let writer = Listing { prepared };
+    drive(alloc, AtEnd { writer }, input, out)
 }

@@ -1,18 +1,24 @@
 //! A sample: the catalogue of its table is made, its sentences are run, and one line tells the counts.
+ghost use Rattle.std.specs.Prelude.{◌≤◌};
+ghost use Rattle.mh_drive.specs.Drive.{Ran};
+ghost use Rattle.mh_drive.specs.Steps.{Counts};
+ghost use Rattle.mh_plans.specs.Plan.{Ends, Sampled, by_plan};
+ghost use Rattle.mh_prepared.specs.Prepared.{IsFit};
+
 use crate::counting::count_rows;
-use mh_drive::Stop;
+use mh_drive::{Stop, drive};
 use mh_entries::write_counts;
 use mh_listed::stop_of;
-use mh_outside::Sink;
-use mh_plans::Writer;
+use mh_outside::{Sink, Source};
+use mh_plans::{AtEnd, Writer};
 use mh_prepared::Prepared;
 use std::alloc::Global;
 
 /// What writes the counts of a sample.
 #[derive(Drop)]
-pub struct Sampling<'a, const W: usize> {
-    pub prepared: &'a Prepared<W>,
-    pub number: u32,
+struct Sampling<'a, const W: usize> {
+    prepared: &'a Prepared<W>,
+    number: u32,
 }
 
 impl<const W: usize> Writer for Sampling<'_, W> {
@@ -30,4 +36,23 @@ impl<const W: usize> Writer for Sampling<'_, W> {
             Err(fault) => Err(stop_of(alloc, fault)),
         }
     }
+}
+
+/// Writes the counts of the sample of a number.
+pub fn count_sample<I: Source, O: Sink, const W: usize>(
+    alloc: Global,
+    prepared: &Prepared<W>,
+    number: u32,
+    input: &mut I,
+    out: &mut O,
+) -> Result<(), Stop>
+    requires few { W ≤ 8 }
+    requires fit { IsFit prepared.now }
+    ensures ran { Ran by_plan (Ends (Sampled number prepared.now)) (I.left input.old) (I.left input.new)
+        (O.written out.old) (O.written out.new) result }
+    ensures counts { Counts (I.faults input.old) (I.faults input.new)
+        (O.faults out.old) (O.faults out.new) result }
+{
+    let writer = Sampling { prepared, number };
+    drive(alloc, AtEnd { writer }, input, out)
 }

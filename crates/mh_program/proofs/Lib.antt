@@ -6,3 +6,5 @@ pub mod Exactly
 pub mod EachLine
 pub mod ErrorLists
 pub mod Merging
+pub mod Going
+pub mod Reports

@@ -3,4 +3,4 @@
 
 mod serving;
 
-pub use serving::{Serving, serve_on};
+pub use serving::serve;

@@ -4,14 +4,15 @@ ghost use Rattle.mh_grammar.specs.Plain.{plain_of};
 ghost use Rattle.mh_msgfile.specs.Sentences.{vocabulary_in, vocabulary_of};
 ghost use Rattle.mh_branches.specs.Answers.{Branches};
 ghost use Rattle.mh_session.specs.Standing.{StandsFor};
-ghost use Rattle.mh_plans.specs.Modes.{Opens};
+ghost use Rattle.mh_drive.specs.Steps.{Counts};
+ghost use Rattle.mh_plans.specs.Modes.{Followed, Opens};
 ghost use Rattle.mh_plans.specs.Plan.{Serves};
 ghost use Rattle.mh_prepared.specs.Prepared.{IsFit};
 
-use mh_drive::{Asks, Mode, Stop};
+use mh_drive::{Asks, Mode, Stop, drive_opened};
 use mh_grammar::{Grammar, Memory};
 use mh_msgfile::Lexicon;
-use mh_outside::Sink;
+use mh_outside::{Sink, Source};
 use mh_prepared::Prepared;
 use mh_replies::answer_line;
 use mh_session::Session;
@@ -19,7 +20,7 @@ use std::alloc::Global;
 
 /// What answers each line as a command on named branches.
 #[derive(Drop)]
-pub struct Serving<'a> {
+struct Serving<'a> {
     grammar: &'a Grammar,
     lexicon: Lexicon,
     session: Session<'a>,
@@ -53,7 +54,7 @@ impl<'a> Mode for Serving<'a> {
 }
 
 /// What answers the commands of a session on the table, from no names on.
-pub fn serve_on<'a, const W: usize>(
+fn serve_on<'a, const W: usize>(
     alloc: Global,
     prepared: &'a Prepared<W>,
 ) -> Result<Serving<'a>, Stop>
@@ -72,4 +73,22 @@ pub fn serve_on<'a, const W: usize>(
         }),
         Err(_) => Err(Stop::OutOfMemory),
     }
+}
+
+/// Answers each line of the input as a command on named branches.
+pub fn serve<I: Source, O: Sink, const W: usize>(
+    alloc: Global,
+    prepared: &Prepared<W>,
+    input: &mut I,
+    out: &mut O,
+) -> Result<(), Stop>
+    requires few { W ≤ 8 }
+    requires fit { IsFit prepared.now }
+    ensures ran { Followed (λ plan. plan ≡ Serves prepared.now.grammar prepared.now.tabled.halting []) (λ name. ⊥)
+        (I.left input.old) (I.left input.new) (O.written out.old) (O.written out.new) result }
+    ensures counts { Counts (I.faults input.old) (I.faults input.new)
+        (O.faults out.old) (O.faults out.new) result }
+{
+    let opened = serve_on(alloc, prepared);
+    drive_opened(alloc, opened, input, out)
 }

@@ -1,20 +1,23 @@
 //! The table as a file of its own.
 ghost use Rattle.std.specs.Prelude.{◌≡◌, ◌≤◌, IfOk};
 ghost use Rattle.mh_prepared.specs.Prepared.{IsFit};
-ghost use Rattle.mh_plans.specs.Plan.{tables_of};
+ghost use Rattle.mh_drive.specs.Drive.{Ran};
+ghost use Rattle.mh_drive.specs.Steps.{Counts};
+ghost use Rattle.mh_plans.specs.Plan.{by_plan, tables_of, tells};
+ghost use Rattle.mh_plans.specs.declared.at_end.Told.TheVariants.{Said};
 
-use mh_drive::{Stop, write_text};
+use mh_drive::{Stop, drive, write_text};
 use mh_grammar::{Memory, Sequence};
-use mh_outside::Sink;
-use mh_plans::Writer;
+use mh_outside::{Sink, Source};
+use mh_plans::{AtEnd, Writer};
 use mh_prepared::Prepared;
 use mh_tabwriter::write_tables;
 use std::alloc::Global;
 
 /// What writes the table file.
 #[derive(Drop)]
-pub struct Exporting<'a, const W: usize> {
-    pub prepared: &'a Prepared<W>,
+struct Exporting<'a, const W: usize> {
+    prepared: &'a Prepared<W>,
 }
 
 /// The text of the table file.
@@ -48,4 +51,22 @@ impl<const W: usize> Writer for Exporting<'_, W> {
         let text = exported(alloc, self.prepared)?;
         write_text(out, text.as_slice())
     }
+}
+
+/// Writes the table file.
+pub fn export_tables<I: Source, O: Sink, const W: usize>(
+    alloc: Global,
+    prepared: &Prepared<W>,
+    input: &mut I,
+    out: &mut O,
+) -> Result<(), Stop>
+    requires few { W ≤ 8 }
+    requires fit { IsFit prepared.now }
+    ensures ran { Ran by_plan (tells (Said (tables_of prepared.now))) (I.left input.old) (I.left input.new)
+        (O.written out.old) (O.written out.new) result }
+    ensures counts { Counts (I.faults input.old) (I.faults input.new)
+        (O.faults out.old) (O.faults out.new) result }
+{
+    let writer = Exporting { prepared };
+    drive(alloc, AtEnd { writer }, input, out)
 }

@@ -4,5 +4,5 @@
 mod exporting;
 mod showing;
 
-pub use exporting::Exporting;
-pub use showing::Showing;
+pub use exporting::export_tables;
+pub use showing::show_automaton;

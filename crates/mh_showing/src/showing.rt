@@ -1,20 +1,23 @@
 //! The automaton as text.
 ghost use Rattle.std.specs.Prelude.{◌≤◌, IfOk};
 ghost use Rattle.mh_report.specs.Automata.{IsAutomatonText};
+ghost use Rattle.mh_drive.specs.Drive.{Ran};
+ghost use Rattle.mh_drive.specs.Steps.{Counts};
+ghost use Rattle.mh_plans.specs.Plan.{Automaton, Ends, by_plan};
 ghost use Rattle.mh_prepared.specs.Prepared.{IsFit};
 
-use mh_drive::{Stop, write_text};
+use mh_drive::{Stop, drive, write_text};
 use mh_grammar::{Memory, Sequence};
-use mh_outside::Sink;
-use mh_plans::Writer;
+use mh_outside::{Sink, Source};
+use mh_plans::{AtEnd, Writer};
 use mh_prepared::Prepared;
 use mh_report::automaton_text;
 use std::alloc::Global;
 
 /// What writes the automaton.
 #[derive(Drop)]
-pub struct Showing<'a, const W: usize> {
-    pub prepared: &'a Prepared<W>,
+struct Showing<'a, const W: usize> {
+    prepared: &'a Prepared<W>,
 }
 
 /// The text of the automaton.
@@ -47,4 +50,22 @@ impl<'a, const W: usize> Writer for Showing<'a, W> {
         let text = shown(alloc, self.prepared)?;
         write_text(out, text.as_slice())
     }
+}
+
+/// Writes the text of the automaton.
+pub fn show_automaton<I: Source, O: Sink, const W: usize>(
+    alloc: Global,
+    prepared: &Prepared<W>,
+    input: &mut I,
+    out: &mut O,
+) -> Result<(), Stop>
+    requires few { W ≤ 8 }
+    requires fit { IsFit prepared.now }
+    ensures ran { Ran by_plan (Ends (Automaton prepared.now)) (I.left input.old) (I.left input.new)
+        (O.written out.old) (O.written out.new) result }
+    ensures counts { Counts (I.faults input.old) (I.faults input.new)
+        (O.faults out.old) (O.faults out.new) result }
+{
+    let writer = Showing { prepared };
+    drive(alloc, AtEnd { writer }, input, out)
 }

@@ -9,7 +9,7 @@ ghost use Rattle.mh_top.specs.Run.{IsTurnBehind};
 ghost use Rattle.mh_top.specs.Work.{IsPlanOf};
 
 use mh_drive::{Stop, refused};
-use mh_modes::follow;
+use crate::modes::follow;
 use mh_outside::{Shelf, Sink, Source};
 use mh_prepared::Prepared;
 use mh_saying::is_refused;

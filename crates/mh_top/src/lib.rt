@@ -3,6 +3,7 @@
 
 mod exit;
 mod following;
+mod modes;
 mod top;
 
 pub use exit::run;

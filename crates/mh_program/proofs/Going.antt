@@ -10,17 +10,17 @@ use Rattle.mh_loading.specs.Order.{staged_order}
 use Rattle.mh_loading.specs.GrammarTurns.{IsGrammarTurn}
 use Rattle.mh_plans.specs.Plan.{Plan, IsPlanOfJob, halts, by_plan}
 use Rattle.mh_plans.specs.Files.{IsTurnOfJob}
-use Rattle.mh_modes.proofs.Following.{ended_halts}
+use Rattle.mh_plans.proofs.Following.{ended_halts}
 use Rattle.mh_drive.specs.Stages.{FilesGive, ShelfCounts, StageHas, Halts as HaltsWith}
 use Rattle.mh_loading.specs.FrontStage.{IsFront}
 use Rattle.mh_prepare.specs.Preparing.{IsPrepared, IsTabledFront}
-use Rattle.mh_top.specs.Work.{IsPlanOf, IsPlanUnless, Work, has_warning, warnings_of}
+use Rattle.mh_program.specs.Work.{IsPlanOf, IsPlanUnless, Work, has_warning, warnings_of}
 use Rattle.mh_drive.specs.Ways.{left_behind}
 use Rattle.mh_drive.specs.Drive.{Ended, LeftIs, Ran}
 use Rattle.mh_drive.specs.Steps.{Counts, FileCounts, OutCounts}
 use Rattle.mh_plans.specs.Modes.{Followed, IsUnopened}
-use Rattle.mh_top.specs.Saying.{Warned, Worked}
-use Rattle.mh_top.specs.Run.{World, Behind, Nothing, Warned as Said, Begun, IsDue, OfGrammar, OfTables, OfMode, IsStill, IsTurnBehind, IsTurnUnless}
+use Rattle.mh_program.specs.Saying.{Warned, Worked}
+use Rattle.mh_program.specs.Run.{World, Behind, Nothing, Warned as Said, Begun, IsDue, OfGrammar, OfTables, OfMode, IsStill, IsTurnBehind, IsTurnUnless}
 use Rattle.mh_loading.specs.declared.front.Front.{Front}
 use Rattle.mh_prepared.specs.Shapes.{Prepared}
 use Rattle.mh_drive.specs.declared.stop.Cause.{Cause}
