@@ -1,5 +1,6 @@
 //! Both searches of a table.
 ghost use Rattle.std.specs.Prelude.{◌≡◌, IfOk};
+ghost use Rattle.mh_ways.specs.Classes.{IsClasses};
 
 use mh_arrivals::arrive::arrive;
 use mh_grammar::Memory;
@@ -7,15 +8,24 @@ use mh_past::classes_of;
 use mh_search::search;
 use mh_sentences::{Reach, reach_by};
 use mh_tables::Halting;
+use mh_ways::Classes;
 use std::alloc::Global;
+
+/// Searches a table whose classes of tokens are known.
+fn reach_over<'t>(alloc: Global, table: &'t Halting, classes: &Classes) -> Result<Reach<'t>, Memory>
+    requires { IsClasses table.now classes.now }
+    ensures { IfOk result (λ reach. reach ≡ table.now) }
+{
+    let inner = table.table();
+    let found = search(alloc, inner, classes)?;
+    let arrivals = arrive(alloc, inner, classes, &found)?;
+    reach_by(alloc, table, classes, found, arrivals)
+}
 
 /// Searches a table.
 pub fn reach<'t>(alloc: Global, table: &'t Halting) -> Result<Reach<'t>, Memory>
     ensures { IfOk result (λ reach. reach ≡ table.now) }
 {
-    let inner = table.table();
-    let classes = classes_of(alloc, inner)?;
-    let found = search(alloc, inner, &classes)?;
-    let arrivals = arrive(alloc, inner, &classes, &found)?;
-    reach_by(alloc, table, &classes, found, arrivals)
+    let classes = classes_of(alloc, table.table())?;
+    reach_over(alloc, table, &classes)
 }

@@ -1,0 +1,11 @@
+use Rattle.std.proofs.Common.{subst, sym}
+use Rattle.mh_tables.specs.Table.{TableData}
+use Rattle.mh_ways.specs.Classes.{IsClasses}
+use Rattle.mh_arrivals.specs.Arriving.{ArrivedIn}
+use Rattle.mh_catalogue.proofs.both.reach_over.Goals as goal
+
+pub search-requires : goal.search-requires
+search-requires c = subst (λ (t : TableData). IsClasses t c.args.classes.now) (sym c.table-inner.ensures.table) c.requires
+
+pub reach_by-requires-clause-arrivals : goal.reach_by-requires-clause-arrivals
+reach_by-requires-clause-arrivals c = subst (λ (t : TableData). ArrivedIn t c.args.classes.now c.in_ok-found.found c.in_ok-arrivals.arrivals.spots.entries) c.table-inner.ensures.table c.in_ok-arrivals.ensures
