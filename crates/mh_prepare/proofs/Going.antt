@@ -28,7 +28,7 @@ use Rattle.mh_sources.specs.TableFile.{IsTableFile}
 use Rattle.mh_sources.specs.Sources.{IsNumbered, IsSource, IsSourceBy, built_by}
 use Rattle.mh_sources.proofs.Sourcing.{built_numbered, read_numbered}
 use Rattle.mh_prepare.specs.TableTexts.{invalid_line}
-use Rattle.mh_loading.specs.declared.front.Front.{Front}
+use Rattle.mh_loaded.specs.declared.front.Front.{Front}
 use Rattle.mh_prepare.specs.Preparing.{IsTabledFrom, IsTabledFront}
 use Rattle.mh_prepared.specs.Shapes.{Prepared, Tabled}
 use Rattle.mh_sources.specs.declared.sources.Source.{Source}

@@ -1,4 +1,3 @@
 pub mod Tabling
 pub mod Going
-pub mod Made
-pub mod OnePrepared
+pub mod OneTabled

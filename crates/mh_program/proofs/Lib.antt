@@ -1,3 +1,5 @@
+pub mod Made
+pub mod OnePrepared
 pub mod Once
 pub mod Endings
 pub mod Claims

@@ -6,10 +6,10 @@ use Rattle.mh_grammar.specs.Text.{Text}
 use Rattle.mh_drive.specs.Causes.{Staged, Go, Halt, On, Gives}
 use Rattle.mh_loading.specs.Order.{staged_order}
 use Rattle.mh_loading.specs.FrontStage.{IsFront}
-use Rattle.mh_loading.specs.declared.front.Front.{Front}
+use Rattle.mh_loaded.specs.declared.front.Front.{Front}
 use Rattle.mh_loading.proofs.Fronts.{IsGrammarReady, front_order, front_ready}
 use Rattle.mh_prepared.specs.Shapes.{Prepared, Tabled}
-use Rattle.mh_prepare.specs.Preparing.{IsPrepared, IsTabledFrom, IsTabledFront}
+use Rattle.mh_program.specs.Preparing.{IsPrepared, IsTabledFrom, IsTabledFront}
 use Rattle.mh_prepare.specs.TableFile.{IsBuilt}
 use Rattle.mh_prepare.specs.TableStage.{IsTableStage}
 use Rattle.mh_sources.specs.Sources.{IsNumbered, IsSource}
