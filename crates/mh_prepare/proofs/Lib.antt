@@ -1,3 +1,2 @@
 pub mod Tabling
 pub mod Going
-pub mod OneTabled

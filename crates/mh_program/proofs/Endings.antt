@@ -22,8 +22,8 @@ use Rattle.mh_files.specs.Turns.{IsSpelled, IsTurn}
 use Rattle.mh_program.specs.TableTurns.{IsTablesTurn}
 use Rattle.mh_loading.specs.GrammarStage.{IsGrammarStage}
 use Rattle.mh_tabform.specs.declared.types.RawTable.{RawTable}
-use Rattle.mh_prepare.specs.TableFile.{IsTableFile}
-use Rattle.mh_prepare.specs.TableStage.{IsAutomatonStage, IsResolvedStage, IsSource, IsSourceBy, IsTableStage, mode_of}
+use Rattle.mh_tabling.specs.TableFile.{IsTableFile}
+use Rattle.mh_tabling.specs.TableStage.{IsAutomatonStage, IsResolvedStage, IsSource, IsSourceBy, IsTableStage, mode_of}
 use Rattle.mh_drive.specs.Ways.{Finish, AnswersAll, AsksFor, EndsBehind, Outcome, Yields}
 use Rattle.mh_plans.specs.Plan.{Plan, EndsWith, asks_of, halts, by_plan}
 use Rattle.mh_program.specs.Work.{Work, IsPlanUnless, IsWork, IsWorkOf, has_warning, warnings_of}

@@ -37,8 +37,8 @@ use Rattle.mh_outside.specs.Shelf.{Files}
 use Rattle.std.proofs.lemmas.List.Elements.{All-cons, All-head, All-nil}
 use Rattle.mh_grammar.specs.Text.{Text}
 use Rattle.mh_drive.specs.Causes.{Staged, Go, Halt, On, Then, Gives}
-use Rattle.mh_prepare.specs.TableStage.{IsAutomatonStage, IsResolvedStage, mode_of}
-use Rattle.mh_prepare.specs.TableFile.{IsBuilt, IsNumbered}
+use Rattle.mh_tabling.specs.TableStage.{IsAutomatonStage, IsResolvedStage, mode_of}
+use Rattle.mh_tabling.specs.TableFile.{IsBuilt, IsNumbered}
 use Rattle.mh_program.proofs.Made.{IsMade, made}
 use Rattle.mh_valid.proofs.Giving.{automaton_of}
 use Rattle.mh_cells.specs.declared.kinds.Mode.{Mode}

@@ -1,3 +1,4 @@
+pub mod OneTabled
 pub mod Made
 pub mod OnePrepared
 pub mod Once

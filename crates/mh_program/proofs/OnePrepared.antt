@@ -8,7 +8,7 @@ use Rattle.mh_loading.specs.FrontStage.{IsFront}
 use Rattle.mh_loading.proofs.Fronts.{front_ready}
 use Rattle.mh_loading.proofs.OneFront.{front_once}
 use Rattle.mh_loaded.specs.declared.front.Front.{Front}
-use Rattle.mh_prepare.proofs.OneTabled.{tabled_front_once}
+use Rattle.mh_program.proofs.OneTabled.{tabled_front_once}
 use Rattle.mh_program.specs.Preparing.{IsPrepared, IsTabledFront}
 
 pub prepared_once : (words : List Text) (files : Files) → IsOne (IsPrepared words (Some files))

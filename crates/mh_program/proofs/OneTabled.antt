@@ -32,13 +32,13 @@ use Rattle.mh_valid.specs.Valid.{AreNamesApart, IsValidFor}
 use Rattle.mh_valid.proofs.Apart.{apart}
 use Rattle.mh_valid.proofs.Once.{automaton_is_one, test_is_one}
 use Rattle.mh_prepared.specs.Shapes.{Tabled}
-use Rattle.mh_prepare.specs.TableTexts.{invalid_line, loops_line}
-use Rattle.mh_prepare.specs.TableFile.{IsInvalid}
-use Rattle.mh_prepare.specs.TableStage.{AreTabled, IsAutomatonStage, IsResolvedStage, IsTableStage, LoopsFirst, mode_of}
+use Rattle.mh_tabling.specs.TableTexts.{invalid_line, loops_line}
+use Rattle.mh_tabling.specs.TableFile.{IsInvalid}
+use Rattle.mh_tabling.specs.TableStage.{AreTabled, IsAutomatonStage, IsResolvedStage, IsTableStage, LoopsFirst, mode_of}
 use Rattle.mh_sources.specs.TableTexts.{table_line}
 use Rattle.mh_sources.specs.TableFile.{HasTableFault, IsTableFile}
 use Rattle.mh_sources.specs.Sources.{IsSource, IsSourceBy, built_by}
-use Rattle.mh_prepare.specs.Preparing.{IsTabledFrom, IsTabledFront}
+use Rattle.mh_tabling.specs.Preparing.{IsTabledFrom, IsTabledFront}
 use Rattle.mh_sources.specs.declared.sources.Source.{Source}
 use Rattle.mh_sources.specs.declared.sources.Source.TheVariants.{Canonical, Merged, File}
 
