@@ -16,7 +16,7 @@ use Rattle.mh_modules.specs.GrammarStage.{IsGrammarStage}
 use Rattle.mh_modules.specs.Modules.{AreModules, HasCapitals, sample_of}
 use Rattle.mh_loading.specs.Order.{staged_order}
 use Rattle.mh_loading.specs.FrontStage.{IsFront}
-use Rattle.mh_loading.specs.declared.front.Front.{Front}
+use Rattle.mh_loaded.specs.declared.front.Front.{Front}
 use Rattle.mh_modules.proofs.Apart.{names_apart}
 use Rattle.mh_loading.proofs.Ready.{modules_capital, modules_ready}
 

@@ -19,7 +19,7 @@ use Rattle.mh_modules.specs.Modules.{AreModules, grammar_files}
 use Rattle.mh_loading.specs.GrammarTurns.{IsGrammarTurn}
 use Rattle.mh_modules.specs.GrammarStage.{IsGrammarStage}
 use Rattle.mh_loading.specs.FrontStage.{IsFront}
-use Rattle.mh_loading.specs.declared.front.Front.{Front}
+use Rattle.mh_loaded.specs.declared.front.Front.{Front}
 
 module _ (words : List Text) (files : Option Files) where
   abbrev Due : Text → Type 0

@@ -6,7 +6,7 @@ use Rattle.mh_drive.specs.Causes.{Staged, On, Then, Gives}
 use Rattle.mh_loading.specs.Order.{staged_order}
 use Rattle.mh_modules.specs.Modules.{AreModules}
 use Rattle.mh_modules.specs.GrammarStage.{IsGrammarStage}
-use Rattle.mh_loading.specs.declared.front.Front.{Front}
+use Rattle.mh_loaded.specs.declared.front.Front.{Front}
 
 -- the order that the words spell, and the grammar of its modules
 abbrev pub IsFront : List Text → Option Files → Staged Front → Type 0

@@ -11,18 +11,10 @@ ghost use Rattle.mh_valid.specs.Valid.{AreNamesApart};
 
 use crate::order::order_in;
 use mh_drive::Stop;
-use mh_grammar::Grammar;
+use mh_loaded::Front;
 use mh_modules::{grammar_in, modules_of};
-use mh_opts::Order;
 use mh_outside::Shelf;
 use std::alloc::Global;
-
-/// The order that the words spell, and the grammar of its modules.
-#[derive(Drop)]
-pub struct Front {
-    pub order: Order,
-    pub grammar: Grammar,
-}
 
 /// The order and its grammar: the words, the modules, and the grammar that they give.
 pub fn front_of<F: Shelf>(alloc: Global, words: &[String], shelf: &mut F) -> Result<Front, Stop>

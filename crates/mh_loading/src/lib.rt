@@ -4,4 +4,5 @@
 mod front;
 mod order;
 
-pub use front::{Front, front_of};
+pub use front::front_of;
+pub use mh_loaded::Front;

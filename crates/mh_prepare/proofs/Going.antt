@@ -1,10 +1,10 @@
 -- How the work goes on from the grammar to the table.
-use Rattle.std.proofs.Common.{◌≡◌, ◌≤◌, ℕ, Bool, true, false, List, Option, Some, None, refl, subst, sym, arith}
+use Rattle.std.proofs.Common.{◌≡◌, ◌≤◌, ℕ, List, Option, Some, refl, subst, sym, arith}
 use Rattle.std.specs.Prelude.{Result, Ok, Err, IfOk}
 use Rattle.mh_grammar.specs.declared.types.Grammar.{Grammar}
 use Rattle.mh_outside.specs.Shelf.{Files}
 use Rattle.mh_grammar.specs.Text.{Text}
-use Rattle.mh_drive.specs.Causes.{Staged, Go, Halt, On, Gives}
+use Rattle.mh_drive.specs.Causes.{Go, Gives}
 use Rattle.mh_drive.specs.Stages.{FilesGive, Halts, ShelfCounts, StageHas}
 use Rattle.mh_drive.specs.declared.stop.Cause.TheVariants.{Refused}
 use Rattle.mh_drive.specs.declared.stop.Stop.{Stop}
@@ -21,35 +21,14 @@ use Rattle.mh_valid.specs.Valid.{IsInvalidAt, IsValidFor}
 use Rattle.mh_validate.specs.declared.fault.ValidFault.{ValidFault}
 use Rattle.mh_validate.specs.declared.fault.ValidFault.TheVariants as tables
 use Rattle.mh_prepare.specs.Faults.{RejectsBy}
-use Rattle.mh_files.specs.FileStage.{IsFile}
-use Rattle.mh_prepare.specs.TableFile.{IsBuilt}
 use Rattle.mh_prepare.specs.TableStage.{IsAutomatonStage, IsResolvedStage, IsTableStage, mode_of}
-use Rattle.mh_sources.specs.TableFile.{IsTableFile}
-use Rattle.mh_sources.specs.Sources.{IsNumbered, IsSource, IsSourceBy, built_by}
-use Rattle.mh_sources.proofs.Sourcing.{built_numbered, read_numbered}
+use Rattle.mh_sources.specs.Sources.{IsSource}
 use Rattle.mh_prepare.specs.TableTexts.{invalid_line}
-use Rattle.mh_loading.specs.declared.front.Front.{Front}
+use Rattle.mh_loaded.specs.declared.front.Front.{Front}
 use Rattle.mh_prepare.specs.Preparing.{IsTabledFrom, IsTabledFront}
 use Rattle.mh_prepared.specs.Shapes.{Prepared, Tabled}
 use Rattle.mh_sources.specs.declared.sources.Source.{Source}
 use Rattle.mh_sources.specs.declared.sources.Source.TheVariants.{File}
-
--- where the automaton of an order comes from
-pub source_numbered : (files : Option Files) (tables : Option Text) (canonical : Bool) (source : Source) → IsSourceBy tables canonical files (Go source) → IsNumbered source
-source_numbered files None canonical source is = let one : source ≡ built_by canonical = cc in built_numbered canonical source one
-source_numbered files (Some name) canonical source is = at is.0 is.1 is.2
-  where
-    at : (s : Staged RawTable) → IsFile files IsTableFile name s → On s (λ raw. Gives (File name raw)) (Go source) → IsNumbered source
-    at (Go raw) file same = let one : source ≡ File name raw = cc in subst IsNumbered (sym one) (read_numbered files name raw file)
-    at (Halt cause) file same = absurd (cc)
-
-pub source_built : (files : Option Files) (tables : Option Text) (canonical : Bool) (source : Source) → tables ≡ None → IsSourceBy tables canonical files (Go source) → IsBuilt source
-source_built files None canonical source none is = let one : source ≡ built_by canonical = cc in by canonical one
-  where
-    by : (b : Bool) → source ≡ built_by b → IsBuilt source
-    by true same = subst IsBuilt (sym same) tt
-    by false same = subst IsBuilt (sym same) tt
-source_built files (Some name) canonical source none is = absurd (cc)
 
 -- an automaton with its table
 pub automaton_goes : (source : Source) (g : Grammar) (a : Automaton) (r : Result Tabled Stop) → IsAutomatonStage source g (Go a) → StageHas (IsResolvedStage (mode_of source) g a) r → StageHas (IsTableStage source g) r

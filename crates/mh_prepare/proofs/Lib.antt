@@ -1,4 +1,2 @@
 pub mod Tabling
 pub mod Going
-pub mod Made
-pub mod OnePrepared

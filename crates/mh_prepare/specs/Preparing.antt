@@ -1,22 +1,2 @@
--- All that comes before the warnings.
-use Rattle.std.specs.Prelude.{List, Option}
-use Rattle.mh_outside.specs.Shelf.{Files}
-use Rattle.mh_grammar.specs.Text.{Text}
-use Rattle.mh_drive.specs.Causes.{Staged, Then, Gives}
-use Rattle.mh_loading.specs.FrontStage.{IsFront}
-use Rattle.mh_loading.specs.declared.front.Front.{Front}
-use Rattle.mh_prepared.specs.Shapes.{Prepared}
-use Rattle.mh_sources.specs.Sources.{IsSource}
-use Rattle.mh_prepare.specs.TableStage.{IsTableStage}
-use Rattle.mh_sources.specs.declared.sources.Source.{Source}
-
--- the order, its grammar and its table, by where its automaton comes from
-abbrev pub IsTabledFrom : Front → Source → Staged Prepared → Type 0
-IsTabledFrom front source s = Then (IsTableStage source front.grammar) (λ tabled. Gives (record { order = front.order; grammar = front.grammar; tabled = tabled })) s
-
--- a table file is read behind the grammar
-abbrev pub IsTabledFront : Option Files → Front → Staged Prepared → Type 0
-IsTabledFront files front s = Then (IsSource files front.order) (IsTabledFrom front) s
-
-abbrev pub IsPrepared : List Text → Option Files → Staged Prepared → Type 0
-IsPrepared words files s = Then (IsFront words files) (IsTabledFront files) s
+-- What comes between the grammar and the warnings.
+pub use Rattle.mh_tabling.specs.Preparing.{IsTabledFrom, IsTabledFront}

@@ -11,7 +11,7 @@ ghost use Rattle.mh_prepare.specs.Preparing.{IsTabledFrom, IsTabledFront};
 
 use crate::tabled::table_of;
 use mh_drive::Stop;
-use mh_loading::Front;
+use mh_loaded::Front;
 use mh_outside::Shelf;
 use mh_prepared::{Prepared, PreparedWith};
 use mh_sources::{Source, source_of};

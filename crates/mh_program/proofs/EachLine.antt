@@ -8,7 +8,7 @@ use Rattle.mh_plans.specs.Plan.{Plan, Judges, Answers, by_plan}
 use Rattle.mh_drive.specs.Ways.{AnswersAll}
 use Rattle.mh_program.specs.AtLine.{IsAnsweredAt, HasVerdictAt}
 use Rattle.mh_program.specs.Work.{Work, IsPlanUnless, IsWork, IsWorkOf, has_warning}
-use Rattle.mh_prepare.specs.Preparing.{IsPrepared}
+use Rattle.mh_program.specs.Preparing.{IsPrepared}
 use Rattle.mh_prepared.specs.Shapes.{Prepared}
 use Rattle.mh_plans.proofs.Reading.{Runs}
 use Rattle.mh_outcomes.proofs.EachMode.{facts_of}

@@ -19,28 +19,28 @@ use Rattle.mh_files.specs.FileStage.{AreFiles, IsFile, IsFound, IsLoaded, loaded
 use Rattle.mh_loading.specs.GrammarFile.{IsModule}
 use Rattle.mh_loading.specs.Modules.{AreModules, AreModulesBy, grammar_files, names_by, sample_file, sample_of}
 use Rattle.mh_files.specs.Turns.{IsSpelled, IsTurn}
-use Rattle.mh_prepare.specs.TableTurns.{IsTablesTurn}
+use Rattle.mh_program.specs.TableTurns.{IsTablesTurn}
 use Rattle.mh_loading.specs.GrammarStage.{IsGrammarStage}
 use Rattle.mh_tabform.specs.declared.types.RawTable.{RawTable}
-use Rattle.mh_prepare.specs.TableFile.{IsTableFile}
-use Rattle.mh_prepare.specs.TableStage.{IsAutomatonStage, IsResolvedStage, IsSource, IsSourceBy, IsTableStage, mode_of}
+use Rattle.mh_tabling.specs.TableFile.{IsTableFile}
+use Rattle.mh_tabling.specs.TableStage.{IsAutomatonStage, IsResolvedStage, IsSource, IsSourceBy, IsTableStage, mode_of}
 use Rattle.mh_drive.specs.Ways.{Finish, AnswersAll, AsksFor, EndsBehind, Outcome, Yields}
 use Rattle.mh_plans.specs.Plan.{Plan, EndsWith, asks_of, halts, by_plan}
 use Rattle.mh_program.specs.Work.{Work, IsPlanUnless, IsWork, IsWorkOf, has_warning, warnings_of}
 use Rattle.mh_loading.specs.FrontStage.{IsFront}
-use Rattle.mh_prepare.specs.Preparing.{IsPrepared, IsTabledFrom, IsTabledFront}
+use Rattle.mh_program.specs.Preparing.{IsPrepared, IsTabledFrom, IsTabledFront}
 use Rattle.mh_program.specs.Run.{err_of, IsDue, OfGrammar, OfTables, OfMode, IsTurnBehind, IsTurnUnless}
 use Rattle.mh_program.specs.Claims.{AsksLines, HoldsFile, IsPast}
 use Rattle.mh_drive.specs.declared.driving.Asks.{Asks}
 use Rattle.mh_drive.specs.declared.driving.Asks.TheVariants.{NoLine, FirstLine, EachLine}
-use Rattle.mh_loading.specs.declared.front.Front.{Front}
+use Rattle.mh_loaded.specs.declared.front.Front.{Front}
 use Rattle.mh_prepared.specs.Shapes.{Prepared, Tabled}
 use Rattle.mh_drive.specs.declared.stop.Cause.{Cause}
 use Rattle.mh_drive.specs.declared.stop.Cause.TheVariants.{Refused, Misused, Missing, LongFile, LongInput}
 use Rattle.mh_sources.specs.declared.sources.Source.{Source}
 use Rattle.mh_sources.specs.declared.sources.Source.TheVariants.{Canonical, File, Merged}
 use Rattle.mh_files.proofs.Turns.{turn_first, turn_later}
-use Rattle.mh_prepare.proofs.OnePrepared.{prepared_once}
+use Rattle.mh_program.proofs.OnePrepared.{prepared_once}
 use Rattle.mh_plans.proofs.Turning.{nil_not}
 use Rattle.mh_outcomes.proofs.EachMode.{EndsRight, IsRight, answer_right, ends_right, facts_of}
 

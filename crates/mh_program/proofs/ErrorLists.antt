@@ -16,11 +16,11 @@ use Rattle.mh_program.specs.Run as runs
 use Rattle.mh_prepared.specs.Shapes.{Prepared}
 use Rattle.mh_grammar.specs.Text.{Text}
 use Rattle.mh_program.specs.Work.{Work, IsPlanUnless, IsWork, IsWorkOf, has_warning, warnings_of}
-use Rattle.mh_prepare.specs.Preparing.{IsPrepared}
+use Rattle.mh_program.specs.Preparing.{IsPrepared}
 use Rattle.mh_drive.specs.declared.driving.Asks.TheVariants.{NoLine}
 use Rattle.mh_drive.specs.declared.stop.Cause.{Cause}
 use Rattle.mh_program.proofs.Claims.{completes}
-use Rattle.mh_prepare.proofs.OnePrepared.{prepared_once}
+use Rattle.mh_program.proofs.OnePrepared.{prepared_once}
 
 -- the mode that is asked for
 plan_of : (refused : Bool) (files : Option Files) (p : Prepared) (plan : Plan) → refused ≡ false → p.order.job ≡ ListErrors → IsPlanUnless refused files p plan → plan ≡ Ends (Errors p)

@@ -37,9 +37,9 @@ use Rattle.mh_outside.specs.Shelf.{Files}
 use Rattle.std.proofs.lemmas.List.Elements.{All-cons, All-head, All-nil}
 use Rattle.mh_grammar.specs.Text.{Text}
 use Rattle.mh_drive.specs.Causes.{Staged, Go, Halt, On, Then, Gives}
-use Rattle.mh_prepare.specs.TableStage.{IsAutomatonStage, IsResolvedStage, mode_of}
-use Rattle.mh_prepare.specs.TableFile.{IsBuilt, IsNumbered}
-use Rattle.mh_prepare.proofs.Made.{IsMade, made}
+use Rattle.mh_tabling.specs.TableStage.{IsAutomatonStage, IsResolvedStage, mode_of}
+use Rattle.mh_tabling.specs.TableFile.{IsBuilt, IsNumbered}
+use Rattle.mh_program.proofs.Made.{IsMade, made}
 use Rattle.mh_valid.proofs.Giving.{automaton_of}
 use Rattle.mh_cells.specs.declared.kinds.Mode.{Mode}
 use Rattle.mh_msgfile.specs.Sentences.{LineFound}
@@ -48,7 +48,7 @@ use Rattle.mh_plans.specs.Verdicts.{Answering, FoundBy, SentenceText, behind_ref
 use Rattle.mh_plans.specs.MessagesStage.{Messages}
 use Rattle.mh_plans.specs.Plan.{Judges, halts}
 use Rattle.mh_program.specs.Work.{Work, IsPlanUnless, IsWork, IsWorkOf, has_warning, warnings_of}
-use Rattle.mh_prepare.specs.Preparing.{IsPrepared}
+use Rattle.mh_program.specs.Preparing.{IsPrepared}
 use Rattle.mh_program.specs.Exact.{IsClear, IsClearTable, IsLR1, NameNoTables, AnswersSentence, Accepts, Rejects, IsTooDeepText, ShowsTree, AcceptsExactly, RejectsRightly, OvershootsRightly, AcceptsRightly, TooDeepExactly, HasNoLevels, ClearWhereUnwarned}
 use Rattle.mh_prepared.specs.Prepared.{IsFit}
 use Rattle.mh_prepared.specs.Shapes.{Prepared}

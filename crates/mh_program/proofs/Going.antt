@@ -13,7 +13,7 @@ use Rattle.mh_plans.specs.Files.{IsTurnOfJob}
 use Rattle.mh_plans.proofs.Following.{ended_halts}
 use Rattle.mh_drive.specs.Stages.{FilesGive, ShelfCounts, StageHas, Halts as HaltsWith}
 use Rattle.mh_loading.specs.FrontStage.{IsFront}
-use Rattle.mh_prepare.specs.Preparing.{IsPrepared, IsTabledFront}
+use Rattle.mh_program.specs.Preparing.{IsPrepared, IsTabledFront}
 use Rattle.mh_program.specs.Work.{IsPlanOf, IsPlanUnless, Work, has_warning, warnings_of}
 use Rattle.mh_drive.specs.Ways.{left_behind}
 use Rattle.mh_drive.specs.Drive.{Ended, LeftIs, Ran}
@@ -21,7 +21,7 @@ use Rattle.mh_drive.specs.Steps.{Counts, FileCounts, OutCounts}
 use Rattle.mh_plans.specs.Modes.{Followed, IsUnopened}
 use Rattle.mh_program.specs.Saying.{Warned, Worked}
 use Rattle.mh_program.specs.Run.{World, Behind, Nothing, Warned as Said, Begun, IsDue, OfGrammar, OfTables, OfMode, IsStill, IsTurnBehind, IsTurnUnless}
-use Rattle.mh_loading.specs.declared.front.Front.{Front}
+use Rattle.mh_loaded.specs.declared.front.Front.{Front}
 use Rattle.mh_prepared.specs.Shapes.{Prepared}
 use Rattle.mh_drive.specs.declared.stop.Cause.{Cause}
 use Rattle.mh_drive.specs.declared.stop.Cause.TheVariants.{Refused}

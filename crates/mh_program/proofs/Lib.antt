@@ -1,3 +1,6 @@
+pub mod OneTabled
+pub mod Made
+pub mod OnePrepared
 pub mod Once
 pub mod Endings
 pub mod Claims

@@ -6,13 +6,13 @@ use Rattle.mh_drive.specs.Causes.{Staged, Go, Halt}
 use Rattle.mh_plans.specs.Plan.{Plan, asks_of, by_plan}
 use Rattle.mh_drive.specs.Ways.{AnswersAll, AsksFor, EndsBehind, Outcome, Yields, left_behind}
 use Rattle.mh_program.specs.Work.{Work, IsPlanUnless, IsWork, IsWorkOf, has_warning}
-use Rattle.mh_prepare.specs.Preparing.{IsPrepared}
+use Rattle.mh_program.specs.Preparing.{IsPrepared}
 use Rattle.mh_drive.specs.declared.driving.Asks.{Asks}
 use Rattle.mh_drive.specs.declared.driving.Asks.TheVariants.{NoLine, FirstLine, EachLine}
 use Rattle.mh_prepared.specs.Shapes.{Prepared}
 use Rattle.mh_drive.specs.declared.stop.Cause.{Cause}
 use Rattle.mh_drive.proofs.Binding.{IsOne}
-use Rattle.mh_prepare.proofs.OnePrepared.{prepared_once}
+use Rattle.mh_program.proofs.OnePrepared.{prepared_once}
 use Rattle.mh_outcomes.proofs.EachMode.{answer_once, cause_once, out_once, facts_of}
 
 -- ---- the work

@@ -6,7 +6,7 @@ use Rattle.mh_grammar.specs.Text.{Text}
 use Rattle.mh_drive.specs.Causes.{Go}
 use Rattle.mh_loading.specs.Modules.{grammar_files}
 use Rattle.mh_loading.specs.Order.{staged_order}
-use Rattle.mh_prepare.specs.TableTurns.{AsksForTables}
+use Rattle.mh_program.specs.TableTurns.{AsksForTables}
 use Rattle.mh_plans.specs.Files.{files_of_mode}
 
 -- the files that the words ask for: the order's grammar files, its table file, and those that its mode reads

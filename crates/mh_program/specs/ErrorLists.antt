@@ -10,7 +10,7 @@ use Rattle.mh_plans.specs.Listing.{IsCatalogueText, too_long}
 use Rattle.mh_program.specs.Run.{World}
 use Rattle.mh_prepared.specs.Shapes.{Prepared}
 use Rattle.mh_grammar.specs.Text.{Text}
-use Rattle.mh_prepare.specs.Preparing.{IsPrepared}
+use Rattle.mh_program.specs.Preparing.{IsPrepared}
 use Rattle.mh_program.specs.Work.{has_warning, warnings_of}
 
 -- the words ask for the list of errors of a grammar that is accepted: nothing before the mode refuses it

@@ -1,3 +1,5 @@
+pub mod Preparing
+pub mod TableTurns
 pub mod Work
 pub mod Asking
 pub mod AtLine

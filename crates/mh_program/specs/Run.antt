@@ -13,10 +13,10 @@ use Rattle.mh_loading.specs.Order.{staged_order}
 use Rattle.mh_loading.specs.GrammarFile.{IsModule}
 use Rattle.mh_loading.specs.Modules.{grammar_files}
 use Rattle.mh_files.specs.Turns.{IsTurn}
-use Rattle.mh_prepare.specs.TableTurns.{IsTablesTurn}
+use Rattle.mh_program.specs.TableTurns.{IsTablesTurn}
 use Rattle.mh_drive.specs.Ways.{Outcome, Yields}
 use Rattle.mh_program.specs.Work.{Work, IsWork, has_warning, warnings_of}
-use Rattle.mh_prepare.specs.Preparing.{IsPrepared}
+use Rattle.mh_program.specs.Preparing.{IsPrepared}
 use Rattle.mh_plans.specs.Files.{IsTurnOfJob}
 use Rattle.mh_plans.specs.Plan.{by_plan}
 use Rattle.mh_drive.specs.Drive.{Partly, GotAt, CutAt, WantsAt, LeftIs, Ended}

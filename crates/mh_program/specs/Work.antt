@@ -4,7 +4,7 @@ use Rattle.mh_outside.specs.Shelf.{Files}
 use Rattle.mh_grammar.specs.Text.{Text}
 use Rattle.mh_drive.specs.Causes.{Staged, Go, Halt}
 use Rattle.mh_drive.specs.declared.stop.Cause.TheVariants.{Refused}
-use Rattle.mh_prepare.specs.Preparing.{IsPrepared}
+use Rattle.mh_program.specs.Preparing.{IsPrepared}
 use Rattle.mh_prepared.specs.Shapes.{Prepared}
 pub use Rattle.mh_saying.specs.Warnings.{is_warned, has_warning, warnings_of}
 use Rattle.mh_plans.specs.Plan.{Plan, IsPlanOfJob, halts}

@@ -9,7 +9,7 @@ ghost use Rattle.mh_drive.specs.Ways.{AnswersAll, Outcome, Yields};
 ghost use Rattle.mh_grammar.specs.Text.{Text};
 ghost use Rattle.mh_plans.specs.Verdicts.{Answering};
 ghost use Rattle.mh_program.specs.Work.{Work, IsWork};
-ghost use Rattle.mh_prepare.specs.Preparing.{IsPrepared};
+ghost use Rattle.mh_program.specs.Preparing.{IsPrepared};
 ghost use Rattle.mh_prepared.specs.Shapes.{Prepared};
 
 /// Over given files the words ask for one work, and a mode has one outcome on a given input.

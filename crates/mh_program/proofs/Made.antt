@@ -6,15 +6,15 @@ use Rattle.mh_grammar.specs.Text.{Text}
 use Rattle.mh_drive.specs.Causes.{Staged, Go, Halt, On, Gives}
 use Rattle.mh_loading.specs.Order.{staged_order}
 use Rattle.mh_loading.specs.FrontStage.{IsFront}
-use Rattle.mh_loading.specs.declared.front.Front.{Front}
+use Rattle.mh_loaded.specs.declared.front.Front.{Front}
 use Rattle.mh_loading.proofs.Fronts.{IsGrammarReady, front_order, front_ready}
 use Rattle.mh_prepared.specs.Shapes.{Prepared, Tabled}
-use Rattle.mh_prepare.specs.Preparing.{IsPrepared, IsTabledFrom, IsTabledFront}
-use Rattle.mh_prepare.specs.TableFile.{IsBuilt}
-use Rattle.mh_prepare.specs.TableStage.{IsTableStage}
+use Rattle.mh_program.specs.Preparing.{IsPrepared, IsTabledFrom, IsTabledFront}
+use Rattle.mh_tabling.specs.TableFile.{IsBuilt}
+use Rattle.mh_tabling.specs.TableStage.{IsTableStage}
 use Rattle.mh_sources.specs.Sources.{IsNumbered, IsSource}
 use Rattle.mh_sources.specs.declared.sources.Source.{Source}
-use Rattle.mh_prepare.proofs.Going.{source_built, source_numbered}
+use Rattle.mh_tabling.proofs.Sourced.{source_built, source_numbered}
 
 module _ (words : List Text) (files : Option Files) where
   -- where its automaton comes from, and what its table's stage may rely on

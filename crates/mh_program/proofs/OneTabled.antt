@@ -1,4 +1,4 @@
--- What the words ask for up to the table is one, as each of its stages gives one thing.
+-- What stands between the grammar and the warnings is one, as each of its stages gives one thing.
 use Rattle.std.proofs.Common.{◌≡◌, ◌≤◌, ℕ, Bool, List, Option, None, Some, refl, sym, ◌∙◌, ap, subst, arith}
 use Rattle.mh_grammar.specs.declared.types.Grammar.{Grammar}
 use Rattle.mh_grammar.specs.Plain.{plain_of}
@@ -13,16 +13,13 @@ use Rattle.mh_tables.proofs.OneLoop.{one_loop}
 use Rattle.mh_outside.specs.Shelf.{Files}
 use Rattle.mh_msgfile.specs.Sentences.{token_names}
 use Rattle.mh_grammar.specs.Text.{Text}
-use Rattle.mh_drive.specs.Causes.{Staged, Go, Halt, On, Gives}
+use Rattle.mh_drive.specs.Causes.{Go, Halt, Gives}
 use Rattle.mh_drive.specs.declared.stop.Cause.{Cause}
 use Rattle.mh_drive.specs.declared.stop.Cause.TheVariants.{Refused}
 use Rattle.mh_drive.proofs.Binding.{IsOne, then_once}
 use Rattle.mh_files.specs.FileStage.{IsFile, IsLoaded}
 use Rattle.mh_files.proofs.Once.{gives_once, loaded_once}
-use Rattle.mh_loading.specs.FrontStage.{IsFront}
-use Rattle.mh_loading.specs.declared.front.Front.{Front}
-use Rattle.mh_loading.proofs.Fronts.{front_ready}
-use Rattle.mh_loading.proofs.OneFront.{front_once}
+use Rattle.mh_loaded.specs.declared.front.Front.{Front}
 use Rattle.mh_tables.specs.declared.parts.StateParts.{StateParts}
 use Rattle.mh_tabform.specs.declared.types.RawTable.{RawTable}
 use Rattle.mh_tabreader.specs.declared.reading.TabFault.{TabFault}
@@ -35,13 +32,13 @@ use Rattle.mh_valid.specs.Valid.{AreNamesApart, IsValidFor}
 use Rattle.mh_valid.proofs.Apart.{apart}
 use Rattle.mh_valid.proofs.Once.{automaton_is_one, test_is_one}
 use Rattle.mh_prepared.specs.Shapes.{Tabled}
-use Rattle.mh_prepare.specs.TableTexts.{invalid_line, loops_line}
-use Rattle.mh_prepare.specs.TableFile.{IsInvalid}
-use Rattle.mh_prepare.specs.TableStage.{AreTabled, IsAutomatonStage, IsResolvedStage, IsTableStage, LoopsFirst, mode_of}
+use Rattle.mh_tabling.specs.TableTexts.{invalid_line, loops_line}
+use Rattle.mh_tabling.specs.TableFile.{IsInvalid}
+use Rattle.mh_tabling.specs.TableStage.{AreTabled, IsAutomatonStage, IsResolvedStage, IsTableStage, LoopsFirst, mode_of}
 use Rattle.mh_sources.specs.TableTexts.{table_line}
 use Rattle.mh_sources.specs.TableFile.{HasTableFault, IsTableFile}
 use Rattle.mh_sources.specs.Sources.{IsSource, IsSourceBy, built_by}
-use Rattle.mh_prepare.specs.Preparing.{IsPrepared, IsTabledFrom, IsTabledFront}
+use Rattle.mh_tabling.specs.Preparing.{IsTabledFrom, IsTabledFront}
 use Rattle.mh_sources.specs.declared.sources.Source.{Source}
 use Rattle.mh_sources.specs.declared.sources.Source.TheVariants.{Canonical, Merged, File}
 
@@ -141,16 +138,5 @@ from_once front n source =
     then_once (IsTableStage source front.grammar) (λ tabled. Gives (record { order = front.order; grammar = front.grammar; tabled = tabled })) (table_once source front.grammar n)
     (λ tabled. gives_once (record { order = front.order; grammar = front.grammar; tabled = tabled }))
 
-tabled_front_once : (files : Files) (front : Front) → AreNamesApart front.grammar → IsOne (IsTabledFront (Some files) front)
+pub tabled_front_once : (files : Files) (front : Front) → AreNamesApart front.grammar → IsOne (IsTabledFront (Some files) front)
 tabled_front_once files front n = then_once (IsSource (Some files) front.order) (IsTabledFrom front) (source_once files front.order.tables front.order.canonical) (from_once front n)
-
-pub prepared_once : (words : List Text) (files : Files) → IsOne (IsPrepared words (Some files))
-prepared_once words files s r p q = at p.0 q.0 (front_once words files p.0 q.0 p.1 q.1) p.1 p.2 q.2
-  where
-    at : (f h : Staged Front) → f ≡ h → IsFront words (Some files) f → On f (IsTabledFront (Some files)) s → On h (IsTabledFront (Some files)) r → s ≡ r
-    at (Go front) (Go other) same is x y =
-        let one : front ≡ other = cc in
-        tabled_front_once files front (front_ready words (Some files) front is).apart s r x (subst (λ (k : Front). IsTabledFront (Some files) k r) (sym one) y)
-    at (Go front) (Halt cause) same is x y = absurd (cc)
-    at (Halt cause) (Go front) same is x y = absurd (cc)
-    at (Halt cause) (Halt other) same is x y = let one : cause ≡ other = cc in x ∙ ap Halt one ∙ sym y

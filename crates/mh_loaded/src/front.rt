@@ -1,0 +1,10 @@
+//! What comes before the table.
+use mh_grammar::Grammar;
+use mh_opts::Order;
+
+/// The order that the words spell, and the grammar of its modules.
+#[derive(Drop)]
+pub struct Front {
+    pub order: Order,
+    pub grammar: Grammar,
+}

@@ -1,0 +1,4 @@
+pub mod TableTexts
+pub mod TableFile
+pub mod TableStage
+pub mod Preparing

@@ -1,0 +1,2 @@
+//! What the stage between the grammar and the warnings gives, by definition: a table, built or from a table file, or why there is none.
+#![tactic(auto)]
