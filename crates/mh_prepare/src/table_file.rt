@@ -1,47 +1,10 @@
 //! The refusal of a table file that is not valid for the grammar.
-ghost use Rattle.std.specs.Prelude.{◌≡◌, IfOk, string_bytes};
-ghost use Rattle.mh_drive.specs.Stages.{Halts};
-ghost use Rattle.mh_drive.specs.declared.stop.Cause.TheVariants.{Refused};
 ghost use Rattle.mh_prepare.specs.Faults.{RejectsBy};
-ghost use Rattle.mh_prepare.specs.TableTexts.{invalid_line, reason_name as reason_name_of, test_text};
 
-use mh_drive::{Stop, refused};
-use mh_validate::{Reason, ValidFault};
-use std::alloc::{AllocError, Global};
-
-/// A test as it is told.
-fn reason_name(reason: Reason) -> &'static str
-    ensures { result.now ≡ reason_name_of reason }
-{
-    match reason {
-        Reason::Header => "header",
-        Reason::States => "states",
-        Reason::Kernel => "kernel",
-        Reason::Edge => "edge",
-        Reason::Cell => "cell",
-        Reason::Fallback => "fallback",
-    }
-}
-
-/// What stands behind the name of a file that is not valid.
-fn test_in(alloc: Global, state: Option<u32>, reason: &str) -> Result<String, AllocError>
-    ensures { IfOk result (λ text. string_bytes text ≡ test_text state reason.now) }
-{
-    match state {
-        None => format!(in alloc; ": invalid: {reason}\n"),
-        Some(state) => format!(in alloc; ": invalid: state {state}: {reason}\n"),
-    }
-}
-
-/// The refusal of a file that is not valid, by the first test that fails.
-fn invalid(alloc: Global, name: &[u8], state: Option<u32>, reason: Reason) -> Stop
-    ensures { Halts (Refused (invalid_line name.now state reason)) result }
-{
-    match test_in(alloc, state, reason_name(reason)) {
-        Ok(test) => refused(alloc, b"menhir: ", name, test.as_bytes()),
-        Err(_) => Stop::OutOfMemory,
-    }
-}
+use mh_drive::Stop;
+use mh_tabling::invalid;
+use mh_validate::ValidFault;
+use std::alloc::Global;
 
 /// The refusal of a file that is not valid, or want of memory.
 pub(crate) fn not_valid(alloc: Global, name: &[u8], fault: ValidFault) -> Stop

@@ -1,24 +1,21 @@
 //! The automaton of a grammar, built or from a table file, with its table, where every run on it ends, and the list of its conflicts.
-ghost use Rattle.std.specs.Prelude.{◌≡◌, ◌<◌, ◌≤◌, ◌*◌, ◌^◌, length, IfOk, string_bytes, MatchOption, ⊤};
+ghost use Rattle.std.specs.Prelude.{◌≡◌, ◌<◌, ◌≤◌, ◌*◌, ◌^◌, length, IfOk};
 ghost use Rattle.mh_grammar.specs.Costs.{HaveCosts};
 ghost use Rattle.mh_grammar.specs.Plain.{plain_of, IsInRange};
 ghost use Rattle.mh_kernels.specs.Automaton.{IsAutomaton};
 ghost use Rattle.mh_prepare.specs.TableStage.{IsAutomatonStage, IsResolvedStage, IsTableStage, IsValidated};
-ghost use Rattle.mh_prepare.specs.TableTexts.{loop_place, look_text, loops_line, too_many_states as too_many_states_line};
-ghost use Rattle.mh_drive.specs.Stages.{Halts, StageHas};
-ghost use Rattle.mh_msgfile.specs.Sentences.{token_names};
+ghost use Rattle.mh_drive.specs.Stages.{StageHas};
 ghost use Rattle.mh_sources.specs.declared.sources.Source.TheVariants.{Canonical, File, Merged};
 ghost use Rattle.mh_sources.specs.Sources.{IsNumbered};
 ghost use Rattle.mh_cells.specs.States.{IsTableOf};
 ghost use Rattle.mh_cells.specs.Conflicts.{AreConflicts};
 ghost use Rattle.mh_valid.specs.Valid.{AreNamesApart};
-ghost use Rattle.mh_drive.specs.declared.stop.Cause.TheVariants.{Refused};
 
 use crate::table_file::not_valid;
 use mh_canon::canonical;
 use mh_cells::{Conflict, Mode};
-use mh_drive::{Stop, refused};
-use mh_grammar::{Grammar, Sequence, Token};
+use mh_drive::Stop;
+use mh_grammar::{Grammar, Sequence};
 use mh_halting::{HaltFault, check_halts};
 use mh_kernels::{Automaton, StatesFault};
 use mh_pager::merged;
@@ -27,14 +24,9 @@ use mh_resolve::resolve;
 use mh_sources::Source;
 use mh_tabform::RawTable;
 use mh_tables::Table;
+use mh_tabling::{loops, too_many_states};
 use mh_validate::{Valid, validate};
-use std::alloc::{AllocError, Global};
-
-fn too_many_states(alloc: Global) -> Stop
-    ensures { Halts (Refused too_many_states_line) result }
-{
-    refused(alloc, b"menhir: too many states\n", b"", b"")
-}
+use std::alloc::Global;
 
 /// The canonical automaton of a grammar.
 fn canonical_of<const W: usize>(alloc: Global, grammar: &Grammar) -> Result<Automaton<W>, Stop>
@@ -63,43 +55,6 @@ fn merged_of<const W: usize>(alloc: Global, grammar: &Grammar) -> Result<Automat
         Ok(automaton) => Ok(automaton),
         Err(StatesFault::TooManyStates) => Err(too_many_states(alloc)),
         Err(StatesFault::Memory) => Err(Stop::OutOfMemory),
-    }
-}
-
-/// The name of the next token, where there is one.
-fn look_name(grammar: &Grammar, token: Option<Token>) -> &[u8]
-    requires { MatchOption token ⊤ (λ token. token < length grammar.now.tokens) }
-    ensures { result.now ≡ look_text (token_names grammar.now) token }
-{
-    match token {
-        Some(token) => grammar.tokens[usize::from(token)].name.as_slice(),
-        None => b"no token",
-    }
-}
-
-/// The state of a relative run, alone or above another.
-fn place_of(alloc: Global, below: Option<u32>, state: u32) -> Result<String, AllocError>
-    ensures { IfOk result (λ text. string_bytes text ≡ loop_place below state) }
-{
-    match below {
-        None => format!(in alloc; "menhir: loops: state {state} on "),
-        Some(below) => format!(in alloc; "menhir: loops: state {state} above state {below} on "),
-    }
-}
-
-fn loops(
-    alloc: Global,
-    grammar: &Grammar,
-    below: Option<u32>,
-    state: u32,
-    token: Option<Token>,
-) -> Stop
-    requires { MatchOption token ⊤ (λ token. token < length grammar.now.tokens) }
-    ensures { Halts (Refused (loops_line (token_names grammar.now) below state token)) result }
-{
-    match place_of(alloc, below, state) {
-        Ok(place) => refused(alloc, place.as_bytes(), look_name(grammar, token), b"\n"),
-        Err(_) => Stop::OutOfMemory,
     }
 }
 

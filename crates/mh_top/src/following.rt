@@ -8,8 +8,8 @@ ghost use Rattle.mh_prepared.specs.Prepared.{IsFit};
 ghost use Rattle.mh_top.specs.Run.{IsTurnBehind};
 ghost use Rattle.mh_top.specs.Work.{IsPlanOf};
 
-use mh_drive::{Stop, refused};
 use crate::modes::follow;
+use mh_drive::{Stop, refused};
 use mh_outside::{Shelf, Sink, Source};
 use mh_prepared::Prepared;
 use mh_saying::is_refused;
