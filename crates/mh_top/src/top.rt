@@ -55,7 +55,8 @@ fn work_with<F: Shelf, I: Source, O: Sink, E: Sink, const W: usize>(
     }
 }
 
-/// The work behind the grammar: its table, the warnings, and the mode.
+/// The work behind the grammar: its table, the warnings, and the mode. What was prepared is let go by one call: the end of a scope lets
+/// go of each field by itself, which takes long to prove.
 fn work_on<F: Shelf, I: Source, O: Sink, E: Sink, const W: usize>(
     alloc: Global,
     front: Front,
@@ -80,7 +81,11 @@ fn work_on<F: Shelf, I: Source, O: Sink, E: Sink, const W: usize>(
         result }
 {
     match prepare::<F, W>(alloc, front, shelf) {
-        Ok(prepared) => work_with(alloc, &prepared, shelf, input, out, err),
+        Ok(prepared) => {
+            let ended = work_with(alloc, &prepared, shelf, input, out, err);
+            drop(prepared);
+            ended
+        }
         Err(stop) => Err(stop),
     }
 }

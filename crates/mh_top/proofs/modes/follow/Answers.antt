@@ -1,4 +1,4 @@
-use Rattle.std.proofs.Common.{refl, sym, ap, ap₂, ◌∙◌}
+use Rattle.std.proofs.Common.{refl, rules, sym, ap, ap₂, ◌∙◌}
 use Rattle.mh_opts.specs.declared.jobs.Job.TheVariants.{Interpret, Session, CompileErrors, CompareErrors, EchoErrors, UpdateErrors}
 use Rattle.mh_drive.proofs.Opening.{ran_read}
 use Rattle.mh_plans.specs.Plan.{by_plan}
@@ -56,3 +56,102 @@ returns-in-UpdateErrors-clause-ran g c = of_job (g.F.Shelf.files c.args.shelf.no
 pub returns-in-CompareErrors-clause-ran : goal.returns-in-CompareErrors-clause-ran
 returns-in-CompareErrors-clause-ran g c = of_job (g.F.Shelf.files c.args.shelf.now) c.args.prepared.now (CompareErrors c.as_slice-in-CompareErrors.result.now c.as_slice-in-CompareErrors-2.result.now)
     (c.in-CompareErrors.is ∙ ap₂ CompareErrors (sym c.as_slice-in-CompareErrors.ensures) (sym c.as_slice-in-CompareErrors-2.ensures)) _ _ _ _ c.compare_errors.result c.compare_errors.ensures.ran
+
+pub returns-in-Interpret-clause-counts : goal.returns-in-Interpret-clause-counts
+returns-in-Interpret-clause-counts g c = c.interpret.ensures.counts
+
+pub returns-in-Interpret-clause-kept : goal.returns-in-Interpret-clause-kept
+returns-in-Interpret-clause-kept g c = c.interpret.ensures.kept
+
+pub returns-in-Interpret-clause-read : goal.returns-in-Interpret-clause-read
+returns-in-Interpret-clause-read g c = c.interpret.ensures.read
+
+pub returns-in-InterpretError-clause-counts : goal.returns-in-InterpretError-clause-counts
+returns-in-InterpretError-clause-counts g c = c.explain.ensures.counts
+
+pub returns-in-InterpretError-clause-kept : goal.returns-in-InterpretError-clause-kept
+returns-in-InterpretError-clause-kept g c = refl
+
+pub explain-requires : goal.explain-requires
+explain-requires g c = (search rules, (c.requires.few, c.requires.fit))
+
+pub returns-in-Session-clause-counts : goal.returns-in-Session-clause-counts
+returns-in-Session-clause-counts g c = c.serve.ensures.counts
+
+pub returns-in-Session-clause-kept : goal.returns-in-Session-clause-kept
+returns-in-Session-clause-kept g c = refl
+
+pub serve-requires : goal.serve-requires
+serve-requires g c = (search rules, (c.requires.few, c.requires.fit))
+
+pub returns-in-ShowAutomaton-clause-counts : goal.returns-in-ShowAutomaton-clause-counts
+returns-in-ShowAutomaton-clause-counts g c = c.show_automaton.ensures.counts
+
+pub returns-in-ShowAutomaton-clause-kept : goal.returns-in-ShowAutomaton-clause-kept
+returns-in-ShowAutomaton-clause-kept g c = refl
+
+pub show_automaton-requires : goal.show_automaton-requires
+show_automaton-requires g c = (search rules, (c.requires.few, c.requires.fit))
+
+pub returns-in-WriteTables-clause-counts : goal.returns-in-WriteTables-clause-counts
+returns-in-WriteTables-clause-counts g c = c.export_tables.ensures.counts
+
+pub returns-in-WriteTables-clause-kept : goal.returns-in-WriteTables-clause-kept
+returns-in-WriteTables-clause-kept g c = refl
+
+pub export_tables-requires : goal.export_tables-requires
+export_tables-requires g c = (search rules, (c.requires.few, c.requires.fit))
+
+pub returns-in-ListErrors-clause-counts : goal.returns-in-ListErrors-clause-counts
+returns-in-ListErrors-clause-counts g c = c.list_errors.ensures.counts
+
+pub returns-in-ListErrors-clause-kept : goal.returns-in-ListErrors-clause-kept
+returns-in-ListErrors-clause-kept g c = refl
+
+pub list_errors-requires : goal.list_errors-requires
+list_errors-requires g c = (search rules, (c.requires.few, c.requires.fit))
+
+pub returns-in-Sample-clause-counts : goal.returns-in-Sample-clause-counts
+returns-in-Sample-clause-counts g c = c.count_sample.ensures.counts
+
+pub returns-in-Sample-clause-kept : goal.returns-in-Sample-clause-kept
+returns-in-Sample-clause-kept g c = refl
+
+pub count_sample-requires : goal.count_sample-requires
+count_sample-requires g c = (search rules, (c.requires.few, c.requires.fit))
+
+pub returns-in-CompileErrors-clause-counts : goal.returns-in-CompileErrors-clause-counts
+returns-in-CompileErrors-clause-counts g c = c.compile_errors.ensures.counts
+
+pub returns-in-CompileErrors-clause-kept : goal.returns-in-CompileErrors-clause-kept
+returns-in-CompileErrors-clause-kept g c = c.compile_errors.ensures.kept
+
+pub returns-in-CompileErrors-clause-read : goal.returns-in-CompileErrors-clause-read
+returns-in-CompileErrors-clause-read g c = c.compile_errors.ensures.read
+
+pub returns-in-CompareErrors-clause-counts : goal.returns-in-CompareErrors-clause-counts
+returns-in-CompareErrors-clause-counts g c = c.compare_errors.ensures.counts
+
+pub returns-in-CompareErrors-clause-kept : goal.returns-in-CompareErrors-clause-kept
+returns-in-CompareErrors-clause-kept g c = c.compare_errors.ensures.kept
+
+pub returns-in-CompareErrors-clause-read : goal.returns-in-CompareErrors-clause-read
+returns-in-CompareErrors-clause-read g c = c.compare_errors.ensures.read
+
+pub returns-in-EchoErrors-clause-counts : goal.returns-in-EchoErrors-clause-counts
+returns-in-EchoErrors-clause-counts g c = c.echo_errors.ensures.counts
+
+pub returns-in-EchoErrors-clause-kept : goal.returns-in-EchoErrors-clause-kept
+returns-in-EchoErrors-clause-kept g c = c.echo_errors.ensures.kept
+
+pub returns-in-EchoErrors-clause-read : goal.returns-in-EchoErrors-clause-read
+returns-in-EchoErrors-clause-read g c = c.echo_errors.ensures.read
+
+pub returns-in-UpdateErrors-clause-counts : goal.returns-in-UpdateErrors-clause-counts
+returns-in-UpdateErrors-clause-counts g c = c.update_errors.ensures.counts
+
+pub returns-in-UpdateErrors-clause-kept : goal.returns-in-UpdateErrors-clause-kept
+returns-in-UpdateErrors-clause-kept g c = c.update_errors.ensures.kept
+
+pub returns-in-UpdateErrors-clause-read : goal.returns-in-UpdateErrors-clause-read
+returns-in-UpdateErrors-clause-read g c = c.update_errors.ensures.read

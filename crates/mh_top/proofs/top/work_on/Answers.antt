@@ -4,8 +4,8 @@ use Rattle.mh_program.specs.Preparing.{IsPrepared}
 use Rattle.mh_program.proofs.Going.{prepare_stops, prepared_so, worked_same}
 use Rattle.mh_top.proofs.top.work_on.Goals as goal
 
-pub work_with-requires : goal.work_with-requires
-work_with-requires g c = (
+pub work_with-ended-requires : goal.work_with-ended-requires
+work_with-ended-requires g c = (
   search rules,
   (c.requires.few, (c.in-Ok.ensures.fit, rw c.in-Ok.ensures.order (λ k d lt. c.in-Ok.ensures.may_still _ (c.requires.asked k d lt)))),
 )
@@ -16,5 +16,5 @@ returns-in-Err-clause-ran g c = λ words is.
 
 pub returns-in-Ok-clause-ran : goal.returns-in-Ok-clause-ran
 returns-in-Ok-clause-ran g c = λ words is.
-    worked_same words _ _ _ _ c.work_with.result c.in-Ok.ensures.kept c.in-Ok.ensures.counts
-    (c.work_with.ensures.ran words (subst (λ f. IsPrepared words f (Go c.in-Ok.prepared)) (sym c.in-Ok.ensures.kept) (prepared_so words _ c.args.front _ is c.in-Ok.ensures.prepared)))
+    worked_same words _ _ _ _ c.work_with-ended.result c.in-Ok.ensures.kept c.in-Ok.ensures.counts
+    (c.work_with-ended.ensures.ran words (subst (λ f. IsPrepared words f (Go c.in-Ok.prepared)) (sym c.in-Ok.ensures.kept) (prepared_so words _ c.args.front _ is c.in-Ok.ensures.prepared)))
