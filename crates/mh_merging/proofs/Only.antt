@@ -16,8 +16,8 @@ use Rattle.mh_kernels.proofs.OneList.{kernel_same}
 use Rattle.mh_knuth.proofs.Only.{edges_same}
 use Rattle.mh_knuth.specs.Canonical.{targets_of}
 use Rattle.mh_knuth.proofs.Sets.{same_sym, same_trans}
-use Rattle.mh_pager.specs.Weak.{IsJoin}
-use Rattle.mh_pager.specs.Steps.{Work, Keeps, Takes, IsFirst, Queues, Puts, IsMoveOf, AllPut, AreMoving, symbols_of, IsStep, Steps, none, more, IsBegun, Overruns, IsSwollen}
+use Rattle.mh_states.specs.Weak.{IsJoin}
+use Rattle.mh_merging.specs.Steps.{Work, Keeps, Takes, IsFirst, Queues, Puts, IsMoveOf, AllPut, AreMoving, symbols_of, IsStep, Steps, none, more, IsBegun, Overruns, IsSwollen}
 
 -- two works with the same parts are one
 one_work : (v w : Work) → v.kernels ≡ w.kernels → v.rows ≡ w.rows → v.queue ≡ w.queue → v ≡ w

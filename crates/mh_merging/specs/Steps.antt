@@ -12,7 +12,7 @@ use Rattle.mh_kernels.specs.Shapes.{Automaton}
 use Rattle.mh_kernels.specs.Kernels.{Holds, IsItemList}
 use Rattle.mh_knuth.specs.Canonical.{HasItem, targets_of}
 use Rattle.mh_knuth.specs.Found.{AreStarts}
-use Rattle.mh_pager.specs.Weak.{OneCore, Covers, AreCompatible, IsJoin}
+use Rattle.mh_states.specs.Weak.{OneCore, Covers, AreCompatible, IsJoin}
 pub use Rattle.mh_states.specs.First.{IsFirst, HasNone}
 pub use Rattle.mh_states.specs.Queued.{Queues}
 

@@ -17,8 +17,8 @@ use Rattle.mh_kernels.specs.Shapes.{Kernel}
 use Rattle.mh_kernels.specs.Kernels.{Holds, IsItemList}
 use Rattle.mh_kernels.proofs.OneList.{kernel_same}
 use Rattle.mh_knuth.specs.Canonical.{targets_of}
-use Rattle.mh_pager.specs.Numbered.{AreBelow, IsRenamed, AreReached}
-use Rattle.mh_pager.specs.Steps.{symbols_of, Leads, IsOnSymbolsOf}
+use Rattle.mh_merging.specs.Numbered.{AreBelow, IsRenamed, AreReached}
+use Rattle.mh_merging.specs.Steps.{symbols_of, Leads, IsOnSymbolsOf}
 use Rattle.mh_states.proofs.Starting.{range_at, range_from}
 
 -- different numbers below a bound are no more than it

@@ -10,13 +10,13 @@ use Rattle.mh_kernels.specs.Kernels.{Holds}
 use Rattle.mh_kernels.specs.Automaton.{start_kernel}
 use Rattle.mh_knuth.specs.Canonical.{targets_of}
 use Rattle.mh_knuth.proofs.Sets.{start_holds}
-use Rattle.mh_pager.specs.Weak.{OneCore, Covers, AreCompatible, IsJoin}
+use Rattle.mh_states.specs.Weak.{OneCore, Covers, AreCompatible, IsJoin}
 use Rattle.mh_kernels.specs.Collection.{After}
 use Rattle.mh_kernels.specs.Conflicts.{HasConflict, HasEither, LeadsTo}
-use Rattle.mh_pager.specs.Steps.{Work, Puts, IsMoveOf, AllPut, symbols_of, IsStep, Steps, none, more, IsBegun}
-use Rattle.mh_pager.proofs.Joining.{clash_joined, fault_joined}
-use Rattle.mh_pager.proofs.Paths.{after_covers, more_clashes, more_faults, move_troubled}
-use Rattle.mh_pager.proofs.Putting.{Came, stays, joins, fresh, came}
+use Rattle.mh_merging.specs.Steps.{Work, Puts, IsMoveOf, AllPut, symbols_of, IsStep, Steps, none, more, IsBegun}
+use Rattle.mh_merging.proofs.Joining.{clash_joined, fault_joined}
+use Rattle.mh_merging.proofs.Paths.{after_covers, more_clashes, more_faults, move_troubled}
+use Rattle.mh_merging.proofs.Putting.{Came, stays, joins, fresh, came}
 
 -- what is asked of a kind of trouble: more items have more of it, and a join of compatible sets has it only where one of them does
 pub record IsTrouble (g : PlainGrammar) (Bad : ItemSet → Type 0) : Type 1 where

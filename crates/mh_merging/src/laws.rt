@@ -2,8 +2,8 @@
 ghost use Rattle.std.specs.Prelude.{◌≡◌};
 ghost use Rattle.mh_grammar.specs.Plain.{plain_of};
 ghost use Rattle.mh_kernels.specs.Automaton.{IsAutomaton};
-ghost use Rattle.mh_pager.specs.Paths.{CoversPaths};
-ghost use Rattle.mh_pager.specs.Steps.{IsMerged};
+ghost use Rattle.mh_merging.specs.Paths.{CoversPaths};
+ghost use Rattle.mh_merging.specs.Steps.{IsMerged};
 
 use mh_grammar::Grammar;
 use mh_kernels::Automaton;

@@ -5,8 +5,8 @@ use Rattle.mh_grammar.specs.ItemSets.{Close, Reach}
 use Rattle.mh_kernels.specs.Shapes.{Automaton}
 use Rattle.mh_kernels.specs.Automaton.{kernel_of, move_of, IsAutomaton}
 use Rattle.mh_knuth.proofs.Sets.{moved_within, close_within, reach_has, start_holds}
-use Rattle.mh_pager.specs.Weak.{Covers}
-use Rattle.mh_pager.specs.Paths.{CoversPaths}
+use Rattle.mh_states.specs.Weak.{Covers}
+use Rattle.mh_merging.specs.Paths.{CoversPaths}
 
 module _ (g : PlainGrammar) (a : Automaton) (is : IsAutomaton g a) where
   pub covers_paths : CoversPaths g a

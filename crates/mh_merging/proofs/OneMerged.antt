@@ -8,9 +8,9 @@ use Rattle.mh_grammar.proofs.Lists.{same_at, zip_one}
 use Rattle.mh_grammar.proofs.OneNumbering.{one_numbering}
 use Rattle.mh_kernels.specs.Shapes.{Automaton}
 use Rattle.mh_knuth.specs.Canonical.{targets_of}
-use Rattle.mh_pager.specs.Steps.{Work, symbols_of, Steps, Leads, IsOnSymbolsOf, IsMerged, start_numbers}
+use Rattle.mh_merging.specs.Steps.{Work, symbols_of, Steps, Leads, IsOnSymbolsOf, IsMerged, start_numbers}
 use Rattle.mh_knuth.proofs.Only.{edges_same}
-use Rattle.mh_pager.proofs.Only.{begun_one, end_one}
+use Rattle.mh_merging.proofs.Only.{begun_one, end_one}
 
 leads_one : (rows : List (List Edge)) (n : ℕ) (a b : List ℕ) → Leads rows n a → Leads rows n b → a ≡ b
 leads_one rows n a b p q =

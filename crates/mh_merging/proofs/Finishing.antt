@@ -13,16 +13,16 @@ use Rattle.mh_kernels.specs.Automaton.{start_kernel, IsAutomaton}
 use Rattle.mh_knuth.specs.Canonical.{targets_of, IsCanonical}
 use Rattle.mh_knuth.specs.declared.limits.TheConstants.{MAX_STATES}
 use Rattle.mh_kernels.specs.Conflicts.{IsConflicting, IsFaulty}
-use Rattle.mh_pager.specs.Paths.{CoversPaths}
-use Rattle.mh_pager.specs.Numbered.{AreBelow, AreReached, AreClosed}
-use Rattle.mh_pager.specs.Steps.{Work, symbols_of, IsList, IsMerged, IsSwollen}
-use Rattle.mh_pager.proofs.Agreeing.{clashes_agree, faults_agree}
-use Rattle.mh_pager.proofs.Covering.{covers_paths}
-use Rattle.mh_pager.proofs.Leaving.{IsAutomaton-merged}
-use Rattle.mh_pager.proofs.Only.{not_swollen}
-use Rattle.mh_pager.proofs.Reaching.{below_few}
-use Rattle.mh_pager.proofs.Settling.{IsTargetOf}
-use Rattle.mh_pager.proofs.Sound.{IsRunning, running}
+use Rattle.mh_merging.specs.Paths.{CoversPaths}
+use Rattle.mh_merging.specs.Numbered.{AreBelow, AreReached, AreClosed}
+use Rattle.mh_merging.specs.Steps.{Work, symbols_of, IsList, IsMerged, IsSwollen}
+use Rattle.mh_merging.proofs.Agreeing.{clashes_agree, faults_agree}
+use Rattle.mh_merging.proofs.Covering.{covers_paths}
+use Rattle.mh_merging.proofs.Leaving.{IsAutomaton-merged}
+use Rattle.mh_merging.proofs.Only.{not_swollen}
+use Rattle.mh_merging.proofs.Reaching.{below_few}
+use Rattle.mh_merging.proofs.Settling.{IsTargetOf}
+use Rattle.mh_merging.proofs.Sound.{IsRunning, running}
 
 targets_within : (g : PlainGrammar) (kernels : List Kernel) (k : Kernel) (symbols : List Symbol) (targets : List ℕ) → AllZip (IsTargetOf g kernels k) symbols targets → AllByRecursion (λ t. t < length kernels) targets
 targets_within g kernels k [] [] z = tt

@@ -18,10 +18,10 @@ use Rattle.mh_kernels.specs.Automaton.{start_kernel}
 use Rattle.mh_knuth.specs.Canonical.{HasItem, targets_of}
 use Rattle.mh_knuth.proofs.Building.{IsItemList-start}
 use Rattle.mh_knuth.proofs.Sets.{start_holds, moved_dot}
-use Rattle.mh_pager.specs.Weak.{HasPair, IsJoin}
-use Rattle.mh_pager.specs.Steps.{Work, Takes, Puts, IsMoveOf, AllPut, symbols_of, IsStep, Steps, none, more, IsBegun, start_numbers}
-use Rattle.mh_pager.proofs.Putting.{Came, stays, joins, fresh, came, put_grows, join_extends}
-use Rattle.mh_pager.proofs.Settling.{AreSettled, step_length, step_settled}
+use Rattle.mh_states.specs.Weak.{HasPair, IsJoin}
+use Rattle.mh_merging.specs.Steps.{Work, Takes, Puts, IsMoveOf, AllPut, symbols_of, IsStep, Steps, none, more, IsBegun, start_numbers}
+use Rattle.mh_merging.proofs.Putting.{Came, stays, joins, fresh, came, put_grows, join_extends}
+use Rattle.mh_merging.proofs.Settling.{AreSettled, step_length, step_settled}
 
 -- a start production stands with the end of the stream alone
 abbrev pub IsAtEnd : PlainGrammar → ItemSet → Type 0

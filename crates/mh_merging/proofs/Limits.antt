@@ -10,9 +10,9 @@ use Rattle.mh_grammar.specs.Plain.{PlainGrammar, IsInRange}
 use Rattle.mh_kernels.specs.Shapes.{Kernel, Automaton}
 use Rattle.mh_kernels.specs.Collection.{targets_of}
 use Rattle.mh_knuth.specs.declared.limits.TheConstants.{MAX_STATES}
-use Rattle.mh_pager.specs.Numbered.{AreBelow}
-use Rattle.mh_pager.specs.Steps.{Work, Steps, none, more, symbols_of, IsBegun, IsMerged, IsSwollen}
-use Rattle.mh_pager.proofs.Reaching.{below_few}
+use Rattle.mh_merging.specs.Numbered.{AreBelow}
+use Rattle.mh_merging.specs.Steps.{Work, Steps, none, more, symbols_of, IsBegun, IsMerged, IsSwollen}
+use Rattle.mh_merging.proofs.Reaching.{below_few}
 
 -- the step that makes the list too long overruns
 steps_few : (g : PlainGrammar) (limit : ℕ) (first last : Work) → IsBegun g first → length first.kernels ≤ limit → Steps g first last → limit < length last.kernels → IsSwollen g limit

@@ -11,8 +11,8 @@ use Rattle.mh_grammar.specs.ItemSets.{ItemSet, AreSame}
 use Rattle.mh_grammar.proofs.Lists.{get_left, get_last, get_cases, contains_here, set_here, set_elsewhere, set_cases}
 use Rattle.mh_kernels.specs.Shapes.{Kernel}
 use Rattle.mh_kernels.specs.Kernels.{Holds, IsItemList}
-use Rattle.mh_pager.specs.Weak.{OneCore, Covers, IsJoin}
-use Rattle.mh_pager.specs.Steps.{Work, Takes, Queues, Joins, Appends, Puts}
+use Rattle.mh_states.specs.Weak.{OneCore, Covers, IsJoin}
+use Rattle.mh_merging.specs.Steps.{Work, Takes, Queues, Joins, Appends, Puts}
 
 -- the second set has the first one's pairs, and its looks
 abbrev pub Extends : ItemSet → ItemSet → Type 0

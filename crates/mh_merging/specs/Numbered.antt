@@ -5,7 +5,7 @@ use Rattle.mh_grammar.specs.declared.edges.Edge.{Edge}
 use Rattle.mh_grammar.specs.Numbering.{AreDistinct, IsNumbering}
 use Rattle.mh_grammar.specs.Placed.{AllPlaced}
 use Rattle.mh_knuth.specs.Canonical.{targets_of}
-use Rattle.mh_pager.specs.Steps.{symbols_of, Leads, IsOnSymbolsOf}
+use Rattle.mh_merging.specs.Steps.{symbols_of, Leads, IsOnSymbolsOf}
 
 -- different numbers below a bound
 pub record AreBelow (count : ℕ) (states : List ℕ) : Type 0 where

@@ -8,13 +8,13 @@ use Rattle.mh_kernels.specs.Automaton.{kernel_at, kernel_of}
 use Rattle.mh_knuth.specs.Canonical.{HasItem, IsCanonical}
 use Rattle.mh_knuth.proofs.Sets.{close_has}
 use Rattle.mh_kernels.specs.Conflicts.{HasConflict, shift_reduce, reduce_reduce, shift, reduce, HasEither}
-use Rattle.mh_pager.specs.Steps.{IsMerged}
+use Rattle.mh_merging.specs.Steps.{IsMerged}
 use Rattle.mh_kernels.specs.Conflicts.{IsConflicting, IsFaulty}
-use Rattle.mh_pager.specs.Paths.{CoversPaths}
-use Rattle.mh_pager.proofs.Covering.{covers_paths}
-use Rattle.mh_pager.proofs.Leaving.{old_number, IsAutomaton-merged}
-use Rattle.mh_pager.proofs.Paths.{reach_is_after}
-use Rattle.mh_pager.proofs.Troubles.{IsTrouble, clashes_trouble, faults_trouble, StartTroubled, quiet}
+use Rattle.mh_merging.specs.Paths.{CoversPaths}
+use Rattle.mh_merging.proofs.Covering.{covers_paths}
+use Rattle.mh_merging.proofs.Leaving.{old_number, IsAutomaton-merged}
+use Rattle.mh_merging.proofs.Paths.{reach_is_after}
+use Rattle.mh_merging.proofs.Troubles.{IsTrouble, clashes_trouble, faults_trouble, StartTroubled, quiet}
 
 clash_has : (g : PlainGrammar) (I : ItemSet) → HasConflict g I → HasItem I
 clash_has g I (shift_reduce s r) = close_has g I _ _ _ r

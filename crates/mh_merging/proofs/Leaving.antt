@@ -19,10 +19,10 @@ use Rattle.mh_knuth.specs.Canonical.{targets_of}
 use Rattle.mh_knuth.proofs.Edging.{rising_edges, found_edge}
 use Rattle.mh_knuth.proofs.Finished.{kernel_get, kernel_got, edges_get, items_within, edges_within}
 use Rattle.mh_knuth.proofs.Sets.{place_holds}
-use Rattle.mh_pager.specs.Steps.{symbols_of, IsMerged, IsOnSymbolsOf, start_numbers}
-use Rattle.mh_pager.proofs.Renaming.{renamed_to, renamed_from}
-use Rattle.mh_pager.proofs.Settling.{IsRowFor, IsSettled, found_target}
-use Rattle.mh_pager.proofs.Sound.{IsSound, IsRunning, running, start_numbers_at}
+use Rattle.mh_merging.specs.Steps.{symbols_of, IsMerged, IsOnSymbolsOf, start_numbers}
+use Rattle.mh_merging.proofs.Renaming.{renamed_to, renamed_from}
+use Rattle.mh_merging.proofs.Settling.{IsRowFor, IsSettled, found_target}
+use Rattle.mh_merging.proofs.Sound.{IsSound, IsRunning, running, start_numbers_at}
 
 module _ (g : PlainGrammar) (a : Automaton) (m : IsMerged g a) where
   run : IsRunning g m.last

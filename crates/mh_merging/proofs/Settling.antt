@@ -15,8 +15,8 @@ use Rattle.mh_kernels.specs.Kernels.{Holds}
 use Rattle.mh_knuth.specs.Canonical.{HasItem, targets_of}
 use Rattle.mh_knuth.proofs.Edging.{symbol_true}
 use Rattle.mh_knuth.proofs.Sets.{same_sym}
-use Rattle.mh_pager.specs.Steps.{Work, Puts, AllPut, symbols_of, IsStep}
-use Rattle.mh_pager.proofs.Putting.{Extends, extends_self, extends_same, extends_trans, Grows, grows_trans, Came, stays, joins, fresh, came, put_grows, put_target, put_queue, put_rows, put_length}
+use Rattle.mh_merging.specs.Steps.{Work, Puts, AllPut, symbols_of, IsStep}
+use Rattle.mh_merging.proofs.Putting.{Extends, extends_self, extends_same, extends_trans, Grows, grows_trans, Came, stays, joins, fresh, came, put_grows, put_target, put_queue, put_rows, put_length}
 
 -- a number names a state that extends the move of a kernel on a symbol
 abbrev pub IsTargetOf : PlainGrammar → List Kernel → Kernel → Symbol → ℕ → Type 0

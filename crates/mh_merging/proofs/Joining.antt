@@ -6,10 +6,10 @@ use Rattle.mh_grammar.specs.declared.types.Look.{Look}
 use Rattle.mh_grammar.specs.declared.types.Look.TheVariants.{Token, End}
 use Rattle.mh_grammar.specs.Plain.{PlainGrammar, rhs_of}
 use Rattle.mh_grammar.specs.ItemSets.{ItemSet, Close}
-use Rattle.mh_pager.specs.Weak.{HasPair, OneCore, Meet, AreCompatible, IsJoin}
+use Rattle.mh_states.specs.Weak.{HasPair, OneCore, Meet, AreCompatible, IsJoin}
 use Rattle.mh_kernels.specs.Collection.{After}
 use Rattle.mh_kernels.specs.Conflicts.{ShiftsOn, ReducesOn, HasConflict, shift_reduce, reduce_reduce, HasStreamConflict, shift, reduce, HasEither}
-use Rattle.mh_pager.proofs.Origins.{Origin, generated, inherited, from_both, after_closed}
+use Rattle.mh_merging.proofs.Origins.{Origin, generated, inherited, from_both, after_closed}
 
 -- two places are one, or differ
 same_place : (p d q e : ℕ) → ((p ≡ q) × (d ≡ e)) ⊎ (p ≡ q → d ≡ e → ⊥)

@@ -6,7 +6,7 @@ use Rattle.mh_grammar.specs.declared.edges.Edge.{Edge}
 use Rattle.mh_grammar.specs.Edges.{same_symbol, find_edge}
 use Rattle.mh_grammar.specs.Numbering.{Names}
 use Rattle.mh_knuth.specs.Canonical.{targets_of}
-use Rattle.mh_pager.specs.Steps.{symbols_of}
+use Rattle.mh_merging.specs.Steps.{symbols_of}
 
 module _ (states : List ℕ) (X : Symbol) where
   -- the edge on a symbol, by its new name
