@@ -68,10 +68,7 @@ fn step_edge(
     table.facts();
     match edge.symbol {
         Symbol::N(_) => Ok(()),
-        Symbol::T(token) => {
-            step_on(alloc, table, classes, queue, from, token)?;
-            Ok(())
-        }
+        Symbol::T(token) => step_on(alloc, table, classes, queue, from, token),
     }
 }
 
@@ -101,8 +98,7 @@ fn step_on(
                 token,
             };
             let cost = add_token(table, from.cost, token);
-            push_each(alloc, queue, list_of(table, classes, end), cost, end, step)?;
-            Ok(())
+            push_each(alloc, queue, list_of(table, classes, end), cost, end, step)
         }
         _ => Ok(()),
     }
@@ -161,10 +157,7 @@ fn step_way(
 {
     match stepped(from, whole) {
         None => Ok(()),
-        Some(coming) => {
-            push(alloc, queue, add_costs(from.cost, whole.cost), coming)?;
-            Ok(())
-        }
+        Some(coming) => push(alloc, queue, add_costs(from.cost, whole.cost), coming),
     }
 }
 
@@ -204,8 +197,7 @@ fn go_on(
 {
     step_shifts(alloc, table, classes, queue, from)?;
     let place = class_of(table, classes, from.spot.state, from.spot.next).place as usize;
-    step_ways(alloc, queue, from, wholes[place].as_slice())?;
-    Ok(())
+    step_ways(alloc, queue, from, wholes[place].as_slice())
 }
 
 /// The starts, each with what may come first.

@@ -4,9 +4,9 @@ use Rattle.std.proofs.lemmas.List.{length_push}
 use Rattle.mh_grammar.specs.Plain.{PlainGrammar}
 use Rattle.mh_kernels.specs.Shapes.{Kernel}
 use Rattle.mh_kernels.specs.Kernels.{Holds}
-use Rattle.mh_pager.specs.Weak.{IsJoin}
+use Rattle.mh_states.specs.Weak.{IsJoin}
 use Rattle.mh_pager.specs.Listing.{TakesIn, AppendsIn}
-use Rattle.mh_pager.specs.Steps.{Work, Keeps, Takes, IsFirst, HasNone, Puts}
+use Rattle.mh_merging.specs.Steps.{Work, Keeps, Takes, IsFirst, HasNone, Puts}
 
 pub if_ok : {A E : Type 0} {P Q : A → Type 0} (r : Result A E) → IfOk r P → ((a : A) → P a → Q a) → IfOk r Q
 if_ok (Ok a) h f = f a h

@@ -12,8 +12,8 @@ use Rattle.mh_grammar.proofs.Placing.{AreDistinct-push}
 use Rattle.mh_grammar.specs.Placed.{Placed}
 use Rattle.mh_kernels.specs.Shapes.{Kernel}
 use Rattle.mh_kernels.specs.Kernels.{Holds, IsItemList}
-use Rattle.mh_pager.specs.Weak.{OneCore, IsJoin}
-use Rattle.mh_pager.proofs.Putting.{join_extends}
+use Rattle.mh_states.specs.Weak.{OneCore, IsJoin}
+use Rattle.mh_merging.proofs.Putting.{join_extends}
 use Rattle.mh_pager.specs.Indexed.{core_of, IsBefore, AreCandidates, IsGroup, IsIndexed}
 use Rattle.mh_states.proofs.Choosing.{core_same}
 

@@ -11,9 +11,9 @@ use Rattle.mh_grammar.proofs.Lists.{get_left, get_last, at_contains}
 use Rattle.mh_kernels.specs.Shapes.{Kernel}
 use Rattle.mh_kernels.specs.Automaton.{start_kernel}
 use Rattle.mh_knuth.specs.declared.limits.TheConstants.{MAX_STATES}
-use Rattle.mh_pager.specs.Steps.{Work, IsStep, Steps, none, more, IsBegun, AreBegun, IsList, IsReady, Overruns, IsSwollen, start_numbers}
+use Rattle.mh_merging.specs.Steps.{Work, IsStep, Steps, none, more, IsBegun, AreBegun, IsList, IsReady, Overruns, IsSwollen, start_numbers}
 use Rattle.mh_pager.proofs.Readying.{step_ready}
-use Rattle.mh_pager.proofs.Sound.{begun_running, start_numbers_at}
+use Rattle.mh_merging.proofs.Sound.{begun_running, start_numbers_at}
 use Rattle.mh_pager.proofs.Weights.{weight, step_weight}
 use Rattle.mh_states.proofs.Starting.{range_push}
 

@@ -11,8 +11,8 @@ use Rattle.mh_grammar.proofs.Lists.{contains_cases, contains_none, contains_ther
 use Rattle.mh_kernels.specs.Shapes.{Kernel}
 use Rattle.mh_kernels.specs.Kernels.{IsItemList}
 use Rattle.mh_knuth.specs.Canonical.{targets_of}
-use Rattle.mh_pager.specs.Steps.{Work, Queues, Puts, IsMoveOf, AllPut, symbols_of, IsStep, IsReady}
-use Rattle.mh_pager.proofs.Putting.{Came, stays, joins, fresh, came, put_length}
+use Rattle.mh_merging.specs.Steps.{Work, Queues, Puts, IsMoveOf, AllPut, symbols_of, IsStep, IsReady}
+use Rattle.mh_merging.proofs.Putting.{Came, stays, joins, fresh, came, put_length}
 
 one_of : (n m : ℕ) → Contains (n ∷ []) m → n ≡ m
 one_of n m c = elim (contains_cases n [] m c) [ inl e ↦ e | inr d ↦ absurd (contains_none m d) ]

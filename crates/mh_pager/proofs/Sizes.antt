@@ -9,7 +9,7 @@ use Rattle.mh_grammar.proofs.Lists.{contains_here, contains_there, contains_case
 use Rattle.mh_kernels.specs.Shapes.{KernelItem}
 use Rattle.mh_kernels.specs.Shapes.{Kernel}
 use Rattle.mh_kernels.specs.Kernels.{Holds, IsKernelItem, IsItemList}
-use Rattle.mh_pager.specs.Weak.{Covers}
+use Rattle.mh_states.specs.Weak.{Covers}
 use Rattle.mh_pager.proofs.Sums.{sum_below, sum_le, sum_same, bit, bit_le, bit_back, bit_one}
 
 same_look : (a b : Look) → (a ≡ b) ⊎ (a ≡ b → ⊥)

@@ -11,7 +11,7 @@ use Rattle.mh_kernels.specs.Shapes.{KernelItem, Kernel}
 use Rattle.mh_kernels.specs.Kernels.{Holds, IsItemList, IsKernelItem, IsItemBefore}
 use Rattle.mh_items.specs.Merging.{IsJoined}
 use Rattle.mh_pager.specs.Kernels.{ArePaired}
-use Rattle.mh_pager.specs.Weak.{IsJoin}
+use Rattle.mh_states.specs.Weak.{IsJoin}
 
 pub record JoinedSoFar (xs ys zs : List KernelItem) (n : ℕ) : Type 0 where
   pub len : length zs ≡ n

@@ -8,8 +8,8 @@ use Rattle.mh_grammar.specs.declared.edges.Edge.{Edge}
 use Rattle.mh_grammar.specs.Plain.{PlainGrammar}
 use Rattle.mh_kernels.specs.Shapes.{Kernel}
 use Rattle.mh_knuth.specs.Canonical.{targets_of}
-use Rattle.mh_pager.specs.Steps.{Work, Queues, Joins, Appends, Puts, AllPut, symbols_of, IsStep}
-use Rattle.mh_pager.proofs.Only.{all_put_longer}
+use Rattle.mh_merging.specs.Steps.{Work, Queues, Joins, Appends, Puts, AllPut, symbols_of, IsStep}
+use Rattle.mh_merging.proofs.Only.{all_put_longer}
 use Rattle.mh_pager.proofs.Sizes.{size, full, size_full, size_covers}
 
 -- how many items the kernels lack

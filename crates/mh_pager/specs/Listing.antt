@@ -8,11 +8,11 @@ use Rattle.mh_kernels.specs.Shapes.{Items, Kernel}
 use Rattle.mh_kernels.specs.Kernels.{Holds, IsItemList}
 use Rattle.mh_moves.specs.Moves.{Move, AreMoves}
 use Rattle.mh_pager.specs.declared.listing.Listing.{Listing}
-use Rattle.mh_pager.specs.Weak.{OneCore, IsJoin}
+use Rattle.mh_states.specs.Weak.{OneCore, IsJoin}
 use Rattle.mh_pager.specs.Queued.{AreFlagged}
 use Rattle.mh_pager.specs.Indexed.{core_of, IsGroup, IsIndexed}
 use Rattle.mh_knuth.specs.Canonical.{targets_of}
-use Rattle.mh_pager.specs.Steps.{Work, Queues, AllPut, symbols_of}
+use Rattle.mh_merging.specs.Steps.{Work, Queues, AllPut, symbols_of}
 
 abbrev pub work_of : {W : ℕ} → Listing W → Work
 work_of l = record { kernels = l.kernels.items; rows = l.rows.items; queue = l.queue.states.items }

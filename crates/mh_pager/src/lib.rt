@@ -2,7 +2,6 @@
 #![tactic(auto)]
 
 mod index;
-mod laws;
 mod listed;
 mod listing;
 mod merging;
@@ -10,6 +9,6 @@ mod numbering;
 mod stepping;
 mod unions;
 
-pub use laws::{covers_canonical_paths, is_one_merged};
 pub use merging::merged;
+pub use mh_merging::{covers_canonical_paths, is_one_merged};
 pub use mh_states::weakly_compatible;

@@ -2,7 +2,7 @@
 ghost use Rattle.std.specs.Prelude.{◌≡◌, ◌<◌, ◌≤◌, ◌*◌, [], ℕ, length, Err, IfOk, OnOk};
 ghost use Rattle.mh_grammar.specs.Plain.{plain_of, IsInRange};
 ghost use Rattle.mh_pager.specs.Listing.{work_of, IsKept};
-ghost use Rattle.mh_pager.specs.Steps.{AreBegun, IsList, IsSwollen};
+ghost use Rattle.mh_merging.specs.Steps.{AreBegun, IsList, IsSwollen};
 
 use crate::listing::{Listing, empty, push_start};
 use crate::stepping::step;

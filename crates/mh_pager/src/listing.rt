@@ -5,7 +5,7 @@ ghost use Rattle.mh_kernels.specs.Kernels.{IsItemList};
 ghost use Rattle.mh_kernels.specs.Shapes.{Kernel as KernelOf};
 ghost use Rattle.mh_pager.specs.Listing.{work_of, IsKept, IsGroupIn, TakesIn, AppendsIn, OneCoreAt};
 ghost use Rattle.mh_pager.specs.Fits.{HasFit};
-ghost use Rattle.mh_pager.specs.Steps.{Work, Keeps, HasNone, IsFirst, Puts, IsReady};
+ghost use Rattle.mh_merging.specs.Steps.{Work, Keeps, HasNone, IsFirst, Puts, IsReady};
 
 use crate::index::Index;
 use crate::unions::joined;

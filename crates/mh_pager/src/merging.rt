@@ -5,9 +5,9 @@ ghost use Rattle.mh_kernels.specs.Shapes.{Automaton as AutomatonOf};
 ghost use Rattle.mh_kernels.specs.Automaton.{IsAutomaton};
 ghost use Rattle.mh_knuth.specs.Canonical.{IsCanonical};
 ghost use Rattle.mh_kernels.specs.Conflicts.{IsConflicting, IsFaulty};
-ghost use Rattle.mh_pager.specs.Paths.{CoversPaths};
+ghost use Rattle.mh_merging.specs.Paths.{CoversPaths};
 ghost use Rattle.mh_pager.specs.Listing.{work_of};
-ghost use Rattle.mh_pager.specs.Steps.{IsList, IsMerged, IsSwollen};
+ghost use Rattle.mh_merging.specs.Steps.{IsList, IsMerged, IsSwollen};
 
 use crate::listed::listed;
 use crate::listing::Listing;

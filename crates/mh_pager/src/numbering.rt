@@ -3,8 +3,8 @@ ghost use Rattle.std.specs.Prelude.{◌≡◌, ◌<◌, ◌≤◌, [], ℕ, Some
 ghost use Rattle.std.specs.List.{All, AllZip};
 ghost use Rattle.mh_grammar.specs.Placed.{Placed};
 ghost use Rattle.mh_knuth.specs.Canonical.{targets_of};
-ghost use Rattle.mh_pager.specs.Numbered.{AreBelow, IsRenamed, AreReached, AreClosed};
-ghost use Rattle.mh_pager.specs.Steps.{start_numbers};
+ghost use Rattle.mh_merging.specs.Numbered.{AreBelow, IsRenamed, AreReached, AreClosed};
+ghost use Rattle.mh_merging.specs.Steps.{start_numbers};
 ghost use Rattle.std.specs.List.{range_with_len};
 
 use crate::unions::copied;

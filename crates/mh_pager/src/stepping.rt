@@ -6,7 +6,7 @@ ghost use Rattle.mh_kernels.specs.Kernels.{IsItemList};
 ghost use Rattle.mh_moves.specs.Moves.{AreMoves};
 ghost use Rattle.mh_moves.specs.Mover.{IsMover};
 ghost use Rattle.mh_pager.specs.Listing.{work_of, with_first, IsKept, PutsAll, OverrunsAll};
-ghost use Rattle.mh_pager.specs.Steps.{IsReady, IsStep, Overruns};
+ghost use Rattle.mh_merging.specs.Steps.{IsReady, IsStep, Overruns};
 
 use crate::listing::{Listing, put};
 use mh_grammar::{Edge, Grammar, Sequence};

@@ -3,7 +3,7 @@ ghost use Rattle.std.specs.Prelude.{◌≡◌, ◌<◌, ◌≤◌, length, IfOk}
 ghost use Rattle.mh_grammar.specs.Plain.{PlainGrammar, plain_of};
 ghost use Rattle.mh_kernels.specs.Kernels.{Holds, IsItemList};
 ghost use Rattle.mh_items.specs.Merging.{IsJoined};
-ghost use Rattle.mh_pager.specs.Weak.{OneCore, IsJoin};
+ghost use Rattle.mh_states.specs.Weak.{OneCore, IsJoin};
 
 use mh_grammar::{Grammar, Memory, Sequence};
 use mh_kernels::{Kernel, KernelItem};

@@ -1,11 +1,11 @@
 -- How the work goes on from the grammar to the table.
-use Rattle.std.proofs.Common.{◌≡◌, ◌≤◌, ℕ, List, Option, Some, refl, subst, sym, arith}
+use Rattle.std.proofs.Common.{◌≡◌, ℕ, List, Option, Some, refl, subst, sym}
 use Rattle.std.specs.Prelude.{Result, Ok, Err, IfOk}
 use Rattle.mh_grammar.specs.declared.types.Grammar.{Grammar}
 use Rattle.mh_outside.specs.Shelf.{Files}
 use Rattle.mh_grammar.specs.Text.{Text}
 use Rattle.mh_drive.specs.Causes.{Go, Gives}
-use Rattle.mh_drive.specs.Stages.{FilesGive, Halts, ShelfCounts, StageHas}
+use Rattle.mh_drive.specs.Stages.{FilesGive, Halts, StageHas}
 use Rattle.mh_drive.specs.declared.stop.Cause.TheVariants.{Refused}
 use Rattle.mh_drive.specs.declared.stop.Stop.{Stop}
 use Rattle.mh_drive.specs.declared.stop.Stop.TheVariants.{Halted, ShelfFailed, InputFailed, WriteFailed, OutOfMemory}
@@ -67,15 +67,3 @@ module _ (files : Option Files) (front : Front) where
 
   pub from_source : (source : Source) (r : Result Prepared Stop) → IsSource files front.order (Go source) → StageHas (IsTabledFrom front source) r → FilesGive (IsTabledFront files front) (λ name. front.order.tables ≡ Some name) r
   from_source source r is has = then_on (IsSource files front.order) (IsTabledFrom front) (λ name. front.order.tables ≡ Some name) source r is (no_names (IsTabledFrom front source) (λ name. front.order.tables ≡ Some name) r has)
-
-  -- the shelf's count where its table's stage ended, which reads no file
-  pub counts_still : (n : ℕ) (r : Result Prepared Stop) → (source : Source) → StageHas (IsTabledFrom front source) r → ShelfCounts n n r
-  counts_still n (Ok p) source has = refl
-  counts_still n (Err (Halted cause)) source has = refl
-  counts_still n (Err OutOfMemory) source has = le_same n
-    where
-      le_same : (m : ℕ) → m ≤ m
-      le_same m = omega arith
-  counts_still n (Err (ShelfFailed name)) source has = absurd has
-  counts_still n (Err InputFailed) source has = absurd has
-  counts_still n (Err WriteFailed) source has = absurd has

@@ -67,7 +67,11 @@ pub fn prepare<F: Shelf, const W: usize>(
     ensures counts { ShelfCounts (F.faults shelf.old) (F.faults shelf.new) result }
 {
     match source_of(alloc, shelf, &front.order) {
-        Ok(source) => prepare_from(alloc, front, &source),
+        Ok(source) => {
+            let prepared = prepare_from(alloc, front, &source);
+            drop(source);
+            prepared
+        }
         Err(stop) => {
             drop(front);
             Err(stop)

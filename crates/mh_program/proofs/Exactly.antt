@@ -16,8 +16,8 @@ use Rattle.mh_knuth.proofs.Finished.{kernel_got}
 use Rattle.mh_knuth.proofs.Meaning.{IsAutomaton-canonical}
 use Rattle.mh_knuth.proofs.Only.{one_canonical}
 use Rattle.mh_knuth.proofs.States.{IsOver-states}
-use Rattle.mh_pager.proofs.Finishing.{merged_automaton}
-use Rattle.mh_pager.proofs.Limits.{merged_few}
+use Rattle.mh_merging.proofs.Finishing.{merged_automaton}
+use Rattle.mh_merging.proofs.Limits.{merged_few}
 use Rattle.mh_program.proofs.Merging.{merged_clear}
 use Rattle.mh_program.proofs.Unwarned.{unwarned_clear}
 use Rattle.mh_cells.specs.Clear.{HasNoConflicts}

@@ -10,8 +10,8 @@ use Rattle.mh_kernels.specs.Automaton.{kernel_of}
 use Rattle.mh_kernels.specs.Conflicts.{ShiftsOn, HasConflict, shift_reduce, reduce_reduce, HasStreamConflict, shift, reduce, HasEither, IsFaulty}
 use Rattle.mh_knuth.specs.Canonical.{IsCanonical}
 use Rattle.mh_knuth.specs.declared.limits.TheConstants.{MAX_STATES}
-use Rattle.mh_pager.specs.Steps.{IsMerged}
-use Rattle.mh_pager.proofs.Finishing.{merged_automaton, merged_faults}
+use Rattle.mh_merging.specs.Steps.{IsMerged}
+use Rattle.mh_merging.proofs.Finishing.{merged_automaton, merged_faults}
 use Rattle.mh_tables.specs.declared.parts.Action.TheVariants.{Shift, Reduce}
 use Rattle.mh_cells.specs.Clear.{HasNoConflicts}
 use Rattle.mh_cells.specs.States.{state_of, Raw}

@@ -4,7 +4,7 @@ use Rattle.mh_grammar.specs.declared.types.Grammar.{Grammar}
 use Rattle.mh_grammar.specs.Plain.{plain_of}
 use Rattle.mh_kernels.specs.Shapes.{Automaton}
 use Rattle.mh_knuth.proofs.Only.{one_canonical}
-use Rattle.mh_pager.proofs.OneMerged.{merged_one}
+use Rattle.mh_merging.proofs.OneMerged.{merged_one}
 use Rattle.mh_cells.proofs.Once.{one_table, conflicts_once}
 use Rattle.mh_cells.specs.declared.kinds.Mode.{Mode}
 use Rattle.mh_tables.specs.Table.{TableData}

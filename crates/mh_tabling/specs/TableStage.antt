@@ -4,7 +4,7 @@ use Rattle.mh_grammar.specs.declared.types.Grammar.{Grammar}
 use Rattle.mh_grammar.specs.Plain.{plain_of}
 use Rattle.mh_kernels.specs.Shapes.{Automaton}
 use Rattle.mh_knuth.specs.Canonical.{IsCanonical, IsOver}
-use Rattle.mh_pager.specs.Steps.{IsMerged, IsSwollen}
+use Rattle.mh_merging.specs.Steps.{IsMerged, IsSwollen}
 use Rattle.mh_knuth.specs.declared.limits.TheConstants.{MAX_STATES}
 use Rattle.mh_cells.specs.States.{IsTableOf}
 use Rattle.mh_cells.specs.Conflicts.{AreConflicts}

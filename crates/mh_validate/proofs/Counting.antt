@@ -1,8 +1,7 @@
--- Values at their places, one more each time; and what lists of lines tell.
-use Rattle.std.proofs.Common.{◌≡◌, ◌<◌, ◌≤◌, ◌+◌, ◌++◌, ℕ, zero, suc, true, List, [], ◌∷◌, length, drop, drop_of_length-le, get_or, refl, sym, ap, ◌∙◌, subst, arith, inl, inr}
+-- What lists of lines tell, and how far they are right.
+use Rattle.std.proofs.Common.{◌≡◌, ◌<◌, ◌≤◌, ◌+◌, ◌++◌, ℕ, zero, suc, true, List, [], ◌∷◌, length, drop, drop_of_length-le, get_or, refl, sym, ap, ◌∙◌, subst, arith}
 use Rattle.std.specs.Prelude.{slice_index_or}
-use Rattle.std.proofs.lemmas.Bool.{cases_lt}
-use Rattle.std.proofs.lemmas.List.{length-append, get_or_append_left, get_or_at, get_or_default}
+use Rattle.std.proofs.lemmas.List.{get_or_default}
 use Rattle.mh_grammar.proofs.Lists.{read_again}
 use Rattle.mh_grammar.specs.declared.types.Grammar.{Grammar}
 use Rattle.mh_tables.specs.declared.parts.Action.{Action}
@@ -12,21 +11,14 @@ use Rattle.mh_tabform.specs.declared.types.RawEdge.{RawEdge}
 use Rattle.mh_tabform.specs.declared.types.RawCells.TheVariants as lines
 use Rattle.mh_tabform.specs.Written.{raw_cell, raw_row, raw_cells}
 use Rattle.mh_moves.specs.Moves.{Move}
-use Rattle.mh_valid.specs.Valid.{HasKernel, HasEdges, has_lines, raw_state}
+use Rattle.mh_valid.specs.Valid.{HasEdges, has_lines, raw_state}
 use Rattle.mh_grammar.specs.declared.edges.Edge.{Edge}
 use Rattle.mh_kernels.specs.Shapes.{Kernel}
-use Rattle.mh_kernels.specs.Automaton.{no_kernel}
 use Rattle.mh_tables.specs.declared.parts.StateParts.{StateParts}
 use Rattle.mh_tables.specs.Table.{no_state}
 use Rattle.mh_tabform.specs.declared.types.RawTable.{RawTable}
 use Rattle.mh_validate.specs.Leading.{edges_on}
-use Rattle.mh_validate.specs.Comparing.{AreFirstKernels, AreFirstRows, AreFirstCells}
-
-pub each_more : {X : Type 0} (P : ℕ → X → Type 0) (xs : List X) (x d : X) (n : ℕ) → length xs ≡ n → ((s : ℕ) → s < n → P s (slice_index_or xs s d)) → P n x → (s : ℕ) → s < n + 1 → P s (slice_index_or (xs ++ x ∷ []) s d)
-each_more P xs x d n len each here s lt = elim (cases_lt s n) [
-  | inl before ↦ subst (P s) (sym (get_or_append_left xs (x ∷ []) d s (omega (arith, len, before)))) (each s before)
-  | inr past ↦ (let e : n ≡ s = omega (arith, past, lt) in subst (λ k. P k (slice_index_or (xs ++ x ∷ []) k d)) e (subst (P n) (sym (get_or_at xs x [] d n len)) here))
-]
+use Rattle.mh_validate.specs.Comparing.{AreFirstRows, AreFirstCells}
 
 -- a cell that acts has a line
 has_first : (g : Grammar) (z : ℕ) (a : Action) (rest : List RawCell) → (a ≡ Refuse → ⊥) → has_lines (lines.Cells (raw_cell g z a ++ rest)) ≡ true
@@ -44,22 +36,10 @@ row_acts g cells token a row lt e same acts =
     let here : raw_cell g token a ++ raw_row g (token + 1) (drop (suc token) cells) ≡ row = ap (raw_row g token) (sym (row_from cells token a lt e)) ∙ same in
     subst (λ r. has_lines (lines.Cells r) ≡ true) here (has_first g token a (raw_row g (token + 1) (drop (suc token) cells)) acts)
 
-pub count_more : {X : Type 0} (xs ys : List X) (x : X) (n : ℕ) → length xs ≡ n → ys ≡ xs ++ x ∷ [] → length ys ≡ n + 1
-count_more xs ys x n len e = ap length e ∙ length-append xs (x ∷ []) ∙ ap (λ k. k + 1) len
-
-pub pushed : {X : Type 0} (P : ℕ → X → Type 0) (xs ys : List X) (x d : X) (n : ℕ) → length xs ≡ n → ys ≡ xs ++ x ∷ [] → ((s : ℕ) → s < n → P s (slice_index_or xs s d)) → P n x → (s : ℕ) → s < n + 1 → P s (slice_index_or ys s d)
-pushed P xs ys x d n len e each here s lt = subst (λ zs. P s (slice_index_or zs s d)) (sym e) (each_more P xs x d n len each here s lt)
-
 pub row_acts_or : (g : Grammar) (cells : List Action) (token : ℕ) (none : Action) (row : List RawCell) → token < length cells → raw_row g token (drop token cells) ≡ row → (get_or cells token none ≡ Refuse → ⊥) → has_lines (lines.Cells row) ≡ true
 row_acts_or g cells token none row lt same acts = row_acts g cells token (get_or cells token none) row lt (read_again cells token none lt) same acts
 
 -- ---- lists that stop at the first state that fails
-
-pub kernels_stop : (g : Grammar) (raw : RawTable) (ks : List Kernel) (n : ℕ) → length ks ≡ n → n < length raw.states → ((s : ℕ) → s < n → HasKernel g raw s (slice_index_or ks s no_kernel)) → ((k : Kernel) → HasKernel g raw n k → ⊥) → AreFirstKernels g raw ks
-kernels_stop g raw ks n len lt each none = record { within = omega (arith, len, lt); each = λ s l. each s (omega (arith, len, l)); none = λ _ k h. none k (subst (λ m. HasKernel g raw m k) len h) }
-
-pub kernels_end : (g : Grammar) (raw : RawTable) (ks : List Kernel) (n : ℕ) → length ks ≡ n → n ≡ length raw.states → ((s : ℕ) → s < n → HasKernel g raw s (slice_index_or ks s no_kernel)) → AreFirstKernels g raw ks
-kernels_end g raw ks n len e each = record { within = omega (arith, len, e); each = λ s l. each s (omega (arith, len, l)); none = λ short. absurd (omega (arith, len, e, short)) }
 
 pub rows_stop : (g : Grammar) (raw : RawTable) (ks : List Kernel) (rows : List (List Edge)) (n : ℕ) → length rows ≡ n → n < length raw.states → ((s : ℕ) → s < n → HasEdges g raw ks s (slice_index_or rows s [])) → ((es : List Edge) → HasEdges g raw ks n es → ⊥) → AreFirstRows g raw ks rows
 rows_stop g raw ks rows n len lt each none = record { within = omega (arith, len, lt); each = λ s l. each s (omega (arith, len, l)); none = λ _ es h. none es (subst (λ m. HasEdges g raw ks m es) len h) }

@@ -27,7 +27,7 @@ use Rattle.mh_valid.proofs.Edged.{found_in, on_symbol, has_symbol, one_symbols, 
 use Rattle.mh_grammar.specs.Names.{symbol_name}
 use Rattle.mh_grammar.proofs.EdgeOrder.{edge_found}
 use Rattle.mh_validate.specs.Leading.{Leads, IsRowOf, edges_on}
-use Rattle.mh_validate.specs.Looking.{Finds}
+use Rattle.mh_stated.specs.Looking.{Finds}
 use Rattle.mh_validate.proofs.Within.{target_of, holds_move}
 
 -- the symbols and the spelling of the edges that are made of moves

@@ -1,9 +1,5 @@
 mod Within
 mod Lacking
-mod Reading
-mod Named
-mod Itemed
-mod Stating
 mod Edging
 mod Counting
 mod Judging

@@ -3,18 +3,11 @@ use Rattle.std.specs.Prelude.{◌≡◌, ◌<◌, ◌≤◌, ℕ, List, [], leng
 use Rattle.mh_grammar.specs.declared.types.Grammar.{Grammar}
 use Rattle.mh_grammar.specs.declared.edges.Edge.{Edge}
 use Rattle.mh_kernels.specs.Shapes.{Kernel}
-use Rattle.mh_kernels.specs.Automaton.{no_kernel}
 use Rattle.mh_tables.specs.declared.parts.StateParts.{StateParts}
 use Rattle.mh_tables.specs.Table.{no_state}
 use Rattle.mh_tabform.specs.declared.types.RawTable.{RawTable}
 use Rattle.mh_tabform.specs.Written.{raw_cells}
-use Rattle.mh_valid.specs.Valid.{HasKernel, HasEdges, IsResolvedAt, raw_state}
-
--- the kernels of the first states, up to the first that has none
-pub record AreFirstKernels (g : Grammar) (raw : RawTable) (ks : List Kernel) : Type 0 where
-  pub within : length ks ≤ length raw.states
-  pub each : (s : ℕ) → s < length ks → HasKernel g raw s (slice_index_or ks s no_kernel)
-  pub none : length ks < length raw.states → (k : Kernel) → HasKernel g raw (length ks) k → ⊥
+use Rattle.mh_valid.specs.Valid.{HasEdges, IsResolvedAt, raw_state}
 
 -- the edges of the first states, up to the first whose edges are wrong
 pub record AreFirstRows (g : Grammar) (raw : RawTable) (ks : List Kernel) (rows : List (List Edge)) : Type 0 where

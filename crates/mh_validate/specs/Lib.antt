@@ -1,4 +1,3 @@
-pub mod Looking
 pub mod Leading
 pub mod Comparing
 pub mod Outcome

@@ -4,10 +4,6 @@
 mod cells;
 mod edges;
 mod fault;
-mod header;
-mod items;
-mod kernels;
-mod looks;
 mod rows;
 mod targets;
 mod validation;

@@ -3,7 +3,7 @@ ghost use Rattle.std.specs.Prelude.{◌≡◌, ◌<◌, ◌≤◌, ◌*◌, [], 
 ghost use Rattle.mh_grammar.specs.Plain.{plain_of, IsInRange};
 ghost use Rattle.mh_moves.specs.Mover.{IsMover};
 ghost use Rattle.mh_valid.specs.Valid.{AreKernels, HasEdges, raw_state};
-ghost use Rattle.mh_validate.specs.Looking.{Finds};
+ghost use Rattle.mh_stated.specs.Looking.{Finds};
 ghost use Rattle.mh_validate.specs.Comparing.{AreFirstRows};
 
 use crate::edges::row_of;

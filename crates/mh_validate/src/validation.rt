@@ -14,8 +14,6 @@ ghost use Rattle.mh_validate.specs.Outcome.{IsFault, IsOutcome};
 
 use crate::cells::{cells_at, count_told, reason};
 use crate::fault::ValidFault;
-use crate::header::has_header;
-use crate::kernels::first_kernels;
 use crate::rows::first_rows;
 use mh_cells::{Conflict, Mode};
 use mh_grammar::{Edge, Grammar, Memory, Sequence};
@@ -23,6 +21,7 @@ use mh_items::Closer;
 use mh_kernels::{Automaton, Kernel};
 use mh_matches::first_lacking;
 use mh_resolve::{resolve_one, resolve_states};
+use mh_stated::{first_kernels, has_header};
 use mh_tabform::RawTable;
 use mh_tables::{StateParts, Table, table_of};
 use mh_valid::Reason;

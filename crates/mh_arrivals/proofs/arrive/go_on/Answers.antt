@@ -1,5 +1,6 @@
 use Rattle.std.proofs.Common.{◌≡◌, ◌<◌, ap, sym, ◌∙◌, arith, length}
 use Rattle.std.specs.Global.{Vec}
+use Rattle.std.proofs.lemmas.Result.{on_ok_weaker}
 use Rattle.mh_ways.specs.declared.work.Whole.{Whole}
 use Rattle.mh_ways.specs.Rows.{row_of, Among}
 use Rattle.mh_ways.specs.Classes.{place_of}
@@ -13,7 +14,7 @@ row_read c =
     let lt : c.class_of-place.result.place < length c.args.wholes.now = (let a = c.class_of-place.ensures.within in let b = c.requires.rows in omega arith) in
     rw (← c.class_of-place.ensures.place) (row_is c.args.wholes.now c.class_of-place.result.place c.index-wholes-place.result lt ∙ ap (λ (v : Vec Whole). v.items) (sym c.index-wholes-place.is) ∙ sym c.as_slice.ensures.value)
 
-row_read' : (c : goal.In_ok-step_ways) → row_of c.args.wholes.now (place_of c.args.classes.now c.args.from.spot.state c.args.from.spot.next) ≡ c.as_slice.result.now
+row_read' : (c : goal.After-step_ways) → row_of c.args.wholes.now (place_of c.args.classes.now c.args.from.spot.state c.args.from.spot.next) ≡ c.as_slice.result.now
 row_read' c =
     let lt : c.class_of-place.result.place < length c.args.wholes.now = (let a = c.class_of-place.ensures.within in let b = c.requires.rows in omega arith) in
     rw (← c.class_of-place.ensures.place) (row_is c.args.wholes.now c.class_of-place.result.place c.index-wholes-place.result lt ∙ ap (λ (v : Vec Whole). v.items) (sym c.index-wholes-place.is) ∙ sym c.as_slice.ensures.value)
@@ -24,5 +25,5 @@ step_ways-requires-clause-wholes c w h = c.requires.few (place_of c.args.classes
 pub returns : goal.returns
 returns c =
     let t = c.args.table.now in
-    gains_then (StepsShift t c.args.classes.now c.args.from.spot c.args.from.cost) (Among (StepsWay c.args.from.spot c.args.from.cost) (row_of c.args.wholes.now (place_of c.args.classes.now c.args.from.spot.state c.args.from.spot.next))) c.args.queue.now.buckets.items c.step_shifts.new.queue.buckets.items c.step_ways.new.queue.buckets.items
-    c.in_ok-step_shifts.ensures (rw (← row_read' c) at c.in_ok-step_ways.ensures)
+    on_ok_weaker c.step_ways.result (gains_then (StepsShift t c.args.classes.now c.args.from.spot c.args.from.cost) (Among (StepsWay c.args.from.spot c.args.from.cost) (row_of c.args.wholes.now (place_of c.args.classes.now c.args.from.spot.state c.args.from.spot.next))) c.args.queue.now.buckets.items c.step_shifts.new.queue.buckets.items c.step_ways.new.queue.buckets.items
+    c.in_ok-step_shifts.ensures) (rw (← row_read' c) at c.step_ways.ensures)

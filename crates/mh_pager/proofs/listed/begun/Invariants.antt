@@ -1,5 +1,5 @@
 use Rattle.mh_pager.specs.Listing.{work_of, IsKept}
-use Rattle.mh_pager.specs.Steps.{AreBegun}
+use Rattle.mh_merging.specs.Steps.{AreBegun}
 use Rattle.mh_pager.proofs.listed.begun.Given as goal
 
 abbrev pub invariant-loop-start : goal.invariant-loop-start

@@ -3,7 +3,7 @@ use Rattle.std.proofs.lemmas.Option.{slice_get_within}
 use Rattle.mh_grammar.specs.Plain.{plain_of}
 use Rattle.mh_kernels.specs.Shapes.{Kernel}
 use Rattle.mh_kernels.specs.Kernels.{Holds}
-use Rattle.mh_pager.specs.Weak.{OneCore}
+use Rattle.mh_states.specs.Weak.{OneCore}
 use Rattle.mh_knuth.specs.declared.limits.TheConstants.{MAX_STATES}
 use Rattle.mh_pager.specs.Listing.{work_of, OneCoreAt}
 use Rattle.mh_pager.proofs.Combining.{if_ok, taken, appended, overflown}

@@ -1,7 +1,7 @@
 use Rattle.mh_grammar.specs.Plain.{plain_of}
 use Rattle.mh_knuth.specs.declared.limits.TheConstants.{MAX_STATES}
 use Rattle.mh_pager.specs.Listing.{work_of}
-use Rattle.mh_pager.proofs.Finishing.{not_over, merged_automaton, merged_paths, merged_clashes, merged_faults}
+use Rattle.mh_merging.proofs.Finishing.{not_over, merged_automaton, merged_paths, merged_clashes, merged_faults}
 use Rattle.mh_pager.proofs.merging.merged.Goals as goal
 
 pub returns-in_ok-numbered-in-Ok-clause-exact : goal.returns-in_ok-numbered-in-Ok-clause-exact

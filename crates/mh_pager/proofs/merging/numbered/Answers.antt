@@ -2,7 +2,7 @@ use Rattle.std.proofs.Common.{arith, rules}
 use Rattle.mh_grammar.specs.Plain.{plain_of}
 use Rattle.mh_knuth.specs.declared.limits.TheConstants.{MAX_STATES}
 use Rattle.mh_pager.specs.Listing.{work_of}
-use Rattle.mh_pager.proofs.Finishing.{starts_within, AreClosed-list, IsMerged-list, few_list}
+use Rattle.mh_merging.proofs.Finishing.{starts_within, AreClosed-list, IsMerged-list, few_list}
 use Rattle.mh_pager.proofs.Listings.{of_list}
 use Rattle.mh_pager.proofs.merging.numbered.Goals as goal
 

@@ -1,5 +1,5 @@
 use Rattle.std.proofs.Common.{◌≡◌, ◌<◌, length, get_or, arith}
-use Rattle.mh_pager.proofs.Reaching.{Reaching-start, Reaching-step, AreReached-done, next_state, next_row, below_few}
+use Rattle.mh_merging.proofs.Reaching.{Reaching-start, Reaching-step, AreReached-done, next_state, next_row, below_few}
 use Rattle.mh_pager.proofs.numbering.reach.Goals as goal
 
 pub states-init : goal.states-init

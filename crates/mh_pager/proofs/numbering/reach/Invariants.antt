@@ -1,6 +1,6 @@
 use Rattle.std.proofs.Common.{◌-◌, vec_len}
 use Rattle.mh_knuth.specs.declared.limits.TheConstants.{MAX_STATES}
-use Rattle.mh_pager.proofs.Reaching.{Reaching}
+use Rattle.mh_merging.proofs.Reaching.{Reaching}
 use Rattle.mh_pager.proofs.numbering.reach.Given as goal
 
 abbrev pub invariant-states : goal.invariant-states

@@ -7,7 +7,7 @@ use Rattle.mh_kernels.specs.Collection.{targets_of}
 use Rattle.mh_kernels.specs.declared.kernels.StatesFault.TheVariants.{TooManyStates}
 use Rattle.mh_knuth.specs.declared.limits.TheConstants.{MAX_STATES}
 use Rattle.mh_pager.specs.Listing.{work_of, with_first}
-use Rattle.mh_pager.proofs.Only.{all_put_longer}
+use Rattle.mh_merging.proofs.Only.{all_put_longer}
 use Rattle.mh_pager.proofs.Readying.{taken_ready}
 use Rattle.mh_pager.proofs.Rowing.{step_made, step_over, row_ready}
 use Rattle.mh_pager.proofs.Turning.{symbols_in}

@@ -1,6 +1,7 @@
 use Rattle.std.proofs.Common.{[], arith, rules}
 use Rattle.mh_valid.specs.Valid.{HasEdges}
-use Rattle.mh_validate.proofs.Counting.{count_more, pushed, rows_stop, rows_end}
+use Rattle.mh_stated.proofs.Counting.{count_more, pushed}
+use Rattle.mh_validate.proofs.Counting.{rows_stop, rows_end}
 use Rattle.mh_validate.proofs.rows.fill_rows.Goals as goal
 
 pub row_at-requires : goal.row_at-requires

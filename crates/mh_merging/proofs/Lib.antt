@@ -1,0 +1,16 @@
+pub mod Agreeing
+pub mod Covering
+pub mod Finishing
+pub mod Joining
+pub mod Leaving
+pub mod Limits
+pub mod OneMerged
+pub mod Only
+pub mod Origins
+pub mod Paths
+pub mod Putting
+pub mod Reaching
+pub mod Renaming
+pub mod Settling
+pub mod Sound
+pub mod Troubles

@@ -1,0 +1,3 @@
+pub mod Numbered
+pub mod Paths
+pub mod Steps

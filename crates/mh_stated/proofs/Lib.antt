@@ -1,0 +1,5 @@
+mod Reading
+mod Named
+mod Itemed
+mod Stating
+pub mod Counting
