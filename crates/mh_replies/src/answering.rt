@@ -9,7 +9,7 @@ ghost use Rattle.mh_replies.specs.Told.{ToldSaid, ToldLine};
 use mh_grammar::{Grammar, Memory};
 use mh_msgfile::Lexicon;
 use mh_session::{Command, Session, read_command_by};
-use mh_wording::{answer_text, refusal, replying};
+use mh_wording::{answer_text, command_refusal, replying};
 use std::alloc::Global;
 
 /// The answer to a command.
@@ -44,6 +44,6 @@ pub fn answer_line(
 {
     match read_command_by(alloc, lexicon, line) {
         Ok(command) => serve(alloc, grammar, session, &command),
-        Err(fault) => refusal(alloc, &fault),
+        Err(fault) => command_refusal(alloc, &fault),
     }
 }

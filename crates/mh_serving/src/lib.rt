@@ -3,4 +3,4 @@
 
 mod serving;
 
-pub use serving::serve;
+pub use serving::run_session;

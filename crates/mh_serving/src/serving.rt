@@ -76,7 +76,7 @@ fn serve_on<'a, const W: usize>(
 }
 
 /// Answers each line of the input as a command on named branches.
-pub fn serve<I: Source, O: Sink, const W: usize>(
+pub fn run_session<I: Source, O: Sink, const W: usize>(
     alloc: Global,
     prepared: &Prepared<W>,
     input: &mut I,

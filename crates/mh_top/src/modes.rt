@@ -15,7 +15,7 @@ use mh_listing::{count_sample, list_errors};
 use mh_opts::Job;
 use mh_outside::{Shelf, Sink, Source};
 use mh_prepared::Prepared;
-use mh_serving::serve;
+use mh_serving::run_session;
 use mh_showing::{export_tables, show_automaton};
 use std::alloc::Global;
 
@@ -41,7 +41,7 @@ pub(crate) fn follow<F: Shelf, I: Source, O: Sink, const W: usize>(
     match &prepared.order.job {
         Job::Interpret => interpret(alloc, prepared, shelf, input, out),
         Job::InterpretError => explain(alloc, prepared, input, out),
-        Job::Session => serve(alloc, prepared, input, out),
+        Job::Session => run_session(alloc, prepared, input, out),
         Job::ShowAutomaton => show_automaton(alloc, prepared, input, out),
         Job::WriteTables => export_tables(alloc, prepared, input, out),
         Job::ListErrors => list_errors(alloc, prepared, input, out),

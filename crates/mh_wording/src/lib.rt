@@ -6,5 +6,5 @@ mod refusals;
 mod texts;
 
 pub use naming::replying;
-pub use refusals::refusal;
+pub use refusals::command_refusal;
 pub use texts::answer_text;

@@ -17,7 +17,7 @@ fn error_on(alloc: Global, words: &[u8], name: &[u8]) -> Result<Vec<u8>, Memory>
 }
 
 /// The text for a line that is no command.
-pub fn refusal(alloc: Global, fault: &CommandFault) -> Result<Vec<u8>, Memory>
+pub fn command_refusal(alloc: Global, fault: &CommandFault) -> Result<Vec<u8>, Memory>
     ensures { IfOk result (λ text. IsRefusal fault.now text.items) }
 {
     match fault {

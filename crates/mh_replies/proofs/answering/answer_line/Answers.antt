@@ -17,5 +17,5 @@ returns-in-Ok-clause-told c =
 
 pub returns-in-Err-clause-told : goal.returns-in-Err-clause-told
 returns-in-Err-clause-told c =
-    refusal_told c.args.grammar.now c.args.line.now c.args.session.now c.in-Err.fault c.refusal.result
-    (reads_of c.args.grammar.now (vocabulary_in c.args.lexicon.now) c.args.line.now (Err c.in-Err.fault) c.requires.names c.in-Err.ensures) c.refusal.ensures
+    refusal_told c.args.grammar.now c.args.line.now c.args.session.now c.in-Err.fault c.command_refusal.result
+    (reads_of c.args.grammar.now (vocabulary_in c.args.lexicon.now) c.args.line.now (Err c.in-Err.fault) c.requires.names c.in-Err.ensures) c.command_refusal.ensures

@@ -15,10 +15,10 @@ pub returns-in-InterpretError-clause-read : goal.returns-in-InterpretError-claus
 returns-in-InterpretError-clause-read g c = ran_read by_plan _ _ _ _ _ _ c.explain.result c.explain.ensures.ran
 
 pub returns-in-Session-clause-ran : goal.returns-in-Session-clause-ran
-returns-in-Session-clause-ran g c = of_job (g.F.Shelf.files c.args.shelf.now) c.args.prepared.now Session c.in-Session.is _ _ _ _ c.serve.result (still_followed _ _ _ _ _ _ c.serve.result c.serve.ensures.ran)
+returns-in-Session-clause-ran g c = of_job (g.F.Shelf.files c.args.shelf.now) c.args.prepared.now Session c.in-Session.is _ _ _ _ c.run_session.result (still_followed _ _ _ _ _ _ c.run_session.result c.run_session.ensures.ran)
 
 pub returns-in-Session-clause-read : goal.returns-in-Session-clause-read
-returns-in-Session-clause-read g c = still_read _ _ _ _ _ _ c.serve.result c.serve.ensures.ran
+returns-in-Session-clause-read g c = still_read _ _ _ _ _ _ c.run_session.result c.run_session.ensures.ran
 
 pub returns-in-ShowAutomaton-clause-ran : goal.returns-in-ShowAutomaton-clause-ran
 returns-in-ShowAutomaton-clause-ran g c = of_plan (g.F.Shelf.files c.args.shelf.now) c.args.prepared.now _ c.in-ShowAutomaton.is _ _ _ _ c.show_automaton.result _ refl c.show_automaton.ensures.ran
@@ -76,13 +76,13 @@ pub explain-requires : goal.explain-requires
 explain-requires g c = (search rules, (c.requires.few, c.requires.fit))
 
 pub returns-in-Session-clause-counts : goal.returns-in-Session-clause-counts
-returns-in-Session-clause-counts g c = c.serve.ensures.counts
+returns-in-Session-clause-counts g c = c.run_session.ensures.counts
 
 pub returns-in-Session-clause-kept : goal.returns-in-Session-clause-kept
 returns-in-Session-clause-kept g c = refl
 
-pub serve-requires : goal.serve-requires
-serve-requires g c = (search rules, (c.requires.few, c.requires.fit))
+pub run_session-requires : goal.run_session-requires
+run_session-requires g c = (search rules, (c.requires.few, c.requires.fit))
 
 pub returns-in-ShowAutomaton-clause-counts : goal.returns-in-ShowAutomaton-clause-counts
 returns-in-ShowAutomaton-clause-counts g c = c.show_automaton.ensures.counts
