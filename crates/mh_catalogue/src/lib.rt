@@ -1,10 +1,8 @@
-//! The catalogue of the states in which sentences fail: both searches of a table, and a row for each such state.
+//! The catalogue of the states in which sentences fail: a row for each, with the first sentence that fails there.
 #![tactic(auto)]
 
-mod both;
 mod making;
 
-pub use both::reach;
 pub use making::catalogue;
+pub use mh_reach::{Reach, reach};
 pub use mh_rows::{CatalogueFault, Row};
-pub use mh_sentences::Reach;

@@ -3,9 +3,9 @@ ghost use Rattle.std.specs.Prelude.{◌≡◌, ℕ, Err, IfOk};
 ghost use Rattle.mh_tables.specs.Failing.{Catalogue, TooLongAt};
 ghost use Rattle.mh_rows.specs.Rows.{rows_of, AreShort};
 
-use crate::both::reach;
 use mh_failing::all_rows;
 use mh_grammar::Memory;
+use mh_reach::reach;
 use mh_rows::{CatalogueFault, Row};
 use mh_tables::Halting;
 use std::alloc::Global;

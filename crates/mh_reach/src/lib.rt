@@ -1,5 +1,7 @@
-//! Both searches of a table by their own name: what they find stands in mh_sentences, and they are run in mh_catalogue.
+//! Both searches of a table in a row: in which states sentences fail, each with its least cost and its first sentence.
 #![tactic(auto)]
 
-pub use mh_catalogue::reach;
+mod both;
+
+pub use both::reach;
 pub use mh_sentences::Reach;

@@ -2,7 +2,7 @@ use Rattle.std.proofs.Common.{subst, sym}
 use Rattle.mh_tables.specs.Table.{TableData}
 use Rattle.mh_ways.specs.Classes.{IsClasses}
 use Rattle.mh_arrivals.specs.Arriving.{ArrivedIn}
-use Rattle.mh_catalogue.proofs.both.reach_over.Goals as goal
+use Rattle.mh_reach.proofs.both.reach_over.Goals as goal
 
 pub search-requires : goal.search-requires
 search-requires c = subst (λ (t : TableData). IsClasses t c.args.classes.now) (sym c.table-inner.ensures.table) c.requires
