@@ -38,6 +38,14 @@ impl Model for Table {
     ghost invariant = { λ t. Facts (record { grammar = record { tokens = t.tokens; nonterminals = t.nonterminals; starts = t.starts; productions = t.productions }; costs = t.costs; states = t.states }) };
 }
 
+/// What a table keeps of a grammar in lists.
+#[derive(Drop)]
+struct Kept {
+    starts: Sequence<u16>,
+    productions: Sequence<Production>,
+    costs: Sequence<u32>,
+}
+
 fn copy_of(alloc: Global, production: &Production) -> Result<Production, AllocError>
     ensures { IfOk result (λ copy. copy ≡ production.now) }
 {
@@ -68,20 +76,33 @@ fn costs_of(alloc: Global, tokens: &[TokenInfo]) -> Result<Vec<u32>, AllocError>
     Ok(costs)
 }
 
+fn kept_of(alloc: Global, grammar: &Grammar) -> Result<Kept, AllocError>
+    ensures starts { IfOk result (λ kept. kept.starts ≡ grammar.now.starts) }
+    ensures productions { IfOk result (λ kept. kept.productions ≡ grammar.now.productions) }
+    ensures costs { IfOk result (λ kept. kept.costs ≡ costs_of grammar.now.tokens) }
+{
+    let starts = Sequence::from_vec(Vec::from_slice(alloc, grammar.starts.as_slice())?);
+    let productions = Sequence::from_vec(copies_of(alloc, grammar.productions.as_slice())?);
+    let costs = Sequence::from_vec(costs_of(alloc, grammar.tokens.as_slice())?);
+    Ok(Kept {
+        starts,
+        productions,
+        costs,
+    })
+}
+
 /// The table of a grammar with these states. Fails for want of memory alone; the states are dropped then.
 pub fn table_of(alloc: Global, grammar: &Grammar, states: Vec<StateParts>) -> Result<Table, Memory>
     requires { Facts (table_data grammar.now states.items) }
     ensures { IfOk result (λ table. table ≡ table_data grammar.now states.items) }
 {
-    let starts = Sequence::from_vec(Vec::from_slice(alloc, grammar.starts.as_slice())?);
-    let productions = Sequence::from_vec(copies_of(alloc, grammar.productions.as_slice())?);
-    let costs = Sequence::from_vec(costs_of(alloc, grammar.tokens.as_slice())?);
+    let kept = kept_of(alloc, grammar)?;
     Ok(Table {
         tokens: grammar.tokens.len() as u16,
         nonterminals: grammar.nonterminals.len() as u16,
-        starts,
-        productions,
-        costs,
+        starts: kept.starts,
+        productions: kept.productions,
+        costs: kept.costs,
         states: Sequence::from_vec(states),
     })
 }
