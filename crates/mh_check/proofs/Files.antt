@@ -1,5 +1,5 @@
 -- The sentences of a file by its entries, and their messages.
-use Rattle.std.proofs.Common.{◌≡◌, ℕ, zero, suc, ◌+◌, ◌<◌, List, [], ◌∷◌, ◌++◌, map, flat_map, length, take, drop, Option, None, Some, option_map, option_and_then, get_or, refl, sym, ◌∙◌, ap, subst, arith, inl, inr, append_assoc, append-nil, add-one}
+use Rattle.std.proofs.Common.{◌≡◌, ℕ, zero, suc, ◌+◌, ◌<◌, ◌≤◌, List, [], ◌∷◌, ◌++◌, map, flat_map, length, take, drop, Option, None, Some, option_map, option_and_then, get_or, refl, sym, ◌∙◌, ap, subst, arith, inl, inr, append_assoc, append-nil, add-one, take_all}
 use Rattle.std.specs.List.{slice_get, Contains}
 use Rattle.std.specs.Prelude.{MatchOption}
 use Rattle.std.specs.Borrow.{Bor}
@@ -61,6 +61,18 @@ sentence_split done entry xs i x lt is =
   where
     regroup : (a b : List Item) (y : Item) (c : List Item) → ((a ++ b) ++ y ∷ []) ++ c ≡ a ++ (b ++ y ∷ c)
     regroup a b y c = simp append_assoc
+
+-- the places of the first sentences of an entry: of none, of one more, of all
+module _ (t : TableData) (done : List Item) (entry : ℕ) (xs : List MsgSentence) where
+  pub none_placed : (places : List (Option Place)) → Placed t done places → Placed t (done ++ items_of entry (take 0 xs)) places
+  none_placed places h = subst (λ (l : List Item). Placed t l places) (sym (append-nil done)) h
+
+  pub one_placed : (i : ℕ) (x : MsgSentence) (places : List (Option Place)) → i < length xs → x ≡ get_or xs i x → Placed t ((done ++ items_of entry (take i xs)) ++ item entry x ∷ []) places → Placed t (done ++ items_of entry (take (i + 1) xs)) places
+  one_placed i x places lt is h =
+      subst (λ (l : List Item). Placed t l places) (append_assoc done (items_of entry (take i xs)) (item entry x ∷ []) ∙ ap (λ (l : List Item). done ++ l) (sym (items_push entry xs i x lt is))) h
+
+  pub all_placed : (i : ℕ) (places : List (Option Place)) → length xs ≤ i → Placed t (done ++ items_of entry (take i xs)) places → Placed t (done ++ items_of entry xs) places
+  all_placed i places past h = subst (λ (l : List MsgSentence). Placed t (done ++ items_of entry l) places) (take_all i xs past) h
 
 -- the entries up to one, and those behind it
 pub entry_split : (es : List Entry) (i : ℕ) (e : Entry) → i < length es → e ≡ get_or es i e

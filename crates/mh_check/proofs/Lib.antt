@@ -5,3 +5,4 @@ pub mod Missing
 pub mod Listing
 pub mod Once
 pub mod Either
+pub mod Told

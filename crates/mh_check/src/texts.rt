@@ -20,50 +20,64 @@ fn write_number(alloc: Global, text: &mut Vec<u8>, number: usize) -> Result<(), 
     Ok(())
 }
 
-/// The beginning of a line on err that speaks of a line of a file.
+/// Writes the beginning of a line on err that speaks of a line of a file.
 #[tactic(auto, unfolding(crate::specs::Texts::place_text))]
-fn place_of(alloc: Global, name: &[u8], line: u32) -> Result<Vec<u8>, Memory>
-    ensures { IfOk result (λ text. text.items ≡ place_text name.now line) }
+fn write_place(alloc: Global, text: &mut Vec<u8>, name: &[u8], line: u32) -> Result<(), Memory>
+    ensures { OnOk result (text.new.items ≡ text.old.items ++ place_text name.now line) }
 {
-    let mut text = b"menhir: ".to_vec(alloc)?;
+    text.extend_from_slice(b"menhir: ")?;
     text.extend_from_slice(name)?;
     text.push(b':')?;
-    write_number(alloc, &mut text, line as usize)?;
+    write_number(alloc, text, line as usize)?;
     text.extend_from_slice(b": ")?;
-    Ok(text)
+    Ok(())
+}
+
+/// Writes the line that tells the fault of a messages file of this name.
+fn write_file_fault(
+    alloc: Global,
+    text: &mut Vec<u8>,
+    name: &[u8],
+    fault: &MsgFault,
+) -> Result<(), Memory>
+    ensures { OnOk result (TellsFile fault.now (λ found. text.new.items ≡ text.old.items ++ file_line name.now found)) }
+{
+    match fault {
+        MsgFault::Shape { line } => {
+            write_place(alloc, text, name, *line)?;
+            text.extend_from_slice(b"shape\n")?;
+            Ok(())
+        }
+        MsgFault::UnknownStart { line, name: start } => {
+            write_place(alloc, text, name, *line)?;
+            text.extend_from_slice(b"unknown start ")?;
+            text.extend_from_slice(start.as_slice())?;
+            text.push(b'\n')?;
+            Ok(())
+        }
+        MsgFault::MissingStart { line } => {
+            write_place(alloc, text, name, *line)?;
+            text.extend_from_slice(b"missing start\n")?;
+            Ok(())
+        }
+        MsgFault::UnknownToken { line, name: token } => {
+            write_place(alloc, text, name, *line)?;
+            text.extend_from_slice(b"unknown token ")?;
+            text.extend_from_slice(token.as_slice())?;
+            text.push(b'\n')?;
+            Ok(())
+        }
+        MsgFault::Memory => Err(Memory),
+    }
 }
 
 /// The line on err that tells the fault of a messages file of this name. For want of memory it tells nothing.
 pub fn file_fault_line(alloc: Global, name: &[u8], fault: &MsgFault) -> Result<Vec<u8>, Memory>
     ensures { IfOk result (λ text. TellsFile fault.now (λ found. text.items ≡ file_line name.now found)) }
 {
-    match fault {
-        MsgFault::Shape { line } => {
-            let mut text = place_of(alloc, name, *line)?;
-            text.extend_from_slice(b"shape\n")?;
-            Ok(text)
-        }
-        MsgFault::UnknownStart { line, name: start } => {
-            let mut text = place_of(alloc, name, *line)?;
-            text.extend_from_slice(b"unknown start ")?;
-            text.extend_from_slice(start.as_slice())?;
-            text.push(b'\n')?;
-            Ok(text)
-        }
-        MsgFault::MissingStart { line } => {
-            let mut text = place_of(alloc, name, *line)?;
-            text.extend_from_slice(b"missing start\n")?;
-            Ok(text)
-        }
-        MsgFault::UnknownToken { line, name: token } => {
-            let mut text = place_of(alloc, name, *line)?;
-            text.extend_from_slice(b"unknown token ")?;
-            text.extend_from_slice(token.as_slice())?;
-            text.push(b'\n')?;
-            Ok(text)
-        }
-        MsgFault::Memory => Err(Memory),
-    }
+    let mut text = Vec::new(alloc);
+    write_file_fault(alloc, &mut text, name, fault)?;
+    Ok(text)
 }
 
 /// The words for a run that does not refuse.
@@ -100,32 +114,46 @@ fn write_shared(alloc: Global, text: &mut Vec<u8>, state: u32, line: u32) -> Res
     Ok(())
 }
 
-/// The line on err that tells why a messages file of this name does not fit a table. For want of memory it tells nothing.
-pub fn check_fault_line(alloc: Global, name: &[u8], fault: &CheckFault) -> Result<Vec<u8>, Memory>
-    ensures { IfOk result (λ text. Tells fault.now (λ found. text.items ≡ check_line name.now found)) }
+/// Writes the line that tells why a messages file of this name does not fit a table.
+fn write_check_fault(
+    alloc: Global,
+    text: &mut Vec<u8>,
+    name: &[u8],
+    fault: &CheckFault,
+) -> Result<(), Memory>
+    ensures { OnOk result (Tells fault.now (λ found. text.new.items ≡ text.old.items ++ check_line name.now found)) }
 {
     match fault {
         CheckFault::NotRefused { line, verdict } => {
-            let mut text = place_of(alloc, name, *line)?;
+            write_place(alloc, text, name, *line)?;
             text.extend_from_slice(ending_text(*verdict))?;
-            Ok(text)
+            Ok(())
         }
         CheckFault::RefusedEarly { line, at } => {
-            let mut text = place_of(alloc, name, *line)?;
-            write_early(alloc, &mut text, *at)?;
-            Ok(text)
+            write_place(alloc, text, name, *line)?;
+            write_early(alloc, text, *at)?;
+            Ok(())
         }
         CheckFault::SharedState {
             first,
             second,
             state,
         } => {
-            let mut text = place_of(alloc, name, *second)?;
-            write_shared(alloc, &mut text, *state, *first)?;
-            Ok(text)
+            write_place(alloc, text, name, *second)?;
+            write_shared(alloc, text, *state, *first)?;
+            Ok(())
         }
         CheckFault::Memory => Err(Memory),
     }
+}
+
+/// The line on err that tells why a messages file of this name does not fit a table. For want of memory it tells nothing.
+pub fn check_fault_line(alloc: Global, name: &[u8], fault: &CheckFault) -> Result<Vec<u8>, Memory>
+    ensures { IfOk result (λ text. Tells fault.now (λ found. text.items ≡ check_line name.now found)) }
+{
+    let mut text = Vec::new(alloc);
+    write_check_fault(alloc, &mut text, name, fault)?;
+    Ok(text)
 }
 
 #[tactic(auto, unfolding(crate::specs::Texts::state_text))]

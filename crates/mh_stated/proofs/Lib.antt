@@ -1,4 +1,5 @@
 mod Reading
+mod Mapped
 mod Named
 mod Itemed
 mod Stating

@@ -131,7 +131,10 @@ fn find_kernels<const W: usize>(
     ensures { OnOk result (AreFirstKernels grammar.now raw.now kernels.new.items) }
 {
     let lexicon = Lexicon::new(alloc, grammar)?;
-    fill_kernels(alloc, grammar, &lexicon, raw, kernels)
+    let filled = fill_kernels(alloc, grammar, &lexicon, raw, kernels);
+    // Let go of in one call, since it has many fields.
+    drop(lexicon);
+    filled
 }
 
 /// They are the kernels of the first states, up to the first state that has none.

@@ -49,10 +49,8 @@ fn read_head(alloc: Global, reader: &mut Reader, words: &[&[u8]]) -> Result<(), 
     match words {
         [version, mode] => {
             let version = number(version)?;
-            let costs = costs_for(alloc, version)?;
-            let mode = mode_of(mode)?;
-            reader.mode = mode;
-            reader.costs = costs;
+            reader.costs = costs_for(alloc, version)?;
+            reader.mode = mode_of(mode)?;
             reader.place = Place::Tokens;
             Ok(())
         }
@@ -74,9 +72,8 @@ fn at_tokens(alloc: Global, reader: &mut Reader, kind: Kind, words: &[&[u8]]) ->
 {
     match kind {
         Kind::Tokens => {
-            let tokens = names_of(alloc, words)?;
             reader.place = place_behind_tokens(&reader.costs);
-            reader.tokens = tokens;
+            reader.tokens = names_of(alloc, words)?;
             Ok(())
         }
         _ => Err(Refusal::Unexpected),

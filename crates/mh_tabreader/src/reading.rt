@@ -121,7 +121,10 @@ fn read_lines(alloc: Global, parts: &[&[u8]]) -> Result<Reader, TabFault>
     let mut reader = fresh(alloc);
     match read_with(alloc, &mut reader, parts) {
         Ok(()) => Ok(reader),
-        Err(fault) => Err(fault),
+        Err(fault) => {
+            drop(reader);
+            Err(fault)
+        }
     }
 }
 

@@ -1,5 +1,5 @@
 //! What words and lines are read as.
-ghost use Rattle.std.specs.Prelude.{◌≡◌, map, IfOk, Some};
+ghost use Rattle.std.specs.Prelude.{◌≡◌, [], map, OnOk, Some};
 ghost use Rattle.std.specs.List.{list_all};
 ghost use Rattle.mh_tabreader.specs.code.Words as words_read;
 ghost use Rattle.mh_tabreader.specs.code.Words.{Refers, is_name as is_name_text, same_word, number_of as number_read};
@@ -49,15 +49,16 @@ fn are_names(words: &[&[u8]]) -> bool
     true
 }
 
-fn copies(alloc: Global, words: &[&[u8]]) -> Result<Sequence<Name>, Memory>
-    ensures { IfOk result (λ names. names ≡ map (λ w. w.now) words.now) }
+/// Puts in a copy of each word.
+fn put_copies(alloc: Global, names: &mut Sequence<Name>, words: &[&[u8]]) -> Result<(), Memory>
+    requires { names.old ≡ [] }
+    ensures { OnOk result (names.new ≡ map (λ w. w.now) words.now) }
 {
-    let mut names = Sequence::new(alloc);
     for word in words {
         let name = from_bytes(alloc, word)?;
         names.push(name)?;
     }
-    Ok(names)
+    Ok(())
 }
 
 /// The names that words are.
@@ -68,10 +69,11 @@ pub(crate) fn names_of(alloc: Global, words: &[&[u8]]) -> Result<Sequence<Name>,
     if !are_names(words) {
         return Err(Refusal::Unexpected);
     }
-    let Ok(names) = copies(alloc, words) else {
-        return Err(Refusal::Memory);
-    };
-    Ok(names)
+    let mut names = Sequence::new(alloc);
+    match put_copies(alloc, &mut names, words) {
+        Ok(()) => Ok(names),
+        Err(Memory) => Err(Refusal::Memory),
+    }
 }
 
 pub(crate) fn number(word: &[u8]) -> Result<u32, Refusal>

@@ -26,7 +26,7 @@ has_first g z (Shift j) rest h = refl
 has_first g z (Reduce p) rest h = refl
 has_first g z Refuse rest h = absurd (h refl)
 
-row_from : {X : Type 0} (cells : List X) (token : ℕ) (a : X) → token < length cells → a ≡ get_or cells token a → drop token cells ≡ a ∷ drop (suc token) cells
+pub row_from : {X : Type 0} (cells : List X) (token : ℕ) (a : X) → token < length cells → a ≡ get_or cells token a → drop token cells ≡ a ∷ drop (suc token) cells
 row_from [] token a lt e = absurd (omega (arith, lt))
 row_from (c ∷ cells) zero a lt e = ap (λ x. x ∷ cells) (sym e)
 row_from (c ∷ cells) (suc token) a lt e = row_from cells token a (omega (arith, lt)) e

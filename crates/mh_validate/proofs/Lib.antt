@@ -2,4 +2,5 @@ mod Within
 mod Lacking
 mod Edging
 mod Counting
+mod Zipping
 mod Judging

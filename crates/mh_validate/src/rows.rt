@@ -91,7 +91,10 @@ fn move_rows<const W: usize>(
     ensures { OnOk result (AreFirstRows grammar.now raw.now kernels.now rows.new.items) }
 {
     let mut mover = Mover::new(alloc, grammar)?;
-    fill_rows(alloc, grammar, &mut mover, raw, kernels, rows)
+    let filled = fill_rows(alloc, grammar, &mut mover, raw, kernels, rows);
+    // Let go of in one call, since it has many fields.
+    drop(mover);
+    filled
 }
 
 /// They are the edges of the first states, up to the first state whose edges are wrong.

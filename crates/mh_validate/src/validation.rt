@@ -81,7 +81,10 @@ fn close_rows<const W: usize>(
     ensures { OnOk result (AreResolvedRows grammar.now raw.now kernels.now rows.now states.new.items) }
 {
     let mut closer = Closer::new(alloc, grammar)?;
-    fill_parts(alloc, grammar, &mut closer, raw, kernels, rows, states)
+    let filled = fill_parts(alloc, grammar, &mut closer, raw, kernels, rows, states);
+    // Let go of in one call, since it has many fields.
+    drop(closer);
+    filled
 }
 
 /// They are the parts of the first states, of so many as have edges here.

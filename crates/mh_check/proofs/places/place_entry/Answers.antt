@@ -2,7 +2,7 @@ use Rattle.std.proofs.Common.{◌+◌, ◌++◌, ◌∷◌, [], List, take, drop
 use Rattle.mh_check.specs.Checks.{FirstFault}
 use Rattle.mh_check.specs.Compiling.{Item, item, items_of, sentences_in, Tells}
 use Rattle.mh_check.proofs.Placing.{fault_more}
-use Rattle.mh_check.proofs.Files.{sentence_split}
+use Rattle.mh_check.proofs.Files.{sentence_split, none_placed, one_placed, all_placed}
 use Rattle.mh_check.proofs.places.place_entry.Goals as goal
 
 pub returns-in-Err-clause-places : goal.returns-in-Err-clause-places
@@ -14,3 +14,22 @@ returns-in-Err-clause-places c = λ done placed.
     let told = c.in-Err.ensures.places before (c.loop-sentence.invariant.so_far done placed) in
     let more = fault_more t (before ++ item c.args.entry c.sentence-item.result ∷ []) (items_of c.args.entry (drop (i + 1) xs)) c.in-Err.fault told in
     subst (λ (l : List Item). Tells c.in-Err.fault (FirstFault t (sentences_in l))) (sentence_split done c.args.entry xs i c.sentence-item.result c.loop-sentence-test.true c.sentence-item.is) more
+
+pub loop-sentence-init : goal.loop-sentence-init
+loop-sentence-init c = record {
+  size = c.requires.size;
+  so_far = λ done placed. none_placed c.args.table.now done c.args.entry c.args.sentences.now c.args.places.now.items placed;
+}
+
+pub loop-sentence-preserved : goal.loop-sentence-preserved
+loop-sentence-preserved c = record {
+  size = c.in-Ok.ensures.size;
+  so_far = λ done placed. one_placed c.args.table.now done c.args.entry c.args.sentences.now c.loop-sentence.sentence-index c.sentence-item.result c.place_sentence.new.places.items c.loop-sentence-test.true c.sentence-item.is
+      (c.in-Ok.ensures.places (done ++ items_of c.args.entry (take c.loop-sentence.sentence-index c.args.sentences.now)) (c.loop-sentence.invariant.so_far done placed));
+}
+
+pub returns-clause-size : goal.returns-clause-size
+returns-clause-size c = c.loop-sentence.invariant.size
+
+pub returns-clause-places : goal.returns-clause-places
+returns-clause-places c = λ done placed. all_placed c.args.table.now done c.args.entry c.args.sentences.now c.loop-sentence.sentence-index c.loop-sentence.places.items c.loop-sentence-test.false (c.loop-sentence.invariant.so_far done placed)

@@ -1,6 +1,7 @@
-use Rattle.std.proofs.Common.{◌+◌, ◌++◌, List, take, drop, subst, sym}
+use Rattle.std.proofs.Common.{◌+◌, ◌++◌, List, take, take_all, drop, subst, sym}
 use Rattle.mh_check.specs.Checks.{FirstFault}
 use Rattle.mh_check.specs.Compiling.{Item, items_of, items_from, sentences_in, Tells, Placed}
+use Rattle.mh_msgfile.specs.declared.messages.Entry.{Entry}
 use Rattle.mh_msgfile.specs.declared.messages.MsgSentence.{MsgSentence}
 use Rattle.mh_check.proofs.Placing.{fault_more}
 use Rattle.mh_check.proofs.Files.{entry_split, entries_push}
@@ -30,3 +31,9 @@ loop-number-preserved c =
       size = c.in-Ok-place_entry.ensures.size;
       so_far = subst (λ (l : List Item). Placed t l new) (sym (entries_push es n e c.loop-number-test.true c.index-entries-number.is)) placed;
     }
+
+pub loop-number-init : goal.loop-number-init
+loop-number-init c = record { size = rw c.table.ensures.table at c.in-Ok.ensures.size; so_far = rw c.table.ensures.table at c.in-Ok.ensures.none }
+
+pub returns : goal.returns
+returns c = (c.loop-number.invariant.size, subst (λ (es : List Entry). Placed c.args.table.now (items_from 0 es) c.loop-number.places.items) (take_all c.loop-number.number c.args.entries.now c.loop-number-test.false) c.loop-number.invariant.so_far)
