@@ -14,10 +14,10 @@ returns-clause-kept g c =
     let read : slice_get states c.args.core ≡ Some c.index_mut.result.now = slice_get_read states (length states) c.args.core c.index_mut.result.now refl (slice_get_within states c.args.core group.group group.of) c.index_mut.ensures.value in
     let both : Some c.index_mut.result.now ≡ Some group.group = sym read ∙ group.of in
     let same : c.index_mut.result.now ≡ group.group = cc in
-    let count : c.len.result ≡ length kernels.items = c.len.ensures ∙ kernels.ok.0 in
-    let row : c.push.new.self ≡ group.group ++ length kernels.items ∷ [] = rw (same, count) at c.in_ok-push.ensures.ok in
+    let count : c.len-count.result ≡ length kernels.items = c.len-count.ensures ∙ kernels.ok.0 in
+    let row : c.push-2.new.self ≡ group.group ++ length kernels.items ∷ [] = rw (same, count) at c.in_ok-push-2.ensures.ok in
     record {
       flagged = c.in_ok-add.ensures.flagged;
-      flags = c.in_ok-add.ensures.len ∙ ap (λ n. n + 1) c.requires.kept.flags ∙ sym (length_push kernels.items c.args.kernel) ∙ ap length (sym c.in_ok-push-3.ensures.items);
-      indexed = rw (c.in_ok-push-3.ensures.items, row) (indexed_append kernels.items index.cores.keys states c.requires.kept.indexed c.args.kernel c.args.core group.group group.at group.of);
+      flags = c.in_ok-add.ensures.len ∙ ap (λ n. n + 1) c.requires.kept.flags ∙ sym (length_push kernels.items c.args.kernel) ∙ ap length (sym c.in_ok-push.ensures.items);
+      indexed = rw (c.in_ok-push.ensures.items, row) (indexed_append kernels.items index.cores.keys states c.requires.kept.indexed c.args.kernel c.args.core group.group group.at group.of);
     }

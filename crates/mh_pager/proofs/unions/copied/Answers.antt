@@ -1,0 +1,14 @@
+use Rattle.std.proofs.Common.{◌∷◌, ◌++◌, [], sym, ◌∙◌}
+use Rattle.std.proofs.lemmas.List.{take_all}
+use Rattle.mh_grammar.proofs.Lists.{taken}
+use Rattle.mh_pager.proofs.unions.copied.Goals as goal
+
+pub loop-item-preserved : goal.loop-item-preserved
+loop-item-preserved g c =
+    let at = taken c.as_slice-items.result.now c.loop-item.item-index c.item-item.result c.loop-item-test.true c.item-item.is in
+    c.in_ok-push.ensures.items ∙ (λ j. c.loop-item.invariant j ++ c.copied_item.ensures j ∷ []) ∙ sym at
+
+pub returns : goal.returns
+returns g c =
+    let whole = c.from_vec.ensures ∙ c.loop-item.invariant ∙ take_all c.loop-item.item-index c.as_slice-items.result.now c.loop-item-test.false ∙ c.as_slice-items.ensures in
+    λ j. record { items = whole j }
