@@ -1,15 +1,11 @@
-use Rattle.std.proofs.Common.{◌∷◌, ◌++◌, [], map, take, ap, sym, ◌∙◌}
-use Rattle.std.proofs.lemmas.List.{map-append, take_all}
-use Rattle.mh_grammar.proofs.Lists.{taken}
+use Rattle.std.proofs.Common.{map, ap, ◌∙◌}
+use Rattle.std.proofs.lemmas.List.{take_all}
 use Rattle.mh_pager.specs.Indexed.{bare}
+use Rattle.mh_pager.proofs.Mapped.{mapped_more}
 use Rattle.mh_pager.proofs.index.without_looks.Goals as goal
 
 pub loop-item-preserved : goal.loop-item-preserved
-loop-item-preserved g c =
-    let items = c.as_slice-items.result.now in
-    let at = taken items c.loop-item.item-index c.item-item.result c.loop-item-test.true c.item-item.is in
-    let more = map-append bare (take c.loop-item.item-index items) (c.item-item.result ∷ []) in
-    c.in_ok-push.ensures.items ∙ (λ j. c.loop-item.invariant j ++ c.bare_item.ensures j ∷ []) ∙ sym more ∙ ap (map bare) (sym at)
+loop-item-preserved g c = mapped_more bare c.as_slice-items.result.now c.loop-item.item-index c.item-item.result c.loop-item.places.items c.push.new.self.items c.bare_item.result c.loop-item-test.true c.item-item.is c.loop-item.invariant c.bare_item.ensures c.in_ok-push.ensures.items
 
 pub returns : goal.returns
 returns g c =

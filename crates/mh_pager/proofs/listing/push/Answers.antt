@@ -1,9 +1,18 @@
-use Rattle.std.proofs.Common.{◌≡◌, ◌∷◌, ◌++◌, ◌+◌, [], Some, length, refl, sym, ap, ◌∙◌}
+use Rattle.std.proofs.Common.{◌≡◌, ◌∷◌, ◌++◌, ◌+◌, List, [], Some, length, refl, sym, ap, ◌∙◌}
 use Rattle.std.specs.List.{slice_get}
 use Rattle.std.proofs.lemmas.List.{length_push}
 use Rattle.std.proofs.lemmas.Option.{slice_get_read, slice_get_within}
+use Rattle.mh_grammar.specs.declared.edges.Edge.{Edge}
 use Rattle.mh_pager.proofs.Indexing.{indexed_append}
 use Rattle.mh_pager.proofs.listing.push.Goals as goal
+
+pub returns-clause-ok : goal.returns-clause-ok
+returns-clause-ok g c = record {
+  last = refl;
+  kernels = c.in_ok-push.ensures.items;
+  rows = c.in_ok-push-3.ensures.items ∙ ap (λ (row : List Edge). c.args.listing.now.rows.items ++ row ∷ []) c.new.ensures;
+  queue = c.in_ok-add.ensures.states ∙ ap (λ n. c.args.listing.now.queue.states.items ++ n ∷ []) c.requires.kept.flags;
+}
 
 pub returns-clause-kept : goal.returns-clause-kept
 returns-clause-kept g c =
