@@ -1,5 +1,5 @@
 -- What strings of symbols may begin with, symbol by symbol.
-use Rattle.std.proofs.Common.{◌≡◌, ℕ, ◌+◌, ◌<◌, ◌⊎◌, ◌↔◌, true, false, List, [], ◌∷◌, ◌++◌, Some, length, get_or, refl, sym, ap, subst, ◌∙◌, arith, inl, inr}
+use Rattle.std.proofs.Common.{◌≡◌, ℕ, ◌+◌, ◌<◌, ◌⊎◌, ◌↔◌, true, false, List, [], ◌∷◌, ◌++◌, Some, None, length, get_or, refl, sym, ap, subst, ◌∙◌, arith, inl, inr}
 use Rattle.std.specs.List.{slice_get, All, Contains}
 use Rattle.std.proofs.lemmas.Bool.{cases_eq, false≢true}
 use Rattle.std.proofs.lemmas.List.Elements.{All-head, All-push, Contains-push, Contains-push_cases, Contains-append_left}
@@ -21,6 +21,13 @@ use Rattle.mh_items.specs.declared.links.Link.{Link}
 use Rattle.mh_items.specs.declared.first_sets.Sets.{Sets}
 use Rattle.mh_items.specs.Firsts.{AreSets, Begins, BeginsAll, IsRest, IsLink, IsLinked, AreLinksOf}
 use Rattle.mh_grammar.proofs.Lists.{same_at}
+
+-- a nonterminal is no token, and is something
+pub no_token : (n a : ℕ) → Some (N n) ≡ Some (T a) → ⊥
+no_token n a e = cc
+
+pub not_none : (n : ℕ) → Some (N n) ≡ None → ⊥
+not_none n e = cc
 
 unmarked : (ps : List Production) (a : ℕ) → Marked false ps (T a) → ⊥
 unmarked ps a (marked.Marked.token e) = false≢true e

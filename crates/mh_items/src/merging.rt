@@ -1,7 +1,8 @@
 //! Two rising lists of items as one.
-ghost use Rattle.std.specs.Prelude.{◌≡◌, ◌<◌, ◌≤◌, ◌+◌, ◌⊎◌, length, IfOk};
+ghost use Rattle.std.specs.Prelude.{◌≡◌, ◌<◌, ◌≤◌, ◌+◌, ◌⊎◌, List, [], ◌∷◌, ◌++◌, length, IfOk};
 ghost use Rattle.mh_grammar.specs.Plain.{plain_of, IsInRange};
 ghost use Rattle.mh_kernels.specs.Kernels.{IsItemList};
+ghost use Rattle.mh_kernels.specs.Shapes.{KernelItem as ItemOf};
 ghost use Rattle.mh_items.specs.Merging.{IsUnion, IsMerged, IsJoined, IsTurn};
 
 use mh_grammar::{Grammar, Memory, Sequence};
@@ -26,7 +27,8 @@ pub(crate) fn merged<const W: usize>(
     let mut i = 0;
     let mut j = 0;
     'items: while i < left.len() || j < right.len() {
-        let (next_i, next_j) = add_next(grammar, left, i, right, j, &mut items)?;
+        let (item, (next_i, next_j)) = next_item(grammar, left, i, right, j);
+        items.push(item)?;
         i = next_i;
         j = next_j;
     }
@@ -35,37 +37,26 @@ pub(crate) fn merged<const W: usize>(
     })
 }
 
-/// Adds the item that comes next, and says how far both lists are then.
-fn add_next<const W: usize>(
+/// The item that comes next, and how far both lists are behind it.
+fn next_item<const W: usize>(
     grammar: &Grammar,
     left: &[KernelItem<W>],
     i: usize,
     right: &[KernelItem<W>],
     j: usize,
-    items: &mut Vec<KernelItem<W>>,
-) -> Result<(usize, usize), Memory>
+) -> (KernelItem<W>, (usize, usize))
     requires few { W ≤ 8 }
     requires range { IsInRange (plain_of grammar.now) }
     requires left { IsItemList (plain_of grammar.now) (record { items = left.now }) }
     requires right { IsItemList (plain_of grammar.now) (record { items = right.now }) }
     requires more { (i < length left.now) ⊎ (j < length right.now) }
-    requires merged { IsMerged (plain_of grammar.now) left.now i right.now j items.old.items }
-    ensures merged { IfOk result (λ at. IsMerged (plain_of grammar.now) left.now at.0 right.now at.1 items.new.items) }
-    ensures more { IfOk result (λ at. i + j < at.0 + at.1) }
+    ensures merged { (items : List ItemOf) → IsMerged (plain_of grammar.now) left.now i right.now j items → IsMerged (plain_of grammar.now) left.now result.1.0 right.now result.1.1 (items ++ result.0 ∷ []) }
+    ensures more { i + j < result.1.0 + result.1.1 }
 {
     match turn(left, i, right, j) {
-        Ordering::Less => {
-            items.push(copied(&left[i]))?;
-            Ok((i + 1, j))
-        }
-        Ordering::Greater => {
-            items.push(copied(&right[j]))?;
-            Ok((i, j + 1))
-        }
-        Ordering::Equal => {
-            items.push(joined(&left[i], &right[j]))?;
-            Ok((i + 1, j + 1))
-        }
+        Ordering::Less => (copied(&left[i]), (i + 1, j)),
+        Ordering::Greater => (copied(&right[j]), (i, j + 1)),
+        Ordering::Equal => (joined(&left[i], &right[j]), (i + 1, j + 1)),
     }
 }
 

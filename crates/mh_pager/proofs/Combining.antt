@@ -12,6 +12,10 @@ pub if_ok : {A E : Type 0} {P Q : A → Type 0} (r : Result A E) → IfOk r P �
 if_ok (Ok a) h f = f a h
 if_ok (Err e) h f = tt
 
+pub if_both : {A E : Type 0} {P Q R : A → Type 0} (r : Result A E) → IfOk r P → IfOk r Q → ((a : A) → P a → Q a → R a) → IfOk r R
+if_both (Ok a) h k f = f a h k
+if_both (Err e) h k f = tt
+
 pub taken : (g : PlainGrammar) (move : Kernel) (old new : Work) (n : ℕ) → HasNone (Keeps move) old.kernels → (k : Kernel) → IsFirst (Takes move) old.kernels n k → TakesIn g move old new n → Puts g move old new n
 taken g move old new n unkept k first t =
     let one : Some t.kernel ≡ Some k = sym t.at ∙ first.at in

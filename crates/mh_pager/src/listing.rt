@@ -180,10 +180,13 @@ fn push<const W: usize>(
     ensures ok { OnOk result (AppendsIn kernel.entry (work_of listing.old) (work_of listing.new) (length listing.old.kernels.items)) }
     ensures kept { OnOk result (IsKept listing.new) }
 {
-    listing.index.states[core].push(listing.kernels.len() as u32)?;
+    let count = listing.kernels.len();
+    let state = count as u32;
+    // First, so that no later way out has a kernel to let go of.
+    listing.kernels.push(kernel)?;
+    listing.index.states[core].push(state)?;
     listing.queue.add()?;
     listing.rows.push(Sequence::new(alloc))?;
-    listing.kernels.push(kernel)?;
     Ok(())
 }
 

@@ -1,20 +1,21 @@
 //! The merged automaton: the states of the last list that the starts reach, numbered anew.
-ghost use Rattle.std.specs.Prelude.{◌≡◌, ◌↔◌, ◌≤◌, ◌*◌, [], length, Err, IfOk};
+ghost use Rattle.std.specs.Prelude.{◌≡◌, ◌↔◌, ◌≤◌, ◌*◌, [], length, Err, IfOk, OnOk};
 ghost use Rattle.mh_grammar.specs.Plain.{plain_of, IsInRange};
 ghost use Rattle.mh_kernels.specs.Shapes.{Automaton as AutomatonOf};
 ghost use Rattle.mh_kernels.specs.Automaton.{IsAutomaton};
 ghost use Rattle.mh_knuth.specs.Canonical.{IsCanonical};
 ghost use Rattle.mh_kernels.specs.Conflicts.{IsConflicting, IsFaulty};
 ghost use Rattle.mh_merging.specs.Paths.{CoversPaths};
-ghost use Rattle.mh_pager.specs.Listing.{work_of};
+ghost use Rattle.mh_pager.specs.Listing.{work_of, IsKept};
 ghost use Rattle.mh_merging.specs.Steps.{IsList, IsMerged, IsSwollen};
 
-use crate::listed::listed;
-use crate::listing::Listing;
-use crate::numbering::{picked, reached};
+use crate::listed::list_all;
+use crate::listing::{Listing, empty};
+use crate::numbering::{pick, reach};
 use mh_grammar::{Grammar, Memory, Sequence};
 use mh_kernels::{Automaton, StatesFault};
 use mh_knuth::MAX_STATES;
+use mh_states::first_states;
 use std::alloc::Global;
 
 /// Pager's merged automaton of a grammar (Pager 1977). `TooManyStates` comes exactly where the list of its steps comes to
@@ -34,8 +35,28 @@ pub fn merged<const W: usize>(alloc: Global, grammar: &Grammar) -> Result<Automa
     ensures clashes { IfOk result (λ a. (c : AutomatonOf) → IsCanonical (plain_of grammar.now) c → IsConflicting (plain_of grammar.now) a ↔ IsConflicting (plain_of grammar.now) c) }
     ensures faults { IfOk result (λ a. (c : AutomatonOf) → IsCanonical (plain_of grammar.now) c → IsFaulty (plain_of grammar.now) a ↔ IsFaulty (plain_of grammar.now) c) }
 {
-    match listed(alloc, grammar) {
-        Ok(listing) => Ok(numbered(alloc, grammar, &listing)?),
+    let mut listing = empty(alloc);
+    merged_over(alloc, grammar, &mut listing)
+}
+
+/// The same over a list that has no states yet.
+fn merged_over<const W: usize>(
+    alloc: Global,
+    grammar: &Grammar,
+    listing: &mut Listing<W>,
+) -> Result<Automaton<W>, StatesFault>
+    requires small { W ≤ 8 }
+    requires width { length grammar.now.tokens ≤ 64 * W }
+    requires range { IsInRange (plain_of grammar.now) }
+    requires empty { work_of listing.old ≡ record { kernels = []; rows = []; queue = [] } }
+    requires kept { IsKept listing.old }
+    ensures ok { IfOk result (IsMerged (plain_of grammar.now)) }
+    ensures few { IfOk result (λ a. length a.kernels ≤ MAX_STATES) }
+    ensures exact { IfOk result (λ _. IsSwollen (plain_of grammar.now) MAX_STATES → ⊥) }
+    ensures over { result ≡ Err StatesFault.TooManyStates → IsSwollen (plain_of grammar.now) MAX_STATES }
+{
+    match list_all(alloc, grammar, listing) {
+        Ok(()) => Ok(numbered(alloc, grammar, listing)?),
         Err(fault) => Err(fault),
     }
 }
@@ -54,10 +75,35 @@ fn numbered<const W: usize>(
     ensures ok { IfOk result (IsMerged (plain_of grammar.now)) }
     ensures few { IfOk result (λ a. length a.kernels ≤ MAX_STATES) }
 {
-    let (states, edges) = reached(alloc, grammar.starts.len(), listing.rows.as_slice())?;
-    let kernels = picked(alloc, listing.kernels.as_slice(), states.as_slice())?;
-    Ok(Automaton {
-        kernels: Sequence::from_vec(kernels),
-        edges: Sequence::from_vec(edges),
-    })
+    let mut automaton = Automaton {
+        kernels: Sequence::new(alloc),
+        edges: Sequence::new(alloc),
+    };
+    fill(alloc, grammar, listing, &mut automaton)?;
+    Ok(automaton)
+}
+
+/// Fills an automaton without states with them.
+fn fill<const W: usize>(
+    alloc: Global,
+    grammar: &Grammar,
+    listing: &Listing<W>,
+    automaton: &mut Automaton<W>,
+) -> Result<(), Memory>
+    requires small { W ≤ 8 }
+    requires range { IsInRange (plain_of grammar.now) }
+    requires list { IsList (plain_of grammar.now) (work_of listing.now) }
+    requires done { listing.now.queue.states.items ≡ [] }
+    requires few { length listing.now.kernels.items ≤ MAX_STATES }
+    requires no_kernels { automaton.old.kernels ≡ [] }
+    requires no_edges { automaton.old.edges ≡ [] }
+    ensures ok { OnOk result (IsMerged (plain_of grammar.now) automaton.new) }
+    ensures few { OnOk result (length automaton.new.kernels ≤ MAX_STATES) }
+{
+    let starts = grammar.starts.len();
+    let rows = listing.rows.as_slice();
+    let kernels = listing.kernels.as_slice();
+    let mut states = first_states(alloc, starts, rows.len())?;
+    reach(alloc, starts, rows, &mut states, &mut automaton.edges)?;
+    pick(alloc, kernels, states.as_slice(), &mut automaton.kernels)
 }

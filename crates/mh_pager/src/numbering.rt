@@ -12,40 +12,24 @@ use indexmap::IndexSet;
 use mh_grammar::{Edge, Memory, Sequence};
 use mh_kernels::Kernel;
 use mh_knuth::MAX_STATES;
-use mh_states::{first_states, place_state};
+use mh_states::place_state;
 use std::alloc::Global;
 
-/// The states that the starts reach, by their old numbers in the order of the new ones, and their edges.
-pub(crate) fn reached(
-    alloc: Global,
-    starts: usize,
-    rows: &[Sequence<Edge>],
-) -> Result<(IndexSet<u32>, Vec<Sequence<Edge>>), Memory>
-    requires starts { starts ≤ length rows.now }
-    requires few { length rows.now ≤ MAX_STATES }
-    requires closed { AreClosed rows.now }
-    ensures { IfOk result (λ r. AreReached starts rows.now r.0.keys r.1.items) }
-{
-    let mut states = first_states(alloc, starts, rows.len())?;
-    let mut edges = Vec::new(alloc);
-    reach(alloc, starts, rows, &mut states, &mut edges)?;
-    Ok((states, edges))
-}
-
-/// Adds the states that the starts lead to, and the edges of each state in turn.
-fn reach(
+/// Adds the states that the starts lead to, by their old numbers in the order of the new ones, and the edges of each in
+/// turn.
+pub(crate) fn reach(
     alloc: Global,
     starts: usize,
     rows: &[Sequence<Edge>],
     states: &mut IndexSet<u32>,
-    edges: &mut Vec<Sequence<Edge>>,
+    edges: &mut Sequence<Sequence<Edge>>,
 ) -> Result<(), Memory>
     requires starts { starts ≤ length rows.now }
     requires few { length rows.now ≤ MAX_STATES }
     requires closed { AreClosed rows.now }
     requires first { states.old.keys ≡ range_with_len 0 starts }
-    requires none { edges.old.items ≡ [] }
-    ensures { OnOk result (AreReached starts rows.now states.new.keys edges.new.items) }
+    requires none { edges.old ≡ [] }
+    ensures { OnOk result (AreReached starts rows.now states.new.keys edges.new) }
 {
     let _starts = starts;
     'states: while edges.len() < states.len() {
@@ -91,20 +75,21 @@ fn place(states: &mut IndexSet<u32>, state: u32, count: usize) -> Result<u32, Me
     Ok(at as u32)
 }
 
-/// The kernels of states.
-pub(crate) fn picked<const W: usize>(
+/// Adds the kernels of states.
+pub(crate) fn pick<const W: usize>(
     alloc: Global,
     kernels: &[Kernel<W>],
     states: &[u32],
-) -> Result<Vec<Kernel<W>>, Memory>
+    all: &mut Sequence<Kernel<W>>,
+) -> Result<(), Memory>
     requires small { W ≤ 8 }
     requires within { All (λ n. n < length kernels.now) states.now }
-    ensures { IfOk result (λ v. AllZip (λ n k. slice_get kernels.now n ≡ Some k) states.now v.items) }
+    requires none { all.old ≡ [] }
+    ensures { OnOk result (AllZip (λ n k. slice_get kernels.now n ≡ Some k) states.now all.new) }
 {
-    let mut all = Vec::new(alloc);
     for state in states {
         let kernel = copied(alloc, &kernels[*state as usize])?;
         all.push(kernel)?;
     }
-    Ok(all)
+    Ok(())
 }

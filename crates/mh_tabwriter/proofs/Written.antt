@@ -5,7 +5,7 @@ use Rattle.std.specs.Prelude.{slice_index_or}
 use Rattle.std.proofs.Math.Numerals.{suc-eq-add-one}
 use Rattle.std.proofs.Math.Seq.{drop-cons}
 use Rattle.std.proofs.lemmas.Grind.{flat_map-append}
-use Rattle.std.proofs.lemmas.List.{map-append}
+use Rattle.std.proofs.lemmas.List.{map-append, at_drop_more}
 use Rattle.mh_grammar.specs.declared.types.Grammar.{Grammar}
 use Rattle.mh_kernels.specs.Shapes.{KernelItem, Kernel, Automaton}
 use Rattle.mh_kernels.specs.Automaton.{no_kernel, kernel_at, edges_at}
@@ -47,6 +47,11 @@ three_words old one two three new e =
     ∙ ap (λ t. old ++ (one ++ 32 ∷ ((two ++ 32 ∷ t) ++ 10 ∷ []))) (sym (append-nil three))
 
 -- One more behind a text, of what is still to come.
+
+pub item_more : {X : Type 0} (F : List X → List ℕ) (xs : List X) (i : ℕ) (d x : X) (first old now next : List ℕ) → i < length xs → x ≡ get_or xs i d →
+    F (x ∷ drop (i + 1) xs) ≡ first ++ F (drop (i + 1) xs) → next ≡ now ++ first → now ++ F (drop i xs) ≡ old ++ F xs → next ++ F (drop (i + 1) xs) ≡ old ++ F xs
+item_more F xs i d x first old now next l is step e before =
+    ap (λ t. t ++ F (drop (i + 1) xs)) e ∙ append_assoc now first (F (drop (i + 1) xs)) ∙ ap (λ t. now ++ t) (sym step ∙ ap (λ z. F (z ∷ drop (i + 1) xs)) is ∙ sym (at_drop_more F xs i d l)) ∙ before
 
 text_more : (old now next : List ℕ) (first rest whole : List Line) → now ++ lines_written (first ++ rest) ≡ old ++ lines_written whole → next ≡ now ++ lines_written first → next ++ lines_written rest ≡ old ++ lines_written whole
 text_more old now next first rest whole before e = lines_and first rest now next (next ++ lines_written rest) e refl ∙ before

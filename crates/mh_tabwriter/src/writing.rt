@@ -397,17 +397,38 @@ pub fn write_tables<const W: usize>(
     ensures { IfOk result (λ text. text.items
         ≡ table_text (raw_of grammar.now automaton.now mode table.now.states)) }
 {
-    let productions = grammar.productions.as_slice();
     let mut text = Vec::new(alloc);
-    let tokens = grammar.tokens.as_slice();
-    write_version(alloc, &mut text, 2, mode_name(mode))?;
-    write_tokens(&mut text, tokens)?;
-    write_costs(alloc, &mut text, tokens)?;
-    write_starts(&mut text, grammar)?;
-    write_count(alloc, &mut text, b"productions", productions.len() as u32)?;
-    write_productions(&mut text, grammar, productions)?;
-    write_count(alloc, &mut text, b"states", table.states())?;
-    write_states(alloc, &mut text, grammar, automaton, table)?;
-    text.extend_from_slice(b"end\n")?;
+    write_all(alloc, &mut text, grammar, automaton, table, mode)?;
     Ok(text)
+}
+
+// The same into a text that is empty.
+fn write_all<const W: usize>(
+    alloc: Global,
+    text: &mut Vec<u8>,
+    grammar: &Grammar,
+    automaton: &Automaton<W>,
+    table: &Table,
+    mode: Mode,
+) -> Result<(), Memory>
+    requires few { W ≤ 8 }
+    requires empty { text.old.items ≡ [] }
+    requires range { IsInRange (plain_of grammar.now) }
+    requires automaton { IsAutomaton (plain_of grammar.now) automaton.now }
+    requires table { IsTableOf grammar.now automaton.now mode table.now }
+    ensures { OnOk result (text.new.items
+        ≡ table_text (raw_of grammar.now automaton.now mode table.now.states)) }
+{
+    let productions = grammar.productions.as_slice();
+    let tokens = grammar.tokens.as_slice();
+    write_version(alloc, text, 2, mode_name(mode))?;
+    write_tokens(text, tokens)?;
+    write_costs(alloc, text, tokens)?;
+    write_starts(text, grammar)?;
+    write_count(alloc, text, b"productions", productions.len() as u32)?;
+    write_productions(text, grammar, productions)?;
+    write_count(alloc, text, b"states", table.states())?;
+    write_states(alloc, text, grammar, automaton, table)?;
+    text.extend_from_slice(b"end\n")?;
+    Ok(())
 }

@@ -6,6 +6,7 @@ use Rattle.mh_grammar.specs.declared.types.Symbol.TheVariants.{N}
 use Rattle.mh_grammar.specs.Plain.{plain_of, rhs_of}
 use Rattle.mh_kernels.proofs.Sides.{target_below}
 use Rattle.mh_items.proofs.Growing.{Adds-none}
+use Rattle.mh_items.proofs.Linking.{no_token, not_none}
 use Rattle.mh_items.proofs.Seeding.{item_adds, item_nothing}
 use Rattle.mh_items.proofs.closures.add_item.Goals as goal
 
@@ -31,7 +32,7 @@ returns-in-Some-N _ c =
     on_ok_weaker c.add.result (λ d. item_adds g c.args.item.now c.in-Some-N.n c.looks_behind-looks.result c.args.set.now c.add.new.self at c.looks_behind-looks.ensures d) c.add.ensures
 
 pub returns-in-Some-T : goal.returns-in-Some-T
-returns-in-Some-T _ c = Adds-none _ _ c.requires.table (item_nothing (plain_of c.args.grammar.now) c.args.item.now (λ n at. cc))
+returns-in-Some-T _ c = Adds-none _ _ c.requires.table (item_nothing (plain_of c.args.grammar.now) c.args.item.now (λ n at. no_token n _ (sym at ∙ sym c.symbol_at.ensures ∙ c.in-Some-T.is ∙ ap Some c.in-Some-T.field-0-is)))
 
 pub returns-in-None : goal.returns-in-None
-returns-in-None _ c = Adds-none _ _ c.requires.table (item_nothing (plain_of c.args.grammar.now) c.args.item.now (λ n at. cc))
+returns-in-None _ c = Adds-none _ _ c.requires.table (item_nothing (plain_of c.args.grammar.now) c.args.item.now (λ n at. not_none n (sym at ∙ sym c.symbol_at.ensures ∙ c.in-None.is)))

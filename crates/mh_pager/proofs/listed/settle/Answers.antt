@@ -10,7 +10,7 @@ steps-init g c = record {
   list = IsList-start (plain_of c.args.grammar.now) (work_of c.args.listing.now) c.requires.begun;
   few = few_starts (plain_of c.args.grammar.now) (work_of c.args.listing.now) c.requires.range c.requires.begun;
   kept = c.requires.kept;
-  mover = c.in_ok-mover.ensures;
+  mover = c.requires.mover;
 }
 
 pub step-requires : goal.step-requires

@@ -1,4 +1,5 @@
-use Rattle.std.proofs.Common.{◌≡◌, ◌<◌, length, get_or, arith}
+use Rattle.std.proofs.Common.{◌≡◌, ◌<◌, length, get_or, ap, ◌∙◌, arith}
+use Rattle.std.proofs.lemmas.List.{length_push}
 use Rattle.mh_merging.proofs.Reaching.{Reaching-start, Reaching-step, AreReached-done, next_state, next_row, below_few}
 use Rattle.mh_pager.proofs.numbering.reach.Goals as goal
 
@@ -9,29 +10,30 @@ pub renamed-requires-clause-targets : goal.renamed-requires-clause-targets
 renamed-requires-clause-targets c =
     let keys = c.states.states.keys in
     let i = c.len-in-states-2.result in
-    let e : i ≡ length c.states.edges.items = omega (arith, c.len-in-states-2.ensures, c.states.edges.ok.0) in
+    let e : i ≡ length c.states.edges = c.len-in-states-2.ensures in
     let l : i < length keys = omega (arith, c.states-test.true, c.len.ensures, c.len-in-states.ensures.len, c.len-in-states-2.ensures) in
     let n = get_or c.as_slice.result.now i 0 in
-    let at = next_state keys c.as_slice.result.now c.states.edges.items i c.as_slice.ensures.keys e l in
+    let at = next_state keys c.as_slice.result.now c.states.edges i c.as_slice.ensures.keys e l in
     let row = c.index-rows-state.result in
-    rw c.as_slice-in-states.ensures (c.requires.closed.targets n row (next_row c.args.starts c.args.rows.now keys c.states.edges.items c.states.invariant n row at c.index-rows-state.is))
+    rw c.as_slice-in-states.ensures (c.requires.closed.targets n row (next_row c.args.starts c.args.rows.now keys c.states.edges c.states.invariant n row at c.index-rows-state.is))
 
 pub states-smaller : goal.states-smaller
 states-smaller c =
     let few = below_few (length c.args.rows.now) c.states.states.keys c.states.invariant.below in
-    omega (arith, few, c.requires.few, c.states-test.true, c.len.ensures, c.len-in-states.ensures.len, c.in_ok-push.ensures.len)
+    let longer = ap length c.in_ok-push.ensures.ok ∙ length_push c.states.edges c.in_ok-row.row in
+    omega (arith, few, c.requires.few, c.states-test.true, c.len.ensures, c.len-in-states.ensures.len, longer)
 
 pub states-preserved : goal.states-preserved
 states-preserved c =
     let keys = c.states.states.keys in
     let i = c.len-in-states-2.result in
-    let e : i ≡ length c.states.edges.items = omega (arith, c.len-in-states-2.ensures, c.states.edges.ok.0) in
+    let e : i ≡ length c.states.edges = c.len-in-states-2.ensures in
     let l : i < length keys = omega (arith, c.states-test.true, c.len.ensures, c.len-in-states.ensures.len, c.len-in-states-2.ensures) in
     let n = get_or c.as_slice.result.now i 0 in
-    let at = next_state keys c.as_slice.result.now c.states.edges.items i c.as_slice.ensures.keys e l in
+    let at = next_state keys c.as_slice.result.now c.states.edges i c.as_slice.ensures.keys e l in
     let row = c.index-rows-state.result in
-    let here = next_row c.args.starts c.args.rows.now keys c.states.edges.items c.states.invariant n row at c.index-rows-state.is in
-    rw c.in_ok-push.ensures.items (Reaching-step c.args.starts c.args.rows.now keys c.states.edges.items c.states.invariant c.renamed.new.states.keys n row c.in_ok-row.row at here (c.requires.closed.targets n row here) (rw c.as_slice-in-states.ensures at c.in_ok-row.ensures))
+    let here = next_row c.args.starts c.args.rows.now keys c.states.edges c.states.invariant n row at c.index-rows-state.is in
+    rw c.in_ok-push.ensures.ok (Reaching-step c.args.starts c.args.rows.now keys c.states.edges c.states.invariant c.renamed.new.states.keys n row c.in_ok-row.row at here (c.requires.closed.targets n row here) (rw c.as_slice-in-states.ensures at c.in_ok-row.ensures))
 
 pub returns : goal.returns
-returns c = AreReached-done c.args.starts c.args.rows.now c.states.states.keys c.states.edges.items c.states.invariant (omega (arith, c.states-test.false, c.len.ensures, c.len-in-states.ensures.len, c.states.edges.ok.0))
+returns c = AreReached-done c.args.starts c.args.rows.now c.states.states.keys c.states.edges c.states.invariant (omega (arith, c.states-test.false, c.len.ensures, c.len-in-states.ensures.len))

@@ -49,3 +49,12 @@ returns-clause-ok g c =
     let end = YieldsList-end (YieldsList-from_vec {s = c.into_iter-found-iterator.result} c.args.moves.items (search rules) (search rules))
     c.loop-found.yielded c.loop-found.found-iterator c.loop-found.yielded_by c.next.result c.next.new.self c.in-None.is c.next.ensures.steps in
     λ closed is are. rw (← end.0, map-id, c.from_vec.ensures) (c.loop-found.invariant.row closed is are)
+
+pub returns-clause-few : goal.returns-clause-few
+returns-clause-few g c = c.loop-found.invariant.few
+
+pub returns-clause-kept : goal.returns-clause-kept
+returns-clause-kept g c = c.loop-found.invariant.kept
+
+pub returns-clause-over : goal.returns-clause-over
+returns-clause-over g c same = cc

@@ -63,3 +63,11 @@ returns-in-Err-clause-over g c same =
     let of = c.in_ok-moves.ensures.moves in
     let fault : c.in-Err.fault ≡ TooManyStates = cc in
     step_over (plain_of c.args.grammar.now) k of.closed of.valid of.same (symbols_in c.in_ok-moves.moves.items) of.are.rising of.are.exact (with_first c.args.listing.now c.args.state) c.args.state c.args.listing.now.queue.states.items refl at MAX_STATES (c.in-Err.ensures.over (ap Err fault) of.closed of.valid of.are)
+
+pub returns-in-Ok-clause-kept : goal.returns-in-Ok-clause-kept
+returns-in-Ok-clause-kept g c =
+    let kept = c.in-Ok.ensures.kept in
+    record { flagged = kept.flagged; flags = kept.flags; indexed = kept.indexed }
+
+pub returns-in-Ok-clause-over : goal.returns-in-Ok-clause-over
+returns-in-Ok-clause-over g c same = cc

@@ -1,12 +1,12 @@
 use Rattle.std.proofs.Common.{◌<◌, ◌∷◌, ◌++◌, [], length, ap, ◌∙◌, arith, rules}
 use Rattle.mh_pager.specs.Listing.{work_of}
 use Rattle.mh_pager.proofs.Listings.{AreBegun-none, AreBegun-push}
-use Rattle.mh_pager.proofs.listed.begun.Goals as goal
+use Rattle.mh_pager.proofs.listed.begin.Goals as goal
 
 pub loop-start-init : goal.loop-start-init
 loop-start-init g c = record {
-  begun = rw c.empty-listing.ensures.work AreBegun-none;
-  kept = c.empty-listing.ensures.kept;
+  begun = rw c.requires.empty AreBegun-none;
+  kept = c.requires.kept;
 }
 
 pub push_start-requires : goal.push_start-requires

@@ -7,7 +7,7 @@ use Rattle.mh_tabform.specs.Form.{count_line, production_line}
 use Rattle.mh_tabform.specs.Written.{raw_of, raw_production}
 use Rattle.mh_tabwriter.specs.code.Texts.{line_written, lines_written}
 use Rattle.mh_tabwriter.proofs.Written.{count_states, table_written}
-use Rattle.mh_tabwriter.proofs.writing.write_tables.Goals as goal
+use Rattle.mh_tabwriter.proofs.writing.write_all.Goals as goal
 
 pub returns : goal.returns
 returns g c =
@@ -15,9 +15,9 @@ returns g c =
     let automaton = c.args.automaton.now in
     let raw = raw_of grammar automaton c.args.mode c.args.table.now.states in
     let counted = c.requires.table.states.count in
-    table_written raw c.new-text.result.items c.write_version.new.text.items c.write_tokens.new.text.items c.write_costs.new.text.items c.write_starts.new.text.items c.write_count.new.text.items
-    c.write_productions.new.text.items c.write_count-2.new.text.items c.write_states.new.text.items c.extend_from_slice.new.self.items (costs_of grammar.tokens) c.new-text.ensures.items refl
-    (c.in_ok-write_version.ensures ∙ ap (λ w. c.new-text.result.items ++ line_written (codes "menhir-tables" ∷ decimal 2 ∷ w ∷ [])) c.mode_name.ensures)
+    table_written raw c.args.text.now.items c.write_version.new.text.items c.write_tokens.new.text.items c.write_costs.new.text.items c.write_starts.new.text.items c.write_count.new.text.items
+    c.write_productions.new.text.items c.write_count-2.new.text.items c.write_states.new.text.items c.extend_from_slice.new.self.items (costs_of grammar.tokens) c.requires.empty refl
+    (c.in_ok-write_version.ensures ∙ ap (λ w. c.args.text.now.items ++ line_written (codes "menhir-tables" ∷ decimal 2 ∷ w ∷ [])) c.mode_name.ensures)
     (c.in_ok-write_tokens.ensures ∙ ap (λ (ts : List TokenInfo). c.write_version.new.text.items ++ line_written (codes "tokens" ∷ map (λ (t : TokenInfo). t.name) ts)) c.as_slice-tokens.ensures)
     (c.in_ok-write_costs.ensures ∙ ap (λ (ts : List TokenInfo). c.write_tokens.new.text.items ++ line_written (codes "costs" ∷ map decimal (costs_of ts))) c.as_slice-tokens.ensures)
     c.in_ok-write_starts.ensures

@@ -1,6 +1,6 @@
 use Rattle.mh_pager.specs.Listing.{work_of, IsKept}
 use Rattle.mh_merging.specs.Steps.{AreBegun}
-use Rattle.mh_pager.proofs.listed.begun.Given as goal
+use Rattle.mh_pager.proofs.listed.begin.Given as goal
 
 abbrev pub invariant-loop-start : goal.invariant-loop-start
 invariant-loop-start g l = record {

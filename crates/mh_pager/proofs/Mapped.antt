@@ -1,0 +1,12 @@
+-- Lists that are made item by item.
+use Rattle.std.proofs.Common.{◌≡◌, ◌<◌, ◌+◌, ℕ, List, ◌∷◌, ◌++◌, [], length, get_or, take, map, ap, sym, ◌∙◌}
+use Rattle.std.proofs.lemmas.List.{map_more}
+use Rattle.mh_grammar.proofs.Lists.{taken}
+
+-- one more image
+pub mapped_more : {A B : Type 0} (f : A → B) (xs : List A) (i : ℕ) (x : A) (old new : List B) (y : B) → i < length xs → x ≡ get_or xs i x → old ≡ map f (take i xs) → y ≡ f x → new ≡ old ++ y ∷ [] → new ≡ map f (take (i + 1) xs)
+mapped_more f xs i x old new y l at before is e = e ∙ (λ j. before j ++ is j ∷ []) ∙ ap (λ z. map f (take i xs) ++ f z ∷ []) at ∙ sym (map_more f xs i x l)
+
+-- one more copy
+pub copied_more : {A : Type 0} (xs : List A) (i : ℕ) (x y : A) (old new : List A) → i < length xs → x ≡ get_or xs i x → old ≡ take i xs → y ≡ x → new ≡ old ++ y ∷ [] → new ≡ take (i + 1) xs
+copied_more xs i x y old new l at before is e = e ∙ (λ j. before j ++ is j ∷ []) ∙ sym (taken xs i x l at)
