@@ -20,7 +20,7 @@ use Rattle.mh_rules.specs.declared.instances.InstanceProduction.{InstanceProduct
 use Rattle.mh_expand.specs.Terms.{Term, arguments}
 use Rattle.mh_expand.specs.Expansion.{IsFault, IsPart, IsProduction, IsRule, Takes, Fails, Causes, right_side, rule_at, rule_of, alternatives_of}
 use Rattle.mh_expand.specs.Sharing.{term_at, terms_at, Grows}
-use Rattle.mh_expand.specs.Searching.{IsSearch, Finds, Went, WentAlternative, IsLonger}
+use Rattle.mh_expand.specs.Searching.{IsSearch, Finds, Went, WentAlternative, WentAlternatives, IsLonger}
 use Rattle.mh_expand.proofs.Actuals.{Grows-none, Grows-more, stands}
 use Rattle.mh_expand.proofs.Shared.{terms_at-kept}
 use Rattle.mh_expand.proofs.Found.{Causes-from}
@@ -108,18 +108,14 @@ IsThrough-step j before ts us vs old mid new t producers rhs a p w g f =
     }
 
 -- the alternatives so far
-pub record AreThrough (j : Joined) (before ts us : List Term) (old new : List ℕ) (t : Term) (alternatives : List JoinedAlternative) (productions : List InstanceProduction) : Type 0 where
-  pub went : Went j before (flat_map (right_side t) alternatives) ts us old new
-  pub made : AllZip (IsProduction (terms_at us new) t) alternatives productions
-
-pub AreThrough-none : (j : Joined) (before ts : List Term) (ns : List ℕ) (t : Term) → IsSearch j before ts ns → AreThrough j before ts ts ns ns t [] []
-AreThrough-none j before ts ns t s = record { went = Went-none j before ts ns s; made = tt }
+pub WentAlternatives-none : (j : Joined) (before ts : List Term) (ns : List ℕ) (t : Term) → IsSearch j before ts ns → WentAlternatives j before ts ts ns ns t [] []
+WentAlternatives-none j before ts ns t s = record { went = Went-none j before ts ns s; made = tt }
 
 pub flat_push : (t : Term) (alternatives : List JoinedAlternative) (a : JoinedAlternative) → flat_map (right_side t) (alternatives ++ a ∷ []) ≡ flat_map (right_side t) alternatives ++ right_side t a
 flat_push t alternatives a = flat_map-append (right_side t) alternatives (a ∷ []) ∙ ap (λ l. flat_map (right_side t) alternatives ++ l) (append-nil (right_side t a))
 
-pub AreThrough-step : (j : Joined) (before ts us vs : List Term) (old mid new : List ℕ) (t : Term) (alternatives : List JoinedAlternative) (productions : List InstanceProduction) (a : JoinedAlternative) (p : InstanceProduction) → AreThrough j before ts us old mid t alternatives productions → WentAlternative j (before ++ flat_map (right_side t) alternatives) us vs mid new t a p → AreThrough j before ts vs old new t (alternatives ++ a ∷ []) (productions ++ p ∷ [])
-AreThrough-step j before ts us vs old mid new t alternatives productions a p w v =
+pub WentAlternatives-step : (j : Joined) (before ts us vs : List Term) (old mid new : List ℕ) (t : Term) (alternatives : List JoinedAlternative) (productions : List InstanceProduction) (a : JoinedAlternative) (p : InstanceProduction) → WentAlternatives j before ts us old mid t alternatives productions → WentAlternative j (before ++ flat_map (right_side t) alternatives) us vs mid new t a p → WentAlternatives j before ts vs old new t (alternatives ++ a ∷ []) (productions ++ p ∷ [])
+WentAlternatives-step j before ts us vs old mid new t alternatives productions a p w v =
     let longer = IsLonger-found us vs mid new w.went.search.below v.went.terms v.went.numbers in
     record {
       went = rw (flat_push t alternatives a) (Went-more j before (flat_map (right_side t) alternatives) (right_side t a) ts us vs old mid new w.went v.went);

@@ -82,3 +82,11 @@ IsWriting-end j room start now next h ts (n ∷ args) i number some l at w e =
     let closed = IsWriting-close j room start now next a.0 a.1 (rw a.2 at v) e in
     let here : term_at ts number ≡ Apply a.0 a.1 = term_got ts number (apply_all (Atom h) (terms_at ts (n ∷ args))) at ∙ a.2 in
     closed ∙ ap (λ t. take room (start ++ text j t)) (sym here)
+
+-- a term without arguments is whole with its head
+pub IsWriting-bare : (j : Joined) (room : ℕ) (start now : List ℕ) (h : Head) (ts : List Term) (args : List ℕ) (i number : ℕ) → args ≡ [] → slice_get ts number ≡ Some (apply_all (Atom h) (terms_at ts args)) → IsWriting j room start now (apply_all (Atom h) (terms_at ts (take i args))) → now ≡ take room (start ++ text j (term_at ts number))
+IsWriting-bare j room start now h ts args i number none at w =
+    let front : take i args ≡ [] = take_all i args (omega (arith, ap length none)) ∙ none in
+    let v : IsWriting j room start now (Atom h) = rw (ap (λ ns. apply_all (Atom h) (terms_at ts ns)) front) at w in
+    let here : term_at ts number ≡ Atom h = term_got ts number (apply_all (Atom h) (terms_at ts args)) at ∙ ap (λ ns. apply_all (Atom h) (terms_at ts ns)) none in
+    v.text ∙ ap (λ t. take room (start ++ text j t)) (sym here)

@@ -2,6 +2,7 @@
 use Rattle.std.proofs.Common.{◌≡◌, ℕ, ◌+◌, ◌<◌, ◌≤◌, List, [], ◌∷◌, ◌++◌, Some, map, flat_map, length, take, drop, get_or, suc, sym, ap, ◌∙◌, arith}
 use Rattle.std.specs.List.{slice_get, All}
 use Rattle.std.proofs.lemmas.List.{map-append}
+use Rattle.std.proofs.lemmas.Option.{slice_get_within}
 use Rattle.mh_grammar.specs.Numbering.{Names}
 use Rattle.mh_grammar.specs.Placed.{Placed}
 use Rattle.mh_grammar.proofs.Lists.{read_again, split_at, taken, zip_push}
@@ -14,13 +15,14 @@ use Rattle.mh_rules.specs.declared.instances.Part.TheVariants.{Instance}
 use Rattle.mh_rules.specs.declared.instances.InstanceProduction.{InstanceProduction}
 use Rattle.mh_instances.specs.declared.fault.ExpandFault.{ExpandFault}
 use Rattle.mh_instances.specs.declared.applications.Application.{Application}
-use Rattle.mh_expand.specs.Terms.{Term, Atom, apply_all, arguments}
+use Rattle.mh_expand.specs.Terms.{Term, Atom, apply_all, arguments, head_of}
 use Rattle.mh_expand.specs.Expansion.{IsFault, Fails, Causes, right_side, start_term}
 use Rattle.mh_expand.specs.Sharing.{term_at, terms_at, node_term, IsNode, Grows}
-use Rattle.mh_expand.specs.Searching.{IsSearch, Finds, Went, WentAlternative}
+use Rattle.mh_expand.specs.Searching.{IsSearch, Finds, Went, WentAlternative, WentAlternatives}
+use Rattle.mh_expand.proofs.Applying.{head_of-apply_all}
 use Rattle.mh_expand.proofs.Actuals.{stands, Grows-none, Grows-more, Grows-placed}
-use Rattle.mh_expand.proofs.Shared.{terms_at-kept, term_got, node_arguments}
-use Rattle.mh_expand.proofs.Going.{below_grows, IsLonger-found, IsSearch-grows, Went-none, Went-more, Went-one, Fails-here, Fails-more, IsThrough, IsThrough-none, IsThrough-step, AreThrough, AreThrough-none, AreThrough-step, side_split, flat_split, regroup}
+use Rattle.mh_expand.proofs.Shared.{terms_at-kept, term_got}
+use Rattle.mh_expand.proofs.Going.{below_grows, IsLonger-found, IsSearch-grows, Went-none, Went-more, Went-one, Fails-here, Fails-more, IsThrough, IsThrough-none, IsThrough-step, WentAlternatives-none, WentAlternatives-step, side_split, flat_split, regroup}
 use Rattle.mh_expand.proofs.Expanding.{Names-longer}
 
 -- PRODUCERS
@@ -64,38 +66,34 @@ module _ (j : Joined) (formals : List ℕ) (ts : List Term) (old : List ℕ) whe
 
 -- ALTERNATIVES
 
--- the alternatives of a term so far, whatever was found before
-pub record AlternativesSoFar (j : Joined) (t : Term) (ts us : List Term) (old found : List ℕ) (alternatives : List JoinedAlternative) (productions : List InstanceProduction) : Type 0 where
+-- the alternatives so far, whatever was found before and whichever term they are of
+pub record AlternativesSoFar (j : Joined) (formals : List ℕ) (ts us : List Term) (old found : List ℕ) (alternatives : List JoinedAlternative) (productions : List InstanceProduction) : Type 0 where
   pub few : length found ≤ 20000
   pub grows : Grows ts us
-  pub through : (before : List Term) → IsSearch j before ts old → AreThrough j before ts us old found t alternatives productions
+  pub through : (before : List Term) (t : Term) → arguments t ≡ terms_at ts formals → IsSearch j before ts old → WentAlternatives j before ts us old found t alternatives productions
 
--- the arguments of a node are there, and are those of its term, when more terms have come
-pub arguments_below : (ts us : List Term) (number : ℕ) (args : List ℕ) → number < length ts → All (λ a. a < number) args → Grows ts us → All (λ n. n < length us) args
-arguments_below ts us number args l below g = below_grows ts us args g (λ k d m. omega (arith, below k d m, l))
+module _ (j : Joined) (formals : List ℕ) (ts : List Term) (old : List ℕ) where
+  pub alternatives_none : length old ≤ 20000 → AlternativesSoFar j formals ts ts old old [] []
+  alternatives_none few = record { few = few; grows = Grows-none ts; through = λ before t e s. WentAlternatives-none j before ts old t s }
 
-pub its_arguments : (ts us : List Term) (number : ℕ) (node : Application) → number < length ts → All (λ a. a < number) node.args → slice_get ts number ≡ Some (node_term ts node) → Grows ts us → arguments (term_at ts number) ≡ terms_at us node.args
-its_arguments ts us number node l below means g = node_arguments ts number node means ∙ sym (terms_at-kept ts us node.args g (λ k d m. omega (arith, below k d m, l)))
+  module _ (below : All (λ n. n < length ts) formals) (us : List Term) (found : List ℕ) (items : List JoinedAlternative) (i : ℕ) (a : JoinedAlternative) (productions : List InstanceProduction) (so_far : AlternativesSoFar j formals ts us old found (take i items) productions) (inside : i < length items) (item : a ≡ get_or items i a) where
+    args_kept : (t : Term) → arguments t ≡ terms_at ts formals → arguments t ≡ terms_at us formals
+    args_kept t e = e ∙ sym (terms_at-kept ts us formals so_far.grows below)
 
-module _ (j : Joined) (t : Term) (ts : List Term) (old : List ℕ) where
-  pub alternatives_none : length old ≤ 20000 → AlternativesSoFar j t ts ts old old [] []
-  alternatives_none few = record { few = few; grows = Grows-none ts; through = λ before s. AreThrough-none j before ts old t s }
-
-  module _ (us : List Term) (found : List ℕ) (items : List JoinedAlternative) (i : ℕ) (a : JoinedAlternative) (productions : List InstanceProduction) (formals : List ℕ) (so_far : AlternativesSoFar j t ts us old found (take i items) productions) (inside : i < length items) (item : a ≡ get_or items i a) (args : arguments t ≡ terms_at us formals) where
-    pub alternatives_more : (vs : List Term) (new : List ℕ) (p : InstanceProduction) → Grows us vs → length new ≤ 20000 → ((before : List Term) (x : Term) → arguments x ≡ terms_at us formals → IsSearch j before us found → WentAlternative j before us vs found new x a p) → AlternativesSoFar j t ts vs old new (take (i + 1) items) (productions ++ p ∷ [])
+    pub alternatives_more : (vs : List Term) (new : List ℕ) (p : InstanceProduction) → Grows us vs → length new ≤ 20000 → ((before : List Term) (x : Term) → arguments x ≡ terms_at us formals → IsSearch j before us found → WentAlternative j before us vs found new x a p) → AlternativesSoFar j formals ts vs old new (take (i + 1) items) (productions ++ p ∷ [])
     alternatives_more vs new p grows few went = record {
       few = few;
       grows = Grows-more ts us vs so_far.grows grows;
-      through = λ before s.
-          let w = so_far.through before s in
-          rw (taken items i a inside item) (AreThrough-step j before ts us vs old found new t (take i items) productions a p w (went (before ++ flat_map (right_side t) (take i items)) t args w.went.search));
+      through = λ before t e s.
+          let w = so_far.through before t e s in
+          rw (taken items i a inside item) (WentAlternatives-step j before ts us vs old found new t (take i items) productions a p w (went (before ++ flat_map (right_side t) (take i items)) t (args_kept t e) w.went.search));
     }
 
-    pub alternatives_fail : (fault : ExpandFault) → ((before : List Term) (x : Term) → arguments x ≡ terms_at us formals → IsSearch j before us found → Causes (Fails j (before ++ right_side x a)) fault) → (before : List Term) → IsSearch j before ts old → Causes (Fails j (before ++ flat_map (right_side t) items)) fault
-    alternatives_fail fault failed before s =
+    pub alternatives_fail : (fault : ExpandFault) → ((before : List Term) (x : Term) → arguments x ≡ terms_at us formals → IsSearch j before us found → Causes (Fails j (before ++ right_side x a)) fault) → (before : List Term) (t : Term) → arguments t ≡ terms_at ts formals → IsSearch j before ts old → Causes (Fails j (before ++ flat_map (right_side t) items)) fault
+    alternatives_fail fault failed before t e s =
         let seen = flat_map (right_side t) (take i items) in
         let rest = flat_map (right_side t) (drop (suc i) items) in
-        let f = Fails-more j ((before ++ seen) ++ right_side t a) rest fault (failed (before ++ seen) t args (so_far.through before s).went.search) in
+        let f = Fails-more j ((before ++ seen) ++ right_side t a) rest fault (failed (before ++ seen) t (args_kept t e) (so_far.through before t e s).went.search) in
         rw (ap (λ l. before ++ l) (flat_split t items i a inside item) ∙ regroup before seen (right_side t a) rest) f
 
 -- STARTS
@@ -104,6 +102,13 @@ module _ (j : Joined) (t : Term) (ts : List Term) (old : List ℕ) where
 pub record StartsSoFar (j : Joined) (ts us : List Term) (old found rules starts : List ℕ) : Type 0 where
   pub few : length found ≤ 20000
   pub through : IsSearch j [] ts old → Went j [] (map start_term rules) ts us old found × Names (terms_at us found) starts (map start_term rules)
+
+-- a start's number is there, and its term is headed by its rule
+pub start_below : (us vs : List Term) (n : Application) (number : ℕ) → Placed us vs (node_term us n) number → number < length vs
+start_below us vs n number placed = slice_get_within vs number (node_term us n) placed.at
+
+pub start_head : (us vs : List Term) (n : Application) (number : ℕ) → Placed us vs (node_term us n) number → head_of (term_at vs number) ≡ n.head
+start_head us vs n number placed = ap head_of (term_got vs number (node_term us n) placed.at) ∙ head_of-apply_all (Atom n.head) (terms_at us n.args)
 
 module _ (j : Joined) (ts : List Term) (old : List ℕ) where
   pub starts_none : length old ≤ 20000 → StartsSoFar j ts ts old old [] []

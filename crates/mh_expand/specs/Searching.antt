@@ -1,5 +1,5 @@
 -- What is kept while instances are found.
-use Rattle.std.specs.Prelude.{◌≡◌, ◌<◌, ◌≤◌, ℕ, List, [], ◌∷◌, ◌++◌, Option, Some, None, length, take, slice_get}
+use Rattle.std.specs.Prelude.{◌≡◌, ◌<◌, ◌≤◌, ℕ, List, [], ◌∷◌, ◌++◌, Option, Some, None, flat_map, length, take, slice_get}
 use Rattle.std.specs.List.{All, AllZip, Contains}
 use Rattle.mh_grammar.specs.Numbering.{AreDistinct, Names}
 use Rattle.mh_rules.specs.declared.joined.Joined.{Joined}
@@ -56,6 +56,11 @@ pub record Went (j : Joined) (before seen ts us : List Term) (old new : List ℕ
 pub record WentAlternative (j : Joined) (before ts us : List Term) (old new : List ℕ) (t : Term) (a : JoinedAlternative) (p : InstanceProduction) : Type 0 where
   pub went : Went j before (right_side t a) ts us old new
   pub made : IsProduction (terms_at us new) t a p
+
+-- all terms of some alternatives were found
+pub record WentAlternatives (j : Joined) (before ts us : List Term) (old new : List ℕ) (t : Term) (alternatives : List JoinedAlternative) (productions : List InstanceProduction) : Type 0 where
+  pub went : Went j before (flat_map (right_side t) alternatives) ts us old new
+  pub made : AllZip (IsProduction (terms_at us new) t) alternatives productions
 
 -- all terms of an instance were found
 pub record WentInstance (j : Joined) (before ts us : List Term) (old new : List ℕ) (t : Term) (i : Instance) : Type 0 where

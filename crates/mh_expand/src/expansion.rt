@@ -1,5 +1,5 @@
 //! The expansion of joined rules.
-ghost use Rattle.std.specs.Prelude.{◌≡◌, ◌<◌, ◌≤◌, ◌++◌, ℕ, List, [], length, slice_index, nat_eq, IsSome, IfOk, IfErr};
+ghost use Rattle.std.specs.Prelude.{◌≡◌, ◌<◌, ◌≤◌, ◌++◌, ℕ, List, [], flat_map, length, slice_index, nat_eq, IsSome, IfOk, IfErr};
 ghost use Rattle.std.specs.List.{All};
 ghost use Rattle.indexmap.specs.IndexMap.{get};
 ghost use Rattle.mh_instances.specs.declared.fault.ExpandFault.{ExpandFault};
@@ -9,7 +9,7 @@ ghost use Rattle.mh_rules.specs.Ready.{IsReady, IsExpandedReady};
 ghost use Rattle.mh_expand.specs.Sentences.{HasSameSentences};
 ghost use Rattle.mh_expand.specs.Sharing.{terms_of, term_at, terms_at, Grows};
 ghost use Rattle.mh_expand.specs.Whole.{IsExpandedWhole};
-ghost use Rattle.mh_expand.specs.Searching.{IsSearch, IsFit, AreRanks, WentStarts, WentInstance, WentAlternative, IsExpanding, AreExpanded};
+ghost use Rattle.mh_expand.specs.Searching.{IsSearch, IsFit, AreRanks, WentStarts, WentInstance, WentAlternatives, WentAlternative, IsExpanding, AreExpanded};
 
 use crate::ranks::{Ranks, rank_of, ranks_of};
 use crate::replacing::replace;
@@ -196,21 +196,17 @@ fn expand_instance(
     let number = found.as_slice()[place];
     let node = terms.at(number);
     let rule = rule_of(joined, node.head);
-    let formals = copy_of(&node.args)?;
+    let alternatives = rule.alternatives.as_slice();
     let name = name_of(alloc, joined, terms, number)?;
-    let mut productions = Sequence::new(alloc);
-    for alternative in rule.alternatives.as_slice() {
-        match expand_alternative(alloc, joined, terms, found, formals.as_slice(), alternative) {
-            Ok(production) => productions.push(production)?,
-            Err(fault) => return Err(fault),
-        }
+    match expand_rule(alloc, joined, terms, found, number, alternatives) {
+        Ok(productions) => Ok(Instance {
+            name,
+            inlined: rule.inlined,
+            on_error: rank_of(ranks, number),
+            productions,
+        }),
+        Err(fault) => Err(fault),
     }
-    Ok(Instance {
-        name,
-        inlined: rule.inlined,
-        on_error: rank_of(ranks, number),
-        productions,
-    })
 }
 
 /// The rule at a head.
@@ -240,6 +236,74 @@ fn name_of(alloc: Global, joined: &Joined, terms: &Terms, number: usize) -> Resu
         Some(name) => Ok(name),
         None => unreachable!(),
     }
+}
+
+/// The alternatives of a rule, its formals replaced by the arguments of a term.
+fn expand_rule(
+    alloc: Global,
+    joined: &Joined,
+    terms: &mut Terms,
+    found: &mut IndexSet<usize>,
+    number: usize,
+    alternatives: &[JoinedAlternative],
+) -> Result<Sequence<InstanceProduction>, ExpandFault>
+    requires few { length found.old.keys ≤ MAX_INSTANCES }
+    requires number { number < length (terms_of terms.old.nodes.keys) }
+    ensures few { IfOk result (λ _. length found.new.keys ≤ MAX_INSTANCES) }
+    ensures ok { IfOk result (λ ps. (before : List Term) →
+        IsSearch joined.now before (terms_of terms.old.nodes.keys) found.old.keys →
+        WentAlternatives joined.now before (terms_of terms.old.nodes.keys)
+        (terms_of terms.new.nodes.keys) found.old.keys found.new.keys
+        (term_at (terms_of terms.old.nodes.keys) number) alternatives.now ps) }
+    ensures err { IfErr result (λ e. (before : List Term) →
+        IsSearch joined.now before (terms_of terms.old.nodes.keys) found.old.keys →
+        Causes
+        (Fails joined.now (before
+        ++ flat_map (right_side (term_at (terms_of terms.old.nodes.keys) number)) alternatives.now))
+        e) }
+{
+    let node = terms.at(number);
+    let formals = copy_of(&node.args)?;
+    expand_alternatives(
+        alloc,
+        joined,
+        terms,
+        found,
+        formals.as_slice(),
+        alternatives,
+    )
+}
+
+/// Alternatives with their formals replaced.
+fn expand_alternatives(
+    alloc: Global,
+    joined: &Joined,
+    terms: &mut Terms,
+    found: &mut IndexSet<usize>,
+    formals: &[usize],
+    alternatives: &[JoinedAlternative],
+) -> Result<Sequence<InstanceProduction>, ExpandFault>
+    requires few { length found.old.keys ≤ MAX_INSTANCES }
+    requires formals { All (λ n. n < length (terms_of terms.old.nodes.keys)) formals.now }
+    ensures few { IfOk result (λ _. length found.new.keys ≤ MAX_INSTANCES) }
+    ensures ok { IfOk result (λ ps. (before : List Term) (t : Term) →
+        arguments t ≡ terms_at (terms_of terms.old.nodes.keys) formals.now →
+        IsSearch joined.now before (terms_of terms.old.nodes.keys) found.old.keys →
+        WentAlternatives joined.now before (terms_of terms.old.nodes.keys)
+        (terms_of terms.new.nodes.keys) found.old.keys found.new.keys t alternatives.now ps) }
+    ensures err { IfErr result (λ e. (before : List Term) (t : Term) →
+        arguments t ≡ terms_at (terms_of terms.old.nodes.keys) formals.now →
+        IsSearch joined.now before (terms_of terms.old.nodes.keys) found.old.keys →
+        Causes (Fails joined.now (before ++ flat_map (right_side t) alternatives.now)) e) }
+{
+    let mut productions = Sequence::new(alloc);
+    for alternative in alternatives {
+        match expand_alternative(alloc, joined, terms, found, formals, alternative) {
+            Ok(production) => productions.push(production)?,
+            Err(fault) => return Err(fault),
+        }
+    }
+    Ok(productions)
 }
 
 /// An alternative with its formals replaced.

@@ -69,6 +69,13 @@ abbrev pub named_token : Module → Bool → List ℕ → Option Reader
 named_token m true text = goes m (places.TokenNamed text None)
 named_token m false text = None
 
+-- a name or a string in a list that takes both
+abbrev pub list_item : Module → Listing → Ref → Option Reader
+list_item m lists.Tokens r = None
+list_item m lists.Starts r = None
+list_item m (lists.Levels g ks) r = goes m (places.Items (lists.Levels g (ks ++ r ∷ [])))
+list_item m (lists.Actuals b ks) r = goes m (places.Head (purposes.Listed b ks) [] r)
+
 -- a word in a list
 abbrev pub list_word : Module → Listing → List ℕ → Option Reader
 list_word m lists.Tokens text = named_token m (is_capital text) text

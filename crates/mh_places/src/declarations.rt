@@ -99,37 +99,43 @@ fn add_token(mut made: Module, token: TokenDecl) -> Result<Module, Memory>
     }
 }
 
-/// A word in a list.
-fn list_word(alloc: Global, made: Module, listing: Listing, text: &[u8]) -> Result<Reader, Refusal>
-    ensures { Refers (machine.list_word made listing text.now) result }
+/// A name or a string in a list that takes both.
+fn list_item(alloc: Global, made: Module, listing: Listing, item: Ref) -> Result<Reader, Refusal>
+    ensures { Refers (machine.list_item made listing item) result }
 {
-    let Ok(name) = from_bytes(alloc, text) else {
-        return no_memory((made, listing));
-    };
     match listing {
-        Listing::Tokens => {
-            if is_capital_word(text) {
-                go_to(made, Place::TokenNamed(name, None))
-            } else {
-                unexpected((made, name))
-            }
-        }
-        Listing::Starts => match add_start(made, name) {
-            Ok(made) => go_to(made, Place::Items(listing)),
-            Err(_) => no_memory(listing),
-        },
-        Listing::Levels(assoc, names) => match add_name(names, Ref::Plain(name)) {
+        Listing::Tokens | Listing::Starts => unexpected((made, (listing, item))),
+        Listing::Levels(assoc, names) => match add_name(names, item) {
             Ok(names) => go_to(made, Place::Items(Listing::Levels(assoc, names))),
             Err(_) => no_memory(made),
         },
         Listing::Actuals(kept, actuals) => go_to(
             made,
-            Place::Head(
-                Purpose::Listed(kept, actuals),
-                Stack::new(alloc),
-                Ref::Plain(name),
-            ),
+            Place::Head(Purpose::Listed(kept, actuals), Stack::new(alloc), item),
         ),
+    }
+}
+
+/// A word in a list.
+fn list_word(alloc: Global, made: Module, listing: Listing, text: &[u8]) -> Result<Reader, Refusal>
+    ensures { Refers (machine.list_word made listing text.now) result }
+{
+    match from_bytes(alloc, text) {
+        Ok(name) => match listing {
+            Listing::Tokens => {
+                if is_capital_word(text) {
+                    go_to(made, Place::TokenNamed(name, None))
+                } else {
+                    unexpected((made, name))
+                }
+            }
+            Listing::Starts => match add_start(made, name) {
+                Ok(made) => go_to(made, Place::Items(listing)),
+                Err(_) => no_memory(listing),
+            },
+            _ => list_item(alloc, made, listing, Ref::Plain(name)),
+        },
+        Err(_) => no_memory((made, listing)),
     }
 }
 
@@ -142,23 +148,9 @@ fn list_quoted(
 ) -> Result<Reader, Refusal>
     ensures { Refers (machine.list_quoted made listing text.now) result }
 {
-    let Ok(name) = from_bytes(alloc, text) else {
-        return no_memory((made, listing));
-    };
-    match listing {
-        Listing::Tokens | Listing::Starts => unexpected((made, (listing, name))),
-        Listing::Levels(assoc, names) => match add_name(names, Ref::Alias(name)) {
-            Ok(names) => go_to(made, Place::Items(Listing::Levels(assoc, names))),
-            Err(_) => no_memory(made),
-        },
-        Listing::Actuals(kept, actuals) => go_to(
-            made,
-            Place::Head(
-                Purpose::Listed(kept, actuals),
-                Stack::new(alloc),
-                Ref::Alias(name),
-            ),
-        ),
+    match from_bytes(alloc, text) {
+        Ok(name) => list_item(alloc, made, listing, Ref::Alias(name)),
+        Err(_) => no_memory((made, listing)),
     }
 }
 

@@ -1,5 +1,5 @@
 //! Rules but for their actuals.
-ghost use Rattle.std.specs.Prelude.{◌≡◌, ◌∷◌, ◌++◌, [], IfOk, OnOk, Some, map};
+ghost use Rattle.std.specs.Prelude.{◌≡◌, ◌∷◌, ◌++◌, [], IfOk, OnOk, Some, None, map};
 ghost use Rattle.mh_places.specs.Spelling.{ref_by, with_prec};
 ghost use Rattle.mh_places.specs.Machine as machine;
 ghost use Rattle.mh_places.specs.Machine.{Refers, ruled, grouped, grouped_with, produced, drafted, named, with_formal};
@@ -55,11 +55,8 @@ pub fn in_rules(alloc: Global, made: Module, sign: Sign, text: &[u8]) -> Result<
     ensures { Refers (machine.in_rules made sign text.now) result }
 {
     match sign {
-        Sign::Word => name_rule(alloc, made, false, false, text),
-        Sign::Public => go_to(made, Place::Modified(true, false)),
-        Sign::Inline => go_to(made, Place::Modified(false, true)),
         Sign::Percents => go_to(made, Place::Ended),
-        _ => unexpected(made),
+        _ => at_modified(alloc, made, false, false, sign, text),
     }
 }
 
@@ -188,22 +185,17 @@ fn end_production(alloc: Global, mut draft: Draft, prec: Option<Ref>) -> Result<
     }
 }
 
-/// A production ends at a bar.
-fn end_at_bar(alloc: Global, made: Module, draft: Draft) -> Result<Reader, Refusal>
-    ensures { Refers (machine.goes made (machine.bar_place draft)) result }
+/// A production ends without a `%prec`: what follows is what may follow one that has it.
+fn end_without_prec(
+    alloc: Global,
+    made: Module,
+    draft: Draft,
+    sign: Sign,
+) -> Result<Reader, Refusal>
+    ensures { Refers (machine.at_closed made (produced draft None) sign) result }
 {
     match end_production(alloc, draft, None) {
-        Ok(draft) => go_to(made, Place::Production(draft)),
-        Err(_) => no_memory(made),
-    }
-}
-
-/// A production ends at the action of its group.
-fn end_at_action(alloc: Global, made: Module, draft: Draft) -> Result<Reader, Refusal>
-    ensures { Refers (machine.goes made (machine.action_place draft)) result }
-{
-    match end_production(alloc, draft, None) {
-        Ok(draft) => go_to(made, Place::Group(draft)),
+        Ok(draft) => at_closed(alloc, made, draft, sign),
         Err(_) => no_memory(made),
     }
 }
@@ -232,8 +224,8 @@ pub fn in_production(
             Err(_) => no_memory((made, draft)),
         },
         Sign::Prec => go_to(made, Place::Prec(draft)),
-        Sign::Bar => end_at_bar(alloc, made, draft),
-        Sign::Action => end_at_action(alloc, made, draft),
+        Sign::Bar => end_without_prec(alloc, made, draft, sign),
+        Sign::Action => end_without_prec(alloc, made, draft, sign),
         _ => unexpected((made, draft)),
     }
 }
@@ -376,13 +368,9 @@ pub fn behind_group(
 {
     match sign {
         Sign::Bar => go_to(made, Place::Production(draft_of(alloc, rule))),
-        Sign::Semicolon => {
-            let made = add_rule(made, rule)?;
-            go_to(made, Place::RuleEnd)
-        }
         _ => {
             let made = add_rule(made, rule)?;
-            in_rules(alloc, made, sign, text)
+            at_rule_end(alloc, made, sign, text)
         }
     }
 }
@@ -486,7 +474,7 @@ pub fn at_group_prec(
     }
 }
 
-/// Behind a rule that a semicolon ended.
+/// Behind a whole rule, where semicolons may stand.
 pub fn at_rule_end(alloc: Global, made: Module, sign: Sign, text: &[u8]) -> Result<Reader, Refusal>
     ensures { Refers (machine.at_rule_end made sign text.now) result }
 {

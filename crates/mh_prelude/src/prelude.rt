@@ -59,10 +59,9 @@ fn rule(alloc: Global, inlined: bool, name: &str, formals: &[&str]) -> Result<Ru
 }
 
 /// The rule with an alternative more.
-fn with_alternative(rule: Rule, producers: Sequence<Actual>) -> Result<Rule, Memory>
+fn with_alternative(mut rule: Rule, producers: Sequence<Actual>) -> Result<Rule, Memory>
     ensures { IfOk result (λ r. r ≡ record rule { alternatives = rule.alternatives ++ plain producers ∷ [] }) }
 {
-    let mut rule = rule;
     rule.alternatives.push(Alternative {
         producers,
         prec: None,
@@ -153,24 +152,57 @@ fn separated_nonempty_list(alloc: Global) -> Result<Rule, Memory>
     with_alternative(one_or_more(alloc)?, more)
 }
 
+/// Adds a rule that is nothing, or the formal.
+fn add_optional(
+    alloc: Global,
+    rules: &mut Sequence<Rule>,
+    inlined: bool,
+    name: &str,
+) -> Result<(), Memory>
+    ensures { OnOk result (rules.new ≡ rules.old ++ spec.optional inlined name.now ∷ []) }
+{
+    rules.push(optional(alloc, inlined, name)?)?;
+    Ok(())
+}
+
+/// Adds a rule of its formals in order.
+fn add_in_order(
+    alloc: Global,
+    rules: &mut Sequence<Rule>,
+    inlined: bool,
+    name: &str,
+    formals: &[&str],
+) -> Result<(), Memory>
+    ensures { OnOk result (rules.new ≡ rules.old ++ in_order inlined name.now (map (λ n. n.now) formals.now) ∷ []) }
+{
+    rules.push(in_order(alloc, inlined, name, formals)?)?;
+    Ok(())
+}
+
 fn add_options(alloc: Global, rules: &mut Sequence<Rule>) -> Result<(), Memory>
     ensures { OnOk result (rules.new ≡ rules.old ++ option_rules) }
 {
-    rules.push(optional(alloc, false, "option")?)?;
-    rules.push(optional(alloc, true, "ioption")?)?;
-    rules.push(optional(alloc, false, "boption")?)?;
-    rules.push(optional(alloc, false, "loption")?)?;
+    add_optional(alloc, rules, false, "option")?;
+    add_optional(alloc, rules, true, "ioption")?;
+    add_optional(alloc, rules, false, "boption")?;
+    add_optional(alloc, rules, false, "loption")?;
     Ok(())
 }
 
 fn add_pairs(alloc: Global, rules: &mut Sequence<Rule>) -> Result<(), Memory>
     ensures { OnOk result (rules.new ≡ rules.old ++ pair_rules) }
 {
-    rules.push(in_order(alloc, true, "pair", &["X", "Y"])?)?;
-    rules.push(in_order(alloc, true, "separated_pair", &["X", "sep", "Y"])?)?;
-    rules.push(in_order(alloc, true, "preceded", &["opening", "X"])?)?;
-    rules.push(in_order(alloc, true, "terminated", &["X", "closing"])?)?;
-    rules.push(in_order(alloc, true, "delimited", &["opening", "X", "closing"])?)?;
+    add_in_order(alloc, rules, true, "pair", &["X", "Y"])?;
+    add_in_order(alloc, rules, true, "separated_pair", &["X", "sep", "Y"])?;
+    add_in_order(alloc, rules, true, "preceded", &["opening", "X"])?;
+    add_in_order(alloc, rules, true, "terminated", &["X", "closing"])?;
+    add_in_order(
+        alloc,
+        rules,
+        true,
+        "delimited",
+        &["opening", "X", "closing"],
+    )?;
     Ok(())
 }
 
@@ -187,11 +219,11 @@ fn add_lists(alloc: Global, rules: &mut Sequence<Rule>) -> Result<(), Memory>
 fn add_others(alloc: Global, rules: &mut Sequence<Rule>) -> Result<(), Memory>
     ensures { OnOk result (rules.new ≡ rules.old ++ other_rules) }
 {
-    rules.push(in_order(alloc, true, "rev", &["XS"])?)?;
-    rules.push(in_order(alloc, true, "flatten", &["XSS"])?)?;
-    rules.push(in_order(alloc, true, "append", &["XS", "YS"])?)?;
-    rules.push(in_order(alloc, true, "endrule", &["X"])?)?;
-    rules.push(in_order(alloc, false, "midrule", &["X"])?)?;
+    add_in_order(alloc, rules, true, "rev", &["XS"])?;
+    add_in_order(alloc, rules, true, "flatten", &["XSS"])?;
+    add_in_order(alloc, rules, true, "append", &["XS", "YS"])?;
+    add_in_order(alloc, rules, true, "endrule", &["X"])?;
+    add_in_order(alloc, rules, false, "midrule", &["X"])?;
     Ok(())
 }
 

@@ -55,3 +55,15 @@ returns-in-Err-clause-err c =
     let e = c.in-Err.ensures.err before w.search in
     let P : ℕ → Type 0 = λ p. Causes (Fails j (finds j (take (length instances) (terms_at ts numbers)) ++ producers_of j (term_at ts (get_or numbers p 0)))) c.in-Err.fault in
     fault_next j ts numbers instances (get nat_eq c.args.ranks.now) w l c.in-Err.fault (subst P (c.in-Some.ensures.0 ∙ c.len.ensures) e)
+
+pub expand_instance-requires-clause-few : goal.expand_instance-requires-clause-few
+expand_instance-requires-clause-few c = c.instances.invariant.expanding.few
+
+pub expand_instance-requires-clause-below : goal.expand_instance-requires-clause-below
+expand_instance-requires-clause-below c = c.instances.invariant.expanding.search.below
+
+pub expand_instance-requires-clause-ranks : goal.expand_instance-requires-clause-ranks
+expand_instance-requires-clause-ranks c = c.instances.invariant.expanding.ranks
+
+pub returns-in-Err-clause-ok : goal.returns-in-Err-clause-ok
+returns-in-Err-clause-ok c = tt

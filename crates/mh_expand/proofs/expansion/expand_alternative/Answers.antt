@@ -1,8 +1,9 @@
 use Rattle.std.proofs.Common.{◌++◌, map, refl, subst, ◌∙◌}
 use Rattle.std.proofs.lemmas.List.{take_all}
+use Rattle.std.proofs.lemmas.Option.{slice_get_within}
 use Rattle.mh_expand.specs.Terms.{arguments}
 use Rattle.mh_expand.specs.Expansion.{Fails, Causes}
-use Rattle.mh_expand.specs.Sharing.{terms_of}
+use Rattle.mh_expand.specs.Sharing.{terms_of, terms_at}
 use Rattle.mh_expand.proofs.Actuals.{stands}
 use Rattle.mh_expand.proofs.Going.{below_grows}
 use Rattle.mh_expand.proofs.Steps.{producers_none, producers_more, producers_fail}
@@ -30,3 +31,27 @@ pub returns-clause-ok : goal.returns-clause-ok
 returns-clause-ok c = λ before t e s.
     let v = rw (take_all c.loop-producer.producer-index c.as_slice-producer-items.result.now c.loop-producer-test.false ∙ c.as_slice-producer-items.ensures) at (c.loop-producer.invariant.through before t e s) in
     rw c.production_of.ensures (record { went = v.went; made = record { file = refl; place = refl; rhs = v.parts; prec = refl } })
+
+pub find-requires-clause-number : goal.find-requires-clause-number
+find-requires-clause-number c = slice_get_within (terms_of c.replace.new.terms.nodes.keys) c.in_ok-number.number (stands (terms_at (terms_of c.loop-producer.terms.nodes.keys) c.args.formals.now) c.producer-item.result) c.in_ok-number.ensures.term
+
+pub find-requires-clause-few : goal.find-requires-clause-few
+find-requires-clause-few c = c.loop-producer.invariant.few
+
+pub returns-in-Err-clause-few : goal.returns-in-Err-clause-few
+returns-in-Err-clause-few c = tt
+
+pub returns-in-Err-clause-grows : goal.returns-in-Err-clause-grows
+returns-in-Err-clause-grows c = tt
+
+pub returns-in-Err-clause-ok : goal.returns-in-Err-clause-ok
+returns-in-Err-clause-ok c = tt
+
+pub returns-clause-few : goal.returns-clause-few
+returns-clause-few c = c.loop-producer.invariant.few
+
+pub returns-clause-grows : goal.returns-clause-grows
+returns-clause-grows c = c.loop-producer.invariant.grows
+
+pub returns-clause-err : goal.returns-clause-err
+returns-clause-err c = tt

@@ -1,5 +1,5 @@
-use Rattle.std.proofs.Common.{◌≡◌, Some, length, refl, sym, ap, ◌∙◌}
-use Rattle.std.specs.Option.{option_map}
+use Rattle.std.proofs.Common.{◌≡◌, [], Some, length, refl, sym, ap, ◌∙◌}
+use Rattle.std.specs.Option.{option_map, unwrap_or}
 use Rattle.std.specs.List.{slice_get}
 use Rattle.mh_rules.specs.declared.joined.JoinedRule.{JoinedRule}
 use Rattle.mh_expand.specs.Terms.{arguments}
@@ -29,3 +29,11 @@ wrong_count-requires-clause-count c = λ f.
 
 pub returns-in_default-clause-err : goal.returns-in_default-clause-err
 returns-in_default-clause-err c = λ before s. c.wrong_count.ensures before
+
+pub add_instance-requires-clause-instance : goal.add_instance-requires-clause-instance
+add_instance-requires-clause-instance c = rw c.requires.rule tt
+
+pub add_instance-requires-clause-rule : goal.add_instance-requires-clause-rule
+add_instance-requires-clause-rule c =
+    let e : slice_get c.args.joined.now.rules c.args.rule ≡ Some c.in-Some.rule.now = sym c.in-Some.ensures.value in
+    rw c.requires.rule (sym (ap (λ o. unwrap_or (option_map (λ (q : JoinedRule). q.name) o) []) e))

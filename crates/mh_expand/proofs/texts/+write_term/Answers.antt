@@ -1,7 +1,7 @@
-use Rattle.std.proofs.Common.{◌≡◌, ◌<◌, ◌⊎◌, ◌∷◌, ◌++◌, [], take, length, get_or, arith, ap, inl, inr}
+use Rattle.std.proofs.Common.{◌≡◌, ◌<◌, ◌⊎◌, ◌∷◌, ◌++◌, [], take, length, get_or, arith, ap, inl, inr, refl, sym}
 use Rattle.mh_expand.specs.Terms.{text}
 use Rattle.mh_expand.specs.Sharing.{terms_of, term_at}
-use Rattle.mh_expand.proofs.Room.{IsWriting-arg, IsWriting-end}
+use Rattle.mh_expand.proofs.Room.{take_full, take_within, IsWriting-start, IsWriting-arg, IsWriting-bare, IsWriting-end}
 use Rattle.mh_expand.proofs.texts.+write_term.Goals as goal
 use Rattle.mh_expand.proofs.texts.+write_term.Goals.{then-place-eq0, else-place-eq0}
 
@@ -22,3 +22,25 @@ pub returns-in_ok-write_bytes-2 : goal.returns-in_ok-write_bytes-2
 returns-in_ok-write_bytes-2 t c =
     let node = c.at-node.result.now in
     IsWriting-end c.args.joined.now c.args.room c.args.text.now.items c.loop-place.text.items c.write_bytes-then-not-is_empty.new.text.items node.head (terms_of c.args.terms.now.nodes.keys) node.args c.loop-place.place c.args.number (λ e. let f = c.if-not-is_empty.ensures.1 e in cc) (omega (arith, ap length c.as_slice-arg-items.ensures)) c.at-node.ensures.means c.loop-place.invariant c.in_ok-write_bytes-2.ensures
+
+pub returns-then-len-room : goal.returns-then-len-room
+returns-then-len-room t c = sym (take_full c.args.room c.args.text.now.items (text c.args.joined.now (term_at (terms_of c.args.terms.now.nodes.keys) c.args.number)) (omega arith))
+
+pub loop-place-init : goal.loop-place-init
+loop-place-init t c = IsWriting-start c.args.joined.now c.args.room c.args.text.now.items c.write_head.new.text.items c.at-node.result.now.head c.in_ok-write_head.ensures
+
+pub write_bytes-requires : goal.write_bytes-requires
+write_bytes-requires t c = rw c.loop-place.invariant.text (take_within c.args.room _)
+
+pub write_term-requires : goal.write_term-requires
+write_term-requires t c =
+    let i = c.loop-place.place in
+    let items = c.as_slice-arg-items.result.now in
+    let inside : i < length c.at-node.result.now.args = omega (arith, ap length c.as_slice-arg-items.ensures) in
+    let below : get_or items i 0 < c.args.number = rw c.as_slice-arg-items.ensures (c.at-node.ensures.below i 0 inside) in
+    (omega (arith, below, c.decreases), (omega (arith, below, c.requires.number), rw c.in_ok-write_bytes.ensures (take_within c.args.room _)))
+
+pub returns-else-not-is_empty : goal.returns-else-not-is_empty
+returns-else-not-is_empty t c =
+    let node = c.at-node.result.now in
+    IsWriting-bare c.args.joined.now c.args.room c.args.text.now.items c.loop-place.text.items node.head (terms_of c.args.terms.now.nodes.keys) node.args c.loop-place.place c.args.number (c.if-not-is_empty.ensures.0 refl) c.at-node.ensures.means c.loop-place.invariant

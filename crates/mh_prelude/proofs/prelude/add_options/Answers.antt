@@ -1,5 +1,6 @@
-use Rattle.mh_meanings.proofs.Lists.{push_first, push_then}
+use Rattle.std.proofs.Common.{refl}
+use Rattle.mh_meanings.proofs.Lists.{push_then}
 use Rattle.mh_prelude.proofs.prelude.add_options.Goals as goal
 
 pub returns : goal.returns
-returns c = push_then c.args.rules.now c.push-3.new.self c.push-4.new.self _ c.in_ok-optional-4.field-0 _ (push_then c.args.rules.now c.push-2.new.self c.push-3.new.self _ c.in_ok-optional-3.field-0 _ (push_then c.args.rules.now c.push.new.self c.push-2.new.self _ c.in_ok-optional-2.field-0 _ (push_first c.args.rules.now c.push.new.self c.in_ok-optional.field-0 _ c.in_ok-push.ensures.ok c.in_ok-optional.ensures) c.in_ok-push-2.ensures.ok c.in_ok-optional-2.ensures) c.in_ok-push-3.ensures.ok c.in_ok-optional-3.ensures) c.in_ok-push-4.ensures.ok c.in_ok-optional-4.ensures
+returns c = push_then c.args.rules.now c.add_optional-3.new.rules c.add_optional-4.new.rules _ _ _ (push_then c.args.rules.now c.add_optional-2.new.rules c.add_optional-3.new.rules _ _ _ (push_then c.args.rules.now c.add_optional.new.rules c.add_optional-2.new.rules _ _ _ c.in_ok-add_optional.ensures c.in_ok-add_optional-2.ensures refl) c.in_ok-add_optional-3.ensures refl) c.in_ok-add_optional-4.ensures refl

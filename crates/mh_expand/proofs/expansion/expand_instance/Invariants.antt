@@ -1,7 +1,0 @@
-use Rattle.std.proofs.Common.{take}
-use Rattle.mh_expand.specs.Sharing.{terms_of, term_at}
-use Rattle.mh_expand.proofs.Steps.{AlternativesSoFar}
-use Rattle.mh_expand.proofs.expansion.expand_instance.Given as goal
-
-abbrev pub invariant-loop-alternative : goal.invariant-loop-alternative
-invariant-loop-alternative l = AlternativesSoFar l.joined (term_at (terms_of l.fn.terms.nodes.keys) l.number) (terms_of l.fn.terms.nodes.keys) (terms_of l.terms.nodes.keys) l.fn.found.keys l.found.keys (take l.alternative-index l.alternative-items) l.productions
