@@ -1,4 +1,5 @@
 pub mod Limits
+pub mod Mapped
 pub mod Only
 pub mod Producing
 pub mod Ranges
