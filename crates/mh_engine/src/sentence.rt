@@ -1,9 +1,12 @@
 //! Runs of whole sentences with their trees, by checkpoints.
-ghost use Rattle.std.specs.Prelude.{◌≡◌, ◌<◌, ◌^◌, length, IfOk, All};
+ghost use Rattle.std.specs.Prelude.{◌≡◌, ◌<◌, ◌^◌, length, true, false, IfOk, IfErr, OnOk, All};
+ghost use Rattle.mh_tables.specs.Deep.{too_deep};
 ghost use Rattle.mh_tables.specs.TreeRuns.{IsTreeEnding};
 ghost use Rattle.mh_engine.specs.Outcomes.{tree_ending_for};
 ghost use Rattle.mh_engine.specs.Reached.{HasReached, IsAccept};
-ghost use Rattle.mh_engine.specs.Phases.{phase_of};
+ghost use Rattle.mh_engine.specs.Phases.{phase_of, IsAsking, CanGoOn};
+ghost use Rattle.mh_engine.specs.Steps.{offered, resumed};
+ghost use Rattle.mh_engine.specs.declared.fault.ResumeFault.TheVariants as faults;
 ghost use Rattle.mh_engine.specs.declared.phase.Phase.TheVariants as phases;
 
 use crate::checkpoint::{Checkpoint, begin};
@@ -70,7 +73,7 @@ fn run(
             Phase::Accepted => return accept(place as u32, &asking),
             _ => unreachable!(),
         }
-        let offered = asking.offer(*token)?;
+        let offered = offer_to(asking, *token)?;
         let fed = match settle(alloc, offered) {
             Ok(fed) => fed,
             Err(ResumeFault::TooDeep) => return Ok(TreeOutcome::TooDeep),
@@ -87,7 +90,7 @@ fn run(
             }
             _ => unreachable!(),
         }
-        at = match fed.resume(alloc) {
+        at = match resume_from(alloc, fed) {
             Ok(next) => next,
             Err(ResumeFault::TooDeep) => return Ok(TreeOutcome::TooDeep),
             Err(ResumeFault::Memory) => return Err(Memory),
@@ -103,6 +106,25 @@ fn run(
         Phase::Accepted => accept(sentence.len() as u32, &end),
         _ => unreachable!(),
     }
+}
+
+// The checkpoint with a token offered, in place of the one that asks.
+fn offer_to<'t>(asking: Checkpoint<'t>, token: Token) -> Result<Checkpoint<'t>, Memory>
+    requires asking { IsAsking (phase_of asking) }
+    requires token { token < asking.table.grammar.tokens }
+    ensures { IfOk result (λ c. c ≡ offered asking.entry token) }
+{
+    asking.offer(token)
+}
+
+// The checkpoint after the next step, in place of the one before it.
+fn resume_from<'t>(alloc: Global, from: Checkpoint<'t>) -> Result<Checkpoint<'t>, ResumeFault>
+    requires { CanGoOn (phase_of from) }
+    ensures made { IfOk result (λ c. c ≡ resumed from.entry) }
+    ensures fits { OnOk result (too_deep (resumed from.entry).pairs.trees ≡ false) }
+    ensures deep { IfErr result (λ fault. fault ≡ faults.TooDeep → too_deep (resumed from.entry).pairs.trees ≡ true) }
+{
+    from.resume(alloc)
 }
 
 // The answer where the run accepts.

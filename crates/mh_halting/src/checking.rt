@@ -34,12 +34,21 @@ pub fn check_halts(alloc: Global, table: Table) -> Result<Halting, HaltFault>
 {
     table.facts();
     match first_loop(alloc, &table) {
-        Err(_) => Err(HaltFault::Memory),
-        Ok(Some(found)) => Err(HaltFault::Loops {
-            below: found.below,
-            state: found.state,
-            token: found.token,
-        }),
+        Err(_) => {
+            release(table);
+            Err(HaltFault::Memory)
+        }
+        Ok(Some(found)) => {
+            release(table);
+            Err(HaltFault::Loops {
+                below: found.below,
+                state: found.state,
+                token: found.token,
+            })
+        }
         Ok(None) => Ok(halting_of(table)),
     }
 }
+
+// Lets go of a table that is refused, in one call.
+fn release<T: Drop>(_value: T) {}

@@ -59,17 +59,15 @@ put_case old new command name c (Ok reply) gives is told fault put same = (
 )
 put_case old new command name c (Err fault) gives is told f put same = subst (λ (x : SessionFault). IsServed old command new (Err x)) (sym f) same
 
--- what the code of `put` says, at the name that was cloned
+-- what the code of `put` says
 pub record DidPut (old new : Moment) (name : Text) (c : Position) (r : Answer) : Type 0 where
-  pub cloned : Text
-  pub same_name : cloned ≡ name
   pub reply : IfOk r (λ x. x ≡ replies.Phase (phase_of c))
   pub fault : IfErr r (λ f. f ≡ faults.Memory)
-  pub put : OnOk r (Puts old cloned (Some c) new)
+  pub put : OnOk r (Puts old name (Some c) new)
   pub same : OnErr r (new ≡ old)
 
 put_served : (old new : Moment) (command : Command) (name : Text) (c : Position) (r : Answer) → ((bs : Branches) → StandsFor old bs → Gives old command name c bs) → c.table ≡ old.table → DidPut old new name c r → IsServed old command new r
-put_served old new command name c r gives is did = put_case old new command name c r gives is did.reply did.fault (subst (λ (n : Text). OnOk r (Puts old n (Some c) new)) did.same_name did.put) did.same
+put_served old new command name c r gives is did = put_case old new command name c r gives is did.reply did.fault did.put did.same
 
 pub begin_served : (old new : Moment) (name : Text) (start : ℕ) (c : Position) (r : Answer) → at_name name old.held ≡ None → c ≡ begun old.table start [] → DidPut old new name c r → IsServed old (commands.Begin name start) new r
 begin_served old new name start c r free is did =

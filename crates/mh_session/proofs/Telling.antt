@@ -1,14 +1,17 @@
 -- A list of commands, answered so far.
-use Rattle.std.proofs.Common.{◌≡◌, ℕ, suc, ◌+◌, ◌<◌, List, [], ◌∷◌, ◌++◌, length, drop, get_or, Result, Ok, Err, refl, sym, ap, subst, ◌∙◌, ◌⊎◌, inl, inr, append_assoc, arith}
-use Rattle.std.specs.List.{All}
+use Rattle.std.proofs.Common.{◌≡◌, ℕ, ◌+◌, ◌<◌, ◌≤◌, List, [], ◌∷◌, ◌++◌, length, drop, get_or, None, Ok, Err, refl, sym, ap, subst, ◌∙◌, append_assoc, append-nil}
+use Rattle.std.proofs.Math.ListN.{drop_of_length-le}
 use Rattle.std.proofs.lemmas.List.{drop_more}
 use Rattle.mh_tables.specs.Table.{TableData}
 use Rattle.mh_commands.specs.declared.command.Command.{Command}
 use Rattle.mh_branches.specs.declared.command.SessionFault.{SessionFault}
 use Rattle.mh_branches.specs.declared.command.SessionFault.TheVariants as faults
 use Rattle.mh_session.specs.Moments.{Moment}
-use Rattle.mh_branches.specs.Answers.{Branches, Answer, answer, answers, next, IsKnown}
-use Rattle.mh_session.specs.Standing.{StandsFor}
+use Rattle.mh_engine.specs.Positions.{Position}
+use Rattle.mh_grammar.specs.Text.{Text}
+use Rattle.mh_branches.specs.Names.{at_name}
+use Rattle.mh_branches.specs.Answers.{Branches, Answer, answer, answers, next}
+use Rattle.mh_session.specs.Standing.{Fits, StandsFor}
 use Rattle.mh_session.specs.Served.{IsServed, IsTheirs}
 
 -- what was answered so far, and what the branches will be answered, is what all are answered
@@ -18,13 +21,18 @@ pub record Told (t : TableData) (commands : List Command) (i : ℕ) (session : M
   pub table : session.table ≡ t
   pub rest : so_far ++ answers t branches (drop i commands) ≡ answers t [] commands
 
-pub told_first : (t : TableData) (commands : List Command) (session : Moment) (so_far : List Answer) → session ≡ record { table = t; held = [] } → so_far ≡ [] → Told t commands 0 session so_far
-told_first t commands session so_far s e = record {
+-- with no names and no answers
+pub told_begins : (commands : List Command) (session : Moment) (so_far : List Answer) → session.held ≡ [] → so_far ≡ [] → Told session.table commands 0 session so_far
+told_begins commands session so_far none empty = record {
   branches = [];
-  stands = subst (λ (m : Moment). StandsFor m []) (sym s) (λ name. tt);
-  table = ap (λ (m : Moment). m.table) s;
-  rest = rw e refl;
+  stands = λ name. subst (λ (held : List (Text × Position)). Fits session.table None (at_name name held)) (sym none) tt;
+  table = refl;
+  rest = rw empty refl;
 }
+
+-- where no command is left, all are answered
+pub told_whole : (t : TableData) (commands : List Command) (i : ℕ) (session : Moment) (so_far : List Answer) → Told t commands i session so_far → length commands ≤ i → so_far ≡ answers t [] commands
+told_whole t commands i session so_far told le = sym (append-nil so_far) ∙ ap (λ (l : List Command). so_far ++ answers t told.branches l) (sym (drop_of_length-le commands le)) ∙ told.rest
 
 -- a command that did not lack memory
 pub record Goes (old : Moment) (command : Command) (new : Moment) (r : Answer) (bs : Branches) : Type 0 where

@@ -1,5 +1,5 @@
 //! Lists of commands.
-ghost use Rattle.std.specs.Prelude.{◌≡◌, ◌↔◌, [], IfOk, IsTrue, Err};
+ghost use Rattle.std.specs.Prelude.{◌≡◌, ◌↔◌, [], IfOk, OnOk, IsTrue, Err};
 ghost use Rattle.mh_branches.specs.declared.command.SessionFault.TheVariants as faults;
 ghost use Rattle.std.specs.List.{All};
 ghost use Rattle.mh_branches.specs.Answers.{IsKnown, answers};
@@ -23,15 +23,42 @@ pub fn answer_all(
 {
     let mut session = Session::new(alloc, table);
     let mut answers = Vec::new(alloc);
+    match answer_each(&mut session, &mut answers, commands) {
+        Ok(()) => {
+            release(session);
+            Ok(answers)
+        }
+        Err(memory) => {
+            release(session);
+            release(answers);
+            Err(memory)
+        }
+    }
+}
+
+// Answers one command after another, in a session with no names.
+fn answer_each(
+    session: &mut Session<'_>,
+    so_far: &mut Vec<Result<Reply, SessionFault>>,
+    commands: &[Command],
+) -> Result<(), Memory>
+    requires known { All (IsKnown session.old.table) commands.now }
+    requires none { session.old.held ≡ [] }
+    requires empty { so_far.old.items ≡ [] }
+    ensures { OnOk result (so_far.new.items ≡ answers session.old.table [] commands.now) }
+{
     for command in commands {
         let answer = session.step(command);
         if lacked_memory(&answer) {
             return Err(Memory);
         }
-        answers.push(answer)?;
+        so_far.push(answer)?;
     }
-    Ok(answers)
+    Ok(())
 }
+
+// Lets go of what is of no more use, in one call.
+fn release<T: Drop>(_value: T) {}
 
 fn lacked_memory(answer: &Result<Reply, SessionFault>) -> bool
     ensures { IsTrue result ↔ (answer.now ≡ Err faults.Memory) }

@@ -58,14 +58,15 @@ impl<'t> Session<'t> {
     }
 
     // Gives a name a checkpoint, and answers its phase.
-    fn put(&mut self, name: Name, checkpoint: Checkpoint<'t>) -> Result<Reply, SessionFault>
+    fn put(&mut self, name: &Name, checkpoint: Checkpoint<'t>) -> Result<Reply, SessionFault>
         requires { checkpoint.table ≡ self.old.table }
         ensures reply { IfOk result (λ r. r ≡ replies.Phase (phase_of checkpoint.entry)) }
         ensures fault { IfErr result (λ f. f ≡ faults.Memory) }
-        ensures put { OnOk result (Puts self.old name (Some checkpoint.entry) self.new) }
+        ensures put { OnOk result (Puts self.old name.now (Some checkpoint.entry) self.new) }
         ensures same { OnErr result (self.new ≡ self.old) }
     {
         let phase = checkpoint.phase();
+        let name = name.clone()?;
         self.branches.insert(name, checkpoint)?;
         Ok(Reply::Phase(phase))
     }
@@ -112,7 +113,7 @@ impl<'t> Serves for Session<'t> {
             return Err(SessionFault::NameTaken);
         }
         let checkpoint = begin(self.table, start);
-        self.put(name.clone()?, checkpoint)
+        self.put(name, checkpoint)
     }
 
     fn offer(&mut self, name: &Name, token: Token) -> Result<Reply, SessionFault>
@@ -127,7 +128,7 @@ impl<'t> Serves for Session<'t> {
             return Err(SessionFault::WrongPhase { phase });
         };
         let offered = checkpoint.offer(token)?;
-        self.put(name.clone()?, offered)
+        self.put(name, offered)
     }
 
     fn resume(&mut self, name: &Name) -> Result<Reply, SessionFault>
@@ -145,7 +146,7 @@ impl<'t> Serves for Session<'t> {
             Err(ResumeFault::TooDeep) => return Err(SessionFault::TooDeep),
             Err(ResumeFault::Memory) => return Err(SessionFault::Memory),
         };
-        self.put(name.clone()?, resumed)
+        self.put(name, resumed)
     }
 
     fn fork(&mut self, name: &Name, fresh: &Name) -> Result<Reply, SessionFault>
@@ -158,7 +159,7 @@ impl<'t> Serves for Session<'t> {
             return Err(SessionFault::NameTaken);
         }
         let forked = checkpoint.fork()?;
-        self.put(fresh.clone()?, forked)
+        self.put(fresh, forked)
     }
 
     fn show(&mut self, name: &Name) -> Result<Reply, SessionFault>

@@ -1,8 +1,18 @@
-use Rattle.std.proofs.Common.{◌≡◌, refl, sym, ◌∙◌}
-use Rattle.mh_session.proofs.Telling.{told_more}
+use Rattle.std.proofs.Common.{[], ap, subst, sym, ◌∙◌}
+use Rattle.std.specs.List.{All}
+use Rattle.mh_tables.specs.Table.{TableData}
+use Rattle.mh_session.specs.Moments.{Moment}
+use Rattle.mh_branches.specs.Answers.{IsKnown, answers}
 use Rattle.mh_session.proofs.run.answer_all.Goals as goal
 
-pub loop-command-preserved : goal.loop-command-preserved
-loop-command-preserved c =
-    told_more c.args.table.now c.args.commands.now c.loop-command.command-index c.loop-command.session c.step-answer.new.self c.loop-command.answers.items c.push.new.self.items c.command-item.result c.step-answer.result c.loop-command.invariant
-    c.loop-command-test.true c.command-item.is c.step-answer.ensures.served (λ e. let told = c.lacked_memory.ensures.1 e in let free = c.if-lacked_memory.false in cc) c.in_ok-push.ensures.items
+pub answer_each-requires-clause-known : goal.answer_each-requires-clause-known
+answer_each-requires-clause-known c = subst (λ (t : TableData). All (IsKnown t) c.args.commands.now) (sym (ap (λ (m : Moment). m.table) c.new-session.ensures)) c.requires
+
+pub answer_each-requires-clause-none : goal.answer_each-requires-clause-none
+answer_each-requires-clause-none c = ap (λ (m : Moment). m.held) c.new-session.ensures
+
+pub answer_each-requires-clause-empty : goal.answer_each-requires-clause-empty
+answer_each-requires-clause-empty c = c.new-answers.ensures.items
+
+pub returns-in-Ok : goal.returns-in-Ok
+returns-in-Ok c = c.in-Ok.ensures ∙ ap (λ (m : Moment). answers m.table [] c.args.commands.now) c.new-session.ensures

@@ -14,4 +14,4 @@ pub returns : goal.returns
 returns c =
     begin_served c.args.self.now c.put.new.self c.args.name.now c.args.start c.begin-checkpoint.result c.put.result (found_none c.find.result _ c.find.ensures.found (sym c.is_some.ensures ∙ c.if-is_some.false))
     (c.begin-checkpoint.ensures.made ∙ ap (λ (m : Moment). begun m.table c.args.start []) c.self.view_is)
-    (record { cloned = c.in_ok-clone.field-0; same_name = c.in_ok-clone.ensures.cases; reply = c.put.ensures.reply; fault = c.put.ensures.fault; put = c.put.ensures.put; same = c.put.ensures.same })
+    (record { reply = c.put.ensures.reply; fault = c.put.ensures.fault; put = c.put.ensures.put; same = c.put.ensures.same })

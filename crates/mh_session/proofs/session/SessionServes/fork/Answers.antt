@@ -14,4 +14,4 @@ pub returns : goal.returns
 returns c =
     fork_served c.args.self.now c.put.new.self c.args.name.now c.args.fresh.now c.in-Some.checkpoint.now c.in_ok-forked.forked c.put.result (sym c.in-Some.ensures.found) c.in-Some.ensures.table
     (found_none c.find-2.result _ c.find-2.ensures.found (sym c.is_some.ensures ∙ c.if-is_some.false)) c.in_ok-forked.ensures
-    (record { cloned = c.in_ok-clone.field-0; same_name = c.in_ok-clone.ensures.cases; reply = c.put.ensures.reply; fault = c.put.ensures.fault; put = c.put.ensures.put; same = c.put.ensures.same })
+    (record { reply = c.put.ensures.reply; fault = c.put.ensures.fault; put = c.put.ensures.put; same = c.put.ensures.same })

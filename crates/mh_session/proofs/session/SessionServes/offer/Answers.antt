@@ -14,4 +14,4 @@ pub returns : goal.returns
 returns c =
     offer_served c.args.self.now c.put.new.self c.args.name.now c.args.token c.in-InputNeeded.state c.in-Some.checkpoint.now c.in_ok-offered.offered c.put.result (sym c.in-Some.ensures.found) c.in-Some.ensures.table (sym c.in-InputNeeded.ensures)
     c.in_ok-offered.ensures.made
-    (record { cloned = c.in_ok-clone.field-0; same_name = c.in_ok-clone.ensures.cases; reply = c.put.ensures.reply; fault = c.put.ensures.fault; put = c.put.ensures.put; same = c.put.ensures.same })
+    (record { reply = c.put.ensures.reply; fault = c.put.ensures.fault; put = c.put.ensures.put; same = c.put.ensures.same })

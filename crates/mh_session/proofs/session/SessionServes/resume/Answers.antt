@@ -22,4 +22,4 @@ pub returns : goal.returns
 returns c =
     let going : CanGoOn (phase_of c.in-Some.checkpoint.now) = subst CanGoOn c.phase-phase.ensures (c.if-not-can_go_on.ensures.0 refl) in
     resume_served c.args.self.now c.put.new.self c.args.name.now c.in-Some.checkpoint.now c.in-Ok.resumed c.put.result (sym c.in-Some.ensures.found) c.in-Some.ensures.table going c.in-Ok.ensures.made c.in-Ok.ensures.fits
-    (record { cloned = c.in_ok-clone.field-0; same_name = c.in_ok-clone.ensures.cases; reply = c.put.ensures.reply; fault = c.put.ensures.fault; put = c.put.ensures.put; same = c.put.ensures.same })
+    (record { reply = c.put.ensures.reply; fault = c.put.ensures.fault; put = c.put.ensures.put; same = c.put.ensures.same })
