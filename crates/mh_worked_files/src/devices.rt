@@ -2,7 +2,7 @@
 ghost use Rattle.std.specs.Prelude.{◌≡◌, IfOk, Some};
 ghost use Rattle.mh_outside.specs.Fakes.{sink_written, sink_calls};
 
-use crate::cases::{Subject, check, check_cases, digit, put, release};
+use crate::cases::{Subject, Wanted, check_answer, check_cases, digit, put, release};
 use mh_outside::{
     Failed, LineFault, MemShelf, MemSink, MemSource, Shelf, ShelfFault, Sink, Source, WriteFault,
     read_line, write_whole,
@@ -74,11 +74,6 @@ const LINES: &str = "9 0 ~^\
      9 6 ab\nc~>ab>c!^\
      9 7 ab\nc~>ab>c";
 
-#[test]
-fn lines_are_read(rt: HostRuntime) -> Result<(), Fail> {
-    check_cases(rt.alloc(), &Subject::Lines, LINES, 15)
-}
-
 /// Writes a piece, and adds `+` where it is taken whole, and `!` where a write fails.
 fn put_write<S: Sink>(text: &mut Vec<u8>, sink: &mut S, piece: &[u8]) {
     put(
@@ -90,16 +85,14 @@ fn put_write<S: Sink>(text: &mut Vec<u8>, sink: &mut S, piece: &[u8]) {
     );
 }
 
-#[test]
-fn pieces_are_written(rt: HostRuntime) -> Result<(), Fail> {
-    let mut text = Vec::new(rt.alloc());
-    let mut sink = MemSink::new(rt.alloc(), calls(rt.alloc(), &[2]));
+/// Adds what becomes of pieces where the second write fails, and what was written.
+pub fn put_pieces(alloc: Global, text: &mut Vec<u8>) {
+    let mut sink = MemSink::new(alloc, calls(alloc, &[2]));
     for piece in [b"ab".as_slice(), b"cd", b"", b"ef"] {
-        put_write(&mut text, &mut sink, piece);
+        put_write(text, &mut sink, piece);
     }
-    put(&mut text, sink.written());
+    put(text, sink.written());
     release(sink);
-    check(rt.alloc(), text, "+!++abef", "a sink")
 }
 
 /// A sink that takes one byte a call.
@@ -132,11 +125,7 @@ pub fn put_trickled(alloc: Global, text: &mut Vec<u8>, fail: &str) {
 }
 
 /// Each of four short writes fails in turn, and the bytes before it were written.
-#[test]
-fn each_write_fails_in_turn(rt: HostRuntime) -> Result<(), Fail> {
-    let cases = "1~!^2~!a^3~!ab^4~!abc^5~abcd";
-    check_cases(rt.alloc(), &Subject::Trickled, cases, 5)
-}
+const WRITES: &str = "1~!^2~!a^3~!ab^4~!abc^5~abcd";
 
 fn file(alloc: Global, name: &[u8], bytes: &[u8]) -> Result<(Vec<u8>, Vec<u8>), AllocError>
     ensures { IfOk result (λ file. (file.0.items ≡ name.now) × (file.1.items ≡ bytes.now)) }
@@ -150,7 +139,7 @@ fn shelf(alloc: Global) -> Result<MemShelf, Fail> {
     let mut files = Vec::new(alloc);
     files.push(file(alloc, b"g", b"HELLO")?)?;
     files.push(file(alloc, b"h", b"")?)?;
-    Ok(MemShelf::new(files, [3].to_vec(alloc)?))
+    Ok(MemShelf::new(files, calls(alloc, &[3])))
 }
 
 fn fault_name(fault: ShelfFault) -> &'static [u8] {
@@ -176,31 +165,30 @@ fn put_file(alloc: Global, text: &mut Vec<u8>, shelf: &mut MemShelf, name: &[u8]
 /// The file and the limit, with `~` before what is read and `^` between the calls.
 const READS: &str = "g 5~HELLO^g 4~too big^g 5~failed^i 5~absent^h 0~";
 
+/// Adds what is read by a call.
+fn put_read(alloc: Global, text: &mut Vec<u8>, shelf: &mut MemShelf, given: &str) {
+    let (name, limit) = given.split_once(' ').unwrap_or(("", ""));
+    let limit = limit.parse().unwrap_or(0);
+    put_file(alloc, text, shelf, name.as_bytes(), limit);
+}
+
 /// Adds a call again, with what is read now behind its `~`.
 fn put_call(alloc: Global, text: &mut Vec<u8>, shelf: &mut MemShelf, case: &str) {
     let (given, _) = case.split_once('~').unwrap_or(("", ""));
-    let (name, limit) = given.split_once(' ').unwrap_or(("", ""));
     put(text, if text.is_empty() { b"" } else { b"^" });
     put(text, given.as_bytes());
     put(text, b"~");
-    put_file(
-        alloc,
-        text,
-        shelf,
-        name.as_bytes(),
-        limit.parse().unwrap_or(0),
-    );
+    put_read(alloc, text, shelf, given);
 }
 
-#[test]
-fn files_are_read(rt: HostRuntime) -> Result<(), Fail> {
-    let mut shelf = shelf(rt.alloc())?;
-    let mut text = Vec::new(rt.alloc());
-    for case in READS.split('^') {
-        put_call(rt.alloc(), &mut text, &mut shelf, case);
+/// Adds calls of one shelf again, with what is read behind each.
+pub fn put_shelf(alloc: Global, text: &mut Vec<u8>, cases: &str) -> Result<(), Fail> {
+    let mut shelf = shelf(alloc)?;
+    for case in cases.split('^') {
+        put_call(alloc, text, &mut shelf, case);
     }
     release(shelf);
-    check(rt.alloc(), text, READS, "a shelf")
+    Ok(())
 }
 
 /// Reads, and adds how many bytes came, or `!` where the read fails.
@@ -211,16 +199,23 @@ fn put_count(text: &mut Vec<u8>, input: &mut MemSource, buf: &mut [u8; 2]) {
     }
 }
 
-/// A read takes as much as there is room for, and 0 comes at the end alone.
-#[test]
-fn reads_take_what_fits(rt: HostRuntime) -> Result<(), Fail> {
-    let mut text = Vec::new(rt.alloc());
-    let mut input = source(rt.alloc(), b"abc", &[2]);
+/// Adds what four reads come to, and what is in their room then. A read takes as much as there is room for, and 0 comes at the end
+/// alone.
+pub fn put_counts(alloc: Global, text: &mut Vec<u8>) {
+    let mut input = source(alloc, b"abc", &[2]);
     let mut buf = [0u8; 2];
     for _ in 0..4 {
-        put_count(&mut text, &mut input, &mut buf);
+        put_count(text, &mut input, &mut buf);
     }
-    put(&mut text, &buf);
+    put(text, &buf);
     release(input);
-    check(rt.alloc(), text, "2!10cb", "a source")
+}
+
+#[test]
+fn devices(rt: HostRuntime) -> Result<(), Fail> {
+    check_cases(rt.alloc(), &Subject::Lines, LINES, 15)?;
+    check_cases(rt.alloc(), &Subject::Pieces, "~+!++abef", 1)?;
+    check_cases(rt.alloc(), &Subject::Trickled, WRITES, 5)?;
+    check_answer(rt.alloc(), &Subject::Shelf, READS, &Wanted::Whole(READS))?;
+    check_cases(rt.alloc(), &Subject::Counts, "~2!10cb", 1)
 }

@@ -85,17 +85,15 @@ const FILES: &str = "~^\
 /// The sentences of a file, one a line.
 const SENTENCES: &str = "EOF\n  A A\r\n\nM\n\ns : EOF A\n\nN\n~s: EOF\ns: A A\ns: EOF A\n";
 
+/// Two starts: a sentence has to name one.
+const OF_TWO_STARTS: &str = "EOF A\n~missing start 1";
+
 #[test]
 fn files(rt: HostRuntime) -> Result<(), Fail> {
     let printed = Subject::OfGrammar(Reading::Printed, &[1]);
     check_cases(rt.alloc(), &printed, FILES, 14)?;
     let echoed = Subject::OfGrammar(Reading::Echoed, &[1]);
-    check_cases(rt.alloc(), &echoed, SENTENCES, 1)
-}
-
-/// Two starts: a sentence has to name one.
-#[test]
-fn starts(rt: HostRuntime) -> Result<(), Fail> {
-    let printed = Subject::OfGrammar(Reading::Printed, &[1, 0]);
-    check_cases(rt.alloc(), &printed, "EOF A\n~missing start 1", 1)
+    check_cases(rt.alloc(), &echoed, SENTENCES, 1)?;
+    let of_two = Subject::OfGrammar(Reading::Printed, &[1, 0]);
+    check_cases(rt.alloc(), &of_two, OF_TWO_STARTS, 1)
 }

@@ -1,5 +1,5 @@
 //! Grammar files and what they spell, worked out by hand.
-use crate::cases::{Subject, check_answer, check_cases, put, put_number, release};
+use crate::cases::{Subject, Wanted, check_answer, check_cases, put, put_number, release};
 use crate::messages::put_made;
 use mh_grammar::Memory;
 use mh_lex::SyntaxFault;
@@ -259,27 +259,15 @@ pub fn put_costs_again(alloc: Global, text: &mut Vec<u8>, bytes: &[u8]) {
     }
 }
 
-/// Of the files 40 spell a module.
+/// Of the files 40 spell a module. The costs of a file's tokens are those of what its module is printed as.
 #[test]
-fn verdicts(rt: HostRuntime) -> Result<(), Fail> {
+fn modules(rt: HostRuntime) -> Result<(), Fail> {
+    let alloc = rt.alloc();
     spelled_once();
     assert!(rt; cases().split("~+").count() == 41);
-    check_cases(rt.alloc(), &Subject::Kept, cases(), 89)
-}
-
-#[test]
-fn depths(rt: HostRuntime) -> Result<(), Fail> {
-    check_cases(rt.alloc(), &Subject::Depth, DEPTHS, 9)
-}
-
-#[test]
-fn a_module(rt: HostRuntime) -> Result<(), Fail> {
-    check_answer(rt.alloc(), &Subject::Printed, FILE, PRINTED)
-}
-
-/// The costs of a file's tokens are those of what its module is printed as.
-#[test]
-fn costs(rt: HostRuntime) -> Result<(), Fail> {
-    check_cases(rt.alloc(), &Subject::Costs, COSTS, 16)?;
-    check_cases(rt.alloc(), &Subject::CostsAgain, COSTS, 16)
+    check_cases(alloc, &Subject::Kept, cases(), 89)?;
+    check_cases(alloc, &Subject::Depth, DEPTHS, 9)?;
+    check_answer(alloc, &Subject::Printed, FILE, &Wanted::Whole(PRINTED))?;
+    check_cases(alloc, &Subject::Costs, COSTS, 16)?;
+    check_cases(alloc, &Subject::CostsAgain, COSTS, 16)
 }

@@ -1,35 +1,43 @@
 //! Words, and the orders that they spell by hand.
-use crate::cases::{Subject, check, check_cases, put, put_number, release};
+use crate::cases::{Subject, check_cases, put, put_number, release};
 use mh_opts::{Job, Order, UsageFault, read_words};
 use std::alloc::Global;
 use std::test::Fail;
 
+fn job_name(job: &Job) -> &'static [u8] {
+    match job {
+        Job::Interpret => b"interpret",
+        Job::Session => b"session",
+        Job::ShowAutomaton => b"show",
+        Job::WriteTables => b"tables",
+        Job::ListErrors => b"list",
+        Job::InterpretError => b"explain",
+        Job::CompileErrors { .. } => b"compile",
+        Job::CompareErrors { .. } => b"compare",
+        Job::EchoErrors { .. } => b"echo",
+        Job::UpdateErrors { .. } => b"update",
+        Job::Sample { .. } => b"sample",
+    }
+}
+
+/// Adds a word where it is on.
+fn put_if(text: &mut Vec<u8>, is_on: bool, word: &[u8]) {
+    if is_on {
+        put(text, word);
+    }
+}
+
 /// Adds the job with its number, what is on, and each file behind a colon.
 fn put_order(alloc: Global, text: &mut Vec<u8>, order: &Order) {
-    put(
-        text,
-        match &order.job {
-            Job::Interpret => b"interpret".as_slice(),
-            Job::Session => b"session",
-            Job::ShowAutomaton => b"show",
-            Job::WriteTables => b"tables",
-            Job::ListErrors => b"list",
-            Job::InterpretError => b"explain",
-            Job::CompileErrors { .. } => b"compile",
-            Job::CompareErrors { .. } => b"compare",
-            Job::EchoErrors { .. } => b"echo",
-            Job::UpdateErrors { .. } => b"update",
-            Job::Sample { .. } => b"sample",
-        },
-    );
+    put(text, job_name(&order.job));
     if let Job::Sample { number } = order.job {
         put(text, b" ");
         put_number(alloc, text, u64::from(number));
     }
-    put(text, if order.canonical { b" canonical" } else { b"" });
-    put(text, if order.strict { b" strict" } else { b"" });
-    put(text, if order.stdlib { b"" } else { b" bare" });
-    put(text, if order.show_cst { b" trees" } else { b"" });
+    put_if(text, order.canonical, b" canonical");
+    put_if(text, order.strict, b" strict");
+    put_if(text, !order.stdlib, b" bare");
+    put_if(text, order.show_cst, b" trees");
     for file in order.grammars.as_slice() {
         put(text, b" :");
         put(text, file.as_slice());
@@ -52,7 +60,7 @@ fn put_fault(text: &mut Vec<u8>, fault: &UsageFault) {
 }
 
 /// Adds what the words come to.
-fn put_read(alloc: Global, text: &mut Vec<u8>, words: &[String]) {
+pub fn put_read(alloc: Global, text: &mut Vec<u8>, words: &[String]) {
     match read_words(alloc, words) {
         Ok(order) => {
             put_order(alloc, text, &order);
@@ -143,7 +151,5 @@ pub fn put_words(alloc: Global, text: &mut Vec<u8>, line: &str) {
 #[test]
 fn cases(rt: HostRuntime) -> Result<(), Fail> {
     check_cases(rt.alloc(), &Subject::Words, CASES, 56)?;
-    let mut text = Vec::new(rt.alloc());
-    put_read(rt.alloc(), &mut text, &[]);
-    check(rt.alloc(), text, "no mode", "")
+    check_cases(rt.alloc(), &Subject::NoWords, "~no mode", 1)
 }

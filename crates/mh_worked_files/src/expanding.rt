@@ -130,11 +130,6 @@ pub fn put_instances(alloc: Global, text: &mut Vec<u8>, file: &str) -> Result<()
     Ok(())
 }
 
-#[test]
-fn files(rt: HostRuntime) -> Result<(), Fail> {
-    check_cases(rt.alloc(), &Subject::Instances, cases(), 13)
-}
-
 /// A file whose one rule has a name of so many letters.
 fn file_of_letters(alloc: Global, count: usize) -> String {
     let mut file = String::new(alloc);
@@ -162,21 +157,14 @@ fn check_letters(alloc: Global, count: usize, length: usize, front: &str) -> Res
     )
 }
 
-#[test]
-fn long_starts(rt: HostRuntime) -> Result<(), Fail> {
-    check_letters(rt.alloc(), 1000, 1008, ">0:s")?;
-    check_letters(rt.alloc(), 1001, 1003, "E s")
-}
-
 /// The term with eight pairs in one another has 1,276 bytes, and `i` has one argument too few.
-#[test]
-fn arity_before_expansion(rt: HostRuntime) -> Result<(), Fail> {
+fn check_arity_before_expansion(alloc: Global) -> Result<(), Fail> {
     let text = "%token A %start s %% s: a(A) {} a(x): b(p(x, x)) {} b(x): c(p(x, x)) {} \
                 c(x): d(p(x, x)) {} d(x): e(p(x, x)) {} e(x): f(p(x, x)) {} f(x): g(p(x, x)) {} \
                 g(x): h(p(x, x)) {} h(x): i(p(x, x)) {} i(x, y): {} p(x, y): {}";
     let (front, end) = ("A i(p(p(p(p(p(p(p(p(A,A),p(A,A)),", "p(A,A)))))))))");
     let wanted = Wanted::Ends(1276 + 5, front, end);
-    check_answer(rt.alloc(), &Subject::Instances, text, &wanted)
+    check_answer(alloc, &Subject::Instances, text, &wanted)
 }
 
 fn check_expansion(alloc: Global, joined: &Joined) -> Result<(), Fail>
@@ -188,10 +176,9 @@ fn check_expansion(alloc: Global, joined: &Joined) -> Result<(), Fail>
     Ok(())
 }
 
-#[test]
-fn one_expansion(rt: HostRuntime) -> Result<(), Fail> {
-    let joined = joined_of(rt.alloc(), "%token A %start s %% s: A {}", false)?;
-    let result = check_expansion(rt.alloc(), &joined);
+fn check_one_expansion(alloc: Global) -> Result<(), Fail> {
+    let joined = joined_of(alloc, "%token A %start s %% s: A {}", false)?;
+    let result = check_expansion(alloc, &joined);
     release(joined);
     result
 }
@@ -216,10 +203,20 @@ fn check_fault(alloc: Global, joined: &Joined) -> Result<(), Fail>
     Ok(())
 }
 
-#[test]
-fn one_fault(rt: HostRuntime) -> Result<(), Fail> {
-    let joined = joined_of(rt.alloc(), "%start s %% s(x): {}", false)?;
-    let result = check_fault(rt.alloc(), &joined);
+fn check_one_fault(alloc: Global) -> Result<(), Fail> {
+    let joined = joined_of(alloc, "%start s %% s(x): {}", false)?;
+    let result = check_fault(alloc, &joined);
     release(joined);
     result
+}
+
+#[test]
+fn instances(rt: HostRuntime) -> Result<(), Fail> {
+    let alloc = rt.alloc();
+    check_cases(alloc, &Subject::Instances, cases(), 13)?;
+    check_letters(alloc, 1000, 1008, ">0:s")?;
+    check_letters(alloc, 1001, 1003, "E s")?;
+    check_arity_before_expansion(alloc)?;
+    check_one_expansion(alloc)?;
+    check_one_fault(alloc)
 }

@@ -126,11 +126,6 @@ pub fn put_grammar(alloc: Global, text: &mut Vec<u8>, files: &str) -> Result<(),
     Ok(())
 }
 
-#[test]
-fn files(rt: HostRuntime) -> Result<(), Fail> {
-    check_cases(rt.alloc(), &Subject::Grammar, cases(), 17)
-}
-
 fn check_grammar(alloc: Global, expanded: &Expanded) -> Result<(), Fail>
     requires { IsExpandedReady expanded.now }
 {
@@ -141,11 +136,10 @@ fn check_grammar(alloc: Global, expanded: &Expanded) -> Result<(), Fail>
     Ok(())
 }
 
-#[test]
-fn one_grammar(rt: HostRuntime) -> Result<(), Fail> {
+fn check_one_grammar(alloc: Global) -> Result<(), Fail> {
     let texts = "%token A %start s %% s: A {}";
-    let expanded = expanded_of(rt.alloc(), texts)?;
-    let result = check_grammar(rt.alloc(), &expanded);
+    let expanded = expanded_of(alloc, texts)?;
+    let result = check_grammar(alloc, &expanded);
     release(expanded);
     result
 }
@@ -166,11 +160,17 @@ fn check_fault(alloc: Global, expanded: &Expanded) -> Result<(), Fail>
     }
 }
 
-#[test]
-fn one_fault(rt: HostRuntime) -> Result<(), Fail> {
+fn check_one_fault(alloc: Global) -> Result<(), Fail> {
     let texts = "%start s %% s: s {}";
-    let expanded = expanded_of(rt.alloc(), texts)?;
-    let result = check_fault(rt.alloc(), &expanded);
+    let expanded = expanded_of(alloc, texts)?;
+    let result = check_fault(alloc, &expanded);
     release(expanded);
     result
+}
+
+#[test]
+fn inlined(rt: HostRuntime) -> Result<(), Fail> {
+    check_cases(rt.alloc(), &Subject::Grammar, cases(), 17)?;
+    check_one_grammar(rt.alloc())?;
+    check_one_fault(rt.alloc())
 }

@@ -258,12 +258,6 @@ pub fn put_joined(
     Ok(())
 }
 
-#[test]
-fn files(rt: HostRuntime) -> Result<(), Fail> {
-    check_cases(rt.alloc(), &Subject::Joined(false), cases(), 65)?;
-    check_cases(rt.alloc(), &Subject::Joined(true), cases_with_prelude(), 15)
-}
-
 fn check_answer(alloc: Global, modules: &[Module]) -> Result<(), Fail>
     requires { AreModulesReady modules.now }
 {
@@ -274,10 +268,9 @@ fn check_answer(alloc: Global, modules: &[Module]) -> Result<(), Fail>
     Ok(())
 }
 
-#[test]
-fn one_answer(rt: HostRuntime) -> Result<(), Fail> {
-    let modules = modules_of(rt.alloc(), "%start s %% s: {}")?;
-    let result = check_answer(rt.alloc(), modules.as_slice());
+fn check_one_answer(alloc: Global) -> Result<(), Fail> {
+    let modules = modules_of(alloc, "%start s %% s: {}")?;
+    let result = check_answer(alloc, modules.as_slice());
     release(modules);
     result
 }
@@ -303,10 +296,9 @@ fn check_fault(alloc: Global, modules: &[Module]) -> Result<(), Fail>
     }
 }
 
-#[test]
-fn one_fault(rt: HostRuntime) -> Result<(), Fail> {
-    let modules = modules_of(rt.alloc(), "%% s: {}")?;
-    let result = check_fault(rt.alloc(), modules.as_slice());
+fn check_one_fault(alloc: Global) -> Result<(), Fail> {
+    let modules = modules_of(alloc, "%% s: {}")?;
+    let result = check_fault(alloc, modules.as_slice());
     release(modules);
     result
 }
@@ -346,10 +338,9 @@ fn check_count(alloc: Global, case: &str) -> Result<(), Fail> {
 }
 
 /// Each of 256 pairs of tokens is 7 bytes of the answer.
-#[test]
-fn counts_of_tokens(rt: HostRuntime) -> Result<(), Fail> {
+fn check_counts(alloc: Global) -> Result<(), Fail> {
     for case in COUNTS.split('^') {
-        check_count(rt.alloc(), case)?;
+        check_count(alloc, case)?;
     }
     Ok(())
 }
@@ -456,14 +447,27 @@ fn is_prelude(alloc: Global, found: &Module) -> bool {
     }
 }
 
-#[test]
-fn prelude_is_what_its_text_spells(rt: HostRuntime) -> Result<(), Fail> {
-    let modules = modules_of(rt.alloc(), prelude_text())?;
+fn check_prelude(alloc: Global) -> Result<(), Fail> {
+    let modules = modules_of(alloc, prelude_text())?;
     let is_prelude = match modules.as_slice() {
-        [found] => is_prelude(rt.alloc(), found),
+        [found] => is_prelude(alloc, found),
         _ => false,
     };
     release(modules);
-    assert!(rt; is_prelude);
-    Ok(())
+    if is_prelude {
+        Ok(())
+    } else {
+        Err(Fail::from("another prelude"))
+    }
+}
+
+#[test]
+fn joined(rt: HostRuntime) -> Result<(), Fail> {
+    let alloc = rt.alloc();
+    check_cases(alloc, &Subject::Joined(false), cases(), 65)?;
+    check_cases(alloc, &Subject::Joined(true), cases_with_prelude(), 15)?;
+    check_one_answer(alloc)?;
+    check_one_fault(alloc)?;
+    check_counts(alloc)?;
+    check_prelude(alloc)
 }

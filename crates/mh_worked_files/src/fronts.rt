@@ -2,8 +2,7 @@
 ghost use Rattle.mh_rules.specs.Ready.{AreModulesReady};
 
 use crate::cases::{
-    Subject, Wanted, check, check_answer, check_built, check_cases, modules_of, push_digit,
-    push_symbol, put, release,
+    Subject, Wanted, check_built, check_cases, modules_of, push_digit, push_symbol, put, release,
 };
 use mh_front::{GrammarFault, fault_line, grammar_of};
 use mh_grammar::{Grammar, Production};
@@ -40,7 +39,8 @@ fn push_grammar(out: &mut Vec<u8>, grammar: &Grammar) {
     }
 }
 
-fn put_line(alloc: Global, text: &mut Vec<u8>, fault: &GrammarFault) {
+/// Adds what is told of a fault.
+pub fn put_line(alloc: Global, text: &mut Vec<u8>, fault: &GrammarFault) {
     if let Ok(line) = fault_line(alloc, fault) {
         put(text, &line);
         release(line);
@@ -98,11 +98,6 @@ fn cases() -> &'static str {
      X Y EOF main unit@1 nonempty_list(item) item >0 n0:n1n2t2 n3:t0 n1: n3:t1 n2:n3 n2:n3n2"
 }
 
-#[test]
-fn worked_files(rt: HostRuntime) -> Result<(), Fail> {
-    check_cases(rt.alloc(), &Subject::Front(true), cases(), 14)
-}
-
 fn push_tokens(text: &mut String) {
     let _ = text.push_str("%token");
     for number in 0..513u16 {
@@ -111,12 +106,11 @@ fn push_tokens(text: &mut String) {
     let _ = text.push_str(" %start s %% s: T0 {}");
 }
 
-#[test]
-fn one_token_too_many(rt: HostRuntime) -> Result<(), Fail> {
-    let mut text = String::new(rt.alloc());
+fn check_many_tokens(alloc: Global) -> Result<(), Fail> {
+    let mut text = String::new(alloc);
     push_tokens(&mut text);
     let wanted = Wanted::Whole("too many tokens: 513");
-    check_built(rt.alloc(), &Subject::Front(true), text, &wanted)
+    check_built(alloc, &Subject::Front(true), text, &wanted)
 }
 
 /// Inline rules that double: the last has 2^14 symbols.
@@ -128,26 +122,21 @@ fn push_doubles(text: &mut String) {
     }
 }
 
-#[test]
-fn one_production_too_long(rt: HostRuntime) -> Result<(), Fail> {
-    let mut text = String::new(rt.alloc());
+fn check_long_production(alloc: Global) -> Result<(), Fail> {
+    let mut text = String::new(alloc);
     push_doubles(&mut text);
     let wanted = Wanted::Whole("too many productions");
-    check_built(rt.alloc(), &Subject::Front(true), text, &wanted)
+    check_built(alloc, &Subject::Front(true), text, &wanted)
 }
 
-#[test]
-fn no_prelude(rt: HostRuntime) -> Result<(), Fail> {
-    let text = "%token A %start s %% s: option(A) {}";
-    let wanted = Wanted::Whole("undefined: option");
-    check_answer(rt.alloc(), &Subject::Front(false), text, &wanted)
-}
+const WITHOUT_PRELUDE: &str = "%token A %start s %% s: option(A) {}~undefined: option";
 
 #[test]
-fn want_of_memory_is_told(rt: HostRuntime) -> Result<(), Fail> {
-    let mut text = Vec::new(rt.alloc());
-    put_line(rt.alloc(), &mut text, &GrammarFault::Memory);
-    let result = check(rt.alloc(), &text, &Wanted::Whole("out of memory"), "memory");
-    release(text);
-    result
+fn fronts(rt: HostRuntime) -> Result<(), Fail> {
+    let alloc = rt.alloc();
+    check_cases(alloc, &Subject::Front(true), cases(), 14)?;
+    check_many_tokens(alloc)?;
+    check_long_production(alloc)?;
+    check_cases(alloc, &Subject::Front(false), WITHOUT_PRELUDE, 1)?;
+    check_cases(alloc, &Subject::Memory, "~out of memory", 1)
 }

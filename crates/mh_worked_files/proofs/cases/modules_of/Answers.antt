@@ -1,7 +1,7 @@
 use Rattle.std.proofs.Common.{sym, subst}
 use Rattle.std.proofs.lemmas.List.Elements.{All-push}
 use Rattle.mh_rules.specs.Ready.{IsModuleReady, AreModulesReady}
-use Rattle.mh_worked_rules.proofs.cases.modules_of.Goals as goal
+use Rattle.mh_worked_files.proofs.cases.modules_of.Goals as goal
 
 pub loop-file-preserved : goal.loop-file-preserved
 loop-file-preserved c =
