@@ -10,7 +10,7 @@ use Rattle.std.specs.Ordering.{match_ordering}
 use Rattle.std.specs.BTreeSet.{BTreeSet, IsOrdered, insert_key}
 use Rattle.std.specs.List.Sorted.{IsStrictlySortedBy}
 use Rattle.std.proofs.lemmas.Bool.{cases_eq}
-use Rattle.std.proofs.lemmas.List.{get_or_append_left, get_or_push, get_or_default, length_push, length-append, take_more}
+use Rattle.std.proofs.lemmas.List.{get_or_append_left, get_or_push, get_or_default, length_push, length-append, take_more, map_more}
 use Rattle.std.proofs.lemmas.List.Elements.{All-nil, All-cons, All-weaker, All-contains, All-from_recursion, recursion_from_All, Contains-append_left, Contains-append_right, Contains-append_cases, Contains-push, Contains-push_cases}
 use Rattle.std.proofs.lemmas.Map.Keys.{sorted_tail}
 use Rattle.std.proofs.lemmas.Map.Views.{All-after_first}
@@ -126,6 +126,10 @@ module _ {X : Type 0} where
   -- a front with one more item: what it is, and what it contains
   pub taken : (xs : List X) (i : ℕ) (x : X) → i < length xs → x ≡ get_or xs i x → take (i + 1) xs ≡ take i xs ++ x ∷ []
   taken xs i x l e = take_more xs i x l ∙ ap (λ z. take i xs ++ z ∷ []) (sym e)
+
+  -- one more copy, where a list is made item by item
+  pub copied_more : (xs : List X) (i : ℕ) (x y : X) (old new : List X) → i < length xs → x ≡ get_or xs i x → old ≡ take i xs → y ≡ x → new ≡ old ++ y ∷ [] → new ≡ take (i + 1) xs
+  copied_more xs i x y old new l at before is e = e ∙ (λ j. before j ++ is j ∷ []) ∙ sym (taken xs i x l at)
 
   pub taken_cases : (xs : List X) (i : ℕ) (x : X) → i < length xs → x ≡ get_or xs i x → (y : X) → Contains (take (i + 1) xs) y → Contains (take i xs) y ⊎ (x ≡ y)
   taken_cases xs i x l e y c = let more = taken xs i x l e in Contains-push_cases (take i xs) x y (rw more at c)
@@ -342,3 +346,7 @@ module _ {A B : Type 0} (R : A → B → Type 0) where
   zip_one one (x ∷ xs) [] zs p q = absurd p
   zip_one one (x ∷ xs) (y ∷ ys) [] p q = absurd q
   zip_one one (x ∷ xs) (y ∷ ys) (z ∷ zs) p q = let here = one x y z p.0 q.0 in let more = zip_one one xs ys zs p.1 q.1 in λ i. here i ∷ more i
+
+-- one more image, where a list is made item by item
+pub mapped_more : {A B : Type 0} (f : A → B) (xs : List A) (i : ℕ) (d x : A) (old new : List B) (y : B) → i < length xs → x ≡ get_or xs i d → old ≡ map f (take i xs) → y ≡ f x → new ≡ old ++ y ∷ [] → new ≡ map f (take (i + 1) xs)
+mapped_more f xs i d x old new y l at before is e = e ∙ (λ j. before j ++ is j ∷ []) ∙ ap (λ z. map f (take i xs) ++ f z ∷ []) at ∙ sym (map_more f xs i d l)

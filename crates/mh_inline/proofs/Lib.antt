@@ -1,5 +1,4 @@
 pub mod Limits
-pub mod Mapped
 pub mod Only
 pub mod Producing
 pub mod Ranges

@@ -1,7 +1,6 @@
 pub mod Combining
 pub mod Indexing
 pub mod Listings
-pub mod Mapped
 pub mod Readying
 pub mod Rowing
 pub mod Sizes

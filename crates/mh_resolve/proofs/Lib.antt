@@ -1,3 +1,2 @@
 pub mod Assembling
-pub mod Mapped
 pub mod Same

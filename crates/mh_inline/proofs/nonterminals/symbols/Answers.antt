@@ -2,7 +2,7 @@ use Rattle.std.proofs.Common.{map, get_or, ap, refl, ◌∙◌}
 use Rattle.std.proofs.lemmas.List.{take_all}
 use Rattle.mh_rules.specs.declared.instances.Part.TheVariants.{Token}
 use Rattle.mh_inline.specs.Making.{symbol_by}
-use Rattle.mh_inline.proofs.Mapped.{mapped_more}
+use Rattle.mh_grammar.proofs.Lists.{mapped_more}
 use Rattle.mh_inline.proofs.nonterminals.symbols.Goals as goal
 
 pub symbol-requires : goal.symbol-requires

@@ -1,6 +1,6 @@
 use Rattle.std.proofs.Common.{◌∙◌}
 use Rattle.std.proofs.lemmas.List.{take_all}
-use Rattle.mh_pager.proofs.Mapped.{copied_more}
+use Rattle.mh_grammar.proofs.Lists.{copied_more}
 use Rattle.mh_pager.proofs.unions.copied.Goals as goal
 
 pub loop-item-preserved : goal.loop-item-preserved

@@ -1,7 +1,7 @@
 use Rattle.std.proofs.Common.{get_or, map, ap, refl, ◌∙◌}
 use Rattle.std.proofs.lemmas.List.{take_all}
 use Rattle.mh_cells.specs.code.Whole.{filled_with}
-use Rattle.mh_resolve.proofs.Mapped.{mapped_more}
+use Rattle.mh_grammar.proofs.Lists.{mapped_more}
 use Rattle.mh_resolve.proofs.states.actions_of.Goals as goal
 
 pub loop-cell-preserved : goal.loop-cell-preserved
