@@ -5,7 +5,7 @@ ghost use Rattle.mh_engine.specs.declared.fault.ResumeFault.TheVariants as fault
 use thiserror::Error;
 
 /// Why a checkpoint is not resumed.
-#[derive(Clone, Copy, Debug, Error)]
+#[derive(Clone, Copy, Debug, PartialEq, Eq, Error)]
 pub enum ResumeFault {
     /// The step would make more than 4,000 pairs of a state and a tree, or a tree of a height of more than 4,000.
     #[error("the step is too deep")]
