@@ -16,35 +16,35 @@ loop-rule-preserved c = rw c.in_ok-push-in-Ok.ensures.ok (starts_more c.args.joi
 pub returns-in-Err-clause-err : goal.returns-in-Err-clause-err
 returns-in-Err-clause-err c = λ s. subst (λ l. Causes (Fails c.args.joined.now (map start_term l)) c.in-Err.fault) c.as_slice-rule-items.ensures (starts_fail c.args.joined.now (terms_of c.args.terms.now.nodes.keys) c.args.found.now.keys (terms_of c.loop-rule.terms.nodes.keys) (terms_of c.insert.new.self.nodes.keys) c.loop-rule.found.keys c.as_slice-rule-items.result.now c.loop-rule.rule-index c.loop-rule.starts c.new.result c.in_ok-number.number c.loop-rule.invariant c.loop-rule-test.true c.new.ensures c.in_ok-number.ensures c.in-Err.fault c.in-Err.ensures.err s)
 
-pub insert-requires : goal.insert-requires
-insert-requires c = rw c.new.ensures (λ k d l. absurd (omega (arith, l)))
-
-pub find_instance-requires-clause-number : goal.find_instance-requires-clause-number
-find_instance-requires-clause-number c =
-    let node : Application = record { head = Rule (get_or c.as_slice-rule-items.result.now c.loop-rule.rule-index 0); args = c.new.result } in
-    start_below (terms_of c.loop-rule.terms.nodes.keys) (terms_of c.insert.new.self.nodes.keys) node c.in_ok-number.number c.in_ok-number.ensures
-
-pub find_instance-requires-clause-few : goal.find_instance-requires-clause-few
-find_instance-requires-clause-few c = c.loop-rule.invariant.few
-
-pub find_instance-requires-clause-rule : goal.find_instance-requires-clause-rule
-find_instance-requires-clause-rule c =
-    let node : Application = record { head = Rule (get_or c.as_slice-rule-items.result.now c.loop-rule.rule-index 0); args = c.new.result } in
-    start_head (terms_of c.loop-rule.terms.nodes.keys) (terms_of c.insert.new.self.nodes.keys) node c.in_ok-number.number c.in_ok-number.ensures
-
 pub returns-in-Err-clause-few : goal.returns-in-Err-clause-few
 returns-in-Err-clause-few c = tt
-
-pub returns-in-Err-clause-ok : goal.returns-in-Err-clause-ok
-returns-in-Err-clause-ok c = tt
-
-pub returns-clause-few : goal.returns-clause-few
-returns-clause-few c = c.loop-rule.invariant.few
 
 pub returns-clause-ok : goal.returns-clause-ok
 returns-clause-ok c = λ s.
     let w = rw (take_all c.loop-rule.rule-index c.as_slice-rule-items.result.now c.loop-rule-test.false ∙ c.as_slice-rule-items.ensures) at (c.loop-rule.invariant.through s) in
     record { went = w.0; made = w.1 }
 
+pub returns-in-Err-clause-ok : goal.returns-in-Err-clause-ok
+returns-in-Err-clause-ok c = tt
+
+pub insert-requires : goal.insert-requires
+insert-requires c = rw c.new.ensures (λ k d l. absurd (omega (arith, l)))
+
+pub returns-clause-few : goal.returns-clause-few
+returns-clause-few c = c.loop-rule.invariant.few
+
+pub find_instance-requires-clause-number : goal.find_instance-requires-clause-number
+find_instance-requires-clause-number c =
+    let node : Application = record { head = Rule (get_or c.as_slice-rule-items.result.now c.loop-rule.rule-index 0); args = c.new.result } in
+    start_below (terms_of c.loop-rule.terms.nodes.keys) (terms_of c.insert.new.self.nodes.keys) node c.in_ok-number.number c.in_ok-number.ensures
+
 pub returns-clause-err : goal.returns-clause-err
 returns-clause-err c = tt
+
+pub find_instance-requires-clause-rule : goal.find_instance-requires-clause-rule
+find_instance-requires-clause-rule c =
+    let node : Application = record { head = Rule (get_or c.as_slice-rule-items.result.now c.loop-rule.rule-index 0); args = c.new.result } in
+    start_head (terms_of c.loop-rule.terms.nodes.keys) (terms_of c.insert.new.self.nodes.keys) node c.in_ok-number.number c.in_ok-number.ensures
+
+pub find_instance-requires-clause-few : goal.find_instance-requires-clause-few
+find_instance-requires-clause-few c = c.loop-rule.invariant.few
