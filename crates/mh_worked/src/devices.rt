@@ -1,9 +1,7 @@
 //! Files, inputs and outputs that fail.
-ghost use Rattle.std.specs.Prelude.{None};
-ghost use Rattle.mh_outside.specs.Fakes.{source_calls};
-
+use crate::observed::{Counted, Output, Takes};
 use crate::runs::{beside, check_cases_with, copied, given_files, release, shelf_of, words_of};
-use mh_outside::{Failed, MemShelf, MemSink, MemSource, Source};
+use mh_outside::MemShelf;
 use mh_top::menhir;
 use std::alloc::Global;
 use std::process::Abort;
@@ -251,33 +249,6 @@ OVERSHOOT
 ~
 ";
 
-/// An input that counts its reads, and tells nothing.
-#[derive(Drop)]
-pub struct Counted {
-    input: MemSource,
-    pub reads: u64,
-}
-
-impl Counted {
-    pub fn new(bytes: Vec<u8>, fails: Vec<u64>) -> Counted {
-        Counted {
-            input: MemSource::new(bytes, fails),
-            reads: 0,
-        }
-    }
-}
-
-impl Source for Counted {
-    ghost left = { λ s. None };
-
-    ghost faults = { λ s. (source_calls s.input).faults };
-
-    fn read(&mut self, buf: &mut [u8]) -> Result<usize, Failed> {
-        self.reads = self.reads.saturating_add(1);
-        self.input.read(buf)
-    }
-}
-
 /// The status, and how many reads there were of an input of three lines, where a write fails.
 fn status_and_reads(
     alloc: Global,
@@ -286,8 +257,8 @@ fn status_and_reads(
     mut input: Counted,
     fails: Vec<u64>,
 ) -> (u8, u64) {
-    let mut out = MemSink::new(alloc, fails);
-    let mut err = MemSink::new(alloc, Vec::new(alloc));
+    let mut out = Output::new(alloc, Takes::Pieces, fails);
+    let mut err = Output::new(alloc, Takes::Pieces, Vec::new(alloc));
     let status = menhir(alloc, words, &mut shelf, &mut input, &mut out, &mut err);
     let reads = input.reads;
     release(shelf);

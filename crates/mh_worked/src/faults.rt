@@ -1,36 +1,14 @@
 //! Each call of each device fails in turn, in each mode. The input gives one byte at a time, and the outputs take one, so each
 //! place of a text is one call.
-ghost use Rattle.std.specs.Prelude.{◌<◌, length, None, IfOk};
-ghost use Rattle.std.specs.Io.{WritesAtMost};
-ghost use Rattle.std.specs.Io.KnownBytes.{WriteAppends};
-ghost use Rattle.mh_outside.specs.Faults.{Counts};
-ghost use Rattle.mh_outside.specs.Fakes.{sink_calls};
-
-use crate::devices::Counted;
+use crate::observed::{Counted, Output, Takes};
 use crate::runs::{
     Fails, beside, copied, filled, given_files, parts_of, release, shelf_of, words_of,
 };
-use mh_outside::{Failed, MemShelf, MemSink, MemSource, Sink};
+use mh_outside::MemShelf;
 use mh_top::menhir;
 use std::alloc::Global;
 use std::process::Abort;
 use std::test::Fail;
-
-/// An output that takes one byte at a time, and tells nothing.
-#[derive(Drop)]
-struct Narrow {
-    sink: MemSink,
-}
-
-impl Sink for Narrow {
-    ghost written = { λ s. None };
-
-    ghost faults = { λ s. (sink_calls s.sink).faults };
-
-    fn write(&mut self, piece: &[u8]) -> Result<usize, Failed> {
-        self.sink.write(&piece[..1])
-    }
-}
 
 /// The words and the input of a run, and the texts on out and err where no call fails.
 #[derive(Clone, Copy)]
@@ -59,8 +37,8 @@ struct Row<'a> {
 struct Devices {
     shelf: MemShelf,
     input: Counted,
-    out: Narrow,
-    err: Narrow,
+    out: Output,
+    err: Output,
 }
 
 /// How many bytes the first lines of a text have; each line behind its last has one.
@@ -154,12 +132,8 @@ fn devices_of(
     Ok(Devices {
         shelf: shelf_of(rt, files, fails.shelf),
         input: Counted::new(input, fails.input),
-        out: Narrow {
-            sink: MemSink::new(alloc, fails.out),
-        },
-        err: Narrow {
-            sink: MemSink::new(alloc, fails.err),
-        },
+        out: Output::new(alloc, Takes::Bytes, fails.out),
+        err: Output::new(alloc, Takes::Bytes, fails.err),
     })
 }
 
@@ -184,8 +158,8 @@ fn check_devices(
     said: &[u8],
     reads: usize,
 ) {
-    assert_eq!(rt; devices.out.sink.written(), out);
-    assert_eq!(rt; devices.err.sink.written().strip_prefix(err), Some(said));
+    assert_eq!(rt; devices.out.written(), out);
+    assert_eq!(rt; devices.err.written().strip_prefix(err), Some(said));
     assert_eq!(rt; devices.input.reads, reads as u64);
 }
 

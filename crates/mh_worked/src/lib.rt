@@ -22,6 +22,8 @@ mod many_tokens;
 #[cfg(test)]
 mod messages;
 #[cfg(test)]
+mod observed;
+#[cfg(test)]
 mod refused;
 #[cfg(test)]
 mod runs;

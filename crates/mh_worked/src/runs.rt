@@ -2,7 +2,8 @@
 ghost use Rattle.std.specs.Prelude.{◌≡◌, IsTrue, IsFalse, None};
 ghost use Rattle.mh_outside.specs.Shelf.{file_at, files_of, HasDistinctNames};
 
-use mh_outside::{MemShelf, MemSink, MemSource};
+use crate::observed::{Counted, Output, Takes};
+use mh_outside::MemShelf;
 use mh_top::menhir;
 use std::alloc::Global;
 use std::fmt::Write;
@@ -142,9 +143,9 @@ fn run_given(
     fails: Fails,
 ) -> Result<Outcome, Fail> {
     let mut shelf = shelf_of(rt, files, fails.shelf);
-    let mut input = MemSource::new(input, fails.input);
-    let mut out = MemSink::new(alloc, fails.out);
-    let mut err = MemSink::new(alloc, fails.err);
+    let mut input = Counted::new(input, fails.input);
+    let mut out = Output::new(alloc, Takes::Pieces, fails.out);
+    let mut err = Output::new(alloc, Takes::Pieces, fails.err);
     let status = menhir(alloc, given, &mut shelf, &mut input, &mut out, &mut err);
     let outcome = outcome_of(alloc, status, out.written(), err.written());
     release(shelf);
