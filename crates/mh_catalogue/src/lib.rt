@@ -4,5 +4,4 @@
 mod making;
 
 pub use making::catalogue;
-pub use mh_reach::{Reach, reach};
 pub use mh_rows::{CatalogueFault, Row};
