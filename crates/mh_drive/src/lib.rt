@@ -6,4 +6,4 @@ pub mod status;
 mod stop;
 
 pub use driving::{Asks, LINE_LIMIT, MAX_LINES, Mode, drive, drive_opened, write_text};
-pub use stop::{Cause, Stop, joined, refused};
+pub use stop::{Cause, Stop, joined, refusal, refused};

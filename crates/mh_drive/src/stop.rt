@@ -3,7 +3,7 @@ ghost use Rattle.std.specs.Prelude.{◌≡◌, ◌++◌, IfOk};
 ghost use Rattle.mh_drive.specs.Statuses.{code_of};
 ghost use Rattle.mh_drive.specs.Stages.{Halts};
 ghost use Rattle.mh_drive.specs.declared.stop.Cause.TheVariants.{Refused as Refused'};
-ghost use Rattle.mh_drive.specs.declared.stop.Stop.TheVariants.{OutOfMemory, ShelfFailed};
+ghost use Rattle.mh_drive.specs.declared.stop.Stop.TheVariants.{Halted as Halted', OutOfMemory, ShelfFailed};
 
 use crate::status;
 use mh_grammar::{Memory, Name, Sequence};
@@ -93,14 +93,21 @@ pub fn joined(
     Ok(Sequence::from_vec(bytes))
 }
 
+/// The refusal that this line says.
+pub fn refusal(line: Sequence<u8>) -> Stop
+    ensures { result ≡ Halted' (Refused' line) }
+{
+    Stop::Halted {
+        cause: Cause::Refused { line },
+    }
+}
+
 /// The refusal with this line, in three parts.
 pub fn refused(alloc: Global, before: &[u8], middle: &[u8], after: &[u8]) -> Stop
     ensures { Halts (Refused' (before.now ++ middle.now ++ after.now)) result }
 {
     match joined(alloc, before, middle, after) {
-        Ok(line) => Stop::Halted {
-            cause: Cause::Refused { line },
-        },
+        Ok(line) => refusal(line),
         Err(_) => Stop::OutOfMemory,
     }
 }

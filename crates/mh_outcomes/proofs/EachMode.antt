@@ -29,14 +29,14 @@ use Rattle.mh_plans.specs.Plan.{Answers, Automaton, End, Ends, EndsBy, EndsWith,
 use Rattle.mh_plans.specs.Verdicts.{Answering}
 use Rattle.mh_plans.specs.declared.at_end.Told.{Told}
 use Rattle.mh_plans.specs.declared.at_end.Told.TheVariants.{Said, Not}
-use Rattle.mh_judging.proofs.Answering.{one_once}
+use Rattle.mh_outcomes.proofs.Answering.{one_once}
 use Rattle.mh_plans.proofs.Messaging.{checking, for_unread_halts, messages_for_once, messages_for_right, named_turn, some_checked, some_messages_for, some_spelled, spelling}
-use Rattle.mh_keeping.proofs.Both.{two_files}
-use Rattle.mh_keeping.proofs.Updated.{one_updated}
+use Rattle.mh_outcomes.proofs.Both.{two_files}
+use Rattle.mh_outcomes.proofs.Updated.{one_updated}
 use Rattle.mh_plans.proofs.Reading.{IsRead, Runs, StagedRight, one_file}
 use Rattle.mh_plans.proofs.Turning.{Turn, no_turn, turn_of_named}
 use Rattle.mh_outcomes.proofs.Refusals.{list_cause_once, list_out_once}
-use Rattle.mh_explaining.proofs.Telling.{told_once}
+use Rattle.mh_outcomes.proofs.Explained.{told_once}
 use Rattle.mh_outcomes.proofs.Counts.{counts_cause_once, counts_out_once, counts_right}
 
 -- ---- for which causes a mode may end

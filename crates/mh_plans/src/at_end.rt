@@ -5,10 +5,9 @@ ghost use Rattle.mh_plans.specs.Plan.{End, EndsBy};
 ghost use Rattle.mh_plans.specs.Told.{ending_of};
 ghost use Rattle.mh_plans.specs.declared.at_end.Told.TheVariants.{Said};
 
-use mh_drive::{Asks, Mode, Stop, write_text};
+use mh_drive::{Asks, Mode, Stop, refusal, write_text};
 use mh_grammar::{Memory, Sequence};
 use mh_outside::Sink;
-use mh_saying::refusal;
 use std::alloc::Global;
 
 /// What writes the end of a mode.

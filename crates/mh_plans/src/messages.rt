@@ -11,13 +11,12 @@ ghost use Rattle.mh_drive.specs.Stages.{FilesGive, Halts, ShelfCounts, StageHas}
 ghost use Rattle.mh_drive.specs.declared.stop.Cause.TheVariants.{Refused as Refused'};
 
 use mh_check::{CheckFault, Compiled, check_fault_line, compile, file_fault_line};
-use mh_drive::Stop;
+use mh_drive::{Stop, refusal};
 use mh_files::{Spelling, read_file};
 use mh_grammar::{Grammar, Memory, Sequence};
 use mh_msgfile::{MsgFault, MsgFile, read_messages};
 use mh_outside::Shelf;
 use mh_prepared::Prepared;
-use mh_saying::refusal;
 use mh_tables::Halting;
 use std::alloc::Global;
 

@@ -13,18 +13,16 @@ ghost use Rattle.mh_valid.specs.Valid.{AreNamesApart};
 
 use crate::table_file::not_valid;
 use mh_canon::canonical;
-use mh_cells::{Conflict, Mode};
+use mh_cells::Mode;
 use mh_drive::Stop;
-use mh_grammar::{Grammar, Sequence};
-use mh_halting::{HaltFault, check_halts};
+use mh_grammar::Grammar;
 use mh_kernels::{Automaton, StatesFault};
 use mh_pager::merged;
-use mh_prepared::{Tabled, TabledWith};
-use mh_resolve::resolve;
+use mh_prepared::Tabled;
 use mh_sources::Source;
 use mh_tabform::RawTable;
-use mh_tables::Table;
-use mh_tabling::{loops, too_many_states};
+use mh_tabled::{where_halting, with_table};
+use mh_tabling::too_many_states;
 use mh_validate::{Valid, validate};
 use std::alloc::Global;
 
@@ -56,57 +54,6 @@ fn merged_of<const W: usize>(alloc: Global, grammar: &Grammar) -> Result<Automat
         Err(StatesFault::TooManyStates) => Err(too_many_states(alloc)),
         Err(StatesFault::Memory) => Err(Stop::OutOfMemory),
     }
-}
-
-/// The automaton with its table, where every run on that ends.
-fn where_halting<const W: usize>(
-    alloc: Global,
-    grammar: &Grammar,
-    automaton: Automaton<W>,
-    table: Table,
-    conflicts: Vec<Conflict>,
-    mode: Mode,
-) -> Result<Tabled<W>, Stop>
-    requires few { W ≤ 8 }
-    requires width { length grammar.now.tokens ≤ 64 * W }
-    requires table { IsTableOf grammar.now automaton mode table }
-    requires conflicts { AreConflicts grammar.now automaton conflicts.items }
-    ensures { StageHas (IsResolvedStage mode grammar.now automaton.entry) result }
-{
-    match check_halts(alloc, table) {
-        Ok(halting) => Ok(TabledWith {
-            automaton,
-            halting,
-            conflicts: Sequence::from_vec(conflicts),
-            mode,
-        }),
-        Err(
-            HaltFault::Loops {
-                below,
-                state,
-                token,
-            },
-        ) => Err(loops(alloc, grammar, below, state, token)),
-        Err(HaltFault::Memory) => Err(Stop::OutOfMemory),
-    }
-}
-
-/// The automaton with the table that the resolution gives.
-fn with_table<const W: usize>(
-    alloc: Global,
-    mode: Mode,
-    grammar: &Grammar,
-    automaton: Automaton<W>,
-) -> Result<Tabled<W>, Stop>
-    requires few { W ≤ 8 }
-    requires width { length grammar.now.tokens ≤ 64 * W }
-    requires range { IsInRange (plain_of grammar.now) }
-    requires costs { HaveCosts grammar.now.tokens }
-    requires automaton { IsAutomaton (plain_of grammar.now) automaton }
-    ensures { StageHas (IsResolvedStage mode grammar.now automaton.entry) result }
-{
-    let (table, conflicts) = resolve(alloc, grammar, &automaton, mode)?;
-    where_halting(alloc, grammar, automaton, table, conflicts, mode)
 }
 
 /// The merged automaton with its table.

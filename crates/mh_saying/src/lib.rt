@@ -3,10 +3,8 @@
 
 mod exit;
 mod last_line;
-mod refusing;
 mod warning;
 
 pub use exit::exit_code;
 pub use last_line::{report, say};
-pub use refusing::refusal;
 pub use warning::{is_refused, warn};

@@ -1,29 +1,24 @@
 -- The automaton of a grammar, built or from a table file, with its table, where every run on it ends, and the list of its conflicts.
-use Rattle.std.specs.Prelude.{◌≡◌, ℕ, List, Option}
+use Rattle.std.specs.Prelude.{◌≡◌, List}
 use Rattle.mh_grammar.specs.declared.types.Grammar.{Grammar}
 use Rattle.mh_grammar.specs.Plain.{plain_of}
 use Rattle.mh_kernels.specs.Shapes.{Automaton}
 use Rattle.mh_knuth.specs.Canonical.{IsCanonical, IsOver}
 use Rattle.mh_merging.specs.Steps.{IsMerged, IsSwollen}
 use Rattle.mh_knuth.specs.declared.limits.TheConstants.{MAX_STATES}
-use Rattle.mh_cells.specs.States.{IsTableOf}
-use Rattle.mh_cells.specs.Conflicts.{AreConflicts}
 use Rattle.mh_cells.specs.declared.kinds.Mode.{Mode}
 use Rattle.mh_cells.specs.declared.kinds.Mode.TheVariants as modes
-use Rattle.mh_tables.specs.Table.{TableData}
 use Rattle.mh_tables.specs.declared.parts.StateParts.{StateParts}
-use Rattle.mh_tables.specs.Halting.{AlwaysHalts, LoopsAt}
-use Rattle.mh_tabling.specs.TableTexts.{loops_line, too_many_states}
+use Rattle.mh_tabling.specs.TableTexts.{too_many_states}
 use Rattle.mh_valid.specs.Valid.{IsValidFor}
 use Rattle.mh_drive.specs.Causes.{Staged, Go, Halt, Then}
-use Rattle.mh_msgfile.specs.Sentences.{token_names}
-use Rattle.mh_drive.specs.declared.stop.Cause.{Cause}
 use Rattle.mh_drive.specs.declared.stop.Cause.TheVariants.{Refused}
 use Rattle.mh_sources.specs.declared.sources.Source.{Source}
 use Rattle.mh_sources.specs.declared.sources.Source.TheVariants.{Canonical, Merged, File}
 use Rattle.mh_tabling.specs.TableFile.{IsInvalid}
 use Rattle.mh_prepared.specs.Shapes.{Tabled}
 pub use Rattle.mh_sources.specs.Sources.{IsSource, IsSourceBy, built_by}
+pub use Rattle.mh_tabled.specs.TableStage.{LoopsFirst, AreTabled, IsResolvedStage}
 
 -- ---- the automaton
 
@@ -41,28 +36,6 @@ IsAutomatonStage (File name raw) g (Go a) = (parts : List StateParts) × IsValid
 IsAutomatonStage (File name raw) g (Halt cause) = IsInvalid name g raw cause
 
 -- ---- its table
-
--- a run on the table never ends, and this is the cause for the first that does not
-pub record LoopsFirst (mode : Mode) (g : Grammar) (a : Automaton) (cause : Cause) : Type 0 where
-  pub found : TableData
-  pub table : IsTableOf g a mode found
-  pub below : Option ℕ
-  pub state : ℕ
-  pub look : Option ℕ
-  pub loops : LoopsAt found below state look
-  pub cause_is : cause ≡ Refused (loops_line (token_names g) below state look)
-
--- the automaton with its table, on which every run ends, and the list of its conflicts
-pub record AreTabled (mode : Mode) (g : Grammar) (a : Automaton) (tabled : Tabled) : Type 0 where
-  pub automaton : tabled.automaton ≡ a
-  pub table : IsTableOf g a mode tabled.halting
-  pub conflicts : AreConflicts g a tabled.conflicts
-  pub halts : AlwaysHalts tabled.halting
-  pub resolved_in : tabled.mode ≡ mode
-
-abbrev pub IsResolvedStage : Mode → Grammar → Automaton → Staged Tabled → Type 0
-IsResolvedStage mode g a (Go tabled) = AreTabled mode g a tabled
-IsResolvedStage mode g a (Halt cause) = LoopsFirst mode g a cause
 
 abbrev pub IsTableStage : Source → Grammar → Staged Tabled → Type 0
 IsTableStage source g s = Then (IsAutomatonStage source g) (IsResolvedStage (mode_of source) g) s

@@ -1,25 +1,13 @@
 -- The lines on err that tell why there is no table.
-use Rattle.std.specs.Prelude.{ℕ, List, [], ◌++◌, Option, None, Some, codes, decimal, slice_index_or}
+use Rattle.std.specs.Prelude.{ℕ, ◌++◌, Option, None, Some, codes, decimal}
 use Rattle.mh_grammar.specs.Text.{Text}
 use Rattle.mh_valid.specs.declared.reason.Reason.{Reason}
 use Rattle.mh_valid.specs.declared.reason.Reason.TheVariants.{Header, States, Kernel, Edge, Cell, Fallback}
 pub use Rattle.mh_sources.specs.TableTexts.{table_line}
+pub use Rattle.mh_tabled.specs.Loops.{loop_place, look_text, loops_line}
 
 abbrev pub too_many_states : Text
 too_many_states = codes "menhir: too many states\n"
-
--- the state, alone or above another one
-abbrev pub loop_place : Option ℕ → ℕ → Text
-loop_place None s = codes "menhir: loops: state " ++ (decimal s ++ codes " on ")
-loop_place (Some r) s = codes "menhir: loops: state " ++ (decimal s ++ (codes " above state " ++ (decimal r ++ codes " on ")))
-
--- the name of the next token, where there is one
-abbrev pub look_text : List Text → Option ℕ → Text
-look_text names None = codes "no token"
-look_text names (Some token) = slice_index_or names token []
-
-abbrev pub loops_line : List Text → Option ℕ → ℕ → Option ℕ → Text
-loops_line names below s look = loop_place below s ++ (look_text names look ++ codes "\n")
 
 abbrev pub reason_name : Reason → Text
 reason_name Header = codes "header"

@@ -4,4 +4,4 @@
 
 mod refusing;
 
-pub use refusing::{invalid, loops, too_many_states};
+pub use refusing::{invalid, too_many_states};

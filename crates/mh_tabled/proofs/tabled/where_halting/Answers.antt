@@ -1,5 +1,5 @@
-use Rattle.mh_prepare.proofs.Tabling.{halts_too, loops_there}
-use Rattle.mh_prepare.proofs.tabled.where_halting.Goals as goal
+use Rattle.mh_tabled.proofs.Tabling.{halts_too, loops_there}
+use Rattle.mh_tabled.proofs.tabled.where_halting.Goals as goal
 
 pub returns-in-Ok : goal.returns-in-Ok
 returns-in-Ok g c =

@@ -11,8 +11,8 @@ use Rattle.mh_tables.specs.Table.{TableData}
 use Rattle.mh_tables.specs.Halting.{AlwaysHalts, LoopsAt}
 use Rattle.mh_msgfile.specs.Sentences.{token_names}
 use Rattle.mh_drive.specs.Stages.{StageHas, Halts as HaltsWith}
-use Rattle.mh_prepare.specs.TableStage.{AreTabled, IsResolvedStage}
-use Rattle.mh_prepare.specs.TableTexts.{loops_line}
+use Rattle.mh_tabled.specs.TableStage.{AreTabled, IsResolvedStage}
+use Rattle.mh_tabled.specs.Loops.{loops_line}
 use Rattle.mh_drive.specs.declared.stop.Cause.TheVariants.{Refused}
 use Rattle.mh_drive.specs.declared.stop.Stop.{Stop}
 use Rattle.mh_drive.specs.declared.stop.Stop.TheVariants.{Halted, ShelfFailed, InputFailed, WriteFailed, OutOfMemory}
