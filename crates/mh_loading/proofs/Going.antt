@@ -13,12 +13,12 @@ use Rattle.mh_drive.specs.declared.stop.Stop.{Stop}
 use Rattle.mh_drive.specs.declared.stop.Stop.TheVariants.{Halted, ShelfFailed, InputFailed, WriteFailed, OutOfMemory}
 use Rattle.mh_drive.proofs.Binding.{names_wider, no_names, then_on, then_stops}
 use Rattle.mh_files.specs.Turns.{IsTurn}
-use Rattle.mh_loading.specs.Order.{staged_order}
+use Rattle.mh_modules.specs.Order.{staged_order}
 use Rattle.mh_modules.specs.GrammarFile.{IsModule}
 use Rattle.mh_modules.specs.Modules.{AreModules, grammar_files}
-use Rattle.mh_loading.specs.GrammarTurns.{IsGrammarTurn}
+use Rattle.mh_modules.specs.GrammarTurns.{IsGrammarTurn}
 use Rattle.mh_modules.specs.GrammarStage.{IsGrammarStage}
-use Rattle.mh_loading.specs.FrontStage.{IsFront}
+use Rattle.mh_modules.specs.FrontStage.{IsFront}
 use Rattle.mh_loaded.specs.declared.front.Front.{Front}
 
 module _ (words : List Text) (files : Option Files) where

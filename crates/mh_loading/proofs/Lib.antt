@@ -1,4 +1,1 @@
 pub mod Going
-pub mod Ready
-pub mod Fronts
-pub mod OneFront

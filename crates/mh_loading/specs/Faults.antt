@@ -1,4 +1,4 @@
--- What faults of the layers below come to.
+-- What a usage fault comes to.
 use Rattle.std.specs.Prelude.{◌≡◌}
 use Rattle.mh_opts.specs.declared.order.UsageFault.{UsageFault}
 use Rattle.mh_opts.specs.declared.order.UsageFault.TheVariants as words
@@ -6,8 +6,7 @@ use Rattle.mh_drive.specs.Stages.{Halts}
 use Rattle.mh_drive.specs.declared.stop.Cause.TheVariants.{Misused}
 use Rattle.mh_drive.specs.declared.stop.Stop.{Stop}
 use Rattle.mh_drive.specs.declared.stop.Stop.TheVariants.{OutOfMemory}
-use Rattle.mh_loading.specs.Texts.{usage_line}
-pub use Rattle.mh_modules.specs.Faults.{RefusesBy}
+use Rattle.mh_modules.specs.Texts.{usage_line}
 
 -- what a usage fault comes to: its line, or want of memory
 abbrev pub HaltsBy : UsageFault → Stop → Type 0

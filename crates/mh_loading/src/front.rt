@@ -3,9 +3,9 @@ ghost use Rattle.std.specs.Prelude.{◌≡◌, ◌≤◌, List, ℕ, length, map
 ghost use Rattle.mh_grammar.specs.Costs.{HaveCosts};
 ghost use Rattle.mh_grammar.specs.Plain.{plain_of, IsInRange};
 ghost use Rattle.mh_drive.specs.Causes.{Go};
-ghost use Rattle.mh_loading.specs.FrontStage.{IsFront};
-ghost use Rattle.mh_loading.specs.GrammarTurns.{AsksForGrammars, IsGrammarTurn};
-ghost use Rattle.mh_loading.specs.Order.{staged_order};
+ghost use Rattle.mh_modules.specs.FrontStage.{IsFront};
+ghost use Rattle.mh_modules.specs.GrammarTurns.{AsksForGrammars, IsGrammarTurn};
+ghost use Rattle.mh_modules.specs.Order.{staged_order};
 ghost use Rattle.mh_drive.specs.Stages.{FilesGive, ShelfCounts};
 ghost use Rattle.mh_valid.specs.Valid.{AreNamesApart};
 

@@ -1,6 +1,6 @@
 //! The words of the command line.
 ghost use Rattle.std.specs.Prelude.{◌≡◌, ◌++◌, map, string_bytes};
-ghost use Rattle.mh_loading.specs.Order.{staged_order};
+ghost use Rattle.mh_modules.specs.Order.{staged_order};
 ghost use Rattle.mh_loading.specs.Faults.{HaltsBy};
 ghost use Rattle.mh_drive.specs.Stages.{Halts, StageHas};
 ghost use Rattle.mh_drive.specs.declared.stop.Cause.TheVariants.{Misused as Misused'};

@@ -2,3 +2,4 @@ pub mod Misspelled
 pub mod Sampling
 pub mod Refusing
 pub mod Apart
+pub mod Ready

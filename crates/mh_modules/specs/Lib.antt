@@ -3,3 +3,6 @@ pub mod Faults
 pub mod GrammarFile
 pub mod Modules
 pub mod GrammarStage
+pub mod Order
+pub mod FrontStage
+pub mod GrammarTurns

@@ -7,7 +7,7 @@ use Rattle.mh_outside.specs.Shelf.{Files}
 use Rattle.mh_grammar.specs.Text.{Text}
 use Rattle.mh_drive.specs.Causes.{Halt}
 use Rattle.mh_drive.specs.Statuses.{status_of}
-use Rattle.mh_loading.specs.Order.{staged_order}
+use Rattle.mh_modules.specs.Order.{staged_order}
 use Rattle.mh_plans.specs.Plan.{Plan, asks_of, by_plan}
 use Rattle.mh_drive.specs.Ways.{AnswersAll, AsksFor, EndsBehind, Outcome, Yields}
 use Rattle.mh_program.specs.Work.{Work, IsWork}

@@ -11,23 +11,23 @@ use Rattle.mh_opts.specs.declared.order.Order.{Order}
 use Rattle.mh_opts.specs.declared.order.UsageFault.{UsageFault}
 use Rattle.std.specs.Prelude.{Result, Ok, Err}
 use Rattle.mh_grammar.specs.Text.{Text}
-use Rattle.mh_loading.specs.Texts.{usage_line}
+use Rattle.mh_modules.specs.Texts.{usage_line}
 use Rattle.mh_drive.specs.Causes.{Staged, Go, Halt, On, Then, Gives}
 use Rattle.mh_drive.specs.Statuses.{said}
-use Rattle.mh_loading.specs.Order.{staged_order, staged}
+use Rattle.mh_modules.specs.Order.{staged_order, staged}
 use Rattle.mh_files.specs.FileStage.{AreFiles, IsFile, IsFound, IsLoaded, loaded}
-use Rattle.mh_loading.specs.GrammarFile.{IsModule}
-use Rattle.mh_loading.specs.Modules.{AreModules, AreModulesBy, grammar_files, names_by, sample_file, sample_of}
+use Rattle.mh_modules.specs.GrammarFile.{IsModule}
+use Rattle.mh_modules.specs.Modules.{AreModules, AreModulesBy, grammar_files, names_by, sample_file, sample_of}
 use Rattle.mh_files.specs.Turns.{IsSpelled, IsTurn}
 use Rattle.mh_program.specs.TableTurns.{IsTablesTurn}
-use Rattle.mh_loading.specs.GrammarStage.{IsGrammarStage}
+use Rattle.mh_modules.specs.GrammarStage.{IsGrammarStage}
 use Rattle.mh_tabform.specs.declared.types.RawTable.{RawTable}
 use Rattle.mh_tabling.specs.TableFile.{IsTableFile}
 use Rattle.mh_tabling.specs.TableStage.{IsAutomatonStage, IsResolvedStage, IsSource, IsSourceBy, IsTableStage, mode_of}
 use Rattle.mh_drive.specs.Ways.{Finish, AnswersAll, AsksFor, EndsBehind, Outcome, Yields}
 use Rattle.mh_plans.specs.Plan.{Plan, EndsWith, asks_of, halts, by_plan}
 use Rattle.mh_program.specs.Work.{Work, IsPlanUnless, IsWork, IsWorkOf, has_warning, warnings_of}
-use Rattle.mh_loading.specs.FrontStage.{IsFront}
+use Rattle.mh_modules.specs.FrontStage.{IsFront}
 use Rattle.mh_program.specs.Preparing.{IsPrepared, IsTabledFrom, IsTabledFront}
 use Rattle.mh_program.specs.Run.{err_of, IsDue, OfGrammar, OfTables, OfMode, IsTurnBehind, IsTurnUnless}
 use Rattle.mh_program.specs.Claims.{AsksLines, HoldsFile, IsPast}

@@ -6,13 +6,13 @@ use Rattle.std.specs.Io.KnownBytes.{Appends}
 use Rattle.mh_outside.specs.Shelf.{Files}
 use Rattle.mh_grammar.specs.Text.{Text}
 use Rattle.mh_drive.specs.Causes.{Staged, Go, Halt, Then, Gives}
-use Rattle.mh_loading.specs.Order.{staged_order}
-use Rattle.mh_loading.specs.GrammarTurns.{IsGrammarTurn}
+use Rattle.mh_modules.specs.Order.{staged_order}
+use Rattle.mh_modules.specs.GrammarTurns.{IsGrammarTurn}
 use Rattle.mh_plans.specs.Plan.{Plan, IsPlanOfJob, halts, by_plan}
 use Rattle.mh_plans.specs.Files.{IsTurnOfJob}
 use Rattle.mh_plans.proofs.Following.{ended_halts}
 use Rattle.mh_drive.specs.Stages.{FilesGive, ShelfCounts, StageHas, Halts as HaltsWith}
-use Rattle.mh_loading.specs.FrontStage.{IsFront}
+use Rattle.mh_modules.specs.FrontStage.{IsFront}
 use Rattle.mh_program.specs.Preparing.{IsPrepared, IsTabledFront}
 use Rattle.mh_program.specs.Work.{IsPlanOf, IsPlanUnless, Work, has_warning, warnings_of}
 use Rattle.mh_drive.specs.Ways.{left_behind}

@@ -1,3 +1,5 @@
+pub mod Fronts
+pub mod OneFront
 pub mod OneTabled
 pub mod Made
 pub mod OnePrepared

@@ -4,10 +4,10 @@ use Rattle.mh_opts.specs.declared.order.Order.{Order}
 use Rattle.mh_outside.specs.Shelf.{Files}
 use Rattle.mh_grammar.specs.Text.{Text}
 use Rattle.mh_drive.specs.Causes.{Staged, Go, Halt, On, Gives}
-use Rattle.mh_loading.specs.Order.{staged_order}
-use Rattle.mh_loading.specs.FrontStage.{IsFront}
+use Rattle.mh_modules.specs.Order.{staged_order}
+use Rattle.mh_modules.specs.FrontStage.{IsFront}
 use Rattle.mh_loaded.specs.declared.front.Front.{Front}
-use Rattle.mh_loading.proofs.Fronts.{IsGrammarReady, front_order, front_ready}
+use Rattle.mh_program.proofs.Fronts.{IsGrammarReady, front_order, front_ready}
 use Rattle.mh_prepared.specs.Shapes.{Prepared, Tabled}
 use Rattle.mh_program.specs.Preparing.{IsPrepared, IsTabledFrom, IsTabledFront}
 use Rattle.mh_tabling.specs.TableFile.{IsBuilt}

@@ -4,9 +4,9 @@ use Rattle.mh_outside.specs.Shelf.{Files}
 use Rattle.mh_grammar.specs.Text.{Text}
 use Rattle.mh_drive.specs.Causes.{Staged, Go, Halt, On}
 use Rattle.mh_drive.proofs.Binding.{IsOne}
-use Rattle.mh_loading.specs.FrontStage.{IsFront}
-use Rattle.mh_loading.proofs.Fronts.{front_ready}
-use Rattle.mh_loading.proofs.OneFront.{front_once}
+use Rattle.mh_modules.specs.FrontStage.{IsFront}
+use Rattle.mh_program.proofs.Fronts.{front_ready}
+use Rattle.mh_program.proofs.OneFront.{front_once}
 use Rattle.mh_loaded.specs.declared.front.Front.{Front}
 use Rattle.mh_program.proofs.OneTabled.{tabled_front_once}
 use Rattle.mh_program.specs.Preparing.{IsPrepared, IsTabledFront}

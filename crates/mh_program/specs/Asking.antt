@@ -4,8 +4,8 @@ use Rattle.std.specs.List.{All}
 use Rattle.mh_opts.specs.declared.order.Order.{Order}
 use Rattle.mh_grammar.specs.Text.{Text}
 use Rattle.mh_drive.specs.Causes.{Go}
-use Rattle.mh_loading.specs.Modules.{grammar_files}
-use Rattle.mh_loading.specs.Order.{staged_order}
+use Rattle.mh_modules.specs.Modules.{grammar_files}
+use Rattle.mh_modules.specs.Order.{staged_order}
 use Rattle.mh_program.specs.TableTurns.{AsksForTables}
 use Rattle.mh_plans.specs.Files.{files_of_mode}
 

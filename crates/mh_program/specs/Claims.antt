@@ -8,7 +8,7 @@ use Rattle.mh_grammar.specs.Text.{Text}
 use Rattle.mh_drive.specs.Text.{cannot_read, cannot_read_input, out_of_memory}
 use Rattle.mh_drive.specs.Lines.{split, is_small}
 use Rattle.mh_drive.specs.Causes.{Go, Halt}
-use Rattle.mh_loading.specs.Order.{staged_order}
+use Rattle.mh_modules.specs.Order.{staged_order}
 use Rattle.mh_files.specs.FileStage.{IsFound}
 use Rattle.mh_plans.specs.Plan.{Plan, asks_of, by_plan}
 use Rattle.mh_program.specs.Work.{Work, IsWork}

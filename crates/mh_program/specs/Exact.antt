@@ -17,7 +17,7 @@ use Rattle.mh_tables.specs.TreeRuns.{IsTooDeep}
 use Rattle.mh_opts.specs.declared.order.Order.{Order}
 use Rattle.mh_outside.specs.Shelf.{Files}
 use Rattle.mh_drive.specs.Causes.{Go}
-use Rattle.mh_loading.specs.Order.{staged_order}
+use Rattle.mh_modules.specs.Order.{staged_order}
 use Rattle.mh_grammar.specs.Text.{Text}
 use Rattle.mh_msgfile.specs.Sentences.{IsSentence, sentence_in, vocabulary_of}
 use Rattle.mh_plans.specs.MessagesStage.{Messages}

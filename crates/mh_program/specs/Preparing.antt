@@ -3,7 +3,7 @@ use Rattle.std.specs.Prelude.{List, Option}
 use Rattle.mh_outside.specs.Shelf.{Files}
 use Rattle.mh_grammar.specs.Text.{Text}
 use Rattle.mh_drive.specs.Causes.{Staged, Then}
-use Rattle.mh_loading.specs.FrontStage.{IsFront}
+use Rattle.mh_modules.specs.FrontStage.{IsFront}
 use Rattle.mh_prepared.specs.Shapes.{Prepared}
 pub use Rattle.mh_tabling.specs.Preparing.{IsTabledFrom, IsTabledFront}
 

@@ -9,9 +9,9 @@ use Rattle.mh_grammar.specs.Text.{Text}
 use Rattle.mh_drive.specs.Text.{cannot_read, cannot_read_input, out_of_memory}
 use Rattle.mh_drive.specs.Causes.{Go}
 use Rattle.mh_drive.specs.Statuses.{status_of, line_of, said}
-use Rattle.mh_loading.specs.Order.{staged_order}
-use Rattle.mh_loading.specs.GrammarFile.{IsModule}
-use Rattle.mh_loading.specs.Modules.{grammar_files}
+use Rattle.mh_modules.specs.Order.{staged_order}
+use Rattle.mh_modules.specs.GrammarFile.{IsModule}
+use Rattle.mh_modules.specs.Modules.{grammar_files}
 use Rattle.mh_files.specs.Turns.{IsTurn}
 use Rattle.mh_program.specs.TableTurns.{IsTablesTurn}
 use Rattle.mh_drive.specs.Ways.{Outcome, Yields}

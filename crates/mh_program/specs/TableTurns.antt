@@ -3,7 +3,7 @@ use Rattle.std.specs.Prelude.{◌≡◌, List, Option, Some}
 use Rattle.mh_outside.specs.Shelf.{Files}
 use Rattle.mh_grammar.specs.Text.{Text}
 use Rattle.mh_drive.specs.Causes.{Go}
-use Rattle.mh_loading.specs.FrontStage.{IsFront}
+use Rattle.mh_modules.specs.FrontStage.{IsFront}
 use Rattle.mh_loaded.specs.declared.front.Front.{Front}
 pub use Rattle.mh_sources.specs.Turns.{AsksForTables}
 

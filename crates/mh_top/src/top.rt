@@ -15,7 +15,7 @@ ghost use Rattle.mh_top.specs.Asking.{AsksFor};
 ghost use Rattle.mh_top.specs.Run.{world, Ran};
 ghost use Rattle.mh_top.specs.Saying.{Worked};
 ghost use Rattle.mh_prepared.specs.Prepared.{IsFit};
-ghost use Rattle.mh_loading.specs.FrontStage.{IsFront};
+ghost use Rattle.mh_modules.specs.FrontStage.{IsFront};
 ghost use Rattle.mh_program.specs.Preparing.{IsPrepared};
 
 use crate::following::go_on;

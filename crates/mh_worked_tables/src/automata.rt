@@ -1,9 +1,9 @@
 //! Collections that were worked out by hand, by Knuth's construction.
 use crate::cases::{check_cases, put, release};
+use crate::made::{automaton_of, grammar_of};
 use mh_canon::{canonical, is_one_automaton};
 use mh_grammar::{Edge, Grammar, Symbol};
 use mh_kernels::Automaton;
-use mh_made::{automaton_of, grammar_of};
 use mh_range::is_in_range;
 use std::alloc::Global;
 use std::fmt::Write;

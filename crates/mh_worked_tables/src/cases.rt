@@ -1,10 +1,10 @@
 //! Cases as texts: blocks with an empty line between them, each of a grammar and a row for each thing that is asked of it,
 //! with ` = ` between what is asked and what is wanted.
+use crate::made::grammar_of;
 use crate::{
     automata, catalogues, closures, resolving, runs, samples, sets, tables, trees, widths,
 };
 use mh_grammar::Grammar;
-use mh_made::grammar_of;
 use std::alloc::Global;
 use std::process::Abort;
 use std::test::Fail;

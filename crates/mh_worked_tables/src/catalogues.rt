@@ -2,9 +2,9 @@
 //! sentences that fail there the ones of least cost, of these those of the lowest start, and of these the one with the lower token
 //! at the first place where two differ.
 use crate::cases::{check_cases, put, put_bytes, put_comma, release};
+use crate::made::halting_of;
 use mh_catalogue::{CatalogueFault, Row, catalogue};
 use mh_grammar::{Grammar, start_name, token_name};
-use mh_made::halting_of;
 use mh_tables::Halting;
 use std::alloc::Global;
 use std::fmt::Write;

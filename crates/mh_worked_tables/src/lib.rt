@@ -14,6 +14,8 @@ mod closures;
 #[cfg(test)]
 mod facts;
 #[cfg(test)]
+mod made;
+#[cfg(test)]
 mod names;
 #[cfg(test)]
 mod resolving;

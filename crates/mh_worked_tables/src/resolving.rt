@@ -1,9 +1,9 @@
 //! Cells, defaults, actions on an error and conflicts that were worked out by hand. Each grammar begins with the token A,
 //! and state 1 is the one behind it.
 use crate::cases::{check_cases, put, put_comma, release};
+use crate::made::resolved;
 use mh_cells::{Conflict, Mode};
 use mh_grammar::Grammar;
-use mh_made::resolved;
 use mh_tables::Table;
 use std::alloc::Global;
 use std::fmt::Write;

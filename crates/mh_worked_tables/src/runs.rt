@@ -2,10 +2,10 @@
 ghost use Rattle.std.specs.Prelude.{◌<◌, length, IsTrue, All};
 
 use crate::cases::{check_cases, put, release};
+use crate::made::halting_of;
 use crate::trees::put_tree;
 use mh_engine::{TreeOutcome, run_with_trees};
 use mh_grammar::{Grammar, Token};
-use mh_made::halting_of;
 use mh_run::{trace, verdict};
 use mh_tables::Halting;
 use std::alloc::Global;

@@ -2,12 +2,12 @@
 ghost use Rattle.mh_grammar.specs.Plain.{plain_of, IsInRange};
 
 use crate::cases::{check_cases, put, put_bytes, put_comma, release};
+use crate::made::grammar_of;
 use mh_firsts::{first, nullable, productive, words_begin_with_first};
 use mh_grammar::{
     Edge, Grammar, Memory, NontermInfo, Production, Sequence, Symbol, Token, TokenInfo, find_edge,
     from_bytes, left_side_name, nonterminal_name, start_name, symbol_name, token_name,
 };
-use mh_made::grammar_of;
 use mh_range::is_in_range;
 use std::alloc::Global;
 use std::fmt::Write;

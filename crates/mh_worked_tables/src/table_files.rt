@@ -6,11 +6,11 @@ ghost use Rattle.mh_grammar.specs.Plain.{plain_of, IsInRange};
 ghost use Rattle.mh_kernels.specs.Automaton.{IsAutomaton};
 
 use crate::cases::{check, put, release};
+use crate::made::grammar_of;
 use mh_canon::canonical;
 use mh_cells::Mode;
 use mh_grammar::{Grammar, Memory};
 use mh_kernels::Automaton;
-use mh_made::grammar_of;
 use mh_range::{has_costs_in_range, is_in_range};
 use mh_resolve::resolve;
 use mh_tabform::{RawCells, RawTable};

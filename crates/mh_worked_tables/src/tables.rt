@@ -1,9 +1,9 @@
 //! Tables that were worked out by hand, and whether runs on them end.
 use crate::cases::{check_cases, release};
+use crate::made::resolved;
 use mh_cells::Mode;
 use mh_grammar::Grammar;
 use mh_halting::check_halts;
-use mh_made::resolved;
 use std::alloc::Global;
 use std::fmt::Write;
 use std::test::Fail;

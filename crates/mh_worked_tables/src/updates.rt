@@ -9,10 +9,10 @@ ghost use Rattle.mh_cells.specs.declared.kinds.Mode.TheVariants.{Canonical};
 
 use crate::cases::{check, put, put_bytes, release};
 use crate::facts::{automaton_of, is_small, table_of};
+use crate::made::grammar_of;
 use mh_check::{CheckFault, Compiled, compare, compile};
 use mh_grammar::Grammar;
 use mh_kernels::Automaton;
-use mh_made::grammar_of;
 use mh_msgfile::read_messages;
 use mh_run::Verdict;
 use mh_tables::Halting;

@@ -1,9 +1,9 @@
 //! Which test a table file fails, and where.
 use crate::cases::{check, put, release};
 use crate::facts::is_small;
+use crate::made::grammar_of;
 use crate::names::are_apart;
 use mh_grammar::Grammar;
-use mh_made::grammar_of;
 use mh_tabreader::read_tables;
 use mh_validate::{ValidFault, validate};
 use std::alloc::Global;

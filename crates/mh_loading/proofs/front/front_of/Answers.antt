@@ -3,7 +3,7 @@ use Rattle.std.specs.String.{string_bytes}
 use Rattle.std.specs.declared.alloc.Global.{Global}
 use Rattle.mh_modules.specs.Modules.{sample_of}
 use Rattle.mh_loading.proofs.Going.{files_stop, front_made, grammar_stops}
-use Rattle.mh_loading.proofs.Ready.{modules_capital, modules_ready}
+use Rattle.mh_modules.proofs.Ready.{modules_capital, modules_ready}
 use Rattle.mh_loading.proofs.front.front_of.Goals as goal
 
 pub returns-in-Err-modules_of-clause-front : goal.returns-in-Err-modules_of-clause-front

@@ -14,11 +14,11 @@ use Rattle.mh_grammar.specs.Text.{Text}
 use Rattle.mh_drive.specs.Causes.{Staged, Go, Halt, On, Then, Gives}
 use Rattle.mh_modules.specs.GrammarStage.{IsGrammarStage}
 use Rattle.mh_modules.specs.Modules.{AreModules, HasCapitals, sample_of}
-use Rattle.mh_loading.specs.Order.{staged_order}
-use Rattle.mh_loading.specs.FrontStage.{IsFront}
+use Rattle.mh_modules.specs.Order.{staged_order}
+use Rattle.mh_modules.specs.FrontStage.{IsFront}
 use Rattle.mh_loaded.specs.declared.front.Front.{Front}
 use Rattle.mh_modules.proofs.Apart.{names_apart}
-use Rattle.mh_loading.proofs.Ready.{modules_capital, modules_ready}
+use Rattle.mh_modules.proofs.Ready.{modules_capital, modules_ready}
 
 pub record IsGrammarReady (g : Grammar) : Type 0 where
   pub range : IsInRange (plain_of g)

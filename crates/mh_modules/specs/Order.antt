@@ -4,7 +4,7 @@ use Rattle.mh_opts.specs.Orders as words
 use Rattle.mh_opts.specs.declared.order.Order.{Order}
 use Rattle.mh_opts.specs.declared.order.UsageFault.{UsageFault}
 use Rattle.mh_grammar.specs.Text.{Text}
-use Rattle.mh_loading.specs.Texts.{usage_line}
+use Rattle.mh_modules.specs.Texts.{usage_line}
 use Rattle.mh_drive.specs.Causes.{Staged, Go, Halt}
 use Rattle.mh_drive.specs.declared.stop.Cause.TheVariants.{Misused}
 

@@ -8,7 +8,7 @@ use Rattle.mh_drive.specs.Causes.{Go}
 use Rattle.mh_files.specs.Turns.{IsTurn}
 use Rattle.mh_modules.specs.GrammarFile.{IsModule}
 use Rattle.mh_modules.specs.Modules.{grammar_files}
-use Rattle.mh_loading.specs.Order.{staged_order}
+use Rattle.mh_modules.specs.Order.{staged_order}
 
 -- the turn of one of the grammar files that the words name has come
 abbrev pub IsGrammarTurn : List Text → Option Files → Text → Type 0

@@ -1,5 +1,4 @@
-//! Grammars from short texts, and their automata and tables, for the crates of tests: each call of the layers stands here once.
-#![tactic(auto)]
+//! Grammars from short texts, and their automata and tables: each call of the layers stands here once.
 
 use mh_canon::canonical;
 use mh_cells::{Conflict, Mode};
@@ -198,14 +197,14 @@ fn fill(alloc: Global, grammar: &mut Grammar, text: &str) -> Result<(), Fail> {
 
 /// The grammar of a text, in which a `;` stands between its tokens, its nonterminals and each production. The first nonterminal is a
 /// start, and each with a `*` behind it.
-pub fn grammar_of(alloc: Global, text: &str) -> Result<Grammar, Fail> {
+pub(crate) fn grammar_of(alloc: Global, text: &str) -> Result<Grammar, Fail> {
     let mut grammar = empty_grammar(alloc);
     let filling = fill(alloc, &mut grammar, text);
     filled(grammar, filling)
 }
 
 /// The canonical automaton of a grammar of at most 64 tokens.
-pub fn automaton_of(alloc: Global, grammar: &Grammar) -> Result<Automaton<1>, Fail> {
+pub(crate) fn automaton_of(alloc: Global, grammar: &Grammar) -> Result<Automaton<1>, Fail> {
     if !is_in_range(grammar) || grammar.tokens.len() > 64 {
         return Err(Fail::from("out of range"));
     }
@@ -216,7 +215,7 @@ pub fn automaton_of(alloc: Global, grammar: &Grammar) -> Result<Automaton<1>, Fa
 }
 
 /// The table and the conflicts of a grammar, by its canonical automaton.
-pub fn resolved(
+pub(crate) fn resolved(
     alloc: Global,
     grammar: &Grammar,
     mode: Mode,
@@ -233,7 +232,7 @@ pub fn resolved(
 }
 
 /// The table of a grammar, on which each run ends.
-pub fn halting_of(alloc: Global, grammar: &Grammar) -> Result<Halting, Fail> {
+pub(crate) fn halting_of(alloc: Global, grammar: &Grammar) -> Result<Halting, Fail> {
     let (table, conflicts) = resolved(alloc, grammar, Mode::Canonical)?;
     release(conflicts);
     match check_halts(alloc, table) {

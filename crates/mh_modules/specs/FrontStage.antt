@@ -3,7 +3,7 @@ use Rattle.std.specs.Prelude.{List, Option}
 use Rattle.mh_outside.specs.Shelf.{Files}
 use Rattle.mh_grammar.specs.Text.{Text}
 use Rattle.mh_drive.specs.Causes.{Staged, On, Then, Gives}
-use Rattle.mh_loading.specs.Order.{staged_order}
+use Rattle.mh_modules.specs.Order.{staged_order}
 use Rattle.mh_modules.specs.Modules.{AreModules}
 use Rattle.mh_modules.specs.GrammarStage.{IsGrammarStage}
 use Rattle.mh_loaded.specs.declared.front.Front.{Front}

@@ -11,12 +11,12 @@ use Rattle.mh_drive.specs.declared.stop.Cause.TheVariants.{Refused}
 use Rattle.mh_drive.proofs.Binding.{IsOne, on_once, then_once}
 use Rattle.mh_files.specs.FileStage.{AreFiles, IsFile, IsLoaded}
 use Rattle.mh_files.proofs.Once.{gives_once, loaded_once}
-use Rattle.mh_loading.specs.Order.{staged_order}
+use Rattle.mh_modules.specs.Order.{staged_order}
 use Rattle.mh_modules.specs.GrammarFile.{IsModule}
 use Rattle.mh_modules.specs.Modules.{AreModules, AreModulesBy, sample_file, sample_of}
 use Rattle.mh_modules.specs.GrammarStage.{IsGrammarStage}
 use Rattle.mh_modules.specs.Texts.{refusal, syntax_error}
-use Rattle.mh_loading.specs.FrontStage.{IsFront}
+use Rattle.mh_modules.specs.FrontStage.{IsFront}
 
 -- ---- files
 

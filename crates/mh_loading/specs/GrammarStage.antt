@@ -1,2 +1,0 @@
--- The grammar of the modules that the files spell.
-pub use Rattle.mh_modules.specs.GrammarStage.{IsGrammarStage}
