@@ -7,7 +7,7 @@ ghost use Rattle.mh_knuth.specs.Canonical.{IsCanonical, IsOver};
 ghost use Rattle.mh_kernels.specs.Shapes.{Kernel as KernelOf};
 ghost use Rattle.mh_kernels.specs.Collection.{AreStarts};
 ghost use Rattle.mh_moves.specs.Moves.{AreMoves};
-ghost use Rattle.mh_moves.specs.Mover.{IsMover};
+ghost use Rattle.mh_mover.specs.Mover.{IsMover};
 ghost use Rattle.mh_knuth.specs.Found.{IsSource, AreStates};
 ghost use Rattle.mh_canon.specs.Placed.{PlacesAll, HasEdges};
 
@@ -15,7 +15,8 @@ use indexmap::IndexSet;
 use mh_grammar::{Edge, Grammar, Sequence};
 use mh_kernels::{Automaton, Kernel, StatesFault, start_kernel};
 use mh_knuth::MAX_STATES;
-use mh_moves::{Move, Mover};
+use mh_mover::Mover;
+use mh_moves::Move;
 use mh_states::{in_order, insert, number};
 use std::alloc::Global;
 

@@ -28,7 +28,8 @@ use Rattle.mh_items.specs.Wanted.{AreWanted, Wants}
 use Rattle.mh_items.specs.Asked.{looks_at, IsAsked, IsTable}
 use Rattle.mh_sets.specs.Sets.{IsSet}
 use Rattle.mh_grammar.proofs.Lists.{same_at, contains_at, at_contains, recursion-from}
-use Rattle.mh_items.proofs.Merged.{kernel_push, holds_push, holds_cases}
+use Rattle.mh_items.proofs.Merged.{holds_push, holds_cases}
+use Rattle.mh_kernels.proofs.Pushing.{kernel_push}
 use Rattle.mh_items.proofs.Wanting.{asked_known}
 use Rattle.mh_kernels.proofs.Sides.{behind_below}
 use Rattle.mh_firsts.proofs.FirstSets.{first_of-below}

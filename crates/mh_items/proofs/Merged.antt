@@ -10,15 +10,12 @@ use Rattle.mh_kernels.specs.Shapes.{KernelItem}
 use Rattle.mh_kernels.specs.Shapes.{Kernel}
 use Rattle.mh_kernels.specs.Kernels.{Holds, IsItemList, IsKernelItem, IsItemBefore}
 use Rattle.mh_items.specs.Merging.{IsUnion, IsMerged, IsJoined}
-use Rattle.mh_grammar.proofs.Lists.{same_at, contains_at, at_contains, recursion_at, recursion-push, rising_at, rising-push}
+use Rattle.mh_grammar.proofs.Lists.{same_at, contains_at, at_contains, recursion_at, rising_at}
 use Rattle.mh_kernels.proofs.OneList.{item_along}
+use Rattle.mh_kernels.proofs.Pushing.{kernel_push}
 
 abbrev of_items : List KernelItem → Kernel
 of_items items = record { items = items }
-
--- an item pushed
-pub kernel_push : (g : PlainGrammar) (items : List KernelItem) (z : KernelItem) → IsItemList g (of_items items) → IsKernelItem g z → ((x : KernelItem) → Contains items x → IsItemBefore x z) → IsItemList g (of_items (items ++ z ∷ []))
-kernel_push g items z k i b = record { items = recursion-push (IsKernelItem g) items z k.items i; rising = rising-push IsItemBefore items z k.rising b }
 
 pub holds_push : (items : List KernelItem) (z : KernelItem) (p d : ℕ) (b : Look) → Holds (of_items items) p d b → Holds (of_items (items ++ z ∷ [])) p d b
 holds_push items z p d b h = (h.0, Contains-append_left items (z ∷ []) h.0 h.1, h.2, h.3, h.4)

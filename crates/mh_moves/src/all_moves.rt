@@ -1,5 +1,5 @@
 //! All moves of a closure at once: each item is looked at once, and put into the row of the symbol at its dot.
-ghost use Rattle.std.specs.Prelude.{◌≡◌, ◌<◌, ◌≤◌, ◌+◌, ◌^◌, ℕ, map, length, IfOk, OnOk};
+ghost use Rattle.std.specs.Prelude.{◌≡◌, ◌<◌, ◌≤◌, ◌+◌, map, length, IfOk, OnOk};
 ghost use Rattle.mh_grammar.specs.Plain.{plain_of, IsInRange};
 ghost use Rattle.mh_kernels.specs.Kernels.{IsItemList};
 ghost use Rattle.mh_moves.specs.Rows.{AreEmpty, AreGathered, AreReady, move_from, symbol_of};
@@ -7,7 +7,7 @@ ghost use Rattle.mh_moves.specs.Moves.{AreMoves};
 
 use crate::rows::{Rows, place};
 use mh_grammar::{Grammar, Memory, Sequence, Symbol};
-use mh_kernels::{Closure, ItemsWith, KernelItem, symbol_at};
+use mh_kernels::{Closure, ItemsWith, KernelItem, advanced, symbol_at};
 use mh_sets::TokenSet;
 use std::alloc::Global;
 use std::mem;
@@ -61,18 +61,6 @@ fn gather<const W: usize>(
         }
     }
     Ok(())
-}
-
-/// The item with the dot behind the next symbol.
-fn advanced<const W: usize>(item: &KernelItem<W>) -> KernelItem<W>
-    requires { item.now.dot + 1 < 2 ^ 32 }
-    ensures { result ≡ record item.now { dot = item.now.dot + 1 } }
-{
-    KernelItem {
-        production: item.production,
-        dot: item.dot + 1,
-        looks: item.looks.copied(),
-    }
 }
 
 /// The symbol of a row.

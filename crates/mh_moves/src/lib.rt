@@ -2,9 +2,7 @@
 #![tactic(auto)]
 
 mod all_moves;
-mod mover;
 mod rows;
 
 pub use all_moves::{Move, MoveWith, moves};
-pub use mover::Mover;
 pub use rows::Rows;

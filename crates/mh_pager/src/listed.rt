@@ -1,7 +1,7 @@
 //! The list that the steps make, from the start kernels until no state waits.
 ghost use Rattle.std.specs.Prelude.{◌≡◌, ◌<◌, ◌≤◌, ◌*◌, [], ℕ, length, Err, OnOk};
 ghost use Rattle.mh_grammar.specs.Plain.{plain_of, IsInRange};
-ghost use Rattle.mh_moves.specs.Mover.{IsMover};
+ghost use Rattle.mh_mover.specs.Mover.{IsMover};
 ghost use Rattle.mh_pager.specs.Listing.{work_of, IsKept};
 ghost use Rattle.mh_merging.specs.Steps.{AreBegun, IsList, IsSwollen};
 
@@ -10,7 +10,7 @@ use crate::stepping::step;
 use mh_grammar::{Grammar, Memory};
 use mh_kernels::{StatesFault, start_kernel};
 use mh_knuth::MAX_STATES;
-use mh_moves::Mover;
+use mh_mover::Mover;
 use std::alloc::Global;
 
 /// Makes steps until no state waits, over a list that has no states yet.

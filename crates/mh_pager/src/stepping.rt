@@ -4,7 +4,7 @@ ghost use Rattle.mh_grammar.specs.Plain.{plain_of, IsInRange};
 ghost use Rattle.mh_kernels.specs.Shapes.{Kernel as KernelOf};
 ghost use Rattle.mh_kernels.specs.Kernels.{IsItemList};
 ghost use Rattle.mh_moves.specs.Moves.{AreMoves};
-ghost use Rattle.mh_moves.specs.Mover.{IsMover};
+ghost use Rattle.mh_mover.specs.Mover.{IsMover};
 ghost use Rattle.mh_pager.specs.Listing.{work_of, with_first, IsKept, PutsAll, OverrunsAll};
 ghost use Rattle.mh_merging.specs.Steps.{IsReady, IsStep, Overruns};
 
@@ -12,7 +12,8 @@ use crate::listing::{Listing, put};
 use mh_grammar::{Edge, Grammar, Sequence};
 use mh_kernels::StatesFault;
 use mh_knuth::MAX_STATES;
-use mh_moves::{Move, Mover};
+use mh_mover::Mover;
+use mh_moves::Move;
 use std::alloc::Global;
 
 /// Puts the moves of a state somewhere, in the order of symbols.

@@ -1,7 +1,7 @@
 //! The edges of the states, one after another.
 ghost use Rattle.std.specs.Prelude.{◌≡◌, ◌<◌, ◌≤◌, ◌*◌, [], length, IfOk, OnOk};
 ghost use Rattle.mh_grammar.specs.Plain.{plain_of, IsInRange};
-ghost use Rattle.mh_moves.specs.Mover.{IsMover};
+ghost use Rattle.mh_mover.specs.Mover.{IsMover};
 ghost use Rattle.mh_valid.specs.Valid.{AreKernels, HasEdges, raw_state};
 ghost use Rattle.mh_stated.specs.Looking.{Finds};
 ghost use Rattle.mh_validate.specs.Comparing.{AreFirstRows};
@@ -9,7 +9,7 @@ ghost use Rattle.mh_validate.specs.Comparing.{AreFirstRows};
 use crate::edges::row_of;
 use mh_grammar::{Edge, Grammar, Memory, Sequence};
 use mh_kernels::Kernel;
-use mh_moves::Mover;
+use mh_mover::Mover;
 use mh_tabform::{RawEdge, RawTable};
 use std::alloc::Global;
 

@@ -3,7 +3,7 @@ use Rattle.std.proofs.lemmas.Bool.{false≢true}
 use Rattle.std.proofs.lemmas.Option.{slice_get_within}
 use Rattle.mh_grammar.specs.Plain.{plain_of, rhs_of}
 use Rattle.mh_kernels.proofs.Sides.{short_rhs}
-use Rattle.mh_items.proofs.Advancing.{MovedSoFar-push, MovedSoFar-skip, moved_of}
+use Rattle.mh_kernels.proofs.Advancing.{MovedSoFar-push, MovedSoFar-skip, moved_of}
 use Rattle.mh_items.proofs.Standing.{item_at, item_is}
 use Rattle.mh_items.proofs.moves.moved.Goals as goal
 use Rattle.mh_items.proofs.moves.moved.Goals.{then-is_before+in_ok-push, else-is_before}

@@ -1,5 +1,5 @@
 use Rattle.mh_grammar.specs.Plain.{plain_of}
-use Rattle.mh_items.proofs.Advancing.{MovedSoFar}
+use Rattle.mh_kernels.proofs.Advancing.{MovedSoFar}
 use Rattle.mh_items.proofs.moves.moved.Given as goal
 
 abbrev pub invariant-loop-item : goal.invariant-loop-item

@@ -3,7 +3,7 @@ use Rattle.mh_grammar.specs.Plain.{plain_of}
 use Rattle.mh_knuth.specs.declared.limits.TheConstants.{MAX_STATES}
 use Rattle.mh_pager.specs.Listing.{work_of, IsKept}
 use Rattle.mh_merging.specs.Steps.{IsList}
-use Rattle.mh_moves.specs.Mover.{IsMover}
+use Rattle.mh_mover.specs.Mover.{IsMover}
 use Rattle.mh_pager.proofs.Weights.{weight}
 use Rattle.mh_pager.proofs.listed.settle.Given as goal
 

@@ -1,5 +1,5 @@
 use Rattle.std.proofs.lemmas.Result.{IfOk-weaker}
-use Rattle.mh_moves.proofs.mover.Mover.moves.Goals as goal
+use Rattle.mh_mover.proofs.mover.Mover.moves.Goals as goal
 
 pub returns-clause-moves : goal.returns-clause-moves
 returns-clause-moves g c = IfOk-weaker c.moves.result _ _ (λ v are. record { closed = c.in_ok-closed.closed; valid = c.in_ok-closed.ensures.kernel; same = c.in_ok-closed.ensures.exact; are = are }) c.moves.ensures.moves

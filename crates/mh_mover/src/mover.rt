@@ -3,13 +3,12 @@ ghost use Rattle.std.specs.Prelude.{◌≡◌, ◌≤◌, ◌*◌, length, IfOk}
 ghost use Rattle.mh_grammar.specs.Plain.{plain_of, IsInRange};
 ghost use Rattle.mh_kernels.specs.Kernels.{IsItemList};
 ghost use Rattle.mh_moves.specs.Moves.{AreMovesOf};
-ghost use Rattle.mh_moves.specs.Mover.{IsMover};
+ghost use Rattle.mh_mover.specs.Mover.{IsMover};
 
-use crate::all_moves::{Move, moves};
-use crate::rows::Rows;
 use mh_grammar::{Grammar, Memory};
 use mh_items::Closer;
 use mh_kernels::Kernel;
+use mh_moves::{Move, Rows, moves};
 use std::alloc::Global;
 
 /// What the moves of one grammar's kernels are computed from, and a place to compute them in.

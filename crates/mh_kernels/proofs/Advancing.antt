@@ -14,7 +14,7 @@ use Rattle.mh_kernels.specs.Shapes.{Items, Kernel}
 use Rattle.mh_kernels.specs.Kernels.{Holds, IsItemList, IsKernelItem, IsItemBefore}
 use Rattle.mh_grammar.proofs.Lists.{same_at, contains_at, at_contains, recursion_at, rising_at}
 use Rattle.mh_kernels.proofs.Dotted.{drop_from-slice_get, slice_get_from-drop}
-use Rattle.mh_items.proofs.Merged.{kernel_push}
+use Rattle.mh_kernels.proofs.Pushing.{kernel_push}
 
 abbrev of_items : List KernelItem → Kernel
 of_items items = record { items = items }
