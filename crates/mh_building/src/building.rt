@@ -2,7 +2,7 @@
 ghost use Rattle.std.specs.Prelude.{◌≡◌, ◌++◌, ◌∷◌, ◌≤◌, ◌<◌, ◌+◌, ◌^◌, [], None, false, length, map, option_and_then, unwrap_or, IfOk, OnOk};
 ghost use Rattle.std.specs.List.{flat_map, enumerate_from};
 ghost use Rattle.mh_meanings.specs.Names as names_spec;
-ghost use Rattle.indexmap.specs.IndexSet.{contains};
+ghost use Rattle.std.specs.HashSet.{contains};
 ghost use Rattle.mh_grammar.specs.Text.{Text};
 ghost use Rattle.mh_meanings.specs.Names.{same, marks_public, files, formal_number, definitions_from, definitions_in};
 ghost use Rattle.mh_meanings.specs.Faults.{meant_by, undefined_in_actual, undefined_in_on_error, undefined_start};
@@ -11,7 +11,6 @@ ghost use Rattle.mh_meanings.specs.Maps.{meanings_in, elsewhere_in, formals_in};
 ghost use Rattle.mh_building.specs.Standing.{unresolved, unresolved_in_rule, unresolved_in_rules, unresolved_in_file, unresolved_on_error, definitions_by, Adds};
 
 use crate::printing::printed;
-use indexmap::IndexSet;
 use mh_grammar::{Level, Memory, Name, Sequence, TokenInfo};
 use mh_meanings::{Formals, Names, formals_of, marked_public, name_by, owner_in};
 use mh_rules::{
@@ -19,6 +18,7 @@ use mh_rules::{
     Rule,
 };
 use std::alloc::Global;
+use std::collections::HashSet;
 
 /// An actual with its names resolved.
 #[cycle(actuals)]
@@ -323,7 +323,7 @@ fn add_rules(
     alloc: Global,
     names: &Names,
     file: u64,
-    marked: &IndexSet<Name>,
+    marked: &HashSet<Name>,
     rules: &[Rule],
     joined: &mut [JoinedRule],
 ) -> Result<(), Memory>

@@ -5,7 +5,6 @@ use Rattle.std.specs.List.{list_any}
 use Rattle.std.specs.HashSet.{HashSet}
 use Rattle.std.proofs.lemmas.List.{append-nil}
 use Rattle.std.proofs.lemmas.List.Folds.{list_any-append}
-use Rattle.indexmap.specs.IndexSet.{insert_key}
 use Rattle.mh_grammar.proofs.Lists.{taken}
 use Rattle.mh_rules.specs.declared.modules.Rule.{Rule}
 use Rattle.mh_meanings.specs.declared.fault.JoinFault.{JoinFault}
@@ -14,7 +13,7 @@ use Rattle.mh_grammar.specs.Text.{Text}
 use Rattle.mh_meanings.specs.Names.{same}
 use Rattle.mh_meanings.specs.Faults.{first, unless, repeats, own_name, own_names}
 use Rattle.mh_duplicates.specs.Once.{PutsOwn}
-use Rattle.mh_meanings.proofs.Lists.{any_put, flat_more}
+use Rattle.mh_meanings.proofs.Lists.{flat_more}
 use Rattle.mh_meanings.proofs.Finding.{IsFirst, drop_item}
 
 -- the set has these names, of which none repeats; the rest is to come
@@ -29,9 +28,9 @@ or_false false = refl
 pub Seen-none : (all : List Text) → Seen [] [] all all
 Seen-none all = record { has = λ x. refl; once = refl }
 
-pub Seen-more : (keys new done rest all : List Text) (x : Text) → Seen keys done (x ∷ rest) all → new ≡ insert_key same keys x → list_any (same x) keys ≡ false → Seen new (done ++ x ∷ []) rest all
+pub Seen-more : (keys new done rest all : List Text) (x : Text) → Seen keys done (x ∷ rest) all → ((y : Text) → list_any (same y) new ≡ (list_any (same y) keys || same y x)) → list_any (same x) keys ≡ false → Seen new (done ++ x ∷ []) rest all
 Seen-more keys new done rest all x seen put lacks = record {
-  has = λ y. ap (list_any (same y)) put ∙ any_put keys x y ∙ ap (λ b. b || same y x) (seen.has y) ∙ ap (λ b. list_any (same y) done || b) (sym (or_false (same y x))) ∙ sym (list_any-append (same y) done (x ∷ []));
+  has = λ y. put y ∙ ap (λ b. b || same y x) (seen.has y) ∙ ap (λ b. list_any (same y) done || b) (sym (or_false (same y x))) ∙ sym (list_any-append (same y) done (x ∷ []));
   once = ap (λ b. unless (not b) (faults.Duplicate x) ++ repeats (done ++ x ∷ []) rest) (sym (sym (seen.has x) ∙ lacks)) ∙ seen.once;
 }
 
@@ -70,7 +69,7 @@ own_err test old new rules i r h at seen e puts =
     Own-err (test r.name) old new (own_names test (take i rules)) (own_names test (drop i rules)) (own_names test (drop (i + 1) rules)) (own_names test rules) r.name e (own_drop test rules i r h at) seen puts
 
 -- one more name
-pub name_more : (keys new names : List Text) (i : ℕ) (x : Text) → i < length names → x ≡ get_or names i x → Seen keys (take i names) (drop i names) names → new ≡ insert_key same keys x → list_any (same x) keys ≡ false → Seen new (take (i + 1) names) (drop (i + 1) names) names
+pub name_more : (keys new names : List Text) (i : ℕ) (x : Text) → i < length names → x ≡ get_or names i x → Seen keys (take i names) (drop i names) names → ((y : Text) → list_any (same y) new ≡ (list_any (same y) keys || same y x)) → list_any (same x) keys ≡ false → Seen new (take (i + 1) names) (drop (i + 1) names) names
 name_more keys new names i x h at seen put lacks =
     subst (λ k. Seen new k (drop (i + 1) names) names) (sym (taken names i x h at)) (Seen-more keys new (take i names) (drop (i + 1) names) names x (subst (λ k. Seen keys (take i names) k names) (drop_item names i x h at) seen) put lacks)
 

@@ -8,13 +8,13 @@ ghost use Rattle.mh_meanings.specs.Faults.{Finds, unless, name_duplicates, rule_
 ghost use Rattle.mh_meanings.specs.Maps.{meanings_in, is_public_in};
 ghost use Rattle.mh_duplicates.specs.Once.{PutsOnce, PutsOwn};
 
-use indexmap::IndexSet;
 use mh_grammar::{Level, Name};
 use mh_meanings::{
     JoinFault, Kind, Names, is_public, marked_public, name_by, put_name, same_level, same_shape,
 };
 use mh_rules::{LevelDecl, Module, Ref, Rule, TokenDecl};
 use std::alloc::Global;
+use std::collections::HashSet;
 
 /// Refuses a name, unless it agrees with what came first.
 fn require_one(agrees: bool, name: &Name) -> Result<(), JoinFault>
@@ -97,7 +97,7 @@ fn check_aliases(names: &Names, file: &Module) -> Result<(), JoinFault>
 }
 
 /// Puts in a name, which is not to be there.
-fn put_once(seen: &mut IndexSet<Name>, name: &Name) -> Result<(), JoinFault>
+fn put_once(seen: &mut HashSet<Name>, name: &Name) -> Result<(), JoinFault>
     ensures { PutsOnce seen.old name.now seen.new result }
 {
     match put_name(seen, name) {
@@ -110,7 +110,7 @@ fn put_once(seen: &mut IndexSet<Name>, name: &Name) -> Result<(), JoinFault>
 fn check_names(alloc: Global, names: &[Name]) -> Result<(), JoinFault>
     ensures { Finds (repeats [] names.now) result }
 {
-    let mut seen = IndexSet::new(alloc);
+    let mut seen = HashSet::new(alloc);
     for name in names {
         if let Err(fault) = put_once(&mut seen, name) {
             return Err(fault);
@@ -132,12 +132,12 @@ fn check_own(alloc: Global, names: &Names, file: &Module) -> Result<(), JoinFaul
 fn check_own_rules(
     alloc: Global,
     names: &Names,
-    marked: &IndexSet<Name>,
+    marked: &HashSet<Name>,
     rules: &[Rule],
 ) -> Result<(), JoinFault>
     ensures { Finds (repeats [] (own_names (is_public_in names.now marked.now) rules.now)) result }
 {
-    let mut seen = IndexSet::new(alloc);
+    let mut seen = HashSet::new(alloc);
     for rule in rules {
         if let Err(fault) = put_own(names, marked, &mut seen, rule) {
             return Err(fault);
@@ -149,8 +149,8 @@ fn check_own_rules(
 /// Puts in the name of a rule that is not public, which is not to be there.
 fn put_own(
     names: &Names,
-    marked: &IndexSet<Name>,
-    seen: &mut IndexSet<Name>,
+    marked: &HashSet<Name>,
+    seen: &mut HashSet<Name>,
     rule: &Rule,
 ) -> Result<(), JoinFault>
     ensures { PutsOwn (is_public_in names.now marked.now rule.now.name) seen.old rule.now.name seen.new result }
@@ -187,7 +187,7 @@ fn has_first_shape(names: &Names, rule: &Rule) -> bool
     }
 }
 
-fn check_shape(names: &Names, marked: &IndexSet<Name>, rule: &Rule) -> Result<(), JoinFault>
+fn check_shape(names: &Names, marked: &HashSet<Name>, rule: &Rule) -> Result<(), JoinFault>
     ensures { Finds (other_shape (meanings_in names.now) (is_public_in names.now marked.now) rule.now) result }
 {
     if !is_public(&names.starts, marked, &rule.name) {
@@ -198,7 +198,7 @@ fn check_shape(names: &Names, marked: &IndexSet<Name>, rule: &Rule) -> Result<()
 
 fn check_file_shapes(
     names: &Names,
-    marked: &IndexSet<Name>,
+    marked: &HashSet<Name>,
     rules: &[Rule],
 ) -> Result<(), JoinFault>
     ensures { Finds

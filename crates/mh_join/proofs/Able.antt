@@ -4,7 +4,6 @@ use Rattle.std.specs.Prelude.{◌||◌, not, is_some, if◌then◌else◌}
 use Rattle.std.specs.List.{All, flat_map, enumerate_from, list_any}
 use Rattle.std.proofs.lemmas.Bool.{cases_lt, lt-ltb}
 use Rattle.std.proofs.lemmas.List.Concat.{flat_map-append}
-use Rattle.indexmap.specs.IndexSet.{insert_all, insert_key}
 use Rattle.mh_rules.specs.declared.joined.TheConstants.{MAX_TOKENS}
 use Rattle.mh_rules.specs.declared.modules.Ref.{Ref}
 use Rattle.mh_rules.specs.declared.modules.Actual.{Actual}
@@ -21,7 +20,7 @@ use Rattle.mh_meanings.specs.declared.names.Names.{Names}
 use Rattle.mh_meanings.specs.declared.outlines.Outline.{Outline}
 use Rattle.mh_meanings.specs.Prelude.{prelude_rules}
 use Rattle.mh_grammar.specs.Text.{Text}
-use Rattle.mh_meanings.specs.Names.{same, files, formal_number, start_names, definitions, definitions_in, library_definitions, is_elsewhere, rules}
+use Rattle.mh_meanings.specs.Names.{same, files, formal_number, start_names, definitions, definitions_in, library_definitions, is_elsewhere, rules, insert_all, insert_key}
 use Rattle.mh_meanings.specs.Faults.{Meanings, meant_by, refs, is_error, text_of, unless, undefined, undefined_in_actual, undefined_in_alternative, undefined_prec, undefined_in_rule, undefined_start, undefined_in_level, undefined_in_on_error, undefined_in_declarations, undefined_in_file, duplicates, has_some, error_token, errors_in_actual, errors_in_alternative, errors_in_rule, errors_in_file, unlevelled_in_file, many_tokens, other_faults, faults_by}
 use Rattle.mh_meanings.specs.Joining.{IsJoinedBy, IsJoined}
 use Rattle.mh_meanings.specs.Maps.{meanings_in, elsewhere_in, HasMeanings}

@@ -7,7 +7,6 @@ use Rattle.std.proofs.lemmas.Bool.Decides.{Decides-eqb}
 use Rattle.std.proofs.lemmas.List.{map-append}
 use Rattle.std.proofs.lemmas.List.Concat.{flat_map-append}
 use Rattle.std.proofs.lemmas.List.Folds.{list_any-append, flat_map-map}
-use Rattle.indexmap.specs.IndexSet.{insert_all, insert_key}
 use Rattle.mh_rules.specs.declared.modules.Ref.{Ref}
 use Rattle.mh_rules.specs.declared.modules.Ref.TheVariants.{Plain}
 use Rattle.mh_rules.specs.declared.modules.Actual.{Actual}
@@ -20,11 +19,11 @@ use Rattle.mh_meanings.specs.declared.outlines.Outline.{Outline}
 use Rattle.mh_meanings.specs.declared.fault.JoinFault.TheVariants as faults
 use Rattle.mh_meanings.specs.Prelude.{call, words, plain, optional, in_order, texts, prelude_rules, separated_items, list_rule, nonempty_list_rule, separated_list_rule, separated_nonempty_list_rule, option_rules, pair_rules, list_rules, other_rules}
 use Rattle.mh_grammar.specs.Text.{Text}
-use Rattle.mh_meanings.specs.Names.{same, files, formal_number, definitions, definitions_from, definitions_in, library_definitions, outline_of, same_owner, is_rule, same_rule, rules, rule_number, start_names}
+use Rattle.mh_meanings.specs.Names.{same, files, formal_number, definitions, definitions_from, definitions_in, library_definitions, outline_of, same_owner, is_rule, same_rule, rules, rule_number, start_names, insert_all, insert_key}
 use Rattle.mh_meanings.specs.Faults.{Meanings, meant_by, refs, refs_step, unless, undefined, undefined_in_actual}
 use Rattle.mh_building.specs.Standing.{unresolved, unresolved_in_rule, unresolved_in_rules}
 use Rattle.mh_grammar.proofs.SameText.{same_is}
-use Rattle.mh_naming.proofs.Numbers.{is_some-position}
+use Rattle.mh_meanings.proofs.Lists.{is_some-position}
 use Rattle.mh_meanings.proofs.Actuals.{flat_refs}
 
 -- A RULE THAT IS THERE HAS A NUMBER

@@ -1,18 +1,16 @@
 -- Lists that are gone through, and names that are put into sets and maps.
 use Rattle.std.proofs.Common.{◌≡◌, ℕ, suc, ◌+◌, ◌<◌, Bool, true, false, cond, List, [], ◌∷◌, ◌++◌, Option, Some, None, length, get_or, take, refl, sym, ap, subst, ◌∙◌, inl, inr, arith, zero-add, append_assoc}
-use Rattle.std.specs.Prelude.{is_some, ◌||◌, if◌then◌else◌}
+use Rattle.std.specs.Prelude.{is_some, ◌||◌}
 use Rattle.std.specs.List.{flat_map, enumerate_from, position, position_from, list_any}
 use Rattle.std.proofs.lemmas.List.Folds.{list_any-append, list_any_more}
-use Rattle.indexmap.specs.IndexSet.{insert_key}
 use Rattle.std.specs.Map.{lookup}
 use Rattle.std.specs.Option.{option_or}
-use Rattle.std.proofs.lemmas.List.{take_more, append-nil, length-take}
+use Rattle.std.proofs.lemmas.List.{append-nil, length-take}
 use Rattle.std.proofs.lemmas.List.Concat.{flat_map-append}
 use Rattle.std.proofs.lemmas.Iterator.Adapters.{position_from-zero}
-use Rattle.std.specs.HashMap.{HashMap}
-use Rattle.indexmap.specs.IndexMap.{get}
+use Rattle.std.specs.HashMap.{HashMap, get}
 use Rattle.mh_grammar.proofs.Lists.{taken}
-use Rattle.mh_grammar.proofs.SameText.{same_is, same_self, same_cases}
+use Rattle.mh_grammar.proofs.SameText.{same_self, same_cases}
 use Rattle.mh_meanings.specs.Puts.{Puts}
 use Rattle.mh_grammar.specs.Text.{Text}
 use Rattle.mh_meanings.specs.Names.{same}
@@ -45,6 +43,17 @@ position-push test xs x =
     position_from-zero test (xs ++ x ∷ []) ∙ position_from-push test 0 xs x
     ∙ ap (λ o. option_or o (cond (test x) (Some (0 + length xs)) None)) (sym (position_from-zero test xs))
     ∙ ap (λ k. option_or (position test xs) (cond (test x) (Some k) None)) (zero-add (length xs))
+
+is_some-position_from : {A : Type 0} (p : A → Bool) (n : ℕ) (xs : List A) → is_some (position_from p n xs) ≡ list_any p xs
+is_some-position_from p n [] = refl
+is_some-position_from p n (x ∷ xs) = go (p x) (is_some-position_from p (n + 1) xs)
+  where
+    go : (b : Bool) → is_some (position_from p (n + 1) xs) ≡ list_any p xs → is_some (cond b (Some n) (position_from p (n + 1) xs)) ≡ (b || list_any p xs)
+    go true e = refl
+    go false e = e
+
+pub is_some-position : {A : Type 0} (p : A → Bool) (xs : List A) → is_some (position p xs) ≡ list_any p xs
+is_some-position p xs = ap is_some (position_from-zero p xs) ∙ is_some-position_from p 0 xs
 
 -- VALUES PUT IN FIRST
 
@@ -124,17 +133,20 @@ any_enum_more p n xs i j x h e at =
     ∙ ap (λ k. list_any p (enumerate_from n (take i xs) ++ (k, x) ∷ [])) (sym at ∙ ap (λ k. n + k) (sym (length-take_in xs i h)))
     ∙ sym (ap (list_any p) (ap (enumerate_from n) (taken xs i x h e) ∙ enumerate-push n (take i xs) x))
 
--- a name put into a set
-pub any_put : (ks : List Text) (k x : Text) → list_any (same x) (insert_key same ks k) ≡ (list_any (same x) ks || same x k)
-any_put ks k x = go (list_any (same k) ks) refl
-  where
-    there : list_any (same k) ks ≡ true → (b : Bool) → same x k ≡ b → list_any (same x) ks ≡ (list_any (same x) ks || b)
-    there h false e = sym (or_false (list_any (same x) ks))
-    there h true e = let has : list_any (same x) ks ≡ true = ap (λ z. list_any (same z) ks) (same_is x k e) ∙ h in has ∙ sym (ap (λ b. b || true) has)
+or_true : (b : Bool) → (b || true) ≡ true
+or_true true = refl
+or_true false = refl
 
-    go : (b : Bool) → list_any (same k) ks ≡ b → list_any (same x) (if b then ks else ks ++ k ∷ []) ≡ (list_any (same x) ks || same x k)
-    go true h = there h (same x k) refl
-    go false h = list_any-append (same x) ks (k ∷ []) ∙ ap (λ b. list_any (same x) ks || b) (or_false (same x k))
+-- a name put into a set
+pub has_more : (old new : Text → Bool) (name : Text) → ((q : Text) → new q ≡ cond (same name q) true (old q)) → (x : Text) → new x ≡ (old x || same x name)
+has_more old new name at x =
+    elim (same_cases name x) [
+      | inl e ↦ subst (λ k. new k ≡ (old k || same k name)) e here
+      | inr apart ↦ at x ∙ ap (λ b. cond b true (old x)) apart.0 ∙ sym (ap (λ b. old x || b) apart.1 ∙ or_false (old x))
+    ]
+  where
+    here : new name ≡ (old name || same name name)
+    here = at name ∙ ap (λ b. cond b true (old name)) (same_self name) ∙ sym (ap (λ b. old name || b) (same_self name) ∙ or_true (old name))
 
 -- items pushed one after the other
 pub push_first : {A : Type 0} (a b : List A) (x y : A) → b ≡ a ++ x ∷ [] → x ≡ y → b ≡ a ++ y ∷ []

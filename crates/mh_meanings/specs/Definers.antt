@@ -1,7 +1,6 @@
 -- The files that define a rule of a name.
 use Rattle.std.specs.Prelude.{◌≡◌, ◌==◌, ◌&&◌, ◌||◌, ℕ, not, Option, Some, None, Bool, true, false}
-use Rattle.indexmap.specs.IndexMap.{get}
-use Rattle.std.specs.HashMap.{HashMap}
+use Rattle.std.specs.HashMap.{HashMap, get}
 use Rattle.mh_meanings.specs.declared.names.Definers.{Definers}
 use Rattle.mh_meanings.specs.declared.names.Definers.TheVariants as definers
 use Rattle.mh_grammar.specs.Text.{Text}

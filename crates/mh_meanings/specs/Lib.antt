@@ -1,5 +1,6 @@
 pub mod Prelude
 pub mod Names
+pub mod Listed
 pub mod Puts
 pub mod Faults
 pub mod Joining

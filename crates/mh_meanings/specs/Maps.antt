@@ -1,9 +1,8 @@
 -- What the maps of names say.
-use Rattle.std.specs.Prelude.{◌≡◌, ◌||◌, ℕ, List, Option, option_and_then, Bool, slice_get}
-use Rattle.indexmap.specs.IndexMap.{get}
-use Rattle.indexmap.specs.IndexSet.{contains, index_of}
-use Rattle.std.specs.HashMap.{HashMap}
-use Rattle.std.specs.HashSet.{HashSet}
+use Rattle.std.specs.Prelude.{◌≡◌, ◌||◌, ℕ, List, Option, option_and_then, Bool, slice_get, position}
+use Rattle.std.specs.HashMap.{HashMap, get}
+use Rattle.std.specs.HashSet.{HashSet, contains}
+use Rattle.std.specs.List.{list_any}
 use Rattle.mh_rules.specs.declared.modules.Module.{Module}
 use Rattle.mh_meanings.specs.declared.names.Names.{Names}
 use Rattle.mh_grammar.specs.Text.{Text}
@@ -15,7 +14,7 @@ use Rattle.mh_meanings.specs.Numbering.{number_in, IsNumbered}
 -- ALL
 
 abbrev pub numbers_in : Names → Numbers
-numbers_in n = record { token = (λ x. index_of same n.tokens x); rule = number_in n.numbering }
+numbers_in n = record { token = (λ x. position (same x) n.tokens.keys); rule = number_in n.numbering }
 
 -- the formals by their map
 abbrev pub formals_in : {S : Type 0} → HashMap Text ℕ S → Text → Option ℕ
@@ -23,7 +22,7 @@ formals_in m x = get same m x
 
 -- by the starts, and by what a file marks public
 abbrev pub is_public_in : {S : Type 0} → Names → HashSet Text S → Text → Bool
-is_public_in n marked x = contains same n.starts x || contains same marked x
+is_public_in n marked x = list_any (same x) n.starts.keys || contains same marked x
 
 abbrev pub elsewhere_in : Names → ℕ → Text → Bool
 elsewhere_in n k x = elsewhere_by (get same n.definers x) k

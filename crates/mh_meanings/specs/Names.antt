@@ -1,11 +1,10 @@
 -- What the names and strings of several files stand for. The files of a grammar count from 1; the prelude is file 0 and
 -- stands behind them. Source: the Menhir manual on grammars split into files; this project's profile.
-use Rattle.std.specs.Prelude.{◌+◌, ◌==◌, ◌&&◌, ◌||◌, ℕ, not, if◌then◌else◌, List, [], ◌∷◌, ◌++◌, length, map, Option, Some, None, option_map, option_and_then, Bool, true, false, position}
+use Rattle.std.specs.Prelude.{◌+◌, ◌==◌, ◌&&◌, ◌||◌, ℕ, not, if◌then◌else◌, List, [], ◌∷◌, ◌++◌, length, map, Option, Some, None, option_map, option_and_then, Bool, true, false, fold, position}
 use Rattle.std.specs.List.{enumerate_from, list_any, flat_map}
 use Rattle.std.specs.Map.{lookup}
 use Rattle.std.specs.Option.{option_or}
 use Rattle.std.specs.Cmp.Lexicographic.{pointwise}
-use Rattle.indexmap.specs.IndexSet.{insert_all}
 use Rattle.mh_grammar.specs.declared.types.Assoc.{Assoc}
 use Rattle.mh_grammar.specs.declared.types.Level.{Level}
 use Rattle.mh_rules.specs.declared.modules.Ref.{Ref}
@@ -22,6 +21,14 @@ use Rattle.mh_grammar.specs.Text.{Text}
 
 abbrev pub same : Text → Text → Bool
 same = pointwise ◌==◌
+
+-- the items with one more: they stay where one of them is equal to it, and else it stands last
+abbrev pub insert_key : {X : Type 0} → (X → X → Bool) → List X → X → List X
+insert_key eq xs x = if list_any (eq x) xs then xs else xs ++ x ∷ []
+
+-- with each of these in turn
+abbrev pub insert_all : {X : Type 0} → (X → X → Bool) → List X → List X → List X
+insert_all eq xs ys = fold (insert_key eq) xs ys
 
 -- the items, each where it stands first
 abbrev pub firsts : {X : Type 0} → (X → X → Bool) → List X → List X

@@ -2,14 +2,13 @@
 use Rattle.std.specs.Prelude.{◌≡◌, ◌<◌, ◌&&◌, ◌++◌, ℕ, if◌then◌else◌, List, map, Option, Some, None, option_and_then, position, slice_get, length}
 use Rattle.std.specs.List.{flat_map}
 use Rattle.std.specs.Option.{option_or}
-use Rattle.indexmap.specs.IndexMap.{get}
-use Rattle.indexmap.specs.IndexSet.{insert_all}
+use Rattle.std.specs.HashMap.{get}
 use Rattle.mh_rules.specs.declared.modules.Rule.{Rule}
 use Rattle.mh_rules.specs.declared.modules.Module.{Module}
 use Rattle.mh_meanings.specs.declared.outlines.Outline.{Outline}
 use Rattle.mh_meanings.specs.declared.numbering.Numbering.{Numbering}
 use Rattle.mh_grammar.specs.Text.{Text}
-use Rattle.mh_meanings.specs.Names.{same, firsts, files, is_rule, same_rule, same_owner, owner_in}
+use Rattle.mh_meanings.specs.Names.{same, insert_all, firsts, files, is_rule, same_rule, same_owner, owner_in}
 
 abbrev pub number_in : Numbering → Option ℕ → Text → Option ℕ
 number_in n None x = get same n.public x

@@ -2,8 +2,7 @@
 use Rattle.std.specs.Prelude.{◌≡◌, List}
 use Rattle.std.specs.Map.{lookup}
 use Rattle.std.specs.Option.{option_or}
-use Rattle.indexmap.specs.IndexMap.{get}
-use Rattle.std.specs.HashMap.{HashMap}
+use Rattle.std.specs.HashMap.{HashMap, get}
 use Rattle.mh_grammar.specs.Text.{Text}
 use Rattle.mh_meanings.specs.Names.{same}
 

@@ -1,16 +1,16 @@
 //! What names and strings mean by the aliases.
 ghost use Rattle.std.specs.Prelude.{◌≡◌};
 ghost use Rattle.std.specs.Option.{option_copied};
-ghost use Rattle.indexmap.specs.IndexMap.{get};
+ghost use Rattle.std.specs.HashMap.{get};
 ghost use Rattle.mh_meanings.specs.Names as spec;
 ghost use Rattle.mh_meanings.specs.Names.{same};
 
-use indexmap::IndexMap;
 use mh_grammar::Name;
 use mh_rules::Ref;
+use std::collections::HashMap;
 
 /// Each alias with the name of its first token.
-pub type Aliases = IndexMap<Name, Name>;
+pub type Aliases = HashMap<Name, Name>;
 
 /// What a name or string means: of a string the name of its token.
 pub fn name_by<'a>(aliases: &'a Aliases, reference: &'a Ref) -> Option<&'a Name>

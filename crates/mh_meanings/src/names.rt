@@ -1,7 +1,7 @@
 //! What the names and strings of several files stand for.
 ghost use Rattle.std.specs.Prelude.{◌≡◌, ◌≤◌, ◌||◌, is_some, length};
 ghost use Rattle.std.specs.List.{list_any};
-ghost use Rattle.indexmap.specs.IndexMap.{get};
+ghost use Rattle.std.specs.HashMap.{get};
 ghost use Rattle.mh_meanings.specs.Names as spec;
 ghost use Rattle.mh_meanings.specs.Names.{same, user_head, visible_head};
 ghost use Rattle.mh_meanings.specs.Faults.{has_some, meant_by};
@@ -10,19 +10,20 @@ ghost use Rattle.mh_meanings.specs.Maps.{numbers_in, meanings_in, elsewhere_in, 
 use crate::aliases::Aliases;
 use crate::formals::Formals;
 use crate::kinds::Kind;
+use crate::name_list::NameList;
 use crate::numbering::Numbering;
-use indexmap::{IndexMap, IndexSet};
 use mh_grammar::{Level, Name, Token};
 use mh_rules::{Head, MAX_TOKENS, Ref};
+use std::collections::HashMap;
 
 /// Each token that is given a cost with its first.
-pub type Costs = IndexMap<Name, u32>;
+pub type Costs = HashMap<Name, u32>;
 
 /// Each name with its first use.
-pub type Kinds = IndexMap<Name, Kind>;
+pub type Kinds = HashMap<Name, Kind>;
 
 /// Each name with its first level.
-pub type Levels = IndexMap<Name, Level>;
+pub type Levels = HashMap<Name, Level>;
 
 /// The files that define a rule of one name.
 #[derive(Clone, Copy)]
@@ -32,13 +33,13 @@ pub enum Definers {
 }
 
 /// Each name with its definers.
-pub type DefinersOf = IndexMap<Name, Definers>;
+pub type DefinersOf = HashMap<Name, Definers>;
 
 /// What the names of all files stand for. Files count from 1, and the prelude is file 0.
 #[derive(Drop)]
 pub struct Names {
-    pub tokens: IndexSet<Name>,
-    pub starts: IndexSet<Name>,
+    pub tokens: NameList,
+    pub starts: NameList,
     pub aliases: Aliases,
     pub levels: Levels,
     pub costs: Costs,
@@ -76,7 +77,7 @@ impl Names {
     fn is_token(&self, name: &Name) -> bool
         ensures { result ≡ is_some (spec.token_head (numbers_in self.now) name.now) }
     {
-        self.tokens.get_index_of(name).is_some()
+        self.tokens.place_of(name).is_some()
     }
 
     fn is_rule(&self, owner: Option<u64>, name: &Name) -> bool
@@ -117,7 +118,7 @@ impl Names {
         requires { length self.now.tokens.keys ≤ MAX_TOKENS }
         ensures { result ≡ spec.token_head (numbers_in self.now) name.now }
     {
-        match self.tokens.get_index_of(name) {
+        match self.tokens.place_of(name) {
             Some(number) => Some(Head::Token(number as Token)),
             None => None,
         }

@@ -3,14 +3,14 @@ ghost use Rattle.std.specs.Prelude.{◌≡◌};
 ghost use Rattle.mh_meanings.specs.Numbering.{number_in};
 
 use crate::outlines::Outline;
-use indexmap::IndexMap;
 use mh_grammar::Name;
+use std::collections::HashMap;
 
 /// The rules, with their numbers by name: those of the public ones, and those of each file's own, the prelude's first.
 #[derive(Drop)]
 pub struct Numbering {
-    pub public: IndexMap<Name, u64>,
-    pub own: Vec<IndexMap<Name, u64>>,
+    pub public: HashMap<Name, u64>,
+    pub own: Vec<HashMap<Name, u64>>,
     pub rules: Vec<Outline>,
 }
 

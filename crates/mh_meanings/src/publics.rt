@@ -1,17 +1,18 @@
 //! Which rules of a file are public.
 ghost use Rattle.std.specs.Prelude.{◌≡◌, ◌||◌, ◌&&◌, Some, if◌then◌else◌, IfOk, OnOk};
 ghost use Rattle.std.specs.List.{list_any};
-ghost use Rattle.indexmap.specs.IndexSet.{contains};
+ghost use Rattle.std.specs.HashSet.{contains};
 ghost use Rattle.mh_grammar.specs.Text.{Text};
 ghost use Rattle.mh_meanings.specs.Names.{same, marks_public};
 
 use crate::maps::put_name;
-use indexmap::IndexSet;
+use crate::name_list::NameList;
 use mh_grammar::{Memory, Name};
 use mh_rules::Rule;
 use std::alloc::Global;
+use std::collections::HashSet;
 
-fn mark_public(marked: &mut IndexSet<Name>, rule: &Rule) -> Result<(), Memory>
+fn mark_public(marked: &mut HashSet<Name>, rule: &Rule) -> Result<(), Memory>
     ensures { OnOk result ((x : Text) →
         contains same marked.new x
         ≡ (contains same marked.old x || (rule.now.public && same x rule.now.name))) }
@@ -24,10 +25,10 @@ fn mark_public(marked: &mut IndexSet<Name>, rule: &Rule) -> Result<(), Memory>
 }
 
 /// The names of rules that a file marks public.
-pub fn marked_public(alloc: Global, rules: &[Rule]) -> Result<IndexSet<Name>, Memory>
+pub fn marked_public(alloc: Global, rules: &[Rule]) -> Result<HashSet<Name>, Memory>
     ensures { IfOk result (λ marked. (x : Text) → contains same marked x ≡ marks_public rules.now x) }
 {
-    let mut marked = IndexSet::new(alloc);
+    let mut marked = HashSet::new(alloc);
     for rule in rules {
         mark_public(&mut marked, rule)?;
     }
@@ -35,19 +36,14 @@ pub fn marked_public(alloc: Global, rules: &[Rule]) -> Result<IndexSet<Name>, Me
 }
 
 /// Whether the rules of a name are public in a file that marks these names.
-pub fn is_public(starts: &IndexSet<Name>, marked: &IndexSet<Name>, name: &Name) -> bool
-    ensures { result ≡ (contains same starts.now name.now || contains same marked.now name.now) }
+pub fn is_public(starts: &NameList, marked: &HashSet<Name>, name: &Name) -> bool
+    ensures { result ≡ (list_any (same name.now) starts.now.keys || contains same marked.now name.now) }
 {
     starts.contains(name) || marked.contains(name)
 }
 
 /// Who owns the rules of a name in a file.
-pub fn owner_in(
-    starts: &IndexSet<Name>,
-    marked: &IndexSet<Name>,
-    file: u64,
-    name: &Name,
-) -> Option<u64>
+pub fn owner_in(starts: &NameList, marked: &HashSet<Name>, file: u64, name: &Name) -> Option<u64>
     ensures { result
         ≡ (if list_any (same name.now) starts.now.keys || contains same marked.now name.now then None else
         Some file) }

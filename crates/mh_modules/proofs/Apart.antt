@@ -7,7 +7,6 @@ use Rattle.std.proofs.lemmas.Slice.Eq.{slice_eq-Decides}
 use Rattle.std.proofs.lemmas.List.{length-map}
 use Rattle.std.proofs.lemmas.Option.{slice_get-get_or, slice_get-map}
 use Rattle.std.proofs.lemmas.List.Elements.{All-head, All-nil, All-push, All-tail, All-contains, All-map, All-append}
-use Rattle.indexmap.specs.IndexSet.{insert_all, insert_key}
 use Rattle.mh_grammar.specs.Names.{token_name}
 use Rattle.mh_grammar.specs.Numbering.{AreDistinct}
 use Rattle.mh_grammar.specs.declared.types.Grammar.{Grammar}
@@ -16,7 +15,7 @@ use Rattle.mh_grammar.proofs.Lists.{at_contains, contains_at}
 use Rattle.mh_grammar.proofs.Placing.{AreDistinct-push}
 use Rattle.mh_rules.specs.declared.modules.Module.{Module}
 use Rattle.mh_rules.specs.declared.modules.TokenDecl.{TokenDecl}
-use Rattle.mh_meanings.specs.Names.{same, token_names, tokens_in}
+use Rattle.mh_meanings.specs.Names.{same, token_names, tokens_in, insert_all, insert_key}
 use Rattle.mh_meanings.specs.Faults.{Meanings, meanings}
 use Rattle.mh_meanings.specs.Joining.{token_info}
 use Rattle.mh_places.specs.Signs.{is_capital}

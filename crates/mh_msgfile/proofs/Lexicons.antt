@@ -4,9 +4,11 @@ use Rattle.std.proofs.lemmas.List.{map-append, length-map, length-take-le, take_
 use Rattle.std.proofs.Math.Seq.{take-suc}
 use Rattle.mh_grammar.specs.declared.types.Grammar.{Grammar}
 use Rattle.mh_grammar.specs.declared.types.NontermInfo.{NontermInfo}
-use Rattle.mh_msgfile.specs.Sentences.{or_else, AreNumbers, PutsName, start_name}
+use Rattle.mh_msgfile.specs.Sentences.{or_else, number_in, AreNumbers, PutsName, start_name}
 use Rattle.std.specs.List.{position_from, All}
-use Rattle.std.specs.Map.{lookup}
+use Rattle.std.specs.HashMap.{HashMap, UpdatesBy}
+use Rattle.std.specs.Map.{lookup, KeepsOthers}
+use Rattle.std.specs.Cmp.Lexicographic.{bytes_decides, nat_list_eq_equiv}
 use Rattle.std.specs.Str.{bytes_eq}
 use Rattle.std.specs.declared.alloc.Global.{Global}
 use Rattle.mh_grammar.specs.Text.{Text}
@@ -24,14 +26,6 @@ position_push t i (x ∷ xs) y = position_on t i x xs y (t x) refl (position_pus
 
 abbrev Entries : Type 0
 Entries = List (Vec ℕ Global × ℕ)
-
-lookup_push : (t : Vec ℕ Global → Bool) (es : Entries) (k : Vec ℕ Global) (v : ℕ) → lookup t (es ++ (k, v) ∷ []) ≡ or_else (lookup t es) (if t k then Some v else None)
-lookup_push t [] k v = refl
-lookup_push t (e ∷ es) k v = by (t e.0) refl (lookup_push t es k v)
-  where
-    by : (c : Bool) → t e.0 ≡ c → lookup t (es ++ (k, v) ∷ []) ≡ or_else (lookup t es) (if t k then Some v else None) → lookup t ((e ∷ es) ++ (k, v) ∷ []) ≡ or_else (lookup t (e ∷ es)) (if t k then Some v else None)
-    by true is on = rw is refl
-    by false is on = rw is on
 
 -- a name more
 pub numbers_push : (names : List Text) (name : Text) (number : ℕ) (es fs : Entries) → number ≡ length names → AreNumbers names es → PutsName name number es fs → AreNumbers (names ++ name ∷ []) fs
@@ -63,10 +57,31 @@ module _ {A : Type 0} (name_of : A → Text) (items : List A) where
   pub all_put : (n : ℕ) (es : Entries) → length items ≤ n → AreNumbers (map name_of (take n items)) es → AreNumbers (map name_of items) es
   all_put n es le are = subst (λ (ts : List A). AreNumbers (map name_of ts) es) (take_all n items le) are
 
-pub name_put : (es fs : Entries) (name : Text) (key : Vec ℕ Global) (number : ℕ) → fs ≡ es ++ (key, number) ∷ [] → key.items ≡ name → PutsName name number es fs
-name_put es fs name key number is named other =
-    ap (lookup (λ k. bytes_eq other k.items)) is ∙ lookup_push (λ k. bytes_eq other k.items) es key number
-    ∙ ap (λ (n : Text). or_else (lookup (λ k. bytes_eq other k.items) es) (if bytes_eq other n then Some number else None)) named
+abbrev same_key : Vec ℕ Global → Vec ℕ Global → Bool
+same_key x y = bytes_eq x.items y.items
+
+-- what a change at some keys leaves at other names
+kept : (test : Vec ℕ Global → Bool) (es fs : Entries) (other : Text) → KeepsOthers same_key test es fs → ((k : Vec ℕ Global) → test k ≡ true → bytes_eq other k.items ≡ false) → number_in fs other ≡ number_in es other
+unfolding KeepsOthers
+kept test es fs other keeps apart = keeps (λ k. bytes_eq other k.items) (λ x y. nat_list_eq_equiv.congr other x.items y.items) apart
+
+or_none : (o : Option ℕ) → o ≡ or_else o None
+or_none None = refl
+or_none (Some n) = refl
+
+-- a name that had no number has this one now
+pub name_put : {S : Type 0} (m n : HashMap (Vec ℕ Global) ℕ S) (name : Text) (key : Vec ℕ Global) (number : ℕ) → UpdatesBy same_key (same_key key) m n (Some number) → key.items ≡ name → number_in m.entries name ≡ None → PutsName name number m.entries n.entries
+name_put m n name key number updates named none other = by (bytes_eq other name) refl
+  where
+    by : (c : Bool) → bytes_eq other name ≡ c → number_in n.entries other ≡ or_else (number_in m.entries other) (if bytes_eq other name then Some number else None)
+    by true e =
+        let is : other ≡ name = (bytes_decides other name).0 e in
+        let its : number_in n.entries name ≡ Some number = subst (λ (x : Text). number_in n.entries x ≡ Some number) named updates.1 in
+        rw e (ap (number_in n.entries) is ∙ its ∙ ap (λ (o : Option ℕ). or_else o (Some number)) (sym none ∙ ap (number_in m.entries) (sym is)))
+    by false e =
+        let same : number_in n.entries other ≡ number_in m.entries other =
+        kept (same_key key) m.entries n.entries other updates.3 (λ k h. ap (bytes_eq other) (sym ((bytes_decides key.items k.items).0 h) ∙ named) ∙ e) in
+        rw e (same ∙ or_none (number_in m.entries other))
 
 pub copied_none : (r : Option (Bor ℕ)) → is_some r ≡ false → option_copied r ≡ None
 copied_none None h = refl

@@ -4,24 +4,24 @@ ghost use Rattle.mh_grammar.specs.Plain.{plain_of, IsInRange};
 ghost use Rattle.mh_grammar.specs.declared.types.TheConstants.{MAX_NUMBERED};
 ghost use Rattle.mh_msgfile.specs.Sentences.{AreNumbers, PutsName, start_names, only_one, vocabulary_of, vocabulary_in};
 
-use indexmap::IndexMap;
 use mh_grammar::{Grammar, Memory, Token, TokenInfo};
 use mh_lines::only_start;
 use std::alloc::Global;
+use std::collections::HashMap;
 
 /// The numbers of a grammar's starts and tokens by their names, made once for all of its lines. A start has the name of its
 /// nonterminal, and its number is its place among the starts. Of two with one name the first counts.
 #[derive(Drop)]
 pub struct Lexicon {
-    starts: IndexMap<Vec<u8>, u16>,
+    starts: HashMap<Vec<u8>, u16>,
     only_start: Option<u16>,
-    tokens: IndexMap<Vec<u8>, Token>,
+    tokens: HashMap<Vec<u8>, Token>,
 }
 
 /// Puts in a name with its number, where it has none yet.
 fn put_name(
     alloc: Global,
-    numbers: &mut IndexMap<Vec<u8>, u16>,
+    numbers: &mut HashMap<Vec<u8>, u16>,
     name: &[u8],
     number: u16,
 ) -> Result<(), Memory>
@@ -38,7 +38,7 @@ fn put_name(
 /// Puts in the numbers of tokens. Of two with one name the first counts.
 fn number_tokens(
     alloc: Global,
-    numbers: &mut IndexMap<Vec<u8>, Token>,
+    numbers: &mut HashMap<Vec<u8>, Token>,
     tokens: &[TokenInfo],
 ) -> Result<(), Memory>
     requires few { length tokens.now ≤ MAX_NUMBERED }
@@ -54,7 +54,7 @@ fn number_tokens(
 /// Puts in the numbers of the starts. Of two with one name the first counts.
 fn number_starts(
     alloc: Global,
-    numbers: &mut IndexMap<Vec<u8>, u16>,
+    numbers: &mut HashMap<Vec<u8>, u16>,
     grammar: &Grammar,
 ) -> Result<(), Memory>
     requires range { IsInRange (plain_of grammar.now) }
@@ -75,9 +75,9 @@ impl Lexicon {
         ensures { IfOk result (λ lexicon. vocabulary_in lexicon ≡ vocabulary_of grammar.now) }
     {
         let mut lexicon = Lexicon {
-            starts: IndexMap::new(alloc),
+            starts: HashMap::new(alloc),
             only_start: only_start(grammar),
-            tokens: IndexMap::new(alloc),
+            tokens: HashMap::new(alloc),
         };
         match lexicon.number(alloc, grammar) {
             Ok(()) => Ok(lexicon),

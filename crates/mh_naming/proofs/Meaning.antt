@@ -5,7 +5,7 @@ use Rattle.std.specs.List.{flat_map, find, position, position_from}
 use Rattle.std.specs.Map.{lookup}
 use Rattle.std.proofs.lemmas.List.{map-append}
 use Rattle.std.proofs.lemmas.Iterator.Adapters.{position_from-zero}
-use Rattle.indexmap.specs.IndexMap.{get}
+use Rattle.std.specs.HashMap.{get}
 use Rattle.mh_rules.specs.declared.modules.Rule.{Rule}
 use Rattle.mh_rules.specs.declared.modules.Module.{Module}
 use Rattle.mh_meanings.specs.declared.names.Names.{Names}

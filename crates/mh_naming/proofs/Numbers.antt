@@ -1,37 +1,22 @@
 -- Rules and their numbers.
-use Rattle.std.proofs.Common.{◌≡◌, ℕ, zero, suc, ◌+◌, ◌<◌, Bool, true, false, cond, List, [], ◌∷◌, ◌++◌, Option, Some, None, length, get_or, set, take, map, refl, sym, ap, subst, ◌∙◌, arith, get_or-set_same}
-use Rattle.std.specs.Prelude.{◌&&◌, ◌||◌, if◌then◌else◌, is_some, option_and_then, slice_get}
-use Rattle.std.specs.List.{All, position, position_from, list_any, flat_map, enumerate_from}
+use Rattle.std.proofs.Common.{◌≡◌, ℕ, ◌+◌, ◌<◌, Bool, true, false, List, [], ◌∷◌, ◌++◌, Option, Some, None, length, get_or, take, map, refl, sym, ap, subst, ◌∙◌}
+use Rattle.std.specs.Prelude.{◌&&◌, if◌then◌else◌, is_some, option_and_then, slice_get}
+use Rattle.std.specs.List.{All, position, flat_map, enumerate_from}
 use Rattle.std.specs.Map.{lookup}
 use Rattle.std.specs.Option.{option_or}
-use Rattle.std.specs.HashMap.{HashMap}
-use Rattle.std.proofs.Math.ListN.{length-set}
-use Rattle.std.proofs.lemmas.Option.{slice_get-get_or, slice_get_within, get_or_from_slice_get}
-use Rattle.indexmap.specs.IndexMap.{get, IsEmpty}
-use Rattle.indexmap.specs.IndexSet.{insert_all, insert_key}
+use Rattle.std.specs.HashMap.{HashMap, get, IsEmpty}
+use Rattle.std.proofs.lemmas.Option.{slice_get_within, get_or_from_slice_get}
 use Rattle.std.proofs.lemmas.List.{map-append, append-nil}
 use Rattle.std.proofs.lemmas.List.Concat.{flat_map-append}
-use Rattle.std.proofs.lemmas.Iterator.Adapters.{position_from-zero}
 use Rattle.mh_grammar.proofs.Lists.{taken}
 use Rattle.mh_meanings.specs.declared.outlines.Outline.{Outline}
 use Rattle.mh_meanings.specs.declared.numbering.Numbering.{Numbering}
 use Rattle.mh_grammar.specs.Text.{Text}
-use Rattle.mh_meanings.specs.Names.{same, same_owner, is_rule, same_rule}
+use Rattle.mh_meanings.specs.Names.{same, same_owner, is_rule, same_rule, insert_all, insert_key}
 use Rattle.mh_meanings.specs.Numbering.{number_in, IsNumbered, IsOwner, AddsNumber, Numbers}
-use Rattle.mh_meanings.proofs.Lists.{position-push, enumerate-push, length-take_in}
+use Rattle.mh_meanings.proofs.Lists.{position-push, is_some-position, enumerate-push, length-take_in}
 
 module _ {A : Type 0} where
-  any_from : (p : A → Bool) (n : ℕ) (xs : List A) → is_some (position_from p n xs) ≡ list_any p xs
-  any_from p n [] = refl
-  any_from p n (x ∷ xs) = go (p x) (any_from p (n + 1) xs)
-    where
-      go : (b : Bool) → is_some (position_from p (n + 1) xs) ≡ list_any p xs → is_some (cond b (Some n) (position_from p (n + 1) xs)) ≡ (b || list_any p xs)
-      go true e = refl
-      go false e = e
-
-  pub is_some-position : (p : A → Bool) (xs : List A) → is_some (position p xs) ≡ list_any p xs
-  is_some-position p xs = ap is_some (position_from-zero p xs) ∙ any_from p 0 xs
-
   pub insert_all-append : (eq : A → A → Bool) (ks xs ys : List A) → insert_all eq ks (xs ++ ys) ≡ insert_all eq (insert_all eq ks xs) ys
   insert_all-append eq ks [] ys = refl
   insert_all-append eq ks (x ∷ xs) ys = insert_all-append eq (insert_key eq ks x) xs ys

@@ -1,6 +1,6 @@
 -- Maps before names are put in.
 use Rattle.std.specs.Prelude.{◌≡◌, []}
-use Rattle.indexmap.specs.IndexMap.{IsEmpty}
+use Rattle.std.specs.HashMap.{IsEmpty}
 use Rattle.mh_meanings.specs.declared.names.Names.{Names}
 use Rattle.mh_meanings.specs.declared.numbering.Numbering.{Numbering}
 

@@ -1,7 +1,7 @@
 //! The costs of the tokens of all files.
 ghost use Rattle.std.specs.Prelude.{◌≡◌, OnOk};
 ghost use Rattle.std.specs.List.{flat_map};
-ghost use Rattle.indexmap.specs.IndexMap.{get, IsEmpty};
+ghost use Rattle.std.specs.HashMap.{get, IsEmpty};
 ghost use Rattle.mh_grammar.specs.Text.{Text};
 ghost use Rattle.mh_meanings.specs.Names.{same, cost_of, given_cost};
 ghost use Rattle.mh_meanings.specs.Puts.{Puts};

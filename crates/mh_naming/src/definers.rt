@@ -1,7 +1,7 @@
 //! Which files define a rule of a name.
 ghost use Rattle.std.specs.Prelude.{◌≡◌, ◌==◌, ◌&&◌, ◌||◌, ℕ, not, OnOk};
 ghost use Rattle.std.specs.List.{list_any};
-ghost use Rattle.indexmap.specs.IndexMap.{get, IsEmpty};
+ghost use Rattle.std.specs.HashMap.{get, IsEmpty};
 ghost use Rattle.mh_grammar.specs.Text.{Text};
 ghost use Rattle.mh_meanings.specs.Names.{same, is_elsewhere};
 ghost use Rattle.mh_meanings.specs.Definers.{elsewhere_by, Defines};

@@ -11,24 +11,24 @@ use crate::kinds::put_kinds;
 use crate::levels::put_levels;
 use crate::numbering::{no_rules, put_rules};
 use crate::tokens::{put_starts, put_tokens};
-use indexmap::{IndexMap, IndexSet};
 use mh_grammar::Memory;
-use mh_meanings::Names;
+use mh_meanings::{NameList, Names};
 use mh_rules::{Module, Rule};
 use std::alloc::Global;
+use std::collections::HashMap;
 
 /// Names that stand for nothing.
 fn no_names(alloc: Global) -> Names
     ensures { IsBlank result }
 {
     Names {
-        tokens: IndexSet::new(alloc),
-        starts: IndexSet::new(alloc),
-        aliases: IndexMap::new(alloc),
-        levels: IndexMap::new(alloc),
-        costs: IndexMap::new(alloc),
-        kinds: IndexMap::new(alloc),
-        definers: IndexMap::new(alloc),
+        tokens: NameList::new(alloc),
+        starts: NameList::new(alloc),
+        aliases: HashMap::new(alloc),
+        levels: HashMap::new(alloc),
+        costs: HashMap::new(alloc),
+        kinds: HashMap::new(alloc),
+        definers: HashMap::new(alloc),
         numbering: no_rules(alloc),
     }
 }

@@ -1,7 +1,7 @@
 //! What each name is first used for.
 ghost use Rattle.std.specs.Prelude.{◌≡◌, ◌∷◌, [], OnOk};
 ghost use Rattle.std.specs.List.{flat_map};
-ghost use Rattle.indexmap.specs.IndexMap.{get, IsEmpty};
+ghost use Rattle.std.specs.HashMap.{get, IsEmpty};
 ghost use Rattle.mh_grammar.specs.Text.{Text};
 ghost use Rattle.mh_meanings.specs.Names.{same};
 ghost use Rattle.mh_meanings.specs.Faults.{kinds_in, kind_of};

@@ -2,7 +2,7 @@
 ghost use Rattle.std.specs.Prelude.{◌≡◌, OnOk};
 ghost use Rattle.std.specs.List.{flat_map, enumerate_from};
 ghost use Rattle.std.specs.Map.{lookup};
-ghost use Rattle.indexmap.specs.IndexMap.{get, IsEmpty};
+ghost use Rattle.std.specs.HashMap.{get, IsEmpty};
 ghost use Rattle.mh_meanings.specs.Names as spec;
 ghost use Rattle.mh_grammar.specs.Text.{Text};
 ghost use Rattle.mh_meanings.specs.Names.{same, with_level, levels_by, levels_in};

@@ -1,29 +1,31 @@
 //! The rules of all files and of the prelude, by numbers in order of their first definitions.
 ghost use Rattle.std.specs.Prelude.{◌≡◌, ◌∷◌, [], ◌+◌, length, map, OnOk};
 ghost use Rattle.std.specs.List.{All};
-ghost use Rattle.indexmap.specs.IndexMap.{IsEmpty};
-ghost use Rattle.indexmap.specs.IndexSet.{contains};
+ghost use Rattle.std.specs.HashMap.{IsEmpty};
+ghost use Rattle.std.specs.HashSet.{contains};
 ghost use Rattle.mh_grammar.specs.Text.{Text};
 ghost use Rattle.mh_meanings.specs.Names.{same, marks_public};
 ghost use Rattle.mh_meanings.specs.Numbering.{outline_by, outline_in, outlines_of, IsNumbered, IsOwner, AddsNumber, Numbers};
 ghost use Rattle.mh_naming.specs.Blank.{HasNone};
 
-use indexmap::{IndexMap, IndexSet};
 use mh_grammar::{Memory, Name};
-use mh_meanings::{Numbering, Outline, library_owner, marked_public, owner_in, put_first};
+use mh_meanings::{
+    NameList, Numbering, Outline, library_owner, marked_public, owner_in, put_first,
+};
 use mh_rules::{Module, Rule};
 use std::alloc::Global;
+use std::collections::{HashMap, HashSet};
 
 /// Puts in so many maps without names, and one more.
-fn put_maps(maps: &mut Vec<IndexMap<Name, u64>>, alloc: Global, count: usize) -> Result<(), Memory>
+fn put_maps(maps: &mut Vec<HashMap<Name, u64>>, alloc: Global, count: usize) -> Result<(), Memory>
     requires { maps.old.items ≡ [] }
     ensures len { OnOk result (length maps.new.items ≡ count + 1) }
     ensures empty { OnOk result (All IsEmpty maps.new.items) }
 {
     for _at in 0..count {
-        maps.push(IndexMap::new(alloc))?;
+        maps.push(HashMap::new(alloc))?;
     }
-    maps.push(IndexMap::new(alloc))?;
+    maps.push(HashMap::new(alloc))?;
     Ok(())
 }
 
@@ -32,7 +34,7 @@ pub(crate) fn no_rules(alloc: Global) -> Numbering
     ensures { HasNone result }
 {
     Numbering {
-        public: IndexMap::new(alloc),
+        public: HashMap::new(alloc),
         own: Vec::new(alloc),
         rules: Vec::new(alloc),
     }
@@ -97,8 +99,8 @@ fn add_rule(numbering: &mut Numbering, owner: Option<u64>, rule: &Rule) -> Resul
 /// Puts in the rules of a file that marks these names.
 fn add_each(
     numbering: &mut Numbering,
-    starts: &IndexSet<Name>,
-    marked: &IndexSet<Name>,
+    starts: &NameList,
+    marked: &HashSet<Name>,
     file: u64,
     rules: &[Rule],
 ) -> Result<(), Memory>
@@ -117,7 +119,7 @@ fn add_each(
 fn add_rules(
     numbering: &mut Numbering,
     alloc: Global,
-    starts: &IndexSet<Name>,
+    starts: &NameList,
     file: u64,
     rules: &[Rule],
 ) -> Result<(), Memory>
@@ -147,7 +149,7 @@ fn add_prelude(numbering: &mut Numbering, rules: &[Rule]) -> Result<(), Memory>
 pub(crate) fn put_rules(
     numbering: &mut Numbering,
     alloc: Global,
-    starts: &IndexSet<Name>,
+    starts: &NameList,
     files: &[Module],
     prelude: &[Rule],
 ) -> Result<(), Memory>

@@ -1,25 +1,23 @@
 //! The tokens and the start symbols of all files.
 ghost use Rattle.std.specs.Prelude.{◌≡◌, [], map, OnOk};
-ghost use Rattle.indexmap.specs.IndexSet.{insert_all};
 ghost use Rattle.mh_meanings.specs.Names as spec;
-ghost use Rattle.mh_meanings.specs.Names.{same};
+ghost use Rattle.mh_meanings.specs.Names.{same, insert_all};
 
-use indexmap::IndexSet;
 use mh_grammar::{Memory, Name};
-use mh_meanings::put_name;
+use mh_meanings::NameList;
 use mh_rules::{Module, TokenDecl};
 
-fn add_tokens(names: &mut IndexSet<Name>, tokens: &[TokenDecl]) -> Result<(), Memory>
+fn add_tokens(names: &mut NameList, tokens: &[TokenDecl]) -> Result<(), Memory>
     ensures { OnOk result (names.new.keys ≡ insert_all same names.old.keys (map (λ t. t.name) tokens.now)) }
 {
     for token in tokens {
-        put_name(names, &token.name)?;
+        names.put(&token.name)?;
     }
     Ok(())
 }
 
 /// The names of tokens, in order of first declaration.
-pub(crate) fn put_tokens(names: &mut IndexSet<Name>, files: &[Module]) -> Result<(), Memory>
+pub(crate) fn put_tokens(names: &mut NameList, files: &[Module]) -> Result<(), Memory>
     requires { names.old.keys ≡ [] }
     ensures { OnOk result (names.new.keys ≡ spec.token_names files.now) }
 {
@@ -29,17 +27,17 @@ pub(crate) fn put_tokens(names: &mut IndexSet<Name>, files: &[Module]) -> Result
     Ok(())
 }
 
-fn add_names(names: &mut IndexSet<Name>, more: &[Name]) -> Result<(), Memory>
+fn add_names(names: &mut NameList, more: &[Name]) -> Result<(), Memory>
     ensures { OnOk result (names.new.keys ≡ insert_all same names.old.keys more.now) }
 {
     for name in more {
-        put_name(names, name)?;
+        names.put(name)?;
     }
     Ok(())
 }
 
 /// The start symbols, in order of first naming.
-pub(crate) fn put_starts(names: &mut IndexSet<Name>, files: &[Module]) -> Result<(), Memory>
+pub(crate) fn put_starts(names: &mut NameList, files: &[Module]) -> Result<(), Memory>
     requires { names.old.keys ≡ [] }
     ensures { OnOk result (names.new.keys ≡ spec.start_names files.now) }
 {

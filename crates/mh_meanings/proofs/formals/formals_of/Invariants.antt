@@ -1,5 +1,5 @@
 use Rattle.std.proofs.Common.{◌≡◌, take}
-use Rattle.indexmap.specs.IndexMap.{get}
+use Rattle.std.specs.HashMap.{get}
 use Rattle.mh_grammar.specs.Text.{Text}
 use Rattle.mh_meanings.specs.Names.{same, formal_number}
 use Rattle.mh_meanings.proofs.formals.formals_of.Given as goal

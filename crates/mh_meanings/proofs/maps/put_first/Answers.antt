@@ -1,5 +1,5 @@
 use Rattle.std.proofs.Common.{sym, ◌∙◌}
-use Rattle.indexmap.specs.IndexMap.{get}
+use Rattle.std.specs.HashMap.{get}
 use Rattle.mh_meanings.specs.Names.{same}
 use Rattle.mh_meanings.proofs.Lists.{put_case}
 use Rattle.mh_meanings.proofs.maps.put_first.Goals as goal

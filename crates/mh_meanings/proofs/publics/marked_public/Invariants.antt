@@ -1,5 +1,5 @@
 use Rattle.std.proofs.Common.{◌≡◌, take}
-use Rattle.indexmap.specs.IndexSet.{contains}
+use Rattle.std.specs.HashSet.{contains}
 use Rattle.mh_grammar.specs.Text.{Text}
 use Rattle.mh_meanings.specs.Names.{same, marks_public}
 use Rattle.mh_meanings.proofs.publics.marked_public.Given as goal

@@ -2,8 +2,8 @@ use Rattle.mh_naming.proofs.gathering.no_names.Goals as goal
 
 pub returns : goal.returns
 returns c = record {
-  tokens = c.new.ensures.empty;
-  starts = c.new-2.ensures.empty;
+  tokens = c.new.ensures;
+  starts = c.new-2.ensures;
   aliases = c.new-3.ensures.empty;
   levels = c.new-4.ensures.empty;
   costs = c.new-5.ensures.empty;

@@ -1,4 +1,4 @@
-use Rattle.indexmap.specs.IndexMap.{get}
+use Rattle.std.specs.HashMap.{get}
 use Rattle.mh_rules.specs.declared.modules.Ref.{Ref}
 use Rattle.mh_meanings.specs.Names.{same, with_level, name_by, level_in}
 use Rattle.mh_meanings.proofs.Lists.{Puts-more}

@@ -1,5 +1,5 @@
 use Rattle.std.proofs.Common.{arith}
-use Rattle.indexmap.specs.IndexMap.{get}
+use Rattle.std.specs.HashMap.{get}
 use Rattle.mh_meanings.specs.Names.{same, levels_by}
 use Rattle.mh_meanings.proofs.Lists.{Puts-enum_more}
 use Rattle.mh_naming.proofs.levels.add_declarations.Goals as goal

@@ -1,6 +1,6 @@
 use Rattle.std.proofs.Common.{take}
 use Rattle.std.specs.List.{flat_map, enumerate_from}
-use Rattle.indexmap.specs.IndexMap.{get}
+use Rattle.std.specs.HashMap.{get}
 use Rattle.mh_meanings.specs.Names.{same, levels_by}
 use Rattle.mh_meanings.specs.Puts.{Puts}
 use Rattle.mh_naming.proofs.levels.add_declarations.Given as goal

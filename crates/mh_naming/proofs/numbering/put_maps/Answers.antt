@@ -1,6 +1,6 @@
 use Rattle.std.proofs.Common.{[], ◌∷◌, arith, length-append}
 use Rattle.std.proofs.lemmas.List.Elements.{All-push}
-use Rattle.indexmap.specs.IndexMap.{IsEmpty}
+use Rattle.std.specs.HashMap.{IsEmpty}
 use Rattle.mh_naming.proofs.numbering.put_maps.Goals as goal
 
 pub loop-at-preserved : goal.loop-at-preserved

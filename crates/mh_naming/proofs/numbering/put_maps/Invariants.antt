@@ -1,6 +1,6 @@
 use Rattle.std.proofs.Common.{◌≡◌, length}
 use Rattle.std.specs.List.{All}
-use Rattle.indexmap.specs.IndexMap.{IsEmpty}
+use Rattle.std.specs.HashMap.{IsEmpty}
 use Rattle.mh_naming.proofs.numbering.put_maps.Given as goal
 
 abbrev pub invariant-loop-at : goal.invariant-loop-at

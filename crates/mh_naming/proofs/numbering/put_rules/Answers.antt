@@ -1,9 +1,8 @@
 use Rattle.std.proofs.Common.{◌+◌, [], Some, map, sym, ap, ◌∙◌, arith}
 use Rattle.std.specs.List.{flat_map}
 use Rattle.std.proofs.lemmas.List.{take_all}
-use Rattle.indexmap.specs.IndexSet.{insert_all}
 use Rattle.mh_meanings.specs.declared.numbering.Numbering.{Numbering}
-use Rattle.mh_meanings.specs.Names.{files, same_rule}
+use Rattle.mh_meanings.specs.Names.{files, same_rule, insert_all}
 use Rattle.mh_meanings.specs.Numbering.{outline_by, outlines_in}
 use Rattle.mh_naming.proofs.Numbers.{Numbered-empty, Numbers-none, Numbers-enum_more, insert_all-append}
 use Rattle.mh_naming.proofs.numbering.put_rules.Goals as goal

@@ -1,6 +1,5 @@
 use Rattle.std.proofs.Common.{◌≡◌, map, drop}
-use Rattle.indexmap.specs.IndexSet.{insert_all}
-use Rattle.mh_meanings.specs.Names.{same}
+use Rattle.mh_meanings.specs.Names.{same, insert_all}
 use Rattle.mh_naming.proofs.tokens.add_tokens.Given as goal
 
 abbrev pub invariant-loop-token : goal.invariant-loop-token

@@ -1,6 +1,5 @@
 use Rattle.std.proofs.Common.{◌≡◌, drop, []}
-use Rattle.indexmap.specs.IndexSet.{insert_all}
-use Rattle.mh_meanings.specs.Names.{same, tokens_in}
+use Rattle.mh_meanings.specs.Names.{same, tokens_in, insert_all}
 use Rattle.std.specs.List.{flat_map}
 use Rattle.mh_naming.proofs.tokens.put_tokens.Given as goal
 
