@@ -1,15 +1,8 @@
 pub mod Bridging
 pub mod Clear
 pub mod Closed
-pub mod Counted
-pub mod Deciding
 pub mod Listing
 pub mod Once
-pub mod Ranking
-pub mod Refusing
 pub mod Resolving
-pub mod Rowing
-pub mod Shifting
 pub mod Stating
 pub mod Tabled
-pub mod Tallying

@@ -11,12 +11,13 @@ ghost use Rattle.mh_cells.specs.Names.{mode_name};
 ghost use Rattle.mh_notation.specs.Items.{production_text};
 ghost use Rattle.mh_report.specs.Automata.{title, kernel_lines, cell_line, cell_lines, goto_line, goto_lines, head_line, AreActionLines, IsStateText, IsAutomatonText, Adds};
 
-use mh_cells::{Mode, holes_of};
+use mh_cells::Mode;
 use mh_grammar::{Edge, Grammar, Memory, Symbol, Token, nonterminal_name, token_name};
 use mh_kernels::{Automaton, KernelItem};
 use mh_notation::{
     write_between, write_indented, write_item_lines, write_production, write_refusal,
 };
+use mh_settling::holes_of;
 use mh_tables::{Action, Fallback, Halting, Table};
 use std::alloc::Global;
 

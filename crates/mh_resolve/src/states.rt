@@ -9,12 +9,13 @@ ghost use Rattle.mh_cells.specs.States.{place_of, IsResolved};
 ghost use Rattle.mh_cells.specs.code.Rows.{listed, IsLooked};
 ghost use Rattle.mh_cells.specs.code.Whole.{closed_state, IsFiller, filled_with, fallback_for, AreEdgesKnown, IsRow};
 
-use mh_cells::{
-    Cell, Mode, cells_of, default_of, for_errors, is_stream_conflict, kept_action, settle,
-    shifts_of, tallies_of,
-};
+use mh_cells::{Cell, Mode};
 use mh_grammar::{Edge, Grammar, Memory, Sequence};
 use mh_kernels::{Closure, Kernel, KernelItem};
+use mh_settling::{
+    cells_of, default_of, for_errors, is_stream_conflict, kept_action, settle, shifts_of,
+    tallies_of,
+};
 use mh_tables::{Action, CoreItem, Fallback, StateParts};
 use std::alloc::Global;
 

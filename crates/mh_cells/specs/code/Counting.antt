@@ -11,7 +11,7 @@ use Rattle.mh_grammar.specs.Edges.{find_edge}
 use Rattle.mh_grammar.specs.ItemSets.{ItemSet}
 use Rattle.mh_kernels.specs.Shapes.{KernelItem}
 use Rattle.mh_cells.specs.declared.cells.Tally.{Tally}
-use Rattle.mh_cells.specs.declared.counting.Tallies.{Tallies}
+use Rattle.mh_cells.specs.declared.cells.Tallies.{Tallies}
 use Rattle.mh_cells.specs.Levels.{compared}
 use Rattle.mh_cells.specs.code.Tallies.{empty_tally, weighed, IsTally}
 

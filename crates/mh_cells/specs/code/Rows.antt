@@ -13,7 +13,7 @@ use Rattle.mh_grammar.specs.Plain.{plain_of, rhs_of}
 use Rattle.mh_cells.specs.declared.kinds.Mode.{Mode}
 use Rattle.mh_cells.specs.declared.kinds.Mode.TheVariants.{Merged}
 use Rattle.mh_cells.specs.declared.cells.Cell.{Cell}
-use Rattle.mh_cells.specs.declared.errors.Best.{Best}
+use Rattle.mh_cells.specs.declared.cells.Best.{Best}
 use Rattle.mh_cells.specs.Levels.{compared, error_rank}
 use Rattle.mh_cells.specs.States.{State, Raw}
 use Rattle.mh_cells.specs.declared.cells.Tally.{Tally}
