@@ -196,11 +196,7 @@ fn check_shape(names: &Names, marked: &HashSet<Name>, rule: &Rule) -> Result<(),
     require_one(has_first_shape(names, rule), &rule.name)
 }
 
-fn check_file_shapes(
-    names: &Names,
-    marked: &HashSet<Name>,
-    rules: &[Rule],
-) -> Result<(), JoinFault>
+fn check_file_shapes(names: &Names, marked: &HashSet<Name>, rules: &[Rule]) -> Result<(), JoinFault>
     ensures { Finds
         (flat_map (other_shape (meanings_in names.now) (is_public_in names.now marked.now)) rules.now)
         result }
