@@ -1,7 +1,6 @@
 //! How the canonical collection is made: the moves of each state in turn, whose new kernels are put behind the others.
 ghost use Rattle.std.specs.Prelude.{◌≡◌, ◌<◌, ◌≤◌, ◌*◌, ℕ, [], length, Err, IfOk, OnOk};
 ghost use Rattle.mh_grammar.specs.Plain.{plain_of, IsInRange};
-ghost use Rattle.mh_grammar.specs.Placed.{Placed};
 ghost use Rattle.mh_kernels.specs.Automaton.{IsAutomaton};
 ghost use Rattle.mh_knuth.specs.Canonical.{IsCanonical, IsOver};
 ghost use Rattle.mh_kernels.specs.Shapes.{Kernel as KernelOf};
@@ -11,13 +10,13 @@ ghost use Rattle.mh_mover.specs.Mover.{IsMover};
 ghost use Rattle.mh_knuth.specs.Found.{IsSource, AreStates};
 ghost use Rattle.mh_canon.specs.Placed.{PlacesAll, HasEdges};
 
-use indexmap::IndexSet;
+use crate::met::Kernels;
 use mh_grammar::{Edge, Grammar, Sequence};
-use mh_kernels::{Automaton, Kernel, StatesFault, start_kernel};
+use mh_kernels::{Automaton, StatesFault, start_kernel};
 use mh_knuth::MAX_STATES;
 use mh_mover::Mover;
 use mh_moves::Move;
-use mh_states::{in_order, insert, number};
+use mh_states::{Met, automaton_of, place};
 use std::alloc::Global;
 
 /// The canonical LR(1) automaton of a grammar (Knuth 1965): the start kernels in order, and then what breadth-first
@@ -39,10 +38,7 @@ pub fn canonical<const W: usize>(
     let mut kernels = start_kernels(alloc, grammar)?;
     let mut edges = Vec::new(alloc);
     match collect(alloc, grammar, &mut kernels, &mut edges) {
-        Ok(()) => Ok(Automaton {
-            kernels: in_order(alloc, kernels)?,
-            edges: Sequence::from_vec(edges),
-        }),
+        Ok(()) => Ok(automaton_of(kernels.into_list(alloc)?, edges)),
         Err(fault) => Err(fault),
     }
 }
@@ -51,20 +47,20 @@ pub fn canonical<const W: usize>(
 fn collect<const W: usize>(
     alloc: Global,
     grammar: &Grammar,
-    kernels: &mut IndexSet<Kernel<W>>,
+    kernels: &mut Kernels<W>,
     edges: &mut Vec<Sequence<Edge>>,
 ) -> Result<(), StatesFault>
     requires small { W ≤ 8 }
     requires width { length grammar.now.tokens ≤ 64 * W }
     requires range { IsInRange (plain_of grammar.now) }
-    requires starts { AreStarts (length grammar.now.starts) kernels.old.keys }
+    requires starts { AreStarts (length grammar.now.starts) kernels.old.set.keys }
     requires none { edges.old.items ≡ [] }
-    ensures ok { OnOk result (IsCanonical (plain_of grammar.now) (record { kernels = kernels.new.keys; edges = edges.new.items })) }
-    ensures few { OnOk result (length kernels.new.keys ≤ MAX_STATES) }
+    ensures ok { OnOk result (IsCanonical (plain_of grammar.now) (record { kernels = kernels.new.set.keys; edges = edges.new.items })) }
+    ensures few { OnOk result (length kernels.new.set.keys ≤ MAX_STATES) }
     ensures over { result ≡ Err StatesFault.TooManyStates → IsOver (plain_of grammar.now) MAX_STATES }
 {
     let mut mover = Mover::new(alloc, grammar)?;
-    'states: while edges.len() < kernels.len() {
+    'states: while edges.len() < kernels.all().len() {
         match edges_of(alloc, grammar, &mut mover, kernels, edges.len()) {
             Ok(row) => edges.push(row)?,
             Err(fault) => return Err(fault),
@@ -78,22 +74,22 @@ fn edges_of<const W: usize>(
     alloc: Global,
     grammar: &Grammar,
     mover: &mut Mover<W>,
-    kernels: &mut IndexSet<Kernel<W>>,
+    kernels: &mut Kernels<W>,
     state: usize,
 ) -> Result<Sequence<Edge>, StatesFault>
     requires small { W ≤ 8 }
     requires width { length grammar.now.tokens ≤ 64 * W }
     requires range { IsInRange (plain_of grammar.now) }
     requires mover { IsMover (plain_of grammar.now) mover.old }
-    requires state { state < length kernels.old.keys }
-    requires states { AreStates (plain_of grammar.now) kernels.old.keys }
-    requires few { length kernels.old.keys ≤ MAX_STATES }
-    ensures ok { IfOk result (λ row. HasEdges (plain_of grammar.now) state kernels.old.keys kernels.new.keys row) }
+    requires state { state < length kernels.old.set.keys }
+    requires states { AreStates (plain_of grammar.now) kernels.old.set.keys }
+    requires few { length kernels.old.set.keys ≤ MAX_STATES }
+    ensures ok { IfOk result (λ row. HasEdges (plain_of grammar.now) state kernels.old.set.keys kernels.new.set.keys row) }
     ensures mover { IfOk result (λ _. IsMover (plain_of grammar.now) mover.new) }
-    ensures few { IfOk result (λ _. length kernels.new.keys ≤ MAX_STATES) }
+    ensures few { IfOk result (λ _. length kernels.new.set.keys ≤ MAX_STATES) }
     ensures over { result ≡ Err StatesFault.TooManyStates → IsOver (plain_of grammar.now) MAX_STATES }
 {
-    let moves = mover.moves(alloc, grammar, &kernels.as_slice()[state])?;
+    let moves = mover.moves(alloc, grammar, &kernels.all()[state])?;
     place_all(alloc, grammar, moves, kernels)
 }
 
@@ -101,16 +97,16 @@ fn edges_of<const W: usize>(
 fn start_kernels<const W: usize>(
     alloc: Global,
     grammar: &Grammar,
-) -> Result<IndexSet<Kernel<W>>, StatesFault>
+) -> Result<Kernels<W>, StatesFault>
     requires few { W ≤ 8 }
     requires range { IsInRange (plain_of grammar.now) }
-    ensures ok { IfOk result (λ k. AreStarts (length grammar.now.starts) k.keys) }
+    ensures ok { IfOk result (λ k. AreStarts (length grammar.now.starts) k.set.keys) }
     ensures err { result ≡ Err StatesFault.TooManyStates → ⊥ }
 {
-    let mut kernels = IndexSet::new(alloc);
+    let mut kernels = Kernels::new(alloc);
     for start in 0..grammar.starts.len() {
         let kernel = start_kernel(alloc, grammar, start as u16)?;
-        insert(&mut kernels, kernel)?;
+        kernels.place(kernel)?;
     }
     Ok(kernels)
 }
@@ -120,13 +116,13 @@ fn place_all<const W: usize>(
     alloc: Global,
     grammar: &Grammar,
     moves: Vec<Move<W>>,
-    kernels: &mut IndexSet<Kernel<W>>,
+    kernels: &mut Kernels<W>,
 ) -> Result<Sequence<Edge>, StatesFault>
     requires small { W ≤ 8 }
-    requires states { AreStates (plain_of grammar.now) kernels.old.keys }
-    requires few { length kernels.old.keys ≤ MAX_STATES }
-    ensures ok { IfOk result (λ row. PlacesAll (plain_of grammar.now) moves.entry.items kernels.old.keys kernels.new.keys row) }
-    ensures few { IfOk result (λ _. length kernels.new.keys ≤ MAX_STATES) }
+    requires states { AreStates (plain_of grammar.now) kernels.old.set.keys }
+    requires few { length kernels.old.set.keys ≤ MAX_STATES }
+    ensures ok { IfOk result (λ row. PlacesAll (plain_of grammar.now) moves.entry.items kernels.old.set.keys kernels.new.set.keys row) }
+    ensures few { IfOk result (λ _. length kernels.new.set.keys ≤ MAX_STATES) }
     ensures over { result ≡ Err StatesFault.TooManyStates → (closed : KernelOf) → IsSource (plain_of grammar.now) closed → AreMoves (plain_of grammar.now) closed moves.entry.items → IsOver (plain_of grammar.now) MAX_STATES }
 {
     let _grammar = grammar;
@@ -141,17 +137,4 @@ fn place_all<const W: usize>(
         }
     }
     Ok(Sequence::from_vec(row))
-}
-
-/// The number of a kernel, of which there may be no more than `MAX_STATES`.
-fn place<const W: usize>(
-    kernels: &mut IndexSet<Kernel<W>>,
-    kernel: Kernel<W>,
-) -> Result<u32, StatesFault>
-    requires { W ≤ 8 }
-    ensures ok { IfOk result (λ at. Placed kernels.old.keys kernels.new.keys kernel.entry at × (at < MAX_STATES)) }
-    ensures over { result ≡ Err StatesFault.TooManyStates → (at : ℕ) × Placed kernels.old.keys kernels.new.keys kernel.entry at × (MAX_STATES ≤ at) }
-{
-    let at = insert(kernels, kernel)?;
-    number(at)
 }

@@ -2,6 +2,7 @@
 #![tactic(auto)]
 
 mod collection;
+mod met;
 mod uniqueness;
 
 pub use collection::canonical;

@@ -1,3 +1,4 @@
+pub mod Beginning
 pub mod Combining
 pub mod Indexing
 pub mod Listings

@@ -6,6 +6,7 @@ mod listed;
 mod listing;
 mod merging;
 mod numbering;
+mod starts;
 mod stepping;
 mod unions;
 

@@ -12,10 +12,10 @@ ghost use Rattle.mh_merging.specs.Steps.{IsList, IsMerged, IsSwollen};
 use crate::listed::list_all;
 use crate::listing::{Listing, empty};
 use crate::numbering::{pick, reach};
+use crate::starts::kept_first;
 use mh_grammar::{Grammar, Memory, Sequence};
 use mh_kernels::{Automaton, StatesFault};
 use mh_knuth::MAX_STATES;
-use mh_states::first_states;
 use std::alloc::Global;
 
 /// Pager's merged automaton of a grammar (Pager 1977). `TooManyStates` comes exactly where the list of its steps comes to
@@ -103,7 +103,7 @@ fn fill<const W: usize>(
     let starts = grammar.starts.len();
     let rows = listing.rows.as_slice();
     let kernels = listing.kernels.as_slice();
-    let mut states = first_states(alloc, starts, rows.len())?;
+    let mut states = kept_first(alloc, starts, rows.len())?;
     reach(alloc, starts, rows, &mut states, &mut automaton.edges)?;
     pick(alloc, kernels, states.as_slice(), &mut automaton.kernels)
 }

@@ -11,13 +11,13 @@ ghost use Rattle.mh_session.specs.Standing.{StandsFor};
 ghost use Rattle.mh_session.specs.Served.{IsServed};
 ghost use Rattle.mh_commands.specs.declared.command.Command.TheVariants as commands;
 
-use indexmap::IndexMap;
 use mh_branches::{Reply, SessionFault};
 use mh_commands::{Command, Serves, held, serve};
 use mh_engine::{Checkpoint, Phase, ResumeFault, begin};
 use mh_grammar::{Name, Token};
 use mh_tables::Halting;
 use std::alloc::Global;
+use std::collections::HashMap;
 use std::marker::Model;
 
 /// Branches of runs on one table, each with a name.
@@ -25,7 +25,7 @@ use std::marker::Model;
 pub struct Session<'t> {
     alloc: Global,
     table: &'t Halting,
-    branches: IndexMap<Name, Checkpoint<'t>>,
+    branches: HashMap<Name, Checkpoint<'t>>,
 }
 
 impl<'t> Model for Session<'t> {
@@ -53,7 +53,7 @@ impl<'t> Session<'t> {
         Session {
             alloc,
             table,
-            branches: IndexMap::new(alloc),
+            branches: HashMap::new(alloc),
         }
     }
 
@@ -188,7 +188,7 @@ impl<'t> Serves for Session<'t> {
     fn forget(&mut self, name: &Name) -> Result<Reply, SessionFault>
         ensures { IsServed self.old (commands.Forget name.now) self.new result }
     {
-        let Some(_) = self.branches.swap_remove(name) else {
+        let Some(_) = self.branches.remove(name) else {
             return Err(SessionFault::UnknownName);
         };
         Ok(Reply::Forgotten)

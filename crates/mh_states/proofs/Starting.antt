@@ -1,9 +1,8 @@
 -- The numbers of the starts, which are the first ones.
-use Rattle.std.proofs.Common.{◌≡◌, ◌+◌, ◌<◌, ℕ, zero, suc, List, [], ◌∷◌, ◌++◌, Some, length, sym, ap, ◌∙◌, arith, inl, inr}
+use Rattle.std.proofs.Common.{◌≡◌, ◌+◌, ◌<◌, ℕ, zero, suc, [], ◌∷◌, ◌++◌, Some, length, sym, ap, ◌∙◌, arith}
 use Rattle.std.specs.List.{slice_get, range_with_len}
 use Rattle.std.proofs.lemmas.List.FromFn.{length-range_with_len, get_or-range_with_len}
 use Rattle.std.proofs.lemmas.Option.{slice_get_within, slice_get-get_or}
-use Rattle.mh_grammar.specs.Placed.{Placed}
 
 range_longer : (a n m : ℕ) → a + n ≡ m → range_with_len a n ++ m ∷ [] ≡ range_with_len a (suc n)
 range_longer a zero m e = let same : m ≡ a = omega arith in ap (λ x. x ∷ []) same
@@ -24,12 +23,3 @@ range_from count i n e =
     let one : Some n ≡ Some i = sym e ∙ range_at count i l in
     let same : n ≡ i = cc in
     (same, l)
-
-pub placed_next : (old new : List ℕ) (s n : ℕ) → old ≡ range_with_len 0 s → Placed old new s n → new ≡ range_with_len 0 (s + 1)
-placed_next old new s n e p = elim p.grown [
-  | inl g ↦ absurd (
-      let at : slice_get (range_with_len 0 s) n ≡ Some s = rw (sym e ∙ sym g.0) p.at in
-      let is = range_from s n s at in
-      omega arith)
-  | inr g ↦ g.0 ∙ ap (λ xs. xs ++ s ∷ []) e ∙ range_push s
-]

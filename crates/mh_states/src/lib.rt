@@ -9,6 +9,6 @@ mod queue;
 mod starts;
 
 pub use finding::{Fit, first_fitting, weakly_compatible};
-pub use placing::{in_order, insert, number};
+pub use placing::{Met, automaton_of, number, place};
 pub use queue::Queue;
-pub use starts::{first_states, place_state};
+pub use starts::first_states;

@@ -7,13 +7,13 @@ use Rattle.mh_canon.proofs.collection.canonical.Goals as goal
 pub collect-requires : goal.collect-requires
 collect-requires g c = (search rules, (c.requires.few, (c.requires.width, (c.requires.range, (c.in_ok-kernels.ensures.ok, c.new-edges.ensures.items)))))
 
-pub returns-in_ok-in_order-in-Ok-clause-ok : goal.returns-in_ok-in_order-in-Ok-clause-ok
-returns-in_ok-in_order-in-Ok-clause-ok g c = rw (c.in_ok-in_order-in-Ok.ensures, c.from_vec.ensures) c.in-Ok.ensures.ok
+pub returns-in_ok-into_list-in-Ok-clause-ok : goal.returns-in_ok-into_list-in-Ok-clause-ok
+returns-in_ok-into_list-in-Ok-clause-ok g c = rw (c.automaton_of.ensures, c.in_ok-into_list-in-Ok.ensures) c.in-Ok.ensures.ok
 
-pub returns-in_ok-in_order-in-Ok-clause-exact : goal.returns-in_ok-in_order-in-Ok-clause-exact
-returns-in_ok-in_order-in-Ok-clause-exact g c =
-    IsOver-canonical (plain_of c.args.grammar.now) (record { kernels = c.collect.new.kernels.keys; edges = c.collect.new.edges.items }) c.in-Ok.ensures.ok MAX_STATES c.in-Ok.ensures.few
+pub returns-in_ok-into_list-in-Ok-clause-exact : goal.returns-in_ok-into_list-in-Ok-clause-exact
+returns-in_ok-into_list-in-Ok-clause-exact g c =
+    IsOver-canonical (plain_of c.args.grammar.now) (record { kernels = c.collect.new.kernels.set.keys; edges = c.collect.new.edges.items }) c.in-Ok.ensures.ok MAX_STATES c.in-Ok.ensures.few
 
-pub returns-in_ok-in_order-in-Ok-clause-automaton : goal.returns-in_ok-in_order-in-Ok-clause-automaton
-returns-in_ok-in_order-in-Ok-clause-automaton g c =
-    rw (c.in_ok-in_order-in-Ok.ensures, c.from_vec.ensures) (IsAutomaton-canonical (plain_of c.args.grammar.now) (record { kernels = c.collect.new.kernels.keys; edges = c.collect.new.edges.items }) c.in-Ok.ensures.ok c.in-Ok.ensures.few)
+pub returns-in_ok-into_list-in-Ok-clause-automaton : goal.returns-in_ok-into_list-in-Ok-clause-automaton
+returns-in_ok-into_list-in-Ok-clause-automaton g c =
+    rw (c.automaton_of.ensures, c.in_ok-into_list-in-Ok.ensures) (IsAutomaton-canonical (plain_of c.args.grammar.now) (record { kernels = c.collect.new.kernels.set.keys; edges = c.collect.new.edges.items }) c.in-Ok.ensures.ok c.in-Ok.ensures.few)

@@ -7,8 +7,8 @@ use Rattle.mh_canon.proofs.collection.collect.Given as goal
 
 abbrev pub invariant-states : goal.invariant-states
 invariant-states g l = record {
-  building : Building (plain_of l.grammar) l.kernels.keys l.edges.items;
-  few : length l.kernels.keys ≤ MAX_STATES;
+  building : Building (plain_of l.grammar) l.kernels.set.keys l.edges.items;
+  few : length l.kernels.set.keys ≤ MAX_STATES;
   mover : IsMover (plain_of l.grammar) l.mover;
 }
 

@@ -10,29 +10,29 @@ use Rattle.mh_canon.proofs.collection.edges_of.Goals as goal
 
 pub moves-requires : goal.moves-requires
 moves-requires g c =
-    let kernels = c.args.kernels.now.keys in
-    let k = c.index-as_slice-state.result in
-    let is = rw c.as_slice.ensures.keys at c.index-as_slice-state.is in
+    let kernels = c.args.kernels.now.set.keys in
+    let k = c.index-all-state.result in
+    let is = rw c.all.ensures at c.index-all-state.is in
     let state : IsState (plain_of c.args.grammar.now) k = rw is (All-get_or (IsState (plain_of c.args.grammar.now)) kernels c.args.state k c.requires.state c.requires.states.each) in
     (search rules, (search rules, (c.requires.small, (c.requires.width, (c.requires.range, (c.requires.mover, state.kernel))))))
 
 pub place_all-requires : goal.place_all-requires
-place_all-requires g c = (search rules, (c.requires.small, (c.requires.states, c.requires.few)))
+place_all-requires g c = (search rules, (search rules, (c.requires.small, (c.requires.states, c.requires.few))))
 
 pub returns-clause-ok : goal.returns-clause-ok
 returns-clause-ok g c =
-    let kernels = c.args.kernels.now.keys in
-    let k = c.index-as_slice-state.result in
-    let is = rw c.as_slice.ensures.keys at c.index-as_slice-state.is in
+    let kernels = c.args.kernels.now.set.keys in
+    let k = c.index-all-state.result in
+    let is = rw c.all.ensures at c.index-all-state.is in
     let at : slice_get kernels c.args.state ≡ Some k = slice_get-get_or kernels c.args.state k c.requires.state ∙ ap Some (sym is) in
     let of = c.in_ok-moves.ensures.moves in
     IfOk-weaker c.place_all.result _ _ (λ row places. record { kernel = k; at = at; moves = c.in_ok-moves.moves.items; of = of; edges = places of.closed of.are }) c.place_all.ensures.ok
 
 pub returns-clause-over : goal.returns-clause-over
 returns-clause-over g c over =
-    let kernels = c.args.kernels.now.keys in
-    let k = c.index-as_slice-state.result in
-    let is = rw c.as_slice.ensures.keys at c.index-as_slice-state.is in
+    let kernels = c.args.kernels.now.set.keys in
+    let k = c.index-all-state.result in
+    let is = rw c.all.ensures at c.index-all-state.is in
     let state : IsState (plain_of c.args.grammar.now) k = rw is (All-get_or (IsState (plain_of c.args.grammar.now)) kernels c.args.state k c.requires.state c.requires.states.each) in
     let of = c.in_ok-moves.ensures.moves in
     c.place_all.ensures.over over of.closed (IsSource-close (plain_of c.args.grammar.now) k of.closed state of.valid of.same) of.are

@@ -6,6 +6,6 @@ use Rattle.mh_canon.proofs.collection.place_all.Given as goal
 
 abbrev pub invariant-loop-found : goal.invariant-loop-found
 invariant-loop-found g l = record {
-  placed : PlacedSoFar (plain_of l.grammar) l.fn.moves.items l.yielded l.initial.kernels.keys l.kernels.keys l.row.items;
-  few : length l.kernels.keys ≤ MAX_STATES;
+  placed : PlacedSoFar (plain_of l.grammar) l.fn.moves.items l.yielded l.initial.kernels.set.keys l.kernels.set.keys l.row.items;
+  few : length l.kernels.set.keys ≤ MAX_STATES;
 }

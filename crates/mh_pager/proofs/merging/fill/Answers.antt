@@ -7,11 +7,11 @@ use Rattle.mh_merging.proofs.Finishing.{starts_within, AreClosed-list, IsMerged-
 use Rattle.mh_pager.proofs.Listings.{of_list}
 use Rattle.mh_pager.proofs.merging.fill.Goals as goal
 
-pub first_states-requires-clause-within : goal.first_states-requires-clause-within
-first_states-requires-clause-within g c = rw (c.as_slice-rows.ensures.value, c.len-starts.ensures) (starts_within (plain_of c.args.grammar.now) (work_of c.args.listing.now) c.requires.list c.requires.done)
+pub kept_first-requires-clause-within : goal.kept_first-requires-clause-within
+kept_first-requires-clause-within g c = rw (c.as_slice-rows.ensures.value, c.len-starts.ensures) (starts_within (plain_of c.args.grammar.now) (work_of c.args.listing.now) c.requires.list c.requires.done)
 
-pub first_states-requires-clause-few : goal.first_states-requires-clause-few
-first_states-requires-clause-few g c =
+pub kept_first-requires-clause-few : goal.kept_first-requires-clause-few
+kept_first-requires-clause-few g c =
     let ready = of_list (plain_of c.args.grammar.now) (work_of c.args.listing.now) c.requires.list in
     rw c.as_slice-rows.ensures.value (omega (arith, ready.len, c.requires.few))
 

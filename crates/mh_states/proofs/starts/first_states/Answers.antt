@@ -1,9 +1,9 @@
-use Rattle.std.proofs.Common.{◌≡◌, arith}
-use Rattle.mh_states.proofs.Starting.{placed_next}
+use Rattle.std.proofs.Common.{◌≡◌, ◌∷◌, ◌++◌, [], ap, ◌∙◌, arith}
+use Rattle.mh_states.proofs.Starting.{range_push}
 use Rattle.mh_states.proofs.starts.first_states.Goals as goal
 
 pub loop-start-preserved : goal.loop-start-preserved
-loop-start-preserved c = placed_next c.loop-start.states.keys c.place_state.new.states.keys c.loop-start.start c.in_ok-place_state.field-0 c.loop-start.invariant c.in_ok-place_state.ensures
+loop-start-preserved c = c.in_ok-push.ensures.items ∙ ap (λ xs. xs ++ c.loop-start.start ∷ []) c.loop-start.invariant ∙ range_push c.loop-start.start
 
 pub returns : goal.returns
 returns c = let whole : c.loop-start.start ≡ c.args.starts = omega (arith, c.loop-start.auto.start-end, c.loop-start-test.false) in rw whole at c.loop-start.invariant

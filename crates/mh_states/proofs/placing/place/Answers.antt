@@ -1,5 +1,5 @@
 use Rattle.std.proofs.lemmas.Result.{IfOk-weaker}
-use Rattle.mh_canon.proofs.collection.place.Goals as goal
+use Rattle.mh_states.proofs.placing.place.Goals as goal
 
 pub returns-clause-ok : goal.returns-clause-ok
 returns-clause-ok _ c = IfOk-weaker c.number.result _ _ (λ n h. (rw h.0 c.in_ok-at.ensures, h.1)) c.number.ensures.ok

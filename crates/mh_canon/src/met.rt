@@ -1,0 +1,52 @@
+//! The kernels of a collection, found by hash.
+ghost use Rattle.std.specs.Prelude.{◌≡◌, ◌≤◌, [], IfOk};
+ghost use Rattle.mh_grammar.specs.Placed.{Placed};
+
+use indexmap::IndexSet;
+use mh_kernels::Kernel;
+use mh_states::Met;
+use std::alloc::{AllocError, AllocFailed, Global};
+
+/// The kernels that were met, by their numbers.
+#[derive(Drop)]
+pub(crate) struct Kernels<const W: usize> {
+    pub(crate) set: IndexSet<Kernel<W>>,
+}
+
+impl<const W: usize> Kernels<W> {
+    /// No kernel was met yet. It takes no memory.
+    pub(crate) fn new(alloc: Global) -> Kernels<W>
+        requires { W ≤ 8 }
+        ensures { result.set.keys ≡ [] }
+    {
+        Kernels {
+            set: IndexSet::new(alloc),
+        }
+    }
+
+    /// The kernels, by their numbers.
+    pub(crate) fn into_list(self, alloc: Global) -> Result<Vec<Kernel<W>>, AllocError>
+        requires { W ≤ 8 }
+        ensures { IfOk result (λ list. list.items ≡ self.entry.set.keys) }
+    {
+        self.set.into_iter().collect(alloc)
+    }
+}
+
+impl<const W: usize> Met<W> for Kernels<W> {
+    ghost kernels = { λ s. s.set.keys };
+
+    fn place(&mut self, kernel: Kernel<W>) -> Result<usize, AllocFailed<Kernel<W>>>
+        requires { W ≤ 8 }
+        ensures { IfOk result (Placed self.old.set.keys self.new.set.keys kernel.entry) }
+    {
+        let (at, _) = self.set.insert_full(kernel)?;
+        Ok(at)
+    }
+
+    fn all(&self) -> &[Kernel<W>]
+        ensures { result.now ≡ self.now.set.keys }
+    {
+        self.set.as_slice()
+    }
+}
