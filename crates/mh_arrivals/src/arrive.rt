@@ -223,7 +223,7 @@ fn starts(alloc: Global, table: &Table, classes: &Classes) -> Result<Queue<Comin
 
 /// Takes the next arrival of a cost at a spot that is not reached; the others are dropped.
 fn next_coming(queue: &mut Queue<Coming>, arrivals: &Arrivals, cost: u32) -> Option<Coming>
-    ensures { NextComing arrivals.now.spots.entries queue.old.buckets.items queue.new.buckets.items cost result }
+    ensures { NextComing arrivals.now.spots queue.old.buckets.items queue.new.buckets.items cost result }
 {
     'items: loop {
         match take(queue, cost) {
@@ -239,7 +239,7 @@ fn next_coming(queue: &mut Queue<Coming>, arrivals: &Arrivals, cost: u32) -> Opt
 
 /// Puts an arrival behind others, where its spot is not reached.
 fn keep_coming(all: &mut Vec<Coming>, arrivals: &Arrivals, coming: Coming) -> Result<(), Memory>
-    ensures { OnOk result (KeepsComing arrivals.now.spots.entries coming all.old.items all.new.items) }
+    ensures { OnOk result (KeepsComing arrivals.now.spots coming all.old.items all.new.items) }
 {
     if arrival_of(arrivals, coming.spot).is_none() {
         all.push(coming)?;
@@ -254,7 +254,7 @@ fn take_all(
     arrivals: &Arrivals,
     cost: u32,
 ) -> Result<Vec<Coming>, Memory>
-    ensures { IfOk result (λ all. TakesAll arrivals.now.spots.entries queue.old.buckets.items queue.new.buckets.items cost all.items) }
+    ensures { IfOk result (λ all. TakesAll arrivals.now.spots queue.old.buckets.items queue.new.buckets.items cost all.items) }
 {
     let mut all = Vec::new(alloc);
     'items: loop {
@@ -274,10 +274,10 @@ fn ordered(
     all: Vec<Coming>,
     cost: u32,
 ) -> Result<Vec<Coming>, Memory>
-    requires told { IsTold table.now found.now arrivals.now.spots.entries }
-    requires known { AreKnown found.now.store arrivals.now.spots.entries all.items }
+    requires told { IsTold table.now found.now arrivals.now.spots }
+    requires known { AreKnown found.now.store arrivals.now.spots all.items }
     ensures same { IfOk result (λ new. Same all.items new.items) }
-    ensures rises { cost < cap → IfOk result (λ new. Rises (InTurn table.now found.now.store arrivals.now.spots.entries) new.items) }
+    ensures rises { cost < cap → IfOk result (λ new. Rises (InTurn table.now found.now.store arrivals.now.spots) new.items) }
 {
     if cost >= CAP {
         return Ok(all);
@@ -317,9 +317,9 @@ fn arrive_one(
 ) -> Result<(), Memory>
     requires classes { IsClasses table.now classes.now }
     requires some { 0 < length level.now.comings.now }
-    requires ready { ReadyIn table.now classes.now found.now second.old.arrivals.spots.entries second.old.queue.buckets.items level.now.cost level.now.comings.now }
+    requires ready { ReadyIn table.now classes.now found.now second.old.arrivals.spots second.old.queue.buckets.items level.now.cost level.now.comings.now }
     requires cost { level.now.cost ≤ cap }
-    ensures { OnOk result (ReadyIn table.now classes.now found.now second.new.arrivals.spots.entries second.new.queue.buckets.items level.now.cost (drop 1 level.now.comings.now)) }
+    ensures { OnOk result (ReadyIn table.now classes.now found.now second.new.arrivals.spots second.new.queue.buckets.items level.now.cost (drop 1 level.now.comings.now)) }
 {
     table.facts();
     push(alloc, &mut second.queue, level.cost, first_of(level))?;
@@ -353,9 +353,9 @@ fn arrive_each(
     level: &Level,
 ) -> Result<(), Memory>
     requires classes { IsClasses table.now classes.now }
-    requires ready { ReadyIn table.now classes.now found.now second.old.arrivals.spots.entries second.old.queue.buckets.items level.now.cost level.now.comings.now }
+    requires ready { ReadyIn table.now classes.now found.now second.old.arrivals.spots second.old.queue.buckets.items level.now.cost level.now.comings.now }
     requires cost { level.now.cost ≤ cap }
-    ensures { OnOk result (GoodIn table.now classes.now found.now second.new.arrivals.spots.entries second.new.queue.buckets.items (level.now.cost + 1) []) }
+    ensures { OnOk result (GoodIn table.now classes.now found.now second.new.arrivals.spots second.new.queue.buckets.items (level.now.cost + 1) []) }
 {
     table.facts();
     for place in 0..level.comings.len() {
@@ -378,9 +378,9 @@ fn arrive_level(
     cost: u32,
 ) -> Result<(), Memory>
     requires classes { IsClasses table.now classes.now }
-    requires good { GoodIn table.now classes.now found.now second.old.arrivals.spots.entries second.old.queue.buckets.items cost [] }
+    requires good { GoodIn table.now classes.now found.now second.old.arrivals.spots second.old.queue.buckets.items cost [] }
     requires cost { cost ≤ cap }
-    ensures { OnOk result (GoodIn table.now classes.now found.now second.new.arrivals.spots.entries second.new.queue.buckets.items (cost + 1) []) }
+    ensures { OnOk result (GoodIn table.now classes.now found.now second.new.arrivals.spots second.new.queue.buckets.items (cost + 1) []) }
 {
     table.facts();
     let all = take_all(alloc, &mut second.queue, &second.arrivals, cost)?;
@@ -408,8 +408,8 @@ fn arrive_all(
     second: &mut Second,
 ) -> Result<(), Memory>
     requires classes { IsClasses table.now classes.now }
-    requires good { GoodIn table.now classes.now found.now second.old.arrivals.spots.entries second.old.queue.buckets.items 0 [] }
-    ensures { OnOk result (ArrivedIn table.now classes.now found.now second.new.arrivals.spots.entries) }
+    requires good { GoodIn table.now classes.now found.now second.old.arrivals.spots second.old.queue.buckets.items 0 [] }
+    ensures { OnOk result (ArrivedIn table.now classes.now found.now second.new.arrivals.spots) }
 {
     table.facts();
     for cost in 0..CAP + 1 {
@@ -444,7 +444,7 @@ pub fn arrive(
 ) -> Result<Arrivals, Memory>
     requires classes { IsClasses table.now classes.now }
     requires found { IsFound table.now classes.now found.now }
-    ensures { IfOk result (λ arrivals. ArrivedIn table.now classes.now found.now arrivals.spots.entries) }
+    ensures { IfOk result (λ arrivals. ArrivedIn table.now classes.now found.now arrivals.spots) }
 {
     table.facts();
     let mut second = Second {

@@ -64,11 +64,11 @@ impl<'a> Order for BySentence<'a> {
 
     type Rests = ();
 
-    ghost is_sound = { λ order. IsTold order.table.now order.found.now order.arrivals.now.spots.entries };
+    ghost is_sound = { λ order. IsTold order.table.now order.found.now order.arrivals.now.spots };
 
-    ghost is_known = { λ order coming. IsKnown order.found.now.store order.arrivals.now.spots.entries coming.step };
+    ghost is_known = { λ order coming. IsKnown order.found.now.store order.arrivals.now.spots coming.step };
 
-    ghost in_turn = { λ order. InTurn order.table.now order.found.now.store order.arrivals.now.spots.entries };
+    ghost in_turn = { λ order. InTurn order.table.now order.found.now.store order.arrivals.now.spots };
 
     fn comes_later(&self, _rests: &mut (), left: Coming, right: Coming) -> Result<bool, Memory> {
         comes_later(

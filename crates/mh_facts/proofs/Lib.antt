@@ -1,1 +1,2 @@
+mod Ordering
 pub mod Storing

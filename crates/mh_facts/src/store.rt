@@ -3,7 +3,7 @@ ghost use Rattle.std.specs.Prelude.{◌≡◌, ◌≤◌, ◌↔◌, [], ◌∷�
 ghost use Rattle.std.specs.Option.{option_map};
 ghost use Rattle.mh_facts.specs.Stored.{IsPlace, fact_at, last_of};
 
-use indexmap::IndexMap;
+use crate::ordered::OrderedMap;
 use mh_grammar::{Memory, Token};
 use std::alloc::Global;
 use std::marker::Model;
@@ -45,7 +45,7 @@ pub struct Fact {
 /// A map from keys to costs, each with what it came from. What is stored of a key stays, and costs never fall.
 #[derive(Drop)]
 pub struct FactStore {
-    facts: IndexMap<FactKey, Fact>,
+    facts: OrderedMap<FactKey, Fact>,
     last: u32,
 }
 
@@ -55,9 +55,9 @@ impl Model for FactStore {
 
     ghost Value = { Facts };
 
-    ghost view = { λ s. s.facts.entries };
+    ghost view = { λ s. s.facts };
 
-    ghost invariant = { λ s. s.last ≡ last_of s.facts.entries };
+    ghost invariant = { λ s. s.last ≡ last_of s.facts };
 }
 
 impl FactStore {
@@ -66,7 +66,7 @@ impl FactStore {
         ensures { result ≡ [] }
     {
         FactStore {
-            facts: IndexMap::new(alloc),
+            facts: OrderedMap::new(alloc),
             last: 0,
         }
     }
@@ -103,7 +103,7 @@ impl FactStore {
         ensures none { (result ≡ None) ↔ (fact_at self.now key.now ≡ None) }
         ensures place { IfSome result (IsPlace self.now key.now) }
     {
-        self.facts.get_index_of(key)
+        self.facts.place(key)
     }
 
     /// The highest stored cost, 0 where none is stored.
@@ -125,7 +125,7 @@ impl FactStore {
         if let Some(_) = self.fact(&key) {
             return Ok(false);
         }
-        self.facts.insert(key, Fact { cost, back })?;
+        self.facts.push(key, Fact { cost, back })?;
         self.last = cost;
         Ok(true)
     }

@@ -1,5 +1,5 @@
 -- Words are compared through what their facts came from.
-use Rattle.std.proofs.Common.{◌≡◌, ℕ, nat_eq, ◌+◌, ◌*◌, ◌-◌, ◌<◌, ◌≤◌, inl, inr, List, [], ◌∷◌, ◌++◌, Some, None, Option, Bool, true, false, refl, ap, sym, subst, arith, append_assoc, ◌∙◌}
+use Rattle.std.proofs.Common.{◌≡◌, ℕ, nat_eq, ◌+◌, ◌*◌, ◌-◌, ◌<◌, ◌≤◌, inr, List, [], ◌∷◌, ◌++◌, Some, None, Option, Bool, true, false, refl, ap, sym, subst, arith, append_assoc, ◌∙◌}
 use Rattle.std.specs.Prelude.{slice_get, Result, Ok, Err, OnOk, IfOk}
 use Rattle.std.specs.Option.{option_map, option_eq}
 use Rattle.std.proofs.lemmas.List.{append-nil}
@@ -24,7 +24,7 @@ use Rattle.mh_words.proofs.Ordered.{before_lex}
 use Rattle.mh_found.specs.declared.numbers.Numbering.{Numbering}
 use Rattle.mh_found.specs.declared.tails.Told.{Told}
 use Rattle.mh_found.specs.declared.tails.Told.TheVariants as tolds
-use Rattle.mh_found.specs.Numbers.{StandsFor, IsNumbered, IsPlaced}
+use Rattle.mh_found.specs.Numbers.{StandsFor, IsPlaced}
 use Rattle.mh_found.specs.Tails.{IsTurn, IsToldOf, Tells, IsWordOf, AreWordOf, tokens_of, parts_of, weight, Opens, Goes, Turns, AreShared, AreComparable, IsLater}
 use Rattle.mh_ways.proofs.Wording.{some_is, fact_of_word}
 

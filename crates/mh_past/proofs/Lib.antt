@@ -1,4 +1,5 @@
 mod Alike
+mod Noting
 mod Parting
 mod Pasting
 mod Rowed

@@ -7,13 +7,13 @@ ghost use Rattle.mh_ways.specs.Rules.{IsEmptyItem};
 ghost use Rattle.mh_ways.specs.Left.{IsByLeft};
 ghost use Rattle.mh_search.specs.Begins.{IsBegun, EmptyOn, BeginsOn, BeginsBehind, AllBegin, empty_item};
 
-use indexmap::IndexSet;
 use mh_facts::{Back, FactKey};
 use mh_grammar::{Edge, Memory, Symbol, Token};
 use mh_tables::Table;
 use mh_ways::queue::{Queue, empty_queue, push};
 use mh_ways::{ByLeft, Classes, Item, Work, by_left_side, list_of, productions_of};
 use std::alloc::Global;
+use std::collections::HashSet;
 
 /// The fact of an empty path.
 fn empty_at(from: u32, production: u32, token: Token) -> Item
@@ -156,6 +156,6 @@ pub fn begin(alloc: Global, table: &Table, classes: &Classes) -> Result<Work, Me
         queue,
         paths,
         wholes,
-        known: IndexSet::new(alloc),
+        known: HashSet::new(alloc),
     })
 }

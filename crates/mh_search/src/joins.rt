@@ -14,7 +14,6 @@ ghost use Rattle.mh_search.specs.Adding.{WithNext, Adds, MeetsOn};
 ghost use Rattle.mh_ways.specs.Rows.{Collects};
 ghost use Rattle.mh_ways.specs.Classes.{list_at};
 
-use indexmap::IndexSet;
 use mh_facts::{Back, FactKey};
 use mh_grammar::{Memory, Symbol, Token};
 use mh_meeting::{joined, reduces};
@@ -22,6 +21,7 @@ use mh_tables::{Choice, Table, choose};
 use mh_ways::queue::{Queue, push};
 use mh_ways::{Classes, Item, Path, Way, Whole, Work, add_costs, add_token, class_of, list_of};
 use std::alloc::Global;
+use std::collections::HashSet;
 
 /// Puts an item in with each of some tokens after.
 fn push_each(
@@ -167,7 +167,7 @@ fn meet_path(
 }
 
 /// Puts a way in. Whether it was not known.
-fn note_way(known: &mut IndexSet<Way>, way: Way) -> Result<bool, Memory>
+fn note_way(known: &mut HashSet<Way>, way: Way) -> Result<bool, Memory>
     ensures notes { OnOk result (Collects (λ k. k ≡ way) known.old.keys known.new.keys) }
     ensures same { IfOk result (λ fresh. fresh ≡ false → known.new.keys ≡ known.old.keys) }
 {

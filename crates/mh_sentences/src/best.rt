@@ -27,7 +27,7 @@ fn step_of(best: Best) -> Step
 
 /// The cost at which a spot is reached, where it is.
 fn cost_at(arrivals: &Arrivals, spot: Spot) -> Option<u32>
-    ensures { result ≡ cost_in (arrival_at arrivals.now.spots.entries spot) }
+    ensures { result ≡ cost_in (arrival_at arrivals.now.spots spot) }
 {
     match arrival_of(arrivals, spot) {
         None => None,
@@ -44,10 +44,10 @@ fn best_on(
     token: Token,
 ) -> Option<Best>
     requires classes { IsClasses table.now classes.now }
-    requires arrivals { AreCheap arrivals.now.spots.entries }
+    requires arrivals { AreCheap arrivals.now.spots }
     requires state { state < length table.now.states }
     requires token { token < table.now.grammar.tokens }
-    ensures { BestOn table.now classes.now arrivals.now.spots.entries state token result }
+    ensures { BestOn table.now classes.now arrivals.now.spots state token result }
 {
     table.facts();
     match choose(table, state, Some(token)) {
@@ -74,10 +74,10 @@ fn is_behind(
     left: Best,
     right: Best,
 ) -> Result<bool, Memory>
-    requires told { IsTold table.now found.now arrivals.now.spots.entries }
-    requires left { HasArrived arrivals.now.spots.entries left.spot }
-    requires right { HasArrived arrivals.now.spots.entries right.spot }
-    ensures { IfOk result (ComesLater table.now found.now.store arrivals.now.spots.entries (step_of left) (step_of right)) }
+    requires told { IsTold table.now found.now arrivals.now.spots }
+    requires left { HasArrived arrivals.now.spots left.spot }
+    requires right { HasArrived arrivals.now.spots right.spot }
+    ensures { IfOk result (ComesLater table.now found.now.store arrivals.now.spots (step_of left) (step_of right)) }
 {
     let one = step_of(left);
     let two = step_of(right);
@@ -93,10 +93,10 @@ fn sooner_of(
     left: Best,
     right: Best,
 ) -> Result<Best, Memory>
-    requires told { IsTold table.now found.now arrivals.now.spots.entries }
-    requires left { HasArrived arrivals.now.spots.entries left.spot }
-    requires right { HasArrived arrivals.now.spots.entries right.spot }
-    ensures { IfOk result (IsFirstOf table.now found.now.store arrivals.now.spots.entries left right) }
+    requires told { IsTold table.now found.now arrivals.now.spots }
+    requires left { HasArrived arrivals.now.spots left.spot }
+    requires right { HasArrived arrivals.now.spots right.spot }
+    ensures { IfOk result (IsFirstOf table.now found.now.store arrivals.now.spots left right) }
 {
     match cheaper_of(left.cost, right.cost) {
         Cheaper::Left => Ok(left),
@@ -117,10 +117,10 @@ fn first_of(
     best: Option<Best>,
     more: Option<Best>,
 ) -> Result<Option<Best>, Memory>
-    requires told { IsTold table.now found.now arrivals.now.spots.entries }
-    requires best { IfSome best (λ b. HasArrived arrivals.now.spots.entries b.spot) }
-    requires more { IfSome more (λ b. HasArrived arrivals.now.spots.entries b.spot) }
-    ensures { IfOk result (IsFirstOfBoth table.now found.now.store arrivals.now.spots.entries best more) }
+    requires told { IsTold table.now found.now arrivals.now.spots }
+    requires best { IfSome best (λ b. HasArrived arrivals.now.spots b.spot) }
+    requires more { IfSome more (λ b. HasArrived arrivals.now.spots b.spot) }
+    ensures { IfOk result (IsFirstOfBoth table.now found.now.store arrivals.now.spots best more) }
 {
     match rivals_of(best, more) {
         Rivals::One(one) => Ok(one),
@@ -140,10 +140,10 @@ fn best_of(
     state: u32,
 ) -> Result<Option<Best>, Memory>
     requires classes { IsClasses table.now classes.now }
-    requires told { IsTold table.now found.now arrivals.now.spots.entries }
-    requires arrivals { AreCheap arrivals.now.spots.entries }
+    requires told { IsTold table.now found.now arrivals.now.spots }
+    requires arrivals { AreCheap arrivals.now.spots }
     requires state { state < length table.now.states }
-    ensures { IfOk result (BestBelow table.now classes.now found.now.store arrivals.now.spots.entries state table.now.grammar.tokens) }
+    ensures { IfOk result (BestBelow table.now classes.now found.now.store arrivals.now.spots state table.now.grammar.tokens) }
 {
     let mut best = None;
     for token in 0..table.tokens() {
@@ -162,9 +162,9 @@ fn all_best(
     arrivals: &Arrivals,
 ) -> Result<Vec<Option<Best>>, Memory>
     requires classes { IsClasses table.now classes.now }
-    requires told { IsTold table.now found.now arrivals.now.spots.entries }
-    requires arrivals { AreCheap arrivals.now.spots.entries }
-    ensures { IfOk result (λ best. AreBest table.now classes.now found.now.store arrivals.now.spots.entries (length table.now.states) best.items) }
+    requires told { IsTold table.now found.now arrivals.now.spots }
+    requires arrivals { AreCheap arrivals.now.spots }
+    ensures { IfOk result (λ best. AreBest table.now classes.now found.now.store arrivals.now.spots (length table.now.states) best.items) }
 {
     let mut all = Vec::new(alloc);
     for state in 0..table.states() {
@@ -193,7 +193,7 @@ pub fn reach_by<'t>(
     arrivals: Arrivals,
 ) -> Result<Reach<'t>, Memory>
     requires classes { IsClasses table.now classes.now }
-    requires arrivals { ArrivedIn table.now classes.now found arrivals.spots.entries }
+    requires arrivals { ArrivedIn table.now classes.now found arrivals.spots }
     ensures { IfOk result (λ reach. reach ≡ table.now) }
 {
     let inner = table.table();

@@ -37,7 +37,7 @@ impl<'t> Model for Reach<'t> {
 
     ghost view = { λ r. r.table.now };
 
-    ghost invariant = { λ r. IsReach r.table.now r.store r.arrivals.spots.entries r.best.items };
+    ghost invariant = { λ r. IsReach r.table.now r.store r.arrivals.spots r.best.items };
 }
 
 /// Puts the sentence of a spot in front of what is spelled, and gives its start.
@@ -49,8 +49,8 @@ fn walk(
     spot: Spot,
     backwards: &mut Vec<Token>,
 ) -> Result<u16, Memory>
-    requires { HasLabel table.now store.now arrivals.now.spots.entries spot }
-    ensures { IfOk result (λ start. Walks table.now store.now arrivals.now.spots.entries spot start backwards.old.items backwards.new.items) }
+    requires { HasLabel table.now store.now arrivals.now.spots spot }
+    ensures { IfOk result (λ start. Walks table.now store.now arrivals.now.spots spot start backwards.old.items backwards.new.items) }
 {
     let mut spot = spot;
     'spots: loop {

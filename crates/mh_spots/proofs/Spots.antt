@@ -1,15 +1,12 @@
 -- Spots as keys of a map, and the one sentence of a step.
-use Rattle.std.proofs.Common.{◌≡◌, ℕ, List, [], ◌∷◌, ◌++◌, None, Option, Bool, true, false, nat_eq, ◌&&◌, refl, ap, sym, arith, ◌∙◌}
+use Rattle.std.proofs.Common.{◌≡◌, ℕ, List, [], ◌∷◌, Option, Bool, true, false, nat_eq, ◌&&◌, refl, ap, sym, arith, ◌∙◌}
 use Rattle.std.proofs.lemmas.Grind.{common_steps}
-use Rattle.indexmap.specs.IndexMap.{insert_entry}
-use Rattle.indexmap.proofs.MapLemmas.{insert_entry-absent, absent_from_lookup}
 use Rattle.mh_facts.specs.declared.store.FactKey.{FactKey}
 use Rattle.mh_least.specs.Least.{Label, longer}
 use Rattle.mh_spots.specs.declared.arrivals.Spot.{Spot}
 use Rattle.mh_spots.specs.declared.arrivals.Step.{Step}
 use Rattle.mh_spots.specs.declared.arrivals.Step.TheVariants as steps
-use Rattle.mh_spots.specs.declared.arrivals.Arrival.{Arrival}
-use Rattle.mh_spots.specs.Spots.{Spots, same_spot, arrival_at, spot, LabelBy}
+use Rattle.mh_spots.specs.Spots.{same_spot, spot, LabelBy}
 use Rattle.mh_ways.proofs.Keyed.{AreKeys}
 use Rattle.mh_ways.proofs.Wording.{some_is}
 
@@ -36,9 +33,6 @@ spot_same k = rw (number_same k.state, number_same k.next) refl
 
 pub spot_keys : AreKeys same_spot
 spot_keys = record { one = same_spot_is; agree = spot_same }
-
-pub spots_entries : (es : Spots) (k : Spot) (f : Arrival) → arrival_at es k ≡ None → insert_entry same_spot es k f ≡ es ++ (k, f) ∷ []
-spots_entries es k f none = insert_entry-absent same_spot k f es (absent_from_lookup (same_spot k) es none)
 
 pub label_one : (words : FactKey → Option (List ℕ)) (labels : Spot → Option Label) (step : Step) (k l : Label) → LabelBy words labels step k → LabelBy words labels step l → k ≡ l
 label_one words labels (steps.Begin start) k l a b = a ∙ sym b

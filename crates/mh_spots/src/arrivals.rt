@@ -2,8 +2,7 @@
 ghost use Rattle.std.specs.Prelude.{◌≡◌, None, [], ◌∷◌, ◌++◌, OnOk};
 ghost use Rattle.mh_spots.specs.Spots.{arrival_at};
 
-use indexmap::IndexMap;
-use mh_facts::FactKey;
+use mh_facts::{FactKey, OrderedMap};
 use mh_grammar::{Memory, Token};
 use std::alloc::Global;
 
@@ -35,30 +34,30 @@ pub struct Arrival {
 /// The spots that are reached.
 #[derive(Drop)]
 pub struct Arrivals {
-    pub spots: IndexMap<Spot, Arrival>,
+    pub spots: OrderedMap<Spot, Arrival>,
 }
 
 /// None yet.
 pub fn no_arrivals(alloc: Global) -> Arrivals
-    ensures { result.spots.entries ≡ [] }
+    ensures { result.spots ≡ [] }
 {
     Arrivals {
-        spots: IndexMap::new(alloc),
+        spots: OrderedMap::new(alloc),
     }
 }
 
 /// How a spot is reached, where it is.
 pub fn arrival_of(arrivals: &Arrivals, spot: Spot) -> Option<Arrival>
-    ensures { result ≡ arrival_at arrivals.now.spots.entries spot }
+    ensures { result ≡ arrival_at arrivals.now.spots spot }
 {
     arrivals.spots.get(&spot).copied()
 }
 
 /// Stores the arrival at a spot that was not reached before.
 pub fn arrive_at(arrivals: &mut Arrivals, spot: Spot, arrival: Arrival) -> Result<(), Memory>
-    requires { arrival_at arrivals.old.spots.entries spot ≡ None }
-    ensures { OnOk result (arrivals.new.spots.entries ≡ arrivals.old.spots.entries ++ (spot, arrival) ∷ []) }
+    requires { arrival_at arrivals.old.spots spot ≡ None }
+    ensures { OnOk result (arrivals.new.spots ≡ arrivals.old.spots ++ (spot, arrival) ∷ []) }
 {
-    arrivals.spots.insert(spot, arrival)?;
+    arrivals.spots.push(spot, arrival)?;
     Ok(())
 }

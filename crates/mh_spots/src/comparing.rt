@@ -34,8 +34,8 @@ fn from_of(step: Step) -> Option<Spot>
 /// The parts of the sentence of a step, found from its end; the first part lies on top.
 fn put_parts(arrivals: &Arrivals, parts: &mut Vec<Part>, step: Step) -> Result<(), Memory>
     requires empty { parts.old.items ≡ [] }
-    requires known { HasSentence arrivals.now.spots.entries step }
-    ensures { OnOk result (ArePartsOf arrivals.now.spots.entries step parts.new.items) }
+    requires known { HasSentence arrivals.now.spots step }
+    ensures { OnOk result (ArePartsOf arrivals.now.spots step parts.new.items) }
 {
     let mut step = step;
     'steps: loop {
@@ -59,10 +59,10 @@ pub fn comes_later(
     left: Step,
     right: Step,
 ) -> Result<bool, Memory>
-    requires told { IsTold table.now found.now arrivals.now.spots.entries }
-    requires left { IsKnown found.now.store arrivals.now.spots.entries left }
-    requires right { IsKnown found.now.store arrivals.now.spots.entries right }
-    ensures { IfOk result (ComesLater table.now found.now.store arrivals.now.spots.entries left right) }
+    requires told { IsTold table.now found.now arrivals.now.spots }
+    requires left { IsKnown found.now.store arrivals.now.spots left }
+    requires right { IsKnown found.now.store arrivals.now.spots right }
+    ensures { IfOk result (ComesLater table.now found.now.store arrivals.now.spots left right) }
 {
     let mut rests = Rests {
         left: Vec::new(alloc),

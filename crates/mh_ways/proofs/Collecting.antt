@@ -1,15 +1,15 @@
 -- How a set grows.
-use Rattle.std.proofs.Common.{◌≡◌, ℕ, ◌<◌, ◌+◌, ◌⊎◌, inl, inr, List, [], ◌∷◌, ◌++◌, length, Bool, true, false, eqb, ◌&&◌, not, refl, sym, ◌∙◌, get_or}
+use Rattle.std.proofs.Common.{◌≡◌, ℕ, ◌<◌, ◌+◌, ◌⊎◌, inl, inr, List, [], ◌∷◌, length, Bool, true, false, eqb, ◌&&◌, ◌||◌, not, refl, sym, ◌∙◌, get_or}
+use Rattle.std.specs.Bool.{MatchBool}
 use Rattle.std.specs.List.{Contains, list_any}
+use Rattle.std.specs.List.Sorted.{IsPermutation}
 use Rattle.std.proofs.lemmas.Bool.Decides.{Decides-eqb}
-use Rattle.std.specs.Prelude.{if◌then◌else◌}
 use Rattle.mh_ways.specs.declared.work.Way.{Way}
 use Rattle.std.proofs.lemmas.List.{get_or_default}
-use Rattle.indexmap.specs.IndexSet.{insert_key}
-use Rattle.indexmap.proofs.CallerLemmas.{Contains-list_any}
+use Rattle.std.proofs.lemmas.List.Sorted.{Contains-permutation, IsPermutation-sym}
+use Rattle.mh_grammar.proofs.Lists.{contains_here, contains_there, contains_cases}
 use Rattle.mh_ways.specs.Rows.{Collects}
 use Rattle.mh_ways.proofs.Firsts.{OfFirst, of_none, of_more, of_fewer, of_all, of_some}
-use Rattle.mh_ways.proofs.Rowing.{contains_front, contains_last, contains_either}
 
 module _ {X : Type 0} where
   pub collects_none : (P : X → Type 0) (q : List X) → ((o : X) → P o → ⊥) → Collects P q q
@@ -25,24 +25,31 @@ module _ {X : Type 0} where
     only = λ o w. elim (h.only o w) [ inl m ↦ (elim (g.only o m) [ inl was ↦ inl was | inr p ↦ inr (inl p) ]) | inr q ↦ inr (inr q) ];
   }
 
-  -- a key is put in
-  pub collects_key : (eq : X → X → Bool) → ((x y : X) → eq x y ≡ true → x ≡ y) → (ks : List X) (k : X) → Collects (λ r. r ≡ k) ks (insert_key eq ks k)
-  collects_key eq same ks k = by (list_any (eq k) ks) refl
-    where
-      by : (b : Bool) → list_any (eq k) ks ≡ b → Collects (λ r. r ≡ k) ks (if b then ks else ks ++ k ∷ [])
-      by true e = record { kept = λ r h. h; all = λ r is. rw is (Contains-list_any eq same ks k e); only = λ r h. inl h }
-      by false e = record { kept = λ r h. contains_front ks k r h; all = λ r is. rw is (contains_last ks k); only = λ r h. contains_either ks k r h }
+-- a key is put into a set
+module _ {X : Type 0} (eq : X → X → Bool) (same : (x y : X) → eq x y ≡ true → x ≡ y) where
+  or_contains : (x k : X) (xs : List X) (b : Bool) → eq k x ≡ b → (list_any (eq k) xs ≡ true → Contains xs k) → (b || list_any (eq k) xs) ≡ true → Contains (x ∷ xs) k
+  or_contains x k xs true e more h = rw (same k x e) (contains_here x xs)
+  or_contains x k xs false e more h = contains_there x xs k (more h)
 
--- the same, by what an insertion says
-pub collects_insert : {X : Type 0} (eq : X → X → Bool) (ks new : List X) (k : X) → new ≡ insert_key eq ks k → ((x y : X) → eq x y ≡ true → x ≡ y) → Collects (λ r. r ≡ k) ks new
-collects_insert eq ks new k e same = rw e (collects_key eq same ks k)
+  any_contains : (ks : List X) (k : X) → list_any (eq k) ks ≡ true → Contains ks k
+  any_contains [] k h = cc
+  any_contains (x ∷ xs) k h = or_contains x k xs (eq k x) refl (any_contains xs k) h
 
-pub insert_same : {X : Type 0} (eq : X → X → Bool) (ks new : List X) (k : X) (fresh : Bool) → new ≡ insert_key eq ks k → fresh ≡ not (list_any (eq k) ks) → fresh ≡ false → new ≡ ks
-insert_same {X} eq ks new k fresh e added no' = e ∙ by (list_any (eq k) ks) (sym added ∙ no')
-  where
-    by : (b : Bool) → not b ≡ false → (if b then ks else ks ++ k ∷ []) ≡ ks
-    by true h = refl
-    by false h = cc
+  was_there : (b : Bool) → false ≡ not b → b ≡ true
+  was_there true h = refl
+  was_there false h = cc
+
+  pub collects_put : (ks new : List X) (k : X) (added : Bool) → added ≡ not (list_any (eq k) ks) → MatchBool added (IsPermutation (k ∷ ks) new) (new ≡ ks) → Collects (λ r. r ≡ k) ks new
+  collects_put ks new k true fresh moved = record {
+    kept = λ r h. Contains-permutation (k ∷ ks) new r moved (contains_there k ks r h);
+    all = λ r is. rw is (Contains-permutation (k ∷ ks) new k moved (contains_here k ks));
+    only = λ r h. elim (contains_cases k ks r (Contains-permutation new (k ∷ ks) r (IsPermutation-sym (k ∷ ks) new moved) h)) [ inl is ↦ inr (sym is) | inr was ↦ inl was ];
+  }
+  collects_put ks new k false fresh stays = record {
+    kept = λ r h. rw stays h;
+    all = λ r is. rw (is, stays) (any_contains ks k (was_there (list_any (eq k) ks) fresh));
+    only = λ r h. inl (rw stays at h);
+  }
 
 pub both : (a b : Bool) → (a && b) ≡ true → (a ≡ true) × (b ≡ true)
 both true b e = (refl, e)

@@ -1,8 +1,8 @@
 //! What the search keeps beside the facts that it settled.
 use crate::queue::Queue;
-use indexmap::IndexSet;
 use mh_facts::{Back, FactKey};
 use mh_grammar::Token;
+use std::collections::HashSet;
 
 /// A fact that waits: the state at its end and what it came from.
 #[derive(Clone, Copy, Drop)]
@@ -47,5 +47,5 @@ pub struct Work {
     pub queue: Queue<Item>,
     pub paths: Vec<Vec<Path>>,
     pub wholes: Vec<Vec<Whole>>,
-    pub known: IndexSet<Way>,
+    pub known: HashSet<Way>,
 }

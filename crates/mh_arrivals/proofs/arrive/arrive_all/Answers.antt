@@ -13,7 +13,7 @@ returns-then-buckets-cost c =
     let over : length c.loop-cost.second.queue.buckets.items ≤ c.loop-cost.cost = (let a = c.if-buckets-cost.true in let b = c.len-buckets.ensures in omega arith) in
     record {
       found_is = g.found_is;
-      arrived = arrive_ends c.args.table.now c.facts.ensures c.args.classes.now c.requires.classes g.found_is.tale.words c.args.found.now.work g.found_is.wholes c.loop-cost.second.arrivals.spots.entries c.loop-cost.second.queue.buckets.items c.loop-cost.cost [] g.good
+      arrived = arrive_ends c.args.table.now c.facts.ensures c.args.classes.now c.requires.classes g.found_is.tale.words c.args.found.now.work g.found_is.wholes c.loop-cost.second.arrivals.spots c.loop-cost.second.queue.buckets.items c.loop-cost.cost [] g.good
           (λ cost o h. none_over c.loop-cost.second.queue.buckets.items c.loop-cost.cost cost o over (g.good.low cost o h) h);
     }
 
@@ -23,6 +23,6 @@ returns c =
     let level : cap + 1 ≤ c.loop-cost.cost = (let a = c.loop-cost-test.false in omega arith) in
     record {
       found_is = g.found_is;
-      arrived = arrive_ends c.args.table.now c.facts.ensures c.args.classes.now c.requires.classes g.found_is.tale.words c.args.found.now.work g.found_is.wholes c.loop-cost.second.arrivals.spots.entries c.loop-cost.second.queue.buckets.items c.loop-cost.cost [] g.good
+      arrived = arrive_ends c.args.table.now c.facts.ensures c.args.classes.now c.requires.classes g.found_is.tale.words c.args.found.now.work g.found_is.wholes c.loop-cost.second.arrivals.spots c.loop-cost.second.queue.buckets.items c.loop-cost.cost [] g.good
           (λ cost o h. (let low = g.good.low cost o h in let few = (g.good.items cost o h).few in omega arith));
     }

@@ -3,4 +3,4 @@ use Rattle.mh_arrivals.specs.Arriving.{GoodIn}
 use Rattle.mh_arrivals.proofs.arrive.arrive_all.Given as goal
 
 abbrev pub invariant-loop-cost : goal.invariant-loop-cost
-invariant-loop-cost l = GoodIn l.table l.classes l.found l.second.arrivals.spots.entries l.second.queue.buckets.items l.cost []
+invariant-loop-cost l = GoodIn l.table l.classes l.found l.second.arrivals.spots l.second.queue.buckets.items l.cost []

@@ -17,11 +17,11 @@ arrive_one-requires-clause-some c =
 
 pub arrive_one-requires-clause-ready : goal.arrive_one-requires-clause-ready
 arrive_one-requires-clause-ready c =
-    subst (λ (l : List Coming). ReadyIn c.args.table.now c.args.classes.now c.args.found.now c.loop-place.second.arrivals.spots.entries c.loop-place.second.queue.buckets.items c.args.level.now.cost l) (sym (drop_is c.args.level.now.comings.now c.loop-place.place)) c.loop-place.invariant
+    subst (λ (l : List Coming). ReadyIn c.args.table.now c.args.classes.now c.args.found.now c.loop-place.second.arrivals.spots c.loop-place.second.queue.buckets.items c.args.level.now.cost l) (sym (drop_is c.args.level.now.comings.now c.loop-place.place)) c.loop-place.invariant
 
 pub loop-place-preserved : goal.loop-place-preserved
 loop-place-preserved c =
-    subst (λ (l : List Coming). ReadyIn c.args.table.now c.args.classes.now c.args.found.now c.arrive_one.new.second.arrivals.spots.entries c.arrive_one.new.second.queue.buckets.items c.args.level.now.cost l) (rest_after c.args.level.now.comings.now c.loop-place.place) c.in_ok-arrive_one.ensures
+    subst (λ (l : List Coming). ReadyIn c.args.table.now c.args.classes.now c.args.found.now c.arrive_one.new.second.arrivals.spots c.arrive_one.new.second.queue.buckets.items c.args.level.now.cost l) (rest_after c.args.level.now.comings.now c.loop-place.place) c.in_ok-arrive_one.ensures
 
 pub returns : goal.returns
 returns c =
@@ -30,5 +30,5 @@ returns c =
     let g = c.loop-place.invariant in
     record {
       found_is = g.found_is;
-      good = level_done c.args.table.now c.facts.ensures c.args.classes.now c.requires.classes g.found_is.tale.words c.args.found.now.work g.found_is.wholes c.loop-place.second.arrivals.spots.entries c.loop-place.second.queue.buckets.items c.args.level.now.cost (rw (drop_of_length-le items le) at g.ready);
+      good = level_done c.args.table.now c.facts.ensures c.args.classes.now c.requires.classes g.found_is.tale.words c.args.found.now.work g.found_is.wholes c.loop-place.second.arrivals.spots c.loop-place.second.queue.buckets.items c.args.level.now.cost (rw (drop_of_length-le items le) at g.ready);
     }

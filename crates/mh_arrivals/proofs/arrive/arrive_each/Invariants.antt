@@ -3,4 +3,4 @@ use Rattle.mh_arrivals.specs.Arriving.{ReadyIn}
 use Rattle.mh_arrivals.proofs.arrive.arrive_each.Given as goal
 
 abbrev pub invariant-loop-place : goal.invariant-loop-place
-invariant-loop-place l = ReadyIn l.table l.classes l.found l.second.arrivals.spots.entries l.second.queue.buckets.items l.level.cost (drop l.place l.level.comings.now)
+invariant-loop-place l = ReadyIn l.table l.classes l.found l.second.arrivals.spots l.second.queue.buckets.items l.level.cost (drop l.place l.level.comings.now)

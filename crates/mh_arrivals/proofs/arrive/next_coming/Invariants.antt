@@ -5,7 +5,7 @@ use Rattle.mh_arrivals.specs.Arriving.{IsDone}
 use Rattle.mh_arrivals.proofs.arrive.next_coming.Given as goal
 
 abbrev pub invariant-items : goal.invariant-items
-invariant-items l = Thinned (IsDone l.arrivals.spots.entries) l.fn.queue.buckets.items l.queue.buckets.items
+invariant-items l = Thinned (IsDone l.arrivals.spots) l.fn.queue.buckets.items l.queue.buckets.items
 
 abbrev pub decreases-items : goal.decreases-items
 decreases-items l = length (row_of l.queue.buckets.items l.cost)

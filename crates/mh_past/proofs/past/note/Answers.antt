@@ -1,6 +1,6 @@
 use Rattle.std.proofs.Common.{refl}
 use Rattle.mh_past.proofs.Pasting.{reduction_same}
-use Rattle.mh_ways.proofs.Collecting.{collects_insert}
+use Rattle.mh_past.proofs.Noting.{collects_insert}
 use Rattle.mh_past.proofs.past.note.Goals as goal
 
 pub returns : goal.returns

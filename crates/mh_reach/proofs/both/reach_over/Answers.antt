@@ -8,4 +8,4 @@ pub search-requires : goal.search-requires
 search-requires c = subst (λ (t : TableData). IsClasses t c.args.classes.now) (sym c.table-inner.ensures.table) c.requires
 
 pub reach_by-requires-clause-arrivals : goal.reach_by-requires-clause-arrivals
-reach_by-requires-clause-arrivals c = subst (λ (t : TableData). ArrivedIn t c.args.classes.now c.in_ok-found.found c.in_ok-arrivals.arrivals.spots.entries) c.table-inner.ensures.table c.in_ok-arrivals.ensures
+reach_by-requires-clause-arrivals c = subst (λ (t : TableData). ArrivedIn t c.args.classes.now c.in_ok-found.found c.in_ok-arrivals.arrivals.spots) c.table-inner.ensures.table c.in_ok-arrivals.ensures

@@ -10,4 +10,4 @@ returns-in-Right c = inr (refl, inl c.in-Right.ensures)
 
 pub returns-in_ok-behind-in-Neither : goal.returns-in_ok-behind-in-Neither
 returns-in_ok-behind-in-Neither c =
-    first_same c.args.table.now c.args.found.now.store c.args.arrivals.now.spots.entries c.args.left c.args.right c.sooner.result c.in_ok-behind-in-Neither.behind c.in-Neither.ensures c.in_ok-behind-in-Neither.ensures c.sooner.ensures.behind c.sooner.ensures.ahead
+    first_same c.args.table.now c.args.found.now.store c.args.arrivals.now.spots c.args.left c.args.right c.sooner.result c.in_ok-behind-in-Neither.behind c.in-Neither.ensures c.in_ok-behind-in-Neither.ensures c.sooner.ensures.behind c.sooner.ensures.ahead

@@ -7,7 +7,7 @@ use Rattle.mh_spots.proofs.Walking.{LeadsTo}
 use Rattle.mh_sentences.proofs.sentences.walk.Given as goal
 
 abbrev pub invariant-spots : goal.invariant-spots
-invariant-spots l = (tale : Tale l.table l.store) (j : Journey l.table tale.words l.arrivals.spots.entries) (k : Label) → j.labels l.fn.spot ≡ Some k → LeadsTo j.labels l.spot l.backwards.items k.start (k.word ++ reverse l.fn.backwards.items)
+invariant-spots l = (tale : Tale l.table l.store) (j : Journey l.table tale.words l.arrivals.spots) (k : Label) → j.labels l.fn.spot ≡ Some k → LeadsTo j.labels l.spot l.backwards.items k.start (k.word ++ reverse l.fn.backwards.items)
 
 abbrev pub decreases-spots : goal.decreases-spots
-decreases-spots l = heights_of l.arrivals.spots.entries l.spot
+decreases-spots l = heights_of l.arrivals.spots l.spot

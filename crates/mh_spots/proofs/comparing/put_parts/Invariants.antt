@@ -7,7 +7,7 @@ use Rattle.mh_spots.proofs.Tracing.{Rest}
 use Rattle.mh_spots.proofs.comparing.put_parts.Given as goal
 
 abbrev pub invariant-steps : goal.invariant-steps
-invariant-steps l = (t : TableData) (words : FactKey → Option (List ℕ)) (journey : Journey t words l.arrivals.spots.entries) (whole : Label) → LabelBy words journey.labels l.fn.step whole → Rest words journey.labels l.step l.parts.items whole
+invariant-steps l = (t : TableData) (words : FactKey → Option (List ℕ)) (journey : Journey t words l.arrivals.spots) (whole : Label) → LabelBy words journey.labels l.fn.step whole → Rest words journey.labels l.step l.parts.items whole
 
 abbrev pub decreases-steps : goal.decreases-steps
-decreases-steps l = height_by (heights_of l.arrivals.spots.entries) l.step
+decreases-steps l = height_by (heights_of l.arrivals.spots) l.step

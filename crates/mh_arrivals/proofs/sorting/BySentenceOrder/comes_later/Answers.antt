@@ -5,4 +5,4 @@ use Rattle.mh_arrivals.proofs.sorting.BySentenceOrder.comes_later.Goals as goal
 pub returns : goal.returns
 returns c =
     let order = c.args.self.now in
-    IfOk-weaker c.comes_later.result _ _ (λ later. in_turn_later order.table.now order.found.now.store order.arrivals.now.spots.entries c.args.left c.args.right later) c.comes_later.ensures
+    IfOk-weaker c.comes_later.result _ _ (λ later. in_turn_later order.table.now order.found.now.store order.arrivals.now.spots c.args.left c.args.right later) c.comes_later.ensures

@@ -4,4 +4,4 @@ use Rattle.mh_arrivals.proofs.sorting.BySentenceOrder.is_alike.Goals as goal
 pub returns : goal.returns
 returns c is =
     let order = c.args.self.now in
-    same_alike order.table.now order.found.now.store order.arrivals.now.spots.entries c.args.left c.args.right (c.is_same.ensures is)
+    same_alike order.table.now order.found.now.store order.arrivals.now.spots c.args.left c.args.right (c.is_same.ensures is)
