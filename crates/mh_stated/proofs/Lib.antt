@@ -3,4 +3,4 @@ mod Mapped
 mod Named
 mod Itemed
 mod Stating
-pub mod Counting
+mod Counting

@@ -1,5 +1,5 @@
 -- What names and raw items are read as.
-use Rattle.std.specs.Prelude.{◌≡◌, ◌<◌, ◌≤◌, ◌-◌, ℕ, List, [], map, length, Option, Some, None, MatchOption, slice_get}
+use Rattle.std.specs.Prelude.{◌≡◌, ◌<◌, ◌≤◌, ◌-◌, ℕ, List, [], map, length, Option, Some, None, slice_get}
 use Rattle.std.specs.List.{AllByRecursion}
 use Rattle.mh_grammar.specs.declared.types.Grammar.{Grammar}
 use Rattle.mh_grammar.specs.declared.types.Look.{Look}
@@ -12,10 +12,7 @@ use Rattle.mh_tabform.specs.declared.types.RawItem.{RawItem}
 use Rattle.mh_cells.specs.Names.{look_name}
 use Rattle.mh_tabform.specs.Written.{raw_item}
 pub use Rattle.mh_matches.specs.Items.{IsMovedItem}
-
--- what is found is such a thing, and where nothing is found there is none
-abbrev pub Finds : {X : Type 0} → (X → Type 0) → Option X → Type 0
-Finds P o = MatchOption o ((x : _) → P x → ⊥) P
+pub use Rattle.mh_valid.specs.Finding.{Finds}
 
 -- the values of raw ones, rising
 pub record AreRead {X N : Type 0} (raw_of : X → N) (Is : X → Type 0) (R : X → X → Type 0) (raws : List N) (xs : List X) : Type 0 where

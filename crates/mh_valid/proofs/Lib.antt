@@ -4,3 +4,4 @@ pub mod OneKernel
 pub mod Edged
 pub mod Apart
 pub mod Once
+pub mod Pushed

@@ -1,2 +1,3 @@
 pub mod Valid
 pub mod Within
+pub mod Finding

@@ -24,7 +24,7 @@ use Rattle.mh_validate.specs.declared.fault.ValidFault.TheVariants.{Invalid}
 use Rattle.mh_validate.specs.declared.validation.Valid.{Valid}
 use Rattle.mh_validate.specs.Outcome.{IsFault, IsOutcome, Gives}
 use Rattle.mh_stated.specs.Found.{AreFirstKernels}
-use Rattle.mh_validate.specs.Comparing.{AreFirstRows, AreRows, AreResolvedRows}
+use Rattle.mh_compared.specs.Comparing.{AreFirstRows, AreRows, AreResolvedRows}
 
 -- all kernels, where no state lacks one
 pub all_kernels : (g : Grammar) (raw : RawTable) (ks : List Kernel) → AreFirstKernels g raw ks → length raw.states ≤ length ks → AreKernels g raw ks

@@ -1,6 +1,2 @@
-mod Within
 mod Lacking
-mod Edging
-mod Counting
-mod Zipping
 mod Judging

@@ -1,3 +1,1 @@
-pub mod Leading
-pub mod Comparing
 pub mod Outcome

@@ -1,11 +1,7 @@
 //! Whether a table file is valid for a grammar, and what it gives.
 #![tactic(auto)]
 
-mod cells;
-mod edges;
 mod fault;
-mod rows;
-mod targets;
 mod validation;
 
 pub use fault::ValidFault;

@@ -9,13 +9,12 @@ ghost use Rattle.mh_cells.specs.Conflicts.{AreConflicts};
 ghost use Rattle.mh_valid.specs.declared.reason.Reason.{Reason as ReasonOf};
 ghost use Rattle.mh_valid.specs.Valid.{AreKernels, AreNamesApart, HasHeader, HasStates, IsInvalidAt, IsValidFor, reason_of, raw_state};
 ghost use Rattle.mh_tabform.specs.Written.{raw_cells};
-ghost use Rattle.mh_validate.specs.Comparing.{AreFirstRows, AreRows, AreResolvedRows};
+ghost use Rattle.mh_compared.specs.Comparing.{AreFirstRows, AreRows, AreResolvedRows};
 ghost use Rattle.mh_validate.specs.Outcome.{IsFault, IsOutcome};
 
-use crate::cells::{cells_at, count_told, reason};
 use crate::fault::ValidFault;
-use crate::rows::first_rows;
 use mh_cells::{Conflict, Mode};
+use mh_compared::{cells_at, count_told, first_rows, reason};
 use mh_grammar::{Edge, Grammar, Memory, Sequence};
 use mh_items::Closer;
 use mh_kernels::{Automaton, Kernel};

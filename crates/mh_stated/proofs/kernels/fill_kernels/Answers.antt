@@ -1,7 +1,8 @@
 use Rattle.std.proofs.Common.{arith}
 use Rattle.mh_kernels.specs.Automaton.{no_kernel}
 use Rattle.mh_valid.specs.Valid.{HasKernel}
-use Rattle.mh_stated.proofs.Counting.{count_more, pushed, kernels_stop, kernels_end}
+use Rattle.mh_valid.proofs.Pushed.{count_more, pushed}
+use Rattle.mh_stated.proofs.Counting.{kernels_stop, kernels_end}
 use Rattle.mh_stated.proofs.kernels.fill_kernels.Goals as goal
 
 pub loop-state-preserved : goal.loop-state-preserved

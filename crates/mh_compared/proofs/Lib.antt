@@ -1,0 +1,4 @@
+pub mod Within
+pub mod Edging
+pub mod Counting
+pub mod Zipping
