@@ -1,5 +1,5 @@
 -- What keeps instances from giving a grammar, by the first instance that reaches itself and the first start that is inline.
-use Rattle.std.proofs.Common.{◌≡◌, ℕ, Option, Some, None, refl, subst}
+use Rattle.std.proofs.Common.{◌≡◌, ℕ, Option, Some, None, subst}
 use Rattle.std.specs.Prelude.{MatchOption, IfNone}
 use Rattle.mh_rules.specs.declared.instances.Expanded.{Expanded}
 use Rattle.mh_choices.specs.declared.hindrances.Hindrance.{Hindrance}

@@ -3,5 +3,4 @@ pub mod Only
 pub mod Producing
 pub mod Ranges
 pub mod Sentences
-pub mod OriginOrder
 pub mod Hindered

@@ -13,7 +13,7 @@ use Rattle.mh_rules.specs.declared.instances.InstanceProduction.{InstanceProduct
 use Rattle.mh_rules.specs.declared.instances.Instance.{Instance}
 use Rattle.mh_rules.specs.declared.instances.Expanded.{Expanded}
 use Rattle.mh_producers.specs.declared.unfolding.Unfolding.{Unfolding}
-use Rattle.mh_inline.specs.declared.origins.Origin.{Origin}
+use Rattle.mh_kept.specs.declared.origins.Origin.{Origin}
 use Rattle.mh_producers.specs.declared.sizes.Size.{Size}
 use Rattle.mh_producers.specs.declared.sizes.Sizing.{Sizing}
 use Rattle.mh_producers.specs.Instances.{IsAlternative}

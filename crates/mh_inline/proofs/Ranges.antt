@@ -1,11 +1,11 @@
 -- The numbers of the grammar are in range, and no start stands twice.
-use Rattle.std.proofs.Common.{◌≡◌, ℕ, zero, suc, ◌^◌, ◌<◌, ◌≤◌, Bool, true, false, not, cond, List, [], ◌∷◌, Some, map, filter, count_by, take, length, get_or, refl, sym, ap, ◌∙◌, arith, inl, inr, subst}
+use Rattle.std.proofs.Common.{◌≡◌, ℕ, ◌^◌, ◌<◌, ◌≤◌, Bool, true, false, not, cond, List, [], ◌∷◌, Some, map, filter, count_by, take, length, get_or, refl, sym, ap, ◌∙◌, arith, inl, inr, subst}
 use Rattle.std.specs.Option.{option_map, unwrap_or}
 use Rattle.std.specs.List.{slice_get, All, Contains}
 use Rattle.std.proofs.lemmas.Bool.{false≢true, cases_lt}
 use Rattle.std.proofs.lemmas.List.{take_all, take-take, length-take, length-map, get_or-take}
 use Rattle.std.proofs.lemmas.List.Sums.{sum_by_more_le, length-filter, count_by-le-length}
-use Rattle.std.proofs.lemmas.List.Elements.{All-nil, All-cons, All-head, All-tail, All-append, All-map, All-weaker, All-same, All-contains}
+use Rattle.std.proofs.lemmas.List.Elements.{All-nil, All-append, All-map, All-weaker, All-same, All-contains}
 use Rattle.std.proofs.lemmas.Option.{same_Some, slice_get_within, slice_get-get_or, get_or_from_slice_get, slice_get-map}
 use Rattle.mh_grammar.specs.declared.types.TokenInfo.{TokenInfo}
 use Rattle.mh_grammar.specs.declared.types.Production.{Production}
@@ -17,15 +17,13 @@ use Rattle.mh_grammar.proofs.Lists.{contains_here, contains_there}
 use Rattle.mh_rules.specs.declared.joined.Prec.{Prec}
 use Rattle.mh_rules.specs.declared.instances.Part.{Part}
 use Rattle.mh_rules.specs.declared.instances.Part.TheVariants.{Token, Instance as Applied}
-use Rattle.mh_rules.specs.declared.instances.InstanceProduction.{InstanceProduction}
 use Rattle.mh_rules.specs.declared.instances.Instance.{Instance}
 use Rattle.mh_rules.specs.declared.instances.Expanded.{Expanded}
 use Rattle.mh_producers.specs.declared.unfolding.Unfolding.{Unfolding}
-use Rattle.mh_inline.specs.declared.origins.Origin.{Origin}
+use Rattle.mh_kept.specs.declared.origins.Origin.{Origin}
 use Rattle.mh_producers.specs.Instances.{is_inlined, IsKept}
 use Rattle.mh_rules.specs.Ready.{IsPartBelow, IsExpandedReady}
-use Rattle.mh_producers.specs.Unfoldings as unfoldings
-use Rattle.mh_producers.specs.Unfoldings.{only, own, joined, choices, UnfoldsPart, Unfolds, UnfoldsEach}
+use Rattle.mh_producers.specs.Unfoldings.{own, Unfolds}
 use Rattle.mh_inline.specs.Inlined as inlined
 use Rattle.mh_inline.specs.Inlined.{is_kept, nonterminal_of, number_of, symbol_of, production_of, IsOrigin, AreOrigins, AreProductions, IsInlined}
 use Rattle.mh_cycles.specs.Cycles.{HasNoCycle}

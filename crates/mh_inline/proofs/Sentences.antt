@@ -21,7 +21,7 @@ use Rattle.mh_rules.specs.declared.instances.InstanceProduction.{InstanceProduct
 use Rattle.mh_rules.specs.declared.instances.Instance.{Instance}
 use Rattle.mh_rules.specs.declared.instances.Expanded.{Expanded}
 use Rattle.mh_producers.specs.declared.unfolding.Unfolding.{Unfolding}
-use Rattle.mh_inline.specs.declared.origins.Origin.{Origin}
+use Rattle.mh_kept.specs.declared.origins.Origin.{Origin}
 use Rattle.mh_producers.specs.Instances.{is_inlined, IsAlternative, IsKept}
 use Rattle.mh_rules.specs.Ready.{IsExpandedReady}
 use Rattle.mh_producers.specs.Unfoldings as unfoldings

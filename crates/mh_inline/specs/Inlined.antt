@@ -1,15 +1,12 @@
 -- The grammar that instances give when the inline ones are replaced by their alternatives.
-use Rattle.std.specs.Prelude.{◌≡◌, ◌<◌, ◌↔◌, ◌⊎◌, ◌++◌, ℕ, Bool, not, false, List, [], ◌∷◌, Option, Some, None, slice_get, take, map, filter, count_by}
+use Rattle.std.specs.Prelude.{◌≡◌, ◌++◌, ℕ, List, [], ◌∷◌, Option, Some, None, slice_get, map, filter}
 use Rattle.std.specs.Option.{option_and_then}
-use Rattle.std.specs.List.{Contains}
 use Rattle.mh_grammar.specs.declared.types.Level.{Level}
 use Rattle.mh_grammar.specs.declared.types.TokenInfo.{TokenInfo}
-use Rattle.mh_grammar.specs.declared.types.NontermInfo.{NontermInfo}
 use Rattle.mh_grammar.specs.declared.types.Production.{Production}
 use Rattle.mh_grammar.specs.declared.types.Grammar.{Grammar}
 use Rattle.mh_grammar.specs.declared.types.Symbol.{Symbol}
 use Rattle.mh_grammar.specs.declared.types.Symbol.TheVariants.{T, N}
-use Rattle.mh_grammar.specs.Edges.{IsRising}
 use Rattle.mh_rules.specs.declared.joined.Prec.{Prec}
 use Rattle.mh_rules.specs.declared.joined.Prec.TheVariants.{Absent, Given}
 use Rattle.mh_rules.specs.declared.instances.Part.{Part}
@@ -18,20 +15,11 @@ use Rattle.mh_rules.specs.declared.instances.InstanceProduction.{InstanceProduct
 use Rattle.mh_rules.specs.declared.instances.Instance.{Instance}
 use Rattle.mh_rules.specs.declared.instances.Expanded.{Expanded}
 use Rattle.mh_producers.specs.declared.unfolding.Unfolding.{Unfolding}
-use Rattle.mh_inline.specs.declared.origins.Origin.{Origin}
+use Rattle.mh_kept.specs.declared.origins.Origin.{Origin}
 pub use Rattle.mh_choices.specs.Ranks.{rank_of}
-use Rattle.mh_producers.specs.Instances.{is_inlined, IsAlternative}
+pub use Rattle.mh_kept.specs.Kept.{is_kept, nonterminal_of, number_of, IsOrigin, IsOriginBefore, AreOrigins}
+use Rattle.mh_producers.specs.Instances.{IsAlternative}
 use Rattle.mh_producers.specs.Unfoldings.{own, Unfolds}
-
--- the nonterminals are the instances that are not inline, in order
-abbrev pub is_kept : Instance → Bool
-is_kept i = not i.inlined
-
-abbrev pub nonterminal_of : Instance → NontermInfo
-nonterminal_of i = record { name = i.name; on_error = i.on_error }
-
-abbrev pub number_of : List Instance → ℕ → ℕ
-number_of is n = count_by is_kept (take n is)
 
 abbrev pub symbol_of : List Instance → Part → Symbol
 symbol_of is (Token a) = T a
@@ -57,22 +45,6 @@ level_of tokens Absent rhs = option_and_then (token_level tokens) (last_token rh
 
 abbrev pub production_of : List TokenInfo → List Instance → ℕ → Unfolding → Production
 production_of tokens is n u = record { lhs = number_of is n; rhs = map (symbol_of is) u.rhs; level = level_of tokens u.prec u.rhs }
-
--- an alternative of an instance that is not inline, with the rank of its file and its place there
-pub record IsOrigin (is : List Instance) (s : Origin) : Type 0 where
-  pub kept : is_inlined is s.instance ≡ false
-  pub production : InstanceProduction
-  pub alternative : IsAlternative is s.instance s.alternative production
-  pub rank : s.rank ≡ rank_of production.file
-  pub place : s.place ≡ production.place
-
--- by file, place there, instance, and place among the alternatives of the instance
-abbrev pub IsOriginBefore : Origin → Origin → Type 0
-IsOriginBefore s t = (s.rank < t.rank) ⊎ ((s.rank ≡ t.rank) × ((s.place < t.place) ⊎ ((s.place ≡ t.place) × ((s.instance < t.instance) ⊎ ((s.instance ≡ t.instance) × (s.alternative < t.alternative))))))
-
-pub record AreOrigins (is : List Instance) (origins : List Origin) : Type 0 where
-  pub rising : IsRising IsOriginBefore origins
-  pub exact : (s : Origin) → Contains origins s ↔ IsOrigin is s
 
 -- for each origin in order the productions of its unfoldings, in their order
 pub data AreProductions (tokens : List TokenInfo) (is : List Instance) : List Origin → List Production → Type 0 where

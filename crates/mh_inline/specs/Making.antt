@@ -1,47 +1,28 @@
 -- What the productions are made from: the numbers of instances, the origins so far, the size of what is made.
-use Rattle.std.specs.Prelude.{◌≡◌, ◌+◌, ◌<◌, ◌≤◌, ◌↔◌, ◌⊎◌, ℕ, List, [], ◌∷◌, ◌++◌, Option, Some, length, map, min, max, slice_index}
-use Rattle.std.specs.List.{All, Contains}
+use Rattle.std.specs.Prelude.{◌≡◌, ◌+◌, ◌≤◌, ℕ, List, [], ◌∷◌, ◌++◌, Option, Some, length, map, min, max}
+use Rattle.std.specs.List.{All}
 use Rattle.mh_grammar.specs.declared.types.TokenInfo.{TokenInfo}
 use Rattle.mh_grammar.specs.declared.types.Production.{Production}
-use Rattle.mh_grammar.specs.declared.types.Symbol.{Symbol}
-use Rattle.mh_grammar.specs.declared.types.Symbol.TheVariants.{T, N}
-use Rattle.mh_grammar.specs.Edges.{IsRising}
 use Rattle.mh_rules.specs.declared.instances.Part.{Part}
 use Rattle.mh_rules.specs.declared.instances.Part.TheVariants.{Token, Instance as Applied}
 use Rattle.mh_rules.specs.declared.instances.Instance.{Instance}
 use Rattle.mh_rules.specs.declared.instances.InstanceProduction.{InstanceProduction}
 use Rattle.mh_producers.specs.declared.unfolding.Unfolding.{Unfolding}
-use Rattle.mh_inline.specs.declared.origins.Origin.{Origin}
+use Rattle.mh_kept.specs.declared.origins.Origin.{Origin}
 use Rattle.mh_producers.specs.declared.sizes.TheConstants.{MAX_PRODUCTIONS, MAX_SYMBOLS}
 use Rattle.mh_producers.specs.declared.sizes.Size.{Size}
 use Rattle.mh_producers.specs.Instances.{IsAlternative}
 use Rattle.mh_rules.specs.Ready.{IsPartBelow}
 use Rattle.mh_producers.specs.Unfoldings.{own, Unfolds}
 use Rattle.mh_unfoldings.specs.Known.{AreKnown}
-use Rattle.mh_inline.specs.Inlined.{number_of, level_of, production_of, IsOrigin, IsOriginBefore, AreProductions}
-
--- the number of each instance, as a list
-pub record AreNumbers (is : List Instance) (numbers : List ℕ) : Type 0 where
-  pub len : length numbers ≡ length is
-  pub each : (n : ℕ) → n < length is → slice_index numbers n ≡ number_of is n
-
-abbrev pub symbol_by : List ℕ → Part → Symbol
-symbol_by numbers (Token a) = T a
-symbol_by numbers (Applied n) = N (slice_index numbers n)
+use Rattle.mh_inline.specs.Inlined.{level_of, production_of, AreProductions}
+use Rattle.mh_kept.specs.Making.{symbol_by}
 
 abbrev pub production_by : List TokenInfo → List ℕ → ℕ → Unfolding → Production
 production_by tokens numbers lhs u = record { lhs = lhs; rhs = map (symbol_by numbers) u.rhs; level = level_of tokens u.prec u.rhs }
 
 abbrev pub IsUnfoldingBelow : ℕ → ℕ → Unfolding → Type 0
 IsUnfoldingBelow tokens instances u = All (IsPartBelow tokens instances) u.rhs
-
--- the origins of the instances before the n-th, and of its alternatives before the k-th
-abbrev pub IsBelow : ℕ → ℕ → Origin → Type 0
-IsBelow n k s = (s.instance < n) ⊎ ((s.instance ≡ n) × (s.alternative < k))
-
-pub record AreOriginsBelow (is : List Instance) (n k : ℕ) (origins : List Origin) : Type 0 where
-  pub rising : IsRising IsOriginBefore origins
-  pub exact : (s : Origin) → Contains origins s ↔ IsOrigin is s × IsBelow n k s
 
 -- the longest right side
 abbrev pub longest_side : List Production → ℕ

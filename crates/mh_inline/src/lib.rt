@@ -5,8 +5,6 @@
 mod fault;
 mod inlining;
 mod laws;
-mod nonterminals;
-mod origins;
 mod productions;
 
 pub use fault::InlineFault;

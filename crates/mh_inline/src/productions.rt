@@ -7,13 +7,13 @@ ghost use Rattle.mh_rules.specs.Ready.{IsExpandedReady};
 ghost use Rattle.mh_producers.specs.Unfoldings.{own};
 ghost use Rattle.mh_producers.specs.Sizes.{AreAllSized, IsSizing};
 ghost use Rattle.mh_inline.specs.Inlined.{last_token, level_of, token_level, AreProductions, IsOrigin};
-ghost use Rattle.mh_inline.specs.Making.{production_by, token_else, AddsOrigin, AreNumbers, IsOriginKnown, IsOriginsSize, IsUnfoldingBelow};
+ghost use Rattle.mh_kept.specs.Making.{AreNumbers};
+ghost use Rattle.mh_inline.specs.Making.{production_by, token_else, AddsOrigin, IsOriginKnown, IsOriginsSize, IsUnfoldingBelow};
 
-use crate::nonterminals::symbols;
-use crate::origins::Origin;
 use mh_choices::rightmost_prec;
 use mh_cycles::size_of_side;
 use mh_grammar::{Level, Memory, Production, Sequence, Token, TokenInfo};
+use mh_kept::{Origin, symbols};
 use mh_producers::{Size, Sizing, Unfolding, plus};
 use mh_rules::{Expanded, InstanceProduction, Part, Prec};
 use mh_unfoldings::unfold_side;

@@ -4,15 +4,15 @@ ghost use Rattle.std.specs.List.{All};
 ghost use Rattle.mh_grammar.specs.declared.types.TheConstants.{MAX_NUMBERED};
 ghost use Rattle.mh_rules.specs.declared.instances.TheConstants.{MAX_INSTANCES};
 ghost use Rattle.mh_rules.specs.Ready.{IsPartBelow};
-ghost use Rattle.mh_inline.specs.Inlined.{is_kept, nonterminal_of};
-ghost use Rattle.mh_inline.specs.Making.{symbol_by, AreNumbers};
+ghost use Rattle.mh_kept.specs.Kept.{is_kept, nonterminal_of};
+ghost use Rattle.mh_kept.specs.Making.{symbol_by, AreNumbers};
 
 use mh_grammar::{Memory, NontermInfo, Symbol};
 use mh_rules::{Instance, Part};
 use std::alloc::Global;
 
 /// For each instance, how many before it are not inline.
-pub(crate) fn numbers_of(alloc: Global, instances: &[Instance]) -> Result<Vec<u16>, Memory>
+pub fn numbers_of(alloc: Global, instances: &[Instance]) -> Result<Vec<u16>, Memory>
     requires { length instances.now ≤ MAX_INSTANCES }
     ensures { IfOk result (λ v. AreNumbers instances.now v.items) }
 {
@@ -36,10 +36,7 @@ fn nonterminal(instance: &Instance) -> Result<NontermInfo, Memory>
     })
 }
 
-pub(crate) fn nonterminals_of(
-    alloc: Global,
-    instances: &[Instance],
-) -> Result<Vec<NontermInfo>, Memory>
+pub fn nonterminals_of(alloc: Global, instances: &[Instance]) -> Result<Vec<NontermInfo>, Memory>
     ensures { IfOk result (λ v. v.items ≡ map nonterminal_of (filter is_kept instances.now)) }
 {
     let mut nonterminals = Vec::new(alloc);
@@ -61,7 +58,7 @@ fn symbol(numbers: &[u16], part: Part) -> Symbol
     }
 }
 
-pub(crate) fn symbols(alloc: Global, numbers: &[u16], parts: &[Part]) -> Result<Vec<Symbol>, Memory>
+pub fn symbols(alloc: Global, numbers: &[u16], parts: &[Part]) -> Result<Vec<Symbol>, Memory>
     requires { All (IsPartBelow (MAX_NUMBERED + 1) (length numbers.now)) parts.now }
     ensures { IfOk result (λ v. v.items ≡ map (symbol_by numbers.now) parts.now) }
 {
@@ -72,7 +69,7 @@ pub(crate) fn symbols(alloc: Global, numbers: &[u16], parts: &[Part]) -> Result<
     Ok(symbols)
 }
 
-pub(crate) fn starts_of(alloc: Global, starts: &[u32], numbers: &[u16]) -> Result<Vec<u16>, Memory>
+pub fn starts_of(alloc: Global, starts: &[u32], numbers: &[u16]) -> Result<Vec<u16>, Memory>
     requires { All (λ s. s < length numbers.now) starts.now }
     ensures { IfOk result (λ v. v.items ≡ map (slice_index numbers.now) starts.now) }
 {

@@ -1,8 +1,8 @@
 use Rattle.std.proofs.Common.{length, refl, sym, ap, ◌∙◌, arith}
 use Rattle.std.specs.List.{slice_get}
 use Rattle.std.proofs.lemmas.Option.{slice_get_read}
-use Rattle.mh_inline.proofs.OriginOrder.{AreOriginsBelow-more, AreOriginsBelow-instance, rising_keys}
-use Rattle.mh_inline.proofs.origins.add_origins.Goals as goal
+use Rattle.mh_kept.proofs.OriginOrder.{AreOriginsBelow-more, AreOriginsBelow-instance, rising_keys}
+use Rattle.mh_kept.proofs.origins.add_origins.Goals as goal
 
 pub loop-alternative-preserved : goal.loop-alternative-preserved
 loop-alternative-preserved c =

@@ -1,7 +1,7 @@
 use Rattle.std.proofs.Common.{ℕ, map, get_or, slice_index, ap, refl, ◌∙◌}
 use Rattle.std.proofs.lemmas.List.{take_all}
 use Rattle.mh_grammar.proofs.Lists.{mapped_more}
-use Rattle.mh_inline.proofs.nonterminals.starts_of.Goals as goal
+use Rattle.mh_kept.proofs.nonterminals.starts_of.Goals as goal
 
 pub loop-start-preserved : goal.loop-start-preserved
 loop-start-preserved c =

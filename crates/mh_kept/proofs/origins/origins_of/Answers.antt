@@ -1,7 +1,7 @@
 use Rattle.std.proofs.Common.{sym, ◌∙◌, arith}
-use Rattle.mh_inline.proofs.OriginOrder.{AreOriginsBelow-inline, AreOrigins-all}
-use Rattle.mh_inline.proofs.origins.origins_of.Goals as goal
-use Rattle.mh_inline.proofs.origins.origins_of.Goals.{then-not-is_inline+in_ok-add_origins, else-not-is_inline}
+use Rattle.mh_kept.proofs.OriginOrder.{AreOriginsBelow-inline, AreOrigins-all}
+use Rattle.mh_kept.proofs.origins.origins_of.Goals as goal
+use Rattle.mh_kept.proofs.origins.origins_of.Goals.{then-not-is_inline+in_ok-add_origins, else-not-is_inline}
 
 pub loop-number-preserved : goal.loop-number-preserved
 loop-number-preserved c =

@@ -1,6 +1,6 @@
 use Rattle.std.proofs.Common.{◌≡◌, ◌≤◌, ◌<◌, ℕ, length, get_or}
-use Rattle.mh_inline.specs.Inlined.{number_of}
-use Rattle.mh_inline.proofs.nonterminals.numbers_of.Given as goal
+use Rattle.mh_kept.specs.Kept.{number_of}
+use Rattle.mh_kept.proofs.nonterminals.numbers_of.Given as goal
 
 abbrev pub invariant-loop-instance : goal.invariant-loop-instance
 invariant-loop-instance l = record {

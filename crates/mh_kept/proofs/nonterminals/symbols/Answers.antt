@@ -1,9 +1,9 @@
 use Rattle.std.proofs.Common.{map, get_or, ap, refl, ◌∙◌}
 use Rattle.std.proofs.lemmas.List.{take_all}
 use Rattle.mh_rules.specs.declared.instances.Part.TheVariants.{Token}
-use Rattle.mh_inline.specs.Making.{symbol_by}
+use Rattle.mh_kept.specs.Making.{symbol_by}
 use Rattle.mh_grammar.proofs.Lists.{mapped_more}
-use Rattle.mh_inline.proofs.nonterminals.symbols.Goals as goal
+use Rattle.mh_kept.proofs.nonterminals.symbols.Goals as goal
 
 pub symbol-requires : goal.symbol-requires
 symbol-requires c = c.requires c.loop-part.part-index (Token 0) c.loop-part-test.true

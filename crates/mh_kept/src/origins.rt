@@ -3,8 +3,9 @@ ghost use Rattle.std.specs.Prelude.{◌≡◌, ◌+◌, ◌<◌, ◌≤◌, fals
 ghost use Rattle.mh_producers.specs.Instances.{is_inlined};
 ghost use Rattle.mh_rules.specs.declared.instances.TheConstants.{MAX_INSTANCES};
 ghost use Rattle.mh_rules.specs.Ready.{IsExpandedReady};
-ghost use Rattle.mh_inline.specs.Inlined.{rank_of, AreOrigins};
-ghost use Rattle.mh_inline.specs.Making.{AreOriginsBelow};
+ghost use Rattle.mh_choices.specs.Ranks.{rank_of};
+ghost use Rattle.mh_kept.specs.Kept.{AreOrigins};
+ghost use Rattle.mh_kept.specs.Making.{AreOriginsBelow};
 
 use mh_choices::rank;
 use mh_grammar::Memory;
@@ -59,7 +60,7 @@ fn in_order(alloc: Global, origins: BTreeSet<Origin>) -> Result<Vec<Origin>, All
     origins.into_iter().collect(alloc)
 }
 
-pub(crate) fn origins_of(alloc: Global, expanded: &Expanded) -> Result<Vec<Origin>, Memory>
+pub fn origins_of(alloc: Global, expanded: &Expanded) -> Result<Vec<Origin>, Memory>
     requires { length expanded.now.instances ≤ MAX_INSTANCES }
     ensures { IfOk result (λ v. AreOrigins expanded.now.instances v.items) }
 {

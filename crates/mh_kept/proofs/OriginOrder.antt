@@ -13,11 +13,12 @@ use Rattle.mh_grammar.proofs.Lists as lists
 use Rattle.mh_grammar.proofs.Lists.{contains_none, inserted_contains}
 use Rattle.mh_rules.specs.declared.instances.InstanceProduction.{InstanceProduction}
 use Rattle.mh_rules.specs.declared.instances.Instance.{Instance}
-use Rattle.mh_inline.specs.declared.origins.Origin.{Origin}
-use Rattle.mh_inline.specs.contracts.origins.OriginOrd.TheImpl as order
+use Rattle.mh_kept.specs.declared.origins.Origin.{Origin}
+use Rattle.mh_kept.specs.contracts.origins.OriginOrd.TheImpl as order
 use Rattle.mh_producers.specs.Instances.{is_inlined}
-use Rattle.mh_inline.specs.Inlined.{rank_of, IsOrigin, IsOriginBefore, AreOrigins}
-use Rattle.mh_inline.specs.Making.{IsBelow, AreOriginsBelow}
+use Rattle.mh_choices.specs.Ranks.{rank_of}
+use Rattle.mh_kept.specs.Kept.{IsOrigin, IsOriginBefore, AreOrigins}
+use Rattle.mh_kept.specs.Making.{IsBelow, AreOriginsBelow}
 
 less : (a b : ℕ) → nat_cmp a b ≡ Less → a < b
 less a b e = grind (arith, nat_tests)
