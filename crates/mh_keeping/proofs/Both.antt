@@ -1,5 +1,5 @@
 -- The messages of two files, as the code reads them.
-use Rattle.std.proofs.Common.{◌≡◌, ◌∷◌, Option, Err, [], subst, refl}
+use Rattle.std.proofs.Common.{◌≡◌, ◌∷◌, Option, Err, [], subst, refl, sym}
 use Rattle.mh_outside.specs.Shelf.{Files}
 use Rattle.mh_grammar.specs.Text.{Text}
 use Rattle.mh_drive.specs.Causes.{Go, Gives}
