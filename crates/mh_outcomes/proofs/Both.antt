@@ -1,5 +1,5 @@
 -- The messages of two files are one thing, and something.
-use Rattle.std.proofs.Common.{◌≡◌, ◌∙◌, ◌⊎◌, ◌++◌, ◌∷◌, ap₂, inl, inr, List, Option, None, Some, [], sym, subst, refl}
+use Rattle.std.proofs.Common.{◌≡◌, ◌∙◌, ◌⊎◌, ◌++◌, ◌∷◌, ap₂, inl, inr, List, Option, Some, [], sym, subst, refl}
 use Rattle.std.specs.List.{All}
 use Rattle.std.proofs.lemmas.List.Elements.{All-head}
 use Rattle.mh_outside.specs.Shelf.{Files, Found}

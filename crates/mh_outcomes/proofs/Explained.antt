@@ -1,5 +1,5 @@
 -- The first line of a mode that explains is told one thing.
-use Rattle.std.proofs.Common.{◌≡◌, inl, inr, ℕ, sym, ◌∙◌, ap, subst}
+use Rattle.std.proofs.Common.{◌≡◌, inl, inr, sym, ◌∙◌, ap, subst}
 use Rattle.mh_grammar.specs.declared.types.Sentence.{Sentence}
 use Rattle.mh_tables.specs.Run.{Ending, Accepted, Overshot, Rejected, initial}
 use Rattle.mh_tables.proofs.Ending.{one_ending}
