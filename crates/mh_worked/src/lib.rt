@@ -12,6 +12,8 @@ mod explained;
 #[cfg(test)]
 mod faults;
 #[cfg(test)]
+mod files;
+#[cfg(test)]
 mod interpreting;
 #[cfg(test)]
 mod keeping;
@@ -35,6 +37,8 @@ mod sessions;
 mod several_files;
 #[cfg(test)]
 mod table_files;
+#[cfg(test)]
+mod tables;
 #[cfg(test)]
 mod trees;
 #[cfg(test)]
