@@ -1,7 +1,7 @@
 //! Cases as texts: blocks with an empty line between them, each of a grammar and a row for each thing that is asked of it,
 //! with ` = ` between what is asked and what is wanted.
 use crate::tables::made::grammar_of;
-use crate::{
+use crate::tables::{
     automata, catalogues, closures, resolving, runs, samples, sets, tables, trees, widths,
 };
 use mh_grammar::Grammar;
