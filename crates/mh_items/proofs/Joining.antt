@@ -4,8 +4,7 @@ use Rattle.std.proofs.lemmas.List.Elements.{Contains-get_or}
 use Rattle.mh_grammar.specs.declared.types.Look.TheVariants.{End}
 use Rattle.mh_grammar.specs.Plain.{PlainGrammar, IsLookBelow}
 use Rattle.mh_kernels.specs.Shapes.{KernelItem}
-use Rattle.mh_kernels.specs.Kernels.{IsKernelItem}
-use Rattle.mh_items.specs.Merging.{IsJoined}
+use Rattle.mh_kernels.specs.Kernels.{IsKernelItem, IsJoined}
 use Rattle.mh_grammar.proofs.Lists.{recursion-from, recursion_contains}
 
 pub joined_item : (g : PlainGrammar) (x y z : KernelItem) → IsKernelItem g x → IsKernelItem g y → IsJoined x y z → IsKernelItem g z

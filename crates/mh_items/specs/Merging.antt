@@ -5,7 +5,6 @@ use Rattle.std.specs.declared.cmp.Ordering.{Ordering}
 use Rattle.std.specs.declared.cmp.Ordering.TheVariants.{Less, Equal, Greater}
 use Rattle.mh_grammar.specs.declared.types.Look.{Look}
 use Rattle.mh_grammar.specs.Plain.{PlainGrammar}
-use Rattle.mh_grammar.specs.Edges.{IsRising, IsLookBefore}
 use Rattle.mh_kernels.specs.Shapes.{KernelItem}
 use Rattle.mh_kernels.specs.Kernels.{Holds, IsItemList, IsItemBefore}
 pub use Rattle.mh_kernels.specs.Order.{place_order}
@@ -31,10 +30,3 @@ abbrev pub IsTurn : List KernelItem → ℕ → List KernelItem → ℕ → Orde
 IsTurn left i right j Less = (i < length left) × ((x y : KernelItem) → slice_get left i ≡ Some x → slice_get right j ≡ Some y → IsItemBefore x y)
 IsTurn left i right j Greater = (j < length right) × ((x y : KernelItem) → slice_get left i ≡ Some x → slice_get right j ≡ Some y → IsItemBefore y x)
 IsTurn left i right j Equal = (i < length left) × (j < length right) × ((x y : KernelItem) → slice_get left i ≡ Some x → slice_get right j ≡ Some y → (x.production ≡ y.production) × (x.dot ≡ y.dot))
-
--- an item with the looks of both
-pub record IsJoined (x y z : KernelItem) : Type 0 where
-  pub production : z.production ≡ x.production
-  pub dot : z.dot ≡ x.dot
-  pub rising : IsRising IsLookBefore z.looks
-  pub looks : (b : Look) → Contains z.looks b ↔ (Contains x.looks b ⊎ Contains y.looks b)

@@ -1,6 +1,7 @@
 -- Kernels as lists that are the only ones for their sets of items.
-use Rattle.std.specs.Prelude.{◌≡◌, ◌<◌, ◌≤◌, ◌⊎◌, ℕ, length}
+use Rattle.std.specs.Prelude.{◌≡◌, ◌<◌, ◌≤◌, ◌⊎◌, ◌↔◌, ℕ, length}
 use Rattle.std.specs.List.{AllByRecursion, Contains}
+use Rattle.mh_grammar.specs.declared.types.Look.{Look}
 use Rattle.mh_grammar.specs.Plain.{PlainGrammar, production_count, rhs_of, IsLookBelow}
 use Rattle.mh_grammar.specs.Edges.{IsRising, IsLookBefore}
 use Rattle.mh_grammar.specs.ItemSets.{ItemSet}
@@ -30,3 +31,10 @@ pub record IsKernelItem (g : PlainGrammar) (item : KernelItem) : Type 0 where
 pub record IsItemList (g : PlainGrammar) (k : Kernel) : Type 0 where
   pub items : AllByRecursion (IsKernelItem g) k.items
   pub rising : IsRising IsItemBefore k.items
+
+-- an item with the looks of both
+pub record IsJoined (x y z : KernelItem) : Type 0 where
+  pub production : z.production ≡ x.production
+  pub dot : z.dot ≡ x.dot
+  pub rising : IsRising IsLookBefore z.looks
+  pub looks : (b : Look) → Contains z.looks b ↔ (Contains x.looks b ⊎ Contains y.looks b)

@@ -1,11 +1,8 @@
 pub mod Beginning
-pub mod Combining
-pub mod Indexing
-pub mod Listings
 pub mod Readying
 pub mod Rowing
 pub mod Sizes
 pub mod Sums
 pub mod Turning
-pub mod Uniting
 pub mod Weights
+pub mod Worklists

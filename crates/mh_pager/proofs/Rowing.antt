@@ -14,7 +14,7 @@ use Rattle.mh_kernels.specs.Kernels.{Holds, IsItemList}
 use Rattle.mh_knuth.specs.Canonical.{HasItem, targets_of}
 use Rattle.mh_kernels.specs.Collection.{IsBehindDot}
 use Rattle.mh_knuth.proofs.Sets.{same_sym, same_trans, has_same, moved_same, place_holds, drop_from_get, get_from_drop}
-use Rattle.mh_pager.specs.Listing.{RowIn, OverIn}
+use Rattle.mh_pager.specs.Stepping.{RowIn, OverIn}
 use Rattle.mh_merging.specs.Steps.{Work, Puts, IsMoveOf, AllPut, AreMoving, IsStep, Overruns, IsReady}
 use Rattle.mh_pager.proofs.Readying.{all_put_push, all_put_ready}
 

@@ -10,7 +10,7 @@ use Rattle.mh_kernels.specs.Shapes.{Items}
 use Rattle.mh_kernels.specs.Kernels.{Holds, IsItemList}
 use Rattle.mh_kernels.specs.Collection.{HasItem, IsMove}
 use Rattle.mh_moves.specs.Moves.{Move, AreMoves}
-use Rattle.mh_pager.specs.Listing.{RowIn, OverIn}
+use Rattle.mh_pager.specs.Stepping.{RowIn, OverIn}
 use Rattle.mh_merging.specs.Steps.{Work, Puts}
 use Rattle.mh_pager.proofs.Rowing.{RowIn-none, RowIn-push, OverIn-push, behind_has}
 

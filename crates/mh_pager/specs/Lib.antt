@@ -1,5 +1,1 @@
-pub mod Fits
-pub mod Indexed
-pub mod Kernels
-pub mod Listing
-pub mod Queued
+pub mod Stepping

@@ -2,36 +2,36 @@
 ghost use Rattle.std.specs.Prelude.{◌≡◌, ◌<◌, ◌≤◌, ◌*◌, [], ℕ, length, Err, OnOk};
 ghost use Rattle.mh_grammar.specs.Plain.{plain_of, IsInRange};
 ghost use Rattle.mh_mover.specs.Mover.{IsMover};
-ghost use Rattle.mh_pager.specs.Listing.{work_of, IsKept};
+ghost use Rattle.mh_worklist.specs.Worklist.{work_of, IsKept};
 ghost use Rattle.mh_merging.specs.Steps.{AreBegun, IsList, IsSwollen};
 
-use crate::listing::{Listing, push_start};
 use crate::stepping::step;
 use mh_grammar::{Grammar, Memory};
 use mh_kernels::{StatesFault, start_kernel};
 use mh_knuth::MAX_STATES;
 use mh_mover::Mover;
+use mh_worklist::Worklist;
 use std::alloc::Global;
 
 /// Makes steps until no state waits, over a list that has no states yet.
 pub(crate) fn list_all<const W: usize>(
     alloc: Global,
     grammar: &Grammar,
-    listing: &mut Listing<W>,
+    worklist: &mut Worklist<W>,
 ) -> Result<(), StatesFault>
     requires few { W ≤ 8 }
     requires width { length grammar.now.tokens ≤ 64 * W }
     requires range { IsInRange (plain_of grammar.now) }
-    requires empty { work_of listing.old ≡ record { kernels = []; rows = []; queue = [] } }
-    requires kept { IsKept listing.old }
-    ensures ok { OnOk result (IsList (plain_of grammar.now) (work_of listing.new)) }
-    ensures done { OnOk result (listing.new.queue.states.items ≡ []) }
-    ensures few { OnOk result (length listing.new.kernels.items ≤ MAX_STATES) }
+    requires empty { work_of worklist.old ≡ record { kernels = []; rows = []; queue = [] } }
+    requires kept { IsKept worklist.old }
+    ensures ok { OnOk result (IsList (plain_of grammar.now) (work_of worklist.new)) }
+    ensures done { OnOk result (worklist.new.queue.states.items ≡ []) }
+    ensures few { OnOk result (length worklist.new.kernels.items ≤ MAX_STATES) }
     ensures over { result ≡ Err StatesFault.TooManyStates → IsSwollen (plain_of grammar.now) MAX_STATES }
 {
-    begin(alloc, grammar, listing)?;
+    begin(alloc, grammar, worklist)?;
     let mut mover = Mover::new(alloc, grammar)?;
-    settle(alloc, grammar, &mut mover, listing)
+    settle(alloc, grammar, &mut mover, worklist)
 }
 
 /// Makes steps from the start kernels on.
@@ -39,21 +39,21 @@ fn settle<const W: usize>(
     alloc: Global,
     grammar: &Grammar,
     mover: &mut Mover<W>,
-    listing: &mut Listing<W>,
+    worklist: &mut Worklist<W>,
 ) -> Result<(), StatesFault>
     requires small { W ≤ 8 }
     requires width { length grammar.now.tokens ≤ 64 * W }
     requires range { IsInRange (plain_of grammar.now) }
     requires mover { IsMover (plain_of grammar.now) mover.old }
-    requires begun { AreBegun (length grammar.now.starts) (work_of listing.old) }
-    requires kept { IsKept listing.old }
-    ensures ok { OnOk result (IsList (plain_of grammar.now) (work_of listing.new)) }
-    ensures done { OnOk result (listing.new.queue.states.items ≡ []) }
-    ensures few { OnOk result (length listing.new.kernels.items ≤ MAX_STATES) }
+    requires begun { AreBegun (length grammar.now.starts) (work_of worklist.old) }
+    requires kept { IsKept worklist.old }
+    ensures ok { OnOk result (IsList (plain_of grammar.now) (work_of worklist.new)) }
+    ensures done { OnOk result (worklist.new.queue.states.items ≡ []) }
+    ensures few { OnOk result (length worklist.new.kernels.items ≤ MAX_STATES) }
     ensures over { result ≡ Err StatesFault.TooManyStates → IsSwollen (plain_of grammar.now) MAX_STATES }
 {
-    'steps: while let Some(state) = listing.queue.take_oldest() {
-        match step(alloc, grammar, mover, listing, state) {
+    'steps: while let Some(state) = worklist.queue.take_oldest() {
+        match step(alloc, grammar, mover, worklist, state) {
             Ok(()) => {}
             Err(fault) => return Err(fault),
         }
@@ -65,18 +65,18 @@ fn settle<const W: usize>(
 fn begin<const W: usize>(
     alloc: Global,
     grammar: &Grammar,
-    listing: &mut Listing<W>,
+    worklist: &mut Worklist<W>,
 ) -> Result<(), Memory>
     requires few { W ≤ 8 }
     requires range { IsInRange (plain_of grammar.now) }
-    requires empty { work_of listing.old ≡ record { kernels = []; rows = []; queue = [] } }
-    requires kept { IsKept listing.old }
-    ensures begun { OnOk result (AreBegun (length grammar.now.starts) (work_of listing.new)) }
-    ensures kept { OnOk result (IsKept listing.new) }
+    requires empty { work_of worklist.old ≡ record { kernels = []; rows = []; queue = [] } }
+    requires kept { IsKept worklist.old }
+    ensures begun { OnOk result (AreBegun (length grammar.now.starts) (work_of worklist.new)) }
+    ensures kept { OnOk result (IsKept worklist.new) }
 {
     for start in 0..grammar.starts.len() {
         let kernel = start_kernel(alloc, grammar, start as u16)?;
-        push_start(alloc, listing, kernel)?;
+        worklist.push_start(alloc, kernel)?;
     }
     Ok(())
 }

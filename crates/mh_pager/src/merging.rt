@@ -6,16 +6,16 @@ ghost use Rattle.mh_kernels.specs.Automaton.{IsAutomaton};
 ghost use Rattle.mh_knuth.specs.Canonical.{IsCanonical};
 ghost use Rattle.mh_kernels.specs.Conflicts.{IsConflicting, IsFaulty};
 ghost use Rattle.mh_merging.specs.Paths.{CoversPaths};
-ghost use Rattle.mh_pager.specs.Listing.{work_of, IsKept};
+ghost use Rattle.mh_worklist.specs.Worklist.{work_of, IsKept};
 ghost use Rattle.mh_merging.specs.Steps.{IsList, IsMerged, IsSwollen};
 
 use crate::listed::list_all;
-use crate::listing::{Listing, empty};
 use crate::numbering::{pick, reach};
 use crate::starts::kept_first;
 use mh_grammar::{Grammar, Memory, Sequence};
 use mh_kernels::{Automaton, StatesFault};
 use mh_knuth::MAX_STATES;
+use mh_worklist::Worklist;
 use std::alloc::Global;
 
 /// Pager's merged automaton of a grammar (Pager 1977). `TooManyStates` comes exactly where the list of its steps comes to
@@ -35,28 +35,28 @@ pub fn merged<const W: usize>(alloc: Global, grammar: &Grammar) -> Result<Automa
     ensures clashes { IfOk result (λ a. (c : AutomatonOf) → IsCanonical (plain_of grammar.now) c → IsConflicting (plain_of grammar.now) a ↔ IsConflicting (plain_of grammar.now) c) }
     ensures faults { IfOk result (λ a. (c : AutomatonOf) → IsCanonical (plain_of grammar.now) c → IsFaulty (plain_of grammar.now) a ↔ IsFaulty (plain_of grammar.now) c) }
 {
-    let mut listing = empty(alloc);
-    merged_over(alloc, grammar, &mut listing)
+    let mut worklist = Worklist::new(alloc);
+    merged_over(alloc, grammar, &mut worklist)
 }
 
 /// The same over a list that has no states yet.
 fn merged_over<const W: usize>(
     alloc: Global,
     grammar: &Grammar,
-    listing: &mut Listing<W>,
+    worklist: &mut Worklist<W>,
 ) -> Result<Automaton<W>, StatesFault>
     requires small { W ≤ 8 }
     requires width { length grammar.now.tokens ≤ 64 * W }
     requires range { IsInRange (plain_of grammar.now) }
-    requires empty { work_of listing.old ≡ record { kernels = []; rows = []; queue = [] } }
-    requires kept { IsKept listing.old }
+    requires empty { work_of worklist.old ≡ record { kernels = []; rows = []; queue = [] } }
+    requires kept { IsKept worklist.old }
     ensures ok { IfOk result (IsMerged (plain_of grammar.now)) }
     ensures few { IfOk result (λ a. length a.kernels ≤ MAX_STATES) }
     ensures exact { IfOk result (λ _. IsSwollen (plain_of grammar.now) MAX_STATES → ⊥) }
     ensures over { result ≡ Err StatesFault.TooManyStates → IsSwollen (plain_of grammar.now) MAX_STATES }
 {
-    match list_all(alloc, grammar, listing) {
-        Ok(()) => Ok(numbered(alloc, grammar, listing)?),
+    match list_all(alloc, grammar, worklist) {
+        Ok(()) => Ok(numbered(alloc, grammar, worklist)?),
         Err(fault) => Err(fault),
     }
 }
@@ -65,13 +65,13 @@ fn merged_over<const W: usize>(
 fn numbered<const W: usize>(
     alloc: Global,
     grammar: &Grammar,
-    listing: &Listing<W>,
+    worklist: &Worklist<W>,
 ) -> Result<Automaton<W>, Memory>
     requires small { W ≤ 8 }
     requires range { IsInRange (plain_of grammar.now) }
-    requires list { IsList (plain_of grammar.now) (work_of listing.now) }
-    requires done { listing.now.queue.states.items ≡ [] }
-    requires few { length listing.now.kernels.items ≤ MAX_STATES }
+    requires list { IsList (plain_of grammar.now) (work_of worklist.now) }
+    requires done { worklist.now.queue.states.items ≡ [] }
+    requires few { length worklist.now.kernels.items ≤ MAX_STATES }
     ensures ok { IfOk result (IsMerged (plain_of grammar.now)) }
     ensures few { IfOk result (λ a. length a.kernels ≤ MAX_STATES) }
 {
@@ -79,7 +79,7 @@ fn numbered<const W: usize>(
         kernels: Sequence::new(alloc),
         edges: Sequence::new(alloc),
     };
-    fill(alloc, grammar, listing, &mut automaton)?;
+    fill(alloc, grammar, worklist, &mut automaton)?;
     Ok(automaton)
 }
 
@@ -87,22 +87,22 @@ fn numbered<const W: usize>(
 fn fill<const W: usize>(
     alloc: Global,
     grammar: &Grammar,
-    listing: &Listing<W>,
+    worklist: &Worklist<W>,
     automaton: &mut Automaton<W>,
 ) -> Result<(), Memory>
     requires small { W ≤ 8 }
     requires range { IsInRange (plain_of grammar.now) }
-    requires list { IsList (plain_of grammar.now) (work_of listing.now) }
-    requires done { listing.now.queue.states.items ≡ [] }
-    requires few { length listing.now.kernels.items ≤ MAX_STATES }
+    requires list { IsList (plain_of grammar.now) (work_of worklist.now) }
+    requires done { worklist.now.queue.states.items ≡ [] }
+    requires few { length worklist.now.kernels.items ≤ MAX_STATES }
     requires no_kernels { automaton.old.kernels ≡ [] }
     requires no_edges { automaton.old.edges ≡ [] }
     ensures ok { OnOk result (IsMerged (plain_of grammar.now) automaton.new) }
     ensures few { OnOk result (length automaton.new.kernels ≤ MAX_STATES) }
 {
     let starts = grammar.starts.len();
-    let rows = listing.rows.as_slice();
-    let kernels = listing.kernels.as_slice();
+    let rows = worklist.rows.as_slice();
+    let kernels = worklist.kernels.as_slice();
     let mut states = kept_first(alloc, starts, rows.len())?;
     reach(alloc, starts, rows, &mut states, &mut automaton.edges)?;
     pick(alloc, kernels, states.as_slice(), &mut automaton.kernels)

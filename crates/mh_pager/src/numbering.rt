@@ -8,11 +8,11 @@ ghost use Rattle.mh_merging.specs.Steps.{start_numbers};
 ghost use Rattle.std.specs.List.{range_with_len};
 
 use crate::starts::place_state;
-use crate::unions::copied;
 use indexmap::IndexSet;
 use mh_grammar::{Edge, Memory, Sequence};
 use mh_kernels::Kernel;
 use mh_knuth::MAX_STATES;
+use mh_worklist::copied;
 use std::alloc::Global;
 
 /// Adds the states that the starts lead to, by their old numbers in the order of the new ones, and the edges of each in

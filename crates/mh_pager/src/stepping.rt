@@ -5,15 +5,16 @@ ghost use Rattle.mh_kernels.specs.Shapes.{Kernel as KernelOf};
 ghost use Rattle.mh_kernels.specs.Kernels.{IsItemList};
 ghost use Rattle.mh_moves.specs.Moves.{AreMoves};
 ghost use Rattle.mh_mover.specs.Mover.{IsMover};
-ghost use Rattle.mh_pager.specs.Listing.{work_of, with_first, IsKept, PutsAll, OverrunsAll};
+ghost use Rattle.mh_pager.specs.Stepping.{with_first, PutsAll, OverrunsAll};
+ghost use Rattle.mh_worklist.specs.Worklist.{work_of, IsKept};
 ghost use Rattle.mh_merging.specs.Steps.{IsReady, IsStep, Overruns};
 
-use crate::listing::{Listing, put};
 use mh_grammar::{Edge, Grammar, Sequence};
 use mh_kernels::StatesFault;
 use mh_knuth::MAX_STATES;
 use mh_mover::Mover;
 use mh_moves::Move;
+use mh_worklist::Worklist;
 use std::alloc::Global;
 
 /// Puts the moves of a state somewhere, in the order of symbols.
@@ -21,26 +22,26 @@ pub(crate) fn step<const W: usize>(
     alloc: Global,
     grammar: &Grammar,
     mover: &mut Mover<W>,
-    listing: &mut Listing<W>,
+    worklist: &mut Worklist<W>,
     state: u32,
 ) -> Result<(), StatesFault>
     requires small { W ≤ 8 }
     requires width { length grammar.now.tokens ≤ 64 * W }
     requires range { IsInRange (plain_of grammar.now) }
     requires mover { IsMover (plain_of grammar.now) mover.old }
-    requires ready { IsReady (plain_of grammar.now) (with_first listing.old state) }
-    requires few { length listing.old.kernels.items ≤ MAX_STATES }
-    requires kept { IsKept listing.old }
-    ensures ok { OnOk result (IsStep (plain_of grammar.now) (with_first listing.old state) (work_of listing.new)) }
+    requires ready { IsReady (plain_of grammar.now) (with_first worklist.old state) }
+    requires few { length worklist.old.kernels.items ≤ MAX_STATES }
+    requires kept { IsKept worklist.old }
+    ensures ok { OnOk result (IsStep (plain_of grammar.now) (with_first worklist.old state) (work_of worklist.new)) }
     ensures mover { OnOk result (IsMover (plain_of grammar.now) mover.new) }
-    ensures few { OnOk result (length listing.new.kernels.items ≤ MAX_STATES) }
-    ensures kept { OnOk result (IsKept listing.new) }
-    ensures over { result ≡ Err StatesFault.TooManyStates → Overruns (plain_of grammar.now) MAX_STATES (with_first listing.old state) }
+    ensures few { OnOk result (length worklist.new.kernels.items ≤ MAX_STATES) }
+    ensures kept { OnOk result (IsKept worklist.new) }
+    ensures over { result ≡ Err StatesFault.TooManyStates → Overruns (plain_of grammar.now) MAX_STATES (with_first worklist.old state) }
 {
-    let moves = mover.moves(alloc, grammar, &listing.kernels[state as usize])?;
-    match put_all(alloc, grammar, moves, listing) {
+    let moves = mover.moves(alloc, grammar, &worklist.kernels[state as usize])?;
+    match put_all(alloc, grammar, moves, worklist) {
         Ok(row) => {
-            listing.rows[state as usize] = row;
+            worklist.rows[state as usize] = row;
             Ok(())
         }
         Err(fault) => Err(fault),
@@ -52,22 +53,22 @@ fn put_all<const W: usize>(
     alloc: Global,
     grammar: &Grammar,
     moves: Vec<Move<W>>,
-    listing: &mut Listing<W>,
+    worklist: &mut Worklist<W>,
 ) -> Result<Sequence<Edge>, StatesFault>
     requires small { W ≤ 8 }
     requires range { IsInRange (plain_of grammar.now) }
     requires moves { (closed : KernelOf) × IsItemList (plain_of grammar.now) closed × AreMoves (plain_of grammar.now) closed moves.items }
-    requires ready { IsReady (plain_of grammar.now) (work_of listing.old) }
-    requires few { length listing.old.kernels.items ≤ MAX_STATES }
-    requires kept { IsKept listing.old }
-    ensures ok { IfOk result (λ row. PutsAll (plain_of grammar.now) moves.entry.items (work_of listing.old) (work_of listing.new) row) }
-    ensures few { OnOk result (length listing.new.kernels.items ≤ MAX_STATES) }
-    ensures kept { OnOk result (IsKept listing.new) }
-    ensures over { result ≡ Err StatesFault.TooManyStates → OverrunsAll (plain_of grammar.now) moves.entry.items (work_of listing.old) MAX_STATES }
+    requires ready { IsReady (plain_of grammar.now) (work_of worklist.old) }
+    requires few { length worklist.old.kernels.items ≤ MAX_STATES }
+    requires kept { IsKept worklist.old }
+    ensures ok { IfOk result (λ row. PutsAll (plain_of grammar.now) moves.entry.items (work_of worklist.old) (work_of worklist.new) row) }
+    ensures few { OnOk result (length worklist.new.kernels.items ≤ MAX_STATES) }
+    ensures kept { OnOk result (IsKept worklist.new) }
+    ensures over { result ≡ Err StatesFault.TooManyStates → OverrunsAll (plain_of grammar.now) moves.entry.items (work_of worklist.old) MAX_STATES }
 {
     let mut row = Vec::with_capacity(alloc, moves.len())?;
     for found in moves {
-        match put(alloc, grammar, listing, found.kernel) {
+        match worklist.put(alloc, grammar, found.kernel) {
             Ok(target) => row.push(Edge {
                 symbol: found.symbol,
                 target,

@@ -1,6 +1,6 @@
 use Rattle.std.proofs.Common.{◌<◌, ◌∷◌, ◌++◌, [], length, ap, ◌∙◌, arith, rules}
-use Rattle.mh_pager.specs.Listing.{work_of}
-use Rattle.mh_pager.proofs.Listings.{AreBegun-none, AreBegun-push}
+use Rattle.mh_worklist.specs.Worklist.{work_of}
+use Rattle.mh_pager.proofs.Worklists.{AreBegun-none, AreBegun-push}
 use Rattle.mh_pager.proofs.listed.begin.Goals as goal
 
 pub loop-start-init : goal.loop-start-init
@@ -11,15 +11,15 @@ loop-start-init g c = record {
 
 pub push_start-requires : goal.push_start-requires
 push_start-requires g c =
-    let small : length c.loop-start.listing.kernels.items < 4294967296 = omega (arith, c.loop-start.invariant.begun.kernels.len, c.loop-start-test.true, c.len-start-end.ensures, c.requires.range.few_starts) in
+    let small : length c.loop-start.worklist.kernels.items < 4294967296 = omega (arith, c.loop-start.invariant.begun.kernels.len, c.loop-start-test.true, c.len-start-end.ensures, c.requires.range.few_starts) in
     (search rules, (search rules, (c.requires.few, (small, c.loop-start.invariant.kept))))
 
 pub loop-start-preserved : goal.loop-start-preserved
 loop-start-preserved g c =
-    let old = work_of c.loop-start.listing in
+    let old = work_of c.loop-start.worklist in
     let begun = c.loop-start.invariant.begun in
     let made = c.in_ok-push_start.ensures.ok in
     record {
-      begun = AreBegun-push c.loop-start.start old (work_of c.push_start.new.listing) c.in_ok-kernel.kernel begun c.in_ok-kernel.ensures.exact made.kernels made.rows (made.queue ∙ ap (λ n. old.queue ++ n ∷ []) begun.kernels.len);
+      begun = AreBegun-push c.loop-start.start old (work_of c.push_start.new.self) c.in_ok-kernel.kernel begun c.in_ok-kernel.ensures.exact made.kernels made.rows (made.queue ∙ ap (λ n. old.queue ++ n ∷ []) begun.kernels.len);
       kept = c.in_ok-push_start.ensures.kept;
     }

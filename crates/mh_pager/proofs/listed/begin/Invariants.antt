@@ -1,9 +1,9 @@
-use Rattle.mh_pager.specs.Listing.{work_of, IsKept}
+use Rattle.mh_worklist.specs.Worklist.{work_of, IsKept}
 use Rattle.mh_merging.specs.Steps.{AreBegun}
 use Rattle.mh_pager.proofs.listed.begin.Given as goal
 
 abbrev pub invariant-loop-start : goal.invariant-loop-start
 invariant-loop-start g l = record {
-  begun : AreBegun l.start (work_of l.listing);
-  kept : IsKept l.listing;
+  begun : AreBegun l.start (work_of l.worklist);
+  kept : IsKept l.worklist;
 }

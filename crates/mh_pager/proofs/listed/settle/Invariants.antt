@@ -1,7 +1,7 @@
 use Rattle.std.proofs.Common.{◌≤◌, length}
 use Rattle.mh_grammar.specs.Plain.{plain_of}
 use Rattle.mh_knuth.specs.declared.limits.TheConstants.{MAX_STATES}
-use Rattle.mh_pager.specs.Listing.{work_of, IsKept}
+use Rattle.mh_worklist.specs.Worklist.{work_of, IsKept}
 use Rattle.mh_merging.specs.Steps.{IsList}
 use Rattle.mh_mover.specs.Mover.{IsMover}
 use Rattle.mh_pager.proofs.Weights.{weight}
@@ -9,11 +9,11 @@ use Rattle.mh_pager.proofs.listed.settle.Given as goal
 
 abbrev pub invariant-steps : goal.invariant-steps
 invariant-steps g l = record {
-  list : IsList (plain_of l.grammar) (work_of l.listing);
-  few : length l.listing.kernels.items ≤ MAX_STATES;
-  kept : IsKept l.listing;
+  list : IsList (plain_of l.grammar) (work_of l.worklist);
+  few : length l.worklist.kernels.items ≤ MAX_STATES;
+  kept : IsKept l.worklist;
   mover : IsMover (plain_of l.grammar) l.mover;
 }
 
 abbrev pub decreases-steps : goal.decreases-steps
-decreases-steps g l = weight (plain_of l.grammar) MAX_STATES (work_of l.listing)
+decreases-steps g l = weight (plain_of l.grammar) MAX_STATES (work_of l.worklist)

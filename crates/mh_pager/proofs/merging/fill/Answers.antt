@@ -2,40 +2,40 @@ use Rattle.std.proofs.Common.{arith, rules}
 use Rattle.std.proofs.lemmas.Result.{on_ok_weaker}
 use Rattle.mh_grammar.specs.Plain.{plain_of}
 use Rattle.mh_knuth.specs.declared.limits.TheConstants.{MAX_STATES}
-use Rattle.mh_pager.specs.Listing.{work_of}
+use Rattle.mh_worklist.specs.Worklist.{work_of}
 use Rattle.mh_merging.proofs.Finishing.{starts_within, AreClosed-list, IsMerged-list, few_list}
-use Rattle.mh_pager.proofs.Listings.{of_list}
+use Rattle.mh_pager.proofs.Worklists.{of_list}
 use Rattle.mh_pager.proofs.merging.fill.Goals as goal
 
 pub kept_first-requires-clause-within : goal.kept_first-requires-clause-within
-kept_first-requires-clause-within g c = rw (c.as_slice-rows.ensures.value, c.len-starts.ensures) (starts_within (plain_of c.args.grammar.now) (work_of c.args.listing.now) c.requires.list c.requires.done)
+kept_first-requires-clause-within g c = rw (c.as_slice-rows.ensures.value, c.len-starts.ensures) (starts_within (plain_of c.args.grammar.now) (work_of c.args.worklist.now) c.requires.list c.requires.done)
 
 pub kept_first-requires-clause-few : goal.kept_first-requires-clause-few
 kept_first-requires-clause-few g c =
-    let ready = of_list (plain_of c.args.grammar.now) (work_of c.args.listing.now) c.requires.list in
+    let ready = of_list (plain_of c.args.grammar.now) (work_of c.args.worklist.now) c.requires.list in
     rw c.as_slice-rows.ensures.value (omega (arith, ready.len, c.requires.few))
 
 pub reach-requires-clause-starts : goal.reach-requires-clause-starts
-reach-requires-clause-starts g c = rw (c.as_slice-rows.ensures.value, c.len-starts.ensures) (starts_within (plain_of c.args.grammar.now) (work_of c.args.listing.now) c.requires.list c.requires.done)
+reach-requires-clause-starts g c = rw (c.as_slice-rows.ensures.value, c.len-starts.ensures) (starts_within (plain_of c.args.grammar.now) (work_of c.args.worklist.now) c.requires.list c.requires.done)
 
 pub reach-requires-clause-few : goal.reach-requires-clause-few
 reach-requires-clause-few g c =
-    let ready = of_list (plain_of c.args.grammar.now) (work_of c.args.listing.now) c.requires.list in
+    let ready = of_list (plain_of c.args.grammar.now) (work_of c.args.worklist.now) c.requires.list in
     rw c.as_slice-rows.ensures.value (omega (arith, ready.len, c.requires.few))
 
 pub reach-requires-clause-closed : goal.reach-requires-clause-closed
-reach-requires-clause-closed g c = rw c.as_slice-rows.ensures.value (AreClosed-list (plain_of c.args.grammar.now) (work_of c.args.listing.now) c.requires.list c.requires.done)
+reach-requires-clause-closed g c = rw c.as_slice-rows.ensures.value (AreClosed-list (plain_of c.args.grammar.now) (work_of c.args.worklist.now) c.requires.list c.requires.done)
 
 pub pick-requires : goal.pick-requires
 pick-requires g c =
-    let ready = of_list (plain_of c.args.grammar.now) (work_of c.args.listing.now) c.requires.list in
+    let ready = of_list (plain_of c.args.grammar.now) (work_of c.args.worklist.now) c.requires.list in
     let r = rw (c.as_slice-rows.ensures.value, c.len-starts.ensures) at c.in_ok-reach.ensures in
     (search rules, (c.requires.small, (rw (c.as_slice.ensures.keys, c.as_slice-kernels.ensures.value, ← ready.len) r.below, c.requires.no_kernels)))
 
 pub returns-clause-ok : goal.returns-clause-ok
 returns-clause-ok g c =
     let g = plain_of c.args.grammar.now in
-    let w = work_of c.args.listing.now in
+    let w = work_of c.args.worklist.now in
     let r = rw (c.as_slice-rows.ensures.value, c.len-starts.ensures) at c.in_ok-reach.ensures in
     let picked = rw (c.as_slice-kernels.ensures.value, c.as_slice.ensures.keys) at c.pick.ensures in
     on_ok_weaker c.pick.result (IsMerged-list g w c.requires.list c.requires.done (record { kernels = c.pick.new.all; edges = c.reach.new.edges }) c.reach.new.states.keys r) picked
@@ -43,7 +43,7 @@ returns-clause-ok g c =
 pub returns-clause-few : goal.returns-clause-few
 returns-clause-few g c =
     let g = plain_of c.args.grammar.now in
-    let w = work_of c.args.listing.now in
+    let w = work_of c.args.worklist.now in
     let r = rw (c.as_slice-rows.ensures.value, c.len-starts.ensures) at c.in_ok-reach.ensures in
     let picked = rw (c.as_slice-kernels.ensures.value, c.as_slice.ensures.keys) at c.pick.ensures in
     on_ok_weaker c.pick.result (λ z. few_list g w c.requires.list c.requires.done (record { kernels = c.pick.new.all; edges = c.reach.new.edges }) c.reach.new.states.keys r z MAX_STATES c.requires.few) picked

@@ -2,7 +2,7 @@ use Rattle.std.proofs.Common.{◌≡◌, Err, ap}
 use Rattle.mh_grammar.specs.Plain.{plain_of}
 use Rattle.mh_kernels.specs.declared.kernels.StatesFault.TheVariants.{TooManyStates}
 use Rattle.mh_knuth.specs.declared.limits.TheConstants.{MAX_STATES}
-use Rattle.mh_pager.specs.Listing.{work_of}
+use Rattle.mh_worklist.specs.Worklist.{work_of}
 use Rattle.mh_merging.proofs.Finishing.{not_over}
 use Rattle.mh_pager.proofs.merging.merged_over.Goals as goal
 
@@ -16,7 +16,7 @@ pub returns-in_ok-numbered-in-Ok-clause-over : goal.returns-in_ok-numbered-in-Ok
 returns-in_ok-numbered-in-Ok-clause-over g c same = cc
 
 pub returns-in_ok-numbered-in-Ok-clause-exact : goal.returns-in_ok-numbered-in-Ok-clause-exact
-returns-in_ok-numbered-in-Ok-clause-exact g c = not_over (plain_of c.args.grammar.now) (work_of c.list_all.new.listing) c.in-Ok.ensures.ok c.in-Ok.ensures.done MAX_STATES c.in-Ok.ensures.few
+returns-in_ok-numbered-in-Ok-clause-exact g c = not_over (plain_of c.args.grammar.now) (work_of c.list_all.new.worklist) c.in-Ok.ensures.ok c.in-Ok.ensures.done MAX_STATES c.in-Ok.ensures.few
 
 pub returns-in-Err-clause-over : goal.returns-in-Err-clause-over
 returns-in-Err-clause-over g c same = let fault : c.in-Err.fault ≡ TooManyStates = cc in c.in-Err.ensures.over (ap Err fault)

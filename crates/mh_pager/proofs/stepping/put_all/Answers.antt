@@ -4,14 +4,14 @@ use Rattle.std.proofs.lemmas.Iterator.Adapters.{YieldsList-from_vec}
 use Rattle.mh_grammar.specs.Plain.{plain_of}
 use Rattle.mh_kernels.specs.declared.kernels.StatesFault.TheVariants.{TooManyStates}
 use Rattle.mh_knuth.specs.declared.limits.TheConstants.{MAX_STATES}
-use Rattle.mh_pager.specs.Listing.{work_of}
+use Rattle.mh_worklist.specs.Worklist.{work_of}
 use Rattle.mh_pager.proofs.Readying.{put_ready}
 use Rattle.mh_pager.proofs.Turning.{put-start, put-more, put-over, found-valid}
 use Rattle.mh_pager.proofs.stepping.put_all.Goals as goal
 
 pub loop-found-init : goal.loop-found-init
 loop-found-init g c = record {
-  row = rw c.in_ok-row.ensures.items (put-start (plain_of c.args.grammar.now) c.args.moves.items (work_of c.args.listing.now));
+  row = rw c.in_ok-row.ensures.items (put-start (plain_of c.args.grammar.now) c.args.moves.items (work_of c.args.worklist.now));
   ready = c.requires.ready;
   few = c.requires.few;
   kept = c.requires.kept;
@@ -29,8 +29,8 @@ loop-found-preserved g c =
     let turn = YieldsList-turn (YieldsList-from_vec {s = c.into_iter-found-iterator.result} c.args.moves.items (search rules) (search rules))
     c.loop-found.yielded c.loop-found.found-iterator c.loop-found.yielded_by c.next.result c.next.new.self c.in-Some.found c.in-Some.is c.next.ensures.steps in
     record {
-      row = rw c.in_ok-push-in-Ok.ensures.items (put-more (plain_of c.args.grammar.now) c.args.moves.items c.loop-found.yielded (work_of c.args.listing.now) (work_of c.loop-found.listing) (work_of c.put.new.listing) c.loop-found.row.items c.in-Some.found c.in-Ok.target c.loop-found.invariant.row turn c.in-Ok.ensures.ok);
-      ready = put_ready (plain_of c.args.grammar.now) c.in-Some.found.kernel (work_of c.loop-found.listing) (work_of c.put.new.listing) c.in-Ok.target (found-valid (plain_of c.args.grammar.now) c.args.moves.items (length c.loop-found.yielded) c.in-Some.found turn c.requires.moves) c.loop-found.invariant.ready c.in-Ok.ensures.ok;
+      row = rw c.in_ok-push-in-Ok.ensures.items (put-more (plain_of c.args.grammar.now) c.args.moves.items c.loop-found.yielded (work_of c.args.worklist.now) (work_of c.loop-found.worklist) (work_of c.put.new.self) c.loop-found.row.items c.in-Some.found c.in-Ok.target c.loop-found.invariant.row turn c.in-Ok.ensures.ok);
+      ready = put_ready (plain_of c.args.grammar.now) c.in-Some.found.kernel (work_of c.loop-found.worklist) (work_of c.put.new.self) c.in-Ok.target (found-valid (plain_of c.args.grammar.now) c.args.moves.items (length c.loop-found.yielded) c.in-Some.found turn c.requires.moves) c.loop-found.invariant.ready c.in-Ok.ensures.ok;
       few = c.in-Ok.ensures.few;
       kept = c.in-Ok.ensures.kept;
     }
@@ -42,7 +42,7 @@ returns-in-Err-clause-over g c same closed is are =
     let begins : c.loop-found.yielded ≡ take (length c.loop-found.yielded) c.args.moves.items = rw map-id at (YieldsList-so_far list c.loop-found.yielded c.loop-found.found-iterator c.loop-found.yielded_by) in
     let fault : c.in-Err.fault ≡ TooManyStates = cc in
     let o = c.in-Err.ensures.over (ap Err fault) in
-    put-over (plain_of c.args.grammar.now) c.args.moves.items c.loop-found.yielded (work_of c.args.listing.now) (work_of c.loop-found.listing) o.1 c.loop-found.row.items c.in-Some.found o.0 c.loop-found.invariant.row turn o.2 begins MAX_STATES o.3 closed is are
+    put-over (plain_of c.args.grammar.now) c.args.moves.items c.loop-found.yielded (work_of c.args.worklist.now) (work_of c.loop-found.worklist) o.1 c.loop-found.row.items c.in-Some.found o.0 c.loop-found.invariant.row turn o.2 begins MAX_STATES o.3 closed is are
 
 pub returns-clause-ok : goal.returns-clause-ok
 returns-clause-ok g c =

@@ -1,15 +1,15 @@
 use Rattle.std.proofs.Common.{◌≤◌, length}
 use Rattle.mh_grammar.specs.Plain.{plain_of}
 use Rattle.mh_knuth.specs.declared.limits.TheConstants.{MAX_STATES}
-use Rattle.mh_pager.specs.Listing.{work_of, IsKept}
+use Rattle.mh_worklist.specs.Worklist.{work_of, IsKept}
 use Rattle.mh_merging.specs.Steps.{IsReady}
 use Rattle.mh_pager.proofs.Turning.{PutSoFar}
 use Rattle.mh_pager.proofs.stepping.put_all.Given as goal
 
 abbrev pub invariant-loop-found : goal.invariant-loop-found
 invariant-loop-found g l = record {
-  row : PutSoFar (plain_of l.grammar) l.fn.moves.items l.yielded (work_of l.initial.listing) (work_of l.listing) l.row.items;
-  ready : IsReady (plain_of l.grammar) (work_of l.listing);
-  few : length l.listing.kernels.items ≤ MAX_STATES;
-  kept : IsKept l.listing;
+  row : PutSoFar (plain_of l.grammar) l.fn.moves.items l.yielded (work_of l.initial.worklist) (work_of l.worklist) l.row.items;
+  ready : IsReady (plain_of l.grammar) (work_of l.worklist);
+  few : length l.worklist.kernels.items ≤ MAX_STATES;
+  kept : IsKept l.worklist;
 }

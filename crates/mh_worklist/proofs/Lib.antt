@@ -1,0 +1,3 @@
+pub mod Combining
+pub mod Indexing
+pub mod Uniting

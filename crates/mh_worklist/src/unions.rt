@@ -1,0 +1,75 @@
+//! Two kernels of one core as one.
+ghost use Rattle.std.specs.Prelude.{◌≡◌, ◌<◌, ◌≤◌, length, IfOk};
+ghost use Rattle.mh_grammar.specs.Plain.{PlainGrammar, plain_of};
+ghost use Rattle.mh_kernels.specs.Kernels.{Holds, IsItemList, IsJoined};
+ghost use Rattle.mh_states.specs.Weak.{OneCore, IsJoin};
+
+use mh_grammar::{Grammar, Memory, Sequence};
+use mh_kernels::{Kernel, KernelItem};
+use std::alloc::Global;
+
+/// The kernel that has the looks of two kernels of one core.
+pub(crate) fn joined<const W: usize>(
+    alloc: Global,
+    grammar: &Grammar,
+    left: &Kernel<W>,
+    right: &Kernel<W>,
+) -> Result<Kernel<W>, Memory>
+    requires few { W ≤ 8 }
+    requires left { IsItemList (plain_of grammar.now) left.now }
+    requires right { IsItemList (plain_of grammar.now) right.now }
+    requires core { OneCore (Holds left.now) (Holds right.now) }
+    ensures kernel { IfOk result (IsItemList (plain_of grammar.now)) }
+    ensures exact { IfOk result (λ j. IsJoin (Holds left.now) (Holds right.now) (Holds j)) }
+{
+    let _grammar = grammar;
+    let ours = left.items.as_slice();
+    let theirs = right.items.as_slice();
+    let mut items = Vec::with_capacity(alloc, ours.len())?;
+    for i in 0..ours.len() {
+        items.push(with_looks(&ours[i], &theirs[i]))?;
+    }
+    Ok(Kernel {
+        items: Sequence::from_vec(items),
+    })
+}
+
+/// An item with the looks of another one, too.
+fn with_looks<const W: usize>(item: &KernelItem<W>, other: &KernelItem<W>) -> KernelItem<W>
+    requires { W ≤ 8 }
+    ensures { IsJoined item.now other.now result }
+{
+    let mut looks = item.looks.copied();
+    looks.union_into(&other.looks);
+    KernelItem {
+        production: item.production,
+        dot: item.dot,
+        looks,
+    }
+}
+
+/// A copy of a kernel.
+pub fn copied<const W: usize>(alloc: Global, kernel: &Kernel<W>) -> Result<Kernel<W>, Memory>
+    requires { W ≤ 8 }
+    ensures { IfOk result (λ k. k ≡ kernel.now) }
+{
+    let items = kernel.items.as_slice();
+    let mut all = Vec::with_capacity(alloc, items.len())?;
+    for item in items {
+        all.push(copied_item(item))?;
+    }
+    Ok(Kernel {
+        items: Sequence::from_vec(all),
+    })
+}
+
+fn copied_item<const W: usize>(item: &KernelItem<W>) -> KernelItem<W>
+    requires { W ≤ 8 }
+    ensures { result ≡ item.now }
+{
+    KernelItem {
+        production: item.production,
+        dot: item.dot,
+        looks: item.looks.copied(),
+    }
+}
