@@ -224,8 +224,7 @@ pub fn in_production(
             Err(_) => no_memory((made, draft)),
         },
         Sign::Prec => go_to(made, Place::Prec(draft)),
-        Sign::Bar => end_without_prec(alloc, made, draft, sign),
-        Sign::Action => end_without_prec(alloc, made, draft, sign),
+        Sign::Bar | Sign::Action => end_without_prec(alloc, made, draft, sign),
         _ => unexpected((made, draft)),
     }
 }

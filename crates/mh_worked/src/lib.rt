@@ -1,4 +1,5 @@
-//! Worked runs of the whole tool: grammars, words and inputs whose answers were worked out by hand.
+//! Worked examples, whose answers were worked out by hand: runs of the whole tool here, files and what they give under
+//! `files`, tables and what is made of them under `tables`.
 #![tactic(auto)]
 
 #[cfg(test)]
