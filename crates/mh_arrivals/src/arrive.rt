@@ -435,7 +435,8 @@ fn arrivals_in(second: Second) -> Arrivals
     second.arrivals
 }
 
-/// Each state and token to come that a run reaches, with the first of the sentences of least cost.
+/// Each state and token to come that a run reaches, with the first of the sentences of least cost. Fails for want of
+/// memory alone.
 pub fn arrive(
     alloc: Global,
     table: &Table,

@@ -42,7 +42,7 @@ fn put_names(
     Ok(())
 }
 
-/// The files joined, where nothing is in the way.
+/// The files joined, where nothing is in the way. Fails for want of memory alone.
 pub fn joined(
     alloc: Global,
     names: &Names,

@@ -91,7 +91,8 @@ pub fn ending_text(verdict: Verdict) -> &'static [u8]
     }
 }
 
-/// Writes that a sentence is refused at this place, counted from 0, before its last token.
+/// Writes that a sentence is refused at this place, counted from 0, before its last token. Fails for want of memory
+/// alone.
 #[tactic(auto, unfolding(crate::specs::Texts::early_text))]
 pub fn write_early(alloc: Global, text: &mut Vec<u8>, at: u32) -> Result<(), Memory>
     ensures { OnOk result (text.new.items ≡ text.old.items ++ early_text at) }
@@ -185,7 +186,8 @@ fn write_message(
     Ok(())
 }
 
-/// The messages of all states that have one, rising: the state, the size of its message, and the message.
+/// The messages of all states that have one, rising: the state, the size of its message, and the message. Fails for
+/// want of memory alone.
 pub fn compiled_text(alloc: Global, compiled: &Compiled) -> Result<Vec<u8>, Memory>
     requires { length compiled.now ≤ 2 ^ 32 }
     ensures { IfOk result (λ text. text.items ≡ compiled_lines compiled.now) }

@@ -98,7 +98,7 @@ fn come_behind_each(all: &mut [Unfolding], other: &Unfolding) -> Result<(), Memo
 }
 
 /// Puts the second unfoldings behind the first: each of the first with each of the second, in that order. Where there is
-/// one second, the first are kept and only go on.
+/// one second, the first are kept and only go on. Fails for want of memory alone.
 pub fn put_behind(
     alloc: Global,
     all: &mut Vec<Unfolding>,
@@ -116,7 +116,7 @@ pub fn put_behind(
 }
 
 /// Puts the first unfoldings in front of the second: each of the first with each of the second, in that order. Where there
-/// is one first, the second are kept and only grow at their front.
+/// is one first, the second are kept and only grow at their front. Fails for want of memory alone.
 pub fn put_in_front(
     alloc: Global,
     firsts: &[Unfolding],
@@ -145,7 +145,7 @@ fn just(alloc: Global, part: Part) -> Result<Unfolding, Memory>
     })
 }
 
-/// Puts a producer that stays behind each unfolding.
+/// Puts a producer that stays behind each unfolding. Fails for want of memory alone.
 pub fn put_part(alloc: Global, all: &mut Vec<Unfolding>, part: Part) -> Result<(), Memory>
     ensures { OnOk result (all.new.items ≡ choices all.old.items (only part ∷ [])) }
 {
@@ -153,7 +153,7 @@ pub fn put_part(alloc: Global, all: &mut Vec<Unfolding>, part: Part) -> Result<(
     go_on_each(all, &last)
 }
 
-/// The unfolding of no producers.
+/// The unfolding of no producers. Fails for want of memory alone.
 pub fn just_nothing(alloc: Global) -> Result<Vec<Unfolding>, Memory>
     ensures { IfOk result (λ all. all.items ≡ nothing ∷ []) }
 {
@@ -186,7 +186,8 @@ pub fn with_own(prec: Prec, mut unfoldings: Vec<Unfolding>) -> Vec<Unfolding>
     }
 }
 
-/// Adds unfoldings, with the `%prec` of the alternative that they are inlined into, at the end of a list.
+/// Adds unfoldings, with the `%prec` of the alternative that they are inlined into, at the end of a list. Fails for
+/// want of memory alone.
 pub fn add_own(
     all: &mut Vec<Unfolding>,
     prec: Prec,

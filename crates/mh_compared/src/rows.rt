@@ -97,7 +97,7 @@ fn move_rows<const W: usize>(
     filled
 }
 
-/// They are the edges of the first states, up to the first state whose edges are wrong.
+/// The edges of the first states, up to the first state whose edges are wrong. Fails for want of memory alone.
 pub fn first_rows<const W: usize>(
     alloc: Global,
     grammar: &Grammar,

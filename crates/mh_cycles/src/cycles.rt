@@ -154,7 +154,8 @@ fn first_cyclic_by(
     Ok(None)
 }
 
-/// The same with any numbers for ranks: where they are none, each instance counts as of one rank.
+/// The same with any numbers for ranks: where they are none, each instance counts as of one rank. Fails for want of
+/// memory alone.
 pub fn first_cyclic(
     alloc: Global,
     expanded: &Expanded,

@@ -204,7 +204,7 @@ fn make_visits(alloc: Global, expanded: &Expanded, search: &mut Search) -> Resul
     Ok(())
 }
 
-/// The whole search.
+/// The whole search. Fails for want of memory alone.
 pub fn depth_first(alloc: Global, expanded: &Expanded) -> Result<Search, Memory>
     ensures { IfOk result (IsSearch (length expanded.now.instances)) }
 {

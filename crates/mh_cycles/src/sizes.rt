@@ -145,7 +145,7 @@ fn size_all(expanded: &Expanded, sizing: &mut Sizing) -> Result<(), Memory>
 }
 
 /// The sizes of the inline instances; those that reach a cycle have none. Where each stands in the order behind those that it is
-/// made of, the passes behind it find nothing left to size, so there is one.
+/// made of, the passes behind it find nothing left to size, so there is one. Fails for want of memory alone.
 pub fn inline_sizes(alloc: Global, expanded: &Expanded, order: &[usize]) -> Result<Sizing, Memory>
     requires ready { IsExpandedReady expanded.now }
     requires order { All (λ n. n < length expanded.now.instances) order.now }

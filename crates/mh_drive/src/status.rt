@@ -18,5 +18,5 @@ pub const WRITE_FAULT: u8 = 4;
 /// A file or the input passes its limit.
 pub const TOO_BIG: u8 = 5;
 
-/// Memory was wanted.
+/// Memory ran out.
 pub const OUT_OF_MEMORY: u8 = 6;

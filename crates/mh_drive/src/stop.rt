@@ -50,7 +50,7 @@ pub enum Stop {
     InputFailed,
     /// A write failed, and nothing more is written.
     WriteFailed,
-    /// Memory was wanted.
+    /// Memory ran out.
     OutOfMemory,
 }
 
@@ -78,7 +78,7 @@ impl From<Memory> for Stop {
     }
 }
 
-/// The three parts, one after the other.
+/// The three parts, one after the other. Fails for want of memory alone.
 pub fn joined(
     alloc: Global,
     before: &[u8],

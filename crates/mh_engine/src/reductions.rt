@@ -8,14 +8,16 @@ use crate::fault::ResumeFault;
 use crate::phase::Phase;
 use std::alloc::Global;
 
-/// The checkpoint after all reductions that come next. Each either leaves the pair at the place `floor`, which at most
-/// 10,000 in a row do, or lowers that place.
+/// The checkpoint after all reductions that come next. It is too deep where one of them would make more than 4,000
+/// pairs of a state and a tree, or a tree of a height of more than 4,000.
 pub fn settle<'t>(alloc: Global, from: Checkpoint<'t>) -> Result<Checkpoint<'t>, ResumeFault>
     ensures settled { IfOk result (λ c. SettlesTo from.entry c) }
     ensures deep { IfErr result (λ fault. fault ≡ faults.TooDeep → SettlesDeep from.entry) }
 {
     from.facts();
     let mut at = from;
+    // It ends: each reduction either leaves the pair at the place `floor` of the stack, which at most 10,000 in a row
+    // do, or lowers that place. `count` is for the proof of that alone.
     let mut floor = at.depth().saturating_sub(1);
     let mut count: u32 = 0;
     'reductions: loop {

@@ -114,7 +114,7 @@ impl FactStore {
     }
 
     /// Stores a cost, which is no lower than the highest, and what it came from, and answers true, where the key has no
-    /// cost. Else it changes nothing and answers false.
+    /// cost. Else it changes nothing and answers false. Fails for want of memory alone; the store is as before then.
     pub fn settle(&mut self, key: FactKey, cost: u32, back: Back) -> Result<bool, Memory>
         requires { last_of self.old ≤ cost }
         ensures fresh { IfOk result (λ stored. (stored ≡ true) ↔ (fact_at self.old key ≡ None)) }

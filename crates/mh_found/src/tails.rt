@@ -201,7 +201,8 @@ fn take_tops(rests: &mut Rests) -> Tops
     }
 }
 
-/// Whether the left word comes later: at the first place where the two differ it has the higher number.
+/// Whether the left word comes later: at the first place where the two differ it has the higher number. Fails for want
+/// of memory alone.
 pub fn is_later(
     table: &Table,
     store: &FactStore,

@@ -12,7 +12,7 @@ pub struct Application {
 }
 
 impl Application {
-    /// The same head with the same arguments, which is what a formal stands for.
+    /// The same head with the same arguments, which is what a formal stands for. Fails for want of memory alone.
     pub fn copied(&self) -> Result<Application, Memory>
         ensures { IfOk result (λ n. n ≡ self.now) }
     {
@@ -22,7 +22,7 @@ impl Application {
         })
     }
 
-    /// Puts an argument behind the others.
+    /// Puts an argument behind the others. Fails for want of memory alone.
     pub fn add_argument(&mut self, number: usize) -> Result<(), Memory>
         ensures { OnOk result (self.new ≡ record { head = self.old.head; args = self.old.args ++ number ∷ [] }) }
     {

@@ -59,10 +59,12 @@ fn join_with(
 /// prelude; names in the prelude stand for its own rules. Rules come in the order of their first definitions, those of
 /// the prelude last; starts in order of first naming. A rule of a file's own whose name another file defines too is printed
 /// with `@` and the number of its file, and a rule of the prelude whose name a file defines with `@0`. With `prelude` false
-/// there is no prelude. Answers the first fault
-/// where there is one: all names and strings stand for something; nothing has two meanings; some start symbol is named;
-/// no rule speaks of `error`; each `%prec` is of a token or has a level; there are at most 512 tokens. Answers `Memory`
-/// only where memory runs out. The recursion over actuals is as deep as they are, at most `MAX_DEPTH`. (The Menhir manual on grammars split into files; this project's profile.)
+/// there is no prelude.
+///
+/// Answers the first fault where there is one: all names and strings stand for something; nothing has two meanings;
+/// some start symbol is named; no rule speaks of `error`; each `%prec` is of a token or has a level; there are at most
+/// 512 tokens. Answers `Memory` only where memory runs out. The recursion over actuals is as deep as they are, at most
+/// `MAX_DEPTH`. (The Menhir manual on grammars split into files; this project's profile.)
 pub fn join(alloc: Global, modules: &[Module], prelude: bool) -> Result<Joined, JoinFault>
     requires { AreModulesReady modules.now }
     ensures joins { Joins prelude modules.now result }

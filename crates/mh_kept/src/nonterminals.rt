@@ -11,7 +11,7 @@ use mh_grammar::{Memory, NontermInfo, Symbol};
 use mh_rules::{Instance, Part};
 use std::alloc::Global;
 
-/// For each instance, how many before it are not inline.
+/// For each instance, how many before it are not inline. Fails for want of memory alone.
 pub fn numbers_of(alloc: Global, instances: &[Instance]) -> Result<Vec<u16>, Memory>
     requires { length instances.now ≤ MAX_INSTANCES }
     ensures { IfOk result (λ v. AreNumbers instances.now v.items) }
@@ -36,6 +36,7 @@ fn nonterminal(instance: &Instance) -> Result<NontermInfo, Memory>
     })
 }
 
+/// The nonterminals of the grammar: the instances that are not inline, in their order. Fails for want of memory alone.
 pub fn nonterminals_of(alloc: Global, instances: &[Instance]) -> Result<Vec<NontermInfo>, Memory>
     ensures { IfOk result (λ v. v.items ≡ map nonterminal_of (filter is_kept instances.now)) }
 {
@@ -58,6 +59,7 @@ fn symbol(numbers: &[u16], part: Part) -> Symbol
     }
 }
 
+/// The symbols of producers, an instance by its number among the nonterminals. Fails for want of memory alone.
 pub fn symbols(alloc: Global, numbers: &[u16], parts: &[Part]) -> Result<Vec<Symbol>, Memory>
     requires { All (IsPartBelow (MAX_NUMBERED + 1) (length numbers.now)) parts.now }
     ensures { IfOk result (λ v. v.items ≡ map (symbol_by numbers.now) parts.now) }
@@ -69,6 +71,7 @@ pub fn symbols(alloc: Global, numbers: &[u16], parts: &[Part]) -> Result<Vec<Sym
     Ok(symbols)
 }
 
+/// The starts, each by its number among the nonterminals. Fails for want of memory alone.
 pub fn starts_of(alloc: Global, starts: &[u32], numbers: &[u16]) -> Result<Vec<u16>, Memory>
     requires { All (λ s. s < length numbers.now) starts.now }
     ensures { IfOk result (λ v. v.items ≡ map (slice_index numbers.now) starts.now) }

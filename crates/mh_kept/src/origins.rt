@@ -60,6 +60,8 @@ fn in_order(alloc: Global, origins: BTreeSet<Origin>) -> Result<Vec<Origin>, All
     origins.into_iter().collect(alloc)
 }
 
+/// The alternatives of the instances that are not inline, in the order of their productions. Fails for want of memory
+/// alone.
 pub fn origins_of(alloc: Global, expanded: &Expanded) -> Result<Vec<Origin>, Memory>
     requires { length expanded.now.instances ≤ MAX_INSTANCES }
     ensures { IfOk result (λ v. AreOrigins expanded.now.instances v.items) }

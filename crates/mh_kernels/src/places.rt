@@ -32,6 +32,7 @@ fn start_symbol_at(start: u16, dot: u32) -> Option<Symbol>
     }
 }
 
+/// The symbol at a place of a right side, counted from 0; none behind its end.
 pub fn symbol_in(symbols: &[Symbol], at: usize) -> Option<Symbol>
     ensures { result ≡ slice_get symbols.now at }
 {
@@ -56,6 +57,7 @@ pub fn behind(grammar: &Grammar, production: u32, dot: u32) -> &[Symbol]
     )
 }
 
+/// The symbols behind a place of a right side, which has a symbol there.
 pub fn rest_from(symbols: &[Symbol], at: usize) -> &[Symbol]
     requires { at < length symbols.now }
     ensures { result.now ≡ drop (suc at) symbols.now }

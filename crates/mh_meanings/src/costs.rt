@@ -8,7 +8,8 @@ use crate::names::Costs;
 use mh_grammar::Memory;
 use mh_rules::TokenDecl;
 
-/// Puts in the cost of a token, if the declaration gives one: the first that its name is given counts.
+/// Puts in the cost of a token, if the declaration gives one: the first that its name is given counts. Fails for want
+/// of memory alone.
 pub fn add_cost(costs: &mut Costs, token: &TokenDecl) -> Result<(), Memory>
     ensures { OnOk result (Puts costs.old (given_cost token.now) costs.new) }
 {

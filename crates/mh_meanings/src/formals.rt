@@ -12,7 +12,7 @@ use std::collections::HashMap;
 /// Each formal with its place.
 pub type Formals = HashMap<Name, u64>;
 
-/// Of two formals of one name the first counts.
+/// Of two formals of one name the first counts. Fails for want of memory alone.
 pub fn formals_of(alloc: Global, formals: &[Name]) -> Result<Formals, Memory>
     ensures { IfOk result (λ numbers. (x : Text) → get same numbers x ≡ formal_number formals.now x) }
 {

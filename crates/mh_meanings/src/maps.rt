@@ -8,7 +8,7 @@ ghost use Rattle.mh_meanings.specs.Puts.{Puts};
 use mh_grammar::{Memory, Name};
 use std::collections::{HashMap, HashSet};
 
-/// Puts in a name with a value, where it has none yet.
+/// Puts in a name with a value, where it has none yet. Fails for want of memory alone.
 pub fn put_first<V: Drop>(map: &mut HashMap<Name, V>, name: &Name, value: V) -> Result<(), Memory>
     ensures { OnOk result (Puts map.old ((name.now, value) ∷ []) map.new) }
 {
@@ -18,7 +18,7 @@ pub fn put_first<V: Drop>(map: &mut HashMap<Name, V>, name: &Name, value: V) -> 
     Ok(())
 }
 
-/// Puts in a name. Whether it was not there.
+/// Puts in a name. Whether it was not there. Fails for want of memory alone.
 pub fn put_name(names: &mut HashSet<Name>, name: &Name) -> Result<bool, Memory>
     ensures names { OnOk result ((x : Text) →
         contains same names.new x ≡ (contains same names.old x || same x name.now)) }

@@ -59,6 +59,7 @@ fn put_new(
 }
 
 impl NameList {
+    /// No names. It takes no memory.
     pub fn new(alloc: Global) -> NameList
         ensures { result.keys ≡ [] }
     {
@@ -68,7 +69,7 @@ impl NameList {
         }
     }
 
-    /// Puts a name behind the others, where it is not there.
+    /// Puts a name behind the others, where it is not there. Fails for want of memory alone.
     pub fn put(&mut self, name: &Name) -> Result<(), Memory>
         ensures { OnOk result (self.new.keys ≡ insert_key same self.old.keys name.now) }
     {

@@ -24,7 +24,7 @@ fn mark_public(marked: &mut HashSet<Name>, rule: &Rule) -> Result<(), Memory>
     Ok(())
 }
 
-/// The names of rules that a file marks public.
+/// The names of rules that a file marks public. Fails for want of memory alone.
 pub fn marked_public(alloc: Global, rules: &[Rule]) -> Result<HashSet<Name>, Memory>
     ensures { IfOk result (λ marked. (x : Text) → contains same marked x ≡ marks_public rules.now x) }
 {

@@ -1,4 +1,5 @@
-//! Sentence lines, as input lines and messages files have them.
+//! Sentence lines, as input lines and messages files have them, and messages files: read by the names of a grammar, and
+//! written.
 #![tactic(auto)]
 
 mod laws;

@@ -17,7 +17,7 @@ fn write_names(text: &mut Vec<u8>, grammar: &Grammar, tokens: &[Token]) -> Resul
 }
 
 /// Writes the canonical line of a sentence, without an LF, behind what a text holds: the start's name, a colon, and each token's
-/// name after one space.
+/// name after one space. Fails for want of memory alone.
 pub fn write_sentence(
     text: &mut Vec<u8>,
     grammar: &Grammar,
@@ -62,7 +62,8 @@ fn write_entry(text: &mut Vec<u8>, grammar: &Grammar, entry: &Entry) -> Result<(
     Ok(())
 }
 
-/// The text of a messages file: of each entry its sentences, an empty line, the message, and an empty line.
+/// The text of a messages file: of each entry its sentences, an empty line, the message, and an empty line. Fails for
+/// want of memory alone.
 pub fn print_messages(alloc: Global, grammar: &Grammar, file: &MsgFile) -> Result<Vec<u8>, Memory>
     ensures { IfOk result (λ text. text.items ≡ file_text grammar.now file.now) }
 {
@@ -73,7 +74,7 @@ pub fn print_messages(alloc: Global, grammar: &Grammar, file: &MsgFile) -> Resul
     Ok(text)
 }
 
-/// The sentences of a messages file alone, one a line, in order.
+/// The sentences of a messages file alone, one a line, in order. Fails for want of memory alone.
 pub fn echo(alloc: Global, grammar: &Grammar, file: &MsgFile) -> Result<Vec<u8>, Memory>
     ensures { IfOk result (λ text. text.items ≡ echo_text grammar.now file.now) }
 {

@@ -63,7 +63,7 @@ fn lost<T: Drop>(value: T) -> Memory {
     Memory
 }
 
-/// What the names of these files stand for, with this prelude.
+/// What the names of these files stand for, with this prelude. Fails for want of memory alone.
 pub fn names_of(
     alloc: Global,
     files: &[Module],

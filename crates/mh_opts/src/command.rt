@@ -41,7 +41,7 @@ fn bare_command<'a>(alloc: Global) -> Result<Command<'a>, AllocError>
         .arg(files(alloc, GRAMMARS))
 }
 
-/// The command.
+/// The command. Fails for want of memory alone.
 pub fn menhir_command<'a>(alloc: Global) -> Result<Command<'a>, AllocError>
     ensures { IfOk result (λ c. app_of c ≡ menhir_app) }
 {

@@ -32,21 +32,21 @@ pub fn counted(alloc: Global, text: &[u8], count: u64) -> Result<Vec<u8>, Memory
     Ok(line)
 }
 
-/// A name that nothing defines.
+/// A name or a string that stands for nothing.
 pub fn undefined(alloc: Global, name: &Name) -> Result<Vec<u8>, Memory>
     ensures { IfOk result (λ line. line.items ≡ codes "undefined: " ++ name.now) }
 {
     named(alloc, b"undefined: ", name)
 }
 
-/// A name that is defined more than once.
+/// A name or a string with two meanings.
 pub fn duplicate(alloc: Global, name: &Name) -> Result<Vec<u8>, Memory>
     ensures { IfOk result (λ line. line.items ≡ codes "duplicate: " ++ name.now) }
 {
     named(alloc, b"duplicate: ", name)
 }
 
-/// A level that no declaration has.
+/// A name behind `%prec` that is no token and has no level.
 pub fn unknown_level(alloc: Global, name: &Name) -> Result<Vec<u8>, Memory>
     ensures { IfOk result (λ line. line.items ≡ codes "unknown level: " ++ name.now) }
 {
@@ -60,7 +60,7 @@ pub fn arity(alloc: Global, instance: &Name) -> Result<Vec<u8>, Memory>
     named(alloc, b"arity: ", instance)
 }
 
-/// A rule whose instances do not end.
+/// A rule of which a new instance would be one too many, or have a printed name that is too long.
 pub fn expansion(alloc: Global, name: &Name) -> Result<Vec<u8>, Memory>
     ensures { IfOk result (λ line. line.items ≡ codes "expansion: " ++ name.now) }
 {

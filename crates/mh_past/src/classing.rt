@@ -434,7 +434,8 @@ fn tested_classes(
     each_by_itself(alloc, table)
 }
 
-/// Classes of tokens that go alike: those that were found, or, where they do not, each token by itself.
+/// Classes of tokens that go alike: those that were found, or, where they do not, each token by itself. Fails for want
+/// of memory alone.
 pub fn classes_of(alloc: Global, table: &Table) -> Result<Classes, Memory>
     ensures { IfOk result (IsClasses table.now) }
 {

@@ -133,7 +133,7 @@ fn note_in(
     Ok(())
 }
 
-/// The reductions in the past of all states.
+/// The reductions in the past of all states. Fails for want of memory alone.
 pub fn past_of(alloc: Global, table: &Table, left: &ByLeft) -> Result<IndexSet<Reduction>, Memory>
     requires { IsByLeft table.now left.now }
     ensures { IfOk result (λ past. IsPast table.now past.keys) }

@@ -337,7 +337,7 @@ fn with_group(rule: Rule, productions: Sequence<Alternative>) -> Result<Rule, Me
     }
 }
 
-/// The rule with the group that ends here.
+/// The rule with the group that ends here. Fails for want of memory alone.
 pub fn group_of(draft: Draft) -> Result<Rule, Memory>
     ensures { IfOk result (λ r. r ≡ grouped draft) }
 {
@@ -345,7 +345,7 @@ pub fn group_of(draft: Draft) -> Result<Rule, Memory>
     with_group(draft.rule, draft.productions)
 }
 
-/// The module with the rule that ends here.
+/// The module with the rule that ends here. Fails for want of memory alone.
 pub fn add_rule(mut made: Module, rule: Rule) -> Result<Module, Memory>
     ensures { IfOk result (λ m. m ≡ ruled made rule) }
 {

@@ -23,6 +23,7 @@ impl<T> Model for Stack<T> {
 }
 
 impl<T> Stack<T> {
+    /// The empty stack. It takes no memory.
     pub fn new(alloc: Global) -> Stack<T>
         ensures { result ≡ [] }
     {
@@ -31,12 +32,14 @@ impl<T> Stack<T> {
         }
     }
 
+    /// How many items there are.
     pub fn len(&self) -> usize
         ensures { result ≡ length self.now }
     {
         self.items.len()
     }
 
+    /// Takes the newest item, where there is one.
     pub fn pop(&mut self) -> Option<T>
         ensures { MatchOption result ((self.old ≡ []) × (self.new ≡ [])) (λ item. self.old ≡ item ∷ self.new) }
     {
@@ -45,6 +48,7 @@ impl<T> Stack<T> {
 }
 
 impl<T: Drop> Stack<T> {
+    /// Puts an item on top. Fails for want of memory alone.
     pub fn push(&mut self, item: T) -> Result<(), Memory>
         ensures { OnOk result (self.new ≡ item ∷ self.old) }
     {

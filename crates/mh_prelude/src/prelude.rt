@@ -227,8 +227,9 @@ fn add_others(alloc: Global, rules: &mut Sequence<Rule>) -> Result<(), Memory>
     Ok(())
 }
 
+/// The prelude's rules, or none where it is left out. (The Menhir manual's standard library.) Fails for want of memory
+/// alone.
 #[tactic(auto, unfolding(mh_meanings::specs::Prelude::prelude_rules))]
-/// The prelude's rules, or none where it is left out. (The Menhir manual's standard library.)
 pub fn prelude_rules(alloc: Global, with: bool) -> Result<Sequence<Rule>, Memory>
     ensures { IfOk result (λ rules. rules ≡ spec.prelude_rules with) }
 {

@@ -11,7 +11,7 @@ pub struct TabledWith<L> {
     pub automaton: AutomatonWith<L>,
     pub halting: Halting,
     pub conflicts: Sequence<Conflict>,
-    /// The one that its table was resolved in.
+    /// The mode in which its table was resolved.
     pub mode: Mode,
 }
 

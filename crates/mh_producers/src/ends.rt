@@ -25,6 +25,7 @@ impl<T> Model for Ends<T> {
 }
 
 impl<T> Ends<T> {
+    /// The empty list. It takes no memory.
     pub fn new(alloc: Global) -> Ends<T>
         ensures { result ≡ [] }
     {
@@ -43,7 +44,7 @@ impl<T> Ends<T> {
 }
 
 impl<T: Copy + Drop> Ends<T> {
-    /// A copy of the items.
+    /// A copy of the items. Fails for want of memory alone.
     pub fn to_vec(&self, alloc: Global) -> Result<Vec<T>, Memory>
         ensures { IfOk result (λ v. v.items ≡ self.now) }
     {
@@ -53,7 +54,7 @@ impl<T: Copy + Drop> Ends<T> {
         Ok(copy)
     }
 
-    /// A copy of the items with others behind.
+    /// A copy of the items with others behind. Fails for want of memory alone.
     pub fn joined(&self, alloc: Global, other: &Ends<T>) -> Result<Ends<T>, Memory>
         ensures { IfOk result (λ e. e ≡ self.now ++ other.now) }
     {
@@ -66,6 +67,7 @@ impl<T: Copy + Drop> Ends<T> {
         })
     }
 
+    /// Puts an item behind the others. Fails for want of memory alone.
     pub fn push_back(&mut self, item: T) -> Result<(), Memory>
         ensures { OnOk result (self.new ≡ self.old ++ item ∷ []) }
     {
@@ -73,7 +75,7 @@ impl<T: Copy + Drop> Ends<T> {
         Ok(())
     }
 
-    /// Puts the others behind.
+    /// Puts the others behind. Fails for want of memory alone.
     pub fn put_behind(&mut self, other: &Ends<T>) -> Result<(), Memory>
         ensures { OnOk result (self.new ≡ self.old ++ other.now) }
     {
@@ -82,7 +84,7 @@ impl<T: Copy + Drop> Ends<T> {
         push_all_back(&mut self.items, back)
     }
 
-    /// Puts the others in front.
+    /// Puts the others in front. Fails for want of memory alone.
     pub fn put_in_front(&mut self, other: &Ends<T>) -> Result<(), Memory>
         ensures { OnOk result (self.new ≡ other.now ++ self.old) }
     {

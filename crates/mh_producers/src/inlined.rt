@@ -45,7 +45,7 @@ fn list_alternatives(
     Ok(())
 }
 
-/// The inline instances that an instance is made of, each as often as it stands there.
+/// The inline instances that an instance is made of, each as often as it stands there. Fails for want of memory alone.
 pub fn inlined_in(alloc: Global, expanded: &Expanded, number: usize) -> Result<Vec<usize>, Memory>
     requires { number < length expanded.now.instances }
     ensures exact { IfOk result (λ found. (m : ℕ) → Contains found.items m ↔ IsMadeOf expanded.now.instances number m) }

@@ -22,6 +22,8 @@ pub struct Sizing {
     pub order: Vec<u32>,
 }
 
+/// The size of two lists of unfoldings together: their counts added, up to one more than `MAX_PRODUCTIONS`, and the
+/// longer of the two longest.
 pub fn plus(left: Size, right: Size) -> Size
     ensures count { result.count ≡ min (left.count + right.count) (MAX_PRODUCTIONS + 1) }
     ensures longest { result.longest ≡ max left.longest right.longest }
@@ -35,6 +37,8 @@ pub fn plus(left: Size, right: Size) -> Size
     }
 }
 
+/// Whether a size is known, and is of no more than `MAX_PRODUCTIONS` unfoldings, of no more than `MAX_SYMBOLS` symbols
+/// each.
 pub fn is_small(size: Option<Size>) -> bool
     ensures { IsTrue result ↔ IsWithin size }
 {

@@ -22,7 +22,8 @@ fn reach_over<'t>(alloc: Global, table: &'t Halting, classes: &Classes) -> Resul
     reach_by(alloc, table, classes, found, arrivals)
 }
 
-/// Searches a table.
+/// For each state of a table, by both searches, whether some sentence fails there, and the first that does. Fails for
+/// want of memory alone.
 pub fn reach<'t>(alloc: Global, table: &'t Halting) -> Result<Reach<'t>, Memory>
     ensures { IfOk result (λ reach. reach ≡ table.now) }
 {

@@ -67,8 +67,7 @@ fn tell_next<F: Follow>(
     follower.reduce(rows.length_of(production) as usize, production)
 }
 
-// Makes the reductions that come next, tells what goes along of them, and says what comes then. Each reduction either
-// leaves the state at the place `floor` on the stack, which at most `MAX_REDUCTIONS` in a row do, or lowers that place.
+/// Makes the reductions that come next, tells what goes along of them, and says what comes then.
 pub(crate) fn settle<F: Follow>(
     table: &Halting,
     stack: &mut Vec<u32>,
@@ -80,6 +79,8 @@ pub(crate) fn settle<F: Follow>(
     ensures { IfOk result (λ choice. SettlesTo F.following table.now look stack.old.items stack.new.items follower.old follower.new (move_for choice)) }
 {
     let _rows = table.table();
+    // It ends: each reduction either leaves the state at the place `floor` on the stack, which at most `MAX_REDUCTIONS`
+    // in a row do, or lowers that place. `count` is for the proof of that alone.
     let mut floor = stack.len().saturating_sub(2);
     let mut count: u32 = 0;
     'reductions: loop {

@@ -87,7 +87,7 @@ fn write_last_level(alloc: Global, text: &mut Vec<u8>, level: u32) -> Result<(),
     write_right(text, b"a")
 }
 
-/// The grammar file of a number.
+/// The grammar file of a number. Fails for want of memory alone.
 pub fn sample_grammar(alloc: Global, number: u32) -> Result<Vec<u8>, Memory>
     ensures { IfOk result (λ text. text.items ≡ grammar_text number) }
 {

@@ -144,7 +144,7 @@ fn empty_rows<X: Drop>(alloc: Global, places: u32) -> Result<Vec<Vec<X>>, Memory
     Ok(rows)
 }
 
-/// What the search begins with.
+/// What the search begins with. Fails for want of memory alone.
 pub fn begin(alloc: Global, table: &Table, classes: &Classes) -> Result<Work, Memory>
     requires { IsClasses table.now classes.now }
     ensures { IfOk result (IsBegun table.now classes.now) }

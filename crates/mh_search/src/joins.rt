@@ -249,7 +249,8 @@ fn meet_whole(
     Ok(())
 }
 
-/// Files a settled fact, and puts in what follows from it and those that were settled before it.
+/// Files a settled fact, and puts in what follows from it and those that were settled before it. Fails for want of
+/// memory alone.
 pub fn expand(
     alloc: Global,
     table: &Table,

@@ -69,7 +69,7 @@ fn no_numbers(alloc: Global, items: &[Item]) -> Result<Vec<usize>, Memory>
     Ok(numbers)
 }
 
-/// The numbers of the words of items that have one cost.
+/// The numbers of the words of items that have one cost. Fails for want of memory alone.
 pub fn numbers_of(
     alloc: Global,
     table: &Table,

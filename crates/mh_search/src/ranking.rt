@@ -28,7 +28,7 @@ fn paired(alloc: Global, items: &[Item], words: &[usize]) -> Result<Vec<Ranked>,
     Ok(pairs)
 }
 
-/// The items in the order of their numbers.
+/// The items in the order of their numbers. Fails for want of memory alone.
 pub fn in_order(alloc: Global, items: &[Item], words: &[usize]) -> Result<Vec<Ranked>, Memory>
     requires { length words.now ≡ length items.now }
     ensures { IfOk result (λ all. IsRanked items.now words.now all.items) }

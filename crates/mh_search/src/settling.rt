@@ -176,7 +176,7 @@ fn is_done(found: &Found, cost: u32) -> bool
 }
 
 /// Each path that a run goes along with the least cost of its words, and of the words of that cost the first: the one that has the
-/// lower number at the first place where it differs from another.
+/// lower number at the first place where it differs from another. Fails for want of memory alone.
 pub fn search(alloc: Global, table: &Table, classes: &Classes) -> Result<Found, Memory>
     requires { IsClasses table.now classes.now }
     ensures { IfOk result (λ found. IsFound table.now classes.now found) }

@@ -184,7 +184,7 @@ fn store_of(found: Found) -> FactStore
     found.store
 }
 
-/// What is kept of both searches of a table.
+/// What is kept of both searches of a table. Fails for want of memory alone.
 pub fn reach_by<'t>(
     alloc: Global,
     table: &'t Halting,

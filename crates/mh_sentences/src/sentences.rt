@@ -85,7 +85,7 @@ impl<'t> Reach<'t> {
     }
 
     /// The sentence that comes first of those that fail in a state, where one that costs at most 1,000,000 does: by cost, then
-    /// by start, then by the numbers of the tokens.
+    /// by start, then by the numbers of the tokens. Fails for want of memory alone.
     pub fn sentence_of(&self, alloc: Global, state: u32) -> Result<Sentence, Memory>
         requires state { state < length self.now.states }
         requires cheap { FailsCheaply self.now state }

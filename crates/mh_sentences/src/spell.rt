@@ -54,7 +54,7 @@ fn spell_next(
     }
 }
 
-/// Puts the word of a fact in front of what is spelled.
+/// Puts the word of a fact in front of what is spelled. Fails for want of memory alone.
 pub fn spell(
     alloc: Global,
     table: &Table,

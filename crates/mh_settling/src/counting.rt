@@ -17,7 +17,7 @@ use mh_grammar::{Edge, Grammar, Look, Memory, Symbol};
 use mh_kernels::KernelItem;
 use std::alloc::Global;
 
-/// The target of the edge on each token.
+/// The target of the edge on each token. Fails for want of memory alone.
 pub fn shifts_of(alloc: Global, tokens: usize, edges: &[Edge]) -> Result<Vec<Option<u32>>, Memory>
     requires rising { IsRising IsEdgeBefore edges.now }
     requires known { AreEdgesKnown tokens edges.now }
@@ -83,7 +83,7 @@ fn add_item<const W: usize>(
     }
 }
 
-/// The tallies of all looks.
+/// The tallies of all looks. Fails for want of memory alone.
 pub fn tallies_of<const W: usize>(
     alloc: Global,
     grammar: &Grammar,

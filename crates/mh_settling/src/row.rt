@@ -10,7 +10,7 @@ use mh_grammar::Memory;
 use mh_tables::Action;
 use std::alloc::Global;
 
-/// The cells of the tokens.
+/// The cells of the tokens. Fails for want of memory alone.
 pub fn cells_of(
     alloc: Global,
     tallies: &[Tally],

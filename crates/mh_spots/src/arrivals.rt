@@ -53,7 +53,7 @@ pub fn arrival_of(arrivals: &Arrivals, spot: Spot) -> Option<Arrival>
     arrivals.spots.get(&spot).copied()
 }
 
-/// Stores the arrival at a spot that was not reached before.
+/// Stores the arrival at a spot that was not reached before. Fails for want of memory alone.
 pub fn arrive_at(arrivals: &mut Arrivals, spot: Spot, arrival: Arrival) -> Result<(), Memory>
     requires { arrival_at arrivals.old.spots spot ≡ None }
     ensures { OnOk result (arrivals.new.spots ≡ arrivals.old.spots ++ (spot, arrival) ∷ []) }

@@ -50,7 +50,7 @@ fn put_parts(arrivals: &Arrivals, parts: &mut Vec<Part>, step: Step) -> Result<(
     }
 }
 
-/// Whether the sentence of the left step comes later.
+/// Whether the sentence of the left step comes later. Fails for want of memory alone.
 pub fn comes_later(
     alloc: Global,
     table: &Table,

@@ -137,7 +137,7 @@ fn find_kernels<const W: usize>(
     filled
 }
 
-/// They are the kernels of the first states, up to the first state that has none.
+/// The kernels of the first states, up to the first state that has none. Fails for want of memory alone.
 pub fn first_kernels<const W: usize>(
     alloc: Global,
     grammar: &Grammar,

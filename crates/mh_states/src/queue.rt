@@ -42,7 +42,7 @@ impl Queue {
         }
     }
 
-    /// Queues a new state, whose number is the next one.
+    /// Queues a new state, whose number is the next one. Fails for want of memory alone.
     pub fn add(&mut self) -> Result<(), AllocError>
         requires flagged { AreFlagged self.old.states.items self.old.waits.items }
         requires few { length self.old.waits.items < 2 ^ 32 }
@@ -55,7 +55,7 @@ impl Queue {
         Ok(())
     }
 
-    /// Queues a state, unless it waits already.
+    /// Queues a state, unless it waits already. Fails for want of memory alone.
     pub fn add_again(&mut self, state: u32) -> Result<(), AllocFailed<u32>>
         requires flagged { AreFlagged self.old.states.items self.old.waits.items }
         requires known { state < length self.old.waits.items }

@@ -5,7 +5,7 @@ ghost use Rattle.std.specs.List.{range_with_len};
 use mh_knuth::MAX_STATES;
 use std::alloc::{AllocError, Global};
 
-/// The numbers of the starts, which stand in front of the other states.
+/// The numbers of the starts, which stand in front of the other states. Fails for want of memory alone.
 pub fn first_states(alloc: Global, starts: usize, count: usize) -> Result<Vec<u32>, AllocError>
     requires within { starts ≤ count }
     requires few { count ≤ MAX_STATES }

@@ -18,6 +18,7 @@ pub struct RawItem {
     pub looks: Sequence<Name>,
 }
 
+/// An edge: the name of its symbol, and the number of the state that it leads to.
 #[derive(Drop)]
 pub struct RawEdge {
     pub symbol: Name,
@@ -38,6 +39,7 @@ pub enum RawCells {
     Fallback(Fallback),
 }
 
+/// A state: its items, its edges, and its cells or its default.
 #[derive(Drop)]
 pub struct RawState {
     pub items: Sequence<RawItem>,

@@ -99,7 +99,7 @@ fn word_with(alloc: Global, seen: Seen, word: &str) -> Result<String, AllocError
     }
 }
 
-/// The words as clap reads them.
+/// The words as clap reads them. Fails for want of memory alone.
 pub fn renamed(alloc: Global, words: &[String]) -> Result<Vec<String>, AllocError>
     ensures { IfOk result (λ new. map string_bytes new.items ≡ twice.renamed (map string_bytes words.now)) }
 {

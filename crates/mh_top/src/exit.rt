@@ -1,4 +1,4 @@
-//! The work as a program ends with it.
+//! The work, ending in the exit code of its status.
 ghost use Rattle.std.specs.Prelude.{◌≡◌, map, string_bytes};
 ghost use Rattle.std.specs.Process.{exit_status};
 ghost use Rattle.mh_top.specs.Asking.{AsksFor};

@@ -33,7 +33,8 @@ fn unfold_part(
     }
 }
 
-/// All unfoldings of some producers, in order. Those of the inline ones among them are known.
+/// All unfoldings of some producers, in order. Those of the inline ones among them are known. Fails for want of memory
+/// alone.
 pub fn unfold_side(
     alloc: Global,
     expanded: &Expanded,
@@ -133,7 +134,7 @@ fn unfold_next(
 
 /// The unfoldings of each inline instance that an instance which is not inline is made of, where it has no more and no longer
 /// ones than a grammar may have. Others are let go once they have gone into all that is made of them, and what goes into one last
-/// is moved there, so that a chain of inline instances holds one list and copies none.
+/// is moved there, so that a chain of inline instances holds one list and copies none. Fails for want of memory alone.
 pub fn unfold_inline(
     alloc: Global,
     expanded: &Expanded,

@@ -86,7 +86,7 @@ fn close_rows<const W: usize>(
     filled
 }
 
-/// They are the parts of the first states, of so many as have edges here.
+/// The parts of the first states, of so many as have edges here.
 fn resolve_rows<const W: usize>(
     alloc: Global,
     grammar: &Grammar,
@@ -220,7 +220,7 @@ fn with_kernels<const W: usize>(
     )
 }
 
-/// What is answered of a file, as one relation tells it.
+/// What `validate` answers of a file, under one clause.
 fn judged<const W: usize>(
     alloc: Global,
     grammar: &Grammar,

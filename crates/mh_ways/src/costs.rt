@@ -6,7 +6,7 @@ ghost use Rattle.mh_least.specs.Orders.{cap};
 use mh_grammar::Token;
 use mh_tables::Table;
 
-/// Costs end here.
+/// The highest cost: it stands for each of more than 1,000,000.
 pub const CAP: u32 = 1_000_001;
 
 /// The sum of two costs, up to the highest.

@@ -23,7 +23,7 @@ fn empty_rows(alloc: Global, table: &Table) -> Result<ByLeft, Memory>
     Ok(ByLeft { rows })
 }
 
-/// The productions of each nonterminal.
+/// The productions of each nonterminal. Fails for want of memory alone.
 pub fn by_left_side(alloc: Global, table: &Table) -> Result<ByLeft, Memory>
     ensures { IfOk result (IsByLeft table.now) }
 {

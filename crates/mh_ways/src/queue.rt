@@ -20,7 +20,7 @@ pub fn empty_queue<T>(alloc: Global) -> Queue<T>
     }
 }
 
-/// Puts an item in.
+/// Puts an item in. Fails for want of memory alone.
 pub fn push<T: Drop>(alloc: Global, queue: &mut Queue<T>, cost: u32, item: T) -> Result<(), Memory>
     ensures { OnOk result (Gains (IsOne cost item) queue.old.buckets.items queue.new.buckets.items) }
 {

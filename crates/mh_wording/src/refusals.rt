@@ -16,7 +16,7 @@ fn error_on(alloc: Global, words: &[u8], name: &[u8]) -> Result<Vec<u8>, Memory>
     Ok(text)
 }
 
-/// The text for a line that is no command.
+/// The text for a line that is no command. Fails for want of memory alone, also where the fault is that.
 pub fn command_refusal(alloc: Global, fault: &CommandFault) -> Result<Vec<u8>, Memory>
     ensures { IfOk result (λ text. IsRefusal fault.now text.items) }
 {

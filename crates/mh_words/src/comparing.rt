@@ -239,7 +239,7 @@ fn take_top(parts: &mut Vec<Last>) -> Option<Last>
     parts.pop()
 }
 
-/// Which of two words comes first. What lay on the rests before is dropped.
+/// Which of two words comes first. What lay on the rests before is dropped. Fails for want of memory alone.
 pub fn compare(
     entries: &[Entry],
     rests: &mut Rests,

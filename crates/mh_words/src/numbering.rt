@@ -237,6 +237,7 @@ fn number_ordered(
 }
 
 /// Gives each of some words a number: words that are equal have one, and the numbers of the others are in their order.
+/// Fails for want of memory alone.
 pub fn number_words(
     alloc: Global,
     entries: &[Entry],

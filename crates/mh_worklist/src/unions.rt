@@ -48,7 +48,7 @@ fn with_looks<const W: usize>(item: &KernelItem<W>, other: &KernelItem<W>) -> Ke
     }
 }
 
-/// A copy of a kernel.
+/// A copy of a kernel. Fails for want of memory alone.
 pub fn copied<const W: usize>(alloc: Global, kernel: &Kernel<W>) -> Result<Kernel<W>, Memory>
     requires { W ≤ 8 }
     ensures { IfOk result (λ k. k ≡ kernel.now) }

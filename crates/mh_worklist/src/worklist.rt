@@ -195,7 +195,8 @@ impl<const W: usize> Worklist<W> {
         Ok(())
     }
 
-    /// Puts a start kernel at the end as a new state, which is queued and has no edges yet.
+    /// Puts a start kernel at the end as a new state, which is queued and has no edges yet. Fails for want of memory
+    /// alone.
     pub fn push_start(
         &mut self,
         alloc: Global,
