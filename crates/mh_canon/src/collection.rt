@@ -125,6 +125,7 @@ fn place_all<const W: usize>(
     ensures few { IfOk result (λ _. length kernels.new.set.keys ≤ MAX_STATES) }
     ensures over { result ≡ Err StatesFault.TooManyStates → (closed : KernelOf) → IsSource (plain_of grammar.now) closed → AreMoves (plain_of grammar.now) closed moves.entry.items → IsOver (plain_of grammar.now) MAX_STATES }
 {
+    // The clauses alone speak of it.
     let _grammar = grammar;
     let mut row = Vec::with_capacity(alloc, moves.len())?;
     for found in moves {

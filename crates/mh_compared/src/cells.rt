@@ -23,6 +23,7 @@ fn refuses(cell: &Action) -> bool
 fn acts(grammar: &Grammar, cells: &[Action]) -> bool
     ensures { result ≡ has_lines (lines.Cells (raw_row grammar.now 0 cells.now)) }
 {
+    // The clauses alone speak of it.
     let _grammar = grammar;
     for cell in cells {
         if !refuses(cell) {

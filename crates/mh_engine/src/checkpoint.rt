@@ -78,7 +78,7 @@ impl<'t> Checkpoint<'t> {
         self.stack.count()
     }
 
-    // The move that comes next.
+    /// The move that comes next.
     fn choice(&self) -> Choice
         ensures { move_for result ≡ next_move self.now }
     {
@@ -149,7 +149,7 @@ impl<'t> Checkpoint<'t> {
         })
     }
 
-    // The same moment with the token refused for good.
+    /// The same moment with the token refused for good.
     fn refuse(&self) -> Result<Checkpoint<'t>, Memory>
         ensures { IfOk result (λ c. c ≡ refused_at self.now) }
     {
@@ -161,7 +161,7 @@ impl<'t> Checkpoint<'t> {
         })
     }
 
-    // A shift to a state.
+    /// A shift to a state.
     fn shift(&self, alloc: Global, target: u32) -> Result<Checkpoint<'t>, ResumeFault>
         requires { next_move self.now ≡ Shifts target }
         ensures made { IfOk result (λ c. c ≡ resumed self.now) }
@@ -184,7 +184,7 @@ impl<'t> Checkpoint<'t> {
         })
     }
 
-    // A reduction.
+    /// A reduction.
     fn reduce(&self, alloc: Global, production: u32) -> Result<Checkpoint<'t>, ResumeFault>
         requires next { next_move self.now ≡ Reduces production }
         requires can { CanReduce self.now production }

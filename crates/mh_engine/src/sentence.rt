@@ -49,7 +49,7 @@ pub fn run_with_trees(
     run(alloc, table, start, sentence)
 }
 
-// The same, from checkpoint to checkpoint.
+/// The same, from checkpoint to checkpoint.
 fn run(
     alloc: Global,
     table: &Halting,
@@ -108,7 +108,7 @@ fn run(
     }
 }
 
-// The checkpoint with a token offered, in place of the one that asks.
+/// The checkpoint with a token offered, in place of the one that asks.
 fn offer_to<'t>(asking: Checkpoint<'t>, token: Token) -> Result<Checkpoint<'t>, Memory>
     requires asking { IsAsking (phase_of asking) }
     requires token { token < asking.table.grammar.tokens }
@@ -117,7 +117,7 @@ fn offer_to<'t>(asking: Checkpoint<'t>, token: Token) -> Result<Checkpoint<'t>, 
     asking.offer(token)
 }
 
-// The checkpoint after the next step, in place of the one before it.
+/// The checkpoint after the next step, in place of the one before it.
 fn resume_from<'t>(alloc: Global, from: Checkpoint<'t>) -> Result<Checkpoint<'t>, ResumeFault>
     requires { CanGoOn (phase_of from) }
     ensures made { IfOk result (λ c. c ≡ resumed from.entry) }
@@ -127,7 +127,7 @@ fn resume_from<'t>(alloc: Global, from: Checkpoint<'t>) -> Result<Checkpoint<'t>
     from.resume(alloc)
 }
 
-// The answer where the run accepts.
+/// The answer where the run accepts.
 fn accept(read: u32, at: &Checkpoint<'_>) -> Result<TreeOutcome, Memory>
     requires { phase_of at.now ≡ phases.Accepted }
     ensures { IfOk result (λ outcome. IsAccept at.now.pairs.trees read outcome) }

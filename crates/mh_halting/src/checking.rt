@@ -50,5 +50,5 @@ pub fn check_halts(alloc: Global, table: Table) -> Result<Halting, HaltFault>
     }
 }
 
-// Lets go of a table that is refused, in one call.
+/// Lets go of a table that is refused, in one call.
 fn release<T: Drop>(_value: T) {}

@@ -13,16 +13,17 @@ use mh_grammar::{Symbol, Token};
 use mh_tables::{Choice, Table, choose};
 use std::alloc::{AllocError, Global};
 
-// The most reductions of a state alone that are tried.
+/// The most reductions of a state alone that are tried.
 const MAX_TRIED: u32 = 100;
 
-// The rounds in which bounds rise by what passages ask, before those that still rise are given up.
+/// The rounds in which bounds rise by what passages ask, before those that still rise are given up.
 const PATIENCE: u32 = 200;
 
-// The most rounds.
+/// The most rounds.
 const MAX_ROUNDS: u32 = 400;
 
-// Relative runs above an edge on the symbol at the place `from` go on above one on that at `to`, behind `count` reductions and one.
+/// Relative runs above an edge on the symbol at the place `from` go on above one on that at `to`, behind `count`
+/// reductions and one.
 #[derive(Clone, Copy, PartialEq, Eq)]
 pub(crate) struct Passage {
     pub from: u32,
@@ -30,18 +31,18 @@ pub(crate) struct Passage {
     pub count: u32,
 }
 
-// How relative runs go behind the reductions of their upper state alone.
+/// How relative runs go behind the reductions of their upper state alone.
 #[derive(Clone, Copy)]
 pub(crate) enum Course {
-    // They end there.
+    /// They end there.
     Ends,
-    // They go on above an edge on this nonterminal.
+    /// They go on above an edge on this nonterminal.
     Passes(u16),
-    // That is not known.
+    /// That is not known.
     Unclear,
 }
 
-// How many symbols there are.
+/// How many symbols there are.
 fn symbols(table: &Table) -> u32
     ensures { result ≡ symbol_count table.now }
 {
@@ -60,7 +61,7 @@ pub(crate) fn place_of(table: &Table, symbol: Symbol) -> u32
     }
 }
 
-// Adds a passage, unless it came last.
+/// Adds a passage, unless it came last.
 fn add(table: &Table, passages: &mut Vec<Passage>, passage: Passage) -> Result<(), AllocError>
     requires known { All (IsKnown table.now) passages.old.items }
     requires passage { IsKnown table.now passage }
@@ -68,6 +69,7 @@ fn add(table: &Table, passages: &mut Vec<Passage>, passage: Passage) -> Result<(
     ensures kept { OnOk result (KeepsAll passages.old.items passages.new.items) }
     ensures there { OnOk result (Contains passages.new.items passage) }
 {
+    // The clauses alone speak of it.
     let _table = table;
     if is_last(passages, passage) {
         return Ok(());
@@ -76,7 +78,7 @@ fn add(table: &Table, passages: &mut Vec<Passage>, passage: Passage) -> Result<(
     Ok(())
 }
 
-// Whether a passage came last.
+/// Whether a passage came last.
 fn is_last(passages: &[Passage], passage: Passage) -> bool
     ensures { result ≡ true → Contains passages.now passage }
 {
@@ -86,7 +88,7 @@ fn is_last(passages: &[Passage], passage: Passage) -> bool
     }
 }
 
-// Whether the last passage tells that nothing is known of the runs above an edge on a symbol.
+/// Whether the last passage tells that nothing is known of the runs above an edge on a symbol.
 fn is_unclear(passages: &[Passage], from: u32) -> bool
     ensures { result ≡ true → IsUnclear passages.now from }
 {
@@ -96,7 +98,7 @@ fn is_unclear(passages: &[Passage], from: u32) -> bool
     }
 }
 
-// Adds the passage of a production, if it has one symbol.
+/// Adds the passage of a production, if it has one symbol.
 fn add_unit(table: &Table, passages: &mut Vec<Passage>, production: u32) -> Result<(), AllocError>
     requires ordinary { length table.now.grammar.starts ≤ production }
     requires production { production < production_count table.now.grammar }
@@ -114,7 +116,7 @@ fn add_unit(table: &Table, passages: &mut Vec<Passage>, production: u32) -> Resu
     add(table, passages, Passage { from, to, count: 0 })
 }
 
-// Adds those of all productions with one symbol.
+/// Adds the passages of all productions with one symbol.
 fn add_units(table: &Table, passages: &mut Vec<Passage>) -> Result<(), AllocError>
     requires known { All (IsKnown table.now) passages.old.items }
     ensures known { OnOk result (All (IsKnown table.now) passages.new.items) }
@@ -126,7 +128,7 @@ fn add_units(table: &Table, passages: &mut Vec<Passage>) -> Result<(), AllocErro
     Ok(())
 }
 
-// The production without symbols that a state reduces first with a look, if it does.
+/// The production without symbols that a state reduces first with a look, if it does.
 fn empty_reduction(table: &Table, state: u32, look: Option<Token>) -> Option<u32>
     requires look { IsLook table.now look }
     requires state { state < length table.now.states }
@@ -145,7 +147,7 @@ fn empty_reduction(table: &Table, state: u32, look: Option<Token>) -> Option<u32
     }
 }
 
-// How relative runs go whose upper state's run leaves a stack.
+/// How relative runs go whose upper state's run leaves a stack.
 fn course_behind(table: &Table, stack: &[u32], look: Option<Token>) -> Course
     requires begun { 0 < length stack.now }
     requires known { All (λ s. s < length table.now.states) stack.now }
@@ -165,8 +167,8 @@ fn course_behind(table: &Table, stack: &[u32], look: Option<Token>) -> Course
     Course::Passes(table.lhs_of(production))
 }
 
-// The passage of a state, whose edges are on the symbol at a place, with a look, where it reduces a production without symbols
-// first: none, if the runs end.
+/// The passage of a state, whose edges are on the symbol at a place, with a look, where it reduces a production without
+/// symbols first: none, if the runs end.
 fn passage_of(
     table: &Table,
     stack: &mut Vec<u32>,
@@ -202,7 +204,7 @@ fn passage_of(
     }
 }
 
-// Adds that passage.
+/// Adds that passage, if there is one, unless the last passage tells that nothing is known.
 fn add_passage(
     table: &Table,
     stack: &mut Vec<u32>,
@@ -228,7 +230,7 @@ fn add_passage(
     }
 }
 
-// Adds the passages of a state, whose edges are on the symbol at a place, with each look.
+/// Adds the passages of a state, whose edges are on the symbol at a place, with each look.
 fn add_looks(
     table: &Table,
     stack: &mut Vec<u32>,
@@ -250,7 +252,7 @@ fn add_looks(
     Ok(())
 }
 
-// Adds the passages of a state.
+/// Adds the passages of a state.
 fn add_state(
     table: &Table,
     stack: &mut Vec<u32>,
@@ -272,7 +274,7 @@ fn add_state(
     }
 }
 
-// All passages of a table.
+/// All passages of a table.
 fn passages_of(
     alloc: Global,
     table: &Table,
@@ -289,7 +291,8 @@ fn passages_of(
     Ok(passages)
 }
 
-// Lifts the bound where a passage begins to what it asks, or gives it up if there is no more patience. Says whether it was lower.
+/// Lifts the bound where a passage begins to what it asks, or gives it up if there is no more patience. Says whether it
+/// was lower.
 fn lift(bounds: &mut Vec<u32>, passage: Passage, patient: bool) -> bool
     requires from { passage.from < vec_len bounds.old }
     requires to { passage.to < vec_len bounds.old }
@@ -305,8 +308,8 @@ fn lift(bounds: &mut Vec<u32>, passage: Passage, patient: bool) -> bool
     true
 }
 
-// Lifts those of all passages from the last to the first: a pass the other way alone would take a round for each rule of a file that
-// is written bottom up.
+/// Lifts the bounds of all passages from the last to the first: a pass the other way alone would take a round for each
+/// rule of a file that is written bottom up.
 fn lift_back(bounds: &mut Vec<u32>, passages: &[Passage], patient: bool)
     requires { All (λ p. (p.from < vec_len bounds.old) × (p.to < vec_len bounds.old)) passages.now }
     ensures { vec_len bounds.new ≡ vec_len bounds.old }
@@ -316,7 +319,7 @@ fn lift_back(bounds: &mut Vec<u32>, passages: &[Passage], patient: bool)
     }
 }
 
-// Lifts those of all passages from the first to the last, and says whether one was lower.
+/// Lifts the bounds of all passages from the first to the last, and says whether one was lower.
 fn lift_all(bounds: &mut Vec<u32>, passages: &[Passage], patient: bool) -> bool
     requires { All (λ p. (p.from < vec_len bounds.old) × (p.to < vec_len bounds.old)) passages.now }
     ensures size { vec_len bounds.new ≡ vec_len bounds.old }
@@ -329,7 +332,7 @@ fn lift_all(bounds: &mut Vec<u32>, passages: &[Passage], patient: bool) -> bool
     lower
 }
 
-// Lifts bounds until none is lower than what is asked, and says whether that came to an end.
+/// Lifts bounds until none is lower than what is asked, and says whether that came to an end.
 fn lift_until(bounds: &mut Vec<u32>, passages: &[Passage]) -> bool
     requires { All (λ p. (p.from < vec_len bounds.old) × (p.to < vec_len bounds.old)) passages.now }
     ensures size { vec_len bounds.new ≡ vec_len bounds.old }
@@ -345,7 +348,7 @@ fn lift_until(bounds: &mut Vec<u32>, passages: &[Passage]) -> bool
     false
 }
 
-// Bounds that are high enough for all passages. They begin with 0 and rise until none is lower than what is asked.
+/// Bounds that are high enough for all passages. They begin with 0 and rise until none is lower than what is asked.
 fn lifted(alloc: Global, passages: &[Passage], count: usize) -> Result<Vec<u32>, AllocError>
     requires { All (λ p. (p.from < count) × (p.to < count)) passages.now }
     ensures size { IfOk result (λ bounds. length bounds.items ≡ count) }

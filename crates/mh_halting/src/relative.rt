@@ -23,7 +23,7 @@ pub(crate) struct RelativeRun {
     pub token: Option<Token>,
 }
 
-// The newest state of a stack.
+/// The newest state of a stack.
 fn top_of(stack: &[u32]) -> u32
     requires { 0 < length stack.now }
     ensures { result ≡ top stack.now }
@@ -31,7 +31,7 @@ fn top_of(stack: &[u32]) -> u32
     stack[stack.len() - 1]
 }
 
-// The production that is reduced next.
+/// The production that is reduced next.
 pub(crate) fn next_reduction(table: &Table, stack: &[u32], look: Option<Token>) -> Option<u32>
     requires begun { 0 < length stack.now }
     requires known { All (λ s. s < length table.now.states) stack.now }
@@ -45,7 +45,7 @@ pub(crate) fn next_reduction(table: &Table, stack: &[u32], look: Option<Token>) 
     }
 }
 
-// How many states stay in the reduction of a production, and which comes.
+/// How many states stay in the reduction of a production, and which comes.
 fn stack_reduced(table: &Table, stack: &[u32], production: u32) -> Option<(usize, u32)>
     requires known { All (λ s. s < length table.now.states) stack.now }
     requires ordinary { length table.now.grammar.starts ≤ production }
@@ -64,7 +64,7 @@ fn stack_reduced(table: &Table, stack: &[u32], production: u32) -> Option<(usize
     }
 }
 
-// Makes the reduction that comes next, or answers that none does.
+/// Makes the reduction that comes next, or answers that none does.
 fn reduce_once(table: &Table, stack: &mut Vec<u32>, look: Option<Token>) -> Result<bool, AllocError>
     requires begun { 0 < length stack.old.items }
     requires known { All (λ s. s < length table.now.states) stack.old.items }
@@ -86,7 +86,7 @@ fn reduce_once(table: &Table, stack: &mut Vec<u32>, look: Option<Token>) -> Resu
     }
 }
 
-// Puts the states with which a relative run begins in place of what was there.
+/// Puts the states with which a relative run begins in place of what was there.
 fn begin(
     table: &Table,
     stack: &mut Vec<u32>,
@@ -107,7 +107,8 @@ fn begin(
     Ok(())
 }
 
-// Makes the reductions of a relative run, and says how many came, if no more than `most` did: `stack` holds what they leave.
+/// Makes the reductions of a relative run, and says how many came, if no more than `most` did: `stack` holds what they
+/// leave.
 pub(crate) fn reduced_within(
     table: &Table,
     stack: &mut Vec<u32>,
@@ -133,7 +134,8 @@ pub(crate) fn reduced_within(
     Ok(None)
 }
 
-// Whether the relative run makes more than `MAX_REDUCTIONS` reductions; where it doesn't, `stack` holds what they leave.
+/// Whether the relative run makes more than `MAX_REDUCTIONS` reductions; where it doesn't, `stack` holds what they
+/// leave.
 fn loops(
     table: &Table,
     stack: &mut Vec<u32>,
@@ -153,8 +155,8 @@ fn loops(
     Ok(is_loop(stopped))
 }
 
-// Whether the relative run makes more than `MAX_REDUCTIONS` reductions with a token, where it stops in a state without default
-// before it looks at one. A cell that reduces nothing ends it there.
+/// Whether the relative run makes more than `MAX_REDUCTIONS` reductions with a token, where it stops in a state without
+/// default before it looks at one. A cell that reduces nothing ends it there.
 fn loops_on(
     table: &Table,
     stack: &mut Vec<u32>,
@@ -176,8 +178,8 @@ fn loops_on(
     }
 }
 
-// The first token with which the relative run makes more than `MAX_REDUCTIONS` reductions, where it stops in a state without
-// default before it looks at one.
+/// The first token with which the relative run makes more than `MAX_REDUCTIONS` reductions, where it stops in a state
+/// without default before it looks at one.
 fn first_token(
     table: &Table,
     stack: &mut Vec<u32>,
@@ -199,9 +201,9 @@ fn first_token(
     Ok(None)
 }
 
-// The first look, in order, with which the relative run makes more than `MAX_REDUCTIONS` reductions. The reductions that come
-// with no token come with each; where they stop in a state with a default, it accepts or takes off more states than there
-// are, and no token changes that.
+/// The first look, in order, with which the relative run makes more than `MAX_REDUCTIONS` reductions. The reductions
+/// that come with no token come with each; where they stop in a state with a default, it accepts or takes off more
+/// states than there are, and no token changes that.
 fn first_look(
     table: &Table,
     stack: &mut Vec<u32>,
@@ -225,7 +227,7 @@ fn first_look(
     }
 }
 
-// The first start state alone that begins a relative run of more than `MAX_REDUCTIONS` reductions.
+/// The first start state alone that begins a relative run of more than `MAX_REDUCTIONS` reductions.
 fn first_start(
     table: &Table,
     stack: &mut Vec<u32>,
@@ -241,7 +243,7 @@ fn first_start(
     Ok(None)
 }
 
-// Adds where an edge of a state leads, unless the bound of its symbol tells that no relative run above it loops.
+/// Adds where an edge of a state leads, unless the bound of its symbol tells that no relative run above it loops.
 fn add_target(
     table: &Table,
     bounds: &[u32],
@@ -262,7 +264,7 @@ fn add_target(
     Ok(())
 }
 
-// Where the edges of a state lead above which relative runs are to be tried, in the order of states.
+/// Where the edges of a state lead above which relative runs are to be tried, in the order of states.
 fn targets_of(
     alloc: Global,
     table: &Table,
@@ -283,7 +285,8 @@ fn targets_of(
     Ok(targets)
 }
 
-// The first of the states that the edges of a lower one lead to that begins a relative run of more than `MAX_REDUCTIONS` reductions.
+/// The first of the states that the edges of a lower one lead to that begins a relative run of more than
+/// `MAX_REDUCTIONS` reductions.
 fn first_among(
     table: &Table,
     stack: &mut Vec<u32>,
@@ -303,7 +306,7 @@ fn first_among(
     Ok(None)
 }
 
-// The first state over a lower one that begins a relative run of more than `MAX_REDUCTIONS` reductions.
+/// The first state over a lower one that begins a relative run of more than `MAX_REDUCTIONS` reductions.
 fn first_above(
     alloc: Global,
     table: &Table,
@@ -320,7 +323,7 @@ fn first_above(
     first_among(table, stack, below, &targets)
 }
 
-// The first relative run, in order, that makes more than `MAX_REDUCTIONS` reductions, by bounds.
+/// The first relative run, in order, that makes more than `MAX_REDUCTIONS` reductions, by bounds.
 fn first_by(
     alloc: Global,
     table: &Table,

@@ -56,6 +56,7 @@ fn wanted_numbers<const W: usize>(
     ensures rising { IfOk result (λ v. IsStrictlyIncreasing v.items) }
     ensures exact { IfOk result (λ v. (p : ℕ) → Contains v.items p ↔ IsNumber (plain_of grammar.now) set.now p) }
 {
+    // The clauses alone speak of it.
     let _grammar = grammar;
     let mut numbers = Vec::new(alloc);
     for n in set.queue.as_slice() {

@@ -60,6 +60,7 @@ fn sets_from<const W: usize>(
     requires exact { (n : ℕ) (row : List ℕ) → slice_get (map (λ row. row.items) rows.now) n ≡ Some row → (a : ℕ) → Contains row a ↔ First (plain_of grammar.now) (N n) a }
     ensures { IfOk result (AreFirstSets (plain_of grammar.now)) }
 {
+    // The clauses alone speak of it.
     let _grammar = grammar;
     let mut made = Vec::new(alloc);
     for row in rows {

@@ -27,6 +27,7 @@ pub(crate) fn spread<const W: usize>(
     ensures rest { OnOk result ((n : ℕ) → IsWaiting set.new n → ⊥) }
     ensures wanted { OnOk result ((kernel : KernelOf) → AreSeeds (plain_of grammar.now) kernel set.old → AreWanted (plain_of grammar.now) kernel set.new) }
 {
+    // The clauses alone speak of it.
     let _grammar = grammar;
     let mut done = 0;
     while done < set.queue.len() {

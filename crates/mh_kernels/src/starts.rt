@@ -21,6 +21,7 @@ pub fn start_kernel<const W: usize>(
     ensures kernel { IfOk result (IsItemList (plain_of grammar.now)) }
     ensures exact { IfOk result (λ k. k ≡ kernel_of_start start) }
 {
+    // The clauses alone speak of it.
     let _grammar = grammar;
     let mut items = Sequence::new(alloc);
     items.push(KernelItem {

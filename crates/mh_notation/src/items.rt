@@ -36,7 +36,7 @@ fn write_looks<const W: usize>(
     Ok(())
 }
 
-// Looks in brackets.
+/// Looks in brackets.
 fn write_brackets<const W: usize>(
     text: &mut Vec<u8>,
     grammar: &Grammar,
@@ -52,7 +52,7 @@ fn write_brackets<const W: usize>(
     Ok(())
 }
 
-// An item with its looks.
+/// An item with its looks.
 fn write_item<const W: usize>(
     text: &mut Vec<u8>,
     grammar: &Grammar,

@@ -31,6 +31,7 @@ pub(crate) fn reach(
     requires none { edges.old ≡ [] }
     ensures { OnOk result (AreReached starts rows.now states.new.keys edges.new) }
 {
+    // The clauses alone speak of it.
     let _starts = starts;
     'states: while edges.len() < states.len() {
         let state = states.as_slice()[edges.len()];
@@ -70,6 +71,7 @@ fn place(states: &mut IndexSet<u32>, state: u32, count: usize) -> Result<u32, Me
     requires state { state < count }
     ensures { IfOk result (Placed states.old.keys states.new.keys state) }
 {
+    // The clauses alone speak of it.
     let _count = count;
     let at = place_state(states, state)?;
     Ok(at as u32)

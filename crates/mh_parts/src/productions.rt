@@ -30,7 +30,7 @@ fn write_left_side(text: &mut Vec<u8>, grammar: &Grammar, production: u32) -> Re
     Ok(())
 }
 
-// Symbols, each after a space, with a dot before those behind.
+/// Symbols, each after a space, with a dot before those behind.
 fn write_dotted(
     text: &mut Vec<u8>,
     grammar: &Grammar,
@@ -45,7 +45,7 @@ fn write_dotted(
     write_names(text, grammar, behind)
 }
 
-// Symbols, each after a space, with a dot at a place of them where one is given.
+/// Symbols, each after a space, with a dot at a place of them where one is given.
 fn write_symbols(
     text: &mut Vec<u8>,
     grammar: &Grammar,
@@ -65,7 +65,7 @@ fn write_symbols(
     }
 }
 
-// The right side of a production, with a dot at a place of it where one is given.
+/// The right side of a production, with a dot at a place of it where one is given.
 #[tactic(auto, unfolding(mh_grammar::specs::Plain::rhs_of))]
 fn write_right_side(
     text: &mut Vec<u8>,

@@ -38,7 +38,7 @@ fn write_title(alloc: Global, text: &mut Vec<u8>, mode: Mode, states: u32) -> Re
     write_between(alloc, text, b": ", states, b" states\n")
 }
 
-// A line that ends in a production.
+/// A line that ends in a production.
 fn write_reduction(
     text: &mut Vec<u8>,
     grammar: &Grammar,
@@ -54,7 +54,7 @@ fn write_reduction(
     Ok(())
 }
 
-// A token with what its cell does.
+/// A token with what its cell does.
 fn write_cell_line(
     alloc: Global,
     text: &mut Vec<u8>,
@@ -134,7 +134,7 @@ fn write_goto_lines(
     Ok(())
 }
 
-// The default, or a line for each token that acts or is a hole.
+/// The default, or a line for each token that acts or is a hole.
 fn write_actions<const W: usize>(
     alloc: Global,
     text: &mut Vec<u8>,

@@ -24,7 +24,7 @@ use mh_kernels::{Automaton, Closure, Kernel};
 use mh_tables::{StateParts, Table, table_of};
 use std::alloc::Global;
 
-// A state of the table, and what was found of it.
+/// A state of the table, and what was found of it.
 #[derive(Drop)]
 struct Resolved {
     parts: StateParts,
@@ -80,7 +80,7 @@ pub fn resolve_one<const W: usize>(
     Ok(resolved.parts)
 }
 
-// By a list with the complete items of the state's closure.
+/// What is found of a state, by a list with the complete items of its closure.
 fn resolve_listed<const W: usize>(
     alloc: Global,
     grammar: &Grammar,
@@ -102,7 +102,7 @@ fn resolve_listed<const W: usize>(
     Ok(Resolved { parts, row })
 }
 
-// Both lists, into places that the caller owns.
+/// Both lists, into places that the caller owns.
 fn all_states<const W: usize>(
     alloc: Global,
     grammar: &Grammar,
@@ -134,7 +134,7 @@ fn all_states<const W: usize>(
     )
 }
 
-// State after state.
+/// The same, state after state.
 fn add_states<const W: usize>(
     alloc: Global,
     grammar: &Grammar,

@@ -27,6 +27,7 @@ pub(crate) struct Row {
     pub stream: bool,
 }
 
+/// The production that fills the cells without raw action, if there is one; none where the state has a default.
 fn filler_of<const W: usize>(
     grammar: &Grammar,
     items: &[KernelItem<W>],
@@ -42,6 +43,7 @@ fn filler_of<const W: usize>(
     }
 }
 
+/// What a cell does, once those without raw action are filled: where no production fills them, they refuse.
 fn action_of(cell: &Cell, filler: Option<u32>) -> Action
     ensures { result ≡ filled_with filler cell.now }
 {

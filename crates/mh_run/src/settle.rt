@@ -12,7 +12,7 @@ use mh_grammar::{Memory, Token};
 use mh_tables::{Choice, Halting, Table, choose};
 use std::alloc::AllocError;
 
-// Takes off the states of a right side, and goes on the left side.
+/// Takes off the states of a right side, and goes on the left side.
 fn reduce_on(table: &Table, stack: &mut Vec<u32>, production: u32) -> Result<(), AllocError>
     requires { CanReduce table.now production stack.old.items }
     ensures ok { OnOk result (reduce table.now production stack.old.items ≡ Some stack.new.items) }
@@ -28,7 +28,7 @@ fn reduce_on(table: &Table, stack: &mut Vec<u32>, production: u32) -> Result<(),
     }
 }
 
-// What comes next.
+/// What comes next.
 fn next_choice(table: &Halting, stack: &[u32], look: Option<Token>) -> Choice
     requires run { IsRunStack table.now stack.now }
     requires look { IsLook table.now look }
@@ -37,7 +37,7 @@ fn next_choice(table: &Halting, stack: &[u32], look: Option<Token>) -> Choice
     choose(table.table(), stack[stack.len() - 1], look)
 }
 
-// The reduction that comes next.
+/// Makes the reduction that comes next.
 fn reduce_next(
     table: &Halting,
     stack: &mut Vec<u32>,
@@ -51,7 +51,7 @@ fn reduce_next(
     reduce_on(table.table(), stack, production)
 }
 
-// Tells what goes along of the reduction that comes next.
+/// Tells what goes along of the reduction that comes next.
 fn tell_next<F: Follow>(
     table: &Halting,
     stack: &[u32],

@@ -34,7 +34,7 @@ fn is_text(word: &[u8], text: &[u8]) -> bool
     word == text
 }
 
-// By the first word, with one name behind it.
+/// What a line of two words says, by the first, with the name behind it.
 #[tactic(auto, unfolding(mh_branches::specs::Forms::of_one))]
 fn with_one<'a>(verb: &[u8], name: &'a [u8]) -> Option<Spelled<'a>>
     ensures { as_forms result ≡ of_one verb.now name.now }
@@ -54,7 +54,7 @@ fn with_one<'a>(verb: &[u8], name: &'a [u8]) -> Option<Spelled<'a>>
     }
 }
 
-// Or with two.
+/// What a line of three words says, by the first, with the two names behind it.
 #[tactic(auto, unfolding(mh_branches::specs::Forms::of_two))]
 fn with_two<'a>(verb: &[u8], name: &'a [u8], other: &'a [u8]) -> Option<Spelled<'a>>
     ensures { as_forms result ≡ of_two verb.now name.now other.now }
@@ -70,7 +70,7 @@ fn with_two<'a>(verb: &[u8], name: &'a [u8], other: &'a [u8]) -> Option<Spelled<
     }
 }
 
-// The word in front of a line, with what stands behind it.
+/// The word in front of a line, with what stands behind it.
 fn first_word(line: &[u8]) -> Option<(&[u8], &[u8])>
     ensures { FirstWord line.now result }
 {
@@ -86,7 +86,7 @@ fn first_word(line: &[u8]) -> Option<(&[u8], &[u8])>
     }
 }
 
-// By the first two words, with what stands behind them.
+/// What a line says, by its first two words, with what stands behind them.
 fn with_rest<'a>(verb: &[u8], name: &'a [u8], rest: &'a [u8]) -> Option<Spelled<'a>>
     requires verb { is_word_text verb.now ≡ true }
     requires name { is_word_text name.now ≡ true }
@@ -101,7 +101,7 @@ fn with_rest<'a>(verb: &[u8], name: &'a [u8], rest: &'a [u8]) -> Option<Spelled<
     with_two(verb, name, other)
 }
 
-// What a line says.
+/// What a line says.
 fn form_in(line: &[u8]) -> Option<Spelled<'_>>
     ensures { as_forms result ≡ form_of line.now }
 {
@@ -114,7 +114,7 @@ fn form_in(line: &[u8]) -> Option<Spelled<'_>>
     with_rest(verb, name, rest)
 }
 
-// The command of what a line says.
+/// The command of what a line says.
 fn command_of(
     alloc: Global,
     lexicon: &Lexicon,

@@ -36,7 +36,7 @@ pub fn answer_all(
     }
 }
 
-// Answers one command after another, in a session with no names.
+/// Answers one command after another, in a session with no names.
 fn answer_each(
     session: &mut Session<'_>,
     so_far: &mut Vec<Result<Reply, SessionFault>>,
@@ -57,7 +57,7 @@ fn answer_each(
     Ok(())
 }
 
-// Lets go of what is of no more use, in one call.
+/// Lets go of what is of no more use, in one call.
 fn release<T: Drop>(_value: T) {}
 
 fn lacked_memory(answer: &Result<Reply, SessionFault>) -> bool

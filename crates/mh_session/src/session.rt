@@ -57,7 +57,7 @@ impl<'t> Session<'t> {
         }
     }
 
-    // Gives a name a checkpoint, and answers its phase.
+    /// Gives a name a checkpoint, and answers its phase.
     fn put(&mut self, name: &Name, checkpoint: Checkpoint<'t>) -> Result<Reply, SessionFault>
         requires { checkpoint.table ≡ self.old.table }
         ensures reply { IfOk result (λ r. r ≡ replies.Phase (phase_of checkpoint.entry)) }
@@ -71,7 +71,7 @@ impl<'t> Session<'t> {
         Ok(Reply::Phase(phase))
     }
 
-    // The checkpoint of a name.
+    /// The checkpoint of a name.
     fn find(&self, name: &Name) -> Option<&Checkpoint<'t>>
         ensures found { option_copied result ≡ at_name name.now self.now.held }
         ensures table { IfSome result (λ c. c.now.table ≡ self.now.table) }
@@ -195,7 +195,7 @@ impl<'t> Serves for Session<'t> {
     }
 }
 
-// A step may be made in this phase.
+/// Whether a step may be made in this phase.
 fn can_go_on(phase: Phase) -> bool
     ensures { IsTrue result ↔ CanGoOn phase }
 {

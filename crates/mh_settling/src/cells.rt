@@ -22,7 +22,7 @@ pub fn new_tally() -> Tally
     }
 }
 
-// Whether there is a lowest one, and another.
+/// Whether there is a lowest one, and this production is another.
 fn is_another(lowest: Option<u32>, production: u32) -> bool
     ensures { result ≡ is_other lowest production }
 {
@@ -32,7 +32,7 @@ fn is_another(lowest: Option<u32>, production: u32) -> bool
     }
 }
 
-// One more reduction, with how it compares.
+/// One more reduction, with how it compares.
 fn count(tally: Tally, production: u32, comparison: Comparison) -> Tally
     ensures { result ≡ tally_with tally production comparison }
 {
@@ -59,7 +59,7 @@ fn count(tally: Tally, production: u32, comparison: Comparison) -> Tally
     }
 }
 
-// Without a shift a reduction stays.
+/// How a reduction compares with the shift on a look; without a shift it stays.
 fn weigh(grammar: &Grammar, look: Look, shift: Option<u32>, production: u32) -> Comparison
     ensures { result ≡ weighed (compared grammar.now look) shift production }
 {

@@ -32,7 +32,7 @@ pub fn shifts_of(alloc: Global, tokens: usize, edges: &[Edge]) -> Result<Vec<Opt
     Ok(shifts)
 }
 
-// Counts a reduction on a look.
+/// Counts a reduction on a look.
 fn add(
     tallies: &mut Tallies,
     grammar: &Grammar,
@@ -61,7 +61,7 @@ fn add(
     }
 }
 
-// Counts a complete item on each of its looks.
+/// Counts a complete item on each of its looks.
 fn add_item<const W: usize>(
     tallies: &mut Tallies,
     grammar: &Grammar,

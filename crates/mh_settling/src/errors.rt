@@ -10,7 +10,7 @@ use mh_cells::Best;
 use mh_grammar::Grammar;
 use mh_kernels::KernelItem;
 
-// The rank of an item that is a candidate.
+/// The rank of an item that is a candidate.
 fn rank_of_item<const W: usize>(grammar: &Grammar, item: &KernelItem<W>) -> Option<u64>
     ensures { result ≡ rank_in grammar.now item.now }
 {

@@ -12,7 +12,7 @@ use mh_kernels::Automaton;
 use mh_tables::{Action, Table};
 use std::alloc::Global;
 
-// Whether a cell is a hole: where the state has no edge on the token, a reduction would be left.
+/// Whether a cell is a hole: where the state has no edge on the token, a reduction would be left.
 fn is_hole(shift: Option<u32>, action: Action) -> bool
     ensures { result ≡ (is_some shift && refuses action) }
 {

@@ -32,7 +32,7 @@ fn is_same(left: Action, right: Action) -> bool
     left == right
 }
 
-// Whether a cell acts, and otherwise than the end of the stream.
+/// Whether a cell acts, and otherwise than the end of the stream.
 fn acts_otherwise(cell: &Cell, last: Action) -> bool
     ensures { IsTrue result ↔ IsOtherwise last cell.now }
 {
@@ -55,7 +55,7 @@ fn reduction_of(action: Action) -> Option<u32>
     }
 }
 
-// The first reduction of a cell.
+/// The first reduction among the cells.
 fn first_reduction(cells: &[Cell]) -> Option<u32>
     ensures { MatchOption result ((p : ℕ) → HasReduction cells.now p → ⊥) (HasReduction cells.now) }
 {
@@ -67,7 +67,7 @@ fn first_reduction(cells: &[Cell]) -> Option<u32>
     None
 }
 
-// Whether a cell reduces a production, or is empty and no hole.
+/// Whether a cell reduces a production, or is empty and no hole.
 fn is_fit(cell: &Cell, production: u32) -> bool
     ensures { IsTrue result ↔ IsFit production cell.now }
 {
@@ -80,7 +80,7 @@ fn all_fit(cells: &[Cell], production: u32) -> bool
     cells.iter().all(|cell| is_fit(cell, production))
 }
 
-// The only production that a default may reduce.
+/// The only production that a default may reduce.
 fn only_choice(cells: &[Cell], kept: Action, mode: Mode) -> Option<u32>
     ensures { MatchOption result ((p : ℕ) → IsChoice kept mode cells.now p → ⊥) (IsChoice kept mode cells.now) }
 {

@@ -16,6 +16,7 @@ fn look_of(grammar: &Grammar, lexicon: &Lexicon, name: &Name) -> Option<Look>
     requires lexicon { vocabulary_in lexicon.now ≡ vocabulary_of grammar.now }
     ensures { Finds (IsLookOf grammar.now name.now) result }
 {
+    // The clauses alone speak of it.
     let _grammar = grammar;
     if is_named(name, b"#") {
         return Some(Look::End);

@@ -40,6 +40,7 @@ fn covers<const W: usize>(grammar: &Grammar, state: &Kernel<W>, kernel: &Kernel<
     requires core { OneCore (Holds state.now) (Holds kernel.now) }
     ensures { IsTrue result ↔ Covers (Holds state.now) (Holds kernel.now) }
 {
+    // The clauses alone speak of it.
     let _grammar = grammar;
     are_within(kernel.items.as_slice(), state.items.as_slice())
 }

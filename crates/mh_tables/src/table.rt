@@ -199,7 +199,7 @@ impl Table {
         find_edge(self.edges(state), Symbol::N(nonterminal))
     }
 
-    // The core of a state.
+    /// The core of a state.
     fn core(&self, state: u32) -> &[CoreItem]
         requires { state < length self.now.states }
         ensures { result.now ≡ (state_at self.now state).core }

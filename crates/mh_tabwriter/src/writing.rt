@@ -24,7 +24,7 @@ use mh_sets::TokenSet;
 use mh_tables::{Action, Fallback, Table};
 use std::alloc::Global;
 
-// A word behind another.
+/// A word behind another.
 fn write_word(text: &mut Vec<u8>, word: &[u8]) -> Result<(), Memory>
     ensures { OnOk result (text.new.items ≡ text.old.items ++ 32 ∷ word.now) }
 {
@@ -33,7 +33,7 @@ fn write_word(text: &mut Vec<u8>, word: &[u8]) -> Result<(), Memory>
     Ok(())
 }
 
-// A number behind a word.
+/// A number behind a word.
 fn write_numeral(alloc: Global, text: &mut Vec<u8>, number: u32) -> Result<(), Memory>
     ensures { OnOk result (text.new.items ≡ text.old.items ++ 32 ∷ decimal number) }
 {
@@ -41,7 +41,7 @@ fn write_numeral(alloc: Global, text: &mut Vec<u8>, number: u32) -> Result<(), M
     write_number(alloc, text, number)
 }
 
-// A line of a word and a number.
+/// A line of a word and a number.
 fn write_count(alloc: Global, text: &mut Vec<u8>, key: &[u8], count: u32) -> Result<(), Memory>
     ensures { OnOk result (text.new.items ≡ text.old.items ++ line_written (count_line key.now count)) }
 {
@@ -245,7 +245,7 @@ fn write_edges(
     Ok(())
 }
 
-// The line of a token that acts.
+/// The line of a token that acts.
 fn write_acting(
     alloc: Global,
     text: &mut Vec<u8>,
@@ -312,7 +312,7 @@ fn write_fallback(alloc: Global, text: &mut Vec<u8>, fallback: Fallback) -> Resu
     }
 }
 
-// The default of a state, or else its cells.
+/// The default of a state, or else its cells.
 #[tactic(auto, unfolding(mh_tables::specs::Table::fallback_of))]
 fn write_actions(
     alloc: Global,
@@ -402,7 +402,7 @@ pub fn write_tables<const W: usize>(
     Ok(text)
 }
 
-// The same into a text that is empty.
+/// The same into a text that is empty.
 fn write_all<const W: usize>(
     alloc: Global,
     text: &mut Vec<u8>,

@@ -66,7 +66,7 @@ impl Drop for Tree {
     }
 }
 
-// The children of a node that has no other owner.
+/// The children of a node that has no other owner.
 fn children_of(shape: Rc<Shape>) -> Option<Vec<Tree>>
     ensures { IfSome result (λ children. (p : ℕ) × (tree_of shape.value ≡ Node p (forest_of children.items))) }
 {
@@ -84,7 +84,7 @@ impl Tree {
         &self.shape
     }
 
-    // The children, where the node has no other owner.
+    /// The children, where the node has no other owner.
     fn into_children(self) -> Option<Vec<Tree>>
         ensures { IfSome result (λ children. (p : ℕ) × (self ≡ Node p (forest_of children.items))) }
     {

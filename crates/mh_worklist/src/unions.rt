@@ -22,6 +22,7 @@ pub(crate) fn joined<const W: usize>(
     ensures kernel { IfOk result (IsItemList (plain_of grammar.now)) }
     ensures exact { IfOk result (λ j. IsJoin (Holds left.now) (Holds right.now) (Holds j)) }
 {
+    // The clauses alone speak of it.
     let _grammar = grammar;
     let ours = left.items.as_slice();
     let theirs = right.items.as_slice();
