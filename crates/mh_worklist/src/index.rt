@@ -54,10 +54,7 @@ impl Index {
 }
 
 /// The core of a kernel.
-fn without_looks<const W: usize>(
-    alloc: Global,
-    kernel: &Kernel<W>,
-) -> Result<Core, Memory>
+fn without_looks<const W: usize>(alloc: Global, kernel: &Kernel<W>) -> Result<Core, Memory>
     requires { W ≤ 8 }
     ensures { IfOk result (λ core. core ≡ core_of kernel.now) }
 {

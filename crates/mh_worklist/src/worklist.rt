@@ -99,13 +99,7 @@ impl<const W: usize> Worklist<W> {
     }
 
     /// The first state that fits a move, whose core stands at a place of the index.
-    fn fitting(
-        &self,
-        grammar: &Grammar,
-        core: usize,
-        kernel: &Kernel<W>,
-        fit: Fit,
-    ) -> Option<u32>
+    fn fitting(&self, grammar: &Grammar, core: usize, kernel: &Kernel<W>, fit: Fit) -> Option<u32>
         requires small { W ≤ 8 }
         requires kernel { IsItemList (plain_of grammar.now) kernel.now }
         requires ready { IsReady (plain_of grammar.now) (work_of self.now) }
@@ -147,12 +141,7 @@ impl<const W: usize> Worklist<W> {
     }
 
     /// Appends a move as a new state, which is queued.
-    fn append(
-        &mut self,
-        alloc: Global,
-        core: usize,
-        kernel: Kernel<W>,
-    ) -> Result<u32, StatesFault>
+    fn append(&mut self, alloc: Global, core: usize, kernel: Kernel<W>) -> Result<u32, StatesFault>
         requires small { W ≤ 8 }
         requires few { length self.old.kernels.items ≤ MAX_STATES }
         requires kept { IsKept self.old }
@@ -172,12 +161,7 @@ impl<const W: usize> Worklist<W> {
     }
 
     /// Puts a kernel at the end as a new state, which is queued and has no edges yet.
-    fn push(
-        &mut self,
-        alloc: Global,
-        core: usize,
-        kernel: Kernel<W>,
-    ) -> Result<(), Memory>
+    fn push(&mut self, alloc: Global, core: usize, kernel: Kernel<W>) -> Result<(), Memory>
         requires small { W ≤ 8 }
         requires few { length self.old.kernels.items < 2 ^ 32 }
         requires kept { IsKept self.old }
@@ -197,11 +181,7 @@ impl<const W: usize> Worklist<W> {
 
     /// Puts a start kernel at the end as a new state, which is queued and has no edges yet. Fails for want of memory
     /// alone.
-    pub fn push_start(
-        &mut self,
-        alloc: Global,
-        kernel: Kernel<W>,
-    ) -> Result<(), Memory>
+    pub fn push_start(&mut self, alloc: Global, kernel: Kernel<W>) -> Result<(), Memory>
         requires small { W ≤ 8 }
         requires few { length self.old.kernels.items < 2 ^ 32 }
         requires kept { IsKept self.old }
