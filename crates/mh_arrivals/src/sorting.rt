@@ -6,7 +6,7 @@ ghost use Rattle.mh_arrivals.specs.Ordering.{InTurn};
 use crate::comings::Coming;
 use mh_found::Found;
 use mh_grammar::Memory;
-use mh_spots::{Arrivals, Step, comes_later};
+use mh_spots::{Arrivals, comes_later};
 use mh_tables::Table;
 use mh_words::Order;
 use std::alloc::Global;
@@ -18,45 +18,6 @@ pub struct BySentence<'a> {
     pub table: &'a Table,
     pub found: &'a Found,
     pub arrivals: &'a Arrivals,
-}
-
-/// Whether two steps are one, where they have a sentence by other spots.
-fn is_same(left: Step, right: Step) -> bool
-    ensures { IsTrue result → left ≡ right }
-{
-    match (left, right) {
-        (
-            Step::Shift {
-                from: one,
-                token: last,
-            },
-            Step::Shift {
-                from: two,
-                token: other,
-            },
-        ) => {
-            if one != two {
-                return false;
-            }
-            last == other
-        }
-        (
-            Step::Way {
-                from: one,
-                inner: last,
-            },
-            Step::Way {
-                from: two,
-                inner: other,
-            },
-        ) => {
-            if one != two {
-                return false;
-            }
-            last == other
-        }
-        _ => false,
-    }
 }
 
 impl<'a> Order for BySentence<'a> {
@@ -83,6 +44,6 @@ impl<'a> Order for BySentence<'a> {
 
     /// Arrivals that came by one step have the same sentence: one for each token to come.
     fn is_alike(&self, left: Coming, right: Coming) -> bool {
-        is_same(left.step, right.step)
+        left.step == right.step
     }
 }

@@ -14,7 +14,7 @@ pub struct Spot {
 }
 
 /// How a spot is reached.
-#[derive(Clone, Copy, Drop)]
+#[derive(Clone, Copy, PartialEq, Eq, Drop)]
 pub enum Step {
     /// The run of this start begins there.
     Begin(u16),
