@@ -1,5 +1,5 @@
 -- How words get their numbers, one after another in their order.
-use Rattle.std.proofs.Common.{◌≡◌, ◌∙◌, ℕ, zero, suc, ◌+◌, ◌<◌, ◌≤◌, ◌⊎◌, inl, inr, List, [], ◌∷◌, ◌++◌, length, None, Some, Bool, true, false, not, cond, refl, ap, sym, arith, Decides, rules}
+use Rattle.std.proofs.Common.{◌≡◌, ◌∙◌, ℕ, zero, suc, ◌+◌, ◌<◌, ◌≤◌, ◌⊎◌, inl, inr, List, [], ◌∷◌, ◌++◌, length, None, Some, Bool, true, false, cond, refl, ap, sym, arith, Decides, rules}
 use Rattle.std.specs.Prelude.{slice_get, if◌then◌else◌}
 use Rattle.std.specs.List.{Contains, list_any}
 use Rattle.std.proofs.lemmas.List.{length_push}
@@ -11,10 +11,9 @@ use Rattle.mh_grammar.proofs.Lists.{get_cases, get_left, get_last, same_at, has_
 use Rattle.mh_words.specs.contracts.made.MadePartialEq.TheImpl.{ghosts}
 use Rattle.mh_words.specs.declared.made.Made.{Made}
 use Rattle.mh_words.specs.declared.made.Entry.{Entry}
-use Rattle.mh_words.specs.declared.numbering.Distinct.{Distinct}
 use Rattle.mh_words.specs.declared.numbering.Given.{Given}
 use Rattle.mh_words.specs.Words.{Words, Before, spelled, words_of}
-use Rattle.mh_words.specs.Numbered.{AreEven, IsOnce, PutsOnce, IsEqual, IsRepeated, AddsNew, IsGiven, Gives, AreNumbers, number_in}
+use Rattle.mh_words.specs.Numbered.{AreEven, PutsOnce, IsEqual, IsRepeated, AddsNew, IsGiven, Gives, AreNumbers, number_in}
 use Rattle.mh_words.specs.Rising.{NoLater, Rises, Same}
 use Rattle.mh_words.proofs.Ordered.{before_after, apart_before}
 
@@ -37,56 +36,41 @@ made_itself x = (made_Decides x x).1 refl
 
 -- ONCE EACH
 
-pub puts_fresh : (old new : Distinct) (m : Made) (fresh : Bool) → IsOnce old → new.seen.keys ≡ insert_key ghosts.eq old.seen.keys m → fresh ≡ not (list_any (ghosts.eq m) old.seen.keys) → fresh ≡ true → new.all.items ≡ old.all.items ++ m ∷ [] → PutsOnce old new m
-puts_fresh old new m fresh once keys added is grown = record {
-  once = keys ∙ by (list_any (ghosts.eq m) old.seen.keys) (sym added ∙ is) ∙ ap (λ (l : List Made). l ++ m ∷ []) once ∙ sym grown;
-  has = rw grown (contains_last old.all.items m);
-  kept = λ o h. rw grown (Contains-append_left old.all.items (m ∷ []) o h);
-  only = λ o h. contains_push old.all.items m o (rw grown at h);
-}
+pub puts_once : (old new : List Made) (m : Made) → new ≡ insert_key ghosts.eq old m → PutsOnce old new m
+puts_once old new m keys = by (list_any (ghosts.eq m) old) refl keys
   where
-    by : (b : Bool) → not b ≡ true → (if b then old.seen.keys else old.seen.keys ++ m ∷ []) ≡ old.seen.keys ++ m ∷ []
-    by true h = cc
-    by false h = refl
-
-pub puts_again : (old new : Distinct) (m : Made) (fresh : Bool) → IsOnce old → new.seen.keys ≡ insert_key ghosts.eq old.seen.keys m → fresh ≡ not (list_any (ghosts.eq m) old.seen.keys) → fresh ≡ false → new.all.items ≡ old.all.items → PutsOnce old new m
-puts_again old new m fresh once keys added is same = record {
-  once = keys ∙ by (list_any (ghosts.eq m) old.seen.keys) (sym added ∙ is) ∙ once ∙ sym same;
-  has = rw (same, sym once) (Contains-list_any ghosts.eq made_same old.seen.keys m (seen (list_any (ghosts.eq m) old.seen.keys) (sym added ∙ is)));
-  kept = λ o h. rw same h;
-  only = λ o h. inl (rw same at h);
-}
-  where
-    by : (b : Bool) → not b ≡ false → (if b then old.seen.keys else old.seen.keys ++ m ∷ []) ≡ old.seen.keys
-    by true h = refl
-    by false h = cc
-
-    seen : (b : Bool) → not b ≡ false → b ≡ true
-    seen true h = refl
-    seen false h = cc
+    by : (b : Bool) → list_any (ghosts.eq m) old ≡ b → new ≡ (if b then old else old ++ m ∷ []) → PutsOnce old new m
+    by true there same = record {
+      has = rw same (Contains-list_any ghosts.eq made_same old m there);
+      kept = λ o h. rw same h;
+      only = λ o h. inl (rw same at h);
+    }
+    by false absent grown = record {
+      has = rw grown (contains_last old m);
+      kept = λ o h. rw grown (Contains-append_left old (m ∷ []) o h);
+      only = λ o h. contains_push old m o (rw grown at h);
+    }
 
 -- the first words are there, once
-pub record OnceSoFar (made : List Made) (n : ℕ) (d : Distinct) : Type 0 where
-  pub once : IsOnce d
-  pub has : (i : ℕ) (m : Made) → i < n → slice_get made i ≡ Some m → Contains d.all.items m
-  pub only : (m : Made) → Contains d.all.items m → Contains made m
+pub record OnceSoFar (made : List Made) (n : ℕ) (distinct : List Made) : Type 0 where
+  pub has : (i : ℕ) (m : Made) → i < n → slice_get made i ≡ Some m → Contains distinct m
+  pub only : (m : Made) → Contains distinct m → Contains made m
 
-pub once_begins : (made : List Made) (d : Distinct) → d.seen.keys ≡ [] → d.all.items ≡ [] → OnceSoFar made 0 d
-once_begins made d e f = record { once = e ∙ sym f; has = λ i m lt at. absurd (omega arith); only = λ m h. absurd (contains_none m (rw f at h)) }
+pub once_begins : (made distinct : List Made) → distinct ≡ [] → OnceSoFar made 0 distinct
+once_begins made distinct none = record { has = λ i m lt at. absurd (omega arith); only = λ m h. absurd (contains_none m (rw none at h)) }
 
-pub once_next : (made : List Made) (n : ℕ) (m : Made) (old new : Distinct) → slice_get made n ≡ Some m → OnceSoFar made n old → PutsOnce old new m → OnceSoFar made (n + 1) new
+pub once_next : (made : List Made) (n : ℕ) (m : Made) (old new : List Made) → slice_get made n ≡ Some m → OnceSoFar made n old → PutsOnce old new m → OnceSoFar made (n + 1) new
 once_next made n m old new at h p = record {
-  once = p.once;
   has = λ i o lt there. by i o lt there (below_next i n lt);
   only = λ o there. elim (p.only o there) [ inl was ↦ h.only o was | inr is ↦ rw is (contains_at made n m at) ];
 }
   where
-    by : (i : ℕ) (o : Made) → i < n + 1 → slice_get made i ≡ Some o → (i < n) ⊎ (i ≡ n) → Contains new.all.items o
+    by : (i : ℕ) (o : Made) → i < n + 1 → slice_get made i ≡ Some o → (i < n) ⊎ (i ≡ n) → Contains new o
     by i o lt there (inl l) = p.kept o (h.has i o l there)
     by i o lt there (inr e) = let same : o ≡ m = same_at made n o m (rw e at there) at in rw same p.has
 
-pub once_ends : (made : List Made) (n : ℕ) (d : Distinct) → length made ≤ n → OnceSoFar made n d → Same made d.all.items
-once_ends made n d le h = record { kept = λ m there. (let at = at_contains made m there in h.has at.0 m (let l = slice_get_within made at.0 m at.1 in omega arith) at.1); only = h.only }
+pub once_ends : (made : List Made) (n : ℕ) (distinct : List Made) → length made ≤ n → OnceSoFar made n distinct → Same made distinct
+once_ends made n distinct le h = record { kept = λ m there. (let at = at_contains made m there in h.has at.0 m (let l = slice_get_within made at.0 m at.1 in omega arith) at.1); only = h.only }
 
 -- EQUAL NEIGHBOURS
 

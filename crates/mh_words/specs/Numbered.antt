@@ -5,7 +5,6 @@ use Rattle.mh_words.specs.declared.made.Made.{Made}
 use Rattle.indexmap.specs.IndexMap.{get}
 use Rattle.mh_words.specs.contracts.made.MadePartialEq.TheImpl.{ghosts}
 use Rattle.mh_words.specs.declared.made.Entry.{Entry}
-use Rattle.mh_words.specs.declared.numbering.Distinct.{Distinct}
 use Rattle.mh_words.specs.declared.numbering.Given.{Given}
 use Rattle.mh_words.specs.declared.numbering.Numbered.{Numbered}
 use Rattle.mh_words.specs.Rising.{NoLater, Same, Sorts}
@@ -43,15 +42,11 @@ pub record Numbers (old new : Words) (group : ℕ) (made : List Made) (numbers :
 abbrev pub number_in : Given → Made → Option ℕ
 number_in given m = get ghosts.eq given.numbers m
 
--- each word that was seen is kept
-abbrev pub IsOnce : Distinct → Type 0
-IsOnce d = d.seen.keys ≡ d.all.items
-
-pub record PutsOnce (old new : Distinct) (m : Made) : Type 0 where
-  pub once : IsOnce new
-  pub has : Contains new.all.items m
-  pub kept : (o : Made) → Contains old.all.items o → Contains new.all.items o
-  pub only : (o : Made) → Contains new.all.items o → Contains old.all.items o ⊎ (o ≡ m)
+-- a word is put in, where none that is made alike is there
+pub record PutsOnce (old new : List Made) (m : Made) : Type 0 where
+  pub has : Contains new m
+  pub kept : (o : Made) → Contains old o → Contains new o
+  pub only : (o : Made) → Contains new o → Contains old o ⊎ (o ≡ m)
 
 -- two words that differ
 abbrev pub AreApart : List ℕ → List ℕ → Type 0

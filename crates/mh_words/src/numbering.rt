@@ -1,7 +1,7 @@
 //! Numbers for words: by their order, equal words one.
 ghost use Rattle.std.specs.Prelude.{◌≡◌, ◌<◌, ◌+◌, IfOk, IsSome, OnOk, Some, length, slice_get};
 ghost use Rattle.std.specs.List.{Contains};
-ghost use Rattle.mh_words.specs.Numbered.{AddsNew, AreBelowGroup, AreEven, AreKnown, AreNumbers, Gives, IsEqual, IsNumbered, IsOnce, IsRepeated, Orders, PutsOnce, number_in};
+ghost use Rattle.mh_words.specs.Numbered.{AddsNew, AreBelowGroup, AreEven, AreKnown, AreNumbers, Gives, IsEqual, IsNumbered, IsRepeated, Orders, PutsOnce, number_in};
 ghost use Rattle.mh_words.specs.Rising.{NoLater, Rises, Same};
 ghost use Rattle.mh_words.specs.Words.{IsSound, Knows, words_of};
 
@@ -14,36 +14,23 @@ use mh_grammar::Memory;
 use std::alloc::Global;
 use std::cmp::Ordering;
 
-/// Words that are made alike, once.
-#[derive(Drop)]
-struct Distinct {
-    seen: IndexSet<Made>,
-    all: Vec<Made>,
-}
-
 /// Puts a word in, where none that is made alike is there.
-fn put_once(distinct: &mut Distinct, made: Made) -> Result<(), Memory>
-    requires { IsOnce distinct.old }
-    ensures { OnOk result (PutsOnce distinct.old distinct.new made) }
+fn put_once(distinct: &mut IndexSet<Made>, made: Made) -> Result<(), Memory>
+    ensures { OnOk result (PutsOnce distinct.old.keys distinct.new.keys made) }
 {
-    if distinct.seen.insert(made)? {
-        distinct.all.push(made)?;
-    }
+    distinct.insert(made)?;
     Ok(())
 }
 
 /// The same words, those that are made alike once.
-fn distinct_of(alloc: Global, made: &[Made]) -> Result<Vec<Made>, Memory>
-    ensures { IfOk result (λ all. Same made.now all.items) }
+fn distinct_of(alloc: Global, made: &[Made]) -> Result<IndexSet<Made>, Memory>
+    ensures { IfOk result (λ all. Same made.now all.keys) }
 {
-    let mut distinct = Distinct {
-        seen: IndexSet::new(alloc),
-        all: Vec::new(alloc),
-    };
+    let mut distinct = IndexSet::new(alloc);
     for one in made {
         put_once(&mut distinct, *one)?;
     }
-    Ok(distinct.all)
+    Ok(distinct)
 }
 
 /// The word at a place.
