@@ -1,6 +1,6 @@
 //! Bytes at places.
 ghost use Rattle.std.specs.Prelude.{◌≡◌, ◌≤◌, ◌<◌, ◌==◌, ◌&&◌, not, length, IsTrue};
-ghost use Rattle.mh_bytes.specs.Bytes.{has, begins_arrow};
+ghost use Rattle.mh_bytes.specs.Bytes.{has, begins_arrow, is_blank};
 
 /// Whether this byte stands at a place.
 pub fn has_byte(rest: &[u8], place: usize, byte: u8) -> bool
@@ -26,4 +26,11 @@ pub fn is_free(taken: bool, byte: u8, wanted: u8) -> bool
     ensures { result ≡ (not taken && byte == wanted) }
 {
     if taken { false } else { byte == wanted }
+}
+
+/// Whether a byte is a space, a tab, a line feed, a carriage return or a form feed.
+pub fn is_blank_byte(byte: u8) -> bool
+    ensures { result ≡ is_blank byte }
+{
+    byte == b' ' || byte == b'\t' || byte == b'\n' || byte == b'\r' || byte == b'\x0c'
 }

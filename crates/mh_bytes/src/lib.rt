@@ -8,7 +8,7 @@ mod keywords;
 mod laws;
 mod lines;
 
-pub use bytes::{has_byte, is_free};
+pub use bytes::{has_byte, is_blank_byte, is_free};
 pub use code::{Ends, Step, passes_arrow, passes_comments, reads_items, remark_in};
 pub use keywords::{Keyword, Row, keyword_of};
 pub use laws::keywords_differ;

@@ -1,19 +1,13 @@
 //! What begins a lexeme.
 ghost use Rattle.std.specs.Prelude.{◌≡◌, ◌+◌, ◌-◌, ◌<◌, ◌≤◌, length, drop};
-ghost use Rattle.mh_lex.specs.Bytes.{is_blank, is_mark};
+ghost use Rattle.mh_lex.specs.Bytes.{is_mark};
 ghost use Rattle.mh_lex.specs.Keywords.{is_keyword};
 ghost use Rattle.mh_lex.specs.Begins.{line_rest, keyword_of, percent, slash, front, Begins};
 
 use crate::code::starts_comment;
 use crate::items::{starts_word, string_length, word_length};
 use crate::kinds::{Front, Kind};
-use mh_bytes::{Ends, has_byte, keyword_of as keyword_named};
-
-fn is_blank_byte(byte: u8) -> bool
-    ensures { result ≡ is_blank byte }
-{
-    byte == b' ' || byte == b'\t' || byte == b'\n' || byte == b'\r' || byte == 12
-}
+use mh_bytes::{Ends, has_byte, is_blank_byte, keyword_of as keyword_named};
 
 fn is_mark_byte(byte: u8) -> bool
     ensures { result ≡ is_mark byte }

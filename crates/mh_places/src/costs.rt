@@ -5,13 +5,8 @@ ghost use Rattle.mh_lex.specs.Bytes.{byte_at, is_blank, is_decimal};
 ghost use Rattle.mh_places.specs.Costs as spec;
 ghost use Rattle.mh_places.specs.Costs.{front_of, is_closing, limited, numbered, spaced, value};
 
+use mh_bytes::is_blank_byte;
 use mh_grammar::MAX_COST;
-
-fn is_blank_byte(byte: u8) -> bool
-    ensures { result ≡ is_blank byte }
-{
-    byte == b' ' || byte == b'\t' || byte == b'\n' || byte == b'\r' || byte == 12
-}
 
 fn is_digit(byte: u8) -> bool
     ensures { result ≡ is_decimal byte }

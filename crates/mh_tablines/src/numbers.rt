@@ -6,7 +6,7 @@ ghost use Rattle.mh_tablines.specs.Numbers.{is_digit as is_digit_byte, small_val
 fn is_digit(byte: u8) -> bool
     ensures { result ≡ is_digit_byte byte }
 {
-    byte >= 48 && byte <= 57
+    byte >= b'0' && byte <= b'9'
 }
 
 fn are_digits(word: &[u8]) -> bool
@@ -21,7 +21,7 @@ fn has_zero_first(word: &[u8]) -> bool
     match word {
         [] => true,
         [_] => false,
-        [first, _, ..] => *first == 48,
+        [first, _, ..] => *first == b'0',
     }
 }
 
@@ -32,7 +32,7 @@ fn value_of(word: &[u8]) -> Option<u32>
 {
     let mut value = 0u64;
     for byte in word {
-        value = value * 10 + u64::from(*byte - 48);
+        value = value * 10 + u64::from(*byte - b'0');
         if value > 0xffff_ffff {
             return None;
         }
