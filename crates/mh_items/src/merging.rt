@@ -1,12 +1,12 @@
 //! Two rising lists of items as one.
 ghost use Rattle.std.specs.Prelude.{◌≡◌, ◌<◌, ◌≤◌, ◌+◌, ◌⊎◌, List, [], ◌∷◌, ◌++◌, length, IfOk};
 ghost use Rattle.mh_grammar.specs.Plain.{plain_of, IsInRange};
-ghost use Rattle.mh_kernels.specs.Kernels.{IsItemList, IsJoined};
+ghost use Rattle.mh_kernels.specs.Kernels.{IsItemList};
 ghost use Rattle.mh_kernels.specs.Shapes.{KernelItem as ItemOf};
 ghost use Rattle.mh_items.specs.Merging.{IsUnion, IsMerged, IsTurn};
 
 use mh_grammar::{Grammar, Memory, Sequence};
-use mh_kernels::{Closure, KernelItem, order};
+use mh_kernels::{Closure, KernelItem, copied_item, joined_item, order};
 use std::alloc::Global;
 use std::cmp::Ordering;
 
@@ -54,9 +54,9 @@ fn next_item<const W: usize>(
     ensures more { i + j < result.1.0 + result.1.1 }
 {
     match turn(left, i, right, j) {
-        Ordering::Less => (copied(&left[i]), (i + 1, j)),
-        Ordering::Greater => (copied(&right[j]), (i, j + 1)),
-        Ordering::Equal => (joined(&left[i], &right[j]), (i + 1, j + 1)),
+        Ordering::Less => (copied_item(&left[i]), (i + 1, j)),
+        Ordering::Greater => (copied_item(&right[j]), (i, j + 1)),
+        Ordering::Equal => (joined_item(&left[i], &right[j]), (i + 1, j + 1)),
     }
 }
 
@@ -78,27 +78,4 @@ fn turn<const W: usize>(
         return Ordering::Greater;
     }
     order(&left[i], &right[j])
-}
-
-fn copied<const W: usize>(item: &KernelItem<W>) -> KernelItem<W>
-    ensures { result ≡ item.now }
-{
-    KernelItem {
-        production: item.production,
-        dot: item.dot,
-        looks: item.looks.copied(),
-    }
-}
-
-/// The item with the looks of both.
-fn joined<const W: usize>(x: &KernelItem<W>, y: &KernelItem<W>) -> KernelItem<W>
-    ensures { IsJoined x.now y.now result }
-{
-    let mut looks = x.looks.copied();
-    looks.union_into(&y.looks);
-    KernelItem {
-        production: x.production,
-        dot: x.dot,
-        looks,
-    }
 }

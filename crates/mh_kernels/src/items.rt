@@ -1,7 +1,9 @@
-//! What closures and moves do with one item: where it begins, how it moves on, which of two comes first, and what it may pass on.
+//! What closures, moves and merging do with one item: where it begins, how it moves on, how two become one, which of two comes first,
+//! and what it may pass on.
 ghost use Rattle.std.specs.Prelude.{◌≡◌, ◌<◌, ◌+◌, ◌^◌, ◌⊎◌, ◌↔◌, true, false, length, slice_index_or};
 ghost use Rattle.std.specs.List.{Contains};
 ghost use Rattle.mh_grammar.specs.declared.types.Look.{Look as LookOf};
+ghost use Rattle.mh_kernels.specs.Kernels.{IsJoined};
 ghost use Rattle.mh_kernels.specs.Order.{place_order};
 
 use crate::kernels::KernelItem;
@@ -28,6 +30,30 @@ pub fn advanced<const W: usize>(item: &KernelItem<W>) -> KernelItem<W>
         production: item.production,
         dot: item.dot + 1,
         looks: item.looks.copied(),
+    }
+}
+
+/// The same item. It takes no memory.
+pub fn copied_item<const W: usize>(item: &KernelItem<W>) -> KernelItem<W>
+    ensures { result ≡ item.now }
+{
+    KernelItem {
+        production: item.production,
+        dot: item.dot,
+        looks: item.looks.copied(),
+    }
+}
+
+/// An item with the looks of another one, too.
+pub fn joined_item<const W: usize>(item: &KernelItem<W>, other: &KernelItem<W>) -> KernelItem<W>
+    ensures { IsJoined item.now other.now result }
+{
+    let mut looks = item.looks.copied();
+    looks.union_into(&other.looks);
+    KernelItem {
+        production: item.production,
+        dot: item.dot,
+        looks,
     }
 }
 

@@ -7,7 +7,7 @@ mod laws;
 mod places;
 mod starts;
 
-pub use items::{advanced, first_item, is_marked, order, passed_on};
+pub use items::{advanced, copied_item, first_item, is_marked, joined_item, order, passed_on};
 pub use kernels::{
     Automaton, AutomatonWith, Closure, ItemWith, ItemsWith, Kernel, KernelItem, StatesFault,
 };

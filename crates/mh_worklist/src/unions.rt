@@ -1,11 +1,11 @@
 //! Two kernels of one core as one.
 ghost use Rattle.std.specs.Prelude.{◌≡◌, ◌<◌, ◌≤◌, length, IfOk};
 ghost use Rattle.mh_grammar.specs.Plain.{PlainGrammar, plain_of};
-ghost use Rattle.mh_kernels.specs.Kernels.{Holds, IsItemList, IsJoined};
+ghost use Rattle.mh_kernels.specs.Kernels.{Holds, IsItemList};
 ghost use Rattle.mh_states.specs.Weak.{OneCore, IsJoin};
 
 use mh_grammar::{Grammar, Memory, Sequence};
-use mh_kernels::{Kernel, KernelItem};
+use mh_kernels::{Kernel, copied_item, joined_item};
 use std::alloc::Global;
 
 /// The kernel that has the looks of two kernels of one core.
@@ -28,25 +28,11 @@ pub(crate) fn joined<const W: usize>(
     let theirs = right.items.as_slice();
     let mut items = Vec::with_capacity(alloc, ours.len())?;
     for i in 0..ours.len() {
-        items.push(with_looks(&ours[i], &theirs[i]))?;
+        items.push(joined_item(&ours[i], &theirs[i]))?;
     }
     Ok(Kernel {
         items: Sequence::from_vec(items),
     })
-}
-
-/// An item with the looks of another one, too.
-fn with_looks<const W: usize>(item: &KernelItem<W>, other: &KernelItem<W>) -> KernelItem<W>
-    requires { W ≤ 8 }
-    ensures { IsJoined item.now other.now result }
-{
-    let mut looks = item.looks.copied();
-    looks.union_into(&other.looks);
-    KernelItem {
-        production: item.production,
-        dot: item.dot,
-        looks,
-    }
 }
 
 /// A copy of a kernel. Fails for want of memory alone.
@@ -62,15 +48,4 @@ pub fn copied<const W: usize>(alloc: Global, kernel: &Kernel<W>) -> Result<Kerne
     Ok(Kernel {
         items: Sequence::from_vec(all),
     })
-}
-
-fn copied_item<const W: usize>(item: &KernelItem<W>) -> KernelItem<W>
-    requires { W ≤ 8 }
-    ensures { result ≡ item.now }
-{
-    KernelItem {
-        production: item.production,
-        dot: item.dot,
-        looks: item.looks.copied(),
-    }
 }

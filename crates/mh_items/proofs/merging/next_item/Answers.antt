@@ -15,7 +15,7 @@ returns-in-Less-clause-merged _ c =
     let x = c.index-left-i.result in
     let t = rw c.in-Less.is at c.turn.ensures in
     let at : slice_get left c.args.i ≡ Some x = slice_get_read left (length left) c.args.i x refl t.0 c.index-left-i.is in
-    λ items merged. rw c.copied.ensures (IsMerged-left g left c.args.right.now items c.args.i c.args.j c.requires.left c.requires.right merged x at (λ y e. t.1 x y at e))
+    λ items merged. rw c.copied_item.ensures (IsMerged-left g left c.args.right.now items c.args.i c.args.j c.requires.left c.requires.right merged x at (λ y e. t.1 x y at e))
 
 pub returns-in-Less-clause-more : goal.returns-in-Less-clause-more
 returns-in-Less-clause-more _ c = omega arith
@@ -27,7 +27,7 @@ returns-in-Greater-clause-merged _ c =
     let y = c.index-right-j.result in
     let t = rw c.in-Greater.is at c.turn.ensures in
     let at : slice_get right c.args.j ≡ Some y = slice_get_read right (length right) c.args.j y refl t.0 c.index-right-j.is in
-    λ items merged. rw c.copied-in-Greater.ensures (IsMerged-right g c.args.left.now right items c.args.i c.args.j c.requires.left c.requires.right merged y at (λ x e. t.1 x y e at))
+    λ items merged. rw c.copied_item-in-Greater.ensures (IsMerged-right g c.args.left.now right items c.args.i c.args.j c.requires.left c.requires.right merged y at (λ x e. t.1 x y e at))
 
 pub returns-in-Greater-clause-more : goal.returns-in-Greater-clause-more
 returns-in-Greater-clause-more _ c = omega arith
@@ -39,13 +39,13 @@ returns-in-Equal-clause-merged _ c =
     let right = c.args.right.now in
     let x = c.index-left-i-in-Equal.result in
     let y = c.index-right-j-in-Equal.result in
-    let z = c.joined.result in
+    let z = c.joined_item.result in
     let t = rw c.in-Equal.is at c.turn.ensures in
     let at : slice_get left c.args.i ≡ Some x = slice_get_read left (length left) c.args.i x refl t.0 c.index-left-i-in-Equal.is in
     let at' : slice_get right c.args.j ≡ Some y = slice_get_read right (length right) c.args.j y refl t.1 c.index-right-j-in-Equal.is in
     let place = t.2 x y at at' in
-    let valid = joined_item g x y z (recursion_at (IsKernelItem g) left c.requires.left.items c.args.i x at) (recursion_at (IsKernelItem g) right c.requires.right.items c.args.j y at') c.joined.ensures in
-    λ items merged. IsMerged-both g left right items c.args.i c.args.j c.requires.left c.requires.right merged x y z at at' place.0 place.1 valid c.joined.ensures
+    let valid = joined_item g x y z (recursion_at (IsKernelItem g) left c.requires.left.items c.args.i x at) (recursion_at (IsKernelItem g) right c.requires.right.items c.args.j y at') c.joined_item.ensures in
+    λ items merged. IsMerged-both g left right items c.args.i c.args.j c.requires.left c.requires.right merged x y z at at' place.0 place.1 valid c.joined_item.ensures
 
 pub returns-in-Equal-clause-more : goal.returns-in-Equal-clause-more
 returns-in-Equal-clause-more _ c = omega arith

@@ -26,7 +26,7 @@ loop-i-preserved g c =
     let within : i < length theirs = rw c.as_slice-theirs.ensures (omega (arith, paired.0, rw c.as_slice-ours.ensures at c.loop-i-test.true)) in
     let at : slice_get ours i ≡ Some c.index-ours-i.result = slice_get_read ours (length ours) i c.index-ours-i.result refl c.loop-i-test.true c.index-ours-i.is in
     let to : slice_get theirs i ≡ Some c.index-theirs-i.result = slice_get_read theirs (length theirs) i c.index-theirs-i.result refl within c.index-theirs-i.is in
-    rw c.in_ok-push.ensures.items (joined-more ours theirs c.loop-i.items.items i c.index-ours-i.result c.index-theirs-i.result c.with_looks.result at to c.with_looks.ensures c.loop-i.invariant)
+    rw c.in_ok-push.ensures.items (joined-more ours theirs c.loop-i.items.items i c.index-ours-i.result c.index-theirs-i.result c.joined_item.result at to c.joined_item.ensures c.loop-i.invariant)
 
 pub returns-clause-kernel : goal.returns-clause-kernel
 returns-clause-kernel g c =
