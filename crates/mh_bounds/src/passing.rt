@@ -7,7 +7,8 @@ pub const MAX_BOUND: u32 = 9_900;
 
 /// What a passage behind `count` reductions and one asks of the bound where it begins, if the one where it ends is known.
 pub fn asked(count: u32, onward: u32) -> u32
-    ensures { (b : ℕ) → result ≤ b → b ≤ MAX_BOUND → count + 1 + onward ≤ b }
+    ensures enough { (b : ℕ) → result ≤ b → b ≤ MAX_BOUND → count + 1 + onward ≤ b }
+    ensures least { (b : ℕ) → count + 1 + onward ≤ b → b ≤ MAX_BOUND → result ≤ b }
 {
     if MAX_BOUND <= onward || MAX_BOUND <= count {
         return MAX_BOUND + 1;
