@@ -20,17 +20,9 @@ use mh_prepared::Prepared;
 use mh_tables::Halting;
 use std::alloc::Global;
 
-/// Messages files of a grammar, against its table.
+/// Messages files of a grammar: spelled by its names, or checked against its table, too.
 #[derive(Drop)]
 struct MessagesFiles<'a> {
-    grammar: &'a Grammar,
-    table: &'a Halting,
-    ghost same: { table.now.grammar ≡ plain_of grammar.now },
-}
-
-/// The same by themselves; what the table says of the grammar is used alone.
-#[derive(Drop)]
-struct SpelledFiles<'a> {
     grammar: &'a Grammar,
     table: &'a Halting,
     ghost same: { table.now.grammar ≡ plain_of grammar.now },
@@ -113,7 +105,7 @@ impl Spelling<Compiled> for MessagesFiles<'_> {
     }
 }
 
-impl Spelling<MsgFile> for SpelledFiles<'_> {
+impl Spelling<MsgFile> for MessagesFiles<'_> {
     ghost use Rattle.mh_plans.specs.MessagesStage.{IsMessagesFile};
 
     ghost Spells = { λ s. IsMessagesFile s.grammar.now };
@@ -162,7 +154,7 @@ pub fn read_spelled_file<F: Shelf, const W: usize>(
     ensures counts { ShelfCounts (F.faults shelf.old) (F.faults shelf.new) result }
     ensures kept { F.files shelf.new ≡ F.files shelf.old }
 {
-    let files = SpelledFiles {
+    let files = MessagesFiles {
         grammar: &prepared.grammar,
         table: &prepared.tabled.halting,
     };
