@@ -31,11 +31,11 @@ pub(crate) fn list_all<const W: usize>(
 {
     begin(alloc, grammar, worklist)?;
     let mut mover = Mover::new(alloc, grammar)?;
-    settle(alloc, grammar, &mut mover, worklist)
+    step_all(alloc, grammar, &mut mover, worklist)
 }
 
 /// Makes steps from the start kernels on.
-fn settle<const W: usize>(
+fn step_all<const W: usize>(
     alloc: Global,
     grammar: &Grammar,
     mover: &mut Mover<W>,

@@ -5,7 +5,7 @@ use Rattle.mh_worklist.specs.Worklist.{work_of, IsKept}
 use Rattle.mh_merging.specs.Steps.{IsList}
 use Rattle.mh_mover.specs.Mover.{IsMover}
 use Rattle.mh_pager.proofs.Weights.{weight}
-use Rattle.mh_pager.proofs.listed.settle.Given as goal
+use Rattle.mh_pager.proofs.listed.step_all.Given as goal
 
 abbrev pub invariant-steps : goal.invariant-steps
 invariant-steps g l = record {
