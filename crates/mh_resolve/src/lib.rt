@@ -6,6 +6,6 @@ mod resolution;
 mod states;
 
 pub use resolution::{
-    conflicts_are_one, conflicts_are_raw, conflicts_tell, resolve, resolve_one, resolve_states,
-    table_acts, table_is_one,
+    Resolution, conflicts_are_one, conflicts_are_raw, conflicts_tell, resolve, resolve_one,
+    resolve_states, table_acts, table_is_one,
 };

@@ -16,13 +16,20 @@ ghost use Rattle.mh_cells.specs.Clear.{HasNoConflicts, HasRawConflict, ActsWithi
 ghost use Rattle.mh_cells.specs.code.Whole.{closed_state, IsRow, AreEdgesKnown};
 
 use crate::found::add_conflicts;
-use crate::states::{Row, parts_of, row_of};
+use crate::states::{Listed, Row, parts_of, row_of};
 use mh_cells::{Conflict, Mode};
 use mh_grammar::{Edge, Grammar, Memory};
 use mh_items::Closer;
-use mh_kernels::{Automaton, Closure, Kernel};
+use mh_kernels::{Automaton, Kernel};
 use mh_tables::{StateParts, Table, table_of};
 use std::alloc::Global;
+
+/// The states of a table, and the list of its conflicts.
+#[derive(Drop)]
+pub struct Resolution {
+    pub states: Vec<StateParts>,
+    pub conflicts: Vec<Conflict>,
+}
 
 /// A state of the table, and what was found of it.
 #[derive(Drop)]
@@ -51,10 +58,20 @@ fn resolve_state<const W: usize>(
     ensures closer { IfOk result (λ _. IsCloser (plain_of grammar.now) closer.new) }
 {
     if !closer.adds_complete(grammar, kernel) {
-        return resolve_listed(alloc, grammar, kernel, kernel, edges, mode);
+        let state = Listed {
+            kernel,
+            closed: kernel,
+            edges,
+        };
+        return resolve_listed(alloc, grammar, &state, mode);
     }
     let closed = closer.close(alloc, grammar, kernel)?;
-    resolve_listed(alloc, grammar, kernel, &closed, edges, mode)
+    let state = Listed {
+        kernel,
+        closed: &closed,
+        edges,
+    };
+    resolve_listed(alloc, grammar, &state, mode)
 }
 
 /// The parts of the table of one state by itself, of its kernel and its edges. Fails for want of memory alone.
@@ -84,21 +101,19 @@ pub fn resolve_one<const W: usize>(
 fn resolve_listed<const W: usize>(
     alloc: Global,
     grammar: &Grammar,
-    kernel: &Kernel<W>,
-    closed: &Closure<W>,
-    edges: &[Edge],
+    state: &Listed<'_, W>,
     mode: Mode,
 ) -> Result<Resolved, Memory>
     requires few { W ≤ 8 }
-    requires closed { IsItemList (plain_of grammar.now) closed.now }
-    requires exact { HasComplete (plain_of grammar.now) kernel.now closed.now }
-    requires rising { IsRising IsEdgeBefore edges.now }
-    requires known { AreEdgesKnown (length grammar.now.tokens) edges.now }
-    ensures parts { IfOk result (λ r. IsResolved mode (closed_state grammar.now kernel.now edges.now) kernel.now r.parts) }
-    ensures row { IfOk result (λ r. IsRow (closed_state grammar.now kernel.now edges.now) r.row.cells r.row.last r.row.stream) }
+    requires closed { IsItemList (plain_of grammar.now) state.now.closed.now }
+    requires exact { HasComplete (plain_of grammar.now) state.now.kernel.now state.now.closed.now }
+    requires rising { IsRising IsEdgeBefore state.now.edges.now }
+    requires known { AreEdgesKnown (length grammar.now.tokens) state.now.edges.now }
+    ensures parts { IfOk result (λ r. IsResolved mode (closed_state grammar.now state.now.kernel.now state.now.edges.now) state.now.kernel.now r.parts) }
+    ensures row { IfOk result (λ r. IsRow (closed_state grammar.now state.now.kernel.now state.now.edges.now) r.row.cells r.row.last r.row.stream) }
 {
-    let row = row_of(alloc, grammar, kernel, closed, edges)?;
-    let parts = parts_of(alloc, grammar, kernel, closed, edges, mode, &row)?;
+    let row = row_of(alloc, grammar, state)?;
+    let parts = parts_of(alloc, grammar, state, mode, &row)?;
     Ok(Resolved { parts, row })
 }
 
@@ -108,30 +123,21 @@ fn all_states<const W: usize>(
     grammar: &Grammar,
     automaton: &Automaton<W>,
     mode: Mode,
-    states: &mut Vec<StateParts>,
-    conflicts: &mut Vec<Conflict>,
+    found: &mut Resolution,
 ) -> Result<(), Memory>
     requires few { W ≤ 8 }
     requires width { length grammar.now.tokens ≤ 64 * W }
     requires range { IsInRange (plain_of grammar.now) }
     requires costs { HaveCosts grammar.now.tokens }
     requires automaton { IsAutomaton (plain_of grammar.now) automaton.now }
-    requires none { states.old.items ≡ [] }
-    requires free { conflicts.old.items ≡ [] }
-    ensures states { OnOk result (AreResolved grammar.now automaton.now mode states.new.items) }
-    ensures facts { OnOk result (Facts (table_data grammar.now states.new.items)) }
-    ensures conflicts { OnOk result (AreConflicts grammar.now automaton.now conflicts.new.items) }
+    requires none { found.old.states.items ≡ [] }
+    requires free { found.old.conflicts.items ≡ [] }
+    ensures states { OnOk result (AreResolved grammar.now automaton.now mode found.new.states.items) }
+    ensures facts { OnOk result (Facts (table_data grammar.now found.new.states.items)) }
+    ensures conflicts { OnOk result (AreConflicts grammar.now automaton.now found.new.conflicts.items) }
 {
     let mut closer = Closer::new(alloc, grammar)?;
-    add_states(
-        alloc,
-        grammar,
-        &mut closer,
-        automaton,
-        mode,
-        states,
-        conflicts,
-    )
+    add_states(alloc, grammar, &mut closer, automaton, mode, found)
 }
 
 /// The same, state after state.
@@ -141,8 +147,7 @@ fn add_states<const W: usize>(
     closer: &mut Closer<W>,
     automaton: &Automaton<W>,
     mode: Mode,
-    states: &mut Vec<StateParts>,
-    conflicts: &mut Vec<Conflict>,
+    found: &mut Resolution,
 ) -> Result<(), Memory>
     requires few { W ≤ 8 }
     requires width { length grammar.now.tokens ≤ 64 * W }
@@ -150,18 +155,18 @@ fn add_states<const W: usize>(
     requires costs { HaveCosts grammar.now.tokens }
     requires automaton { IsAutomaton (plain_of grammar.now) automaton.now }
     requires closer { IsCloser (plain_of grammar.now) closer.old }
-    requires none { states.old.items ≡ [] }
-    requires free { conflicts.old.items ≡ [] }
-    ensures states { OnOk result (AreResolved grammar.now automaton.now mode states.new.items) }
-    ensures facts { OnOk result (Facts (table_data grammar.now states.new.items)) }
-    ensures conflicts { OnOk result (AreConflicts grammar.now automaton.now conflicts.new.items) }
+    requires none { found.old.states.items ≡ [] }
+    requires free { found.old.conflicts.items ≡ [] }
+    ensures states { OnOk result (AreResolved grammar.now automaton.now mode found.new.states.items) }
+    ensures facts { OnOk result (Facts (table_data grammar.now found.new.states.items)) }
+    ensures conflicts { OnOk result (AreConflicts grammar.now automaton.now found.new.conflicts.items) }
 {
     for state in 0..automaton.kernels.len() {
         let kernel = &automaton.kernels[state];
         let edges = automaton.edges[state].as_slice();
         let resolved = resolve_state(alloc, grammar, closer, kernel, edges, mode)?;
-        add_conflicts(conflicts, state as u32, &resolved.row)?;
-        states.push(resolved.parts)?;
+        add_conflicts(&mut found.conflicts, state as u32, &resolved.row)?;
+        found.states.push(resolved.parts)?;
     }
     Ok(())
 }
@@ -173,20 +178,22 @@ pub fn resolve_states<const W: usize>(
     grammar: &Grammar,
     automaton: &Automaton<W>,
     mode: Mode,
-) -> Result<(Vec<StateParts>, Vec<Conflict>), Memory>
+) -> Result<Resolution, Memory>
     requires few { W ≤ 8 }
     requires width { length grammar.now.tokens ≤ 64 * W }
     requires range { IsInRange (plain_of grammar.now) }
     requires costs { HaveCosts grammar.now.tokens }
     requires automaton { IsAutomaton (plain_of grammar.now) automaton.now }
-    ensures states { IfOk result (λ r. AreResolved grammar.now automaton.now mode r.0.items) }
-    ensures facts { IfOk result (λ r. Facts (table_data grammar.now r.0.items)) }
-    ensures conflicts { IfOk result (λ r. AreConflicts grammar.now automaton.now r.1.items) }
+    ensures states { IfOk result (λ r. AreResolved grammar.now automaton.now mode r.states.items) }
+    ensures facts { IfOk result (λ r. Facts (table_data grammar.now r.states.items)) }
+    ensures conflicts { IfOk result (λ r. AreConflicts grammar.now automaton.now r.conflicts.items) }
 {
-    let mut states = Vec::with_capacity(alloc, automaton.kernels.len())?;
-    let mut conflicts = Vec::new(alloc);
-    all_states(alloc, grammar, automaton, mode, &mut states, &mut conflicts)?;
-    Ok((states, conflicts))
+    let mut found = Resolution {
+        states: Vec::with_capacity(alloc, automaton.kernels.len())?,
+        conflicts: Vec::new(alloc),
+    };
+    all_states(alloc, grammar, automaton, mode, &mut found)?;
+    Ok(found)
 }
 
 /// The table of an automaton, with conflicts resolved by levels, and the list of its conflicts: by state, then by token
@@ -208,7 +215,7 @@ pub fn resolve<const W: usize>(
     ensures table { IfOk result (λ r. IsTableOf grammar.now automaton.now mode r.0) }
     ensures conflicts { IfOk result (λ r. AreConflicts grammar.now automaton.now r.1.items) }
 {
-    let (states, conflicts) = resolve_states(alloc, grammar, automaton, mode)?;
+    let Resolution { states, conflicts } = resolve_states(alloc, grammar, automaton, mode)?;
     Ok((table_of(alloc, grammar, states)?, conflicts))
 }
 

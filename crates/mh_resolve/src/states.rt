@@ -19,6 +19,14 @@ use mh_settling::{
 use mh_tables::{Action, CoreItem, Fallback, StateParts};
 use std::alloc::Global;
 
+/// What a state is resolved by: its kernel, a list with the complete items of its closure, and its edges.
+#[derive(Clone, Copy)]
+pub(crate) struct Listed<'a, const W: usize> {
+    pub kernel: &'a Kernel<W>,
+    pub closed: &'a Closure<W>,
+    pub edges: &'a [Edge],
+}
+
 /// What was found of a state: the cells of the tokens and of the end of the stream, and whether they conflict.
 #[derive(Drop)]
 pub(crate) struct Row {
@@ -102,23 +110,21 @@ pub(crate) fn fallback_of(grammar: &Grammar, default: Option<u32>) -> Option<Fal
     }
 }
 
-/// The row of a state, by a list with the complete items of its closure.
+/// The row of a state.
 pub(crate) fn row_of<const W: usize>(
     alloc: Global,
     grammar: &Grammar,
-    kernel: &Kernel<W>,
-    closed: &Closure<W>,
-    edges: &[Edge],
+    state: &Listed<'_, W>,
 ) -> Result<Row, Memory>
     requires few { W ≤ 8 }
-    requires kernel { IsItemList (plain_of grammar.now) closed.now }
-    requires exact { HasComplete (plain_of grammar.now) kernel.now closed.now }
-    requires rising { IsRising IsEdgeBefore edges.now }
-    requires known { AreEdgesKnown (length grammar.now.tokens) edges.now }
-    ensures { IfOk result (λ row. IsRow (closed_state grammar.now kernel.now edges.now) row.cells row.last row.stream) }
+    requires kernel { IsItemList (plain_of grammar.now) state.now.closed.now }
+    requires exact { HasComplete (plain_of grammar.now) state.now.kernel.now state.now.closed.now }
+    requires rising { IsRising IsEdgeBefore state.now.edges.now }
+    requires known { AreEdgesKnown (length grammar.now.tokens) state.now.edges.now }
+    ensures { IfOk result (λ row. IsRow (closed_state grammar.now state.now.kernel.now state.now.edges.now) row.cells row.last row.stream) }
 {
-    let items = closed.items.as_slice();
-    let shifts = shifts_of(alloc, grammar.tokens.len(), edges)?;
+    let items = state.closed.items.as_slice();
+    let shifts = shifts_of(alloc, grammar.tokens.len(), state.edges)?;
     let tallies = tallies_of(alloc, grammar, items, shifts.as_slice())?;
     let cells = cells_of(alloc, tallies.tokens.as_slice(), shifts.as_slice())?;
     let last = settle(tallies.last, None);
@@ -130,29 +136,27 @@ pub(crate) fn row_of<const W: usize>(
     })
 }
 
-/// The parts of a state, from its row and a list with the complete items of its closure.
+/// The parts of a state, from its row.
 pub(crate) fn parts_of<const W: usize>(
     alloc: Global,
     grammar: &Grammar,
-    kernel: &Kernel<W>,
-    closed: &Closure<W>,
-    edges: &[Edge],
+    state: &Listed<'_, W>,
     mode: Mode,
     row: &Row,
 ) -> Result<StateParts, Memory>
     requires few { W ≤ 8 }
-    requires closed { IsItemList (plain_of grammar.now) closed.now }
-    requires exact { HasComplete (plain_of grammar.now) kernel.now closed.now }
-    requires row { IsRow (closed_state grammar.now kernel.now edges.now) row.now.cells row.now.last row.now.stream }
-    ensures { IfOk result (IsResolved mode (closed_state grammar.now kernel.now edges.now) kernel.now) }
+    requires closed { IsItemList (plain_of grammar.now) state.now.closed.now }
+    requires exact { HasComplete (plain_of grammar.now) state.now.kernel.now state.now.closed.now }
+    requires row { IsRow (closed_state grammar.now state.now.kernel.now state.now.edges.now) row.now.cells row.now.last row.now.stream }
+    ensures { IfOk result (IsResolved mode (closed_state grammar.now state.now.kernel.now state.now.edges.now) state.now.kernel.now) }
 {
     let cells = row.cells.as_slice();
     let kept = kept_action(row.stream, row.last.action);
     let default = default_of(cells, kept, mode);
-    let filler = filler_of(grammar, closed.items.as_slice(), default);
+    let filler = filler_of(grammar, state.closed.items.as_slice(), default);
     let actions = actions_of(alloc, cells, filler)?;
-    let core = core_of(alloc, kernel.items.as_slice())?;
-    let copies = Vec::from_slice(alloc, edges)?;
+    let core = core_of(alloc, state.kernel.items.as_slice())?;
+    let copies = Vec::from_slice(alloc, state.edges)?;
     Ok(StateParts {
         cells: Sequence::from_vec(actions),
         fallback: fallback_of(grammar, default),

@@ -19,7 +19,7 @@ use mh_grammar::{Edge, Grammar, Memory, Sequence};
 use mh_items::Closer;
 use mh_kernels::{Automaton, Kernel};
 use mh_matches::first_lacking;
-use mh_resolve::{resolve_one, resolve_states};
+use mh_resolve::{Resolution, resolve_one, resolve_states};
 use mh_stated::{first_kernels, has_header};
 use mh_tabform::RawTable;
 use mh_tables::{StateParts, Table, table_of};
@@ -168,9 +168,10 @@ fn with_table<const W: usize>(
     requires rows { AreRows grammar.now raw.now automaton.kernels automaton.edges }
     ensures { IsOutcome grammar.now raw.now result }
 {
-    let Ok((states, conflicts)) = resolve_states(alloc, grammar, &automaton, raw.mode) else {
+    let Ok(found) = resolve_states(alloc, grammar, &automaton, raw.mode) else {
         return Err(ValidFault::Memory);
     };
+    let Resolution { states, conflicts } = found;
     let told = count_told(grammar, raw, states.as_slice());
     if told < states.len() {
         return Err(wrong_at(grammar, raw, told, &states[told]));

@@ -28,10 +28,10 @@ pub loop-state-preserved : goal.loop-state-preserved
 loop-state-preserved g c =
     let n = c.len-state-end.ensures in (
       front_more c.args.grammar.now c.args.automaton.now c.requires.automaton c.args.mode c.loop-state.state c.index-kernel.result.now c.as_slice-edges.result.now c.index.result.now (omega arith) c.index-kernel.ensures c.index.ensures c.as_slice-edges.ensures
-          c.in_ok-resolved.resolved.parts c.in_ok-resolved.ensures.parts c.loop-state.states.items c.push.new.self.items c.in_ok-push.ensures.items c.loop-state.invariant.0,
+          c.in_ok-resolved.resolved.parts c.in_ok-resolved.ensures.parts c.loop-state.found.states.items c.push.new.self.items c.in_ok-push.ensures.items c.loop-state.invariant.0,
       collected_more c.args.grammar.now c.args.automaton.now c.loop-state.state c.in_ok-resolved.resolved.row.cells c.in_ok-resolved.resolved.row.last c.in_ok-resolved.resolved.row.stream
           (row_at c.args.grammar.now c.args.automaton.now c.requires.automaton c.loop-state.state c.index-kernel.result.now c.as_slice-edges.result.now c.index.result.now (omega arith) c.index-kernel.ensures c.index.ensures c.as_slice-edges.ensures _ _ _ c.in_ok-resolved.ensures.row)
-          c.loop-state.conflicts.items _ c.in_ok-add_conflicts.ensures c.loop-state.invariant.1,
+          c.loop-state.found.conflicts.items _ c.in_ok-add_conflicts.ensures c.loop-state.invariant.1,
       c.in_ok-resolved.ensures.closer,
     )
 
@@ -39,7 +39,7 @@ pub returns-clause-facts : goal.returns-clause-facts
 returns-clause-facts g c =
     let n = c.len-state-end.ensures in
     let e : c.loop-state.state ≡ length c.args.automaton.now.kernels = omega arith in
-    facts_of c.args.grammar.now c.args.automaton.now c.args.mode c.loop-state.states.items c.requires.range c.requires.costs c.requires.automaton (all_resolved c.args.grammar.now c.args.automaton.now c.args.mode c.loop-state.state c.loop-state.states.items e c.loop-state.invariant.0)
+    facts_of c.args.grammar.now c.args.automaton.now c.args.mode c.loop-state.found.states.items c.requires.range c.requires.costs c.requires.automaton (all_resolved c.args.grammar.now c.args.automaton.now c.args.mode c.loop-state.state c.loop-state.found.states.items e c.loop-state.invariant.0)
 
 pub returns-clause-conflicts : goal.returns-clause-conflicts
 returns-clause-conflicts g c =
@@ -51,4 +51,4 @@ pub returns-clause-states : goal.returns-clause-states
 returns-clause-states g c =
     let n = c.len-state-end.ensures in
     let e : c.loop-state.state ≡ length c.args.automaton.now.kernels = omega arith in
-    all_resolved c.args.grammar.now c.args.automaton.now c.args.mode c.loop-state.state c.loop-state.states.items e c.loop-state.invariant.0
+    all_resolved c.args.grammar.now c.args.automaton.now c.args.mode c.loop-state.state c.loop-state.found.states.items e c.loop-state.invariant.0
