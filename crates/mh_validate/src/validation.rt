@@ -35,25 +35,32 @@ pub struct Valid<const W: usize> {
     pub mode: Mode,
 }
 
+/// What a file states up to its edges: its kernels, and the edges of the first states.
+#[derive(Clone, Copy)]
+struct Stated<'a, const W: usize> {
+    raw: &'a RawTable,
+    kernels: &'a [Kernel<W>],
+    rows: &'a [Sequence<Edge>],
+}
+
 /// The parts of the first states, of so many as have edges here.
 fn fill_parts<const W: usize>(
     alloc: Global,
     grammar: &Grammar,
     closer: &mut Closer<W>,
-    raw: &RawTable,
-    kernels: &[Kernel<W>],
-    rows: &[Sequence<Edge>],
+    stated: &Stated<'_, W>,
     states: &mut Vec<StateParts>,
 ) -> Result<(), Memory>
     requires few { W ≤ 8 }
     requires width { length grammar.now.tokens ≤ 64 * W }
     requires range { IsInRange (plain_of grammar.now) }
     requires closer { IsCloser (plain_of grammar.now) closer.old }
-    requires kernels { AreKernels grammar.now raw.now kernels.now }
-    requires rows { AreFirstRows grammar.now raw.now kernels.now rows.now }
+    requires kernels { AreKernels grammar.now stated.now.raw.now stated.now.kernels.now }
+    requires rows { AreFirstRows grammar.now stated.now.raw.now stated.now.kernels.now stated.now.rows.now }
     requires fresh { states.old.items ≡ [] }
-    ensures { OnOk result (AreResolvedRows grammar.now raw.now kernels.now rows.now states.new.items) }
+    ensures { OnOk result (AreResolvedRows grammar.now stated.now.raw.now stated.now.kernels.now stated.now.rows.now states.new.items) }
 {
+    let Stated { raw, kernels, rows } = *stated;
     for state in 0..rows.len() {
         let edges = rows[state].as_slice();
         let parts = resolve_one(alloc, grammar, closer, &kernels[state], edges, raw.mode)?;
@@ -66,21 +73,19 @@ fn fill_parts<const W: usize>(
 fn close_rows<const W: usize>(
     alloc: Global,
     grammar: &Grammar,
-    raw: &RawTable,
-    kernels: &[Kernel<W>],
-    rows: &[Sequence<Edge>],
+    stated: &Stated<'_, W>,
     states: &mut Vec<StateParts>,
 ) -> Result<(), Memory>
     requires few { W ≤ 8 }
     requires width { length grammar.now.tokens ≤ 64 * W }
     requires range { IsInRange (plain_of grammar.now) }
-    requires kernels { AreKernels grammar.now raw.now kernels.now }
-    requires rows { AreFirstRows grammar.now raw.now kernels.now rows.now }
+    requires kernels { AreKernels grammar.now stated.now.raw.now stated.now.kernels.now }
+    requires rows { AreFirstRows grammar.now stated.now.raw.now stated.now.kernels.now stated.now.rows.now }
     requires fresh { states.old.items ≡ [] }
-    ensures { OnOk result (AreResolvedRows grammar.now raw.now kernels.now rows.now states.new.items) }
+    ensures { OnOk result (AreResolvedRows grammar.now stated.now.raw.now stated.now.kernels.now stated.now.rows.now states.new.items) }
 {
     let mut closer = Closer::new(alloc, grammar)?;
-    let filled = fill_parts(alloc, grammar, &mut closer, raw, kernels, rows, states);
+    let filled = fill_parts(alloc, grammar, &mut closer, stated, states);
     // Let go of in one call, since it has many fields.
     drop(closer);
     filled
@@ -90,19 +95,17 @@ fn close_rows<const W: usize>(
 fn resolve_rows<const W: usize>(
     alloc: Global,
     grammar: &Grammar,
-    raw: &RawTable,
-    kernels: &[Kernel<W>],
-    rows: &[Sequence<Edge>],
+    stated: &Stated<'_, W>,
 ) -> Result<Vec<StateParts>, Memory>
     requires few { W ≤ 8 }
     requires width { length grammar.now.tokens ≤ 64 * W }
     requires range { IsInRange (plain_of grammar.now) }
-    requires kernels { AreKernels grammar.now raw.now kernels.now }
-    requires rows { AreFirstRows grammar.now raw.now kernels.now rows.now }
-    ensures { IfOk result (λ v. AreResolvedRows grammar.now raw.now kernels.now rows.now v.items) }
+    requires kernels { AreKernels grammar.now stated.now.raw.now stated.now.kernels.now }
+    requires rows { AreFirstRows grammar.now stated.now.raw.now stated.now.kernels.now stated.now.rows.now }
+    ensures { IfOk result (λ v. AreResolvedRows grammar.now stated.now.raw.now stated.now.kernels.now stated.now.rows.now v.items) }
 {
-    let mut states = Vec::with_capacity(alloc, rows.len())?;
-    close_rows(alloc, grammar, raw, kernels, rows, &mut states)?;
+    let mut states = Vec::with_capacity(alloc, stated.rows.len())?;
+    close_rows(alloc, grammar, stated, &mut states)?;
     Ok(states)
 }
 
@@ -110,27 +113,25 @@ fn resolve_rows<const W: usize>(
 fn fault_within<const W: usize>(
     alloc: Global,
     grammar: &Grammar,
-    raw: &RawTable,
-    kernels: &[Kernel<W>],
-    rows: &[Sequence<Edge>],
+    stated: &Stated<'_, W>,
 ) -> ValidFault
     requires few { W ≤ 8 }
     requires width { length grammar.now.tokens ≤ 64 * W }
     requires range { IsInRange (plain_of grammar.now) }
-    requires header { HasHeader grammar.now raw.now }
-    requires states { HasStates grammar.now raw.now }
-    requires small { length raw.now.states < 2 ^ 32 }
-    requires kernels { AreKernels grammar.now raw.now kernels.now }
-    requires rows { AreFirstRows grammar.now raw.now kernels.now rows.now }
-    requires short { length rows.now < length raw.now.states }
-    ensures { IsFault grammar.now raw.now result }
+    requires header { HasHeader grammar.now stated.now.raw.now }
+    requires states { HasStates grammar.now stated.now.raw.now }
+    requires small { length stated.now.raw.now.states < 2 ^ 32 }
+    requires kernels { AreKernels grammar.now stated.now.raw.now stated.now.kernels.now }
+    requires rows { AreFirstRows grammar.now stated.now.raw.now stated.now.kernels.now stated.now.rows.now }
+    requires short { length stated.now.rows.now < length stated.now.raw.now.states }
+    ensures { IsFault grammar.now stated.now.raw.now result }
 {
-    let Ok(parts) = resolve_rows(alloc, grammar, raw, kernels, rows) else {
+    let Ok(parts) = resolve_rows(alloc, grammar, stated) else {
         return ValidFault::Memory;
     };
-    let told = count_told(grammar, raw, parts.as_slice());
-    if told < rows.len() {
-        return wrong_at(grammar, raw, told, &parts[told]);
+    let told = count_told(grammar, stated.raw, parts.as_slice());
+    if told < stated.rows.len() {
+        return wrong_at(grammar, stated.raw, told, &parts[told]);
     }
     ValidFault::Invalid {
         state: Some(told as u32),
@@ -208,7 +209,12 @@ fn with_kernels<const W: usize>(
         return Err(ValidFault::Memory);
     };
     if rows.len() < raw.states.len() {
-        return Err(fault_within(alloc, grammar, raw, kernels.as_slice(), rows.as_slice()));
+        let stated = Stated {
+            raw,
+            kernels: kernels.as_slice(),
+            rows: rows.as_slice(),
+        };
+        return Err(fault_within(alloc, grammar, &stated));
     }
     with_table(
         alloc,
