@@ -60,39 +60,42 @@ fn level(tokens: &[TokenInfo], prec: Prec, rhs: &[Part]) -> Option<Level>
     }
 }
 
-fn production(
-    alloc: Global,
-    tokens: &[TokenInfo],
-    numbers: &[u16],
+/// What the productions of one alternative share.
+#[derive(Clone, Copy)]
+struct Shared<'a> {
+    tokens: &'a [TokenInfo],
+    numbers: &'a [u16],
     lhs: u16,
     prec: Prec,
-    choice: &Unfolding,
-) -> Result<Production, Memory>
-    requires { IsUnfoldingBelow (MAX_NUMBERED + 1) (length numbers.now) choice.now }
-    ensures { IfOk result (λ p. p ≡ production_by tokens.now numbers.now lhs (own prec choice.now)) }
+}
+
+fn production(alloc: Global, shared: &Shared<'_>, choice: &Unfolding) -> Result<Production, Memory>
+    requires { IsUnfoldingBelow (MAX_NUMBERED + 1) (length shared.now.numbers.now) choice.now }
+    ensures { IfOk result (λ p. p ≡ production_by shared.now.tokens.now shared.now.numbers.now shared.now.lhs (own shared.now.prec choice.now)) }
 {
     let parts = choice.rhs.to_vec(alloc)?;
     Ok(Production {
-        lhs,
-        rhs: Sequence::from_vec(symbols(alloc, numbers, parts.as_slice())?),
-        level: level(tokens, rightmost_prec(choice.prec, prec), parts.as_slice()),
+        lhs: shared.lhs,
+        rhs: Sequence::from_vec(symbols(alloc, shared.numbers, parts.as_slice())?),
+        level: level(
+            shared.tokens,
+            rightmost_prec(choice.prec, shared.prec),
+            parts.as_slice(),
+        ),
     })
 }
 
 fn add_productions(
     alloc: Global,
-    tokens: &[TokenInfo],
-    numbers: &[u16],
-    lhs: u16,
-    prec: Prec,
+    shared: &Shared<'_>,
     unfoldings: &[Unfolding],
     productions: &mut Vec<Production>,
 ) -> Result<(), Memory>
-    requires { All (IsUnfoldingBelow (MAX_NUMBERED + 1) (length numbers.now)) unfoldings.now }
-    ensures { OnOk result (productions.new.items ≡ productions.old.items ++ map (λ u. production_by tokens.now numbers.now lhs (own prec u)) unfoldings.now) }
+    requires { All (IsUnfoldingBelow (MAX_NUMBERED + 1) (length shared.now.numbers.now)) unfoldings.now }
+    ensures { OnOk result (productions.new.items ≡ productions.old.items ++ map (λ u. production_by shared.now.tokens.now shared.now.numbers.now shared.now.lhs (own shared.now.prec u)) unfoldings.now) }
 {
     for choice in unfoldings {
-        productions.push(production(alloc, tokens, numbers, lhs, prec, choice)?)?;
+        productions.push(production(alloc, shared, choice)?)?;
     }
     Ok(())
 }
@@ -142,16 +145,13 @@ fn add_origin(
 {
     let from = alternative(expanded, origin);
     let unfoldings = unfold_side(alloc, expanded, known, from.rhs.as_slice())?;
-    let lhs = numbers[origin.instance as usize];
-    add_productions(
-        alloc,
-        expanded.tokens.as_slice(),
+    let shared = Shared {
+        tokens: expanded.tokens.as_slice(),
         numbers,
-        lhs,
-        from.prec,
-        unfoldings.as_slice(),
-        productions,
-    )
+        lhs: numbers[origin.instance as usize],
+        prec: from.prec,
+    };
+    add_productions(alloc, &shared, unfoldings.as_slice(), productions)
 }
 
 /// The productions of all alternatives, in their order.
