@@ -4,7 +4,7 @@ use Rattle.std.specs.Prelude.{Result, Ok, Err, IfOk}
 use Rattle.mh_grammar.specs.declared.types.Grammar.{Grammar}
 use Rattle.mh_outside.specs.Shelf.{Files}
 use Rattle.mh_grammar.specs.Text.{Text}
-use Rattle.mh_drive.specs.Causes.{Go, Gives}
+use Rattle.mh_drive.specs.Causes.{Go, Halt, Gives}
 use Rattle.mh_drive.specs.Stages.{FilesGive, Halts, StageHas}
 use Rattle.mh_drive.specs.declared.stop.Cause.TheVariants.{Refused}
 use Rattle.mh_drive.specs.declared.stop.Stop.{Stop}
@@ -13,6 +13,8 @@ use Rattle.mh_drive.proofs.Binding.{no_names, then_on, then_stops}
 use Rattle.mh_grammar.specs.Plain.{plain_of}
 use Rattle.mh_kernels.specs.Automaton.{IsAutomaton}
 use Rattle.mh_kernels.specs.Shapes.{Automaton}
+use Rattle.mh_kernels.specs.declared.kernels.StatesFault.{StatesFault}
+use Rattle.mh_kernels.specs.declared.kernels.StatesFault.TheVariants as automata
 use Rattle.mh_cells.specs.declared.kinds.Mode.{Mode}
 use Rattle.mh_tables.specs.declared.parts.StateParts.{StateParts}
 use Rattle.mh_tabform.specs.declared.types.RawTable.{RawTable}
@@ -20,10 +22,10 @@ use Rattle.mh_valid.specs.declared.reason.Reason.{Reason}
 use Rattle.mh_valid.specs.Valid.{IsInvalidAt, IsValidFor}
 use Rattle.mh_validate.specs.declared.fault.ValidFault.{ValidFault}
 use Rattle.mh_validate.specs.declared.fault.ValidFault.TheVariants as tables
-use Rattle.mh_prepare.specs.Faults.{RejectsBy}
+use Rattle.mh_prepare.specs.Faults.{RejectsBy, RejectsStates}
 use Rattle.mh_prepare.specs.TableStage.{IsAutomatonStage, IsResolvedStage, IsTableStage, mode_of}
 use Rattle.mh_sources.specs.Sources.{IsSource}
-use Rattle.mh_prepare.specs.TableTexts.{invalid_line}
+use Rattle.mh_prepare.specs.TableTexts.{invalid_line, too_many_states}
 use Rattle.mh_loaded.specs.declared.front.Front.{Front}
 use Rattle.mh_prepare.specs.Preparing.{IsTabledFrom, IsTabledFront}
 use Rattle.mh_prepared.specs.Shapes.{Prepared, Tabled}
@@ -36,6 +38,18 @@ automaton_goes source g a r is has = then_on (IsAutomatonStage source g) (IsReso
 
 pub automaton_stops : (source : Source) (g : Grammar) (stop : Stop) → StageHas {A = Automaton} (IsAutomatonStage source g) (Err stop) → StageHas {A = Tabled} (IsTableStage source g) (Err stop)
 automaton_stops source g stop has = then_stops (IsAutomatonStage source g) (IsResolvedStage (mode_of source) g) (λ other. ⊥) stop has
+
+-- an automaton with too many states
+states_stop : (source : Source) (g : Grammar) (stop : Stop) → IsAutomatonStage source g (Halt (Refused too_many_states)) → Halts (Refused too_many_states) stop → StageHas {A = Automaton} (IsAutomatonStage source g) (Err stop)
+states_stop source g (Halted cause) is halts = subst (λ other. IsAutomatonStage source g (Halt other)) (sym halts) is
+states_stop source g OutOfMemory is halts = tt
+states_stop source g (ShelfFailed other) is halts = absurd halts
+states_stop source g InputFailed is halts = absurd halts
+states_stop source g WriteFailed is halts = absurd halts
+
+pub no_automaton_stops : (source : Source) (g : Grammar) (fault : StatesFault) (stop : Stop) → (fault ≡ automata.TooManyStates → IsAutomatonStage source g (Halt (Refused too_many_states))) → RejectsStates fault stop → StageHas {A = Automaton} (IsAutomatonStage source g) (Err stop)
+no_automaton_stops source g automata.TooManyStates stop is halts = states_stop source g stop (is refl) halts
+no_automaton_stops source g automata.Memory stop is halts = subst (λ (s : Stop). StageHas {A = Automaton} (IsAutomatonStage source g) (Err s)) (sym halts) tt
 
 -- the table of a valid file
 pub valid_table : (name : Text) (raw : RawTable) (g : Grammar) (a : Automaton) (parts : List StateParts) (r : Result Tabled Stop) → IsValidFor g raw a parts → StageHas (IsResolvedStage raw.mode g a) r → StageHas (IsTableStage (File name raw) g) r

@@ -3,6 +3,7 @@ ghost use Rattle.std.specs.Prelude.{◌≡◌, ◌<◌, ◌≤◌, ◌*◌, ◌^
 ghost use Rattle.mh_grammar.specs.Costs.{HaveCosts};
 ghost use Rattle.mh_grammar.specs.Plain.{plain_of, IsInRange};
 ghost use Rattle.mh_kernels.specs.Automaton.{IsAutomaton};
+ghost use Rattle.mh_prepare.specs.Faults.{RejectsStates};
 ghost use Rattle.mh_prepare.specs.TableStage.{IsAutomatonStage, IsResolvedStage, IsTableStage, IsValidated};
 ghost use Rattle.mh_drive.specs.Stages.{StageHas};
 ghost use Rattle.mh_sources.specs.declared.sources.Source.TheVariants.{Canonical, File, Merged};
@@ -26,6 +27,16 @@ use mh_tabling::too_many_states;
 use mh_validate::{Valid, validate};
 use std::alloc::Global;
 
+/// The refusal of a grammar whose automaton has too many states, or want of memory.
+fn no_automaton(alloc: Global, fault: StatesFault) -> Stop
+    ensures { RejectsStates fault result }
+{
+    match fault {
+        StatesFault::TooManyStates => too_many_states(alloc),
+        StatesFault::Memory => Stop::OutOfMemory,
+    }
+}
+
 /// The canonical automaton of a grammar.
 fn canonical_of<const W: usize>(alloc: Global, grammar: &Grammar) -> Result<Automaton<W>, Stop>
     requires few { W ≤ 8 }
@@ -36,8 +47,7 @@ fn canonical_of<const W: usize>(alloc: Global, grammar: &Grammar) -> Result<Auto
 {
     match canonical(alloc, grammar) {
         Ok(automaton) => Ok(automaton),
-        Err(StatesFault::TooManyStates) => Err(too_many_states(alloc)),
-        Err(StatesFault::Memory) => Err(Stop::OutOfMemory),
+        Err(fault) => Err(no_automaton(alloc, fault)),
     }
 }
 
@@ -51,8 +61,7 @@ fn merged_of<const W: usize>(alloc: Global, grammar: &Grammar) -> Result<Automat
 {
     match merged(alloc, grammar) {
         Ok(automaton) => Ok(automaton),
-        Err(StatesFault::TooManyStates) => Err(too_many_states(alloc)),
-        Err(StatesFault::Memory) => Err(Stop::OutOfMemory),
+        Err(fault) => Err(no_automaton(alloc, fault)),
     }
 }
 
@@ -66,7 +75,7 @@ fn merged_table<const W: usize>(alloc: Global, grammar: &Grammar) -> Result<Tabl
     ensures automaton { IfOk result (λ tabled. IsAutomaton (plain_of grammar.now) tabled.automaton) }
 {
     match merged_of(alloc, grammar) {
-        Ok(automaton) => with_table(alloc, Mode::Merged, grammar, automaton),
+        Ok(automaton) => with_table(alloc, grammar, automaton, Mode::Merged),
         Err(stop) => Err(stop),
     }
 }
@@ -81,7 +90,7 @@ fn canonical_table<const W: usize>(alloc: Global, grammar: &Grammar) -> Result<T
     ensures automaton { IfOk result (λ tabled. IsAutomaton (plain_of grammar.now) tabled.automaton) }
 {
     match canonical_of(alloc, grammar) {
-        Ok(automaton) => with_table(alloc, Mode::Canonical, grammar, automaton),
+        Ok(automaton) => with_table(alloc, grammar, automaton, Mode::Canonical),
         Err(stop) => Err(stop),
     }
 }
@@ -91,19 +100,18 @@ fn with_valid<const W: usize>(
     alloc: Global,
     grammar: &Grammar,
     valid: Valid<W>,
-    mode: Mode,
 ) -> Result<Tabled<W>, Stop>
     requires few { W ≤ 8 }
     requires width { length grammar.now.tokens ≤ 64 * W }
-    requires table { IsTableOf grammar.now valid.automaton mode valid.table }
+    requires table { IsTableOf grammar.now valid.automaton valid.mode valid.table }
     requires conflicts { AreConflicts grammar.now valid.automaton valid.conflicts.items }
-    ensures { StageHas (IsResolvedStage mode grammar.now valid.entry.automaton) result }
+    ensures { StageHas (IsResolvedStage valid.entry.mode grammar.now valid.entry.automaton) result }
 {
     let Valid {
         automaton,
         table,
         conflicts,
-        ..
+        mode,
     } = valid;
     where_halting(alloc, grammar, automaton, table, conflicts, mode)
 }
@@ -147,7 +155,7 @@ fn table_in<const W: usize>(
     ensures automaton { IfOk result (λ tabled. IsAutomaton (plain_of grammar.now) tabled.automaton) }
 {
     match validated(alloc, grammar, name, raw) {
-        Ok(valid) => with_valid(alloc, grammar, valid, raw.mode),
+        Ok(valid) => with_valid(alloc, grammar, valid),
         Err(stop) => Err(stop),
     }
 }

@@ -55,9 +55,9 @@ pub fn where_halting<const W: usize>(
 /// The automaton with the table that the resolution gives.
 pub fn with_table<const W: usize>(
     alloc: Global,
-    mode: Mode,
     grammar: &Grammar,
     automaton: Automaton<W>,
+    mode: Mode,
 ) -> Result<Tabled<W>, Stop>
     requires few { W ≤ 8 }
     requires width { length grammar.now.tokens ≤ 64 * W }
