@@ -33,13 +33,14 @@ pub fn check_halts(alloc: Global, table: Table) -> Result<Halting, HaltFault>
     ensures refused { IfErr result (λ fault. IsRefused table fault) }
 {
     table.facts();
+    // A table that is refused is let go in one call: the end of a scope lets go of each field by itself, which takes long to prove.
     match first_loop(alloc, &table) {
         Err(_) => {
-            release(table);
+            drop(table);
             Err(HaltFault::Memory)
         }
         Ok(Some(found)) => {
-            release(table);
+            drop(table);
             Err(HaltFault::Loops {
                 below: found.below,
                 state: found.state,
@@ -49,6 +50,3 @@ pub fn check_halts(alloc: Global, table: Table) -> Result<Halting, HaltFault>
         Ok(None) => Ok(halting_of(table)),
     }
 }
-
-/// Lets go of a table that is refused, in one call.
-fn release<T: Drop>(_value: T) {}

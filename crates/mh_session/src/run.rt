@@ -23,14 +23,15 @@ pub fn answer_all(
 {
     let mut session = Session::new(alloc, table);
     let mut answers = Vec::new(alloc);
+    // Each is let go in one call: the end of a scope lets go of each field by itself, which takes long to prove.
     match answer_each(&mut session, &mut answers, commands) {
         Ok(()) => {
-            release(session);
+            drop(session);
             Ok(answers)
         }
         Err(memory) => {
-            release(session);
-            release(answers);
+            drop(session);
+            drop(answers);
             Err(memory)
         }
     }
@@ -56,9 +57,6 @@ fn answer_each(
     }
     Ok(())
 }
-
-/// Lets go of what is of no more use, in one call.
-fn release<T: Drop>(_value: T) {}
 
 fn lacked_memory(answer: &Result<Reply, SessionFault>) -> bool
     ensures { IsTrue result ↔ (answer.now ≡ Err faults.Memory) }
