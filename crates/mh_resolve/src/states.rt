@@ -13,7 +13,7 @@ use mh_cells::{Cell, Mode};
 use mh_grammar::{Edge, Grammar, Memory, Sequence};
 use mh_kernels::{Closure, Kernel, KernelItem};
 use mh_settling::{
-    cells_of, default_of, for_errors, is_stream_conflict, kept_action, settle, shifts_of,
+    cell_of, cells_of, default_of, for_errors, is_stream_conflict, kept_action, shifts_of,
     tallies_of,
 };
 use mh_tables::{Action, CoreItem, Fallback, StateParts};
@@ -127,7 +127,7 @@ pub(crate) fn row_of<const W: usize>(
     let shifts = shifts_of(alloc, grammar.tokens.len(), state.edges)?;
     let tallies = tallies_of(alloc, grammar, items, shifts.as_slice())?;
     let cells = cells_of(alloc, tallies.tokens.as_slice(), shifts.as_slice())?;
-    let last = settle(tallies.last, None);
+    let last = cell_of(tallies.last, None);
     let stream = is_stream_conflict(cells.as_slice(), last.action);
     Ok(Row {
         cells: Sequence::from_vec(cells),

@@ -83,7 +83,7 @@ pub fn add_reduction(
 }
 
 /// The cell of a tally.
-pub fn settle(tally: Tally, shift: Option<u32>) -> Cell
+pub fn cell_of(tally: Tally, shift: Option<u32>) -> Cell
     ensures { result ≡ cell_from tally shift }
 {
     let action = match (tally.lowest, shift) {

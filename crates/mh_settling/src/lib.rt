@@ -9,7 +9,7 @@ mod holes;
 mod levels;
 mod row;
 
-pub use cells::settle;
+pub use cells::cell_of;
 pub use counting::{shifts_of, tallies_of};
 pub use errors::for_errors;
 pub use holes::holes_of;

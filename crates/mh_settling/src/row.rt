@@ -3,7 +3,7 @@ ghost use Rattle.std.specs.Prelude.{◌≡◌, ◌≢◌, ◌<◌, ◌↔◌, �
 ghost use Rattle.std.specs.List.{All};
 ghost use Rattle.mh_cells.specs.code.Rows.{AreSettled, IsStreamIn, IsChoice, IsDefaultIn, IsOtherwise, HasReduction, IsFit};
 
-use crate::cells::settle;
+use crate::cells::cell_of;
 use mh_actions::fits;
 use mh_cells::{Cell, Mode, Tally};
 use mh_grammar::Memory;
@@ -21,7 +21,7 @@ pub fn cells_of(
 {
     let mut cells = Vec::with_capacity(alloc, tallies.len())?;
     for token in 0..tallies.len() {
-        cells.push(settle(tallies[token], shifts[token]))?;
+        cells.push(cell_of(tallies[token], shifts[token]))?;
     }
     Ok(cells)
 }
