@@ -23,6 +23,13 @@ pub(crate) struct Measured {
     pub depth: usize,
 }
 
+/// What an actual is for, and the brackets that are open around it.
+#[derive(Drop)]
+pub(crate) struct Within {
+    pub purpose: Purpose,
+    pub pending: Stack<Pending>,
+}
+
 /// Whether one more than a depth within so many brackets is not too deep.
 fn has_room(depth: usize, brackets: usize) -> bool
     ensures { result ≡ nat_le (suc depth + brackets) MAX_DEPTH }
@@ -172,16 +179,16 @@ fn behind_argument(
 fn above(
     alloc: Global,
     made: Module,
-    purpose: Purpose,
-    pending: Stack<Pending>,
+    within: Within,
     read: Measured,
     sign: Sign,
     text: &[u8],
 ) -> Result<Reader, Refusal>
-    requires within { read.depth + length pending ≤ MAX_DEPTH }
-    requires deep { Deep pending }
-    ensures { Refers (machine.above made purpose pending read.actual read.depth sign text.now) result }
+    requires fits { read.depth + length within.pending ≤ MAX_DEPTH }
+    requires deep { Deep within.pending }
+    ensures { Refers (machine.above made within.purpose within.pending read.actual read.depth sign text.now) result }
 {
+    let Within { purpose, pending } = within;
     let mut rest = pending;
     match rest.pop() {
         None => {
@@ -196,13 +203,13 @@ fn above(
 fn suffix(
     alloc: Global,
     made: Module,
-    purpose: Purpose,
-    pending: Stack<Pending>,
+    within: Within,
     read: Measured,
     name: &[u8],
 ) -> Result<Reader, Refusal>
-    ensures { Refers (machine.deeper made purpose pending read.actual read.depth (machine.fits (suc read.depth) pending) name.now) result }
+    ensures { Refers (machine.deeper made within.purpose within.pending read.actual read.depth (machine.fits (suc read.depth) within.pending) name.now) result }
 {
+    let Within { purpose, pending } = within;
     let Measured { actual, depth } = read;
     if has_room(depth, pending.len()) {
         match wrapped(alloc, name, actual) {
@@ -218,34 +225,28 @@ fn suffix(
 pub(crate) fn after(
     alloc: Global,
     made: Module,
-    purpose: Purpose,
-    pending: Stack<Pending>,
+    within: Within,
     read: Measured,
     sign: Sign,
     text: &[u8],
 ) -> Result<Reader, Refusal>
-    requires within { read.depth + length pending ≤ MAX_DEPTH }
-    requires deep { Deep pending }
-    ensures { Refers (machine.after made purpose pending read.actual read.depth sign text.now) result }
+    requires fits { read.depth + length within.pending ≤ MAX_DEPTH }
+    requires deep { Deep within.pending }
+    ensures { Refers (machine.after made within.purpose within.pending read.actual read.depth sign text.now) result }
 {
     match sign {
-        Sign::Question => suffix(alloc, made, purpose, pending, read, b"option"),
-        Sign::Star => suffix(alloc, made, purpose, pending, read, b"list"),
-        Sign::Plus => suffix(alloc, made, purpose, pending, read, b"nonempty_list"),
-        _ => above(alloc, made, purpose, pending, read, sign, text),
+        Sign::Question => suffix(alloc, made, within, read, b"option"),
+        Sign::Star => suffix(alloc, made, within, read, b"list"),
+        Sign::Plus => suffix(alloc, made, within, read, b"nonempty_list"),
+        _ => above(alloc, made, within, read, sign, text),
     }
 }
 
 /// A bracket of arguments opens.
-fn open(
-    alloc: Global,
-    made: Module,
-    purpose: Purpose,
-    pending: Stack<Pending>,
-    head: Ref,
-) -> Result<Reader, Refusal>
-    ensures { Refers (machine.opened made purpose pending head (machine.fits 2 pending)) result }
+fn open(alloc: Global, made: Module, within: Within, head: Ref) -> Result<Reader, Refusal>
+    ensures { Refers (machine.opened made within.purpose within.pending head (machine.fits 2 within.pending)) result }
 {
+    let Within { purpose, pending } = within;
     if has_room(1, pending.len()) {
         let inner = Pending {
             head,
@@ -262,25 +263,24 @@ fn open(
 pub(crate) fn at_head(
     alloc: Global,
     made: Module,
-    purpose: Purpose,
-    pending: Stack<Pending>,
+    within: Within,
     head: Ref,
     sign: Sign,
     text: &[u8],
 ) -> Result<Reader, Refusal>
-    requires within { 1 + length pending ≤ MAX_DEPTH }
-    requires deep { Deep pending }
-    ensures { Refers (machine.at_head made purpose pending head sign text.now) result }
+    requires fits { 1 + length within.pending ≤ MAX_DEPTH }
+    requires deep { Deep within.pending }
+    ensures { Refers (machine.at_head made within.purpose within.pending head sign text.now) result }
 {
     match sign {
-        Sign::Open => open(alloc, made, purpose, pending, head),
+        Sign::Open => open(alloc, made, within, head),
         _ => {
             let actual = Actual {
                 head,
                 args: Sequence::new(alloc),
             };
             let read = Measured { actual, depth: 1 };
-            after(alloc, made, purpose, pending, read, sign, text)
+            after(alloc, made, within, read, sign, text)
         }
     }
 }
@@ -300,7 +300,10 @@ pub(crate) fn at_named(
     let pending = Stack::new(alloc);
     match sign {
         Sign::Equals => go_to(made, Place::Argument(purpose, pending)),
-        _ => at_head(alloc, made, purpose, pending, Ref::Plain(name), sign, text),
+        _ => {
+            let within = Within { purpose, pending };
+            at_head(alloc, made, within, Ref::Plain(name), sign, text)
+        }
     }
 }
 

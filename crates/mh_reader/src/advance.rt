@@ -4,7 +4,7 @@ ghost use Rattle.mh_places.specs.Machine as machine;
 ghost use Rattle.mh_places.specs.Machine.{Refers};
 ghost use Rattle.mh_reader.specs.Limits.{IsShallow};
 
-use crate::actuals::{Measured, after, at_argument, at_head, at_named};
+use crate::actuals::{Measured, Within, after, at_argument, at_head, at_named};
 use mh_places::{
     Place, Reader, Refusal, Sign, at_aliased, at_begin, at_closed, at_comma, at_formal_comma,
     at_formal_read, at_formals_closed, at_formals_open, at_group, at_group_prec, at_items,
@@ -61,11 +61,13 @@ pub(crate) fn advance(
             at_argument(alloc, made, purpose, pending, sign, text)
         }
         Place::Head(purpose, pending, head) => {
-            at_head(alloc, made, purpose, pending, head, sign, text)
+            let within = Within { purpose, pending };
+            at_head(alloc, made, within, head, sign, text)
         }
         Place::After(purpose, pending, actual, depth) => {
+            let within = Within { purpose, pending };
             let read = Measured { actual, depth };
-            after(alloc, made, purpose, pending, read, sign, text)
+            after(alloc, made, within, read, sign, text)
         }
         Place::Prec(draft) => at_prec(alloc, made, draft, sign, text),
         Place::Closed(draft) => at_closed(alloc, made, draft, sign),

@@ -5,4 +5,4 @@ use Rattle.mh_reader.proofs.actuals.at_head.Goals as goal
 
 pub returns-in_default : goal.returns-in_default
 returns-in_default c =
-    subst (λ step. Refers step c.after.result) (sym (head_else c.args.made c.args.purpose c.args.pending c.args.head c.args.sign c.args.text.now c.in_default.not-Open)) (rw c.new.ensures at c.after.ensures)
+    subst (λ step. Refers step c.after.result) (sym (head_else c.args.made c.args.within.purpose c.args.within.pending c.args.head c.args.sign c.args.text.now c.in_default.not-Open)) (rw c.new.ensures at c.after.ensures)
