@@ -20,47 +20,59 @@ use mh_rules::{
 use std::alloc::Global;
 use std::collections::HashSet;
 
+/// Where a name stands, which says what it stands for: in a file, among some formals.
+#[derive(Clone, Copy)]
+struct Scope<'a> {
+    names: &'a Names,
+    file: u64,
+    formals: &'a Formals,
+}
+
+/// A definition of a rule in a file. `place` is that of the first of its alternatives.
+#[derive(Clone, Copy)]
+struct Definition<'a> {
+    file: u64,
+    owner: Option<u64>,
+    place: u64,
+    rule: &'a Rule,
+}
+
 /// An actual with its names resolved.
 #[cycle(actuals)]
-fn joined_actual(
-    alloc: Global,
-    names: &Names,
-    file: u64,
-    formals: &Formals,
-    actual: &Actual,
-) -> Result<Applied, Memory>
-    requires few { length names.now.tokens.keys ≤ MAX_TOKENS }
+fn joined_actual(alloc: Global, scope: &Scope<'_>, actual: &Actual) -> Result<Applied, Memory>
+    requires few { length scope.now.names.now.tokens.keys ≤ MAX_TOKENS }
     requires stand { undefined_in_actual false
-        (meant_by (meanings_in names.now) file (formals_in formals.now)) actual.now
+        (meant_by (meanings_in scope.now.names.now) scope.now.file (formals_in scope.now.formals.now)) actual.now
         ≡ [] }
     ensures { IfOk result (λ a.
         Some a
-        ≡ resolved (meant_by (meanings_in names.now) file (formals_in formals.now)) actual.now) }
+        ≡ resolved (meant_by (meanings_in scope.now.names.now) scope.now.file (formals_in scope.now.formals.now)) actual.now) }
 {
-    let head = names.head_of(file, formals, &actual.head).unwrap();
-    let args = joined_actuals(alloc, names, file, formals, actual.args.as_slice())?;
+    let head = scope
+        .names
+        .head_of(scope.file, scope.formals, &actual.head)
+        .unwrap();
+    let args = joined_actuals(alloc, scope, actual.args.as_slice())?;
     Ok(Applied { head, args })
 }
 
 #[cycle(actuals)]
 fn joined_actuals(
     alloc: Global,
-    names: &Names,
-    file: u64,
-    formals: &Formals,
+    scope: &Scope<'_>,
     actuals: &[Actual],
 ) -> Result<Sequence<Applied>, Memory>
-    requires few { length names.now.tokens.keys ≤ MAX_TOKENS }
+    requires few { length scope.now.names.now.tokens.keys ≤ MAX_TOKENS }
     requires stand { flat_map
-        (undefined_in_actual false (meant_by (meanings_in names.now) file (formals_in formals.now)))
+        (undefined_in_actual false (meant_by (meanings_in scope.now.names.now) scope.now.file (formals_in scope.now.formals.now)))
         actuals.now
         ≡ [] }
     ensures { IfOk result (λ ks. map Some ks
-        ≡ map (resolved (meant_by (meanings_in names.now) file (formals_in formals.now))) actuals.now) }
+        ≡ map (resolved (meant_by (meanings_in scope.now.names.now) scope.now.file (formals_in scope.now.formals.now))) actuals.now) }
 {
     let mut joined = Sequence::new(alloc);
     for actual in actuals {
-        joined.push(joined_actual(alloc, names, file, formals, actual)?)?;
+        joined.push(joined_actual(alloc, scope, actual)?)?;
     }
     Ok(joined)
 }
@@ -135,23 +147,21 @@ pub(crate) fn put_starts(names: &Names, starts: &mut Sequence<u64>) -> Result<()
 
 fn add_on_error(
     alloc: Global,
-    names: &Names,
-    file: u64,
-    none: &Formals,
+    scope: &Scope<'_>,
     declared: &[Sequence<Actual>],
     joined: &mut Sequence<Sequence<Applied>>,
 ) -> Result<(), Memory>
-    requires few { length names.now.tokens.keys ≤ MAX_TOKENS }
+    requires few { length scope.now.names.now.tokens.keys ≤ MAX_TOKENS }
     requires stand { flat_map
-        (undefined_in_on_error (meant_by (meanings_in names.now) file (formals_in none.now)))
+        (undefined_in_on_error (meant_by (meanings_in scope.now.names.now) scope.now.file (formals_in scope.now.formals.now)))
         declared.now
         ≡ [] }
     ensures { OnOk result (map Some joined.new
         ≡ map Some joined.old
-        ++ map (all_resolved (meant_by (meanings_in names.now) file (formals_in none.now))) declared.now) }
+        ++ map (all_resolved (meant_by (meanings_in scope.now.names.now) scope.now.file (formals_in scope.now.formals.now))) declared.now) }
 {
     for actuals in declared {
-        joined.push(joined_actuals(alloc, names, file, none, actuals.as_slice())?)?;
+        joined.push(joined_actuals(alloc, scope, actuals.as_slice())?)?;
     }
     Ok(())
 }
@@ -173,7 +183,12 @@ fn put_all_on_error(
 {
     for (at, file) in modules.iter().enumerate() {
         let declared = file.on_error.as_slice();
-        add_on_error(alloc, names, at as u64 + 1, none, declared, joined)?;
+        let scope = Scope {
+            names,
+            file: at as u64 + 1,
+            formals: none,
+        };
+        add_on_error(alloc, &scope, declared, joined)?;
     }
     Ok(())
 }
@@ -199,109 +214,102 @@ pub(crate) fn put_on_error(
 
 fn joined_alternative(
     alloc: Global,
-    names: &Names,
-    file: u64,
-    formals: &Formals,
+    scope: &Scope<'_>,
     place: u64,
     alternative: &Alternative,
 ) -> Result<JoinedAlternative, Memory>
-    requires few { length names.now.tokens.keys ≤ MAX_TOKENS }
-    requires stand { unresolved (meant_by (meanings_in names.now) file (formals_in formals.now)) alternative.now ≡ [] }
+    requires few { length scope.now.names.now.tokens.keys ≤ MAX_TOKENS }
+    requires stand { unresolved (meant_by (meanings_in scope.now.names.now) scope.now.file (formals_in scope.now.formals.now)) alternative.now ≡ [] }
     ensures { IfOk result (λ a. Some a
-        ≡ alternative_by (meanings_in names.now) file
-        (meant_by (meanings_in names.now) file (formals_in formals.now)) (place, alternative.now)) }
+        ≡ alternative_by (meanings_in scope.now.names.now) scope.now.file
+        (meant_by (meanings_in scope.now.names.now) scope.now.file (formals_in scope.now.formals.now)) (place, alternative.now)) }
 {
     Ok(JoinedAlternative {
-        file,
+        file: scope.file,
         place,
-        producers: joined_actuals(
-            alloc,
-            names,
-            file,
-            formals,
-            alternative.producers.as_slice(),
-        )?,
-        prec: joined_prec(names, &alternative.prec),
+        producers: joined_actuals(alloc, scope, alternative.producers.as_slice())?,
+        prec: joined_prec(scope.names, &alternative.prec),
     })
 }
 
 fn add_alternatives(
     alloc: Global,
-    names: &Names,
-    file: u64,
-    formals: &Formals,
+    scope: &Scope<'_>,
     place: u64,
     alternatives: &[Alternative],
     joined: &mut Sequence<JoinedAlternative>,
 ) -> Result<(), Memory>
-    requires few { length names.now.tokens.keys ≤ MAX_TOKENS }
+    requires few { length scope.now.names.now.tokens.keys ≤ MAX_TOKENS }
     requires fits { place + length alternatives.now < 2 ^ 64 }
     requires stand { flat_map
-        (unresolved (meant_by (meanings_in names.now) file (formals_in formals.now))) alternatives.now
+        (unresolved (meant_by (meanings_in scope.now.names.now) scope.now.file (formals_in scope.now.formals.now))) alternatives.now
         ≡ [] }
     ensures { OnOk result (map Some joined.new
         ≡ map Some joined.old
         ++ map
-        (alternative_by (meanings_in names.now) file
-        (meant_by (meanings_in names.now) file (formals_in formals.now)))
+        (alternative_by (meanings_in scope.now.names.now) scope.now.file
+        (meant_by (meanings_in scope.now.names.now) scope.now.file (formals_in scope.now.formals.now)))
         (enumerate_from place alternatives.now)) }
 {
     for (at, alternative) in alternatives.iter().enumerate() {
         let place = place + at as u64;
-        joined.push(joined_alternative(alloc, names, file, formals, place, alternative)?)?;
+        joined.push(joined_alternative(alloc, scope, place, alternative)?)?;
     }
     Ok(())
 }
 
-/// Puts the alternatives of a definition behind those of its rule. `place` is that of the first of them.
+/// Puts the alternatives of a definition behind those of its rule.
 fn add_definition(
     alloc: Global,
     names: &Names,
-    file: u64,
-    place: u64,
-    rule: &Rule,
+    definition: &Definition<'_>,
     joined: &mut Sequence<JoinedAlternative>,
 ) -> Result<(), Memory>
     requires few { length names.now.tokens.keys ≤ MAX_TOKENS }
-    requires fits { place + length rule.now.alternatives < 2 ^ 64 }
-    requires stand { unresolved_in_rule (meanings_in names.now) file rule.now ≡ [] }
+    requires fits { definition.now.place + length definition.now.rule.now.alternatives < 2 ^ 64 }
+    requires stand { unresolved_in_rule (meanings_in names.now) definition.now.file definition.now.rule.now ≡ [] }
     ensures { OnOk result (map Some joined.new
         ≡ map Some joined.old
         ++ map
-        (alternative_by (meanings_in names.now) file
-        (meant_by (meanings_in names.now) file (formal_number rule.now.formals)))
-        (enumerate_from place rule.now.alternatives)) }
+        (alternative_by (meanings_in names.now) definition.now.file
+        (meant_by (meanings_in names.now) definition.now.file (formal_number definition.now.rule.now.formals)))
+        (enumerate_from definition.now.place definition.now.rule.now.alternatives)) }
 {
-    let formals = formals_of(alloc, rule.formals.as_slice())?;
-    let alternatives = rule.alternatives.as_slice();
-    let added = add_alternatives(alloc, names, file, &formals, place, alternatives, joined);
+    let formals = formals_of(alloc, definition.rule.formals.as_slice())?;
+    let scope = Scope {
+        names,
+        file: definition.file,
+        formals: &formals,
+    };
+    let alternatives = definition.rule.alternatives.as_slice();
+    let added = add_alternatives(alloc, &scope, definition.place, alternatives, joined);
     drop(formals);
     added
 }
 
-/// Puts the alternatives of a definition with this owner behind those of its rule.
+/// Puts the alternatives of a definition behind those of its rule.
 fn add_rule(
     alloc: Global,
     names: &Names,
-    file: u64,
-    owner: Option<u64>,
-    place: u64,
-    rule: &Rule,
+    definition: &Definition<'_>,
     joined: &mut [JoinedRule],
 ) -> Result<(), Memory>
     requires few { length names.now.tokens.keys ≤ MAX_TOKENS }
-    requires fits { place + length rule.now.alternatives < 2 ^ 64 }
-    requires stand { unresolved_in_rule (meanings_in names.now) file rule.now ≡ [] }
+    requires fits { definition.now.place + length definition.now.rule.now.alternatives < 2 ^ 64 }
+    requires stand { unresolved_in_rule (meanings_in names.now) definition.now.file definition.now.rule.now ≡ [] }
     ensures { OnOk result (Adds (meanings_in names.now)
-        (record { file = file; owner = owner; place = place; rule = rule.now } ∷ []) joined.old
+        (record { file = definition.now.file; owner = definition.now.owner; place = definition.now.place; rule = definition.now.rule.now } ∷ []) joined.old
         joined.new) }
 {
     // In joined files each definition has a number, and its rule stands there. `Adds` holds without: it speaks of the rules
     // that are there.
-    if let Some(number) = names.numbering.number_of(owner, &rule.name) {
+    if let Some(number) = names
+        .numbering
+        .number_of(definition.owner, &definition.rule.name)
+    {
         if (number as usize) < joined.len() {
             let target = &mut joined[number as usize].alternatives;
-            add_definition(alloc, names, file, place, rule, target)?;
+            add_definition(alloc, names, definition, target)?;
         }
     }
     Ok(())
@@ -339,7 +347,13 @@ fn add_rules(
     for rule in rules {
         let next = place_behind(place, rule)?;
         let owner = owner_in(&names.starts, marked, file, &rule.name);
-        add_rule(alloc, names, file, owner, place, rule, joined)?;
+        let definition = Definition {
+            file,
+            owner,
+            place,
+            rule,
+        };
+        add_rule(alloc, names, &definition, joined)?;
         place = next;
     }
     Ok(())
@@ -381,7 +395,13 @@ fn add_prelude(
     let mut place = 0u64;
     for rule in rules {
         let next = place_behind(place, rule)?;
-        add_rule(alloc, names, 0, Some(0), place, rule, joined)?;
+        let definition = Definition {
+            file: 0,
+            owner: Some(0),
+            place,
+            rule,
+        };
+        add_rule(alloc, names, &definition, joined)?;
         place = next;
     }
     Ok(())

@@ -6,7 +6,7 @@ use Rattle.mh_meanings.specs.Maps.{meanings_in, formals_in}
 use Rattle.mh_building.proofs.building.+actuals.Given as goal
 
 abbrev pub invariant-joined_actuals-loop-actual : goal.invariant-joined_actuals-loop-actual
-invariant-joined_actuals-loop-actual l = map Some l.joined ≡ [] ++ map (resolved (meant_by (meanings_in l.names) l.file (formals_in l.formals))) (take l.actual-index l.actuals)
+invariant-joined_actuals-loop-actual l = map Some l.joined ≡ [] ++ map (resolved (meant_by (meanings_in l.scope.names.now) l.scope.file (formals_in l.scope.formals.now))) (take l.actual-index l.actuals)
 
 abbrev pub decreases-joined_actual : goal.decreases-joined_actual
 decreases-joined_actual l = 2 * length (refs l.actual.now)

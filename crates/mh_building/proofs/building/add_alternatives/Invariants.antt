@@ -6,4 +6,4 @@ use Rattle.mh_meanings.specs.Maps.{meanings_in, formals_in}
 use Rattle.mh_building.proofs.building.add_alternatives.Given as goal
 
 abbrev pub invariant-loop-at : goal.invariant-loop-at
-invariant-loop-at l = map Some l.joined ≡ map Some l.initial.joined ++ map (alternative_by (meanings_in l.names) l.file (meant_by (meanings_in l.names) l.file (formals_in l.formals))) (enumerate_from l.place (take l.at l.alternatives))
+invariant-loop-at l = map Some l.joined ≡ map Some l.initial.joined ++ map (alternative_by (meanings_in l.scope.names.now) l.scope.file (meant_by (meanings_in l.scope.names.now) l.scope.file (formals_in l.scope.formals.now))) (enumerate_from l.place (take l.at l.alternatives))

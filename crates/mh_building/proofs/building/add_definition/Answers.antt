@@ -12,10 +12,10 @@ use Rattle.mh_building.proofs.building.add_definition.Goals as goal
 pub add_alternatives-added-requires-clause-stand : goal.add_alternatives-added-requires-clause-stand
 add_alternatives-added-requires-clause-stand c =
     let w = meanings_in c.args.names.now in
-    rw c.as_slice-alternatives.ensures (subst (λ (g : Text → Option ℕ). flat_map (unresolved (meant_by w c.args.file g)) c.args.rule.now.alternatives ≡ []) (sym (fun_ext (rw c.as_slice.ensures at c.in_ok-formals.ensures))) c.requires.stand)
+    rw c.as_slice-alternatives.ensures (subst (λ (g : Text → Option ℕ). flat_map (unresolved (meant_by w c.args.definition.now.file g)) c.args.definition.now.rule.now.alternatives ≡ []) (sym (fun_ext (rw c.as_slice.ensures at c.in_ok-formals.ensures))) c.requires.stand)
 
 pub returns : goal.returns
 returns c =
     let w = meanings_in c.args.names.now in
-    subst (λ (g : Text → Option ℕ). OnOk c.add_alternatives-added.result (map Some c.add_alternatives-added.new.joined ≡ map Some c.args.joined.now ++ map (alternative_by w c.args.file (meant_by w c.args.file g)) (enumerate_from c.args.place c.args.rule.now.alternatives)))
+    subst (λ (g : Text → Option ℕ). OnOk c.add_alternatives-added.result (map Some c.add_alternatives-added.new.joined ≡ map Some c.args.joined.now ++ map (alternative_by w c.args.definition.now.file (meant_by w c.args.definition.now.file g)) (enumerate_from c.args.definition.now.place c.args.definition.now.rule.now.alternatives)))
     (fun_ext (rw c.as_slice.ensures at c.in_ok-formals.ensures)) (rw c.as_slice-alternatives.ensures at c.add_alternatives-added.ensures)

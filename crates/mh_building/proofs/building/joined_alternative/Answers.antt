@@ -7,6 +7,6 @@ use Rattle.mh_building.proofs.building.joined_alternative.Goals as goal
 
 pub returns : goal.returns
 returns c =
-    let w = meanings_in c.args.names.now in let ks = c.in_ok-joined_actuals.field-0 in
-    ap (λ pr. Some (alternative_with c.args.file c.args.place pr ks)) c.joined_prec.ensures
-    ∙ ap (option_map (alternative_with c.args.file c.args.place (prec_by w.aliased w.level c.args.alternative.now.prec))) (sym (all_somes ks) ∙ ap all_of (rw c.as_slice.ensures at c.in_ok-joined_actuals.ensures))
+    let w = meanings_in c.args.scope.now.names.now in let ks = c.in_ok-joined_actuals.field-0 in
+    ap (λ pr. Some (alternative_with c.args.scope.now.file c.args.place pr ks)) c.joined_prec.ensures
+    ∙ ap (option_map (alternative_with c.args.scope.now.file c.args.place (prec_by w.aliased w.level c.args.alternative.now.prec))) (sym (all_somes ks) ∙ ap all_of (rw c.as_slice.ensures at c.in_ok-joined_actuals.ensures))
