@@ -1,5 +1,5 @@
 -- Sentences by the states that they fail in, one after another.
-use Rattle.std.proofs.Common.{◌≡◌, ◌≢◌, ℕ, zero, suc, ◌+◌, ◌-◌, ◌<◌, ◌≤◌, List, [], ◌∷◌, ◌++◌, length, Option, None, Some, set, get_or, replicate, refl, sym, ◌∙◌, ap, subst, arith, inl, inr, append_assoc, add-one}
+use Rattle.std.proofs.Common.{◌≡◌, ◌≢◌, ℕ, zero, suc, ◌+◌, ◌-◌, ◌<◌, ◌≤◌, List, [], ◌∷◌, ◌++◌, length, Option, None, Some, set, get_or, replicate, refl, sym, ◌∙◌, ap, subst, arith, inl, inr, append_assoc}
 use Rattle.std.specs.List.{slice_get, Contains}
 use Rattle.std.proofs.lemmas.Bool.{cases_eq}
 use Rattle.std.proofs.Math.Numerals.{lt_of_le_of_ne}
@@ -47,18 +47,6 @@ item_at (z ∷ done) (suc k) y is = item_there z done y (item_at done k y is)
 
 item_of : (done : List Item) (y : MsgSentence) → Contains (sentences_in done) y → ItemOf done y
 item_of done y c = let at = at_contains (sentences_in done) y c in item_at done at.0 y at.1
-
-abbrev no_place : Option Place
-no_place = None
-
--- no place for some states, and for one more
-replicate_push : (n : ℕ) → replicate n no_place ++ None ∷ [] ≡ replicate (n + 1) None
-replicate_push zero = refl
-replicate_push (suc n) =
-    ap (λ (l : List (Option Place)). None ∷ l) (replicate_push n ∙ ap (λ (k : ℕ). replicate k no_place) (add-one n)) ∙ ap (λ (k : ℕ). replicate k no_place) (sym (add-one (suc n)))
-
-pub nones_more : (places new : List (Option Place)) (n : ℕ) → places ≡ replicate n None → new ≡ places ++ None ∷ [] → new ≡ replicate (n + 1) None
-nones_more places new n are added = added ∙ ap (λ (l : List (Option Place)). l ++ None ∷ []) are ∙ replicate_push n
 
 -- ---- more sentences, behind those with the first fault
 

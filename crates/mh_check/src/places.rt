@@ -1,5 +1,5 @@
 //! Sentences that were looked at, by the states that they fail in.
-ghost use Rattle.std.specs.Prelude.{◌≡◌, ◌+◌, ◌<◌, ◌^◌, [], ◌∷◌, ◌++◌, List, IfOk, OnOk, MatchResult, None, length};
+ghost use Rattle.std.specs.Prelude.{◌≡◌, ◌+◌, ◌<◌, ◌^◌, [], ◌∷◌, ◌++◌, List, IfOk, MatchResult, length};
 ghost use Rattle.std.specs.List.{AllByRecursion};
 ghost use Rattle.mh_msgfile.specs.Messages.{IsOf};
 ghost use Rattle.mh_msgfile.specs.declared.messages.MsgSentence.{MsgSentence as MsgSentence'};
@@ -23,22 +23,12 @@ pub struct Place {
     pub(crate) entry: usize,
 }
 
-fn put_none(places: &mut Vec<Option<Place>>) -> Result<(), Memory>
-    ensures { OnOk result (places.new.items ≡ places.old.items ++ None ∷ []) }
-{
-    places.push(None)?;
-    Ok(())
-}
-
 /// No place for any state.
 fn no_places(alloc: Global, table: &Table) -> Result<Vec<Option<Place>>, Memory>
     ensures size { IfOk result (λ places. length places.items ≡ length table.now.states) }
     ensures none { IfOk result (λ places. Placed table.now [] places.items) }
 {
-    let mut places = Vec::new(alloc);
-    for _ in 0..table.states() {
-        put_none(&mut places)?;
-    }
+    let places = vec![in alloc; None; table.states() as usize]?;
     Ok(places)
 }
 

@@ -172,13 +172,12 @@ fn number_row(alloc: Global, tokens: Token, given: &[Token], count: &mut u32) ->
 }
 
 /// The representatives that are given for a state.
-fn given_row<'a>(given: &'a [Vec<Token>], nothing: &'a [Token], state: u32) -> &'a [Token]
-    requires { nothing.now ≡ [] }
+fn given_row(given: &[Vec<Token>], state: u32) -> &[Token]
     ensures { given.now ≡ [] → result.now ≡ [] }
 {
     match given.get(state as usize) {
         Some(row) => row.as_slice(),
-        None => nothing,
+        None => &[],
     }
 }
 
@@ -208,7 +207,7 @@ fn number(alloc: Global, table: &Table, given: &[Vec<Token>]) -> Result<Classes,
         places: 0,
     };
     for state in 0..table.states() {
-        let given = given_row(given, &[], state);
+        let given = given_row(given, state);
         add_row(alloc, table.tokens(), given, &mut classes)?;
     }
     Ok(classes)

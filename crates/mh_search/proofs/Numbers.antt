@@ -1,12 +1,12 @@
 -- Numbers of words.
-use Rattle.std.proofs.Common.{◌≡◌, ℕ, zero, suc, ◌+◌, ◌<◌, ◌≤◌, ◌⊎◌, inl, inr, List, [], ◌∷◌, ◌++◌, length, Some, None, Option, Bool, true, false, cond, refl, ap, sym, arith, ◌∙◌}
+use Rattle.std.proofs.Common.{◌≡◌, ℕ, zero, suc, ◌+◌, ◌<◌, ◌≤◌, ◌⊎◌, inl, inr, List, [], ◌∷◌, ◌++◌, length, get_or, replicate, Some, None, Option, Bool, true, false, cond, refl, ap, sym, arith, ◌∙◌}
 use Rattle.std.specs.Prelude.{slice_get, min, max}
 use Rattle.std.specs.List.{Contains}
 use Rattle.std.specs.Global.{Vec}
 use Rattle.std.proofs.lemmas.Bool.{cases_lt}
 use Rattle.std.proofs.lemmas.Grind.{common_steps}
-use Rattle.std.proofs.lemmas.List.{length_push, append-nil}
-use Rattle.std.proofs.lemmas.Option.{slice_get_within}
+use Rattle.std.proofs.lemmas.List.{length_push, length-replicate, get_or-replicate, append-nil}
+use Rattle.std.proofs.lemmas.Option.{slice_get_within, get_or_from_slice_get}
 use Rattle.mh_grammar.proofs.Lists.{get_left, get_cases, same_at, has_place, at_contains, contains_at}
 use Rattle.mh_tables.specs.Table.{TableData}
 use Rattle.mh_grammar.specs.WordOrder.{LexLe}
@@ -177,13 +177,12 @@ made_more t facts numbering items count made i m h at is = record {
   ];
 }
 
-pub none_empty : AreEmpty 0 []
-none_empty = record { long = refl; each = λ n m at. absurd (let y : None ≡ Some m = at in cc) }
-
-pub empty_more : (count : ℕ) (numbers : List ℕ) → AreEmpty count numbers → AreEmpty (count + 1) (numbers ++ 0 ∷ [])
-empty_more count numbers h = record {
-  long = (let a = h.long in let b = length_push numbers 0 in omega arith);
-  each = λ n m at. elim (get_cases numbers 0 n m at) [ inl was ↦ h.each n m was | inr new ↦ new.1 ];
+pub all_empty : (count : ℕ) (numbers : List ℕ) → numbers ≡ replicate count 0 → AreEmpty count numbers
+all_empty count numbers is = record {
+  long = ap length is ∙ length-replicate count 0;
+  each = λ n m at.
+      let lt : n < count = (let within = slice_get_within numbers n m at in let l = ap length is ∙ length-replicate count 0 in omega (arith, within, l)) in
+      sym (get_or_from_slice_get numbers n m 0 at) ∙ ap (λ xs. get_or xs n 0) is ∙ get_or-replicate count n 0 0 lt;
 }
 
 one_more : (level : ℕ) → max 1 level ≤ level + 1

@@ -62,10 +62,7 @@ fn all_made(
 fn no_numbers(alloc: Global, items: &[Item]) -> Result<Vec<usize>, Memory>
     ensures { IfOk result (λ numbers. AreEmpty (length items.now) numbers.items) }
 {
-    let mut numbers = Vec::new(alloc);
-    for _ in items {
-        numbers.push(EMPTY)?;
-    }
+    let numbers = vec![in alloc; EMPTY; items.len()]?;
     Ok(numbers)
 }
 
