@@ -41,15 +41,11 @@ fn is_alike(table: &Table, classes: &Classes, reduction: Reduction, token: Token
     agree(there, back, here == same)
 }
 
-/// Whether two answers agree, where both are yes so that a third is.
+/// Whether two tokens go alike in a reduction: both are reduced on, and have one representative there, or neither is.
 fn agree(there: bool, back: bool, same: bool) -> bool
     ensures { result ≡ agrees there back same }
 {
-    if there {
-        if back { same } else { false }
-    } else {
-        !back
-    }
+    if there { back && same } else { !back }
 }
 
 /// Whether each token goes like its representative in a reduction.

@@ -61,8 +61,5 @@ fn answer_each(
 fn lacked_memory(answer: &Result<Reply, SessionFault>) -> bool
     ensures { IsTrue result ↔ (answer.now ≡ Err faults.Memory) }
 {
-    match answer {
-        Err(SessionFault::Memory) => true,
-        _ => false,
-    }
+    matches!(answer, Err(SessionFault::Memory))
 }
