@@ -57,10 +57,7 @@ impl Compiled {
     fn has_message(&self, state: u32) -> bool
         ensures { result ≡ is_some (message_at self.now state) }
     {
-        match self.message(state) {
-            Some(_) => true,
-            None => false,
-        }
+        self.message(state).is_some()
     }
 
     /// How many states the table has, those without a message too.

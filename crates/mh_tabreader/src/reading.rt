@@ -45,15 +45,7 @@ fn is_mode(word: &[u8]) -> bool
 fn are_other(word: &[u8], version: &[u8], mode: &[u8]) -> bool
     ensures { result ≡ Lines.are_other word.now version.now mode.now }
 {
-    if is_word(word, b"menhir-tables") {
-        if is_other_number(version) {
-            is_mode(mode)
-        } else {
-            false
-        }
-    } else {
-        false
-    }
+    is_word(word, b"menhir-tables") && is_other_number(version) && is_mode(mode)
 }
 
 #[tactic(auto, unfolding(crate::specs::code::Lines::is_other_head))]

@@ -1,9 +1,10 @@
 -- Rows that are made and filled.
-use Rattle.std.proofs.Common.{◌≡◌, ℕ, zero, suc, ◌<◌, ◌≤◌, ◌+◌, ◌⊎◌, inl, inr, get_or, List, [], ◌∷◌, ◌++◌, length, refl, ap, sym, arith, ◌∙◌, length-append}
-use Rattle.std.specs.Prelude.{slice_set}
+use Rattle.std.proofs.Common.{◌≡◌, ℕ, zero, suc, ◌<◌, ◌≤◌, ◌+◌, ◌⊎◌, inl, inr, get_or, Option, Some, None, List, [], ◌∷◌, ◌++◌, length, refl, ap, sym, arith, ◌∙◌, length-append, true, false}
+use Rattle.std.proofs.lemmas.Bool.{cases_lt}
+use Rattle.std.specs.Prelude.{slice_set, option_to_list, IsSome}
 use Rattle.std.specs.Global.{Vec}
 use Rattle.std.specs.List.{Contains}
-use Rattle.mh_ways.specs.Rows.{row_of, Files, Gains, IsOne, Taken, NoneTaken}
+use Rattle.mh_ways.specs.Rows.{row_of, Files, Gains, IsOne, Taken, NoneTaken, Takes}
 
 pub same_or : (n k : ℕ) → (n ≡ k) ⊎ (n ≡ k → ⊥)
 same_or zero zero = inl refl
@@ -148,3 +149,13 @@ module _ {X : Type 0} where
         kept = λ n o h. elim (same_or n k) [ inl e ↦ absurd (none_in (row_of rs k) o was (rw e at h)) | inr ne ↦ rw (row_set_other rs k n v ne) h ];
         only = λ n o h. elim (same_or n k) [ inl e ↦ absurd (none_in (row_of (slice_set rs k v) k) o now (rw e at h)) | inr ne ↦ rw (row_set_other rs k n v ne) at h ];
       }
+
+  -- what a row gives up: its last item, where it has one
+  pub given_up : (rs : List (Vec X)) (k : ℕ) (d v : Vec X) (o : Option X) → k < length rs → (get_or rs k d).items ≡ v.items ++ option_to_list o → (0 < length (get_or rs k d).items → IsSome o) → Takes rs (slice_set rs k v) k o
+  given_up rs k d v (Some p) lt items some = takes rs (slice_set rs k v) k d v lt refl p items
+  given_up rs k d v None lt items some =
+      let long : length v.items ≡ 0 = elim (cases_lt 0 (length (get_or rs k d).items)) [
+        | inl has ↦ absurd (let y : false ≡ true = some has in cc)
+        | inr le ↦ (let b = ap length items in let l = length-append v.items [] in omega (arith, le, b, l))
+      ] in
+      none_taken rs k d v lt items long

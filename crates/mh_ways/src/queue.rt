@@ -38,8 +38,5 @@ pub fn take<T>(queue: &mut Queue<T>, cost: u32) -> Option<T>
     if cost as usize >= queue.buckets.len() {
         return None;
     }
-    match queue.buckets[cost as usize].pop() {
-        None => None,
-        Some(item) => Some(item),
-    }
+    queue.buckets[cost as usize].pop()
 }
