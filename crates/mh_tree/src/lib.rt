@@ -5,7 +5,6 @@ mod text;
 mod tokens;
 mod tree;
 
-pub use mh_grammar::MAX_HEIGHT;
 pub use text::print_tree;
 pub use tokens::yield_of;
 pub use tree::{Tree, can_be_children, leaf, node};
