@@ -5,5 +5,5 @@ mod automata;
 mod warnings;
 
 pub use automata::{automaton_text, mode_name};
-pub use mh_notation::{look_name, write_item_lines, write_names, write_number, write_production};
+pub use mh_notation::{look_name, write_number};
 pub use warnings::warning_text;
