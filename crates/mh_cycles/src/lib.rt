@@ -9,8 +9,4 @@ mod sizes;
 
 pub use cycles::first_cyclic;
 pub use depth::{Search, depth_first};
-pub use mh_producers::{
-    Ends, MAX_PRODUCTIONS, MAX_SYMBOLS, Size, Sizing, Unfolding, inline_part, inlined_in,
-    is_inline, is_small, plus,
-};
 pub use sizes::{inline_sizes, size_of_side};
