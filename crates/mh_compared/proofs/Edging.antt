@@ -12,13 +12,13 @@ use Rattle.mh_grammar.specs.Plain.{PlainGrammar, plain_of, rhs_of}
 use Rattle.mh_grammar.specs.Edges.{IsRising, IsSymbolBefore, IsEdgeBefore}
 use Rattle.mh_grammar.specs.ItemSets as items
 use Rattle.mh_grammar.specs.ItemSets.{AreSame, Close, Moved}
-use Rattle.mh_grammar.proofs.Lists.{contains_here, contains_there, contains_cases, at_contains, contains_map, recursion-from, recursion_contains}
+use Rattle.mh_grammar.proofs.Lists.{contains_here, contains_there, contains_cases, at_contains, contains_map, recursion-from, recursion_contains, at_drop}
 use Rattle.mh_kernels.specs.Shapes.{Kernel}
 use Rattle.mh_kernels.specs.Kernels.{Holds, IsItemList}
 use Rattle.mh_kernels.specs.Automaton.{no_kernel, kernel_at, move_of, Moves, IsTarget}
 use Rattle.mh_kernels.specs.Collection.{IsBehindDot, IsMove, edge_symbols}
 use Rattle.mh_moves.specs.Moves.{Move, AreMovesOf, symbols_of}
-use Rattle.mh_knuth.proofs.Sets.{same_trans, moved_same, place_holds, drop_from_get, get_from_drop}
+use Rattle.mh_knuth.proofs.Sets.{same_trans, moved_same, place_holds, drop_from_get}
 use Rattle.mh_tabform.specs.declared.types.RawEdge.{RawEdge}
 use Rattle.mh_tabform.specs.declared.types.RawTable.{RawTable}
 use Rattle.mh_tabform.specs.Written.{raw_edge}
@@ -92,7 +92,7 @@ module _ (g : Grammar) (raw : RawTable) (ks : List Kernel) (s : ℕ) (moves : Li
       record { production = b.production; dot = suc b.dot; look = a; moves = (moved_same P (Holds of.closed) (Close P (Holds (slice_index_or ks s no_kernel))) X of.same b.production (suc b.dot) a).0 moved }
 
   behind_moved : (X : Symbol) (p d : ℕ) (a : Look) → Moved P (Holds of.closed) X p d a → IsBehindDot P of.closed X
-  behind_moved X p d a (items.Moved.moved {d = e} {y} h f) = record { production = p; dot = e; place = (h.0, h.1, h.2, h.3); behind = get_from_drop (rhs_of P p) e X y f }
+  behind_moved X p d a (items.Moved.moved {d = e} {y} h f) = record { production = p; dot = e; place = (h.0, h.1, h.2, h.3); behind = at_drop (rhs_of P p) e X y f }
 
   moves_symbol : (X : Symbol) → Moves P (of_kernels ks) s X → Contains (symbols_of moves) X
   unfolding kernel_at

@@ -13,7 +13,7 @@ use Rattle.mh_sets.specs.Sets.{IsSet}
 use Rattle.mh_items.specs.declared.asked.Asked.{Asked}
 use Rattle.mh_items.specs.declared.links.Link.{Link}
 use Rattle.mh_items.specs.Asked.{looks_at, IsAsked, IsWaiting, AreQueued, IsTable, Adds, IsAt, IsPassedOn, IsStep}
-use Rattle.mh_grammar.proofs.Lists.{get_left, get_last, contains_here}
+use Rattle.mh_grammar.proofs.Lists.{get_left, get_last, some_item}
 
 -- how many looks a set of a width may still get
 abbrev left : ℕ → List Look → ℕ
@@ -143,14 +143,10 @@ module _ {W : ℕ} where
         last = let P : List ℕ → Type 0 = λ q. Contains q n in subst P (sym queue) (Contains-push old.queue.items n)
 
         -- a longer list has a member
-        some_here : (xs : List Look) → 0 < length xs → (b : Look) × Contains xs b
-        some_here [] k = absurd (omega arith)
-        some_here (x ∷ xs) k = (x, contains_here x xs)
-
         busy_to : (m : ℕ) → Contains new.queue.items m → (b : Look) × IsAsked new m b
         busy_to m c = elim (Contains-push_cases old.queue.items n m (let P : List ℕ → Type 0 = λ q. Contains q m in subst P queue c)) [
           | inl d ↦ some_new m (table.busy m d)
-          | inr e ↦ (let f = some_here v (omega arith) in let P : List Look → Type 0 = λ xs. Contains xs f.0 in
+          | inr e ↦ (let f = some_item v (omega arith) in let P : List Look → Type 0 = λ xs. Contains xs f.0 in
               let q : IsAsked new n f.0 = subst P (sym here) f.1 in (f.0, subst (λ (x : ℕ). IsAsked new x f.0) e q))
         ]
 

@@ -20,7 +20,7 @@ use Rattle.mh_grammar.proofs.Numbered.{IsProductionFor-ordinary, rhs_of-ordinary
 use Rattle.mh_items.specs.declared.links.Link.{Link}
 use Rattle.mh_items.specs.declared.first_sets.Sets.{Sets}
 use Rattle.mh_items.specs.Firsts.{AreSets, Begins, BeginsAll, IsRest, IsLink, IsLinked, AreLinksOf}
-use Rattle.mh_grammar.proofs.Lists.{same_at}
+use Rattle.mh_grammar.proofs.Lists.{same_at, nil_parts}
 
 -- a nonterminal is no token, and is something
 pub no_token : (n a : ℕ) → Some (N n) ≡ Some (T a) → ⊥
@@ -84,10 +84,6 @@ begins_past g X Xs End t f = absurd f
 begins_nil : (g : PlainGrammar) (b : Look) → BeginsAll g [] b → ⊥
 begins_nil g (Token a) f = elim f [ ]
 begins_nil g End f = f
-
-nil_parts : (u v : List ℕ) → [] ≡ u ++ v → (u ≡ []) × (v ≡ [])
-nil_parts [] v e = (refl, sym e)
-nil_parts (x ∷ u) v e = cc
 
 all_parts : (g : PlainGrammar) (X : Symbol) (Xs : List Symbol) (w : List ℕ) → DerivesAll g (X ∷ Xs) w → w ≡ [] → Derives g X [] × DerivesAll g Xs []
 all_parts g X Xs w (trees.Derivations.more {u = u} {v = v} j t f) e = let n = nil_parts u v (sym e ∙ j) in (rw n.0 at t, rw n.1 at f)

@@ -16,8 +16,9 @@ use Rattle.mh_items.specs.Firsts.{BeginsAll, IsRest}
 use Rattle.mh_items.specs.Asked.{IsAsked, AreAwake, Adds, IsAt}
 use Rattle.mh_items.specs.Wanted as wanted
 use Rattle.mh_items.specs.Wanted.{Follows, IsItemSeed, IsSeedOf, IsSeed, AreSeeds}
-use Rattle.mh_kernels.proofs.Dotted.{drop_from-slice_get, slice_get_from-drop, drop_tail}
+use Rattle.mh_kernels.proofs.Dotted.{drop_from-slice_get, drop_tail}
 use Rattle.mh_items.proofs.Growing.{Adds-then, Adds-as}
+use Rattle.mh_grammar.proofs.Lists.{at_drop}
 
 -- what follows an item, by the rest behind its symbol
 module _ (g : PlainGrammar) (item : KernelItem) (is : IsKernelItem g item) (tokens : List Look) (passes : Bool) (rest : IsRest g (drop (suc item.dot) (rhs_of g item.production)) tokens passes) where
@@ -83,7 +84,7 @@ module _ (g : PlainGrammar) where
         item = item;
         among = h.1;
         is = record {
-          at = slice_get_from-drop (rhs_of g item.production) item.dot (N n) y at;
+          at = at_drop (rhs_of g item.production) item.dot (N n) y at;
           follows = record { look = a; held = h.4; begins = rw tail m };
         };
       }

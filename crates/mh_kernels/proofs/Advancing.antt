@@ -12,8 +12,8 @@ use Rattle.mh_grammar.specs.ItemSets.{AreSame, Moved}
 use Rattle.mh_kernels.specs.Shapes.{KernelItem}
 use Rattle.mh_kernels.specs.Shapes.{Items, Kernel}
 use Rattle.mh_kernels.specs.Kernels.{Holds, IsItemList, IsKernelItem, IsItemBefore}
-use Rattle.mh_grammar.proofs.Lists.{same_at, contains_at, at_contains, recursion_at, rising_at}
-use Rattle.mh_kernels.proofs.Dotted.{drop_from-slice_get, slice_get_from-drop}
+use Rattle.mh_grammar.proofs.Lists.{same_at, contains_at, at_contains, recursion_at, rising_at, at_drop}
+use Rattle.mh_kernels.proofs.Dotted.{drop_from-slice_get}
 use Rattle.mh_kernels.proofs.Pushing.{kernel_push}
 
 abbrev of_items : List KernelItem → Kernel
@@ -93,7 +93,7 @@ module _ (g : PlainGrammar) (X : Symbol) (closed : Items) (out : List KernelItem
   into_moved p d a (sets.Moved.moved {p = p'} {d = d'} {y = y} f e) =
       let s = f.0 in
       let at = at_contains closed.items s f.1 in
-      let m : slice_get (rhs_of g s.production) s.dot ≡ Some X = rw (f.2, f.3) (slice_get_from-drop (rhs_of g p') d' X y e) in
+      let m : slice_get (rhs_of g s.production) s.dot ≡ Some X = rw (f.2, f.3) (at_drop (rhs_of g p') d' X y e) in
       (past s, h.moved at.0 s (omega (arith, slice_get_within closed.items at.0 s at.1)) at.1 m, f.2, ap (λ n. n + 1) f.3 ∙ add-one d', f.4)
 
   pub moved_of : AreSame (Holds (of_items out)) (Moved g (Holds closed) X)

@@ -3,7 +3,6 @@ use Rattle.std.proofs.Common.{◌≡◌, ℕ, List, [], ◌∷◌, refl, sym, ap
 use Rattle.std.specs.List.{AllByRecursion, Contains}
 use Rattle.std.proofs.lemmas.Bool.{cases_order}
 use Rattle.mh_grammar.specs.declared.types.Look.{Look}
-use Rattle.mh_grammar.specs.declared.types.Look.TheVariants.{Token, End}
 use Rattle.mh_grammar.specs.Plain.{PlainGrammar}
 use Rattle.mh_grammar.specs.Edges.{IsRising, IsLookBefore}
 use Rattle.mh_grammar.specs.ItemSets.{AreSame}
@@ -11,12 +10,7 @@ use Rattle.mh_kernels.specs.Shapes.{KernelItem}
 use Rattle.mh_kernels.specs.Shapes.{Kernel}
 use Rattle.mh_kernels.specs.Kernels.{Holds, IsItemList, IsKernelItem, IsItemBefore}
 use Rattle.mh_grammar.proofs.Lists.{contains_here, contains_there, contains_cases, recursion_contains, rising_same, some_item}
-
-pub look_never : (a b : Look) → IsLookBefore a b → IsLookBefore b a → ⊥
-look_never (Token a) (Token b) h k = omega arith
-look_never (Token a) End h k = k
-look_never End (Token b) h k = h
-look_never End End h k = h
+use Rattle.mh_grammar.proofs.EdgeOrder.{look_never}
 
 -- a place is not before itself, and not both before and behind another
 pub place_never : (x y : KernelItem) → IsItemBefore x y → x.production ≡ y.production → x.dot ≡ y.dot → ⊥

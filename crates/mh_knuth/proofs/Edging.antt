@@ -1,5 +1,5 @@
 -- Rows of edges: what an edge on a symbol is, and what a new row says.
-use Rattle.std.proofs.Common.{◌≡◌, ℕ, ◌↔◌, Bool, true, false, List, [], ◌∷◌, Some, map, refl, sym, ap, ◌∙◌, inl, inr, if◌then◌else◌}
+use Rattle.std.proofs.Common.{◌≡◌, ℕ, ◌↔◌, Bool, true, false, List, [], ◌∷◌, Some, map, refl, sym, ◌∙◌, inl, inr, if◌then◌else◌}
 use Rattle.std.specs.List.{slice_get, AllByRecursion, AllZip, Contains}
 use Rattle.std.proofs.lemmas.Bool.Decides.{Decides-eqb}
 use Rattle.mh_grammar.specs.declared.types.Symbol.{Symbol}
@@ -17,14 +17,8 @@ use Rattle.mh_kernels.specs.Kernels.{Holds}
 use Rattle.mh_knuth.specs.Canonical.{HasItem, targets_of}
 use Rattle.mh_knuth.specs.Found.{AreEdges}
 use Rattle.mh_kernels.specs.Collection.{IsBehindDot, IsMove}
-use Rattle.mh_grammar.proofs.Lists.{contains_cases, contains_none}
-use Rattle.mh_knuth.proofs.Sets.{same_trans, same_sym, has_same, moved_same, get_from_drop}
-
-pub symbol_true : (a b : Symbol) → same_symbol a b ≡ true → a ≡ b
-symbol_true (T a) (T b) e = ap T ((Decides-eqb a b).0 e)
-symbol_true (T a) (N b) e = cc
-symbol_true (N a) (T b) e = cc
-symbol_true (N a) (N b) e = ap N ((Decides-eqb a b).0 e)
+use Rattle.mh_grammar.proofs.Lists.{contains_cases, contains_none, at_drop}
+use Rattle.mh_knuth.proofs.Sets.{same_trans, same_sym, has_same, moved_same}
 
 pub symbol_itself : (a b : Symbol) → a ≡ b → same_symbol a b ≡ true
 symbol_itself (T a) (T b) e = (Decides-eqb a b).1 cc
@@ -50,7 +44,7 @@ found_move g closed kernels (f ∷ row) (k ∷ moves) each names X u e = go (sam
     go : (b : Bool) → same_symbol f.symbol X ≡ b → (if b then Some f.target else find_edge row X) ≡ Some u → (find_edge row X ≡ Some u → (m : Kernel) × (slice_get kernels u ≡ Some m) × IsMove g closed X m) → (m : Kernel) × (slice_get kernels u ≡ Some m) × IsMove g closed X m
     go true s t rest =
         let to : f.target ≡ u = cc in
-        let on = symbol_true f.symbol X s in
+        let on = same_is f.symbol X s in
         (k, rw to at names.0, rw on at each.0)
     go false s t rest = rest t
 
@@ -85,7 +79,7 @@ behind_moved g closed X p d a (items.Moved.moved {d = d'} {y} h e) = record {
   production = p;
   dot = d';
   place = (h.0, h.1, h.2, h.3);
-  behind = get_from_drop (rhs_of g p) d' X y e;
+  behind = at_drop (rhs_of g p) d' X y e;
 }
 
 pub IsRow-new : (g : PlainGrammar) (k : Kernel) (closed : Items) (symbols : List Symbol) (old new : List Kernel) (row : List Edge) → AreSame (Holds closed) (Close g (Holds k)) → IsRising IsSymbolBefore symbols → ((X : Symbol) → Contains symbols X ↔ IsBehindDot g closed X) → AreEdges g closed symbols old new row → IsRow g new k row

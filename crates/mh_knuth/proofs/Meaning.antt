@@ -1,6 +1,6 @@
 -- What the definition of the canonical collection implies: all that every layer needs of an automaton, and that no more
 -- sets are reached than it has states.
-use Rattle.std.proofs.Common.{◌≡◌, ℕ, zero, suc, ◌<◌, ◌≤◌, List, [], ◌∷◌, Some, length, refl, ap, arith, inl, inr}
+use Rattle.std.proofs.Common.{◌≡◌, ℕ, zero, suc, ◌<◌, ◌≤◌, List, [], ◌∷◌, Some, length, refl, arith, inl, inr}
 use Rattle.std.specs.List.{slice_get, AllByRecursion, AllZip, Contains}
 use Rattle.std.proofs.lemmas.Bool.{cases_lt}
 use Rattle.std.proofs.lemmas.List.Elements.{recursion_from_All}
@@ -23,6 +23,7 @@ use Rattle.mh_knuth.proofs.Building.{IsItemList-start}
 use Rattle.mh_knuth.proofs.Finished.{kernel_get, items_within}
 use Rattle.mh_kernels.proofs.OneList.{kernel_same}
 use Rattle.mh_knuth.proofs.Sets.{same_sym, same_trans, place_holds, moved_dot, start_holds}
+use Rattle.mh_grammar.proofs.Lists.{zip_length}
 
 -- a start production stands with the end of the stream alone
 close_end : (g : PlainGrammar) (I : ItemSet) → ((p d : ℕ) (a : Look) → I p d a → p < length g.starts → a ≡ End) → (p d : ℕ) (a : Look) → Close g I p d a → p < length g.starts → a ≡ End
@@ -98,12 +99,6 @@ module _ (g : PlainGrammar) (a : Automaton) (h : IsCanonical g a) where
   led_at (v ∷ walks) (m ∷ ks) z zero k e = let same : m ≡ k = cc in (v, refl, rw same at z.0.0, rw same at z.0.1)
   led_at (v ∷ walks) (m ∷ ks) z (suc i) k e = led_at walks ks z.1 i k e
 
-  led_len : (walks : List Walk) (ks : List Kernel) → AllZip (λ w k. Contains a.kernels k × AreSame (Holds k) (walk_of g w)) walks ks → length walks ≡ length ks
-  led_len [] [] z = refl
-  led_len [] (m ∷ ks) z = absurd z
-  led_len (v ∷ walks) [] z = absurd z
-  led_len (v ∷ walks) (m ∷ ks) z = ap suc (led_len walks ks z.1)
-
   -- no more sets are reached than there are states
   pub IsOver-canonical : (limit : ℕ) → length a.kernels ≤ limit → IsOver g limit → ⊥
   IsOver-canonical limit few o =
@@ -115,4 +110,4 @@ module _ (g : PlainGrammar) (a : Automaton) (h : IsCanonical g a) where
             o.distinct i j v.0 w.0 v.1 w.1 (same_trans (walk_of g v.0) (Holds k) (walk_of g w.0) (same_sym (Holds k) (walk_of g v.0) v.3) w.3);
       } in
       let le = length-distinct_in a.kernels r.0 apart (λ k c. let i = at_contains r.0 k c in (led_at o.walks r.0 r.1 i.0 k i.1).2) in
-      omega (arith, o.over, led_len o.walks r.0 r.1)
+      omega (arith, o.over, zip_length (λ w k. Contains a.kernels k × AreSame (Holds k) (walk_of g w)) o.walks r.0 r.1)

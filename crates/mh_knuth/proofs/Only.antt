@@ -19,11 +19,12 @@ use Rattle.mh_kernels.specs.Shapes.{Automaton}
 use Rattle.mh_kernels.specs.Kernels.{Holds, IsItemList}
 use Rattle.mh_kernels.specs.Automaton.{kernel_at, kernel_of, edges_at, leads_to, move_of}
 use Rattle.mh_knuth.specs.Canonical.{HasItem, IsCanonical, targets_of}
-use Rattle.mh_knuth.proofs.Edging.{symbol_true, symbol_itself, found_edge}
+use Rattle.mh_knuth.proofs.Edging.{symbol_itself, found_edge}
 use Rattle.mh_knuth.proofs.Finished.{kernel_get, kernel_got, edges_get}
 use Rattle.mh_kernels.proofs.OneList.{kernel_same}
 use Rattle.mh_grammar.proofs.Lists.{contains_here, contains_there, contains_cases, contains_none, recursion_contains, rising_same, zip_one}
 use Rattle.mh_knuth.proofs.Sets.{same_sym, same_trans, has_same, moved_same, close_same, reach_has}
+use Rattle.mh_grammar.proofs.EdgeOrder.{same_is}
 
 symbols_of : List Edge → List Symbol
 symbols_of row = map (λ e. e.symbol) row
@@ -55,7 +56,7 @@ own_edge (f ∷ row) r e c = go (same_symbol f.symbol e.symbol) refl (own_edge r
     go : (b : Bool) → same_symbol f.symbol e.symbol ≡ b → (Contains row e → find_edge row e.symbol ≡ Some e.target) → (if b then Some f.target else find_edge row e.symbol) ≡ Some e.target
     go true s rest = elim (contains_cases f row e c) [
       | inl same ↦ ap (λ (x : Edge). Some x.target) same
-      | inr d ↦ absurd (symbol_apart f.symbol e.symbol (recursion_contains (IsEdgeBefore f) row r.0 e d) (symbol_true f.symbol e.symbol s))
+      | inr d ↦ absurd (symbol_apart f.symbol e.symbol (recursion_contains (IsEdgeBefore f) row r.0 e d) (same_is f.symbol e.symbol s))
     ]
     go false s rest = elim (contains_cases f row e c) [
       | inl same ↦ absurd (let t = symbol_itself f.symbol e.symbol (ap (λ (x : Edge). x.symbol) same) in let u : true ≡ false = sym t ∙ s in cc)
@@ -69,7 +70,7 @@ found_symbol [] X u e = cc
 found_symbol (f ∷ row) X u e = go (same_symbol f.symbol X) refl e (found_symbol row X u)
   where
     go : (b : Bool) → same_symbol f.symbol X ≡ b → (if b then Some f.target else find_edge row X) ≡ Some u → (find_edge row X ≡ Some u → Contains (map (λ (e : Edge). e.symbol) row) X) → Contains (f.symbol ∷ map (λ (e : Edge). e.symbol) row) X
-    go true s t rest = rw (sym (symbol_true f.symbol X s)) (contains_here f.symbol (map (λ (e : Edge). e.symbol) row))
+    go true s t rest = rw (sym (same_is f.symbol X s)) (contains_here f.symbol (map (λ (e : Edge). e.symbol) row))
     go false s t rest = contains_there f.symbol (map (λ (e : Edge). e.symbol) row) X (rest t)
 
 record IsMoveOf (g : PlainGrammar) (k : Kernel) (X : Symbol) (m : Kernel) : Type 0 where

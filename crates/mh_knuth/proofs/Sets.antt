@@ -1,5 +1,5 @@
 -- Sets of items: what closures and moves keep.
-use Rattle.std.proofs.Common.{◌≡◌, ℕ, zero, suc, ◌<◌, List, [], ◌∷◌, Some, length, drop, refl, sym, ap, ◌∙◌, arith, inl, inr}
+use Rattle.std.proofs.Common.{◌≡◌, ℕ, zero, suc, ◌<◌, List, [], ◌∷◌, Some, drop, refl, sym, ap, ◌∙◌, arith, inl, inr}
 use Rattle.std.specs.List.{slice_get, Contains}
 use Rattle.mh_grammar.specs.declared.types.Symbol.{Symbol}
 use Rattle.mh_grammar.specs.declared.types.Look.{Look}
@@ -12,11 +12,7 @@ use Rattle.mh_kernels.specs.Shapes.{KernelItem}
 use Rattle.mh_kernels.specs.Kernels.{Holds, HasPlace, IsKernelItem, IsItemList}
 use Rattle.mh_kernels.specs.Automaton.{start_kernel}
 use Rattle.mh_knuth.specs.Canonical.{HasItem}
-use Rattle.mh_grammar.proofs.Lists.{contains_here, contains_cases, contains_none, recursion_contains}
-
-first_look : (looks : List Look) → 0 < length looks → (a : Look) × Contains looks a
-first_look [] l = absurd (omega arith)
-first_look (a ∷ looks) l = (a, contains_here a looks)
+use Rattle.mh_grammar.proofs.Lists.{contains_here, contains_cases, contains_none, recursion_contains, some_item}
 
 pub same_sym : (I J : ItemSet) → AreSame I J → AreSame J I
 same_sym I J s p d a = ((s p d a).1, (s p d a).0)
@@ -77,17 +73,11 @@ start_holds i p d a = (to, back p d a)
 -- a place of a kernel stands with a look
 pub place_holds : (g : PlainGrammar) (k : Kernel) → IsItemList g k → (p d : ℕ) → HasPlace k p d → (a : Look) × Holds k p d a
 place_holds g k of_k p d h =
-    let look = first_look h.0.looks (recursion_contains (IsKernelItem g) k.items of_k.items h.0 h.1).some in
+    let look = some_item h.0.looks (recursion_contains (IsKernelItem g) k.items of_k.items h.0 h.1).some in
     (look.0, (h.0, h.1, h.2, h.3, look.1))
 
--- the symbol at a place of a list, in two forms
+-- the symbol at a place of a list, and what stands from there on
 pub drop_from_get : (xs : List Symbol) (d : ℕ) (X : Symbol) → slice_get xs d ≡ Some X → drop d xs ≡ X ∷ drop (suc d) xs
 drop_from_get [] d X e = cc
 drop_from_get (x ∷ xs) zero X e = let same : x ≡ X = cc in λ i. same i ∷ xs
 drop_from_get (x ∷ xs) (suc d) X e = drop_from_get xs d X e
-
-pub get_from_drop : (xs : List Symbol) (d : ℕ) (X : Symbol) (ys : List Symbol) → drop d xs ≡ X ∷ ys → slice_get xs d ≡ Some X
-get_from_drop [] zero X ys e = cc
-get_from_drop [] (suc d) X ys e = cc
-get_from_drop (x ∷ xs) zero X ys e = let same : x ≡ X = cc in ap Some same
-get_from_drop (x ∷ xs) (suc d) X ys e = get_from_drop xs d X ys e

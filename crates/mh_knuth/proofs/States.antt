@@ -18,6 +18,7 @@ use Rattle.mh_knuth.specs.Found.{IsState, AreStates, IsSource, AreEdges}
 use Rattle.mh_kernels.specs.Collection.{IsBehindDot, IsMove}
 use Rattle.mh_kernels.proofs.OneList.{kernel_same}
 use Rattle.mh_knuth.proofs.Sets.{same_sym, same_trans, moved_same, close_same, place_holds, drop_from_get}
+use Rattle.mh_grammar.proofs.Lists.{zip_push}
 
 -- the closure of a state
 pub IsSource-close : (g : PlainGrammar) (k : Kernel) (closed : Items) → IsState g k → IsItemList g closed → AreSame (Holds closed) (Close g (Holds k)) → IsSource g closed
@@ -57,12 +58,6 @@ AreStates-edges g closed symbols old new row source behind s e = record {
   each = AllPlaced-each (IsState g) old new e.moves (targets_of row) e.placed s.each (λ k c. All-contains (IsState g) e.moves k (All-from_recursion (IsState g) e.moves (moves_states g closed source symbols e.moves (recursion_from_All (IsBehindDot g closed) symbols behind) e.each)) c);
   distinct = AllPlaced-distinct old new e.moves (targets_of row) e.placed s.distinct;
 }
-
-zip_push : {A B : Type 0} (R : A → B → Type 0) (xs : List A) (ys : List B) (x : A) (y : B) → AllZip R xs ys → R x y → AllZip R (xs ++ x ∷ []) (ys ++ y ∷ [])
-zip_push R [] [] x y a r = (r, tt)
-zip_push R [] (w ∷ ys) x y a r = absurd a
-zip_push R (v ∷ xs) [] x y a r = absurd a
-zip_push R (v ∷ xs) (w ∷ ys) x y a r = (a.0, zip_push R xs ys x y a.1 r)
 
 pub AreEdges-none : (g : PlainGrammar) (closed : Items) (kernels : List Kernel) → AreEdges g closed [] kernels kernels []
 AreEdges-none g closed kernels = record { moves = []; each = tt; on = refl; placed = refl }

@@ -3,7 +3,7 @@ use Rattle.std.proofs.Common.{◌≡◌, ◌⊎◌, ◌<◌, ◌≤◌, ℕ, Lis
 use Rattle.std.specs.List.{slice_get}
 use Rattle.std.proofs.lemmas.Bool.{cases_lt}
 use Rattle.std.proofs.lemmas.List.{length-set, length_push}
-use Rattle.mh_grammar.proofs.Lists.{rising_same}
+use Rattle.mh_grammar.proofs.Lists.{rising_same, cons_same}
 use Rattle.mh_grammar.specs.declared.types.Symbol.{Symbol}
 use Rattle.mh_grammar.specs.declared.types.Symbol.TheVariants.{T, N}
 use Rattle.mh_grammar.specs.Plain.{PlainGrammar}
@@ -70,9 +70,6 @@ module _ (g : PlainGrammar) where
   put_from : (move other : Kernel) (old v w : Work) (m n : ℕ) → move ≡ other → Puts g move old v m → Puts g other old w n → (v ≡ w) × (m ≡ n)
   put_from move other old v w m n e p q = put_one move old v w m n p (rw (← e) at q)
 
-  cons_one : {X : Type 0} (x y : X) (xs ys : List X) → x ≡ y → xs ≡ ys → x ∷ xs ≡ y ∷ ys
-  cons_one x y xs ys e f = λ i. e i ∷ f i
-
   -- so are all moves
   pub all_put_one : (k : Kernel) (symbols : List Symbol) (xs ys : List ℕ) (old v w : Work) → AllPut g k symbols xs old v → AllPut g k symbols ys old w → (v ≡ w) × (xs ≡ ys)
   all_put_one k [] [] [] old v w p q = (p ∙ sym q, refl)
@@ -84,7 +81,7 @@ module _ (g : PlainGrammar) where
       let first = put_from p.0 q.0 old p.1 q.1 m n (move_one k p.0 q.0 X p.2 q.2) p.3 q.3 in
       let others : AllPut g k symbols ys p.1 w = rw (← first.0) at q.4 in
       let rest = all_put_one k symbols xs ys p.1 v w p.4 others in
-      (rest.0, cons_one m n xs ys first.1 rest.1)
+      (rest.0, cons_same m n xs ys first.1 rest.1)
 
   -- the moves on some symbols are put first, and then those on the others
   pub all_put_split : (k : Kernel) (symbols rest : List Symbol) (targets : List ℕ) (old new : Work) → AllPut g k (symbols ++ rest) targets old new → (mid : Work) × (xs ys : List ℕ) × AllPut g k symbols xs old mid × AllPut g k rest ys mid new

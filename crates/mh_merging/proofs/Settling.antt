@@ -13,10 +13,10 @@ use Rattle.mh_grammar.proofs.Lists.{contains_cases, contains_here, contains_ther
 use Rattle.mh_kernels.specs.Shapes.{Kernel}
 use Rattle.mh_kernels.specs.Kernels.{Holds}
 use Rattle.mh_knuth.specs.Canonical.{HasItem, targets_of}
-use Rattle.mh_knuth.proofs.Edging.{symbol_true}
 use Rattle.mh_knuth.proofs.Sets.{same_sym}
 use Rattle.mh_merging.specs.Steps.{Work, Puts, AllPut, symbols_of, IsStep}
 use Rattle.mh_merging.proofs.Putting.{Extends, extends_self, extends_same, extends_trans, Grows, grows_trans, Came, stays, joins, fresh, came, put_grows, put_target, put_queue, put_rows, put_length}
+use Rattle.mh_grammar.proofs.EdgeOrder.{same_is}
 
 -- a number names a state that extends the move of a kernel on a symbol
 abbrev pub IsTargetOf : PlainGrammar → List Kernel → Kernel → Symbol → ℕ → Type 0
@@ -50,7 +50,7 @@ found_target g kernels k (f ∷ row) z X u e = go (same_symbol f.symbol X) refl 
     go : (b : Bool) → same_symbol f.symbol X ≡ b → (if b then Some f.target else find_edge row X) ≡ Some u → (find_edge row X ≡ Some u → IsTargetOf g kernels k X u × Contains (symbols_of row) X) → IsTargetOf g kernels k X u × Contains (symbols_of (f ∷ row)) X
     go true s t rest =
         let to : f.target ≡ u = cc in
-        let on = symbol_true f.symbol X s in
+        let on = same_is f.symbol X s in
         (rw (← to, ← on) z.0, rw (← on) (contains_here f.symbol (symbols_of row)))
     go false s t rest = let r = rest t in (r.0, contains_there f.symbol (symbols_of row) X r.1)
 

@@ -16,10 +16,10 @@ use Rattle.mh_grammar.specs.Edges.{IsRising, IsSymbolBefore}
 use Rattle.mh_grammar.specs.Plain.{PlainGrammar, IsInRange, IsSymbolBelow, rhs_of}
 use Rattle.mh_grammar.specs.ItemSets as sets
 use Rattle.mh_grammar.specs.ItemSets.{Moved}
-use Rattle.mh_grammar.proofs.Lists.{at_contains, contains_push, contains_last, contains_none, contains_map, map_contains, some_item, recursion-from, recursion_contains}
+use Rattle.mh_grammar.proofs.Lists.{at_contains, contains_push, contains_last, contains_none, contains_map, map_contains, some_item, recursion-from, recursion_contains, at_drop, read_again}
 use Rattle.mh_kernels.specs.Shapes.{Items, KernelItem, Kernel}
 use Rattle.mh_kernels.specs.Kernels.{Holds, IsItemList, IsKernelItem}
-use Rattle.mh_kernels.proofs.Dotted.{drop_from-slice_get, slice_get_from-drop}
+use Rattle.mh_kernels.proofs.Dotted.{drop_from-slice_get}
 use Rattle.mh_moves.specs.declared.rows.Rows.{Rows}
 use Rattle.mh_kernels.specs.Collection.{IsBehindDot, IsMove}
 use Rattle.mh_moves.specs.Moves.{Move, AreMoves, symbols_of}
@@ -56,13 +56,8 @@ not_before xs i h l c =
     let k : c.0 < i = omega (arith, c.1, length-take i xs) in
     let at : get_or xs c.0 n ≡ n = sym (get_or-take i xs c.0 n k) ∙ c.2 in
     let lt = AllPairs-from_increasing xs h c.0 i n k l in
-    let same : get_or xs i n ≡ n = refl_at xs i l in
+    let same : get_or xs i n ≡ n = sym (read_again xs i 0 l) in
     omega arith
-  where
-    refl_at : (ys : List ℕ) (j : ℕ) → j < length ys → get_or ys j (get_or ys j 0) ≡ get_or ys j 0
-    refl_at [] j m = absurd (omega arith)
-    refl_at (y ∷ ys) zero m = refl
-    refl_at (y ∷ ys) (suc j) m = refl_at ys j (omega arith)
 
 -- ---- symbols and places
 
@@ -192,7 +187,7 @@ module _ {W : ℕ} (g : PlainGrammar) (range : IsInRange g) (closed : Items) (ke
 
   -- a row with items has a symbol behind a dot
   moved_from : (X : Symbol) (p d : ℕ) (a : Look) → Moved g (Holds closed) X p d a → IsBehindDot g closed X
-  moved_from X p d a (sets.Moved.moved {p = q} {d = e} {y = y} held before) = record { production = q; dot = e; place = (held.0, held.1, held.2, held.3); behind = slice_get_from-drop (rhs_of g q) e X y before }
+  moved_from X p d a (sets.Moved.moved {p = q} {d = e} {y = y} held before) = record { production = q; dot = e; place = (held.0, held.1, held.2, held.3); behind = at_drop (rhs_of g q) e X y before }
 
   first_held : (k : Kernel) → IsItemList g k → (item : KernelItem) → Contains k.items item → Holds k item.production item.dot (get_or item.looks 0 End)
   first_held k is item c = (item, c, refl, refl, Contains-get_or item.looks 0 End (recursion_contains (IsKernelItem g) k.items is.items item c).some)

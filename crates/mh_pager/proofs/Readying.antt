@@ -7,15 +7,12 @@ use Rattle.std.proofs.lemmas.Option.{slice_get_within}
 use Rattle.mh_grammar.specs.declared.types.Symbol.{Symbol}
 use Rattle.mh_grammar.specs.declared.edges.Edge.{Edge}
 use Rattle.mh_grammar.specs.Plain.{PlainGrammar}
-use Rattle.mh_grammar.proofs.Lists.{contains_cases, contains_none, contains_there}
+use Rattle.mh_grammar.proofs.Lists.{contains_there, contains_one}
 use Rattle.mh_kernels.specs.Shapes.{Kernel}
 use Rattle.mh_kernels.specs.Kernels.{IsItemList}
 use Rattle.mh_knuth.specs.Canonical.{targets_of}
 use Rattle.mh_merging.specs.Steps.{Work, Queues, Puts, IsMoveOf, AllPut, symbols_of, IsStep, IsReady}
 use Rattle.mh_merging.proofs.Putting.{Came, stays, joins, fresh, came, put_length}
-
-one_of : (n m : ℕ) → Contains (n ∷ []) m → n ≡ m
-one_of n m c = elim (contains_cases n [] m c) [ inl e ↦ e | inr d ↦ absurd (contains_none m d) ]
 
 module _ (g : PlainGrammar) (move : Kernel) (old new : Work) (n : ℕ) (valid : IsItemList g move) (ready : IsReady g old) where
   of_came : (m : ℕ) (k : Kernel) → Came g move old new m k → IsItemList g k
@@ -27,7 +24,7 @@ module _ (g : PlainGrammar) (move : Kernel) (old new : Work) (n : ℕ) (valid : 
   queued_more (inl q) l len m c = omega (arith, ready.queued m (rw q.1 at c), len)
   queued_more (inr q) l len m c = elim (Contains-append_cases old.queue (n ∷ []) m (rw q.1 at c)) [
     | inl d ↦ omega (arith, ready.queued m d, len)
-    | inr d ↦ (let e = one_of n m d in omega (arith, len))
+    | inr d ↦ (let e = contains_one n m d in omega (arith, len))
   ]
 
   put_queued : Puts g move old new n → (m : ℕ) → Contains new.queue m → m < length new.kernels
@@ -35,7 +32,7 @@ module _ (g : PlainGrammar) (move : Kernel) (old new : Work) (n : ℕ) (valid : 
   put_queued (inr (inl j)) = queued_more j.queue (slice_get_within old.kernels n j.kernel j.first.at) (ap length j.kernels ∙ length-set old.kernels n j.joined)
   put_queued (inr (inr a)) = λ m c. elim (Contains-append_cases old.queue (n ∷ []) m (rw a.queue at c)) [
     | inl d ↦ omega (arith, ready.queued m d, ap length a.kernels, length_push old.kernels move)
-    | inr d ↦ (let e = one_of n m d in omega (arith, a.last, ap length a.kernels, length_push old.kernels move))
+    | inr d ↦ (let e = contains_one n m d in omega (arith, a.last, ap length a.kernels, length_push old.kernels move))
   ]
 
   pub put_ready : Puts g move old new n → IsReady g new

@@ -13,10 +13,11 @@ use Rattle.mh_kernels.specs.Shapes.{Items, Kernel}
 use Rattle.mh_kernels.specs.Kernels.{Holds, IsItemList}
 use Rattle.mh_knuth.specs.Canonical.{HasItem, targets_of}
 use Rattle.mh_kernels.specs.Collection.{IsBehindDot}
-use Rattle.mh_knuth.proofs.Sets.{same_sym, same_trans, has_same, moved_same, place_holds, drop_from_get, get_from_drop}
+use Rattle.mh_knuth.proofs.Sets.{same_sym, same_trans, has_same, moved_same, place_holds, drop_from_get}
 use Rattle.mh_pager.specs.Stepping.{RowIn, OverIn}
 use Rattle.mh_merging.specs.Steps.{Work, Puts, IsMoveOf, AllPut, AreMoving, IsStep, Overruns, IsReady}
 use Rattle.mh_pager.proofs.Readying.{all_put_push, all_put_ready}
+use Rattle.mh_grammar.proofs.Lists.{at_drop}
 
 -- a move of a closure is one of the kernel that it was made of
 module _ (g : PlainGrammar) (closed : Items) (move : Kernel) (X : Symbol) (valid : IsItemList g move) (same : AreSame (Holds move) (Moved g (Holds closed) X)) (some : HasItem (Moved g (Holds closed) X)) where
@@ -50,7 +51,7 @@ behind_has g closed X is b =
     record { production = b.production; dot = suc b.dot; look = look.0; holds = items.Moved.moved look.1 (drop_from_get (rhs_of g b.production) b.dot X b.behind) }
 
 moved_behind : (g : PlainGrammar) (closed : Items) (X : Symbol) (p d : ℕ) (a : Look) → Moved g (Holds closed) X p d a → IsBehindDot g closed X
-moved_behind g closed X p d a (items.Moved.moved {d = d'} {y} h e) = record { production = p; dot = d'; place = (h.0, h.1, h.2, h.3); behind = get_from_drop (rhs_of g p) d' X y e }
+moved_behind g closed X p d a (items.Moved.moved {d = d'} {y} h e) = record { production = p; dot = d'; place = (h.0, h.1, h.2, h.3); behind = at_drop (rhs_of g p) d' X y e }
 
 pub has_behind : (g : PlainGrammar) (closed : Items) (X : Symbol) → HasItem (Moved g (Holds closed) X) → IsBehindDot g closed X
 has_behind g closed X h = moved_behind g closed X h.production h.dot h.look h.holds

@@ -1,8 +1,8 @@
 -- The list of the code while the steps are made.
-use Rattle.std.proofs.Common.{◌≡◌, ◌+◌, ◌<◌, ◌≤◌, ℕ, List, [], ◌∷◌, ◌++◌, Some, replicate, length, refl, sym, ap, ◌∙◌, subst, arith, inl, inr}
+use Rattle.std.proofs.Common.{◌≡◌, ◌+◌, ◌<◌, ◌≤◌, ℕ, List, [], ◌∷◌, ◌++◌, Some, length, refl, sym, ap, ◌∙◌, subst, arith, inl, inr}
 use Rattle.std.specs.List.{slice_get, Contains}
 use Rattle.std.proofs.lemmas.Bool.{cases_lt}
-use Rattle.std.proofs.lemmas.List.{length_push, replicate-append-replicate}
+use Rattle.std.proofs.lemmas.List.{length_push, replicate_more}
 use Rattle.std.proofs.lemmas.List.FromFn.{length-range_with_len}
 use Rattle.std.proofs.lemmas.Option.{slice_get_within}
 use Rattle.mh_grammar.specs.declared.edges.Edge.{Edge}
@@ -74,9 +74,6 @@ list_weight g limit old new state rest e s few = subst (λ (q : List ℕ). weigh
 pub AreBegun-none : AreBegun 0 (record { kernels = []; rows = []; queue = [] })
 AreBegun-none = record { kernels = record { len = refl; each = λ i l. absurd (omega arith) }; rows = refl; queue = refl }
 
-replicate_push : (n : ℕ) (x : List Edge) → replicate n x ++ x ∷ [] ≡ replicate (n + 1) x
-replicate_push n x = replicate-append-replicate n 1 x
-
 pub AreBegun-push : (n : ℕ) (old new : Work) (k : Kernel) → AreBegun n old → k ≡ start_kernel n → new.kernels ≡ old.kernels ++ k ∷ [] → new.rows ≡ old.rows ++ [] ∷ [] → new.queue ≡ old.queue ++ n ∷ [] → AreBegun (n + 1) new
 AreBegun-push n old new k b is kernels rows queue = record {
   kernels = record {
@@ -86,6 +83,6 @@ AreBegun-push n old new k b is kernels rows queue = record {
       | inr m ↦ (let e : i ≡ n = omega arith in rw (kernels, e) (get_last old.kernels k n (sym b.kernels.len) ∙ ap Some is))
     ];
   };
-  rows = rows ∙ ap (λ (rs : List (List Edge)). rs ++ [] ∷ []) b.rows ∙ replicate_push n [];
+  rows = rows ∙ ap (λ (rs : List (List Edge)). rs ++ [] ∷ []) b.rows ∙ replicate_more n [];
   queue = queue ∙ ap (λ (q : List ℕ). q ++ n ∷ []) b.queue ∙ range_push n;
 }

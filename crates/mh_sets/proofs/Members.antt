@@ -6,7 +6,8 @@ use Rattle.mh_grammar.specs.declared.types.Look.{Look}
 use Rattle.mh_grammar.specs.declared.types.Look.TheVariants.{Token, End}
 use Rattle.mh_grammar.specs.Edges.{IsRising, IsLookBefore}
 use Rattle.mh_sets.specs.Words.{looks_from}
-use Rattle.mh_grammar.proofs.Lists.{contains_here, contains_there, contains_cases, contains_none, rising_same}
+use Rattle.mh_grammar.proofs.Lists.{contains_here, contains_there, contains_cases, contains_none, rising_same, recursion-from}
+use Rattle.mh_grammar.proofs.EdgeOrder.{look_never}
 
 -- what a test and the end have
 abbrev pub Has : (ℕ → Bool) → Bool → Look → Type 0
@@ -17,12 +18,6 @@ Has has end End = end ≡ true
 abbrev pub HasFrom : (ℕ → Bool) → Bool → ℕ → ℕ → Look → Type 0
 HasFrom has end from n (Token a) = (from ≤ a) × (a < from + n) × (has a ≡ true)
 HasFrom has end from n End = end ≡ true
-
-pub look_never : (a b : Look) → IsLookBefore a b → IsLookBefore b a → ⊥
-look_never (Token a) (Token b) h k = omega arith
-look_never (Token a) End h k = k
-look_never End (Token b) h k = h
-look_never End End h k = h
 
 -- a set is the only list for its members
 pub one_set : (xs ys : List Look) → IsRising IsLookBefore xs → IsRising IsLookBefore ys → ((b : Look) → Contains xs b ↔ Contains ys b) → xs ≡ ys
@@ -45,11 +40,6 @@ module _ {X : Type 0} (x : X) (xs : List X) where
   pub if_rising : (R : X → X → Type 0) (t : Bool) → AllByRecursion (R x) xs → IsRising R xs → IsRising R (if t then x ∷ xs else xs)
   if_rising R true a r = (a, r)
   if_rising R false a r = r
-
--- what holds of each item
-pub recursion-from : {X : Type 0} (P : X → Type 0) (xs : List X) → ((x : X) → Contains xs x → P x) → AllByRecursion P xs
-recursion-from P [] h = tt
-recursion-from P (x ∷ xs) h = (h x (contains_here x xs), recursion-from P xs (λ z c. h z (contains_there x xs z c)))
 
 module _ (has : ℕ → Bool) (end : Bool) where
   abbrev looks : ℕ → ℕ → List Look

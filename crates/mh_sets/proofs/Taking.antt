@@ -7,8 +7,8 @@ use Rattle.mh_grammar.specs.declared.types.Look.{Look}
 use Rattle.mh_grammar.specs.declared.types.Look.TheVariants.{Token, End}
 use Rattle.mh_grammar.specs.Edges.{IsLookBefore}
 use Rattle.mh_sets.specs.Words.{has_token, looks_of}
-use Rattle.mh_grammar.proofs.Lists.{contains_here, contains_there, contains_cases}
-use Rattle.mh_sets.proofs.Members.{Has, one_set, recursion-from}
+use Rattle.mh_grammar.proofs.Lists.{contains_here, contains_there, contains_cases, recursion-from}
+use Rattle.mh_sets.proofs.Members.{Has, one_set}
 use Rattle.mh_sets.proofs.Views.{member_sound, member_complete, rises}
 use Rattle.mh_sets.proofs.Calls.{held, holds, rise_is, not_true, bool_cases}
 

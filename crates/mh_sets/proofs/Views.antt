@@ -13,8 +13,8 @@ use Rattle.mh_grammar.specs.Plain.{IsLookBelow}
 use Rattle.mh_grammar.specs.Edges.{IsRising, IsLookBefore}
 use Rattle.mh_sets.specs.Words.{has_token, looks_from, looks_of, AreWords, is_token, is_end, word_by, words_by, words_of, ends}
 use Rattle.mh_sets.specs.Sets.{IsSet}
-use Rattle.mh_grammar.proofs.Lists.{contains_here, contains_there, contains_cases}
-use Rattle.mh_sets.proofs.Members.{Has, sound, has_end, has_at, rising, short, longer, recursion-from}
+use Rattle.mh_grammar.proofs.Lists.{contains_here, contains_there, contains_cases, recursion-from}
+use Rattle.mh_sets.proofs.Members.{Has, sound, has_end, has_at, rising, short, longer}
 use Rattle.mh_sets.proofs.Places.{past, bit, from_test, test_of, test_not, two}
 
 pub token_within : (words : List ℕ) (a : ℕ) → has_token words a ≡ true → a < 64 * length words

@@ -7,7 +7,7 @@ use Rattle.std.proofs.lemmas.Option.{slice_get_within}
 use Rattle.mh_grammar.specs.declared.types.Look.{Look}
 use Rattle.mh_grammar.specs.Plain.{PlainGrammar}
 use Rattle.mh_grammar.specs.Edges.{IsRising}
-use Rattle.mh_grammar.proofs.Lists.{contains_at, at_contains, recursion_at, rising_at, contains_here, rising_same, has_place}
+use Rattle.mh_grammar.proofs.Lists.{contains_at, at_contains, recursion_at, rising_at, rising_same, has_place, some_item}
 use Rattle.mh_kernels.specs.Shapes.{KernelItem}
 use Rattle.mh_kernels.specs.Shapes.{Kernel}
 use Rattle.mh_kernels.specs.Kernels.{Holds, IsKernelItem, IsItemList, IsItemBefore}
@@ -46,14 +46,10 @@ item_one g k is p d i j x y a b = (place, same)
     same : x ≡ y
     same = let one : Some x ≡ Some y = sym a.at ∙ ap (slice_get k.items) place ∙ b.at in cc
 
-some_look : (looks : List Look) → 0 < length looks → (a : Look) × Contains looks a
-some_look [] l = absurd (omega arith)
-some_look (a ∷ looks) l = (a, contains_here a looks)
-
 pub item_pair : (g : PlainGrammar) (k : Kernel) → IsItemList g k → (p d i : ℕ) (x : KernelItem) → IsItem k p d i x → HasPair (Holds k) p d
 item_pair g k is p d i x item =
     let valid = recursion_at (IsKernelItem g) k.items is.items i x item.at in
-    let a = some_look x.looks valid.some in
+    let a = some_item x.looks valid.some in
     (a.0, holding k p d i x a.0 item a.1)
 
 own_item : (k : Kernel) (i : ℕ) (x : KernelItem) → slice_get k.items i ≡ Some x → IsItem k x.production x.dot i x

@@ -1,16 +1,15 @@
 -- What an index of the worklist by core gives, and what keeps it.
 use Rattle.std.proofs.Common.{◌≡◌, ◌⊎◌, ◌+◌, ◌<◌, ℕ, List, [], ◌∷◌, ◌++◌, Bool, true, false, cond, None, Some, Decides, set, length, refl, sym, ap, ◌∙◌, arith, inl, inr}
-use Rattle.std.specs.List.{slice_get, Contains, All, AllByRecursion}
+use Rattle.std.specs.List.{slice_get, Contains, All}
 use Rattle.std.specs.List.Sorted.{IsPermutation}
 use Rattle.std.specs.Map.{lookup}
 use Rattle.std.proofs.lemmas.Bool.{cases_eq}
 use Rattle.std.proofs.lemmas.List.{length-set, length_push}
 use Rattle.std.proofs.lemmas.Option.{slice_get_within}
 use Rattle.std.proofs.lemmas.List.Sorted.{Contains-permutation, IsPermutation-sym}
-use Rattle.std.proofs.lemmas.List.Elements.{All-contains, All-push, All-weaker, Contains-append_left, Contains-append_right, recursion_from_All}
-use Rattle.mh_grammar.specs.Edges.{IsRising}
+use Rattle.std.proofs.lemmas.List.Elements.{All-contains, All-push, All-weaker, Contains-append_left, Contains-append_right}
 use Rattle.mh_grammar.specs.Plain.{PlainGrammar}
-use Rattle.mh_grammar.proofs.Lists.{get_left, get_last, get_cases, contains_here, contains_there, contains_cases, contains_none, contains_push, has_place, set_here, set_elsewhere, set_cases}
+use Rattle.mh_grammar.proofs.Lists.{get_left, get_last, get_cases, contains_here, contains_there, contains_cases, contains_none, contains_push, has_place, set_here, set_elsewhere, set_cases, rising-push}
 use Rattle.mh_kernels.specs.Shapes.{Kernel}
 use Rattle.mh_kernels.specs.Kernels.{Holds, IsItemList}
 use Rattle.mh_states.specs.Weak.{OneCore, IsJoin}
@@ -73,20 +72,12 @@ module _ (kernels : List Kernel) (places : Places) (groups : List (List ℕ)) (x
   grown : (group : List ℕ) → All (λ n. n < length kernels) group → (move : Kernel) → All (λ n. n < length (kernels ++ move ∷ [])) group
   grown group a move = All-weaker (λ n. n < length kernels) (λ n. n < length (kernels ++ move ∷ [])) (λ n l. omega (arith, length_push kernels move)) group a
 
-  rising_push : (group : List ℕ) (n : ℕ) → IsRising IsBefore group → AllByRecursion (λ m. m < n) group → IsRising IsBefore (group ++ n ∷ [])
-  rising_push [] n r a = (tt, tt)
-  rising_push (m ∷ group) n r a = (below group r.0, rising_push group n r.1 a.1)
-    where
-      below : (xs : List ℕ) → AllByRecursion (IsBefore m) xs → AllByRecursion (IsBefore m) (xs ++ n ∷ [])
-      below [] b = (a.0, tt)
-      below (y ∷ xs) b = (b.0, below xs b.1)
-
   -- a new state is put behind those of its core
   pub indexed_append : (move : Kernel) (c : ℕ) (group : List ℕ) → Contains places (core_of move, c) → slice_get groups c ≡ Some group → IsIndexed (kernels ++ move ∷ []) places (set groups c (group ++ length kernels ∷ []))
   indexed_append move c group at of = record {
     placed = record { within = λ core d h. rw (length-set groups c (group ++ length kernels ∷ [])) (x.placed.within core d h); one_place = x.placed.one_place; one_core = x.placed.one_core };
     rising = λ d other e. elim (set_cases groups c (group ++ length kernels ∷ []) d other e) [
-      | inl s ↦ rw (← s.1) (rising_push group (length kernels) (x.rising c group of) (recursion_from_All (λ n. n < length kernels) group (x.within c group of)))
+      | inl s ↦ rw (← s.1) (rising-push IsBefore group (length kernels) (x.rising c group of) (λ m h. All-contains (λ n. n < length kernels) group m (x.within c group of) h))
       | inr s ↦ x.rising d other s.1
     ];
     within = λ d other e. elim (set_cases groups c (group ++ length kernels ∷ []) d other e) [
