@@ -27,6 +27,7 @@ use Rattle.mh_found.specs.declared.tails.Told.TheVariants as tolds
 use Rattle.mh_found.specs.Numbers.{StandsFor, IsPlaced}
 use Rattle.mh_found.specs.Tails.{IsTurn, IsToldOf, Tells, IsWordOf, AreWordOf, tokens_of, parts_of, weight, Opens, Goes, Turns, AreShared, AreComparable, IsLater}
 use Rattle.mh_ways.proofs.Wording.{some_is, fact_of_word}
+use Rattle.mh_grammar.proofs.Lists.{option_map_some}
 
 -- NUMBERS OF TOKENS
 
@@ -172,10 +173,6 @@ module _ (t : TableData) (facts : Facts) (tale : Tale t facts) where
           smaller = λ n. omega arith;
         }
 
-cost_some : (o : Option Fact) (c : ℕ) → Some c ≡ option_map (λ (f : Fact). f.cost) o → (f : Fact) × (o ≡ Some f) × (f.cost ≡ c)
-cost_some None c e = absurd (let y : Some c ≡ None = e in cc)
-cost_some (Some f) c e = (f, refl, (let y : Some c ≡ Some f.cost = e in cc))
-
 -- numbers of one group tell the order of their words
 turned : (book : Words) (c m n : ℕ) (a b : List ℕ) (told : Told) → IsBook book → StandsFor book m c a → StandsFor book n c b → IsTurn m n told → IsToldOf told a b
 turned book c m n a b tolds.Equal is x y e = sym x.letters ∙ ap (λ (i : ℕ). letters_of book i) e ∙ y.letters
@@ -188,8 +185,8 @@ turned book c m n a b tolds.Dearer is x y never = absurd never
 pub tells_by_numbers : (facts : Facts) (numbering : Numbering) (j k : FactKey) (c m n : ℕ) (told : Told) → IsBook numbering.book → Some c ≡ option_map (λ (f : Fact). f.cost) (fact_at facts j) → Some c ≡ option_map (λ (f : Fact). f.cost) (fact_at facts k) → c < cap → IsPlaced facts numbering j m → IsPlaced facts numbering k n → IsTurn m n told →
     Tells facts numbering j k told
 tells_by_numbers facts numbering j k c m n told book left right lt one two turn words a b h e g =
-    let f = cost_some (fact_at facts j) c left in
-    let d = cost_some (fact_at facts k) c right in
+    let f = option_map_some (λ (f : Fact). f.cost) (fact_at facts j) c (sym left) in
+    let d = option_map_some (λ (f : Fact). f.cost) (fact_at facts k) c (sym right) in
     let x = one f.0 f.1 h.long in
     let y = two d.0 d.1 h.long in
     let left_stands : StandsFor numbering.book m c a = rw f.2 at (h.each x.0 m j f.0 a x.1 x.2 e (rw f.2 lt)) in
@@ -216,12 +213,8 @@ is_some_zero (Some n) e = ap Some (none_equal n e)
 pub same_cost : (o : Option Fact) (m n : ℕ) → m ≡ n → Some m ≡ option_map (λ (f : Fact). f.cost) o → Some n ≡ option_map (λ (f : Fact). f.cost) o
 same_cost o m n e h = rw (← e) h
 
-back_some : (o : Option Fact) (b : Back) → option_map (λ (f : Fact). f.back) o ≡ Some b → (f : Fact) × (o ≡ Some f) × (f.back ≡ b)
-back_some None b e = absurd (let y : None ≡ Some b = e in cc)
-back_some (Some f) b e = (f, refl, (let y : Some f.back ≡ Some b = e in cc))
-
 pub opens_by : (t : TableData) (facts : Facts) (k : FactKey) (back : Back) (old new : List Part) → option_map (λ (f : Fact). f.back) (fact_at facts k) ≡ Some back → new ≡ old ++ parts_of t k back → Opens t facts (parts.Fact k) old new
-opens_by t facts k back old new e grown tale v is = let f = back_some (fact_at facts k) back e in opened t facts tale k f.0 v old new is f.1 (rw f.2 grown)
+opens_by t facts k back old new e grown tale v is = let f = option_map_some (λ (f : Fact). f.back) (fact_at facts k) back e in opened t facts tale k f.0 v old new is f.1 (rw f.2 grown)
 
 pub on_ok : {A B : Type 0} (r : Result A B) (P Q : Type 0) → (P → Q) → OnOk r P → OnOk r Q
 on_ok (Ok x) P Q f h = f h

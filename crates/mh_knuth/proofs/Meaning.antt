@@ -1,7 +1,7 @@
 -- What the definition of the canonical collection implies: all that every layer needs of an automaton, and that no more
 -- sets are reached than it has states.
-use Rattle.std.proofs.Common.{◌≡◌, ℕ, zero, suc, ◌<◌, ◌≤◌, List, [], ◌∷◌, Some, length, refl, arith, inl, inr}
-use Rattle.std.specs.List.{slice_get, AllByRecursion, AllZip, Contains}
+use Rattle.std.proofs.Common.{◌≡◌, ℕ, ◌<◌, ◌≤◌, List, [], ◌∷◌, length, refl, arith, inl, inr}
+use Rattle.std.specs.List.{AllByRecursion, AllZip, Contains}
 use Rattle.std.proofs.lemmas.Bool.{cases_lt}
 use Rattle.std.proofs.lemmas.List.Elements.{recursion_from_All}
 use Rattle.mh_grammar.specs.declared.types.Symbol.{Symbol}
@@ -23,7 +23,7 @@ use Rattle.mh_knuth.proofs.Building.{IsItemList-start}
 use Rattle.mh_knuth.proofs.Finished.{kernel_get, items_within}
 use Rattle.mh_kernels.proofs.OneList.{kernel_same}
 use Rattle.mh_knuth.proofs.Sets.{same_sym, same_trans, place_holds, moved_dot, start_holds}
-use Rattle.mh_grammar.proofs.Lists.{zip_length}
+use Rattle.mh_grammar.proofs.Lists.{zip_length, zip_right}
 
 -- a start production stands with the end of the stream alone
 close_end : (g : PlainGrammar) (I : ItemSet) → ((p d : ℕ) (a : Look) → I p d a → p < length g.starts → a ≡ End) → (p d : ℕ) (a : Look) → Close g I p d a → p < length g.starts → a ≡ End
@@ -84,20 +84,17 @@ module _ (g : PlainGrammar) (a : Automaton) (h : IsCanonical g a) where
     );
   }
 
+  -- the state that a walk leads to
+  abbrev IsLed : Walk → Kernel → Type 0
+  IsLed w k = Contains a.kernels k × AreSame (Holds k) (walk_of g w)
+
   -- the state of each walk
-  led : (walks : List Walk) → AllByRecursion (IsWalk g) walks → (ks : List Kernel) × AllZip (λ w k. Contains a.kernels k × AreSame (Holds k) (walk_of g w)) walks ks
+  led : (walks : List Walk) → AllByRecursion (IsWalk g) walks → (ks : List Kernel) × AllZip IsLed walks ks
   led [] w = ([], tt)
   led (v ∷ walks) w =
       let s = h.complete v.start v.path w.0.known w.0.some in
       let rest = led walks w.1 in
       (kernel_at a s.0 ∷ rest.0, ((contains_at a.kernels s.0 (kernel_at a s.0) (kernel_get a s.0 s.1), s.2), rest.1))
-
-  led_at : (walks : List Walk) (ks : List Kernel) → AllZip (λ w k. Contains a.kernels k × AreSame (Holds k) (walk_of g w)) walks ks → (i : ℕ) (k : Kernel) → slice_get ks i ≡ Some k → (w : Walk) × (slice_get walks i ≡ Some w) × Contains a.kernels k × AreSame (Holds k) (walk_of g w)
-  led_at [] [] z i k e = cc
-  led_at [] (m ∷ ks) z i k e = absurd z
-  led_at (v ∷ walks) [] z i k e = absurd z
-  led_at (v ∷ walks) (m ∷ ks) z zero k e = let same : m ≡ k = cc in (v, refl, rw same at z.0.0, rw same at z.0.1)
-  led_at (v ∷ walks) (m ∷ ks) z (suc i) k e = led_at walks ks z.1 i k e
 
   -- no more sets are reached than there are states
   pub IsOver-canonical : (limit : ℕ) → length a.kernels ≤ limit → IsOver g limit → ⊥
@@ -105,9 +102,11 @@ module _ (g : PlainGrammar) (a : Automaton) (h : IsCanonical g a) where
       let r = led o.walks (recursion_from_All (IsWalk g) o.walks o.each) in
       let apart : AreDistinct r.0 = record {
         same = λ i j k e f.
-            let v = led_at o.walks r.0 r.1 i k e in
-            let w = led_at o.walks r.0 r.1 j k f in
-            o.distinct i j v.0 w.0 v.1 w.1 (same_trans (walk_of g v.0) (Holds k) (walk_of g w.0) (same_sym (Holds k) (walk_of g v.0) v.3) w.3);
+            let v = zip_right IsLed o.walks r.0 r.1 i k e in
+            let w = zip_right IsLed o.walks r.0 r.1 j k f in
+            let one : IsLed v.0 k = v.2 in
+            let two : IsLed w.0 k = w.2 in
+            o.distinct i j v.0 w.0 v.1 w.1 (same_trans (walk_of g v.0) (Holds k) (walk_of g w.0) (same_sym (Holds k) (walk_of g v.0) one.1) two.1);
       } in
-      let le = length-distinct_in a.kernels r.0 apart (λ k c. let i = at_contains r.0 k c in (led_at o.walks r.0 r.1 i.0 k i.1).2) in
-      omega (arith, o.over, zip_length (λ w k. Contains a.kernels k × AreSame (Holds k) (walk_of g w)) o.walks r.0 r.1)
+      let le = length-distinct_in a.kernels r.0 apart (λ k c. let i = at_contains r.0 k c in let v = zip_right IsLed o.walks r.0 r.1 i.0 k i.1 in let one : IsLed v.0 k = v.2 in one.0) in
+      omega (arith, o.over, zip_length IsLed o.walks r.0 r.1)
