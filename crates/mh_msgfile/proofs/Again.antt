@@ -5,10 +5,10 @@ use Rattle.std.specs.List.{list_all, AllByRecursion, Contains}
 use Rattle.std.proofs.lemmas.List.{map-append}
 use Rattle.std.proofs.lemmas.Grind.{flat_map-append}
 use Rattle.mh_grammar.specs.declared.types.Grammar.{Grammar}
-use Rattle.mh_grammar.proofs.Lists.{contains_here, contains_there}
+use Rattle.mh_grammar.proofs.Lists.{contains_here, contains_there, nil_parts, recursion-append}
 use Rattle.mh_grammar.specs.Text.{Text}
 use Rattle.mh_msgfile.specs.Sentences.{vocabulary_of, put_first, fields, has_items, runs, is_blank, LineFound, IsSentence, IsUnreadable, NamesNoStart, LacksStart, NamesUnknown, sentence_in}
-use Rattle.mh_msgfile.specs.Messages.{HasNoEnd, AreLines, line_at, numbers_from, is_taken_out, is_kept, kept_lines, blocks, message_of, FaultFound, BadShape, fault_at, sentence_at, faults_of, sentences_of, first_number, faults_in, entries_in, MsgSpells}
+use Rattle.mh_msgfile.specs.Messages.{HasNoEnd, AreLines, line_at, numbers_from, is_taken_out, is_kept, kept_lines, blocks, message_of, BadShape, fault_at, sentence_at, faults_of, sentences_of, first_number, faults_in, entries_in, MsgSpells}
 use Rattle.mh_msgfile.specs.Printed.{sentence_text, sentence_line, sentence_lines, entry_text, file_text, HasNames, content_of, entry_content, HaveSameContent, HasNoCr}
 use Rattle.mh_msgfile.specs.declared.messages.MsgSentence.{MsgSentence}
 use Rattle.mh_msgfile.specs.declared.messages.Entry.{Entry}
@@ -191,14 +191,10 @@ module _ (g : Grammar) where
     good_to n LacksStart is = absurd is
     good_to n (NamesUnknown name) is = absurd is
 
-    none_both : (xs ys : List FaultFound) → xs ++ ys ≡ [] → (xs ≡ []) × (ys ≡ [])
-    none_both [] ys is = (refl, is)
-    none_both (x ∷ xs) ys is = absurd (cc)
-
     block_good : (block : List ℕ) → faults_of (vocabulary_of g) lines block ≡ [] → AreGood (texts_of lines block)
     block_good [] is = tt
     block_good (n ∷ block) is =
-        let both = none_both (fault_at n (found_in (line_at lines n))) (faults_of (vocabulary_of g) lines block) is in
+        let both = nil_parts (fault_at n (found_in (line_at lines n))) (faults_of (vocabulary_of g) lines block) (sym is) in
         (good_from n (found_in (line_at lines n)) both.0, block_good block both.1)
 
     good_block : (block : List ℕ) → AreGood (texts_of lines block) → faults_of (vocabulary_of g) lines block ≡ []
@@ -207,9 +203,9 @@ module _ (g : Grammar) where
 
     right_from : (bs : List (List ℕ)) → faults_in (vocabulary_of g) lines bs ≡ [] → Right (map (texts_of lines) bs)
     right_from [] is = tt
-    right_from (block ∷ []) is = absurd (let both = none_both (faults_of (vocabulary_of g) lines block) (BadShape (first_number block) ∷ []) is in let no = both.1 in cc)
+    right_from (block ∷ []) is = absurd (let both = nil_parts (faults_of (vocabulary_of g) lines block) (BadShape (first_number block) ∷ []) (sym is) in let no = both.1 in cc)
     right_from (block ∷ message ∷ rest) is =
-        let both = none_both (faults_of (vocabulary_of g) lines block) (faults_in (vocabulary_of g) lines rest) is in (block_good block both.0, right_from rest both.1)
+        let both = nil_parts (faults_of (vocabulary_of g) lines block) (faults_in (vocabulary_of g) lines rest) (sym is) in (block_good block both.0, right_from rest both.1)
 
     right_to : (bs : List (List ℕ)) → Right (map (texts_of lines) bs) → faults_in (vocabulary_of g) lines bs ≡ []
     right_to [] right = refl
@@ -273,13 +269,9 @@ module _ (g : Grammar) where
   known_one line LacksStart is = tt
   known_one line (NamesUnknown name) is = tt
 
-  all_both : {A : Type 0} (P : A → Type 0) (xs ys : List A) → AllByRecursion P xs → AllByRecursion P ys → AllByRecursion P (xs ++ ys)
-  all_both P [] ys a b = b
-  all_both P (x ∷ xs) ys a b = (a.0, all_both P xs ys a.1 b)
-
   known_block : (block : List Text) → AllByRecursion IsKnown (contents_of block)
   known_block [] = tt
-  known_block (line ∷ block) = all_both IsKnown (content_at (found_in line)) (contents_of block) (known_one line (found_in line) refl) (known_block block)
+  known_block (line ∷ block) = recursion-append IsKnown (content_at (found_in line)) (contents_of block) (known_one line (found_in line) refl) (known_block block)
 
   content_some : (f : LineFound) (more : List (ℕ × List ℕ)) → IsGood f → has_items (content_at f ++ more) ≡ true
   content_some (IsSentence s) more good = refl
@@ -369,8 +361,8 @@ module _ (g : Grammar) where
     lines_printed [] fit = tt
     lines_printed (block ∷ []) fit = tt
     lines_printed (block ∷ message ∷ rest) fit =
-        all_both IsLine (map canonical (contents_of block)) ([] ∷ (message ++ [] ∷ printed rest)) (lines_back (contents_of block) (known_block block))
-        (empty_line, all_both IsLine message ([] ∷ printed rest) fit.0.lines (empty_line, lines_printed rest fit.1))
+        recursion-append IsLine (map canonical (contents_of block)) ([] ∷ (message ++ [] ∷ printed rest)) (lines_back (contents_of block) (known_block block))
+        (empty_line, recursion-append IsLine message ([] ∷ printed rest) fit.0.lines (empty_line, lines_printed rest fit.1))
 
     wholes : (lines : List Text) → AllByRecursion IsLine lines → AllByRecursion IsWhole lines
     wholes [] all = tt

@@ -1,9 +1,10 @@
 -- The sentences of a file are sentences of the grammar, and no longer than the file.
-use Rattle.std.proofs.Common.{◌≡◌, ◌<◌, ◌≤◌, ◌+◌, ◌-◌, ◌^◌, ℕ, zero, suc, Bool, true, false, cond, List, [], ◌∷◌, ◌++◌, length, take, drop, filter, Option, None, Some, refl, sym, subst, if◌then◌else◌, arith, nat_lt, length-drop, length-append, slice_index, ◌&&◌, ◌==◌}
+use Rattle.std.proofs.Common.{◌≡◌, ◌<◌, ◌≤◌, ◌+◌, ◌-◌, ◌^◌, ℕ, zero, suc, Bool, true, false, cond, List, [], ◌∷◌, length, take, drop, filter, Option, None, Some, refl, sym, subst, if◌then◌else◌, arith, nat_lt, length-drop, length-append, slice_index, ◌&&◌, ◌==◌}
 use Rattle.std.specs.Prelude.{slice_index_or, Result, Ok, Err, IfOk}
 use Rattle.std.specs.List.{list_all, AllByRecursion}
 use Rattle.std.proofs.lemmas.List.{length-take-le}
 use Rattle.mh_lex.specs.Words.{is_word}
+use Rattle.mh_grammar.proofs.Lists.{recursion-append}
 use Rattle.mh_grammar.specs.declared.types.Sentence.{Sentence}
 use Rattle.mh_grammar.specs.declared.types.Grammar.{Grammar}
 use Rattle.mh_grammar.specs.Plain.{plain_of}
@@ -107,13 +108,10 @@ module _ (g : Grammar) (bytes : Text) (lines : List Text) (are : AreLines bytes 
   one_fits number LacksStart is = tt
   one_fits number (NamesUnknown name) is = tt
 
-  both_fit : (xs ys : List MsgSentence) → AllByRecursion Fits xs → AllByRecursion Fits ys → AllByRecursion Fits (xs ++ ys)
-  both_fit [] ys a b = b
-  both_fit (x ∷ xs) ys a b = (a.0, both_fit xs ys a.1 b)
-
   block_fits : (block : List ℕ) → AllByRecursion Fits (sentences_of (vocabulary_of g) lines block)
   block_fits [] = tt
-  block_fits (number ∷ block) = both_fit _ _ (one_fits number (sentence_in (vocabulary_of g) (line_at lines number)) refl) (block_fits block)
+  block_fits (number ∷ block) =
+      recursion-append Fits (sentence_at number (sentence_in (vocabulary_of g) (line_at lines number))) (sentences_of (vocabulary_of g) lines block) (one_fits number (sentence_in (vocabulary_of g) (line_at lines number)) refl) (block_fits block)
 
   entries_fit : (bs : List (List ℕ)) → AllByRecursion (λ (e : Entry). AllByRecursion Fits e.sentences) (entries_in (vocabulary_of g) lines bs)
   entries_fit [] = tt
