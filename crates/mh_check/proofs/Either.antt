@@ -6,6 +6,7 @@ use Rattle.std.proofs.Math.Numerals.{lt_of_le_of_ne}
 use Rattle.std.proofs.lemmas.List.{map-append, length-set, length-replicate}
 use Rattle.std.proofs.lemmas.Option.{slice_get-get_or}
 use Rattle.std.proofs.lemmas.List.Elements.{recursion_from_All}
+use Rattle.mh_grammar.proofs.Lists.{recursion-append}
 use Rattle.mh_tables.specs.Table.{TableData}
 use Rattle.mh_tables.specs.Halting.{HaltingFacts}
 use Rattle.mh_tables.specs.Run.{Ending, VerdictOf, Accepted, Overshot, Rejected}
@@ -82,13 +83,9 @@ module _ (t : TableData) (h : HaltingFacts t) where
   fits_entry entry [] of = tt
   fits_entry entry (x ∷ xs) of = (of.0, fits_entry entry xs of.1)
 
-  fits_both : (xs ys : List Item) → AllByRecursion Fits xs → AllByRecursion Fits ys → AllByRecursion Fits (xs ++ ys)
-  fits_both [] ys a b = b
-  fits_both (x ∷ xs) ys a b = (a.0, fits_both xs ys a.1 b)
-
   fits_from : (entry : ℕ) (es : List Entry) → AllByRecursion (λ e. AllByRecursion (IsOf (length t.grammar.starts) t.grammar.tokens) e.sentences) es → AllByRecursion Fits (items_from entry es)
   fits_from entry [] of = tt
-  fits_from entry (e ∷ es) of = fits_both (items_of entry e.sentences) (items_from (entry + 1) es) (fits_entry entry e.sentences of.0) (fits_from (entry + 1) es of.1)
+  fits_from entry (e ∷ es) of = recursion-append Fits (items_of entry e.sentences) (items_from (entry + 1) es) (fits_entry entry e.sentences of.0) (fits_from (entry + 1) es of.1)
 
   pub compiled_or_fault : (file : MsgFile) → AreOf (length t.grammar.starts) t.grammar.tokens file → ((compiled : List (Option (List ℕ))) × IsCompiled t file compiled) ⊎ ((f : FaultFound) × FirstFault t (sentences_of file) f)
   compiled_or_fault file of =

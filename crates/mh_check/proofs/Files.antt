@@ -3,11 +3,11 @@ use Rattle.std.proofs.Common.{◌≡◌, ℕ, zero, suc, ◌+◌, ◌<◌, ◌�
 use Rattle.std.specs.List.{slice_get, Contains}
 use Rattle.std.specs.Prelude.{MatchOption}
 use Rattle.std.specs.Borrow.{Bor}
-use Rattle.std.proofs.lemmas.List.{map-append, length-map, length-take-le, take-append-drop}
-use Rattle.std.proofs.Math.Seq.{take-suc, drop-cons}
+use Rattle.std.proofs.lemmas.List.{map-append, length-map, length-take-le}
+use Rattle.std.proofs.Math.Seq.{take-suc}
 use Rattle.std.proofs.lemmas.Option.{slice_get-map}
 use Rattle.std.proofs.lemmas.List.Elements.{Contains-append_left, Contains-append_right, Contains-append_cases}
-use Rattle.mh_grammar.proofs.Lists.{contains_none, contains_at, at_contains, contains_there, contains_here, contains_cases}
+use Rattle.mh_grammar.proofs.Lists.{contains_none, contains_at, at_contains, contains_there, contains_here, contains_cases, split_at}
 use Rattle.mh_tables.specs.Table.{TableData}
 use Rattle.mh_msgfile.specs.declared.messages.MsgSentence.{MsgSentence}
 use Rattle.mh_msgfile.specs.declared.messages.Entry.{Entry}
@@ -48,16 +48,12 @@ items_both k (e ∷ xs) ys =
     same : (a b : ℕ) → a + 1 + b ≡ a + suc b
     same a b = omega arith
 
-split_at : {A : Type 0} (xs : List A) (i : ℕ) (x : A) → i < length xs → x ≡ get_or xs i x → xs ≡ take i xs ++ x ∷ drop (i + 1) xs
-split_at xs i x lt is =
-    sym (take-append-drop i xs) ∙ ap (λ l. take i xs ++ l) (drop-cons xs i x lt ∙ ap (λ k. get_or xs i x ∷ drop k xs) (sym (add-one i)) ∙ ap (λ y. y ∷ drop (i + 1) xs) (sym is))
-
 -- the sentences up to one, and those behind it
 pub sentence_split : (done : List Item) (entry : ℕ) (xs : List MsgSentence) (i : ℕ) (x : MsgSentence) → i < length xs → x ≡ get_or xs i x
     → ((done ++ items_of entry (take i xs)) ++ item entry x ∷ []) ++ items_of entry (drop (i + 1) xs) ≡ done ++ items_of entry xs
 sentence_split done entry xs i x lt is =
     regroup done (items_of entry (take i xs)) (item entry x) (items_of entry (drop (i + 1) xs))
-    ∙ ap (λ (l : List Item). done ++ l) (sym (map-append (item entry) (take i xs) (x ∷ drop (i + 1) xs)) ∙ ap (items_of entry) (sym (split_at xs i x lt is)))
+    ∙ ap (λ (l : List Item). done ++ l) (sym (map-append (item entry) (take i xs) (x ∷ drop (i + 1) xs)) ∙ ap (items_of entry) (ap (λ (k : ℕ). take i xs ++ x ∷ drop k xs) (add-one i) ∙ sym (split_at xs i x lt is)))
   where
     regroup : (a b : List Item) (y : Item) (c : List Item) → ((a ++ b) ++ y ∷ []) ++ c ≡ a ++ (b ++ y ∷ c)
     regroup a b y c = simp append_assoc
@@ -80,7 +76,7 @@ pub entry_split : (es : List Entry) (i : ℕ) (e : Entry) → i < length es → 
 entry_split es i e lt is =
     append_assoc (items_from 0 (take i es)) (items_of i e.sentences) (items_from (i + 1) (drop (i + 1) es))
     ∙ ap (λ (n : ℕ). items_from 0 (take i es) ++ items_from n (e ∷ drop (i + 1) es)) (sym count)
-    ∙ sym (items_both 0 (take i es) (e ∷ drop (i + 1) es)) ∙ ap (items_from 0) (sym (split_at es i e lt is))
+    ∙ sym (items_both 0 (take i es) (e ∷ drop (i + 1) es)) ∙ ap (items_from 0) (ap (λ (k : ℕ). take i es ++ e ∷ drop k es) (add-one i) ∙ sym (split_at es i e lt is))
   where
     count : 0 + length (take i es) ≡ i
     count = let l : length (take i es) ≡ i = length-take-le i es (omega arith) in omega (arith, l)
