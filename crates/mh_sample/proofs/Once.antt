@@ -1,8 +1,8 @@
 -- A sample has one line, and it has one.
-use Rattle.std.proofs.Common.{◌≡◌, ℕ, List, [], ◌∷◌, ◌++◌, zero, suc, ◌+◌, ◌<◌, length, refl, sym, ◌∙◌, ap}
+use Rattle.std.proofs.Common.{◌≡◌, ℕ, List, [], ◌∷◌, zero, suc, ◌+◌, ◌<◌, length, refl, sym, ◌∙◌, ap}
 use Rattle.std.specs.List.{AllByRecursion}
 use Rattle.std.proofs.lemmas.List.Elements.{recursion_from_All}
-use Rattle.mh_grammar.proofs.Lists.{zip_one}
+use Rattle.mh_grammar.proofs.Lists.{recursion-append, zip_one}
 use Rattle.mh_grammar.specs.declared.types.Grammar.{Grammar}
 use Rattle.mh_grammar.specs.declared.types.Sentence.{Sentence}
 use Rattle.mh_tables.specs.Table.{TableData}
@@ -31,14 +31,10 @@ module _ (t : TableData) where
     start : s.start < length t.grammar.starts
     tokens : AllByRecursion (λ z. z < t.grammar.tokens) s.tokens
 
-  both_known : (xs ys : List Sentence) → AllByRecursion Known xs → AllByRecursion Known ys → AllByRecursion Known (xs ++ ys)
-  both_known [] ys all more = more
-  both_known (x ∷ xs) ys all more = (all.0, both_known xs ys all.1 more)
-
   each_known : (f : ℕ → List Sentence) → ((n : ℕ) → AllByRecursion Known (f n)) → (n k : ℕ) → AllByRecursion Known (each_from f n k)
   unfolding each_from
   each_known f known n zero = tt
-  each_known f known n (suc k) = both_known (f n) (each_from f (n + 1) k) (known n) (each_known f known (n + 1) k)
+  each_known f known n (suc k) = recursion-append Known (f n) (each_from f (n + 1) k) (known n) (each_known f known (n + 1) k)
 
   module _ (h : HaltingFacts t) (g : Grammar) (same : t.grammar ≡ plain_of g) where
     found_known : (line : Text) (f : LineFound) → sentence_in (vocabulary_of g) line ≡ f → AllByRecursion Known (sentences_of f)
