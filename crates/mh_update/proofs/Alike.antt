@@ -1,6 +1,7 @@
 -- Two files with the same kept lines are right together, and have the same content.
 use Rattle.std.proofs.Common.{◌≡◌, ℕ, Bool, true, false, List, [], ◌∷◌, ◌++◌, map, filter, not, refl, sym, ◌∙◌, ap, subst, if◌then◌else◌}
 use Rattle.std.specs.List.{list_all, AllZip}
+use Rattle.mh_grammar.proofs.Lists.{nil_parts}
 use Rattle.mh_grammar.specs.Text.{Text}
 use Rattle.mh_msgfile.specs.Sentences.{Vocabulary, put_first, fields, has_items, runs, is_blank, LineFound, IsSentence, IsUnreadable, NamesNoStart, LacksStart, NamesUnknown, sentence_in}
 use Rattle.mh_msgfile.specs.Messages.{line_at, is_taken_out, kept_lines, is_blank_line, blocks, message_of, FaultFound, BadShape, fault_at, sentence_at, faults_of, sentences_of, first_number, faults_in, entries_in}
@@ -93,16 +94,12 @@ module _ (v : Vocabulary) (old new : List Text) where
   no_fault n m LacksStart is = absurd (cc)
   no_fault n m (NamesUnknown name) is = absurd (cc)
 
-  none_both : (xs ys : List FaultFound) → xs ++ ys ≡ [] → (xs ≡ []) × (ys ≡ [])
-  none_both [] ys is = (refl, is)
-  none_both (x ∷ xs) ys is = absurd (cc)
-
   block_right : (ns ms : List ℕ) → AllZip AreAlike ns ms → faults_of v old ns ≡ [] → faults_of v new ms ≡ []
   block_right [] [] zip is = refl
   block_right [] (m ∷ ms) zip is = absurd zip
   block_right (n ∷ ns) [] zip is = absurd zip
   block_right (n ∷ ns) (m ∷ ms) zip is =
-      let both = none_both (fault_at n (found old n)) (faults_of v old ns) is in
+      let both = nil_parts (fault_at n (found old n)) (faults_of v old ns) (sym is) in
       let here : fault_at m (found new m) ≡ [] = ap (λ (l : Text). fault_at m (sentence_in v l)) (sym zip.0) ∙ no_fault n m (found old n) both.0 in
       ap (λ (l : List FaultFound). l ++ faults_of v new ms) here ∙ block_right ns ms zip.1 both.1
 
@@ -110,10 +107,10 @@ module _ (v : Vocabulary) (old new : List Text) where
   right_alike [] [] zip is = refl
   right_alike [] (c ∷ cs) zip is = absurd zip
   right_alike (b ∷ bs) [] zip is = absurd zip
-  right_alike (b ∷ []) (c ∷ cs) zip is = absurd (let both = none_both (faults_of v old b) (BadShape (first_number b) ∷ []) is in let no = both.1 in cc)
+  right_alike (b ∷ []) (c ∷ cs) zip is = absurd (let both = nil_parts (faults_of v old b) (BadShape (first_number b) ∷ []) (sym is) in let no = both.1 in cc)
   right_alike (b ∷ m ∷ bs) (c ∷ []) zip is = absurd zip.1
   right_alike (b ∷ m ∷ bs) (c ∷ d ∷ cs) zip is =
-      let both = none_both (faults_of v old b) (faults_in v old bs) is in
+      let both = nil_parts (faults_of v old b) (faults_in v old bs) (sym is) in
       ap (λ (l : List FaultFound). l ++ faults_in v new cs) (block_right b c zip.0 both.0) ∙ right_alike bs cs zip.1.1 both.1
 
   -- ---- content

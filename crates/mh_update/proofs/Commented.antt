@@ -1,10 +1,9 @@
 -- The comments of sentences, one after another.
-use Rattle.std.proofs.Common.{ℕ, ◌+◌, ◌<◌, List, [], ◌∷◌, ◌++◌, length, take, drop, flat_map, get_or, inl, inr, subst, sym, ◌≡◌, add-one, append_assoc, append-nil, ap, ◌∙◌, refl}
-use Rattle.std.proofs.Math.Seq.{take-suc}
+use Rattle.std.proofs.Common.{ℕ, ◌+◌, ◌<◌, List, [], ◌∷◌, ◌++◌, length, take, drop, flat_map, get_or, inl, inr, subst, sym, ◌≡◌, append_assoc, append-nil, ap, ◌∙◌, refl}
 use Rattle.std.proofs.lemmas.List.{take-append-drop}
 use Rattle.std.proofs.lemmas.Grind.{flat_map-append}
 use Rattle.std.specs.List.{Contains}
-use Rattle.mh_grammar.proofs.Lists.{contains_cases, contains_none}
+use Rattle.mh_grammar.proofs.Lists.{contains_cases, contains_none, taken}
 use Rattle.mh_grammar.specs.declared.types.Grammar.{Grammar}
 use Rattle.mh_kernels.specs.Shapes.{Automaton}
 use Rattle.mh_tables.specs.Table.{TableData}
@@ -18,9 +17,6 @@ use Rattle.mh_renewed.specs.declared.comment.Comment.{Comment}
 use Rattle.mh_renewed.specs.Updates.{AreComments, FirstUnfit, IsComment}
 
 -- ---- lists up to a place
-
-taken : {A : Type 0} (xs : List A) (i : ℕ) (x : A) → i < length xs → x ≡ get_or xs i x → take (i + 1) xs ≡ take i xs ++ x ∷ []
-taken xs i x lt is = ap (λ n. take n xs) (add-one i) ∙ take-suc xs i x lt ∙ ap (λ y. take i xs ++ y ∷ []) (sym is)
 
 next_taken : (done xs : List MsgSentence) (i : ℕ) (x : MsgSentence) → i < length xs → x ≡ get_or xs i x → (done ++ take i xs) ++ x ∷ [] ≡ done ++ take (i + 1) xs
 next_taken done xs i x lt is = append_assoc done (take i xs) (x ∷ []) ∙ ap (λ (l : List MsgSentence). done ++ l) (sym (taken xs i x lt is))

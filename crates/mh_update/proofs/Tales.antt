@@ -11,6 +11,7 @@ use Rattle.std.proofs.lemmas.Grind.{flat_map-append}
 use Rattle.std.proofs.lemmas.List.Folds.{list_all-append}
 use Rattle.std.proofs.lemmas.Fmt.{digits_decimal}
 use Rattle.std.proofs.lemmas.Str.Parse.{numerals_by_value, tells_all_ascii_digits}
+use Rattle.mh_grammar.proofs.Lists.{recursion-append}
 use Rattle.mh_grammar.specs.declared.types.Grammar.{Grammar}
 use Rattle.mh_grammar.specs.declared.types.Production.{Production}
 use Rattle.mh_grammar.specs.declared.types.Symbol.{Symbol}
@@ -75,15 +76,11 @@ pub record IsTale (text : Text) : Type 0 where
   pub is : text ≡ with_ends lines
   pub made : AllByRecursion IsMadeLine lines
 
-made_both : (xs ys : List Text) → AllByRecursion IsMadeLine xs → AllByRecursion IsMadeLine ys → AllByRecursion IsMadeLine (xs ++ ys)
-made_both [] ys all more = more
-made_both (x ∷ xs) ys all more = (all.0, made_both xs ys all.1 more)
-
 tale_both : (x y : Text) → IsTale x → IsTale y → IsTale (x ++ y)
 tale_both x y a b = record {
   lines = a.lines ++ b.lines;
   is = ap (λ (t : Text). t ++ y) a.is ∙ ap (λ (t : Text). with_ends a.lines ++ t) b.is ∙ sym (flat_map-append (λ (line : Text). line ++ 10 ∷ []) a.lines b.lines);
-  made = made_both a.lines b.lines a.made b.made;
+  made = recursion-append IsMadeLine a.lines b.lines a.made b.made;
 }
 
 tale_none : IsTale []

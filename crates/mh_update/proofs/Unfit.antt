@@ -4,7 +4,7 @@ use Rattle.std.specs.List.{AllByRecursion, Contains}
 use Rattle.std.proofs.lemmas.Bool.{cases_eq}
 use Rattle.std.proofs.Math.Numerals.{lt_of_le_of_ne}
 use Rattle.std.proofs.lemmas.List.Elements.{recursion_from_All}
-use Rattle.mh_grammar.proofs.Lists.{contains_cases, contains_here, contains_there, contains_none}
+use Rattle.mh_grammar.proofs.Lists.{contains_cases, contains_here, contains_there, contains_none, recursion-append}
 use Rattle.mh_grammar.specs.declared.types.Grammar.{Grammar}
 use Rattle.mh_grammar.specs.Plain.{plain_of}
 use Rattle.mh_kernels.specs.Shapes.{Automaton}
@@ -146,13 +146,9 @@ module _ (t : TableData) where
       settle (x ∷ xs) of =
           let has = has_verdict t h x.start x.tokens of.0.start (recursion_from_All (λ z. z < t.grammar.tokens) x.tokens of.0.known) in by_verdict x xs has.0 of.0 has.1 (settle xs of.1)
 
-      both_of : (xs ys : List MsgSentence) → AllByRecursion (IsOf (length t.grammar.starts) t.grammar.tokens) xs → AllByRecursion (IsOf (length t.grammar.starts) t.grammar.tokens) ys → AllByRecursion (IsOf (length t.grammar.starts) t.grammar.tokens) (xs ++ ys)
-      both_of [] ys all more = more
-      both_of (x ∷ xs) ys all more = (all.0, both_of xs ys all.1 more)
-
       of_entries : (es : List Entry) → AllByRecursion (λ e. AllByRecursion (IsOf (length t.grammar.starts) t.grammar.tokens) e.sentences) es → AllByRecursion (IsOf (length t.grammar.starts) t.grammar.tokens) (flat_map (λ (e : Entry). e.sentences) es)
       of_entries [] of = tt
-      of_entries (e ∷ es) of = both_of e.sentences (flat_map (λ (e : Entry). e.sentences) es) of.0 (of_entries es of.1)
+      of_entries (e ∷ es) of = recursion-append (IsOf (length t.grammar.starts) t.grammar.tokens) e.sentences (flat_map (λ (e : Entry). e.sentences) es) of.0 (of_entries es of.1)
 
       pub updated_or_unfit : (file : MsgFile) → AreOf (length t.grammar.starts) t.grammar.tokens file → ((text : Text) × IsUpdated g a t file text) ⊎ ((f : FaultFound) × FirstUnfit t (sentences_of file) f)
       updated_or_unfit file of = by (settle (sentences_of file) (of_entries file.entries of))

@@ -6,6 +6,7 @@ use Rattle.std.specs.Cmp.Lexicographic.{pointwise}
 use Rattle.std.proofs.lemmas.Bool.{eqb-true}
 use Rattle.std.proofs.lemmas.Grind.{flat_map-append}
 use Rattle.std.proofs.lemmas.List.{drop-drop}
+use Rattle.mh_grammar.proofs.Lists.{recursion-append}
 use Rattle.mh_msgfile.specs.Sentences.{Vocabulary, is_blank, LineFound, IsSentence, IsUnreadable, NamesNoStart, LacksStart, NamesUnknown, sentence_in}
 use Rattle.mh_msgfile.specs.Messages.{is_taken_out}
 use Rattle.mh_msgfile.specs.declared.messages.MsgSentence.{MsgSentence}
@@ -170,10 +171,6 @@ module _ (v : Vocabulary) (IsTold : Content → Text → Type 0) where
 
   -- ---- the lines
 
-  both_all : (xs ys : List Text) → AllByRecursion IsWhole xs → AllByRecursion IsWhole ys → AllByRecursion IsWhole (xs ++ ys)
-  both_all [] ys all more = more
-  both_all (x ∷ xs) ys all more = (all.0, both_all xs ys all.1 more)
-
   made_whole : (lines : List Text) → AllByRecursion IsMadeLine lines → AllByRecursion IsWhole lines
   made_whole [] all = tt
   made_whole (line ∷ lines) all = (all.0.1, made_whole lines all.1)
@@ -183,7 +180,7 @@ module _ (v : Vocabulary) (IsTold : Content → Text → Type 0) where
   grown_whole place lines tales (Dropped p x xs ls made walk) all = grown_whole p xs ls walk all.1
   grown_whole place lines tales (Silent p x xs ls own none walk) all = (all.0, grown_whole (next (kind_of x) p) xs ls walk all.1)
   grown_whole place lines tales (Telling p x xs c l ls own some is made walk) all =
-      (all.0, both_all l (grown (next (kind_of x) p) xs ls walk) (made_whole l made) (grown_whole (next (kind_of x) p) xs ls walk all.1))
+      (all.0, recursion-append IsWhole l (grown (next (kind_of x) p) xs ls walk) (made_whole l made) (grown_whole (next (kind_of x) p) xs ls walk all.1))
 
   abbrev pub is_kept_text : Text → Bool
   is_kept_text line = not (is_taken_out line)
