@@ -4,6 +4,7 @@ use Rattle.std.specs.Prelude.{IfSome}
 use Rattle.std.specs.Option.{option_or}
 use Rattle.std.specs.List.{AllByRecursion, flat_map}
 use Rattle.std.proofs.lemmas.List.{append-nil}
+use Rattle.mh_grammar.proofs.Lists.{recursion-append}
 use Rattle.mh_grammar.specs.declared.types.Assoc.{Assoc}
 use Rattle.mh_grammar.specs.declared.types.Assoc.TheVariants.{Left, Right, Nonassoc}
 use Rattle.mh_lex.specs.declared.kinds.Kind.{Kind}
@@ -35,7 +36,7 @@ use Rattle.mh_printing.specs.Printed.{keyword, percents, action, prec_pieces, al
 use Rattle.mh_grammar.specs.Costs.{IsCost}
 use Rattle.mh_places.proofs.Priced.{cost_printed, cost_digits}
 use Rattle.mh_reader.proofs.Again.{map_none, option_or-none}
-use Rattle.mh_reader.proofs.Fitting.{content_again, all_joined, lexemes_fit, FitsRef, FitsContent, FitsPrec, is_plain, FitsPiece, Printable, reads, reads-append, ref_reads, ref_again, ref_printable, mark_printable, FitsActual, FitsToken, FitsAlternative, FitsRule, FitsLevel, FitsModule, spelled_fitting}
+use Rattle.mh_reader.proofs.Fitting.{content_again, lexemes_fit, FitsRef, FitsContent, FitsPrec, is_plain, FitsPiece, Printable, reads, reads-append, ref_reads, ref_again, ref_printable, mark_printable, FitsActual, FitsToken, FitsAlternative, FitsRule, FitsLevel, FitsModule, spelled_fitting}
 
 -- LISTS IN DECLARATIONS
 
@@ -172,7 +173,7 @@ rules_again m (r ∷ ks) done h =
 
 pieces_printable : {X : Type 0} (pieces : X → List Piece) (P : X → Type 0) → ((x : X) → P x → Printable (pieces x)) → (xs : List X) → AllByRecursion P xs → Printable (flat_map pieces xs)
 pieces_printable pieces P one [] h = tt
-pieces_printable pieces P one (x ∷ xs) h = all_joined FitsPiece (pieces x) (flat_map pieces xs) (one x h.0) (pieces_printable pieces P one xs h.1)
+pieces_printable pieces P one (x ∷ xs) h = recursion-append FitsPiece (pieces x) (flat_map pieces xs) (one x h.0) (pieces_printable pieces P one xs h.1)
 
 actuals_printable : (ks : List Actual) → AllByRecursion FitsActual ks → Printable (flat_map actual_pieces ks)
 actuals_printable ks h = pieces_printable actual_pieces FitsActual (λ a k. k.printable) ks h
@@ -213,8 +214,8 @@ prec_printable (Some r) h = (keyword_printable (codes "prec") refl, (ref_printab
 alternative_printable : (a : Alternative) → FitsAlternative a → Printable (alternative_pieces a)
 alternative_printable a h = (
   mark_printable 124 refl,
-  all_joined FitsPiece (flat_map actual_pieces a.producers) (prec_pieces a.prec ++ action ∷ []) (actuals_printable a.producers h.producers)
-      (all_joined FitsPiece (prec_pieces a.prec) (action ∷ []) (prec_printable a.prec h.prec) ((texts.LexemeText.empty_action, refl), tt)),
+  recursion-append FitsPiece (flat_map actual_pieces a.producers) (prec_pieces a.prec ++ action ∷ []) (actuals_printable a.producers h.producers)
+      (recursion-append FitsPiece (prec_pieces a.prec) (action ∷ []) (prec_printable a.prec h.prec) ((texts.LexemeText.empty_action, refl), tt)),
 )
 
 modifier_printable : (b : Bool) (w : List ℕ) → is_keyword w ≡ true → Printable (modifier_pieces b w)
@@ -233,10 +234,10 @@ rule_printable : (r : Rule) → FitsRule r → Printable (rule_pieces r)
 unfolding keywords
 rule_printable r h =
     let body = mark 58 ∷ flat_map alternative_pieces r.alternatives in
-    all_joined FitsPiece (modifier_pieces r.public (codes "public") ++ modifier_pieces r.inlined (codes "inline")) (word r.name ∷ formals_pieces r.formals ++ body)
-    (all_joined FitsPiece (modifier_pieces r.public (codes "public")) (modifier_pieces r.inlined (codes "inline")) (modifier_printable r.public (codes "public") refl) (modifier_printable r.inlined (codes "inline") refl)) (
+    recursion-append FitsPiece (modifier_pieces r.public (codes "public") ++ modifier_pieces r.inlined (codes "inline")) (word r.name ∷ formals_pieces r.formals ++ body)
+    (recursion-append FitsPiece (modifier_pieces r.public (codes "public")) (modifier_pieces r.inlined (codes "inline")) (modifier_printable r.public (codes "public") refl) (modifier_printable r.inlined (codes "inline") refl)) (
       (h.name, refl),
-      all_joined FitsPiece (formals_pieces r.formals) body (formals_printable r.formals h.formals)
+      recursion-append FitsPiece (formals_pieces r.formals) body (formals_printable r.formals h.formals)
           (mark_printable 58 refl, pieces_printable alternative_pieces FitsAlternative alternative_printable r.alternatives h.alternatives),
     )
 
@@ -393,9 +394,9 @@ others_plain m h =
     let on_error = flat_map on_error_pieces m.on_error in
     let levels = flat_map level_pieces m.levels in
     let starts = flat_map start_pieces m.starts in
-    all_joined IsNoAttribute starts (levels ++ (on_error ++ rules)) (plain_other starts (pieces_printable start_pieces (LexemeText kinds.Word) start_printable m.starts h.starts))
-    (all_joined IsNoAttribute levels (on_error ++ rules) (plain_other levels (pieces_printable level_pieces FitsLevel level_printable m.levels h.levels))
-    (all_joined IsNoAttribute on_error rules (plain_other on_error (pieces_printable on_error_pieces (AllByRecursion FitsActual) on_error_printable m.on_error h.on_error))
+    recursion-append IsNoAttribute starts (levels ++ (on_error ++ rules)) (plain_other starts (pieces_printable start_pieces (LexemeText kinds.Word) start_printable m.starts h.starts))
+    (recursion-append IsNoAttribute levels (on_error ++ rules) (plain_other levels (pieces_printable level_pieces FitsLevel level_printable m.levels h.levels))
+    (recursion-append IsNoAttribute on_error rules (plain_other on_error (pieces_printable on_error_pieces (AllByRecursion FitsActual) on_error_printable m.on_error h.on_error))
     (refl, plain_other (flat_map rule_pieces m.rules) (pieces_printable rule_pieces FitsRule rule_printable m.rules h.rules))))
 
 module_again : (m : Module) → FitsModule m → File no_module (costed_reads (module_pieces m)) m

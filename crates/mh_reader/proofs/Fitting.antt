@@ -4,6 +4,7 @@ use Rattle.std.proofs.Common.{◌≡◌, ◌≢◌, ◌-◌, ◌==◌, ℕ, suc,
 use Rattle.std.specs.Prelude.{IfSome}
 use Rattle.std.specs.Option.{option_or}
 use Rattle.std.specs.List.{AllByRecursion}
+use Rattle.mh_grammar.proofs.Lists.{recursion-append, recursion-push}
 use Rattle.mh_grammar.specs.declared.types.Assoc.TheVariants.{Left, Right, Nonassoc}
 use Rattle.mh_bytes.specs.declared.keywords.Keyword.{Keyword}
 use Rattle.mh_bytes.specs.declared.keywords.Keyword.TheVariants as keywords
@@ -126,14 +127,10 @@ behind_ready : (bytes : List ℕ) (ls : List Lexeme) → IfSome (cost_behind byt
 behind_ready bytes [] = tt
 behind_ready bytes (l ∷ ls) = along_ready (sign_by l.kind (bytes_of bytes l)) (bytes_of bytes l) (cost_behind bytes ls) (behind_ready bytes ls)
 
-pub all_joined : {X : Type 0} (P : X → Type 0) (xs ys : List X) → AllByRecursion P xs → AllByRecursion P ys → AllByRecursion P (xs ++ ys)
-all_joined P [] ys h k = k
-all_joined P (x ∷ xs) ys h k = (h.0, all_joined P xs ys h.1 k)
-
 pub lexemes_fit : (bytes : List ℕ) (ls : List Lexeme) → AllByRecursion (IsSpelled bytes) ls → AllFit (reads_of bytes ls)
 lexemes_fit bytes [] h = tt
 lexemes_fit bytes (l ∷ ls) h =
-    all_joined Fits (read_of bytes l (cost_behind bytes ls)) (reads_of bytes ls) (spelled_fits l.kind (bytes_of bytes l) (cost_behind bytes ls) h.0 (behind_ready bytes ls)) (lexemes_fit bytes ls h.1)
+    recursion-append Fits (read_of bytes l (cost_behind bytes ls)) (reads_of bytes ls) (spelled_fits l.kind (bytes_of bytes l) (cost_behind bytes ls) h.0 (behind_ready bytes ls)) (lexemes_fit bytes ls h.1)
 
 -- NAMES
 
@@ -244,7 +241,7 @@ prints_last done m a d p = record {
   first = a;
   others = [];
   split = refl;
-  printable = all_joined FitsPiece (actual_pieces a) (mark 41 ∷ []) p.printable (mark_printable 41 refl, tt);
+  printable = recursion-append FitsPiece (actual_pieces a) (mark 41 ∷ []) p.printable (mark_printable 41 refl, tt);
   again = λ rest. subst (λ xs. Args done m xs rest (done ++ a ∷ []) (max m d)) (sym (reads-append (actual_pieces a) (mark 41 ∷ []) rest)) (spelling.Args.last (p.again _) refl);
 }
 
@@ -255,7 +252,7 @@ prints_more done all m a d e p q =
       first = a;
       others = q.first ∷ q.others;
       split = q.split ∙ append_assoc done (a ∷ []) (q.first ∷ q.others);
-      printable = all_joined FitsPiece (actual_pieces a) later p.printable (mark_printable 44 refl, q.printable);
+      printable = recursion-append FitsPiece (actual_pieces a) later p.printable (mark_printable 44 refl, q.printable);
       again = λ rest. subst (λ xs. Args done m xs rest all e) (sym (reads-append (actual_pieces a) later rest)) (spelling.Args.more (p.again _) refl (q.again rest));
     }
 
@@ -322,9 +319,6 @@ pub record FitsModule (m : Module) : Type 0 where
   pub on_error : AllByRecursion (AllByRecursion FitsActual) m.on_error
   pub rules : AllByRecursion FitsRule m.rules
 
-all_more : {X : Type 0} (P : X → Type 0) (xs : List X) (x : X) → AllByRecursion P xs → P x → AllByRecursion P (xs ++ x ∷ [])
-all_more P xs x h k = all_joined P xs (x ∷ []) h (k, tt)
-
 Alias-fits : {xs rest : List Read} {o : Option (List ℕ)} {c : Option ℕ} → IsAlias xs rest o c → AllFit xs → FitsContent o × IfSome c IsCost × AllFit rest
 Alias-fits spelling.IsAlias.absent h = (tt, tt, h)
 Alias-fits (spelling.IsAlias.given {y = y} e) h = (sign_fits y signs.Quoted e h.0, h.0.1, h.1)
@@ -345,8 +339,8 @@ Listed-fits xs rest a b h = Limited-fits b h
 List-fits : {A : Type 0} {X : List Read → List Read → A → Type 0} (P : A → Type 0) → ((xs rest : List Read) (a : A) → X xs rest a → AllFit xs → P a × AllFit rest) →
     {done all : List A} {xs rest : List Read} → ListOf A X done xs rest all → AllFit xs → AllByRecursion P done → AllByRecursion P all × AllFit rest
 List-fits P f spelling.ListOf.none h k = (k, h)
-List-fits P f (spelling.ListOf.next {done = done} {a = a} b t) h k = let p = f _ _ a b h in List-fits P f t p.1 (all_more P done a k p.0)
-List-fits P f (spelling.ListOf.comma {done = done} {a = a} e b t) h k = let p = f _ _ a b h.1 in List-fits P f t p.1 (all_more P done a k p.0)
+List-fits P f (spelling.ListOf.next {done = done} {a = a} b t) h k = let p = f _ _ a b h in List-fits P f t p.1 (recursion-push P done a k p.0)
+List-fits P f (spelling.ListOf.comma {done = done} {a = a} e b t) h k = let p = f _ _ a b h.1 in List-fits P f t p.1 (recursion-push P done a k p.0)
 
 MayType-fits : {xs rest : List Read} → MayType xs rest → AllFit xs → AllFit rest
 MayType-fits spelling.MayType.absent h = h
@@ -359,9 +353,9 @@ Declaration-fits (spelling.Declaration.tokens e t l) h k = let p = List-fits Fit
 Declaration-fits (spelling.Declaration.starts e t l) h k = let p = List-fits (LexemeText kinds.Word) Word-fits l (MayType-fits t h.1) k.starts in (record { tokens = k.tokens; starts = p.0; levels = k.levels; on_error = k.on_error; rules = k.rules }, p.1)
 Declaration-fits (spelling.Declaration.types e f l) h k = let p = List-fits FitsActual Listed-fits l h.1.1 tt in (k, p.1)
 Declaration-fits (spelling.Declaration.levels {m = m} {g = g} {ks = ks} e l) h k =
-    let p = List-fits FitsRef Ref-fits l h.1 tt in (record { tokens = k.tokens; starts = k.starts; levels = all_more FitsLevel m.levels (record { assoc = g; names = ks }) k.levels p.0; on_error = k.on_error; rules = k.rules }, p.1)
+    let p = List-fits FitsRef Ref-fits l h.1 tt in (record { tokens = k.tokens; starts = k.starts; levels = recursion-push FitsLevel m.levels (record { assoc = g; names = ks }) k.levels p.0; on_error = k.on_error; rules = k.rules }, p.1)
 Declaration-fits (spelling.Declaration.on_error {m = m} {ks = ks} e l) h k =
-    let p = List-fits FitsActual Listed-fits l h.1 tt in (record { tokens = k.tokens; starts = k.starts; levels = k.levels; on_error = all_more (AllByRecursion FitsActual) m.on_error ks k.on_error p.0; rules = k.rules }, p.1)
+    let p = List-fits FitsActual Listed-fits l h.1 tt in (record { tokens = k.tokens; starts = k.starts; levels = k.levels; on_error = recursion-push (AllByRecursion FitsActual) m.on_error ks k.on_error p.0; rules = k.rules }, p.1)
 Declaration-fits (spelling.Declaration.parameter e f) h k = (k, h.1.1)
 Declaration-fits (spelling.Declaration.attribute e l) h k = let p = List-fits FitsActual Listed-fits l h.1 tt in (k, p.1)
 
@@ -376,7 +370,7 @@ Producer-fits (spelling.IsProducer.named e f b) h = Limited-fits b h.1.1
 Producers-fit : {done all : List Actual} {xs rest : List Read} → Producers done xs rest all → AllFit xs → AllByRecursion FitsActual done → AllByRecursion FitsActual all × AllFit rest
 Producers-fit spelling.Producers.none h k = (k, h)
 Producers-fit (spelling.Producers.more {done = done} {a = a} b s t) h k =
-    let p = Producer-fits b h in Producers-fit t (Semicolons-fit s p.1) (all_more FitsActual done a k p.0)
+    let p = Producer-fits b h in Producers-fit t (Semicolons-fit s p.1) (recursion-push FitsActual done a k p.0)
 
 Prec-fits : {xs rest : List Read} {p : Option Ref} → IsPrec xs rest p → AllFit xs → FitsPrec p × AllFit rest
 Prec-fits spelling.IsPrec.absent h = (tt, h)
@@ -386,10 +380,10 @@ Productions-fit : {done all : List Alternative} {xs rest : List Read} → Produc
     AllByRecursion FitsAlternative all × AllFit rest
 Productions-fit (spelling.Productions.last {done = done} {ps = ps} {p = p} b q e) h k =
     let x = Producers-fit b h tt in let y = Prec-fits q x.1 in
-    (all_more FitsAlternative done (alternative ps p) k (record { producers = x.0; prec = y.0 }), y.1.1)
+    (recursion-push FitsAlternative done (alternative ps p) k (record { producers = x.0; prec = y.0 }), y.1.1)
 Productions-fit (spelling.Productions.more {done = done} {ps = ps} {p = p} b q e t) h k =
     let x = Producers-fit b h tt in let y = Prec-fits q x.1 in
-    Productions-fit t y.1.1 (all_more FitsAlternative done (alternative ps p) k (record { producers = x.0; prec = y.0 }))
+    Productions-fit t y.1.1 (recursion-push FitsAlternative done (alternative ps p) k (record { producers = x.0; prec = y.0 }))
 
 own_fits : (g p : Option Ref) → FitsPrec g → FitsPrec p → FitsPrec (own_or g p)
 own_fits g None h k = h
@@ -403,10 +397,10 @@ Groups-fit : {done all : List Alternative} {xs rest : List Read} → Groups done
     AllByRecursion FitsAlternative all × AllFit rest
 Groups-fit (spelling.Groups.last {done = done} {ks = ks} {g = g} b q) h k =
     let x = Productions-fit b h tt in let y = Prec-fits q x.1 in
-    (all_joined FitsAlternative done (map (with_prec g) ks) k (group_fits g ks y.0 x.0), y.1)
+    (recursion-append FitsAlternative done (map (with_prec g) ks) k (group_fits g ks y.0 x.0), y.1)
 Groups-fit (spelling.Groups.more {done = done} {ks = ks} {g = g} b q e t) h k =
     let x = Productions-fit b h tt in let y = Prec-fits q x.1 in
-    Groups-fit t y.1.1 (all_joined FitsAlternative done (map (with_prec g) ks) k (group_fits g ks y.0 x.0))
+    Groups-fit t y.1.1 (recursion-append FitsAlternative done (map (with_prec g) ks) k (group_fits g ks y.0 x.0))
 
 joined_some : {X : Type 0} (xs ys : List X) → ys ≢ [] → xs ++ ys ≢ []
 joined_some [] ys h e = h e
@@ -431,8 +425,8 @@ Modifiers-fit (spelling.Modifiers.inlined e t) h = Modifiers-fit t h.1
 
 Formals-fit : {done all : List (List ℕ)} {xs rest : List Read} → Formals done xs rest all → AllFit xs → AllByRecursion (LexemeText kinds.Word) done →
     AllByRecursion (LexemeText kinds.Word) all × AllFit rest
-Formals-fit (spelling.Formals.last {done = done} {x = x} e f) h k = (all_more (LexemeText kinds.Word) done x.text k (sign_fits x signs.Word e h.0), h.1.1)
-Formals-fit (spelling.Formals.more {done = done} {x = x} e f t) h k = Formals-fit t h.1.1 (all_more (LexemeText kinds.Word) done x.text k (sign_fits x signs.Word e h.0))
+Formals-fit (spelling.Formals.last {done = done} {x = x} e f) h k = (recursion-push (LexemeText kinds.Word) done x.text k (sign_fits x signs.Word e h.0), h.1.1)
+Formals-fit (spelling.Formals.more {done = done} {x = x} e f t) h k = Formals-fit t h.1.1 (recursion-push (LexemeText kinds.Word) done x.text k (sign_fits x signs.Word e h.0))
 
 MayFormals-fit : {done all : List (List ℕ)} {xs rest : List Read} → MayFormals done xs rest all → AllFit xs → AllByRecursion (LexemeText kinds.Word) done →
     AllByRecursion (LexemeText kinds.Word) all × AllFit rest
@@ -454,7 +448,7 @@ Rule-fits (spelling.IsRule.rule {x = x} ms e fs f b gs s) h =
 Rules-fit : {m out : Module} {xs : List Read} → Rules m xs out → AllFit xs → FitsModule m → FitsModule out
 Rules-fit spelling.Rules.none h k = k
 Rules-fit (spelling.Rules.trailer e) h k = k
-Rules-fit (spelling.Rules.more {m = m} {r = r} b t) h k = let p = Rule-fits b h in Rules-fit t p.1 (record { tokens = k.tokens; starts = k.starts; levels = k.levels; on_error = k.on_error; rules = all_more FitsRule m.rules r k.rules p.0 })
+Rules-fit (spelling.Rules.more {m = m} {r = r} b t) h k = let p = Rule-fits b h in Rules-fit t p.1 (record { tokens = k.tokens; starts = k.starts; levels = k.levels; on_error = k.on_error; rules = recursion-push FitsRule m.rules r k.rules p.0 })
 
 File-fits : {m out : Module} {xs : List Read} → File m xs out → AllFit xs → FitsModule m → FitsModule out
 File-fits (spelling.File.declared d t) h k = let p = Declaration-fits d h k in File-fits t p.1 p.0

@@ -3,6 +3,7 @@ use Rattle.std.proofs.Common.{◌≤◌, ℕ, max, List, [], ◌∷◌, ◌++◌
 use Rattle.std.specs.List.{All, AllByRecursion}
 use Rattle.std.proofs.Math.Nat.{le-max_left, le-max_right, le_trans}
 use Rattle.std.proofs.lemmas.List.Elements.{All-from_recursion}
+use Rattle.mh_grammar.proofs.Lists.{recursion-push}
 use Rattle.mh_rules.specs.declared.modules.Ref.TheVariants.{Plain}
 use Rattle.mh_rules.specs.declared.modules.Actual.{Actual}
 use Rattle.mh_rules.specs.declared.modules.Alternative.{Alternative}
@@ -12,7 +13,7 @@ use Rattle.mh_rules.proofs.Depth.{depth_within}
 use Rattle.mh_places.specs.Signs.{Read}
 use Rattle.mh_places.specs.Spelling as spelling
 use Rattle.mh_places.specs.Spelling.{Suffixed, Base, Args, IsActual, Limited}
-use Rattle.mh_reader.proofs.Fitting.{FitsActual, FitsAlternative, FitsRule, all_joined}
+use Rattle.mh_reader.proofs.Fitting.{FitsActual, FitsAlternative, FitsRule}
 
 raised : (m n : ℕ) → m ≤ n → (ks : List Actual) → AllByRecursion (λ k. actual_depth k ≤ m) ks → AllByRecursion (λ k. actual_depth k ≤ n) ks
 raised m n l [] h = tt
@@ -20,7 +21,7 @@ raised m n l (k ∷ ks) h = (le_trans h.0 l, raised m n l ks h.1)
 
 -- one actual more
 more_within : (done : List Actual) (m : ℕ) (a : Actual) (d : ℕ) → AllByRecursion (λ k. actual_depth k ≤ m) done → actual_depth a ≤ d → AllByRecursion (λ k. actual_depth k ≤ max m d) (done ++ a ∷ [])
-more_within done m a d h l = all_joined (λ k. actual_depth k ≤ max m d) done (a ∷ []) (raised m (max m d) (le-max_left m d) done h) (le_trans l (le-max_right m d), tt)
+more_within done m a d h l = recursion-push (λ k. actual_depth k ≤ max m d) done a (raised m (max m d) (le-max_left m d) done h) (le_trans l (le-max_right m d))
 
 suffixed_within : {xs rest : List Read} {a b : Actual} {d e : ℕ} → Suffixed a d xs rest b e → actual_depth a ≤ d → actual_depth b ≤ e
 suffixed_within spelling.Suffixed.bare h = h
