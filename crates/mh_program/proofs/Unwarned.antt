@@ -12,7 +12,6 @@ use Rattle.mh_grammar.specs.declared.types.Look.TheVariants.{Token, End}
 use Rattle.mh_grammar.specs.ItemSets.{ItemSet}
 use Rattle.mh_kernels.specs.Shapes.{Automaton}
 use Rattle.mh_cells.specs.Names.{look_name}
-use Rattle.mh_grammar.specs.Text.{Text}
 use Rattle.mh_parts.specs.Conflicts.{conflict_place}
 use Rattle.mh_notation.specs.Warnings.{warning_line}
 use Rattle.mh_report.specs.Warnings.{warning_lines}
@@ -26,7 +25,7 @@ use Rattle.mh_cells.specs.Clear.{HasNoConflicts}
 use Rattle.mh_cells.specs.Conflicts.{AreConflicts, IsConflictOf}
 use Rattle.mh_cells.specs.Levels.{compared, comparison, look_level, production_level}
 use Rattle.mh_cells.specs.States.{Raw, RawOf, shift_on, state_of}
-use Rattle.mh_grammar.proofs.Lists.{at_contains}
+use Rattle.mh_grammar.proofs.Lists.{at_contains, nil_parts}
 use Rattle.mh_program.specs.Exact.{HasNoLevels}
 
 -- ---- without levels no comparison is known
@@ -84,29 +83,21 @@ module _ (g : Grammar) (none : HasNoLevels g) (items : ItemSet) (look : Look) wh
 
 -- ---- and each other one is warned of
 
-nil_left : (xs ys : Text) → xs ++ ys ≡ [] → xs ≡ []
-nil_left [] ys e = refl
-nil_left (x ∷ xs) ys e = absurd (cc)
-
-nil_right : (xs ys : Text) → xs ++ ys ≡ [] → ys ≡ []
-nil_right [] ys e = e
-nil_right (x ∷ xs) ys e = absurd (cc)
-
 place_said : (s : ℕ) → conflict_place s ≡ [] → ⊥
 unfolding conflict_place
 place_said s e = cc
 
 silent : (g : Grammar) (s : ℕ) (look : Look) (kind : ConflictKind) → warning_line g s look kind ≡ [] → kind ≡ Solved
 silent g s look Solved e = refl
-silent g s look Unsolved e = absurd (place_said s (nil_left (conflict_place s) (look_name g look) (nil_left (conflict_place s ++ look_name g look) _ e)))
+silent g s look Unsolved e = absurd (place_said s (nil_parts (conflict_place s) (look_name g look) (sym (nil_parts (conflict_place s ++ look_name g look) _ (sym e)).0)).0)
 silent g s look Stream e = absurd (cc)
 
 all_silent : (g : Grammar) (cs : List Conflict) → warning_lines g cs ≡ [] → (n : ℕ) (c : Conflict) → slice_get cs n ≡ Some c → c.kind ≡ Solved
 all_silent g [] e n c at = absurd (cc)
 all_silent g (x ∷ cs) e zero c at =
     let same : x ≡ c = cc in
-    subst (λ (y : Conflict). y.kind ≡ Solved) same (silent g x.state x.look x.kind (nil_left (warning_line g x.state x.look x.kind) (warning_lines g cs) e))
-all_silent g (x ∷ cs) e (suc n) c at = all_silent g cs (nil_right (warning_line g x.state x.look x.kind) (warning_lines g cs) e) n c at
+    subst (λ (y : Conflict). y.kind ≡ Solved) same (silent g x.state x.look x.kind (nil_parts (warning_line g x.state x.look x.kind) (warning_lines g cs) (sym e)).0)
+all_silent g (x ∷ cs) e (suc n) c at = all_silent g cs (nil_parts (warning_line g x.state x.look x.kind) (warning_lines g cs) (sym e)).1 n c at
 
 pub unwarned_clear : (g : Grammar) (a : Automaton) (cs : List Conflict) → AreConflicts g a cs → HasNoLevels g → warning_lines g cs ≡ [] → HasNoConflicts g a
 unwarned_clear g a cs are none e s lt = record { one = one; stream = λ x. not_solved (record { state = s; look = End; kind = Stream }) (λ same. cc) (lt, (refl, x)) }

@@ -12,6 +12,7 @@ use Rattle.mh_msgfile.specs.declared.messages.Entry.{Entry}
 use Rattle.mh_msgfile.specs.declared.messages.MsgFile.{MsgFile}
 use Rattle.mh_check.specs.Checks.{sentences_of as all_sentences}
 use Rattle.mh_update.proofs.Walks.{LinePlace, Outside, Sentences, Behind, Message, Kind, Blank, Words, kind_by, next, told, put, sentences}
+use Rattle.mh_grammar.proofs.Lists.{nil_parts}
 
 -- ---- blocks by turns
 
@@ -170,15 +171,11 @@ module _ (lines : List Text) where
     none_left [] y is = cc
     none_left (x ∷ xs) y is = cc
 
-    none_both : (xs ys : List FaultFound) → xs ++ ys ≡ [] → ys ≡ []
-    none_both [] ys is = is
-    none_both (x ∷ xs) ys is = absurd (cc)
-
     of_entries : (bs : List (List ℕ)) → faults_in v lines bs ≡ [] → flat_map (λ (e : Entry). e.sentences) (entries_in v lines bs) ≡ flat_map found_at (odd bs)
     of_entries [] right = refl
     of_entries (block ∷ []) right = absurd (none_left (faults_of v lines block) (BadShape (first_number block)) right)
     of_entries (block ∷ message ∷ rest) right =
-        ap (λ (l : List MsgSentence). sentences_of v lines block ++ l) (of_entries rest (none_both (faults_of v lines block) (faults_in v lines rest) right)) ∙ sym (flat_map-append found_at block (odd rest))
+        ap (λ (l : List MsgSentence). sentences_of v lines block ++ l) (of_entries rest (nil_parts (faults_of v lines block) (faults_in v lines rest) (sym right)).1) ∙ sym (flat_map-append found_at block (odd rest))
 
 -- all sentences of a file
 pub sentences_are : (g : Grammar) (bytes : Text) (file : MsgFile) → MsgSpells g bytes file → all_sentences file ≡ sentences (vocabulary_of g) Outside 0 file.lines
