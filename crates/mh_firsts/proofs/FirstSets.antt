@@ -2,7 +2,7 @@
 use Rattle.std.proofs.Common.{◌≡◌, ℕ, ◌+◌, ◌*◌, ◌<◌, ◌≤◌, ◌||◌, ◌↔◌, Bool, true, false, List, [], ◌∷◌, ◌++◌, Some, length, get_or, set, drop, refl, sym, ap, ◌∙◌, arith, inl, inr, add-one, drop-cons, take, ◌-◌}
 use Rattle.std.specs.List.{slice_get}
 use Rattle.std.proofs.lemmas.Bool.{cases_eq, cases_lt, false≢true}
-use Rattle.std.proofs.lemmas.List.Elements.{All-head, All-tail, All-push, All-weaker, Contains-push, Contains-push_cases, Contains-append_left}
+use Rattle.std.proofs.lemmas.List.Elements.{All-head, All-tail, All-push, All-weaker, All-contains, Contains-push, Contains-push_cases, Contains-append_left}
 use Rattle.std.proofs.lemmas.List.{get_or_append_left, get_or_push, get_or_past, get_or-take, get_or-drop, length_push, length-take}
 use Rattle.std.proofs.lemmas.Option.{slice_get-get_or, get_or_from_slice_get, slice_get_read, slice_get_within}
 use Rattle.std.proofs.lemmas.Nat.{same_from_place}
@@ -23,6 +23,7 @@ use Rattle.mh_firsts.specs.FirstFlags.{AreFirst, IsAdded, IsSideAdded, AllAdded,
 use Rattle.std.proofs.lemmas.Bool.{or_parts}
 use Rattle.mh_firsts.proofs.Flags.{set-cases, Grows-trans, Grows-refl}
 use Rattle.mh_firsts.proofs.LeastMarks.{nil_from-marked, marked-from_nil}
+use Rattle.mh_grammar.proofs.Lists.{contains_at}
 use Rattle.mh_grammar.proofs.Numbered.{Produces-ordinary, listed_from_for}
 
 -- one flag more that is right
@@ -127,16 +128,13 @@ module _ (g : PlainGrammar) (nullable : List Bool) (width : ℕ) (flags : List B
 pub flags_of : (g : PlainGrammar) (nullable : List Bool) (width : ℕ) (flags : List Bool) → AreMarks false g.productions nullable → AreFirst g width flags → AllAdded g.productions nullable width flags → AreFlagsOf g width flags
 flags_of g nullable width flags m s d = record { exact = λ n a l. (s.sound n a l, all-first g nullable width flags m d a l (N n)) }
 
-All-from_slice_get : {X : Type 0} (P : X → Type 0) (xs : List X) (k : ℕ) (x : X) → All P xs → slice_get xs k ≡ Some x → P x
-All-from_slice_get P xs k x h e = let at = get_or_from_slice_get xs k x x e in rw at at (h k x (slice_get_within xs k x e))
-
 -- FIRST has tokens of the grammar alone
 module _ (g : PlainGrammar) (width n : ℕ) (r : All (IsProductionBelow width n) g.productions) (a : ℕ) where
   below_of : (m : ℕ) (rhs : List Symbol) → Produces g (N m) rhs → All (IsSymbolBelow width n) rhs
   below_of m rhs p =
       let at = listed_from_for g m p.0 p.1 in
       let same : at.production.rhs ≡ rhs = sym at.rhs ∙ p.2 in
-      rw same at (All-from_slice_get (IsProductionBelow width n) g.productions at.place at.production r at.at).rhs
+      rw same at (All-contains (IsProductionBelow width n) g.productions at.production r (contains_at g.productions at.place at.production at.at)).rhs
 
   mutual
     pub first-below : (X : Symbol) → First g X a → IsSymbolBelow width n X → a < width
