@@ -98,7 +98,3 @@ flat_somes_more g n xs i j x done new h at place so_far put =
     put ∙ ap (λ k. k ++ g (j, x)) so_far
     ∙ sym (ap (flat_map g) (ap (enumerate_from n) (taken xs i x h at) ∙ enumerate-push n (take i xs) x ∙ ap (λ k. enumerate_from n (take i xs) ++ (k, x) ∷ []) (ap (λ k. n + k) (length-take_in xs i h) ∙ place))
     ∙ flat_map-append g (enumerate_from n (take i xs)) ((j, x) ∷ []) ∙ ap (λ k. flat_map g (enumerate_from n (take i xs)) ++ k) (append-nil (g (j, x))))
-
-pub maps_more : {A B : Type 0} (f : A → B) (xs : List A) (i : ℕ) (x : A) (done new : List B) (y : B) → i < length xs → x ≡ get_or xs i x → done ≡ map f (take i xs) → y ≡ f x → new ≡ done ++ y ∷ [] → new ≡ map f (take (i + 1) xs)
-maps_more f xs i x done new y h at so_far is put =
-    put ∙ ap (λ k. k ++ y ∷ []) so_far ∙ ap (λ k. map f (take i xs) ++ k ∷ []) is ∙ sym (ap (map f) (taken xs i x h at) ∙ map-append f (take i xs) (x ∷ []))
