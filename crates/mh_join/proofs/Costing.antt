@@ -1,11 +1,12 @@
 -- Joined tokens have costs in range.
-use Rattle.std.proofs.Common.{ℕ, List, [], ◌∷◌, ◌++◌, Option, Some, None, Bool, true, false, cond, flat_map, sym, subst, arith}
+use Rattle.std.proofs.Common.{ℕ, List, [], ◌∷◌, Option, Some, None, Bool, true, false, cond, flat_map, sym, subst, arith}
 use Rattle.std.specs.Prelude.{IfSome, unwrap_or}
 use Rattle.std.specs.List.{AllByRecursion}
 use Rattle.std.specs.Map.{lookup}
 use Rattle.std.proofs.lemmas.List.Elements.{recursion_from_All}
 use Rattle.mh_grammar.specs.Costs.{IsCost, HaveCosts}
 use Rattle.mh_grammar.proofs.Costs.{each_costs}
+use Rattle.mh_grammar.proofs.Lists.{recursion-append}
 use Rattle.mh_rules.specs.declared.modules.TokenDecl.{TokenDecl}
 use Rattle.mh_rules.specs.declared.modules.Module.{Module}
 use Rattle.mh_rules.specs.declared.joined.Joined.{Joined}
@@ -18,22 +19,18 @@ use Rattle.mh_meanings.specs.Joining.{token_info, IsJoined}
 abbrev IsPriced : Text × ℕ → Type 0
 IsPriced e = IsCost e.1
 
-all_joined : {X : Type 0} (P : X → Type 0) (xs ys : List X) → AllByRecursion P xs → AllByRecursion P ys → AllByRecursion P (xs ++ ys)
-all_joined P [] ys h k = k
-all_joined P (x ∷ xs) ys h k = (h.0, all_joined P xs ys h.1 k)
-
 given_priced : (x : Text) (o : Option ℕ) → IfSome o IsCost → AllByRecursion IsPriced (cost_by x o)
 given_priced x None h = tt
 given_priced x (Some c) h = (h, tt)
 
 tokens_priced : (ts : List TokenDecl) → AllByRecursion IsTokenReady ts → AllByRecursion IsPriced (flat_map given_cost ts)
 tokens_priced [] h = tt
-tokens_priced (t ∷ ts) h = all_joined IsPriced (given_cost t) (flat_map given_cost ts) (given_priced t.name t.cost h.0) (tokens_priced ts h.1)
+tokens_priced (t ∷ ts) h = recursion-append IsPriced (given_cost t) (flat_map given_cost ts) (given_priced t.name t.cost h.0) (tokens_priced ts h.1)
 
 modules_priced : (ms : List Module) → AllByRecursion IsModuleReady ms → AllByRecursion IsPriced (costs ms)
 modules_priced [] h = tt
 modules_priced (m ∷ ms) h =
-    all_joined IsPriced (flat_map given_cost m.tokens) (costs ms) (tokens_priced m.tokens (recursion_from_All IsTokenReady m.tokens h.0.costs)) (modules_priced ms h.1)
+    recursion-append IsPriced (flat_map given_cost m.tokens) (costs ms) (tokens_priced m.tokens (recursion_from_All IsTokenReady m.tokens h.0.costs)) (modules_priced ms h.1)
 
 found_priced : (p : Text → Bool) (es : List (Text × ℕ)) → AllByRecursion IsPriced es → IfSome (lookup p es) IsCost
 found_priced p [] h = tt

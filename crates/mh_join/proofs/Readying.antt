@@ -37,6 +37,7 @@ use Rattle.mh_meanings.specs.Faults.{Meanings, meanings, meant_by, unless, agree
 use Rattle.mh_meanings.specs.Joining.{all_of, applied_to, apply_step, resolved, all_resolved, prec_by, alternative_with, alternative_by, alternatives_by, is_number, alternatives_for, rule_without, without_alternatives, token_info, on_error_in, IsJoined, Joins}
 use Rattle.mh_rules.specs.Depth.{greatest, actual_depth, actual_depth_step, applied_depth, applied_depth_step, IsActualShallow, IsAppliedShallow, AreProducersShallow}
 use Rattle.mh_rules.specs.Ready.{IsModuleReady, AreModulesReady, IsHeadBelow, IsAppliedBelow, IsRuleReady, IsReady}
+use Rattle.mh_grammar.proofs.Lists.{get_cases, at_contains, recursion-from}
 use Rattle.mh_grammar.proofs.SameText.{same_is, same_self}
 use Rattle.mh_meanings.proofs.Lists.{position-push, is_some-position}
 use Rattle.mh_naming.proofs.Numbers.{none_from}
@@ -100,8 +101,7 @@ length_in f (y ∷ xs) x (inl e) = let more = length-append (f y) (flat_map f xs
 length_in f (y ∷ xs) x (inr h) = let more = length-append (f y) (flat_map f xs) in let rest = length_in f xs x h in omega arith
 
 all_at : {X : Type 0} (P : X → Type 0) (xs : List X) → ((i : ℕ) (x : X) → slice_get xs i ≡ Some x → P x) → AllByRecursion P xs
-all_at P [] h = tt
-all_at P (x ∷ xs) h = (h 0 x refl, all_at P xs (λ i y e. h (suc i) y e))
+all_at P xs h = recursion-from P xs (λ x c. let at = at_contains xs x c in h at.0 x at.1)
 
 all_in : {X : Type 0} (P : X → Type 0) (xs : List X) → ((x : X) → In xs x → P x) → All P xs
 all_in P xs h = All-from_recursion P xs (all_at P xs (λ i x e. h x (in_at xs i x e)))
@@ -128,24 +128,18 @@ at_position p (y ∷ ys) i e =
 position_below : {X : Type 0} (p : X → Bool) (xs : List X) (i : ℕ) → position p xs ≡ Some i → i < length xs
 position_below p xs i e = let found = at_position p xs i e in slice_get_within xs i found.0 found.1
 
-at_push : {X : Type 0} (xs : List X) (y : X) (i : ℕ) (x : X) → slice_get (xs ++ y ∷ []) i ≡ Some x → (slice_get xs i ≡ Some x) ⊎ ((i ≡ length xs) × (y ≡ x))
-at_push [] y zero x e = inr (refl, some_is e)
-at_push [] y (suc i) x e = let bad : None ≡ Some x = e in cc
-at_push (z ∷ xs) y zero x e = inl e
-at_push (z ∷ xs) y (suc i) x e = elim (at_push xs y i x e) [ inl a ↦ inl a | inr b ↦ inr (ap suc b.0, b.1) ]
-
 module _ {X : Type 0} (eq : X → X → Bool) (self : (x : X) → eq x x ≡ true) where
   -- each item stands first where it stands
   abbrev AreFirst : List X → Type 0
   AreFirst xs = (i : ℕ) (x : X) → slice_get xs i ≡ Some x → position (eq x) xs ≡ Some i
 
   push_first : (xs : List X) (y : X) → list_any (eq y) xs ≡ false → AreFirst xs → AreFirst (xs ++ y ∷ [])
-  push_first xs y lacks are i x e = go (at_push xs y i x e)
+  push_first xs y lacks are i x e = go (get_cases xs y i x e)
     where
-      go : (slice_get xs i ≡ Some x) ⊎ ((i ≡ length xs) × (y ≡ x)) → position (eq x) (xs ++ y ∷ []) ≡ Some i
+      go : (slice_get xs i ≡ Some x) ⊎ ((i ≡ length xs) × (x ≡ y)) → position (eq x) (xs ++ y ∷ []) ≡ Some i
       go (inl a) = position-push (eq x) xs y ∙ ap (λ o. option_or o (cond (eq x y) (Some (length xs)) None)) (are i x a)
       go (inr b) =
-          subst (λ z. position (eq z) (xs ++ y ∷ []) ≡ Some i) b.1
+          subst (λ z. position (eq z) (xs ++ y ∷ []) ≡ Some i) (sym b.1)
           (position-push (eq y) xs y ∙ ap (λ o. option_or o (cond (eq y y) (Some (length xs)) None)) (none_from (position (eq y) xs) (is_some-position (eq y) xs ∙ lacks))
           ∙ ap (λ b. cond b (Some (length xs)) None) (self y) ∙ ap Some (sym b.0))
 

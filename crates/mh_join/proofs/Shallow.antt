@@ -10,6 +10,7 @@ use Rattle.mh_rules.specs.declared.modules.Alternative.{Alternative}
 use Rattle.mh_rules.specs.declared.modules.Rule.{Rule}
 use Rattle.mh_rules.specs.Depth.{actual_depth, IsActualShallow, AreProducersShallow}
 use Rattle.mh_rules.proofs.Depth.{depth_within}
+use Rattle.mh_grammar.proofs.Lists.{recursion-append}
 use Rattle.mh_grammar.specs.Text.{Text}
 use Rattle.mh_meanings.specs.Prelude.{call, words, optional, in_order, texts, prelude_rules, separated_items, list_rule, nonempty_list_rule, separated_list_rule, separated_nonempty_list_rule, option_rules, pair_rules, list_rules, other_rules}
 
@@ -98,12 +99,8 @@ others_low = (
   ),
 )
 
-joined_low : (rs qs : List Rule) → AllByRecursion IsLow rs → AllByRecursion IsLow qs → AllByRecursion IsLow (rs ++ qs)
-joined_low [] qs h k = k
-joined_low (r ∷ rs) qs h k = (h.0, joined_low rs qs h.1 k)
-
 whole_low : AllByRecursion IsLow (option_rules ++ (pair_rules ++ (list_rules ++ other_rules)))
-whole_low = joined_low option_rules (pair_rules ++ (list_rules ++ other_rules)) options_low (joined_low pair_rules (list_rules ++ other_rules) pairs_low (joined_low list_rules other_rules lists_low others_low))
+whole_low = recursion-append IsLow option_rules (pair_rules ++ (list_rules ++ other_rules)) options_low (recursion-append IsLow pair_rules (list_rules ++ other_rules) pairs_low (recursion-append IsLow list_rules other_rules lists_low others_low))
 
 prelude_low : (p : Bool) → AllByRecursion IsLow (prelude_rules p)
 unfolding prelude_rules
