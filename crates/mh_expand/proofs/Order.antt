@@ -5,7 +5,7 @@ use Rattle.std.proofs.lemmas.List.{append-nil}
 use Rattle.std.proofs.lemmas.Bool.{cases_lt}
 use Rattle.std.proofs.lemmas.List.Elements.{Contains-append_right}
 use Rattle.std.proofs.lemmas.Grind.{flat_map-append}
-use Rattle.mh_grammar.proofs.Lists.{contains_here, contains_there, split_push}
+use Rattle.mh_grammar.proofs.Lists.{contains_here, split_push, zip_one}
 use Rattle.mh_grammar.specs.Numbering.{AreDistinct}
 use Rattle.mh_grammar.proofs.Placing.{AreDistinct-push, contains_at}
 use Rattle.mh_rules.specs.declared.joined.Applied.{Applied}
@@ -163,18 +163,6 @@ same_rank ds t (Some q) (Some r) v w = elim (cases_lt q r) [
   ]
 ]
 
--- zipped with one list, by a relation that says what is zipped
-zip_one : {X Y : Type 0} (R : X → Y → Type 0) → (xs : List X) → ((x : X) (y z : Y) → Contains xs x → R x y → R x z → y ≡ z) → (ys zs : List Y) → AllZip R xs ys → AllZip R xs zs → ys ≡ zs
-zip_one R [] h [] [] v w = refl
-zip_one R [] h (y ∷ ys) zs v w = absurd v
-zip_one R [] h [] (z ∷ zs) v w = absurd w
-zip_one R (x ∷ xs) h [] zs v w = absurd v
-zip_one R (x ∷ xs) h (y ∷ ys) [] v w = absurd w
-zip_one R (x ∷ xs) h (y ∷ ys) (z ∷ zs) v w =
-    let first = h x y z (contains_here x xs) v.0 w.0 in
-    let rest = zip_one R xs (λ a b c d. h a b c (contains_there x xs a d)) ys zs v.1 w.1 in
-    λ i. first i ∷ rest i
-
 module _ (j : Joined) (ts : List Term) (distinct : AreDistinct ts) (instances : (n : ℕ) (t : Term) → slice_get ts n ≡ Some t → IsInstance t) where
   same_part : (t : Term) (p q : Part) → IsPart ts t p → IsPart ts t q → p ≡ q
   same_part t (parts.Token y) (parts.Token z) v w = let f : Atom (Token y) ≡ Atom (Token z) = sym v ∙ w in let g : Token y ≡ Token z = cc in let h : y ≡ z = cc in ap parts.Token h
@@ -187,7 +175,7 @@ module _ (j : Joined) (ts : List Term) (distinct : AreDistinct ts) (instances : 
       let file : p.file ≡ q.file = v.file ∙ sym w.file in
       let place : p.place ≡ q.place = v.place ∙ sym w.place in
       let prec : p.prec ≡ q.prec = v.prec ∙ sym w.prec in
-      let rhs : p.rhs ≡ q.rhs = zip_one (IsPart ts) (right_side t a) (λ x y z c. same_part x y z) p.rhs q.rhs v.rhs w.rhs in
+      let rhs : p.rhs ≡ q.rhs = zip_one (IsPart ts) same_part (right_side t a) p.rhs q.rhs v.rhs w.rhs in
       λ i. record { file = file i; place = place i; rhs = rhs i; prec = prec i }
 
   same_instance : (t : Term) (p q : Instance) → IsInstanceOf j ts t p → IsInstanceOf j ts t q → p ≡ q
@@ -196,7 +184,7 @@ module _ (j : Joined) (ts : List Term) (distinct : AreDistinct ts) (instances : 
       let both : Some p.inlined ≡ Some q.inlined = sym v.inlined ∙ w.inlined in
       let inlined : p.inlined ≡ q.inlined = cc in
       let on_error = same_rank j.on_error t p.on_error q.on_error v.on_error w.on_error in
-      let productions : p.productions ≡ q.productions = zip_one (IsProduction ts t) (alternatives_of j t) (λ a x y c. same_production t a x y) p.productions q.productions v.productions w.productions in
+      let productions : p.productions ≡ q.productions = zip_one (IsProduction ts t) (same_production t) (alternatives_of j t) p.productions q.productions v.productions w.productions in
       λ i. record { name = name i; inlined = inlined i; on_error = on_error i; productions = productions i }
 
 -- numbers that name one list of terms
@@ -217,5 +205,5 @@ one_expanded j a b v w =
     let starts_b : AllZip (λ n x. slice_get v.terms n ≡ Some x) b.starts (start_terms j) = rw same w.starts in
     let starts = names_one v.terms distinct a.starts b.starts (start_terms j) v.starts starts_b in
     let each_b : AllZip (IsInstanceOf j v.terms) v.terms b.instances = rw same w.each in
-    let list = zip_one (IsInstanceOf j v.terms) v.terms (λ t x y c. same_instance j v.terms distinct instances t x y) a.instances b.instances v.each each_b in
+    let list = zip_one (IsInstanceOf j v.terms) (same_instance j v.terms distinct instances) v.terms a.instances b.instances v.each each_b in
     λ i. record { tokens = tokens i; starts = starts i; instances = list i }

@@ -1,9 +1,8 @@
 -- The numbers of instances are in range.
-use Rattle.std.proofs.Common.{◌≡◌, ℕ, zero, suc, ◌<◌, ◌≤◌, List, [], ◌∷◌, ◌++◌, Option, Some, None, map, flat_map, length, take, drop, get_or, refl, sym, ap, subst, ◌∙◌, arith, inl, inr}
+use Rattle.std.proofs.Common.{◌≡◌, ℕ, zero, suc, ◌<◌, ◌≤◌, List, [], ◌∷◌, ◌++◌, Some, map, flat_map, length, take, drop, get_or, refl, sym, ap, subst, ◌∙◌, arith, inl, inr}
 use Rattle.std.specs.List.{slice_get, All, AllZip, AllByRecursion, Contains}
-use Rattle.mh_grammar.proofs.Lists.{contains_flat_map, flat_map_contains, option_map_some, recursion-push, split_at, zip_left, zip_length, zip_right}
+use Rattle.mh_grammar.proofs.Lists.{contains_flat_map, flat_map_contains, option_map_some, recursion_contains, recursion-push, split_at, zip_left, zip_length, zip_right}
 use Rattle.mh_expand.proofs.Same.{reached_instance}
-use Rattle.std.specs.Option.{option_map}
 use Rattle.std.proofs.lemmas.Option.{slice_get_within, slice_get-get_or, slice_get-map, get_or_from_slice_get}
 use Rattle.std.proofs.lemmas.List.Elements.{recursion_from_All, All-from_recursion, All-contains, Contains-append_left, Contains-append_right}
 use Rattle.mh_grammar.specs.Costs.{HaveCosts}
@@ -104,15 +103,11 @@ module _ (j : Joined) (e : Expanded) (w : IsExpanded j e) (ready : IsReady j) wh
   unfolding tokens rules
   fit_rule t i f = go (head_of t) refl i f
     where
-      take_rule : (o : Option JoinedRule) (n : ℕ) → option_map (λ (q : JoinedRule). q.formals) o ≡ Some n → (q : JoinedRule) × (o ≡ Some q) × (q.formals ≡ n)
-      take_rule None n e = cc
-      take_rule (Some q) n e = let same : q.formals ≡ n = cc in (q, refl, same)
-
       go : (h : Head) → head_of t ≡ h → IsRule h → Takes j h (length (arguments t)) → (q : JoinedRule) × (rule_of j t ≡ Some q) × (q.formals ≡ length (arguments t)) × IsRuleReady (length j.tokens) (length j.rules) q
       go (Formal n) e i f = absurd i
       go (Token z) e i f = absurd i
       go (Rule n) e i f =
-          let q = take_rule (slice_get j.rules n) (length (arguments t)) f in
+          let q = option_map_some (λ (q : JoinedRule). q.formals) (slice_get j.rules n) (length (arguments t)) f in
           (q.0, ap (rule_at j) e ∙ q.1, q.2, All-contains (IsRuleReady (length j.tokens) (length j.rules)) j.rules q.0 ready.rules_ready (contains_at j.rules n q.0 q.1))
 
   -- producers of a closed instance are closed
@@ -142,19 +137,11 @@ module _ (j : Joined) (e : Expanded) (w : IsExpanded j e) (ready : IsReady j) wh
       go (r ∷ rs) a zero e = let same : start_term r ≡ t = cc in rw (← same) a.0
       go (r ∷ rs) a (suc i) e = go rs a.1 i e
 
-  all_at : (P : Term → Type 0) (xs : List Term) (x : Term) → AllByRecursion P xs → Contains xs x → P x
-  all_at P xs x a c = let at = at_contains xs x c in go xs a at.0 at.1
-    where
-      go : (ys : List Term) → AllByRecursion P ys → (i : ℕ) → slice_get ys i ≡ Some x → P x
-      go [] a i e = cc
-      go (y ∷ ys) a zero e = let same : y ≡ x = cc in rw (← same) a.0
-      go (y ∷ ys) a (suc i) e = go ys a.1 i e
-
   closed : (t : Term) → IsReached j t → IsTermBelow 0 tokens rules t
   closed t (expansion.IsReached.start c) = closed_start t c
   closed x (expansion.IsReached.producer {t} r c i) =
       let a = flat_map_contains (right_side t) (alternatives_of j t) x c in
-      all_at (IsTermBelow 0 tokens rules) (right_side t a.0) x (side_below t (reached_instance j t r) (reached_fits t r) (closed t r) a.0 a.1) a.2
+      recursion_contains (IsTermBelow 0 tokens rules) (right_side t a.0) (side_below t (reached_instance j t r) (reached_fits t r) (closed t r) a.0 a.1) x a.2
 
   instances : ℕ
   instances = length e.instances

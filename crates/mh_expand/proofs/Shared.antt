@@ -7,6 +7,7 @@ use Rattle.std.proofs.lemmas.List.Elements.{recursion_from_All}
 use Rattle.std.proofs.lemmas.Option.{slice_get_within}
 use Rattle.mh_grammar.specs.Numbering.{AreDistinct}
 use Rattle.mh_grammar.specs.Placed.{Placed}
+use Rattle.mh_grammar.proofs.Lists.{has_place}
 use Rattle.mh_grammar.proofs.Placing.{get_left, get_last, get_cases, AreDistinct-push, at_contains}
 use Rattle.mh_instances.specs.declared.applications.Application.{Application}
 use Rattle.mh_expand.specs.Terms.{Term, Atom, apply_all, head_of, arguments}
@@ -89,14 +90,8 @@ module _ (ns : List Application) (w : AreNodes ns) where
       let P : ℕ → Type 0 = λ k. slice_get (terms_from [] ns) k ≡ Some (node_term (terms_from [] ns) n) in
       subst P l (from-means [] ns i n e (rw l (w.below i n e)))
 
-pub node_at : (ns : List Application) (i : ℕ) → i < length ns → (n : Application) × (slice_get ns i ≡ Some n)
-node_at [] i l = absurd (omega arith)
-node_at (x ∷ xs) zero l = (x, refl)
-node_at (x ∷ xs) (suc i) l = node_at xs i (omega arith)
-
-module _ (ns : List Application) (w : AreNodes ns) where
   meaning : (i : ℕ) (n : Application) → slice_get ns i ≡ Some n → term_at (terms_of ns) i ≡ node_term (terms_of ns) n
-  meaning i n e = term_got (terms_of ns) i (node_term (terms_of ns) n) (terms_of-means ns w i n e)
+  meaning i n e = term_got (terms_of ns) i (node_term (terms_of ns) n) (terms_of-means i n e)
 
   -- numbers below m are those of their terms alone
   record AreOne (m : ℕ) : Type 0 where
@@ -120,8 +115,8 @@ module _ (ns : List Application) (w : AreNodes ns) where
   are_one zero = record { one = λ i j l. absurd (omega arith) }
   are_one (suc m) = record {
     one = λ i j l inside k e.
-        let n = node_at ns i inside in
-        let o = node_at ns j k in
+        let n = has_place ns i inside in
+        let o = has_place ns j k in
         let same : node_term (terms_of ns) n.0 ≡ node_term (terms_of ns) o.0 = sym (meaning i n.0 n.1) ∙ e ∙ meaning j o.0 o.1 in
         let heads = one_head n.0.head o.0.head (terms_at (terms_of ns) n.0.args) (terms_at (terms_of ns) o.0.args) same in
         let lists = one_list n.0.head o.0.head (terms_at (terms_of ns) n.0.args) (terms_at (terms_of ns) o.0.args) same in
