@@ -1,16 +1,15 @@
 -- Instances give one grammar, or one first fault.
-use Rattle.std.proofs.Common.{◌≡◌, ℕ, ◌≤◌, false, List, [], ◌∷◌, length, refl, sym, ap, ◌∙◌, arith, inl, inr, subst}
+use Rattle.std.proofs.Common.{◌≡◌, ℕ, ◌≤◌, false, List, length, refl, sym, ap, ◌∙◌, arith, inl, inr, subst}
 use Rattle.std.specs.Option.{option_map}
-use Rattle.std.specs.List.{slice_get, All, AllByRecursion, Contains}
+use Rattle.std.specs.List.{slice_get, All}
 use Rattle.std.proofs.lemmas.Bool.{false≢true, cases_lt}
-use Rattle.std.proofs.lemmas.List.Elements.{All-contains, All-from_recursion}
+use Rattle.std.proofs.lemmas.List.Elements.{All-contains}
 use Rattle.std.proofs.lemmas.Option.{same_Some, slice_get_within, get_or_from_slice_get, slice_get-map}
 use Rattle.mh_grammar.specs.declared.types.Production.{Production}
 use Rattle.mh_grammar.specs.declared.types.Grammar.{Grammar}
-use Rattle.mh_grammar.specs.Edges.{IsRising}
 use Rattle.mh_grammar.specs.Plain.{plain_of, IsProductive}
 use Rattle.mh_grammar.proofs.Placing.{contains_at}
-use Rattle.mh_grammar.proofs.Lists.{contains_here, contains_there, contains_cases, contains_none}
+use Rattle.mh_grammar.proofs.Lists.{rising_same}
 use Rattle.mh_rules.specs.declared.instances.Expanded.{Expanded}
 use Rattle.mh_rules.specs.declared.instances.Instance.{Instance}
 use Rattle.mh_inline.specs.declared.fault.InlineFault.{InlineFault}
@@ -34,40 +33,13 @@ before_once x y (inr (e, inr (f, inl a))) (inr (g, inr (h, inr b))) = let k = b.
 before_once x y (inr (e, inr (f, inr a))) (inr (g, inr (h, inl b))) = let k = a.0 in omega arith
 before_once x y (inr (e, inr (f, inr a))) (inr (g, inr (h, inr b))) = let k = a.1 in let l = b.1 in omega arith
 
-before_all : (x : Origin) (xs : List Origin) (y : Origin) → AllByRecursion (IsOriginBefore x) xs → Contains xs y → IsOriginBefore x y
-before_all x xs y a c = All-contains (IsOriginBefore x) xs y (All-from_recursion (IsOriginBefore x) xs a) c
-
--- what stands behind the first
-rest_of : (x y : Origin) (xs ys : List Origin) → x ≡ y → AllByRecursion (IsOriginBefore x) xs → (z : Origin) → Contains xs z → Contains (y ∷ ys) z → Contains ys z
-rest_of x y xs ys e a z c d = elim (contains_cases y ys z d) [
-  | inl f ↦ absurd (let b = before_all x xs z a c in let same : z ≡ x = sym f ∙ sym e in let b' = subst (IsOriginBefore x) same b in before_once x x b' b')
-  | inr f ↦ f
-]
-
-origins_same : (xs ys : List Origin) → IsRising IsOriginBefore xs → IsRising IsOriginBefore ys → ((x : Origin) → Contains xs x → Contains ys x) → ((x : Origin) → Contains ys x → Contains xs x) → xs ≡ ys
-origins_same [] [] r s h k = refl
-origins_same [] (y ∷ ys) r s h k = absurd (contains_none y (k y (contains_here y ys)))
-origins_same (x ∷ xs) [] r s h k = absurd (contains_none x (h x (contains_here x xs)))
-origins_same (x ∷ xs) (y ∷ ys) r s h k =
-    let same : x ≡ y = elim (contains_cases y ys x (h x (contains_here x xs))) [
-      | inl e ↦ sym e
-      | inr c ↦ elim (contains_cases x xs y (k y (contains_here y ys))) [
-        | inl e ↦ e
-        | inr d ↦ absurd (before_once x y (before_all x xs y r.0 d) (before_all y ys x s.0 c))
-      ]
-    ] in
-    let rest = origins_same xs ys r.1 s.1
-    (λ z c. rest_of x y xs ys same r.0 z c (h z (contains_there x xs z c)))
-    (λ z c. rest_of y x ys xs (sym same) s.0 z c (k z (contains_there y ys z c))) in
-    λ i. same i ∷ rest i
-
 grammar_same : (g h : Grammar) → g.tokens ≡ h.tokens → g.nonterminals ≡ h.nonterminals → g.productions ≡ h.productions → g.starts ≡ h.starts → g ≡ h
 grammar_same g h a b c d = λ i. record { tokens = a i; nonterminals = b i; productions = c i; starts = d i }
 
 module _ (e : Expanded) where
   pub one_grammar : (g h : Grammar) → IsInlined e g → IsInlined e h → g ≡ h
   one_grammar g h i j =
-      let origins = origins_same i.origins j.origins i.ordered.rising j.ordered.rising (λ x c. (j.ordered.exact x).1 ((i.ordered.exact x).0 c)) (λ x c. (i.ordered.exact x).1 ((j.ordered.exact x).0 c)) in
+      let origins = rising_same IsOriginBefore before_once i.origins j.origins i.ordered.rising j.ordered.rising (λ x. ((λ c. (j.ordered.exact x).1 ((i.ordered.exact x).0 c)), (λ c. (i.ordered.exact x).1 ((j.ordered.exact x).0 c)))) in
       let again = subst (λ xs. AreProductions e.tokens e.instances xs h.productions) (sym origins) j.productions in
       grammar_same g h (i.tokens ∙ sym j.tokens) (i.nonterminals ∙ sym j.nonterminals) (made_same e.tokens e.instances i.origins g.productions h.productions i.productions again) (i.starts ∙ sym j.starts)
 
