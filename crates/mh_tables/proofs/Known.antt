@@ -9,7 +9,7 @@ use Rattle.mh_grammar.specs.declared.types.Production.{Production}
 use Rattle.mh_grammar.specs.declared.types.Symbol.{Symbol}
 use Rattle.mh_grammar.specs.declared.types.Symbol.TheVariants.{N}
 use Rattle.mh_grammar.specs.Plain.{PlainGrammar, rhs_of, lhs_of, production_count, IsInRange, IsSymbolBelow, IsProductionBelow}
-use Rattle.mh_grammar.proofs.Lists.{contains_at}
+use Rattle.mh_grammar.proofs.Lists.{contains_at, has_place}
 use Rattle.mh_tables.specs.declared.parts.CoreItem.{CoreItem}
 use Rattle.mh_tables.specs.Table.{TableData, state_at, no_state, edge_of}
 use Rattle.mh_tables.specs.Facts.{InCore}
@@ -33,16 +33,11 @@ symbol_below g h p k X e =
         let below = All-contains (IsProductionBelow g.tokens g.nonterminals) g.productions q h.productions (contains_at g.productions (p - length g.starts) q at) in
         All-contains (IsSymbolBelow g.tokens g.nonterminals) q.rhs X below.rhs (contains_at q.rhs k X f)
 
-get_below : {X : Type 0} (xs : List X) (n : ℕ) → n < length xs → (x : X) × (slice_get xs n ≡ Some x)
-get_below [] n lt = absurd (omega arith)
-get_below (x ∷ xs) zero lt = (x, refl)
-get_below (x ∷ xs) (suc n) lt = get_below xs n (omega arith)
-
 -- the left side of an ordinary production
 pub left_below : (g : PlainGrammar) → IsInRange g → (p : ℕ) → length g.starts ≤ p → p < production_count g → lhs_of g p < g.nonterminals
 unfolding lhs_of
 left_below g h p ordinary known =
-    let at = get_below g.productions (p - length g.starts) (omega arith) in
+    let at = has_place g.productions (p - length g.starts) (omega arith) in
     rw at.1 (All-contains (IsProductionBelow g.tokens g.nonterminals) g.productions at.0 h.productions (contains_at g.productions (p - length g.starts) at.0 at.1)).lhs
 
 pub first_in : (t : TableData) (s : ℕ) (places : List CoreItem) (d : CoreItem) → places ≡ (state_at t s).core → 0 < length (state_at t s).core → InCore t s (get_or places 0 d).production (get_or places 0 d).dot
