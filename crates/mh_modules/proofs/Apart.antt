@@ -2,8 +2,6 @@
 use Rattle.std.proofs.Common.{◌≡◌, ◌<◌, ◌∙◌, ◌||◌, ℕ, zero, suc, Bool, true, false, true≢false, List, [], ◌∷◌, ◌++◌, map, length, Option, Some, refl, sym, ap, subst, codes, get_or, if◌then◌else◌}
 use Rattle.std.specs.List.{All, Contains, flat_map, list_any, slice_get}
 use Rattle.std.specs.Option.{option_map, unwrap_or}
-use Rattle.std.proofs.lemmas.Bool.Decides.{Decides-eqb}
-use Rattle.std.proofs.lemmas.Slice.Eq.{slice_eq-Decides}
 use Rattle.std.proofs.lemmas.List.{length-map}
 use Rattle.std.proofs.lemmas.Option.{slice_get-get_or, slice_get-map}
 use Rattle.std.proofs.lemmas.List.Elements.{All-head, All-nil, All-push, All-tail, All-contains, All-map, All-append}
@@ -13,6 +11,7 @@ use Rattle.mh_grammar.specs.declared.types.Grammar.{Grammar}
 use Rattle.mh_grammar.specs.declared.types.TokenInfo.{TokenInfo}
 use Rattle.mh_grammar.proofs.Lists.{at_contains, contains_at}
 use Rattle.mh_grammar.proofs.Placing.{AreDistinct-push}
+use Rattle.mh_grammar.proofs.SameText.{same_self}
 use Rattle.mh_rules.specs.declared.modules.Module.{Module}
 use Rattle.mh_rules.specs.declared.modules.TokenDecl.{TokenDecl}
 use Rattle.mh_meanings.specs.Names.{same, token_names, tokens_in, insert_all, insert_key}
@@ -24,15 +23,12 @@ use Rattle.mh_valid.specs.Valid.{AreNamesApart}
 use Rattle.mh_grammar.specs.Text.{Text}
 use Rattle.mh_modules.specs.Modules.{HasCapitals}
 
-same_itself : (k : Text) → same k k ≡ true
-same_itself k = (slice_eq-Decides Decides-eqb k k (same k k) refl).1 refl
-
 -- a name that is there is found
 found_at : (k : Text) (ks : List Text) (i : ℕ) → slice_get ks i ≡ Some k → list_any (same k) ks ≡ true
 found_at k [] i e = absurd (cc)
 found_at k (x ∷ xs) zero e =
     let here : x ≡ k = cc in
-    ap (λ (b : Bool). b || list_any (same k) xs) (ap (same k) here ∙ same_itself k)
+    ap (λ (b : Bool). b || list_any (same k) xs) (ap (same k) here ∙ same_self k)
 found_at k (x ∷ xs) (suc i) e = ap (λ (b : Bool). same k x || b) (found_at k xs i e) ∙ or_true (same k x)
   where
     or_true : (b : Bool) → (b || true) ≡ true
