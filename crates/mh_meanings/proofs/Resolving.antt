@@ -4,7 +4,7 @@ use Rattle.std.specs.Prelude.{is_some, option_map, option_and_then}
 use Rattle.std.specs.List.{flat_map, enumerate_from}
 use Rattle.std.proofs.lemmas.List.{map-append, take-append-drop, append-nil}
 use Rattle.std.proofs.lemmas.List.Concat.{flat_map-append}
-use Rattle.mh_grammar.proofs.Lists.{taken}
+use Rattle.mh_grammar.proofs.Lists.{nil_parts, taken}
 use Rattle.mh_rules.specs.declared.modules.Ref.{Ref}
 use Rattle.mh_rules.specs.declared.modules.Actual.{Actual}
 use Rattle.mh_rules.specs.declared.modules.Actual.TheViews.{out-Actual}
@@ -22,12 +22,10 @@ use Rattle.mh_meanings.proofs.Actuals.{actual_out}
 
 module _ {A : Type 0} where
   pub front_nil : (xs ys : List A) → xs ++ ys ≡ [] → xs ≡ []
-  front_nil [] ys e = refl
-  front_nil (x ∷ xs) ys e = let bad : x ∷ (xs ++ ys) ≡ [] = e in cc
+  front_nil xs ys e = (nil_parts xs ys (sym e)).0
 
   pub back_nil : (xs ys : List A) → xs ++ ys ≡ [] → ys ≡ []
-  back_nil [] ys e = e
-  back_nil (x ∷ xs) ys e = let bad : x ∷ (xs ++ ys) ≡ [] = e in cc
+  back_nil xs ys e = (nil_parts xs ys (sym e)).1
 
   pub split_item : (xs : List A) (i : ℕ) (x : A) → i < length xs → x ≡ get_or xs i x → xs ≡ take i xs ++ x ∷ drop (i + 1) xs
   split_item xs i x h at = sym (take-append-drop i xs) ∙ ap (λ k. take i xs ++ k) (drop_item xs i x h at)
