@@ -17,6 +17,7 @@ use Rattle.mh_kernels.specs.Kernels.{Holds}
 use Rattle.mh_knuth.specs.Canonical.{HasItem, targets_of}
 use Rattle.mh_knuth.specs.Found.{AreEdges}
 use Rattle.mh_kernels.specs.Collection.{IsBehindDot, IsMove}
+use Rattle.mh_grammar.proofs.EdgeOrder.{same_is}
 use Rattle.mh_grammar.proofs.Lists.{contains_cases, contains_none, at_drop}
 use Rattle.mh_knuth.proofs.Sets.{same_trans, same_sym, has_same, moved_same}
 
