@@ -10,6 +10,7 @@ use Rattle.mh_grammar.specs.declared.types.Symbol.TheVariants.{T, N}
 use Rattle.mh_tables.specs.declared.parts.Action.TheVariants as actions
 use Rattle.mh_tables.specs.Table.{TableData, edge_of, cell_of, state_at}
 use Rattle.mh_grammar.specs.Plain.{rhs_of, lhs_of}
+use Rattle.mh_grammar.proofs.Lists.{recursion-append, recursion-push}
 use Rattle.mh_tables.specs.Facts.{Facts}
 use Rattle.mh_tables.specs.Run.{Config, Refuses, Shifts, Reduces, move_of, top_of, reduce, step, Goes, goes_to, after}
 use Rattle.mh_tables.specs.Failing.{Fails}
@@ -192,10 +193,6 @@ shift_known t f s x j lt move =
       | inr le ↦ absurd (shift_cell t s x j (let row = f.ranges.each_row s lt in omega arith) (shifts_from_move t s x [] j move))
     ]
 
-all_append : (P : ℕ → Type 0) (u v : List ℕ) → AllByRecursion P u → AllByRecursion P v → AllByRecursion P (u ++ v)
-all_append P [] v a b = b
-all_append P (x ∷ u) v a b = (a.0, all_append P u v a.1 b)
-
 -- known states and tokens
 pub record Known (t : TableData) (v : List ℕ) (s : ℕ) : Type 0 where
   pub state : s < length t.states
@@ -204,7 +201,7 @@ pub record Known (t : TableData) (v : List ℕ) (s : ℕ) : Type 0 where
 known_shift : (t : TableData) (f : Facts t) (v w : List ℕ) (s x j : ℕ) → Known t v s → move_of t s (x ∷ []) ≡ Shifts j → w ≡ v ++ x ∷ [] → Known t w j
 known_shift t f v w s x j k move word = record {
   state = f.each_target s (T x) j (f.shifts s x j (shifts_from_move t s x [] j move));
-  tokens = rw word (all_append (λ z. z < t.grammar.tokens) v (x ∷ []) k.tokens (shift_known t f s x j k.state move, tt));
+  tokens = rw word (recursion-push (λ (z : ℕ). z < t.grammar.tokens) v x k.tokens (shift_known t f s x j k.state move));
 }
 
 pub derives_known : (t : TableData) (f : Facts t) (r p d a z : ℕ) (v : List ℕ) (s : ℕ) → r < length t.states → Derives t r p d a z v s → Known t v s
@@ -213,7 +210,7 @@ derives_known t f r p d a z w j lt (rules.Derives.Shifted {d = d0} {x = x} {s = 
 derives_known t f r p d a z w g lt (rules.Derives.Reduced {d = d0} {y = y} {s = s} {e = e} {u = u} {v = v} q h symbol inner move edge word) =
     let one = derives_known t f r p d0 a y u s lt h in
     let two = derives_known t f s q (length (rhs_of t.grammar q)) y z v e one.state inner in
-    record { state = f.each_target s (N (lhs_of t.grammar q)) g edge; tokens = rw word (all_append (λ z. z < t.grammar.tokens) u v one.tokens two.tokens) }
+    record { state = f.each_target s (N (lhs_of t.grammar q)) g edge; tokens = rw word (recursion-append (λ (z : ℕ). z < t.grammar.tokens) u v one.tokens two.tokens) }
 
 pub reaches_known : (t : TableData) (f : Facts t) (i s z : ℕ) (v : List ℕ) → i < length t.grammar.starts → Reaches t i s z v → Known t v s
 reaches_known t f i s z v lt rules.Reaches.Begins = record { state = let l = f.enough_states in omega arith; tokens = tt }
@@ -221,7 +218,7 @@ reaches_known t f i j z w lt (rules.Reaches.Steps {s = s} {y = y} {v = v} h move
 reaches_known t f i g z w lt (rules.Reaches.Goes {s = s} {y = y} {e = e} {u = u} {v = v} q h inner move edge word) =
     let one = reaches_known t f i s y u lt h in
     let two = derives_known t f s q (length (rhs_of t.grammar q)) y z v e one.state inner in
-    record { state = f.each_target s (N (lhs_of t.grammar q)) g edge; tokens = rw word (all_append (λ z. z < t.grammar.tokens) u v one.tokens two.tokens) }
+    record { state = f.each_target s (N (lhs_of t.grammar q)) g edge; tokens = rw word (recursion-append (λ (z : ℕ). z < t.grammar.tokens) u v one.tokens two.tokens) }
 
 -- What the search's rules say is refused fails.
 pub refused_fails : (t : TableData) (f : Facts t) (i : ℕ) (w : List ℕ) (s : ℕ) → Refused t i w s → Fails t i w s
@@ -231,7 +228,7 @@ refused_fails t f i w s h =
     let len : length w ≡ length h.before + 1 = length_more w h.before h.last h.word in
     let one : length w - 1 ≡ length h.before = omega arith in
     record {
-      sentence = record { known = h.start; tokens = rw h.word (all_append (λ z. z < t.grammar.tokens) h.before (h.last ∷ []) k.tokens (h.known, tt)) };
+      sentence = record { known = h.start; tokens = rw h.word (recursion-push (λ (z : ℕ). z < t.grammar.tokens) h.before h.last k.tokens h.known) };
       some_token = omega arith;
       verdict = (ran.steps, rw (one, h.word) (rw ran.stands (step_moves t (at ran.stack (length h.before) (h.last ∷ [])) Refuses (rw ran.top h.refuses) ∙ rw ran.top refl)));
     }
