@@ -1,10 +1,11 @@
 -- Tokens that go alike in all reductions, and rows state by state.
-use Rattle.std.proofs.Common.{◌≡◌, ℕ, zero, suc, ◌<◌, ◌≤◌, ◌+◌, inl, inr, List, [], ◌∷◌, ◌++◌, length, Some, None, refl, ap, sym, arith, ◌∙◌, length-append, get_or}
+use Rattle.std.proofs.Common.{◌≡◌, ℕ, zero, suc, ◌<◌, ◌≤◌, ◌+◌, inl, inr, List, [], ◌∷◌, ◌++◌, length, Some, refl, ap, sym, arith, ◌∙◌, length-append}
 use Rattle.std.specs.Prelude.{slice_get, Bool, true, false, nat_eq, IsTrue, ◌↔◌}
 use Rattle.std.proofs.lemmas.Grind.{common_steps}
 use Rattle.std.specs.List.{Contains}
 use Rattle.std.specs.Global.{Vec}
 use Rattle.std.proofs.lemmas.Bool.{cases_lt}
+use Rattle.std.proofs.lemmas.Option.{slice_get-get_or}
 use Rattle.mh_tables.specs.Table.{TableData}
 use Rattle.mh_tables.specs.Facts.{Facts}
 use Rattle.mh_tables.specs.Run.{Reduces, move_of}
@@ -27,13 +28,8 @@ use Rattle.mh_past.proofs.Rowed.{row_higher}
 abbrev pub AlikeTo : TableData → Classes → List Reduction → ℕ → Type 0
 AlikeTo t c past n = (i : ℕ) (r : Reduction) → i < n → slice_get past i ≡ Some r → AreAlike t c r t.grammar.tokens
 
-get_at : {X : Type 0} (xs : List X) (n : ℕ) (d : X) → n < length xs → slice_get xs n ≡ Some (get_or xs n d)
-get_at [] n d lt = absurd (omega arith)
-get_at (x ∷ xs) zero d lt = refl
-get_at (x ∷ xs) (suc n) d lt = get_at xs n d (omega arith)
-
 get_of : {X : Type 0} (xs : List X) (x : X) → Contains xs x → (i : ℕ) × (i < length xs) × (slice_get xs i ≡ Some x)
-get_of xs x h = (h.0, h.1, get_at xs h.0 x h.1 ∙ ap Some h.2)
+get_of xs x h = (h.0, h.1, slice_get-get_or xs h.0 x h.1 ∙ ap Some h.2)
 
 pub alike_next : (t : TableData) (c : Classes) (past : List Reduction) (n : ℕ) (r : Reduction) → slice_get past n ≡ Some r → AreAlike t c r t.grammar.tokens → AlikeTo t c past n → AlikeTo t c past (n + 1)
 alike_next t c past n r e a h i q lt is = elim (cases_lt i n) [
@@ -101,8 +97,3 @@ alike_by t c r z other here same false false is t_is b_is h s e =
 
 pub alike_more : (t : TableData) (c : Classes) (r : Reduction) (n : ℕ) → AreAlike t c r n → IsAlike t c r n → AreAlike t c r (n + 1)
 alike_more t c r n h one z lt = elim (cases_lt z n) [ inl less ↦ h z less | inr ge ↦ (let is : z ≡ n = omega arith in rw is one) ]
-
-pub contains_of : {X : Type 0} (xs : List X) (n : ℕ) (x : X) → slice_get xs n ≡ Some x → Contains xs x
-contains_of [] n x e = absurd (let y : None ≡ Some x = e in cc)
-contains_of (y ∷ xs) zero x e = (0, omega arith, (let z : Some y ≡ Some x = e in let w : y ≡ x = cc in w))
-contains_of (y ∷ xs) (suc n) x e = let r = contains_of xs n x e in (suc r.0, (let l = r.1 in omega arith), r.2)

@@ -1,8 +1,9 @@
 -- Rows of classes make a partition.
-use Rattle.std.proofs.Common.{◌≡◌, ℕ, zero, suc, ◌<◌, ◌≤◌, inl, inr, List, [], ◌∷◌, length, Some, None, refl, ap, arith, ◌∙◌}
+use Rattle.std.proofs.Common.{◌≡◌, ℕ, ◌<◌, ◌≤◌, inl, inr, List, [], length, Some, None, refl, ap, arith, ◌∙◌}
 use Rattle.std.specs.Prelude.{slice_get, Result, Ok, Err, IfOk}
 use Rattle.std.specs.Global.{Vec}
 use Rattle.std.proofs.lemmas.Bool.{cases_lt}
+use Rattle.mh_grammar.proofs.Lists.{has_place, contains_none}
 use Rattle.mh_tables.specs.Table.{TableData}
 use Rattle.mh_least.specs.Least.{GoesLike}
 use Rattle.mh_ways.specs.declared.classes.Class.{Class}
@@ -10,17 +11,7 @@ use Rattle.mh_ways.specs.declared.classes.Classes.{Classes}
 use Rattle.mh_ways.specs.Rows.{row_of}
 use Rattle.mh_ways.specs.Classes.{class_in, rep_of, place_of, list_at, IsClasses}
 use Rattle.mh_past.specs.Classing.{IsRow, IsPartition, AreTokens}
-use Rattle.mh_ways.proofs.Rowing.{row_past, none_in}
-
-get_some : {X : Type 0} (xs : List X) (n : ℕ) → n < length xs → (x : X) × (slice_get xs n ≡ Some x)
-get_some [] n lt = absurd (omega arith)
-get_some (x ∷ xs) zero lt = (x, refl)
-get_some (x ∷ xs) (suc n) lt = get_some xs n (omega arith)
-
-get_none : {X : Type 0} (xs : List X) (n : ℕ) → length xs ≤ n → slice_get xs n ≡ None
-get_none [] n le = refl
-get_none (x ∷ xs) zero le = absurd (omega arith)
-get_none (x ∷ xs) (suc n) le = get_none xs n (omega arith)
+use Rattle.mh_ways.proofs.Rowing.{row_past}
 
 -- the rows of the states below n
 pub record NumberedTo (t : TableData) (none : Type 0) (rows : List (Vec Class)) (lists : List (Vec ℕ)) (n places : ℕ) : Type 0 where
@@ -42,7 +33,7 @@ module _ (t : TableData) (none : Type 0) (c : Classes) (h : NumberedTo t none c.
   rep_past s z e = rw e refl
 
   class_there : (s z : ℕ) → s < length t.states → z < t.grammar.tokens → (k : Class) × (class_in c s z ≡ Some k)
-  class_there s z s_lt z_lt = let r = h.each s s_lt in let l = r.2.long in get_some (row_of c.rows.items s) z (omega arith)
+  class_there s z s_lt z_lt = let r = h.each s s_lt in let l = r.2.long in has_place (row_of c.rows.items s) z (omega arith)
 
   class_past : (s z : ℕ) → length t.states ≤ s → class_in c s z ≡ None
   class_past s z le =
@@ -75,7 +66,7 @@ module _ (t : TableData) (none : Type 0) (c : Classes) (h : NumberedTo t none c.
           let n = r.2.each x a.0 a.1 in
           let own : rep_of c s x ≡ x = rep_is s x a.0 a.1 ∙ a.2 in
           ((let l = n.0 in let e = a.2 in omega arith), own))
-      | inr past ↦ absurd (let e = list_past s past in none_in (list_at c s) x e there)
+      | inr past ↦ absurd (contains_none x (rw (list_past s past) at there))
     ];
   }
 

@@ -1,27 +1,10 @@
 -- Classes of one state, token by token.
-use Rattle.std.proofs.Common.{◌≡◌, ℕ, zero, suc, ◌<◌, ◌≤◌, ◌+◌, ◌⊎◌, inl, inr, List, [], ◌∷◌, ◌++◌, length, Some, None, refl, ap, sym, arith, ◌∙◌, length-append}
+use Rattle.std.proofs.Common.{◌≡◌, ℕ, ◌<◌, ◌≤◌, ◌+◌, inl, inr, List, [], ◌∷◌, ◌++◌, length, Some, None, refl, sym, arith, ◌∙◌, length-append}
 use Rattle.std.specs.Prelude.{slice_get}
+use Rattle.std.proofs.lemmas.List.Elements.{Contains-append_left}
+use Rattle.mh_grammar.proofs.Lists.{get_left, get_last, get_cases, contains_last, contains_push}
 use Rattle.mh_ways.specs.declared.classes.Class.{Class}
 use Rattle.mh_past.specs.Classing.{ClassOk, Stands, IsClassFor, IsRow}
-use Rattle.mh_ways.proofs.Rowing.{contains_front, contains_last, contains_either}
-
-get_front : {X : Type 0} (xs : List X) (y : X) (n : ℕ) (x : X) → slice_get xs n ≡ Some x → slice_get (xs ++ y ∷ []) n ≡ Some x
-get_front [] y n x e = absurd (let z : None ≡ Some x = e in cc)
-get_front (w ∷ xs) y zero x e = e
-get_front (w ∷ xs) y (suc n) x e = get_front xs y n x e
-
-get_last : {X : Type 0} (xs : List X) (y : X) → slice_get (xs ++ y ∷ []) (length xs) ≡ Some y
-get_last [] y = refl
-get_last (w ∷ xs) y = get_last xs y
-
-get_last_at : {X : Type 0} (xs : List X) (y : X) (n : ℕ) → n ≡ length xs → slice_get (xs ++ y ∷ []) n ≡ Some y
-get_last_at xs y n e = ap (λ (m : ℕ). slice_get (xs ++ y ∷ []) m) e ∙ get_last xs y
-
-get_either : {X : Type 0} (xs : List X) (y : X) (n : ℕ) (x : X) → slice_get (xs ++ y ∷ []) n ≡ Some x → (slice_get xs n ≡ Some x) ⊎ ((n ≡ length xs) × (x ≡ y))
-get_either [] y zero x e = inr (refl, (let z : Some y ≡ Some x = e in cc))
-get_either [] y (suc n) x e = absurd (let z : None ≡ Some x = e in cc)
-get_either (w ∷ xs) y zero x e = inl e
-get_either (w ∷ xs) y (suc n) x e = elim (get_either xs y n x e) [ inl h ↦ inl h | inr h ↦ inr (ap suc h.0, h.1) ]
 
 pub row_begins : (given : List ℕ) (count : ℕ) → IsRow 0 given [] [] count
 row_begins given count = record {
@@ -51,18 +34,18 @@ module _ (z : ℕ) (given : List ℕ) (row : List Class) (list : List ℕ) (old 
 
   itself : (o : Class) × (slice_get (row ++ k ∷ []) k.representative ≡ Some o) × (o.representative ≡ k.representative)
   itself = elim one.itself [
-    | inl is ↦ (k, get_last_at row k k.representative (is ∙ sym h.long), refl)
-    | inr there ↦ (there.0, get_front row k k.representative there.0 there.1, there.2)
+    | inl is ↦ (k, get_last row k k.representative (is ∙ sym h.long), refl)
+    | inr there ↦ (there.0, get_left row (k ∷ []) k.representative there.0 there.1, there.2)
   ]
 
   each_more : (n : ℕ) (o : Class) → slice_get (row ++ k ∷ []) n ≡ Some o → (o.representative < z + 1) × (o.place < new) × ((p : Class) × (slice_get (row ++ k ∷ []) o.representative ≡ Some p) × (p.representative ≡ o.representative))
-  each_more n o e = elim (get_either row k n o e) [
-    | inl was ↦ (let a = h.each n o was in ((let x = a.0 in omega arith), (let p = a.1 in let g = ok.0 in omega arith), ((a.2).0, get_front row k o.representative (a.2).0 (a.2).1, (a.2).2)))
+  each_more n o e = elim (get_cases row k n o e) [
+    | inl was ↦ (let a = h.each n o was in ((let x = a.0 in omega arith), (let p = a.1 in let g = ok.0 in omega arith), ((a.2).0, get_left row (k ∷ []) o.representative (a.2).0 (a.2).1, (a.2).2)))
     | inr is ↦ rw is.1 ((let x = one.known in omega arith), one.placed, itself)
   ]
 
   nothing_more : given ≡ [] → (n : ℕ) (o : Class) → slice_get (row ++ k ∷ []) n ≡ Some o → o.representative ≡ n
-  nothing_more none n o e = elim (get_either row k n o e) [
+  nothing_more none n o e = elim (get_cases row k n o e) [
     | inl was ↦ h.nothing none n o was
     | inr is ↦ rw is.1 (one.nothing none ∙ sym h.long ∙ sym is.0)
   ]
@@ -73,10 +56,10 @@ module _ (z : ℕ) (given : List ℕ) (row : List Class) (list : List ℕ) (old 
     long = long_more;
     each = each_more;
     nothing = nothing_more;
-    list_all = λ n o e. elim (get_either row k n o e) [ inl was ↦ contains_front list z o.representative (h.list_all n o was) | inr is ↦ rw (is.1, own) (contains_last list z) ];
-    list_only = λ x there. elim (contains_either list z x there) [
-      | inl was ↦ (let a = h.list_only x was in (a.0, get_front row k x a.0 a.1, a.2))
-      | inr is ↦ (k, get_last_at row k x (is ∙ sym h.long), own ∙ sym is)
+    list_all = λ n o e. elim (get_cases row k n o e) [ inl was ↦ Contains-append_left list (z ∷ []) o.representative (h.list_all n o was) | inr is ↦ rw (is.1, own) (contains_last list z) ];
+    list_only = λ x there. elim (contains_push list z x there) [
+      | inl was ↦ (let a = h.list_only x was in (a.0, get_left row (k ∷ []) x a.0 a.1, a.2))
+      | inr is ↦ (k, get_last row k x (is ∙ sym h.long), own ∙ sym is)
     ];
   }
 
@@ -86,11 +69,11 @@ module _ (z : ℕ) (given : List ℕ) (row : List Class) (list : List ℕ) (old 
     long = long_more;
     each = each_more;
     nothing = nothing_more;
-    list_all = λ n o e. elim (get_either row k n o e) [
+    list_all = λ n o e. elim (get_cases row k n o e) [
       | inl was ↦ h.list_all n o was
       | inr is ↦ elim one.itself [ inl own ↦ absurd (other own) | inr there ↦ (let l = h.list_all k.representative there.0 there.1 in rw is.1 (rw there.2 at l)) ]
     ];
-    list_only = λ x there. (let a = h.list_only x there in (a.0, get_front row k x a.0 a.1, a.2));
+    list_only = λ x there. (let a = h.list_only x there in (a.0, get_left row (k ∷ []) x a.0 a.1, a.2));
   }
 
 pub class_follows : (row : List Class) (given : List ℕ) (z count : ℕ) (k : Class) → length row ≡ z → Stands row k → (given ≡ [] → ⊥) → IsClassFor row given z count count k

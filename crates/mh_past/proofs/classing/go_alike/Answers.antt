@@ -1,17 +1,18 @@
 use Rattle.std.proofs.Common.{◌≡◌, arith, refl, length, sym, Some}
 use Rattle.std.specs.Prelude.{slice_get}
-use Rattle.mh_past.proofs.Alike.{alike_next, alike_all, contains_of}
+use Rattle.mh_grammar.proofs.Lists.{contains_at}
+use Rattle.mh_past.proofs.Alike.{alike_next, alike_all}
 use Rattle.mh_past.proofs.classing.go_alike.Goals as goal
 
 pub goes_alike-requires-clause-end : goal.goes_alike-requires-clause-end
 goes_alike-requires-clause-end c =
     let there : slice_get c.args.past.now.keys c.loop-place.place ≡ Some c.in-Some.reduction.now = sym c.in-Some.ensures.key in
-    (c.requires.past.known c.in-Some.reduction.now (contains_of c.args.past.now.keys c.loop-place.place c.in-Some.reduction.now there)).0
+    (c.requires.past.known c.in-Some.reduction.now (contains_at c.args.past.now.keys c.loop-place.place c.in-Some.reduction.now there)).0
 
 pub goes_alike-requires-clause-target : goal.goes_alike-requires-clause-target
 goes_alike-requires-clause-target c =
     let there : slice_get c.args.past.now.keys c.loop-place.place ≡ Some c.in-Some.reduction.now = sym c.in-Some.ensures.key in
-    (c.requires.past.known c.in-Some.reduction.now (contains_of c.args.past.now.keys c.loop-place.place c.in-Some.reduction.now there)).1
+    (c.requires.past.known c.in-Some.reduction.now (contains_at c.args.past.now.keys c.loop-place.place c.in-Some.reduction.now there)).1
 
 pub loop-place-preserved : goal.loop-place-preserved
 loop-place-preserved c =
