@@ -5,6 +5,7 @@ use Rattle.std.specs.List.{Contains}
 use Rattle.std.specs.Global.{Vec}
 use Rattle.std.proofs.lemmas.Bool.{cases_lt}
 use Rattle.mh_grammar.specs.declared.types.Symbol.TheVariants.{T, N}
+use Rattle.mh_grammar.proofs.Lists.{contains_none}
 use Rattle.mh_tables.specs.Table.{TableData, edge_of, cost_of_token}
 use Rattle.mh_tables.specs.Facts.{Facts}
 use Rattle.mh_tables.specs.Run.{Shifts, move_of}
@@ -30,7 +31,7 @@ use Rattle.mh_found.specs.Found.{WaysIn, WholeOk}
 use Rattle.mh_spots.specs.Spots.{NoLaterAt, Spots, spot, Journey, LabelBy, HasArrived, Arrived, labels_at}
 use Rattle.mh_arrivals.specs.Arriving.{NoLaterBy, StepsAlong, StepsShift, StepsWay, GoesOn, Starts, ComingOk, Waiting, PendingAt, GoodAt, InOrderAt, ComesNext}
 use Rattle.mh_words.specs.Rising.{Rises}
-use Rattle.mh_ways.proofs.Rowing.{none_in, row_past}
+use Rattle.mh_ways.proofs.Rowing.{row_past}
 use Rattle.mh_ways.proofs.Wording.{some_is, capped_one, capped_both, min_cap, no_lower}
 use Rattle.mh_ways.proofs.Keyed.{at_cases}
 use Rattle.mh_spots.proofs.Spots.{label_one, spot_keys}
@@ -46,8 +47,8 @@ arrival_for level i = record { cost = level; step = i.step }
 
 -- nothing waits with a cost that has no bucket
 pub none_over : (q : Comings) (level cost : ℕ) (o : Coming) → length q ≤ level → level ≤ cost → Waiting q level [] cost o → ⊥
-none_over q level cost o over low (inl there) = none_in _ o (row_past q cost (omega arith)) there
-none_over q level cost o over low (inr beside) = none_in [] o refl beside.1
+none_over q level cost o over low (inl there) = contains_none o (rw (row_past q cost (omega arith)) at there)
+none_over q level cost o over low (inr beside) = contains_none o beside.1
 
 module _ (t : TableData) (f : Facts t) (c : Classes) (cls : IsClasses t c) (words : FactKey → Option (List ℕ)) (work : Work) (ways_ok : (n : ℕ) (w : Whole) → Contains (wholes_at work n) w → WholeOk t (rep_of c) words cap w) where
   abbrev rep : ℕ → ℕ → ℕ

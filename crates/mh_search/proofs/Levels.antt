@@ -3,6 +3,7 @@ use Rattle.std.proofs.Common.{◌≡◌, ℕ, zero, suc, drop, Some, None, ◌+�
 use Rattle.std.specs.Prelude.{slice_get}
 use Rattle.std.specs.List.{Contains}
 use Rattle.std.proofs.lemmas.Bool.{cases_lt}
+use Rattle.mh_grammar.proofs.Lists.{contains_there, contains_none}
 use Rattle.mh_tables.specs.Table.{TableData}
 use Rattle.mh_tables.specs.Facts.{Facts}
 use Rattle.mh_facts.specs.declared.store.FactKey.{FactKey}
@@ -18,12 +19,8 @@ use Rattle.mh_ways.specs.Rules.{queue_of}
 use Rattle.mh_ways.specs.Tales.{NoLater, WordBy}
 use Rattle.mh_search.specs.Good.{IsDone, NoneIsNext, InQueue, Waiting, ItemOk, Good, IsRising, InOrder, LevelReady, AllTaken}
 use Rattle.mh_found.proofs.Queueing.{moves_taken, moves_sorted, moves_pushed, moves_drained, moves_higher, above}
-use Rattle.mh_search.proofs.Taking.{in_more}
 use Rattle.mh_ways.proofs.Wording.{word_one, order_laws, cheaper, over}
 use Rattle.mh_search.proofs.Turns.{SameBeside, good_moves}
-
-pub none_in : {X : Type 0} (x : X) → Contains [] x → ⊥
-none_in x h = let l = h.1 in omega arith
 
 module _ (t : TableData) (f : Facts t) (c : Classes) (cls : IsClasses t c) (facts : Stored) (old : Work) (level : ℕ) where
   -- what waited with the level's cost waits beside the queue
@@ -42,11 +39,11 @@ module _ (t : TableData) (f : Facts t) (c : Classes) (cls : IsClasses t c) (fact
   rises_over words top (y ∷ ys) each = (
     λ o u v there by by'.
         let a = each y (0, omega arith, refl) in
-        let b = each o (in_more y ys o there) in
+        let b = each o (contains_there y ys o there) in
         let e : u ≡ a.word = word_one t words y.key y.back u a.word by a.by in
         let g : v ≡ b.word = word_one t words o.key o.back v b.word by' b.by in
         rw (e, g) (over t a.word b.word (sym top ∙ a.cost_is) (sym top ∙ b.cost_is)),
-    rises_over words top ys (λ o there. each o (in_more y ys o there)),
+    rises_over words top ys (λ o there. each o (contains_there y ys o there)),
   )
 
   -- the next item goes into the queue
@@ -127,7 +124,7 @@ module _ (t : TableData) (f : Facts t) (c : Classes) (cls : IsClasses t c) (fact
 
       waits : (cost : ℕ) (i : Item) → Waiting old level [] cost i → Waiting old (level + 1) [] cost i
       waits cost i (inl there) = inl there
-      waits cost i (inr beside) = absurd (none_in i beside.1)
+      waits cost i (inr beside) = absurd (contains_none i beside.1)
 
       next : {k : FactKey} {u : List ℕ} → Pending (NoLater t) ready.good.tale.words (InQueue t ready.good.tale.words (Waiting old level [])) k u → Pending (NoLater t) ready.good.tale.words (InQueue t ready.good.tale.words (Waiting old (level + 1) [])) k u
       next (inl held) = inl held

@@ -9,7 +9,7 @@ use Rattle.std.proofs.lemmas.Grind.{common_steps}
 use Rattle.std.proofs.lemmas.List.{length_push}
 use Rattle.std.proofs.lemmas.List.Sorted.{Contains-permutation, IsPermutation-sym}
 use Rattle.std.proofs.lemmas.Option.{slice_get_within}
-use Rattle.mh_grammar.proofs.Lists.{get_cases, same_at, has_place, at_contains, contains_at, contains_map, map_contains}
+use Rattle.mh_grammar.proofs.Lists.{get_cases, same_at, has_place, at_contains, contains_at, contains_there, contains_map, map_contains}
 use Rattle.mh_tables.specs.Table.{TableData}
 use Rattle.mh_tables.specs.Facts.{Facts}
 use Rattle.mh_facts.specs.declared.store.FactKey.{FactKey}
@@ -30,7 +30,6 @@ use Rattle.mh_search.specs.Good.{NextIs, NoneIsNext, ItemOk, Good, IsRising, All
 use Rattle.mh_found.specs.Numbers.{StandsFor, IsNumbered}
 use Rattle.mh_search.specs.Numbering.{AreToNumber, AreNumbered}
 use Rattle.mh_search.specs.Ranking.{ArePaired, unranked, IsRanked, AreRanked, BeforeLevel, InLevel, InTurn}
-use Rattle.mh_search.proofs.Taking.{in_more}
 use Rattle.mh_ways.proofs.Wording.{word_one, word_kept, words_kept, words_here, words_only}
 use Rattle.mh_search.proofs.Turns.{SameBeside, good_moves, fact_of, later, turn_good, turn_settles, follow_same, search_begins}
 use Rattle.mh_search.proofs.Levels.{level_taken, level_sorted, level_pushed, level_drained, level_done, rises_over}
@@ -78,13 +77,13 @@ module _ (t : TableData) (c : Classes) (words : FactKey → Option (List ℕ)) (
         let q = map_contains (λ (r : Ranked). r.item) rs o there in
         let place = q.1 in
         let a = each r.item (0, omega arith, refl) in
-        let b = each o (in_more r.item (unranked rs) o there) in
+        let b = each o (contains_there r.item (unranked rs) o there) in
         let e : u ≡ a.word = word_one t words r.item.key r.item.back u a.word by a.by in
         let g : v ≡ b.word = word_one t words o.key o.back v b.word by' b.by in
         let b_by : WordBy t words q.0.item.key q.0.item.back b.word = rw q.2 b.by in
         let le : r.word ≤ q.0.word = (let at : get_or rs place.0 q.0 ≡ q.0 = place.2 in let w : r.word ≤ (get_or rs place.0 q.0).word = up 0 (suc place.0) q.0 (omega arith) (let l = place.1 in omega arith) in rw at at w) in
-        rw (e, g) (no_later t book level r.word q.0.word a.word b.word is lt le (ranked lt r a.word (0, omega arith, refl) a.by) (ranked lt q.0 b.word (in_more r rs q.0 q.1) b_by) a.cost_is b.cost_is),
-    rising_ranked rs (λ i j d le l. up (suc i) (suc j) d (omega arith) (omega arith)) (λ o there. each o (in_more r.item (unranked rs) o there)) (λ l q u there by. ranked l q u (in_more r rs q there) by),
+        rw (e, g) (no_later t book level r.word q.0.word a.word b.word is lt le (ranked lt r a.word (0, omega arith, refl) a.by) (ranked lt q.0 b.word (contains_there r rs q.0 q.1) b_by) a.cost_is b.cost_is),
+    rising_ranked rs (λ i j d le l. up (suc i) (suc j) d (omega arith) (omega arith)) (λ o there. each o (contains_there r.item (unranked rs) o there)) (λ l q u there by. ranked l q u (contains_there r rs q there) by),
   )
 
 module _ (t : TableData) (f : Facts t) (c : Classes) (cls : IsClasses t c) (found : Found) (level : ℕ) (mid : Work) (all : List Item) (before : BeforeLevel t c found level) (same : SameBeside found.work mid) (taken : AllTaken found.store (queue_of found.work) (queue_of mid) level all) (le : level ≤ cap) where
@@ -145,7 +144,7 @@ module _ (t : TableData) (f : Facts t) (c : Classes) (cls : IsClasses t c) (foun
   ranked_pushed mid r rs h same gains = record {
     order = level_pushed t f c cls found.store found.work level mid r.item (unranked rs) h.ready same gains;
     numbered = h.numbered;
-    ranked = λ lt q u there by. h.ranked lt q u (in_more r rs q there) by;
+    ranked = λ lt q u there by. h.ranked lt q u (contains_there r rs q there) by;
     same = λ lt o u there by. elim (gains.only level o there) [
       | inl was ↦ absurd (h.ready.none o was)
       | inr is ↦ h.ranked lt r u (0, omega arith, refl) (rw is.1 at by)

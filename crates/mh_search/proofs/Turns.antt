@@ -42,7 +42,7 @@ use Rattle.mh_found.specs.Numbers.{IsNumbered}
 use Rattle.mh_search.specs.Ranking.{BeforeLevel}
 use Rattle.mh_ways.proofs.Wording.{word_kept, word_one, some_is, order_laws, over, free_part, free_word, no_lower, no_lower_back, told_more, new_words, words_kept, words_here, words_only}
 use Rattle.mh_search.proofs.Following.{shift_ok, join_ok, way_ok}
-use Rattle.mh_search.proofs.Taking.{in_more}
+use Rattle.mh_grammar.proofs.Lists.{contains_there}
 
 abbrev pub fact_of : ℕ → Item → Fact
 fact_of level i = record { cost = level; back = i.back }
@@ -73,11 +73,11 @@ rising_more t c words later level kept [] each h = tt
 rising_more t c words later level kept (x ∷ xs) each h = (
   λ o u v there by by'.
       let here = each x (0, omega arith, refl) in
-      let other = each o (in_more x xs o there) in
+      let other = each o (contains_there x xs o there) in
       let e : u ≡ here.word = word_one t later x.key x.back u here.word by (word_kept t words later x.key x.back here.word kept here.by) in
       let g : v ≡ other.word = word_one t later o.key o.back v other.word by' (word_kept t words later o.key o.back other.word kept other.by) in
       rw (e, g) (h.0 o here.word other.word there here.by other.by),
-  rising_more t c words later level kept xs (λ o there. each o (in_more x xs o there)) h.1,
+  rising_more t c words later level kept xs (λ o there. each o (contains_there x xs o there)) h.1,
 )
 
 -- the parts of a work but for its queue
