@@ -1,8 +1,9 @@
 -- Edges of a state, one by one.
-use Rattle.std.proofs.Common.{◌≡◌, ℕ, zero, suc, ◌<◌, ◌-◌, get_or, nat_lt, List, [], ◌∷◌, Bool, true, false, cond, length, Some, None, Option, refl, arith}
+use Rattle.std.proofs.Common.{◌≡◌, ℕ, zero, suc, ◌<◌, ◌-◌, nat_lt, List, [], ◌∷◌, Bool, true, false, cond, length, Some, None, Option, refl, arith}
 use Rattle.std.specs.Prelude.{slice_get, slice_index, if◌then◌else◌}
 use Rattle.std.specs.Option.{option_map, unwrap_or}
-use Rattle.std.specs.List.{Contains, All}
+use Rattle.std.specs.List.{Contains}
+use Rattle.std.proofs.lemmas.List.Elements.{All-contains}
 use Rattle.mh_grammar.specs.declared.types.Production.{Production}
 use Rattle.mh_grammar.specs.declared.types.Symbol.{Symbol}
 use Rattle.mh_grammar.specs.declared.types.Symbol.TheVariants.{T, N}
@@ -10,7 +11,7 @@ use Rattle.mh_grammar.specs.declared.edges.Edge.{Edge}
 use Rattle.mh_grammar.specs.Edges.{find_edge, same_symbol}
 use Rattle.mh_grammar.specs.Plain.{rhs_of, IsSymbolBelow, IsProductionBelow}
 use Rattle.mh_grammar.proofs.EdgeOrder.{edge_found, same_is}
-use Rattle.mh_grammar.proofs.Placing.{at_contains}
+use Rattle.mh_grammar.proofs.Lists.{at_contains, contains_at}
 use Rattle.mh_tables.specs.Table.{TableData, state_at, edge_of}
 use Rattle.mh_tables.specs.Facts.{Facts}
 use Rattle.mh_tables.specs.Run.{Shifts, move_of}
@@ -51,18 +52,6 @@ one_shift x y e = cc
 pub shift_target : (t : TableData) (f : Facts t) (s x end : ℕ) → move_of t s (x ∷ []) ≡ Shifts end → edge_of t s (T x) ≡ Some end
 shift_target t f s x end move = f.shifts s x end (shifts_from_move t s x [] end move)
 
-all_get : {X : Type 0} (P : X → Type 0) (xs : List X) (n : ℕ) (x : X) → All P xs → slice_get xs n ≡ Some x → P x
-all_get P [] n x h e = absurd (let y : None ≡ Some x = e in cc)
-all_get P (y ∷ xs) n x h e = by n e
-  where
-    get : {X : Type 0} (xs : List X) (n : ℕ) (x : X) → slice_get xs n ≡ Some x → (n < length xs) × (get_or xs n x ≡ x)
-    get [] n x e = absurd (let y : None ≡ Some x = e in cc)
-    get (y ∷ xs) zero x e = (omega arith, (let z : Some y ≡ Some x = e in cc))
-    get (y ∷ xs) (suc n) x e = let r = get xs n x e in ((let l = r.0 in omega arith), r.1)
-
-    by : (n : ℕ) → slice_get (y ∷ xs) n ≡ Some x → P x
-    by n e = let g = get (y ∷ xs) n x e in let p : P (get_or (y ∷ xs) n x) = h n x g.0 in rw g.1 at p
-
 -- a token of a right side is known
 pub symbol_token : (t : TableData) (f : Facts t) (p d z : ℕ) → slice_get (rhs_of t.grammar p) d ≡ Some (T z) → z < t.grammar.tokens
 unfolding rhs_of
@@ -75,8 +64,8 @@ symbol_token t f p d z e = by (nat_lt p (length t.grammar.starts)) e
     some : (o : Option Production) → slice_get t.grammar.productions (p - length t.grammar.starts) ≡ o → slice_get (unwrap_or (option_map (λ (q : Production). q.rhs) o) []) d ≡ Some (T z) → z < t.grammar.tokens
     some None g h = absurd (let y : None ≡ Some (T z) = h in cc)
     some (Some q) g h =
-        let ok = all_get (IsProductionBelow t.grammar.tokens t.grammar.nonterminals) t.grammar.productions (p - length t.grammar.starts) q f.ranges.grammar.productions g in
-        all_get (IsSymbolBelow t.grammar.tokens t.grammar.nonterminals) q.rhs d (T z) ok.rhs h
+        let ok = All-contains (IsProductionBelow t.grammar.tokens t.grammar.nonterminals) t.grammar.productions q f.ranges.grammar.productions (contains_at t.grammar.productions (p - length t.grammar.starts) q g) in
+        All-contains (IsSymbolBelow t.grammar.tokens t.grammar.nonterminals) q.rhs (T z) ok.rhs (contains_at q.rhs d (T z) h)
 
     by : (b : Bool) → slice_get (if b then N (slice_index t.grammar.starts p) ∷ [] else unwrap_or (option_map (λ (q : Production). q.rhs) (slice_get t.grammar.productions (p - length t.grammar.starts))) []) d ≡ Some (T z) → z < t.grammar.tokens
     by true h = absurd (one d (slice_index t.grammar.starts p) h)

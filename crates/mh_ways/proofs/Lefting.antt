@@ -4,17 +4,17 @@ use Rattle.std.specs.Prelude.{slice_get}
 use Rattle.mh_tables.specs.Facts.{Facts}
 use Rattle.std.proofs.lemmas.Bool.{cases_lt}
 use Rattle.mh_grammar.specs.Plain.{lhs_of, production_count}
+use Rattle.mh_grammar.proofs.Lists.{contains_none}
 use Rattle.mh_tables.specs.Table.{TableData}
 use Rattle.mh_ways.specs.declared.left.ByLeft.{ByLeft}
 use Rattle.mh_ways.specs.Rows.{row_of, Files}
 use Rattle.mh_ways.specs.Left.{IsByLeft, IsByLeftTo}
-use Rattle.mh_ways.proofs.Rowing.{none_in}
 
 pub left_begins : (t : TableData) (left : ByLeft) → length left.rows.items ≡ t.grammar.nonterminals → ((n : ℕ) → row_of left.rows.items n ≡ []) → IsByLeftTo t (length t.grammar.starts) left
 left_begins t left rows none = record {
   rows = rows;
   all = λ n p h lt. absurd (let o = h.ordinary in omega arith);
-  only = λ n p there. absurd (none_in _ p (none n) there);
+  only = λ n p there. absurd (contains_none p (rw (none n) at there));
 }
 
 pub left_goes : (t : TableData) (p : ℕ) (old new : ByLeft) → length t.grammar.starts ≤ p → p < production_count t.grammar → IsByLeftTo t p old → Files old.rows.items new.rows.items (lhs_of t.grammar p) p → IsByLeftTo t (p + 1) new

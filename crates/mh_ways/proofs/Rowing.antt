@@ -1,16 +1,12 @@
 -- Rows that are made and filled.
-use Rattle.std.proofs.Common.{◌≡◌, ℕ, zero, suc, ◌<◌, ◌≤◌, ◌+◌, ◌⊎◌, inl, inr, get_or, Option, Some, None, List, [], ◌∷◌, ◌++◌, length, refl, ap, sym, arith, ◌∙◌, length-append, true, false}
-use Rattle.std.proofs.lemmas.Bool.{cases_lt}
+use Rattle.std.proofs.Common.{◌≡◌, ℕ, zero, suc, ◌<◌, ◌≤◌, ◌+◌, inl, inr, get_or, Option, Some, None, List, [], ◌∷◌, ◌++◌, length, refl, ap, arith, ◌∙◌, length-append, true, false}
+use Rattle.std.proofs.lemmas.Bool.{cases_eq, cases_lt}
+use Rattle.std.proofs.lemmas.List.{length_push}
+use Rattle.std.proofs.lemmas.List.Elements.{Contains-append_left}
 use Rattle.std.specs.Prelude.{slice_set, option_to_list, IsSome}
 use Rattle.std.specs.Global.{Vec}
-use Rattle.std.specs.List.{Contains}
+use Rattle.mh_grammar.proofs.Lists.{contains_last, contains_none, contains_push}
 use Rattle.mh_ways.specs.Rows.{row_of, Files, Gains, IsOne, Taken, NoneTaken, Takes}
-
-pub same_or : (n k : ℕ) → (n ≡ k) ⊎ (n ≡ k → ⊥)
-same_or zero zero = inl refl
-same_or zero (suc k) = inr (λ e. omega arith)
-same_or (suc n) zero = inr (λ e. omega arith)
-same_or (suc n) (suc k) = elim (same_or n k) [ inl e ↦ inl (ap suc e) | inr ne ↦ inr (λ e. ne (omega arith)) ]
 
 module _ {X : Type 0} where
   -- an empty row behind rows
@@ -57,25 +53,6 @@ module _ {X : Type 0} where
   set_length (r ∷ rs) zero v = refl
   set_length (r ∷ rs) (suc n) v = ap suc (set_length rs n v)
 
-  pub contains_front : (xs : List X) (p q : X) → Contains xs q → Contains (xs ++ p ∷ []) q
-  contains_front [] p q h = absurd (let l = h.1 in omega arith)
-  contains_front (x ∷ xs) p q (zero, lt, e) = (zero, omega arith, e)
-  contains_front (x ∷ xs) p q (suc n, lt, e) = let r = contains_front xs p q (n, omega arith, e) in (suc r.0, (let l = r.1 in omega arith), r.2)
-
-  pub contains_last : (xs : List X) (p : X) → Contains (xs ++ p ∷ []) p
-  contains_last [] p = (0, omega arith, refl)
-  contains_last (x ∷ xs) p = let r = contains_last xs p in (suc r.0, (let l = r.1 in omega arith), r.2)
-
-  pub contains_either : (xs : List X) (p q : X) → Contains (xs ++ p ∷ []) q → Contains xs q ⊎ (q ≡ p)
-  contains_either [] p q (zero, lt, e) = inr (sym e)
-  contains_either [] p q (suc n, lt, e) = absurd (omega arith)
-  contains_either (x ∷ xs) p q (zero, lt, e) = inl (zero, omega arith, e)
-  contains_either (x ∷ xs) p q (suc n, lt, e) = elim (contains_either xs p q (n, omega arith, e)) [ inl h ↦ inl (suc h.0, (let l = h.1 in omega arith), h.2) | inr is ↦ inr is ]
-
-  pub none_in : (xs : List X) (p : X) → xs ≡ [] → Contains xs p → ⊥
-  none_in [] p e h = (let l = h.1 in omega arith)
-  none_in (x ∷ xs) p e h = absurd (let l : length (x ∷ xs) ≡ 0 = ap length e in omega arith)
-
   -- one row becomes v
   module _ (rs new : List (Vec X)) (k : ℕ) (d v : Vec X) (lt : k < length rs) (is : new ≡ slice_set rs k v) where
     row_at_set : row_of new k ≡ v.items
@@ -90,12 +67,12 @@ module _ {X : Type 0} where
         record {
           rows = ap length is ∙ set_length rs k v;
           here = rw here (contains_last (row_of rs k) p);
-          kept = λ n q h. elim (same_or n k) [
-            | inl e ↦ (let r : row_of new n ≡ row_of rs n ++ p ∷ [] = rw e here in rw r (contains_front (row_of rs n) p q h))
+          kept = λ n q h. elim (cases_eq n k) [
+            | inl e ↦ (let r : row_of new n ≡ row_of rs n ++ p ∷ [] = rw e here in rw r (Contains-append_left (row_of rs n) (p ∷ []) q h))
             | inr ne ↦ rw (row_beside n ne) h
           ];
-          only = λ n q h. elim (same_or n k) [
-            | inl e ↦ (let r : row_of new n ≡ row_of rs n ++ p ∷ [] = rw e here in elim (contains_either (row_of rs n) p q (rw r at h)) [ inl was ↦ inl was | inr is' ↦ inr (e, is') ])
+          only = λ n q h. elim (cases_eq n k) [
+            | inl e ↦ (let r : row_of new n ≡ row_of rs n ++ p ∷ [] = rw e here in elim (contains_push (row_of rs n) p q (rw r at h)) [ inl was ↦ inl was | inr is' ↦ inr (e, is') ])
             | inr ne ↦ inl (rw (row_beside n ne) at h)
           ];
         }
@@ -105,26 +82,22 @@ module _ {X : Type 0} where
         let was : row_of rs k ≡ v.items ++ p ∷ [] = row_is rs k d lt ∙ items in
         record {
           was = rw was (contains_last v.items p);
-          kept = λ n q h. elim (same_or n k) [
+          kept = λ n q h. elim (cases_eq n k) [
             | inl e ↦ (
                 let r : row_of rs n ≡ v.items ++ p ∷ [] = rw e was in
                 let r' : row_of new n ≡ v.items = rw e row_at_set in
-                elim (contains_either v.items p q (rw r at h)) [ inl still ↦ inl (rw r' still) | inr is' ↦ inr (e, is') ])
+                elim (contains_push v.items p q (rw r at h)) [ inl still ↦ inl (rw r' still) | inr is' ↦ inr (e, is') ])
             | inr ne ↦ inl (rw (row_beside n ne) h)
           ];
-          only = λ n q h. elim (same_or n k) [
+          only = λ n q h. elim (cases_eq n k) [
             | inl e ↦ (
                 let r : row_of rs n ≡ v.items ++ p ∷ [] = rw e was in
                 let r' : row_of new n ≡ v.items = rw e row_at_set in
-                rw r (contains_front v.items p q (rw r' at h)))
+                rw r (Contains-append_left v.items (p ∷ []) q (rw r' at h)))
             | inr ne ↦ rw (← row_beside n ne) h
           ];
-          fewer = (let l : length (row_of rs k) ≡ length v.items + 1 = ap length was ∙ length_last v.items p in let m : length (row_of new k) ≡ length v.items = ap length row_at_set in omega arith);
+          fewer = (let l : length (row_of rs k) ≡ length v.items + 1 = ap length was ∙ length_push v.items p in let m : length (row_of new k) ≡ length v.items = ap length row_at_set in omega arith);
         }
-      where
-        length_last : (xs : List X) (x : X) → length (xs ++ x ∷ []) ≡ length xs + 1
-        length_last [] x = refl
-        length_last (y ∷ xs) x = let l = length_last xs x in omega arith
 
   -- what is filed in a queue waits
   pub files_gain : (old mid new : List (Vec X)) (k : ℕ) (p : X) → ((n : ℕ) → row_of mid n ≡ row_of old n) → Files mid new k p → Gains (IsOne k p) old new
@@ -145,9 +118,9 @@ module _ {X : Type 0} where
       let was : row_of rs k ≡ [] = row_is rs k d lt ∙ items ∙ rw none refl in
       let now : row_of (slice_set rs k v) k ≡ [] = row_set_here rs k v lt ∙ none in
       record {
-        none = λ o h. none_in (row_of rs k) o was h;
-        kept = λ n o h. elim (same_or n k) [ inl e ↦ absurd (none_in (row_of rs k) o was (rw e at h)) | inr ne ↦ rw (row_set_other rs k n v ne) h ];
-        only = λ n o h. elim (same_or n k) [ inl e ↦ absurd (none_in (row_of (slice_set rs k v) k) o now (rw e at h)) | inr ne ↦ rw (row_set_other rs k n v ne) at h ];
+        none = λ o h. contains_none o (rw was at h);
+        kept = λ n o h. elim (cases_eq n k) [ inl e ↦ absurd (contains_none o (rw (e, was) at h)) | inr ne ↦ rw (row_set_other rs k n v ne) h ];
+        only = λ n o h. elim (cases_eq n k) [ inl e ↦ absurd (contains_none o (rw (e, now) at h)) | inr ne ↦ rw (row_set_other rs k n v ne) at h ];
       }
 
   -- what a row gives up: its last item, where it has one
