@@ -1,6 +1,6 @@
 -- The best way to fail in a state comes first of all.
-use Rattle.std.proofs.Common.{◌≡◌, ℕ, zero, suc, ◌+◌, ◌<◌, ◌≤◌, ◌⊎◌, inl, inr, List, [], ◌∷◌, ◌++◌, length, Some, None, Option, refl, ap, sym, subst, arith, length-append, ◌∙◌}
-use Rattle.std.specs.Prelude.{IfSome, min, slice_get}
+use Rattle.std.proofs.Common.{◌≡◌, ℕ, ◌+◌, ◌<◌, ◌≤◌, ◌⊎◌, inl, inr, List, [], ◌∷◌, ◌++◌, length, Some, None, Option, refl, ap, sym, subst, arith, length-append, ◌∙◌}
+use Rattle.std.specs.Prelude.{IfSome, min}
 use Rattle.std.specs.List.{AllByRecursion}
 use Rattle.std.proofs.lemmas.Grind.{common_steps}
 use Rattle.std.proofs.lemmas.Bool.{cases_lt}
@@ -15,6 +15,7 @@ use Rattle.mh_least.specs.Orders.{cap}
 use Rattle.mh_least.specs.Orders as orders
 use Rattle.mh_least.proofs.Least.{fails_candidate, closed_reached, candidate_fails}
 use Rattle.mh_least.proofs.Best.{closes_all_at}
+use Rattle.mh_grammar.proofs.Lists.{get_cases}
 use Rattle.mh_grammar.proofs.WordOrder.{lex_same}
 use Rattle.mh_ways.specs.declared.classes.Classes.{Classes}
 use Rattle.mh_found.specs.declared.found.Found.{Found}
@@ -200,14 +201,8 @@ least_cost t words labels s b h = (
 pub all_begin : (t : TableData) (c : Classes) (facts : Stored) (spots : Spots) → AreBest t c facts spots 0 []
 all_begin t c facts spots = record { long = refl; each = λ s b e. absurd (let y : None ≡ Some b = e in cc) }
 
-last_either : {X : Type 0} (xs : List X) (y : X) (n : ℕ) (x : X) → slice_get (xs ++ y ∷ []) n ≡ Some x → (slice_get xs n ≡ Some x) ⊎ ((n ≡ length xs) × (x ≡ y))
-last_either [] y zero x e = inr (refl, (let z : Some y ≡ Some x = e in cc))
-last_either [] y (suc n) x e = absurd (let z : None ≡ Some x = e in cc)
-last_either (w ∷ xs) y zero x e = inl e
-last_either (w ∷ xs) y (suc n) x e = elim (last_either xs y n x e) [ inl h ↦ inl h | inr h ↦ inr (ap suc h.0, h.1) ]
-
 pub all_goes : (t : TableData) (c : Classes) (facts : Stored) (spots : Spots) (n : ℕ) (best : List (Option Best)) (b : Option Best) → AreBest t c facts spots n best → BestBelow t c facts spots n t.grammar.tokens b → AreBest t c facts spots (n + 1) (best ++ b ∷ [])
 all_goes t c facts spots n best b h k = record {
   long = (let l = length-append best (b ∷ []) in let m = h.long in omega arith);
-  each = λ s o e. elim (last_either best b s o e) [ inl was ↦ h.each s o was | inr is ↦ (let at : s ≡ n = is.0 ∙ h.long in rw (at, is.1) k) ];
+  each = λ s o e. elim (get_cases best b s o e) [ inl was ↦ h.each s o was | inr is ↦ (let at : s ≡ n = is.0 ∙ h.long in rw (at, is.1) k) ];
 }
