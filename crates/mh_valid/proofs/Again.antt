@@ -1,7 +1,7 @@
 -- What is written of an automaton with its table is valid.
 use Rattle.std.proofs.Common.{◌≡◌, ◌<◌, ℕ, zero, suc, List, [], ◌∷◌, length, refl, sym, ap, ◌∙◌, subst, arith}
 use Rattle.std.specs.Prelude.{slice_index_or}
-use Rattle.std.specs.List.{AllByRecursion, Contains}
+use Rattle.std.specs.List.{Contains}
 use Rattle.mh_grammar.specs.declared.types.Symbol.{Symbol}
 use Rattle.mh_grammar.specs.declared.types.Look.{Look}
 use Rattle.mh_grammar.specs.declared.types.Look.TheVariants.{End}
@@ -9,6 +9,7 @@ use Rattle.mh_grammar.specs.declared.types.Grammar.{Grammar}
 use Rattle.mh_grammar.specs.declared.edges.Edge.{Edge}
 use Rattle.mh_grammar.specs.Plain.{plain_of}
 use Rattle.mh_grammar.specs.Edges.{IsRising, IsLookBefore}
+use Rattle.mh_grammar.proofs.Lists.{recursion_contains, recursion-from}
 use Rattle.mh_kernels.specs.Shapes.{KernelItem}
 use Rattle.mh_kernels.specs.Shapes.{Kernel}
 use Rattle.mh_kernels.specs.Shapes.{Automaton}
@@ -21,7 +22,7 @@ use Rattle.mh_cells.specs.States.{AreResolved}
 use Rattle.mh_tabform.specs.declared.types.RawState.{RawState}
 use Rattle.mh_valid.specs.Valid.{IsValidFor, AreEdgesAt, IsKernelAt, IsAtEnd, of_kernels, no_raw_state}
 use Rattle.mh_tabform.specs.Written.{raw_state_of, raw_states, raw_of}
-use Rattle.mh_valid.proofs.Giving.{moves_to, moves_from, all_contains}
+use Rattle.mh_valid.proofs.Giving.{moves_to, moves_from}
 
 state_at : (g : Grammar) (ks : List Kernel) (rows : List (List Edge)) (parts : List StateParts) → length rows ≡ length ks → length parts ≡ length ks → (s : ℕ) → s < length ks →
     slice_index_or (raw_states g ks rows parts) s no_raw_state ≡ raw_state_of g (slice_index_or ks s no_kernel) (slice_index_or rows s []) (slice_index_or parts s no_state)
@@ -37,10 +38,6 @@ states_count g (k ∷ ks) [] parts e f = absurd (omega (arith, e))
 states_count g (k ∷ ks) (row ∷ rows) [] e f = absurd (omega (arith, f))
 states_count g (k ∷ ks) (row ∷ rows) (p ∷ parts) e f = ap suc (states_count g ks rows parts (omega (arith, e)) (omega (arith, f)))
 
-all_from : {X : Type 0} (P : X → Type 0) (xs : List X) → ((x : X) → Contains xs x → P x) → AllByRecursion P xs
-all_from P [] h = tt
-all_from P (x ∷ xs) h = (h x (0, omega arith, refl), all_from P xs (λ z c. h z (suc c.0, omega (arith, c.1), c.2)))
-
 -- rising looks that are all the end are the end alone
 end_alone : (ls : List Look) → 0 < length ls → IsRising IsLookBefore ls → ((l : Look) → Contains ls l → l ≡ End) → ls ≡ End ∷ []
 end_alone [] some r h = absurd (omega (arith, some))
@@ -53,11 +50,11 @@ kernel_of_state g a h s known =
     record {
       kernel = h.each s known;
       filled = h.filled s known;
-      at_end = all_from (IsAtEnd g) items (λ item c low.
-          let k = all_contains (IsKernelItem (plain_of g)) items (h.each s known).items item c in
+      at_end = recursion-from (IsAtEnd g) items (λ item c low.
+          let k = recursion_contains (IsKernelItem (plain_of g)) items (h.each s known).items item c in
           end_alone item.looks k.some k.rising (λ l at. h.at_end s item.production item.dot l (item, c, refl, refl, at) low));
       start = λ low. h.starts s low;
-      moved = λ high. all_from (λ (i : KernelItem). 0 < i.dot) items (λ item c. h.moved s item.production item.dot high (item, c, refl, refl));
+      moved = λ high. recursion-from (λ (i : KernelItem). 0 < i.dot) items (λ item c. h.moved s item.production item.dot high (item, c, refl, refl));
     }
 
 target_to : (g : Grammar) (a : Automaton) (s : ℕ) (X : Symbol) (u : ℕ) → IsTarget (plain_of g) a s X u → IsTarget (plain_of g) (of_kernels a.kernels) s X u

@@ -1,15 +1,16 @@
 -- A valid file spells an automaton of the grammar.
 use Rattle.std.proofs.lemmas.List.{get_or_past}
 use Rattle.std.proofs.lemmas.Bool.{cases_lt}
-use Rattle.std.proofs.Common.{inl, inr, zero, suc, ◌≡◌, ◌<◌, ◌≤◌, ◌^◌, ℕ, List, [], ◌∷◌, length, sym, ap, ◌∙◌, subst, arith}
+use Rattle.std.proofs.Common.{inl, inr, ◌≡◌, ◌<◌, ◌≤◌, ◌^◌, ℕ, List, [], ◌∷◌, length, sym, ap, ◌∙◌, subst, arith}
 use Rattle.std.specs.Prelude.{slice_index_or, Some}
-use Rattle.std.specs.List.{AllByRecursion, Contains}
+use Rattle.std.specs.List.{Contains}
 use Rattle.mh_grammar.specs.declared.types.Symbol.{Symbol}
 use Rattle.mh_grammar.specs.declared.types.Look.{Look}
 use Rattle.mh_grammar.specs.declared.types.Look.TheVariants.{End}
 use Rattle.mh_grammar.specs.declared.types.Grammar.{Grammar}
 use Rattle.mh_grammar.specs.Plain.{plain_of}
 use Rattle.mh_grammar.specs.Edges.{find_edge}
+use Rattle.mh_grammar.proofs.Lists.{contains_none, contains_one, recursion_contains}
 use Rattle.mh_kernels.specs.Shapes.{KernelItem}
 use Rattle.mh_kernels.specs.Shapes.{Kernel}
 use Rattle.mh_kernels.specs.Shapes.{Automaton}
@@ -25,23 +26,6 @@ resolved_of g raw a parts v = record {
   count = v.count ∙ sym v.kernels.count;
   each = λ s h. (v.right s (subst (λ n. s < n) v.kernels.count h)).resolved;
 }
-
--- Places in lists.
-
-all_at : {X : Type 0} (P : X → Type 0) (xs : List X) → AllByRecursion P xs → (k : ℕ) (x : X) → k < length xs → slice_index_or xs k x ≡ x → P x
-all_at P [] h k x l e = absurd (omega (arith, l))
-all_at P (y ∷ xs) h zero x l e = subst P e h.0
-all_at P (y ∷ xs) h (suc k) x l e = all_at P xs h.1 k x (omega (arith, l)) e
-
-pub all_contains : {X : Type 0} (P : X → Type 0) (xs : List X) → AllByRecursion P xs → (x : X) → Contains xs x → P x
-all_contains P xs h x c = all_at P xs h c.0 x c.1 c.2
-
-nothing_in : {X : Type 0} (x : X) → Contains [] x → ⊥
-nothing_in x c = omega (arith, c.1)
-
-one_in : {X : Type 0} (y x : X) → Contains (y ∷ []) x → y ≡ x
-one_in y x (zero, l, e) = e
-one_in y x (suc k, l, e) = absurd (omega (arith, l))
 
 -- Kernels.
 
@@ -66,7 +50,7 @@ unfolding kernel_at
 kernel_is g raw a v s h = (v.kernels.each s (subst (λ n. s < n) v.kernels.count h)).kernel
 
 place_known : (a : Automaton) (s : ℕ) (item : KernelItem) → Contains (kernel_at a s).items item → s < length a.kernels
-place_known a s item c = elim (cases_lt s (length a.kernels)) [ inl h ↦ h | inr h ↦ absurd (nothing_in item (subst (λ (k : Kernel). Contains k.items item) (kernel_past a s h) c)) ]
+place_known a s item c = elim (cases_lt s (length a.kernels)) [ inl h ↦ h | inr h ↦ absurd (contains_none item (subst (λ (k : Kernel). Contains k.items item) (kernel_past a s h) c)) ]
 
 -- Edges.
 
@@ -106,11 +90,11 @@ automaton_named g raw small a v =
       filled = λ s h. (at s h).filled;
       at_end = λ s p d look (item, c, e, f, l) low.
           let k = at s (place_known a s item c) in
-          let one : item.looks ≡ End ∷ [] = all_contains (IsAtEnd g) (kernel_at a s).items k.at_end item c (omega (arith, e, low)) in
-          sym (one_in End look (subst (λ (ls : List Look). Contains ls look) one l));
+          let one : item.looks ≡ End ∷ [] = recursion_contains (IsAtEnd g) (kernel_at a s).items k.at_end item c (omega (arith, e, low)) in
+          sym (contains_one End look (subst (λ (ls : List Look). Contains ls look) one l));
       moved = λ s p d h (item, c, e, f).
           let k = at s (place_known a s item c) in
-          omega (arith, f, all_contains (λ (i : KernelItem). 0 < i.dot) (kernel_at a s).items (k.moved h) item c);
+          omega (arith, f, recursion_contains (λ (i : KernelItem). 0 < i.dot) (kernel_at a s).items (k.moved h) item c);
       order = λ s h. (edges_are g raw a v s h).order;
       edge = λ s X h m. (edges_are g raw a v s h).edge X (moves_to g a s X m);
       target = λ s X u e.
