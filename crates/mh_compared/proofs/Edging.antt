@@ -12,7 +12,7 @@ use Rattle.mh_grammar.specs.Plain.{PlainGrammar, plain_of, rhs_of}
 use Rattle.mh_grammar.specs.Edges.{IsRising, IsSymbolBefore, IsEdgeBefore}
 use Rattle.mh_grammar.specs.ItemSets as items
 use Rattle.mh_grammar.specs.ItemSets.{AreSame, Close, Moved}
-use Rattle.mh_grammar.proofs.Lists.{contains_here, contains_there, contains_cases, at_contains, contains_map, recursion-from, recursion_contains, at_drop}
+use Rattle.mh_grammar.proofs.Lists.{contains_here, contains_there, contains_cases, contains_none, at_contains, contains_map, recursion-from, recursion_contains, at_drop}
 use Rattle.mh_kernels.specs.Shapes.{Kernel}
 use Rattle.mh_kernels.specs.Kernels.{Holds, IsItemList}
 use Rattle.mh_kernels.specs.Automaton.{no_kernel, kernel_at, move_of, Moves, IsTarget}
@@ -52,10 +52,7 @@ edges_rise (e ∷ es) h = (recursion-from (IsEdgeBefore e) es (λ f c. recursion
 
 -- an edge that is made belongs to a move that leads
 on_move : (g : Grammar) (ks : List Kernel) (ms : List Move) (rs : List RawEdge) → AllZip (Leads g ks) ms rs → (e : Edge) → Contains (edges_on ms rs) e → (m : Move) × (r : RawEdge) × Contains ms m × Leads g ks m r × (m.symbol ≡ e.symbol) × (r.target ≡ e.target)
-on_move g ks [] rs z e c = absurd (no_item e c)
-  where
-    no_item : (e : Edge) → Contains [] e → ⊥
-    no_item e c = omega (arith, c.1)
+on_move g ks [] rs z e c = absurd (contains_none e c)
 on_move g ks (m ∷ ms) [] z e c = absurd z
 on_move g ks (m ∷ ms) (r ∷ rs) z e c = elim (contains_cases (record { symbol = m.symbol; target = r.target }) (edges_on ms rs) e c) [
   | inl same ↦ (m, r, contains_here m ms, z.0, ap (λ (k : Edge). k.symbol) same, ap (λ (k : Edge). k.target) same)

@@ -2,6 +2,7 @@
 use Rattle.std.proofs.Common.{inl, inr, ◌⊎◌, ◌≡◌, ◌≢◌, ◌+◌, ◌-◌, ◌^◌, ◌<◌, ◌≤◌, ℕ, suc, Bool, true, false, nat_eq, ◌==◌, cond, List, [], ◌∷◌, ◌++◌, map, length, Option, Some, None, refl, sym, ap, ◌∙◌, subst, codes, decimal, arith, append_assoc, append-nil, length-append, eqb-true, zero-add, add-zero}
 use Rattle.std.proofs.lemmas.Bool.{eqb-false}
 use Rattle.std.specs.List.{AllByRecursion}
+use Rattle.mh_grammar.proofs.Lists.{recursion-push}
 use Rattle.mh_cells.specs.declared.kinds.Mode.{Mode}
 use Rattle.mh_tables.specs.declared.parts.Fallback.{Fallback}
 use Rattle.mh_tabform.specs.declared.types.RawProduction.{RawProduction}
@@ -90,10 +91,6 @@ pub record Goes (before : List Line) (x : Line) (t : Reader) : Type 0 where
   pub written : written t ≡ before ++ x ∷ []
 
 -- Lists.
-
-all_snoc : {X : Type 0} (P : X → Type 0) (xs : List X) (x : X) → AllByRecursion P xs → P x → AllByRecursion P (xs ++ x ∷ [])
-all_snoc P [] x h p = (p, tt)
-all_snoc P (y ∷ ys) x (h, hs) p = (h, all_snoc P ys x hs p)
 
 map_snoc : {X Y : Type 0} (f : X → Y) (xs : List X) (x : X) → map f (xs ++ x ∷ []) ≡ map f xs ++ f x ∷ []
 map_snoc f [] x = refl
@@ -207,7 +204,7 @@ production_case r t left line p (small, hs) some e =
     let is = production_sound line q f in
     let count : length (r.productions ++ q ∷ []) + (left - 1) ≡ length r.productions + left = omega (arith, length-append r.productions (q ∷ []), some) in
     subst (Goes (written_at (places.Listing left) r) line) (same_some (record r { productions = r.productions ++ q ∷ []; place = places.Listing (left - 1) }) t g) (record {
-      parts = record { tokens = p.tokens; costs = p.costs; starts = p.starts; productions = all_snoc IsRawProduction r.productions q p.productions is.0; states = p.states; items = p.items; edges = p.edges; cells = p.cells };
+      parts = record { tokens = p.tokens; costs = p.costs; starts = p.starts; productions = recursion-push IsRawProduction r.productions q p.productions is.0; states = p.states; items = p.items; edges = p.edges; cells = p.cells };
       holds = (subst IsNumber (sym count) small, hs);
       written = ap (λ k. heads r ++ ((codes "starts" ∷ r.starts) ∷ count_line (codes "productions") k ∷ map production_line (r.productions ++ q ∷ []))) count
           ∙ ap (λ ls. heads r ++ ((codes "starts" ∷ r.starts) ∷ count_line (codes "productions") (length r.productions + left) ∷ ls)) (map_snoc production_line r.productions q)
@@ -292,7 +289,7 @@ closing r left c more e =
     ∙ snoc4 (heads r) (listed r (length r.productions)) (states_listed r (length r.states + 1 + left)) (state_lines (length r.states) (opened r)) more
 
 closed_parts : (r : Reader) (c : RawCells) (place : Place) → Parts r → AreRawCells c → Parts (ended_by r c place)
-closed_parts r c place p h = record { tokens = p.tokens; costs = p.costs; starts = p.starts; productions = p.productions; states = all_snoc IsRawState r.states (record { items = r.items; edges = r.edges; cells = c }) p.states (p.items, p.edges, h); items = tt; edges = tt; cells = tt }
+closed_parts r c place p h = record { tokens = p.tokens; costs = p.costs; starts = p.starts; productions = p.productions; states = recursion-push IsRawState r.states (record { items = r.items; edges = r.edges; cells = c }) p.states (p.items, p.edges, h); items = tt; edges = tt; cells = tt }
 
 closed_holds : (r : Reader) (c : RawCells) (left : ℕ) → IsNumber (length r.productions) → IsNumber (length r.states + 1 + left) → Holds_at (places.Between left) (ended_by r c (places.Between left))
 closed_holds r c left few small = (few, omega (arith, small, length-append r.states (record { items = r.items; edges = r.edges; cells = c } ∷ [])))
@@ -317,7 +314,7 @@ cells_case kinds.Cell r t left w ws p few small n e =
     let line : w ∷ ws ≡ cell_line c = ap (λ v. v ∷ ws) n ∙ is.1 in
     let i = length r.states in
     subst (Goes (in_state r left) (w ∷ ws)) (same_some (record r { cells = r.cells ++ c ∷ []; place = places.Cells left }) t g) (record {
-      parts = record { tokens = p.tokens; costs = p.costs; starts = p.starts; productions = p.productions; states = p.states; items = p.items; edges = p.edges; cells = all_snoc IsRawCell r.cells c p.cells is.0 };
+      parts = record { tokens = p.tokens; costs = p.costs; starts = p.starts; productions = p.productions; states = p.states; items = p.items; edges = p.edges; cells = recursion-push IsRawCell r.cells c p.cells is.0 };
       holds = (few, small);
       written = grown r left (record { items = r.items; edges = r.edges; cells = cells.Cells (r.cells ++ c ∷ []) }) (w ∷ ws)
           (ap (λ l. count_line (codes "state") i ∷ map item_line r.items ++ (map edge_line r.edges ++ l)) (map_snoc cell_line r.cells c ∙ ap (λ x. map cell_line r.cells ++ x ∷ []) (sym line))
@@ -333,7 +330,7 @@ edges_case kinds.Edge r t left w ws p few small none n e =
     let i = length r.states in
     let front = count_line (codes "state") i ∷ map item_line r.items in
     subst (Goes (in_state r left) (w ∷ ws)) (same_some (record r { edges = r.edges ++ c ∷ []; place = places.Edges left }) t g) (record {
-      parts = record { tokens = p.tokens; costs = p.costs; starts = p.starts; productions = p.productions; states = p.states; items = p.items; edges = all_snoc IsRawEdge r.edges c p.edges is.0; cells = p.cells };
+      parts = record { tokens = p.tokens; costs = p.costs; starts = p.starts; productions = p.productions; states = p.states; items = p.items; edges = recursion-push IsRawEdge r.edges c p.edges is.0; cells = p.cells };
       holds = (few, small, none);
       written = grown r left (record { items = r.items; edges = r.edges ++ c ∷ []; cells = cells.Cells r.cells }) (w ∷ ws)
           (ap (λ cs. front ++ (map edge_line (r.edges ++ c ∷ []) ++ map cell_line cs)) none
@@ -364,7 +361,7 @@ items_case kinds.Item r t left w ws p few small bare none n e =
     let head = count_line (codes "state") (length r.states) in
     let nothing : map edge_line r.edges ++ map cell_line r.cells ≡ [] = ap (λ es. map edge_line es ++ map cell_line r.cells) bare ∙ ap (λ cs. map cell_line cs) none in
     subst (Goes (in_state r left) (w ∷ ws)) (same_some (record r { items = r.items ++ c ∷ []; place = places.Items left }) t g) (record {
-      parts = record { tokens = p.tokens; costs = p.costs; starts = p.starts; productions = p.productions; states = p.states; items = all_snoc IsRawItem r.items c p.items is.0; edges = p.edges; cells = p.cells };
+      parts = record { tokens = p.tokens; costs = p.costs; starts = p.starts; productions = p.productions; states = p.states; items = recursion-push IsRawItem r.items c p.items is.0; edges = p.edges; cells = p.cells };
       holds = (few, small, bare, none);
       written = grown r left (record { items = r.items ++ c ∷ []; edges = r.edges; cells = cells.Cells r.cells }) (w ∷ ws)
           (ap (λ l. head ∷ map item_line (r.items ++ c ∷ []) ++ l) nothing
