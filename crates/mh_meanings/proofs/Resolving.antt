@@ -1,10 +1,10 @@
 -- Actuals whose names all stand for something.
-use Rattle.std.proofs.Common.{◌≡◌, ℕ, suc, ◌+◌, ◌<◌, Bool, true, false, List, [], ◌∷◌, ◌++◌, Option, Some, length, get_or, take, drop, map, refl, sym, ap, ◌∙◌, append_assoc, arith}
+use Rattle.std.proofs.Common.{◌≡◌, ℕ, suc, ◌+◌, ◌<◌, Bool, true, false, List, [], ◌∷◌, ◌++◌, Option, Some, length, get_or, take, drop, map, refl, sym, ap, ◌∙◌, append_assoc, add-one, arith}
 use Rattle.std.specs.Prelude.{is_some, option_map, option_and_then}
 use Rattle.std.specs.List.{flat_map, enumerate_from}
-use Rattle.std.proofs.lemmas.List.{map-append, take-append-drop, append-nil}
+use Rattle.std.proofs.lemmas.List.{map-append, append-nil}
 use Rattle.std.proofs.lemmas.List.Concat.{flat_map-append}
-use Rattle.mh_grammar.proofs.Lists.{nil_parts, taken}
+use Rattle.mh_grammar.proofs.Lists.{nil_parts, split_at, taken}
 use Rattle.mh_rules.specs.declared.modules.Ref.{Ref}
 use Rattle.mh_rules.specs.declared.modules.Actual.{Actual}
 use Rattle.mh_rules.specs.declared.modules.Actual.TheViews.{out-Actual}
@@ -15,7 +15,6 @@ use Rattle.mh_meanings.specs.declared.fault.JoinFault.{JoinFault}
 use Rattle.mh_meanings.specs.Faults.{unless, undefined, undefined_in_actual}
 use Rattle.mh_meanings.specs.Joining.{all_of, applied_to, apply_step, resolved}
 use Rattle.mh_meanings.proofs.Lists.{enumerate-push, length-take_in}
-use Rattle.mh_meanings.proofs.Finding.{drop_item}
 use Rattle.mh_meanings.proofs.Actuals.{actual_out}
 
 -- NOTHING FOUND
@@ -28,7 +27,7 @@ module _ {A : Type 0} where
   back_nil xs ys e = (nil_parts xs ys (sym e)).1
 
   pub split_item : (xs : List A) (i : ℕ) (x : A) → i < length xs → x ≡ get_or xs i x → xs ≡ take i xs ++ x ∷ drop (i + 1) xs
-  split_item xs i x h at = sym (take-append-drop i xs) ∙ ap (λ k. take i xs ++ k) (drop_item xs i x h at)
+  split_item xs i x h at = split_at xs i x h at ∙ ap (λ k. take i xs ++ x ∷ drop k xs) (sym (add-one i))
 
 pub nil_at : {A B : Type 0} (f : A → List B) (xs : List A) (i : ℕ) (x : A) → i < length xs → x ≡ get_or xs i x → flat_map f xs ≡ [] → f x ≡ []
 nil_at f xs i x h at e =
