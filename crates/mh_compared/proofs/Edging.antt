@@ -5,20 +5,19 @@ use Rattle.std.specs.List.{AllZip, Contains}
 use Rattle.std.proofs.lemmas.List.Elements.{All-contains}
 use Rattle.std.proofs.lemmas.List.{get_or_default}
 use Rattle.mh_grammar.specs.declared.types.Symbol.{Symbol}
-use Rattle.mh_grammar.specs.declared.types.Look.{Look}
 use Rattle.mh_grammar.specs.declared.types.Grammar.{Grammar}
 use Rattle.mh_grammar.specs.declared.edges.Edge.{Edge}
 use Rattle.mh_grammar.specs.Plain.{PlainGrammar, plain_of, rhs_of}
 use Rattle.mh_grammar.specs.Edges.{IsRising, IsSymbolBefore, IsEdgeBefore}
 use Rattle.mh_grammar.specs.ItemSets as items
 use Rattle.mh_grammar.specs.ItemSets.{AreSame, Close, Moved}
-use Rattle.mh_grammar.proofs.Lists.{contains_here, contains_there, contains_cases, contains_none, at_contains, contains_map, recursion-from, recursion_contains, at_drop}
+use Rattle.mh_grammar.proofs.Lists.{contains_here, contains_there, contains_cases, contains_none, at_contains, contains_map, recursion-from, recursion_contains}
 use Rattle.mh_kernels.specs.Shapes.{Kernel}
 use Rattle.mh_kernels.specs.Kernels.{Holds, IsItemList}
 use Rattle.mh_kernels.specs.Automaton.{no_kernel, kernel_at, move_of, Moves, IsTarget}
 use Rattle.mh_kernels.specs.Collection.{IsBehindDot, IsMove, edge_symbols}
 use Rattle.mh_moves.specs.Moves.{Move, AreMovesOf, symbols_of}
-use Rattle.mh_knuth.proofs.Sets.{same_trans, moved_same, place_holds, drop_from_get}
+use Rattle.mh_knuth.proofs.Sets.{same_trans, moved_same, place_holds}
 use Rattle.mh_tabform.specs.declared.types.RawEdge.{RawEdge}
 use Rattle.mh_tabform.specs.declared.types.RawTable.{RawTable}
 use Rattle.mh_tabform.specs.Written.{raw_edge}
@@ -29,6 +28,8 @@ use Rattle.mh_grammar.proofs.EdgeOrder.{edge_found}
 use Rattle.mh_compared.specs.Leading.{Leads, IsRowOf, edges_on}
 use Rattle.mh_valid.specs.Finding.{Finds}
 use Rattle.mh_compared.proofs.Within.{target_of, holds_move}
+use Rattle.mh_kernels.proofs.Dotted.{drop_from-slice_get}
+use Rattle.mh_knuth.proofs.Edging.{behind_moved}
 
 -- the symbols and the spelling of the edges that are made of moves
 on_symbols : (g : Grammar) (ks : List Kernel) (ms : List Move) (rs : List RawEdge) → AllZip (Leads g ks) ms rs → edge_symbols (edges_on ms rs) ≡ symbols_of ms
@@ -85,17 +86,14 @@ module _ (g : Grammar) (raw : RawTable) (ks : List Kernel) (s : ℕ) (moves : Li
   symbol_moves X c =
       let b : IsBehindDot P of.closed X = (of.are.exact X).0 c in
       let (a, held) = place_holds P of.closed of.valid b.production b.dot b.place in
-      let moved : Moved P (Holds of.closed) X b.production (suc b.dot) a = items.Moved.moved held (drop_from_get (rhs_of P b.production) b.dot X b.behind) in
+      let moved : Moved P (Holds of.closed) X b.production (suc b.dot) a = items.Moved.moved held (drop_from-slice_get (rhs_of P b.production) b.dot X b.behind) in
       record { production = b.production; dot = suc b.dot; look = a; moves = (moved_same P (Holds of.closed) (Close P (Holds (slice_index_or ks s no_kernel))) X of.same b.production (suc b.dot) a).0 moved }
-
-  behind_moved : (X : Symbol) (p d : ℕ) (a : Look) → Moved P (Holds of.closed) X p d a → IsBehindDot P of.closed X
-  behind_moved X p d a (items.Moved.moved {d = e} {y} h f) = record { production = p; dot = e; place = (h.0, h.1, h.2, h.3); behind = at_drop (rhs_of P p) e X y f }
 
   moves_symbol : (X : Symbol) → Moves P (of_kernels ks) s X → Contains (symbols_of moves) X
   unfolding kernel_at
   moves_symbol X m =
       let here : Moved P (Holds of.closed) X m.production m.dot m.look = (moved_same P (Holds of.closed) (Close P (Holds (slice_index_or ks s no_kernel))) X of.same m.production m.dot m.look).1 m.moves in
-      (of.are.exact X).1 (behind_moved X m.production m.dot m.look here)
+      (of.are.exact X).1 (behind_moved P of.closed X m.production m.dot m.look here)
 
   -- ---- edges that are made of moves that lead are right
 

@@ -26,6 +26,7 @@ use Rattle.mh_grammar.proofs.Numbered.{rhs_of-start}
 use Rattle.mh_tables.proofs.Asking.{no_ask}
 use Rattle.mh_exact.proofs.Derived.{tree_derives}
 use Rattle.mh_exact.proofs.Standing.{StandsFor, start_item, start_item_only}
+use Rattle.mh_kernels.proofs.Dotted.{drop_tail}
 
 yields-push : (a : List SyntaxTree) (x : SyntaxTree) → yields (a ++ x ∷ []) ≡ yields a ++ yield_of x
 yields-push [] x = append-nil (yield_of x)
@@ -35,12 +36,6 @@ take-suc : (k : ℕ) (xs : List SyntaxTree) (d : SyntaxTree) → k < length xs �
 take-suc k [] d lt = absurd (omega arith)
 take-suc zero (x ∷ xs) d lt = refl
 take-suc (suc k) (x ∷ xs) d lt = ap (λ (l : List SyntaxTree). x ∷ l) (take-suc k xs d (omega arith))
-
-pub drop_next : {X : Type 0} (d : ℕ) (xs : List X) (x : X) (ys : List X) → drop d xs ≡ x ∷ ys → drop (suc d) xs ≡ ys
-drop_next zero [] x ys e = cc
-drop_next zero (y ∷ xs) x ys e = cc
-drop_next (suc d) [] x ys e = cc
-drop_next (suc d) (y ∷ xs) x ys e = drop_next d xs x ys e
 
 -- a run asks at the end alone
 asks_at_end : (t : TableData) (s : ℕ) (left : List ℕ) → move_of t s left ≡ Asks → left ≡ []
@@ -73,7 +68,7 @@ module _ (t : TableData) (range : IsInRange t.grammar) (productive : AllProducti
     by_close k s h p d l (added {p = p'} {d = d'} {n} {y} {a = l'} c e i b') v f =
         let tree : Derives t.grammar (N n) v = trees.Derivation.node (p, i, refl) f in
         let known : p' < production_count t.grammar = (closure_is_item t.grammar a is.automaton s p' d' l' c).production in
-        let below : All (IsSymbolBelow t.grammar.tokens t.grammar.nonterminals) y = subst (All (IsSymbolBelow t.grammar.tokens t.grammar.nonterminals)) (drop_next d' (rhs_of t.grammar p') (N n) y e) (behind_below t.grammar range p' d' known) in
+        let below : All (IsSymbolBelow t.grammar.tokens t.grammar.nonterminals) y = subst (All (IsSymbolBelow t.grammar.tokens t.grammar.nonterminals)) (drop_tail (rhs_of t.grammar p') d' (N n) y e) (behind_below t.grammar range p' d' known) in
         let rest = some_word y below in
         let whole : DerivesAll t.grammar (drop d' (rhs_of t.grammar p')) (v ++ rest.0) = rw e (trees.Derivations.more refl tree rest.1) in
         let z = by_close k s h p' d' l' c (v ++ rest.0) whole in
@@ -85,7 +80,7 @@ module _ (t : TableData) (range : IsInRange t.grammar) (productive : AllProducti
     by_move k within X tree h p d l (moved {d = d'} {y} c e) v f =
         let x : SyntaxTree = get_or kids k (Leaf 0) in
         let more : DerivesAll t.grammar (drop d' (rhs_of t.grammar p)) (yield_of x ++ v) =
-        rw e (trees.Derivations.more refl (tree_derives t.grammar x X tree) (rw (drop_next d' (rhs_of t.grammar p) X y e) at f)) in
+        rw e (trees.Derivations.more refl (tree_derives t.grammar x X tree) (rw (drop_tail (rhs_of t.grammar p) d' X y e) at f)) in
         let z = h p d' l c (yield_of x ++ v) more in
         let word : yields (take k kids) ++ ((yield_of x ++ v) ++ z.0) ≡ yields (take (suc k) kids) ++ (v ++ z.0) =
         ap (λ (w : List ℕ). yields (take k kids) ++ w) (append_assoc (yield_of x) v z.0)

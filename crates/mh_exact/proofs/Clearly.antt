@@ -28,8 +28,8 @@ use Rattle.mh_tables.specs.declared.parts.Fallback.TheVariants as fallbacks
 use Rattle.mh_tables.specs.Table.{TableData, state_at, cell_of, fallback_of}
 use Rattle.mh_tables.specs.Facts.{Facts}
 use Rattle.mh_tables.specs.Run.{Move, Accepts, Shifts, Reduces, move_of, move_of_next, move_by_default}
-use Rattle.mh_exact.proofs.Begun.{drop_next}
 use Rattle.mh_exact.proofs.Standing.{StandsFor, stands_for}
+use Rattle.mh_kernels.proofs.Dotted.{drop_tail}
 
 -- what comes next: a token, or the end
 abbrev pub look_of : List ℕ → Look
@@ -53,7 +53,7 @@ looks_below g a r h s p d look (items.Close.given k) =
     recursion_contains (IsLookBelow g.tokens) k.0.looks item.looks look k.4
 looks_below g a r h s p d look (items.Close.added {p = q} {d = e} {n} {y} {a = from} c at i b) =
     let known : q < production_count g = (closure_is_item g a h s q e from c).production in
-    let below : All (IsSymbolBelow g.tokens g.nonterminals) y = subst (All (IsSymbolBelow g.tokens g.nonterminals)) (drop_next e (rhs_of g q) _ y at) (behind_below g r q e known) in
+    let below : All (IsSymbolBelow g.tokens g.nonterminals) y = subst (All (IsSymbolBelow g.tokens g.nonterminals)) (drop_tail (rhs_of g q) e _ y at) (behind_below g r q e known) in
     may_begin_below g r y from look below (looks_below g a r h s q e from c) b
 
 -- a state takes each raw action

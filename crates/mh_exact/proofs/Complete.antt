@@ -16,9 +16,9 @@ use Rattle.mh_tables.specs.Run.{Config, Accepts, Shifts, Reduces, move_of, top_o
 use Rattle.mh_tables.proofs.Reductions.{after-add, reduction_is, step_reduces}
 use Rattle.mh_tables.proofs.Ending.{step_moves}
 use Rattle.mh_grammar.proofs.Numbered.{rhs_of-start}
-use Rattle.mh_exact.proofs.Begun.{drop_next}
 use Rattle.mh_exact.proofs.Clearly.{Clearly, look_of, may_begin}
 use Rattle.mh_exact.proofs.Standing.{StandsFor, start_item}
+use Rattle.mh_kernels.proofs.Dotted.{drop_tail}
 
 abbrev here : List ℕ → ℕ → List ℕ → Config
 here stack read left = record { stack = stack; read = read; left = left }
@@ -105,7 +105,7 @@ module _ (t : TableData) (a : Automaton) (is : StandsFor t a) (clear : (s : ℕ)
       let x = one stack read (v ++ left) q d (look_of left) Xs pos c e (may_begin t.grammar Xs v left f) in
       let there : kernel_of a x.target q (suc d) (look_of left) = arrives (top_of stack) q d (look_of left) X Xs x.target x.leads c e in
       let on : closure_of t.grammar a (top_of (stack ++ x.target ∷ [])) q (suc d) (look_of left) = rw (top-push stack x.target) (given there) in
-      let b = rest (stack ++ x.target ∷ []) (read + length u) left q (suc d) (rw length-append (omega arith)) on (drop_next d (rhs_of t.grammar q) X Xs e) in
+      let b = rest (stack ++ x.target ∷ []) (read + length u) left q (suc d) (rw length-append (omega arith)) on (drop_tail (rhs_of t.grammar q) d X Xs e) in
       let path : (stack ++ x.target ∷ []) ++ b.path ≡ stack ++ x.target ∷ b.path = append_assoc stack (x.target ∷ []) b.path in
       let dot : suc d + length Xs ≡ d + length (X ∷ Xs) = omega arith in
       let count_read : read + length u + length v ≡ read + length w = let l = length-append u v in let k = ap length s in omega arith in

@@ -75,7 +75,7 @@ IsRow-kept g old new k row kept r = record {
 }
 
 -- where an item of a closure moves past a symbol, that stands behind a dot
-behind_moved : (g : PlainGrammar) (closed : Items) (X : Symbol) (p d : ℕ) (a : Look) → Moved g (Holds closed) X p d a → IsBehindDot g closed X
+pub behind_moved : (g : PlainGrammar) (closed : Items) (X : Symbol) (p d : ℕ) (a : Look) → Moved g (Holds closed) X p d a → IsBehindDot g closed X
 behind_moved g closed X p d a (items.Moved.moved {d = d'} {y} h e) = record {
   production = p;
   dot = d';

@@ -29,7 +29,7 @@ use Rattle.mh_grammar.proofs.EdgeOrder.{same_is}
 symbols_of : List Edge → List Symbol
 symbols_of row = map (λ e. e.symbol) row
 
-symbol_asymmetric : (X Y : Symbol) → IsSymbolBefore X Y → IsSymbolBefore Y X → ⊥
+pub symbol_asymmetric : (X Y : Symbol) → IsSymbolBefore X Y → IsSymbolBefore Y X → ⊥
 symbol_asymmetric (T a) (T b) r s = omega arith
 symbol_asymmetric (T a) (N b) r s = s
 symbol_asymmetric (N a) (T b) r s = r

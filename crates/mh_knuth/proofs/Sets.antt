@@ -1,6 +1,6 @@
 -- Sets of items: what closures and moves keep.
-use Rattle.std.proofs.Common.{◌≡◌, ℕ, zero, suc, ◌<◌, List, [], ◌∷◌, Some, drop, refl, sym, ap, ◌∙◌, arith, inl, inr}
-use Rattle.std.specs.List.{slice_get, Contains}
+use Rattle.std.proofs.Common.{◌≡◌, ℕ, ◌<◌, List, [], ◌∷◌, refl, sym, ap, ◌∙◌, arith, inl, inr}
+use Rattle.std.specs.List.{Contains}
 use Rattle.mh_grammar.specs.declared.types.Symbol.{Symbol}
 use Rattle.mh_grammar.specs.declared.types.Look.{Look}
 use Rattle.mh_grammar.specs.declared.types.Look.TheVariants.{End}
@@ -75,9 +75,3 @@ pub place_holds : (g : PlainGrammar) (k : Kernel) → IsItemList g k → (p d : 
 place_holds g k of_k p d h =
     let look = some_item h.0.looks (recursion_contains (IsKernelItem g) k.items of_k.items h.0 h.1).some in
     (look.0, (h.0, h.1, h.2, h.3, look.1))
-
--- the symbol at a place of a list, and what stands from there on
-pub drop_from_get : (xs : List Symbol) (d : ℕ) (X : Symbol) → slice_get xs d ≡ Some X → drop d xs ≡ X ∷ drop (suc d) xs
-drop_from_get [] d X e = cc
-drop_from_get (x ∷ xs) zero X e = let same : x ≡ X = cc in λ i. same i ∷ xs
-drop_from_get (x ∷ xs) (suc d) X e = drop_from_get xs d X e

@@ -17,8 +17,9 @@ use Rattle.mh_knuth.specs.Canonical.{Walk, walk_of, IsWalk, IsOver, targets_of}
 use Rattle.mh_knuth.specs.Found.{IsState, AreStates, IsSource, AreEdges}
 use Rattle.mh_kernels.specs.Collection.{IsBehindDot, IsMove}
 use Rattle.mh_kernels.proofs.OneList.{kernel_same}
-use Rattle.mh_knuth.proofs.Sets.{same_sym, same_trans, moved_same, close_same, place_holds, drop_from_get}
+use Rattle.mh_knuth.proofs.Sets.{same_sym, same_trans, moved_same, close_same, place_holds}
 use Rattle.mh_grammar.proofs.Lists.{zip_push}
+use Rattle.mh_kernels.proofs.Dotted.{drop_from-slice_get}
 
 -- the closure of a state
 pub IsSource-close : (g : PlainGrammar) (k : Kernel) (closed : Items) → IsState g k → IsItemList g closed → AreSame (Holds closed) (Close g (Holds k)) → IsSource g closed
@@ -34,7 +35,7 @@ IsSource-close g k closed s of_closed same = record {
 pub IsState-move : (g : PlainGrammar) (closed : Items) (k : Kernel) (X : Symbol) → IsSource g closed → IsBehindDot g closed X → IsMove g closed X k → IsState g k
 IsState-move g closed k X source behind move =
     let look = place_holds g closed source.kernel behind.production behind.dot behind.place in
-    let next : Moved g (Holds closed) X behind.production (suc behind.dot) look.0 = items.Moved.moved look.1 (drop_from_get (rhs_of g behind.production) behind.dot X behind.behind) in
+    let next : Moved g (Holds closed) X behind.production (suc behind.dot) look.0 = items.Moved.moved look.1 (drop_from-slice_get (rhs_of g behind.production) behind.dot X behind.behind) in
     record {
       kernel = move.kernel;
       some = record { production = behind.production; dot = suc behind.dot; look = look.0; holds = (move.same behind.production (suc behind.dot) look.0).1 next };

@@ -5,7 +5,6 @@ use Rattle.std.proofs.lemmas.Bool.{cases_lt}
 use Rattle.std.proofs.lemmas.List.{length-set, length_push}
 use Rattle.mh_grammar.proofs.Lists.{rising_same, cons_same}
 use Rattle.mh_grammar.specs.declared.types.Symbol.{Symbol}
-use Rattle.mh_grammar.specs.declared.types.Symbol.TheVariants.{T, N}
 use Rattle.mh_grammar.specs.Plain.{PlainGrammar}
 use Rattle.mh_grammar.specs.Edges.{IsSymbolBefore}
 use Rattle.mh_grammar.specs.ItemSets.{ItemSet, Close, Moved}
@@ -13,7 +12,7 @@ use Rattle.mh_grammar.proofs.OneNumbering.{same_places}
 use Rattle.mh_kernels.specs.Shapes.{Kernel}
 use Rattle.mh_kernels.specs.Kernels.{Holds, IsItemList}
 use Rattle.mh_kernels.proofs.OneList.{kernel_same}
-use Rattle.mh_knuth.proofs.Only.{edges_same}
+use Rattle.mh_knuth.proofs.Only.{edges_same, symbol_asymmetric}
 use Rattle.mh_knuth.specs.Canonical.{targets_of}
 use Rattle.mh_knuth.proofs.Sets.{same_sym, same_trans}
 use Rattle.mh_states.specs.Weak.{IsJoin}
@@ -108,12 +107,6 @@ module _ (g : PlainGrammar) where
   pub steps_longer : (first last : Work) → Steps g first last → length first.kernels ≤ length last.kernels
   steps_longer first last none = omega arith
   steps_longer first last (more {old} s step) = omega (arith, steps_longer first old s, step_longer old last step)
-
-symbol_asymmetric : (X Y : Symbol) → IsSymbolBefore X Y → IsSymbolBefore Y X → ⊥
-symbol_asymmetric (T a) (T b) r s = omega arith
-symbol_asymmetric (T a) (N b) r s = s
-symbol_asymmetric (N a) (T b) r s = r
-symbol_asymmetric (N a) (N b) r s = omega arith
 
 symbols_one : (g : PlainGrammar) (k : Kernel) (xs ys : List Symbol) → AreMoving g k xs → AreMoving g k ys → xs ≡ ys
 symbols_one g k xs ys a b = rising_same IsSymbolBefore symbol_asymmetric xs ys a.rising b.rising (λ X. ((λ c. (b.exact X).1 ((a.exact X).0 c)), (λ c. (a.exact X).1 ((b.exact X).0 c))))

@@ -3,7 +3,6 @@ use Rattle.std.proofs.Common.{◌≡◌, ◌<◌, ◌↔◌, ℕ, suc, List, [],
 use Rattle.std.specs.List.{slice_get, Contains}
 use Rattle.std.proofs.lemmas.List.{map-append}
 use Rattle.mh_grammar.specs.declared.types.Symbol.{Symbol}
-use Rattle.mh_grammar.specs.declared.types.Look.{Look}
 use Rattle.mh_grammar.specs.declared.edges.Edge.{Edge}
 use Rattle.mh_grammar.specs.Plain.{PlainGrammar, rhs_of}
 use Rattle.mh_grammar.specs.Edges.{IsRising, IsSymbolBefore}
@@ -13,11 +12,12 @@ use Rattle.mh_kernels.specs.Shapes.{Items, Kernel}
 use Rattle.mh_kernels.specs.Kernels.{Holds, IsItemList}
 use Rattle.mh_knuth.specs.Canonical.{HasItem, targets_of}
 use Rattle.mh_kernels.specs.Collection.{IsBehindDot}
-use Rattle.mh_knuth.proofs.Sets.{same_sym, same_trans, has_same, moved_same, place_holds, drop_from_get}
+use Rattle.mh_knuth.proofs.Sets.{same_sym, same_trans, has_same, moved_same, place_holds}
 use Rattle.mh_pager.specs.Stepping.{RowIn, OverIn}
 use Rattle.mh_merging.specs.Steps.{Work, Puts, IsMoveOf, AllPut, AreMoving, IsStep, Overruns, IsReady}
 use Rattle.mh_pager.proofs.Readying.{all_put_push, all_put_ready}
-use Rattle.mh_grammar.proofs.Lists.{at_drop}
+use Rattle.mh_kernels.proofs.Dotted.{drop_from-slice_get}
+use Rattle.mh_knuth.proofs.Edging.{behind_moved}
 
 -- a move of a closure is one of the kernel that it was made of
 module _ (g : PlainGrammar) (closed : Items) (move : Kernel) (X : Symbol) (valid : IsItemList g move) (same : AreSame (Holds move) (Moved g (Holds closed) X)) (some : HasItem (Moved g (Holds closed) X)) where
@@ -48,13 +48,10 @@ RowIn-none g closed old = record { on = refl; put = λ k is. refl }
 pub behind_has : (g : PlainGrammar) (closed : Items) (X : Symbol) → IsItemList g closed → IsBehindDot g closed X → HasItem (Moved g (Holds closed) X)
 behind_has g closed X is b =
     let look = place_holds g closed is b.production b.dot b.place in
-    record { production = b.production; dot = suc b.dot; look = look.0; holds = items.Moved.moved look.1 (drop_from_get (rhs_of g b.production) b.dot X b.behind) }
-
-moved_behind : (g : PlainGrammar) (closed : Items) (X : Symbol) (p d : ℕ) (a : Look) → Moved g (Holds closed) X p d a → IsBehindDot g closed X
-moved_behind g closed X p d a (items.Moved.moved {d = d'} {y} h e) = record { production = p; dot = d'; place = (h.0, h.1, h.2, h.3); behind = at_drop (rhs_of g p) d' X y e }
+    record { production = b.production; dot = suc b.dot; look = look.0; holds = items.Moved.moved look.1 (drop_from-slice_get (rhs_of g b.production) b.dot X b.behind) }
 
 pub has_behind : (g : PlainGrammar) (closed : Items) (X : Symbol) → HasItem (Moved g (Holds closed) X) → IsBehindDot g closed X
-has_behind g closed X h = moved_behind g closed X h.production h.dot h.look h.holds
+has_behind g closed X h = behind_moved g closed X h.production h.dot h.look h.holds
 
 -- the symbols behind the dots of a closure are those that move
 module _ (g : PlainGrammar) (k : Kernel) (closed : Items) (is : IsItemList g closed) (same : AreSame (Holds closed) (Close g (Holds k))) (symbols : List Symbol) (rising : IsRising IsSymbolBefore symbols) (exact : (X : Symbol) → Contains symbols X ↔ IsBehindDot g closed X) where
