@@ -1,8 +1,7 @@
 -- What moves and phases say.
 use Rattle.std.proofs.Common.{◌≡◌, ℕ, suc, ◌+◌, inl, inr, ◌⊎◌, List, [], ◌∷◌, ◌++◌, length, Some, None, Option, Bool, true, false, refl, ap, sym, subst, arith, ◌∙◌, length-append}
-use Rattle.mh_tables.specs.Table.{TableData}
 use Rattle.mh_tables.specs.Facts.{Facts}
-use Rattle.mh_tables.specs.Run.{Move, Accepts, Asks, Refuses, Shifts, Reduces, move_of, top_of, IsRunStack}
+use Rattle.mh_tables.specs.Run.{Move, Accepts, Asks, Refuses, Shifts, Reduces, move_of, top_of}
 use Rattle.mh_tables.specs.RunTrees.{Grown}
 use Rattle.mh_tables.specs.Halting.{look_list}
 use Rattle.mh_tables.proofs.Trees.{accepts_one}
@@ -49,9 +48,3 @@ accepted_tree c f g e below tree is = one_last c.pairs.trees below tree (accepte
 
 pub accepted_some : (c : Position) → Facts c.table → Grown c.table c.pairs.states c.pairs.trees → phase_of c ≡ phases.Accepted → c.pairs.trees ≡ [] → ⊥
 accepted_some c f g e none = let one = accepted_one c f g e in let n : length c.pairs.trees ≡ 0 = ap length none in omega arith
-
-pub run_of : (t : TableData) (stack : List ℕ) (trees : List SyntaxTree) → Grown t stack trees → IsRunStack t stack
-run_of t stack trees g = record {
-  path = record { begun = let l = g.len in omega arith; edges = λ k lt. let l = g.len in let e = g.each k (omega arith) in (e.0, e.1) };
-  start = g.start;
-}

@@ -10,7 +10,7 @@ use Rattle.mh_tables.specs.Facts.{Facts}
 use Rattle.mh_tables.specs.Run.{Config, Move, Accepts, Asks, Refuses, Shifts, Reduces, move_of, top_of, step, step_by, next_of, reduce}
 use Rattle.mh_tables.specs.RunTrees.{Grown, grow}
 use Rattle.mh_tables.proofs.Asking.{no_ask}
-use Rattle.mh_tables.proofs.Trees.{grown_push, grown_reduced}
+use Rattle.mh_tables.proofs.Trees.{grown_push, grown_reduced, run_of}
 use Rattle.mh_tables.proofs.Path.{finds, reduce_finds, run_take}
 use Rattle.mh_tables.proofs.Known.{edge_source}
 use Rattle.mh_tables.proofs.Ending.{step_moves}
@@ -25,7 +25,6 @@ use Rattle.mh_engine.specs.Steps.{resumed, offered, refused_at, config_of, is_re
 use Rattle.mh_engine.specs.Reducing.{CanReduce}
 use Rattle.mh_engine.specs.Sound.{IsSound}
 use Rattle.mh_engine.specs.declared.phase.Phase.{Phase}
-use Rattle.mh_engine.proofs.Moves.{run_of}
 use Rattle.mh_tables.proofs.Depth.{shift_fits, reduce_fits, reduce_many, reduce_high, deep_pairs}
 
 -- a step, by its move

@@ -9,6 +9,7 @@ use Rattle.mh_tables.specs.Halting.{HaltingFacts, IsLook, look_list}
 use Rattle.mh_tables.specs.Run.{Move, Accepts, Asks, Refuses, Shifts, Reduces, move_of, top_of, reduce}
 use Rattle.mh_tables.proofs.Path.{finds, reduce_finds}
 use Rattle.mh_tables.proofs.Reductions.{reduces_from_move, reduced}
+use Rattle.mh_tables.proofs.Trees.{run_of}
 use Rattle.mh_tables.proofs.Settling.{Relative, relative_few, relative_begins, relative_more}
 use Rattle.mh_engine.specs.Positions.{Position}
 use Rattle.mh_engine.specs.Phases.{next_move, phase_of, phase_by, phase_where, CanGoOn}
@@ -19,7 +20,6 @@ use Rattle.mh_engine.specs.Sound.{IsSound}
 use Rattle.mh_engine.specs.Settled.{Kept, Leads, SettlesTo, SettlesDeep}
 use Rattle.mh_engine.specs.declared.phase.Phase.{Phase}
 use Rattle.mh_engine.specs.declared.phase.Phase.TheVariants as phases
-use Rattle.mh_engine.proofs.Moves.{run_of}
 use Rattle.mh_engine.proofs.Resuming.{by_move}
 use Rattle.mh_engine.proofs.OneMore.{after_more, can_more, table_stays}
 

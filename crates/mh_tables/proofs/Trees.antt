@@ -205,7 +205,8 @@ yields_node trees p n =
 yields_leaf : (trees : List SyntaxTree) (z : ℕ) (left : List ℕ) → yields (trees ++ Leaf z ∷ []) ++ left ≡ yields trees ++ z ∷ left
 yields_leaf trees z left = rw (yields-append trees (Leaf z ∷ [])) (append_assoc (yields trees) (z ∷ []) left)
 
-run_of : (t : TableData) (stack : List ℕ) (trees : List SyntaxTree) → Grown t stack trees → IsRunStack t stack
+-- a stack with its trees is one of a run
+pub run_of : (t : TableData) (stack : List ℕ) (trees : List SyntaxTree) → Grown t stack trees → IsRunStack t stack
 run_of t stack trees g = record {
   path = record { begun = let l = g.len in omega arith; edges = λ k lt. let l = g.len in let e = g.each k (omega arith) in (e.0, e.1) };
   start = g.start;
