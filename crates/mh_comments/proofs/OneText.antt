@@ -1,12 +1,13 @@
 -- A sentence that fails has one text of comment lines, and one entry.
 use Rattle.std.proofs.Common.{◌≡◌, ℕ, zero, suc, ◌+◌, ◌-◌, List, [], ◌++◌, length, refl, sym, ◌∙◌, ap, ap₂, subst, arith}
-use Rattle.std.specs.Prelude.{Option, None, Some, codes}
+use Rattle.std.specs.Prelude.{codes}
 use Rattle.mh_grammar.specs.declared.types.Grammar.{Grammar}
 use Rattle.mh_kernels.specs.Shapes.{Automaton}
 use Rattle.mh_kernels.specs.Automaton.{kernel_at}
 use Rattle.mh_tables.specs.Table.{TableData}
-use Rattle.mh_tables.specs.Run.{Config, Move, Accepts, Asks, Refuses, Shifts, Reduces, Ending, Rejected, Ends, initial, move_of, top_of, step, step_by, next_of, after, reduce, goes_to}
+use Rattle.mh_tables.specs.Run.{Config, Move, Accepts, Asks, Refuses, Shifts, Reduces, Ending, Rejected, Ends, initial, move_of, top_of, step, step_by, next_of, after, reduce}
 use Rattle.mh_tables.specs.Failing.{Fails}
+use Rattle.mh_tables.proofs.Asking.{goes_not}
 use Rattle.mh_tables.proofs.Ending.{one_ending, step_moves}
 use Rattle.mh_run.specs.Trace.{TraceOf, since_move, reduced_since}
 use Rattle.mh_msgfile.specs.Printed.{sentence_text}
@@ -21,10 +22,6 @@ since-add t zero m c ps = let e : 0 + m ≡ m = omega arith in ap (λ (k : ℕ).
 since-add t (suc n) m c ps =
     let e : suc n + m ≡ suc (n + m) = omega arith in
     ap (λ (k : ℕ). reduced_since t k c ps) e ∙ since-add t n m (next_of c (step t c)) (since_move (move_of t (top_of c.stack) c.left) ps)
-
-goes_not : (c : Config) (o : Option (List ℕ)) (how : Ending) → goes_to c o ≡ Ends how → ⊥
-goes_not c None how is = cc
-goes_not c (Some stack) how is = cc
 
 -- where a run ends nothing is shifted or reduced
 since_ended : (t : TableData) (c : Config) (m : Move) (how : Ending) (ps : List ℕ) → step_by t c m ≡ Ends how → since_move m ps ≡ ps

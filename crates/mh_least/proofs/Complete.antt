@@ -7,12 +7,10 @@ use Rattle.mh_grammar.specs.Plain.{rhs_of, lhs_of}
 use Rattle.mh_tables.specs.Facts.{Facts, HasGoto}
 use Rattle.mh_tables.specs.Run.{Config, Move, Accepts, Asks, Refuses, Shifts, Reduces, move_of, top_of, reduce, step, step_by, Goes, Ends, goes_to, next_of, after}
 use Rattle.mh_tables.proofs.Reductions.{reduced, reduces_from_move, move_at_next}
+use Rattle.mh_tables.proofs.Asking.{goes_not, no_refusal_at_end}
 use Rattle.mh_tables.proofs.Ending.{step_moves}
 use Rattle.std.specs.List.{AllByRecursion}
-use Rattle.mh_tables.specs.declared.parts.Fallback.{Fallback}
-use Rattle.mh_tables.specs.declared.parts.Fallback.TheVariants as fallbacks
-use Rattle.mh_tables.specs.Table.{fallback_of}
-use Rattle.mh_tables.specs.Run.{Rejected, initial, move_by_default}
+use Rattle.mh_tables.specs.Run.{Rejected, initial}
 use Rattle.mh_tables.specs.Failing.{Fails}
 use Rattle.mh_least.specs.Search.{Reaches, Refused}
 use Rattle.mh_least.specs.Search as rules
@@ -147,29 +145,19 @@ pub record Refusal (t : TableData) (c : Config) (at s : ℕ) : Type 0 where
   pub read : c.read ≡ at
   pub top : top_of c.stack ≡ s
 
-refusal_goes : (t : TableData) (c : Config) (o : Option (List ℕ)) (at s : ℕ) → goes_to c o ≡ Ends (Rejected at s) → ⊥
-refusal_goes t c None at s e = cc
-refusal_goes t c (Some new) at s e = cc
-
 refusal_by : (t : TableData) (c : Config) (m : Move) (at s : ℕ) → move_of t (top_of c.stack) c.left ≡ m → step_by t c m ≡ Ends (Rejected at s) → Refusal t c at s
 refusal_by t c Accepts at s m e = cc
 refusal_by t c Asks at s m e = cc
 refusal_by t c Refuses at s m e = record { move = m; read = cc; top = cc }
 refusal_by t c (Shifts j) at s m e = cc
-refusal_by t c (Reduces q) at s m e = absurd (refusal_goes t c (reduce t q c.stack) at s e)
+refusal_by t c (Reduces q) at s m e = absurd (goes_not c (reduce t q c.stack) (Rejected at s) e)
 
 pub refusal : (t : TableData) (c : Config) (at s : ℕ) → step t c ≡ Ends (Rejected at s) → Refusal t c at s
 refusal t c at s e = let m = step_moves t c (move_of t (top_of c.stack) c.left) refl in refusal_by t c (move_of t (top_of c.stack) c.left) at s refl (sym m ∙ e)
 
-by_default_refuses : (f : Option Fallback) → move_by_default f Asks ≡ Refuses → ⊥
-by_default_refuses None e = cc
-by_default_refuses (Some fallbacks.Accept) e = cc
-by_default_refuses (Some (fallbacks.Reduce p)) e = cc
-
 -- no state refuses where no token is left
 pub refusal_left : (t : TableData) (s : ℕ) (left : List ℕ) → move_of t s left ≡ Refuses → 0 < length left
-unfolding move_of
-refusal_left t s [] e = absurd (by_default_refuses (fallback_of t s) e)
+refusal_left t s [] e = absurd (no_refusal_at_end t s e)
 refusal_left t s (z ∷ left) e = omega arith
 
 last_known : (n : ℕ) (v : List ℕ) (z : ℕ) → AllByRecursion (λ y. y < n) (v ++ z ∷ []) → z < n

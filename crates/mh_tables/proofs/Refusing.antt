@@ -1,15 +1,12 @@
 -- A run that ends in a refusal: the stack that it ends with has the state on its top, so it is one of the table's.
-use Rattle.std.proofs.Common.{◌≡◌, ℕ, ◌-◌, ◌<◌, List, Option, None, Some, length, refl, sym, ◌∙◌, arith}
+use Rattle.std.proofs.Common.{◌≡◌, ℕ, ◌-◌, ◌<◌, List, length, refl, sym, ◌∙◌, arith}
 use Rattle.mh_tables.specs.Table.{TableData}
 use Rattle.mh_tables.specs.Facts.{Facts}
-use Rattle.mh_tables.specs.Run.{Config, Move, Accepts, Asks, Refuses, Shifts, Reduces, reduce, goes_to, move_of, top_of, step_by, Ends, after, initial, Ending, Rejected, VerdictOf, IsRunStack}
+use Rattle.mh_tables.specs.Run.{Config, Move, Accepts, Asks, Refuses, Shifts, Reduces, reduce, move_of, top_of, step_by, Ends, after, initial, Rejected, VerdictOf, IsRunStack}
+use Rattle.mh_tables.proofs.Asking.{goes_not}
 use Rattle.mh_tables.proofs.Ending.{step_moves}
 use Rattle.mh_tables.proofs.Path.{state_known}
 use Rattle.mh_tables.proofs.Trees.{stands_from_start}
-
-goes_not : (c : Config) (o : Option (List ℕ)) (how : Ending) → goes_to c o ≡ Ends how → ⊥
-goes_not c None how is = cc
-goes_not c (Some stack) how is = cc
 
 module _ (t : TableData) where
   -- a stack of a run with the state on its top
