@@ -1,4 +1,4 @@
-pub mod Known
+mod Known
 pub mod Placing
 pub mod Files
 pub mod Missing

@@ -6,11 +6,12 @@ use Rattle.std.proofs.lemmas.List.Elements.{Contains-append_right}
 use Rattle.mh_grammar.proofs.Lists.{at_contains, get_left, contains_here}
 use Rattle.mh_tables.specs.Table.{TableData}
 use Rattle.mh_tables.specs.Run.{Ending, Rejected}
+use Rattle.mh_tables.proofs.OneTreeEnding.{one_verdict}
 use Rattle.mh_msgfile.specs.declared.messages.MsgSentence.{MsgSentence}
 use Rattle.mh_msgfile.specs.declared.messages.MsgFile.{MsgFile}
 use Rattle.mh_check.specs.Checks.{FailsIn, Sound, FaultFound, NotRefusedAt, SharedBy, IsNoRefusal, Accepts, Overshoots, Breaks, NotRefused, RefusedEarly, Shared, FirstFault}
 use Rattle.mh_check.specs.Compiling.{message_at, IsCompiled}
-use Rattle.mh_check.proofs.Known.{fails_once, one_verdict}
+use Rattle.mh_check.proofs.Known.{fails_once}
 
 -- ---- where two splits of one list stand
 

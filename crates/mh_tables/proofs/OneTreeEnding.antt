@@ -36,7 +36,7 @@ module _ (t : TableData) (start : ℕ) (w : List ℕ) where
       let e : a.steps + b.steps ≡ b.steps + a.steps = omega arith in
       let both : x ∷ [] ≡ y ∷ [] = sym a.trees ∙ left ∙ ap (λ (n : ℕ). trees_after t n (initial start w) []) e ∙ right ∙ b.trees in cc
 
-  one_verdict : (a b : Ending) → VerdictOf t start w a → VerdictOf t start w b → a ≡ b
+  pub one_verdict : (a b : Ending) → VerdictOf t start w a → VerdictOf t start w b → a ≡ b
   one_verdict a b = one_ending t (initial start w) a b
 
   accepts_so : (r : ℕ) (x : SyntaxTree) → IsTreeOfRead t start w r x → VerdictOf t start w (Accepted r)

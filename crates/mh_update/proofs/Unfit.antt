@@ -13,6 +13,7 @@ use Rattle.mh_tables.specs.Table.{TableData}
 use Rattle.mh_tables.specs.Halting.{HaltingFacts}
 use Rattle.mh_tables.specs.Run.{Ending, VerdictOf, Accepted, Overshot, Rejected, initial}
 use Rattle.mh_tables.proofs.Ending.{has_verdict}
+use Rattle.mh_tables.proofs.OneTreeEnding.{one_verdict}
 use Rattle.mh_tables.proofs.Cut.{verdict_cut}
 use Rattle.mh_run.specs.Trace.{reduced_since}
 use Rattle.mh_msgfile.specs.declared.messages.MsgSentence.{MsgSentence}
@@ -21,7 +22,6 @@ use Rattle.mh_msgfile.specs.declared.messages.MsgFile.{MsgFile}
 use Rattle.mh_msgfile.specs.Messages.{IsOf, AreOf}
 use Rattle.mh_check.specs.Checks.{FailsIn, FaultFound, NotRefusedAt, RefusedEarlyAt, IsNoRefusal, Accepts, Overshoots, Breaks, NotRefused, RefusedEarly, Shared, sentences_of}
 use Rattle.mh_tables.proofs.Refusing.{state_refused}
-use Rattle.mh_check.proofs.Known.{one_verdict}
 use Rattle.mh_comments.specs.Comments.{comments}
 use Rattle.mh_comments.proofs.Farthest.{some_farthest}
 use Rattle.mh_renewed.specs.declared.comment.Comment.{Comment}
