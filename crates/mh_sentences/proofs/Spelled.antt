@@ -7,13 +7,12 @@ use Rattle.mh_grammar.specs.declared.types.Symbol.TheVariants.{T, N}
 use Rattle.mh_grammar.specs.Plain.{rhs_of}
 use Rattle.mh_tables.specs.Table.{TableData}
 use Rattle.mh_facts.specs.declared.store.FactKey.{FactKey}
-use Rattle.mh_facts.specs.declared.store.Fact.{Fact}
 use Rattle.mh_facts.specs.declared.store.Back.{Back}
 use Rattle.mh_facts.specs.declared.store.Back.TheVariants as backs
-use Rattle.mh_facts.specs.Stored.{Facts, fact_at}
+use Rattle.mh_facts.specs.Stored.{Facts}
 use Rattle.mh_ways.specs.Tales.{Tale, WordBy, before_dot, token_of, size_by, sizes_of}
 use Rattle.mh_sentences.specs.Spelling.{WordsOf, SpellsOne, SpellsNext}
-use Rattle.mh_ways.proofs.Wording.{some_is}
+use Rattle.mh_ways.proofs.Wording.{some_is, fact_of_word, size_some}
 
 pub words_push : (words : FactKey → Option (List ℕ)) (ks : List FactKey) (k : FactKey) (a v : List ℕ) → WordsOf words ks a → words k ≡ Some v → WordsOf words (ks ++ k ∷ []) (a ++ v)
 words_push words [] k a v h e = (v, [], e, refl, rw h (sym (append-nil v)))
@@ -34,13 +33,6 @@ reverse_token (Some (N n)) xs = ap reverse (append-nil xs)
 abbrev pub Tells : (FactKey → Option (List ℕ)) → List FactKey → List ℕ → List ℕ → Type 0
 Tells words stack spelled whole = (u : List ℕ) × WordsOf words stack u × (u ++ reverse spelled ≡ whole)
 
-stored : (t : TableData) (facts : Facts) (tale : Tale t facts) (k : FactKey) (v : List ℕ) → tale.words k ≡ Some v → (f : Fact) × (fact_at facts k ≡ Some f)
-stored t facts tale k v e = by (fact_at facts k) refl
-  where
-    by : (o : Option Fact) → fact_at facts k ≡ o → (f : Fact) × (fact_at facts k ≡ Some f)
-    by None s = absurd (let n : tale.words k ≡ None = tale.none k s in let y : None ≡ Some v = sym n ∙ e in cc)
-    by (Some f) s = (f, s)
-
 -- the size of a stack
 abbrev pub size_of_all : (FactKey → ℕ) → List FactKey → ℕ
 size_of_all sizes [] = 0
@@ -49,11 +41,6 @@ size_of_all sizes (k ∷ ks) = sizes k + size_of_all sizes ks
 size_push : (sizes : FactKey → ℕ) (ks : List FactKey) (k : FactKey) → size_of_all sizes (ks ++ k ∷ []) ≡ size_of_all sizes ks + sizes k
 size_push sizes [] k = omega arith
 size_push sizes (x ∷ ks) k = let l = size_push sizes ks k in omega arith
-
-size_some : (sizes : FactKey → ℕ) (back : Back) → 1 ≤ size_by sizes back
-size_some sizes backs.Empty = omega arith
-size_some sizes (backs.Shifted path) = omega arith
-size_some sizes (backs.Reduced path inner) = omega arith
 
 module _ (t : TableData) (facts : Facts) (tale : Tale t facts) (k : FactKey) (old new : List FactKey) (spelled more whole : List ℕ) where
   -- one step, by what the fact came from
@@ -69,7 +56,7 @@ module _ (t : TableData) (facts : Facts) (tale : Tale t facts) (k : FactKey) (ol
   pub next_on : Tells tale.words (old ++ k ∷ []) spelled whole → SpellsNext t facts k old new spelled more → Tells tale.words new more whole
   next_on h s =
       let p = words_pop tale.words old k h.0 h.1 in
-      let f = stored t facts tale k p.1 p.3 in
+      let f = fact_of_word t facts tale k p.1 p.3 in
       let told = tale.some k f.0 f.1 in
       let v : told.word ≡ p.1 = some_is (tale.words k) told.word p.1 told.is p.3 in
       let is : p.0 ++ (p.1 ++ reverse spelled) ≡ whole = sym (append_assoc p.0 p.1 (reverse spelled)) ∙ ap (λ (l : List ℕ). l ++ reverse spelled) (sym p.4) ∙ h.2 in
@@ -85,7 +72,7 @@ module _ (t : TableData) (facts : Facts) (tale : Tale t facts) (k : FactKey) (ol
 
   pub next_less : (v : List ℕ) → tale.words k ≡ Some v → SpellsNext t facts k old new spelled more → size_of_all (sizes_of facts) new < size_of_all (sizes_of facts) (old ++ k ∷ [])
   next_less v e s =
-      let f = stored t facts tale k v e in
+      let f = fact_of_word t facts tale k v e in
       let told = tale.some k f.0 f.1 in
       let l = size_push (sizes_of facts) old k in
       let some = size_some (sizes_of facts) f.0.back in

@@ -207,7 +207,7 @@ unfolding cost_of_token
 token_cheap t f x lt = let long = f.ranges.each_cost in let c = (All-get_or (λ (n : ℕ). IsCost n) t.costs x 0 (omega arith) f.ranges.costs).1 in omega (arith, c)
 
 -- A store tells one tale.
-size_some : (sizes : FactKey → ℕ) (back : Back) → 1 ≤ size_by sizes back
+pub size_some : (sizes : FactKey → ℕ) (back : Back) → 1 ≤ size_by sizes back
 size_some sizes backs.Empty = omega arith
 size_some sizes (backs.Shifted path) = omega arith
 size_some sizes (backs.Reduced path inner) = omega arith
