@@ -9,7 +9,6 @@ use Rattle.std.proofs.lemmas.List.{length_push, length-replicate, get_or-replica
 use Rattle.std.proofs.lemmas.Option.{slice_get_within, get_or_from_slice_get}
 use Rattle.mh_grammar.proofs.Lists.{get_left, get_cases, same_at, has_place, at_contains, contains_at}
 use Rattle.mh_tables.specs.Table.{TableData}
-use Rattle.mh_grammar.specs.WordOrder.{LexLe}
 use Rattle.mh_tables.specs.Failing.{cost_by}
 use Rattle.mh_facts.specs.declared.store.FactKey.{FactKey}
 use Rattle.mh_facts.specs.declared.store.Fact.{Fact}
@@ -22,6 +21,7 @@ use Rattle.mh_words.specs.declared.made.Made.{Made}
 use Rattle.mh_words.specs.declared.made.Last.{Last}
 use Rattle.mh_words.specs.declared.made.Last.TheVariants as lasts
 use Rattle.mh_words.specs.Words.{Word, Words, empty_word, IsBook, Before, IsFront, letters_in, group_in, letters_of, group_of}
+use Rattle.mh_words.proofs.Ordered.{before_no_later}
 use Rattle.mh_words.specs.Numbered.{AreBelowGroup, AreEven, AreKnown, Numbers}
 use Rattle.mh_ways.specs.declared.work.Item.{Item}
 use Rattle.mh_found.specs.declared.numbers.Numbering.{Numbering}
@@ -105,17 +105,11 @@ module _ (facts : Facts) (words later : FactKey → Option (List ℕ)) (level : 
   }
 
 -- words of one group go by their numbers
-before_le : (u v : List ℕ) → Before u v → LexLe u v
-before_le [] v h = tt
-before_le (x ∷ u) [] h = absurd h
-before_le (x ∷ u) (y ∷ v) (inl lt) = inl lt
-before_le (x ∷ u) (y ∷ v) (inr both) = inr (both.0, before_le u v both.1)
-
 pub no_later : (t : TableData) (book : Words) (level m n : ℕ) (u v : List ℕ) → IsBook book → level < cap → m ≤ n → StandsFor book m level u → StandsFor book n level v → level ≡ capped t u → level ≡ capped t v → NoLater t u v
 no_later t book level m n u v is lt le a b e g = elim (cases_lt m n) [
   | inl less ↦ (
       let before : Before (letters_of book m) (letters_of book n) = (is.groups m n less b.known).1 (a.group ∙ sym b.group) in
-      orders.FirstLe.Lower (grind (arith, common_steps, lt, e, g)) (before_le u v (rw (a.letters, b.letters) at before)))
+      orders.FirstLe.Lower (grind (arith, common_steps, lt, e, g)) (before_no_later u v (rw (a.letters, b.letters) at before)))
   | inr ge ↦ (
       let same : m ≡ n = omega arith in
       let one : u ≡ v = sym a.letters ∙ ap (λ (i : ℕ). letters_of book i) same ∙ b.letters in
