@@ -64,7 +64,8 @@ closed_cases g I p d look (added {p = q} {d = e} {y = y} {a = l} c s is b) = inr
   before = rw is.lhs s;
 })
 
-kernel_past : (a : Automaton) (s : ℕ) → length a.kernels ≤ s → kernel_at a s ≡ no_kernel
+-- behind the last state there is no kernel
+pub kernel_past : (a : Automaton) (s : ℕ) → length a.kernels ≤ s → kernel_at a s ≡ no_kernel
 unfolding kernel_at
 kernel_past a s h = get_or_past a.kernels s no_kernel h
 

@@ -14,9 +14,10 @@ use Rattle.mh_grammar.proofs.Lists.{contains_none, contains_one, recursion_conta
 use Rattle.mh_kernels.specs.Shapes.{KernelItem}
 use Rattle.mh_kernels.specs.Shapes.{Kernel}
 use Rattle.mh_kernels.specs.Shapes.{Automaton}
-use Rattle.mh_kernels.specs.Automaton.{IsAutomaton, kernel_at, edges_at, leads_to, Moves, IsTarget, no_kernel}
+use Rattle.mh_kernels.specs.Automaton.{IsAutomaton, kernel_at, edges_at, leads_to, Moves, IsTarget}
 use Rattle.mh_tables.specs.declared.parts.StateParts.{StateParts}
 use Rattle.mh_cells.specs.States.{AreResolved}
+use Rattle.mh_cells.proofs.Closed.{kernel_past}
 use Rattle.mh_tabform.specs.declared.types.RawTable.{RawTable}
 use Rattle.mh_valid.specs.Valid.{IsValidFor, HasStates, AreKernels, AreEdgesAt, HasEdges, IsKernelAt, IsAtEnd, of_kernels}
 
@@ -29,11 +30,7 @@ resolved_of g raw a parts v = record {
 
 -- Kernels.
 
--- what each known state's kernel has, each kernel has
-kernel_past : (a : Automaton) (s : ℕ) → length a.kernels ≤ s → kernel_at a s ≡ no_kernel
-unfolding kernel_at
-kernel_past a s h = get_or_past a.kernels s no_kernel h
-
+-- behind the last state there are no edges
 edges_past : (a : Automaton) (s : ℕ) → length a.edges ≤ s → edges_at a s ≡ []
 unfolding edges_at
 edges_past a s h = get_or_past a.edges s [] h
