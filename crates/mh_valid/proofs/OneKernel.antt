@@ -20,13 +20,14 @@ same_look g n (Token y) End h k e = absurd (n.no_end y h e)
 same_look g n End (Token z) h k e = absurd (n.no_end z k (sym e))
 same_look g n End End h k e = refl
 
-first_of : {X : Type 0} (x y : X) (xs ys : List X) → x ∷ xs ≡ y ∷ ys → x ≡ y
+-- lists that are one have one first item and one rest
+pub first_of : {X : Type 0} (x y : X) (xs ys : List X) → x ∷ xs ≡ y ∷ ys → x ≡ y
 first_of x y xs ys e = cc
 
-rest_of : {X : Type 0} (x y : X) (xs ys : List X) → x ∷ xs ≡ y ∷ ys → xs ≡ ys
+pub rest_of : {X : Type 0} (x y : X) (xs ys : List X) → x ∷ xs ≡ y ∷ ys → xs ≡ ys
 rest_of x y xs ys e = cc
 
-none_cons : {X : Type 0} (x : X) (xs : List X) → [] ≡ x ∷ xs → ⊥
+pub none_cons : {X : Type 0} (x : X) (xs : List X) → [] ≡ x ∷ xs → ⊥
 none_cons x xs e = cc
 
 same_looks : (g : Grammar) → AreNamesApart g → (ls ms : List Look) → AllByRecursion (IsLookBelow (length g.tokens)) ls → AllByRecursion (IsLookBelow (length g.tokens)) ms → map (look_name g) ls ≡ map (look_name g) ms → ls ≡ ms
