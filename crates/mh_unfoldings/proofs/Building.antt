@@ -1,10 +1,11 @@
 -- Unfoldings of inline instances, each made from those of the instances that it is made of.
-use Rattle.std.proofs.Common.{◌≡◌, ℕ, zero, suc, ◌≤◌, true, List, [], ◌∷◌, Option, Some, take, sym, ◌∙◌, arith, subst}
+use Rattle.std.proofs.Common.{◌≡◌, ℕ, ◌≤◌, true, List, Option, Some, take, sym, ◌∙◌, arith, subst}
 use Rattle.std.specs.List.{slice_get}
 use Rattle.std.proofs.lemmas.Bool.{false≢true}
-use Rattle.std.proofs.lemmas.Option.{same_Some, none-some}
+use Rattle.std.proofs.lemmas.Option.{same_Some}
 use Rattle.mh_rules.specs.declared.instances.Part.TheVariants.{Instance as Applied}
 use Rattle.mh_rules.specs.declared.instances.Instance.{Instance}
+use Rattle.mh_grammar.proofs.OneNumbering.{take_place}
 use Rattle.mh_grammar.proofs.Placing.{at_contains}
 use Rattle.mh_producers.specs.declared.unfolding.Unfolding.{Unfolding}
 use Rattle.mh_producers.specs.declared.sizes.Size.{Size}
@@ -23,12 +24,6 @@ small_size us s z k l = let e = z.count in let f = z.longest in record { few = o
 pub size_small : (us : List Unfolding) (s : Size) → IsSize us s → AreSmall us → (s.count ≤ 20000) × (s.longest ≤ 10000)
 size_small us s z a = let e = z.count in let f = z.longest in let few = a.few in let short = a.short in (omega arith, omega arith)
 
-pub get_taken : {X : Type 0} (xs : List X) (i j : ℕ) (x : X) → slice_get (take i xs) j ≡ Some x → slice_get xs j ≡ Some x
-get_taken xs zero j x e = absurd (none-some x e)
-get_taken [] (suc i) j x e = absurd (none-some x e)
-get_taken (y ∷ xs) (suc i) zero x e = e
-get_taken (y ∷ xs) (suc i) (suc j) x e = get_taken xs i j x e
-
 module _ (is : List Instance) where
   -- the unfoldings of an inline instance are those of its alternatives
   pub each_of_part : (n : ℕ) (i : Instance) (us : List Unfolding) → slice_get is n ≡ Some i → is_inlined is n ≡ true → UnfoldsPart is (Applied n) us → UnfoldsEach is i.productions us
@@ -45,7 +40,7 @@ module _ (is : List Instance) where
         right = z.right.sound n o.size o.sized;
         some = λ m inl.
             let place = at_contains (take i s.order.items) m (o.behind m inl) in
-            let p = z.ordered place.0 m (get_taken s.order.items i place.0 m place.1) in
+            let p = z.ordered place.0 m (take_place i s.order.items place.0 m place.1) in
             let right = z.right.sound m p.size p.sized in
             (right.unfoldings, right.unfolds);
         behind = λ m us inl u small. k.each m us (a.inline i n m at (record { place = inl.place; production = inl.production; alternative = inl.alternative; among = record { producer = inl.producer; at = inl.at; used = inl.used } })) (o.behind m inl) u small;

@@ -5,6 +5,7 @@ use Rattle.std.specs.Option.{IfSome}
 use Rattle.std.proofs.lemmas.Bool.{cases_eq, eqb-true}
 use Rattle.std.proofs.lemmas.List.{append-nil, take_more}
 use Rattle.std.proofs.lemmas.Option.{none-some, same_Some, slice_get_within, slice_get-get_or, get_or_from_slice_get}
+use Rattle.mh_grammar.proofs.OneNumbering.{take_place}
 use Rattle.mh_grammar.proofs.Lists.{set_here, set_elsewhere, split_at}
 use Rattle.mh_rules.specs.declared.joined.Prec.TheVariants.{Absent}
 use Rattle.mh_rules.specs.declared.instances.Part.{Part}
@@ -19,7 +20,6 @@ use Rattle.mh_producers.specs.Unfoldings as unfoldings
 use Rattle.mh_producers.specs.Unfoldings.{own, choices, UnfoldsPart, Unfolds, UnfoldsEach}
 use Rattle.mh_unfoldings.specs.Known.{IsKnown, AreKnown, AreEachKnown}
 use Rattle.mh_unfoldings.specs.Uses.{Forgets}
-use Rattle.mh_unfoldings.proofs.Building.{get_taken}
 use Rattle.mh_producers.proofs.Choices.{choices-nothing_left, choices-nothing_right, choices_assoc}
 use Rattle.mh_producers.proofs.Producers.{inline_some}
 use Rattle.mh_choices.proofs.Changing.{own-absent}
@@ -77,13 +77,13 @@ module _ (is : List Instance) where
 
   module _ (known : List (List Unfolding)) where
     pub known_front : (Xs : List Part) (i : ℕ) → AreKnown is known Xs → AreKnown is known (take i Xs)
-    known_front Xs i k = record { each = λ j n at e. k.each j n (get_taken Xs i j (Applied n) at) e }
+    known_front Xs i k = record { each = λ j n at e. k.each j n (take_place i Xs j (Applied n) at) e }
 
     pub known_behind : (Xs : List Part) (i : ℕ) → AreKnown is known Xs → AreKnown is known (drop i Xs)
     known_behind Xs i k = record { each = λ j n at e. k.each (i + j) n (get_dropped Xs i j (Applied n) at) e }
 
     pub each_front : (ps : List InstanceProduction) (i : ℕ) → AreEachKnown is known ps → AreEachKnown is known (take i ps)
-    each_front ps i k = record { each = λ j p at. k.each j p (get_taken ps i j p at) }
+    each_front ps i k = record { each = λ j p at. k.each j p (take_place i ps j p at) }
 
     pub each_behind : (ps : List InstanceProduction) (i : ℕ) → AreEachKnown is known ps → AreEachKnown is known (drop i ps)
     each_behind ps i k = record { each = λ j p at. k.each (i + j) p (get_dropped ps i j p at) }
