@@ -1,6 +1,6 @@
 -- One line, from the calls that take and answer it.
 use Rattle.std.proofs.Common.{◌≡◌, inl, inr, ◌<◌, ◌≤◌, ℕ, true, false, [], Option, None, Some, refl, sym, subst, Vec}
-use Rattle.std.proofs.lemmas.List.{append-nil}
+use Rattle.std.proofs.KnownBytes.{Appends-nil}
 use Rattle.std.specs.Prelude.{Ok, Err, Result}
 use Rattle.std.specs.declared.alloc.Global.{Global}
 use Rattle.std.specs.Io.KnownBytes.{Appends, Keeps}
@@ -52,10 +52,6 @@ text_ran Is text given out0 out1 (Err (Halted cause)) is same wrote = absurd wro
 text_ran Is text given out0 out1 (Err (ShelfFailed name)) is same wrote = absurd wrote
 text_ran Is text given out0 out1 (Err InputFailed) is same wrote = absurd wrote
 text_ran Is text given out0 out1 (Err OutOfMemory) is same wrote = absurd wrote
-
-Appends-nil : (out : Option Text) → Appends out out []
-Appends-nil None = tt
-Appends-nil (Some out) = sym (append-nil out)
 
 -- ---- on the way of a mode
 

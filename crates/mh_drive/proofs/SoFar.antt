@@ -1,6 +1,6 @@
 -- The lines that a mode has answered, after some of them.
 use Rattle.std.proofs.Common.{◌≡◌, ◌⊎◌, inl, inr, ◌<◌, ◌≤◌, ◌+◌, ℕ, zero, suc, true, false, List, [], ◌∷◌, ◌++◌, length, take, Option, None, Some, refl, sym, ◌∙◌, ap, ap₂, subst, arith, append_assoc, length-append}
-use Rattle.std.proofs.lemmas.List.{append-nil}
+use Rattle.std.proofs.KnownBytes.{Appends-nil}
 use Rattle.std.specs.Prelude.{Ok, Err, Bool}
 use Rattle.std.specs.Io.KnownBytes.{Appends, Keeps, IsAtEnd}
 use Rattle.mh_outside.specs.Lines.{HasNoEnd, TakesLine, Loses, behind_line}
@@ -43,10 +43,6 @@ module _ {Plan : Type 0} (way : Way Plan) where
     pub answers : AnswersAll way plan lines text next
     pub on_out : Appends out0 out1 text
     pub got : Got (way.asks_of plan) m in0 in1 lines
-
-  Appends-nil : (out : Option Text) → Appends out out []
-  Appends-nil None = tt
-  Appends-nil (Some out) = sym (append-nil out)
 
   known_start : (asks : Asks) (input : Option Text) → Known asks (most asks) input input []
   known_start asks None = tt

@@ -1,8 +1,7 @@
 -- How the mode of a job is opened and run.
 use Rattle.std.proofs.Common.{◌≡◌, inl, inr, ℕ, [], arith, Option, None, Some, refl, sym, subst}
-use Rattle.std.proofs.lemmas.List.{append-nil}
+use Rattle.std.proofs.KnownBytes.{Appends-nil}
 use Rattle.std.specs.Prelude.{true, Result, Ok, Err}
-use Rattle.std.specs.Io.KnownBytes.{Appends}
 use Rattle.mh_outside.specs.Shelf.{Files}
 use Rattle.mh_opts.specs.declared.jobs.Job.{Job}
 use Rattle.mh_grammar.specs.Text.{Text}
@@ -19,10 +18,6 @@ use Rattle.mh_prepared.specs.Shapes.{Prepared}
 use Rattle.mh_plans.specs.Files.{IsTurnOfJob}
 use Rattle.mh_plans.specs.Modes.{Followed, IsUnopened, Opens}
 use Rattle.mh_plans.specs.Plan.{Plan, by_plan, IsPlanOfJob, halts}
-
-Appends-nil : (out : Option Text) → Appends out out []
-Appends-nil None = tt
-Appends-nil (Some out) = sym (append-nil out)
 
 -- ---- a mode that halts at once
 

@@ -1,6 +1,6 @@
 -- Each claim of the top call, from how its run ended.
 use Rattle.std.proofs.Common.{◌≡◌, ◌⊎◌, inl, inr, ℕ, Bool, true, false, List, [], ◌++◌, Option, None, Some, refl, sym, ◌∙◌, ap, subst, arith}
-use Rattle.std.proofs.lemmas.List.{append-nil}
+use Rattle.std.proofs.KnownBytes.{Appends-nil}
 use Rattle.std.specs.Io.KnownBytes.{Appends}
 use Rattle.mh_outside.specs.Faults.{Rose, IsCalm}
 use Rattle.mh_outside.specs.Shelf.{Files}
@@ -20,10 +20,6 @@ use Rattle.mh_drive.specs.declared.stop.Cause.{Cause}
 use Rattle.mh_drive.specs.declared.stop.Cause.TheVariants.{Refused, Misused, Missing, LongFile, LongInput}
 use Rattle.mh_program.proofs.Endings.{AccountsOn, ended, long_gives, misused_says, missing_gives}
 use Rattle.mh_program.proofs.Once.{work_once}
-
-Appends-nil : (out : Option Text) → Appends out out []
-Appends-nil None = tt
-Appends-nil (Some out) = sym (append-nil out)
 
 calm_not : (a b : ℕ) → IsCalm a b → Rose a b → ⊥
 calm_not a b calm rose = omega arith

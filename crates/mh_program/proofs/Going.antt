@@ -1,6 +1,6 @@
 -- How the work goes on: from the grammar to the table, the warnings, and the mode.
 use Rattle.std.proofs.Common.{◌≡◌, ◌≤◌, inl, inr, ℕ, List, [], arith, Option, None, Some, Bool, true, false, ◌&&◌, refl, sym, ◌∙◌, subst}
-use Rattle.std.proofs.lemmas.List.{append-nil}
+use Rattle.std.proofs.KnownBytes.{Appends-nil}
 use Rattle.std.specs.Prelude.{Result, Ok, Err}
 use Rattle.std.specs.Io.KnownBytes.{Appends}
 use Rattle.mh_outside.specs.Shelf.{Files}
@@ -28,10 +28,6 @@ use Rattle.mh_drive.specs.declared.stop.Cause.TheVariants.{Refused}
 use Rattle.mh_drive.specs.declared.stop.Stop.{Stop}
 use Rattle.mh_drive.specs.declared.stop.Stop.TheVariants.{Halted, ShelfFailed, InputFailed, WriteFailed, OutOfMemory}
 use Rattle.mh_drive.proofs.Binding.{names_wider, then_on, then_stops}
-
-Appends-nil : (out : Option Text) → Appends out out []
-Appends-nil None = tt
-Appends-nil (Some out) = sym (append-nil out)
 
 pub prepared_so : (words : List Text) (files : Option Files) (front : Front) (p : Prepared) → IsFront words files (Go front) → IsTabledFront files front (Go p) → IsPrepared words files (Go p)
 prepared_so words files front p is has = (Go front, is, has)
