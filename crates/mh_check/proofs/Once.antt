@@ -33,11 +33,11 @@ stand (z ∷ a) x b (w ∷ c) y d is =
     let first : z ≡ w = cc in
     let rest : a ++ x ∷ b ≡ c ++ y ∷ d = cc in stand_on z w a x b c y d first (stand a x b c y d rest)
 
-module _ (t : TableData) where
-  refuses_not : (how : Ending) (at s : ℕ) → IsNoRefusal how → how ≡ Rejected at s → ⊥
-  refuses_not how at s (Accepts read) is = cc
-  refuses_not how at s (Overshoots state) is = cc
+pub refuses_not : (how : Ending) (at s : ℕ) → IsNoRefusal how → how ≡ Rejected at s → ⊥
+refuses_not how at s (Accepts read) is = cc
+refuses_not how at s (Overshoots state) is = cc
 
+module _ (t : TableData) where
   -- a place of the sentence behind some others
   behind_place : (a m : List MsgSentence) (x : MsgSentence) → slice_get (a ++ x ∷ m) (length a) ≡ Some x
   behind_place [] m x = refl

@@ -26,10 +26,10 @@ texts_of lines block = map (line_at lines) block
 abbrev blank_text : Text → Bool
 blank_text line = list_all is_blank line
 
-abbrev is_kept_text : Text → Bool
+abbrev pub is_kept_text : Text → Bool
 is_kept_text line = not (is_taken_out line)
 
-filter_on : {A : Type 0} (q : A → Bool) (x : A) (xs : List A) (c : Bool) → q x ≡ c → filter q (x ∷ xs) ≡ (if c then x ∷ filter q xs else filter q xs)
+pub filter_on : {A : Type 0} (q : A → Bool) (x : A) (xs : List A) (c : Bool) → q x ≡ c → filter q (x ∷ xs) ≡ (if c then x ∷ filter q xs else filter q xs)
 filter_on q x xs true is = rw is refl
 filter_on q x xs false is = rw is refl
 
@@ -63,7 +63,7 @@ module _ {A B : Type 0} (f : A → B) (p : B → Bool) where
   map_runs : (xs : List A) → map (map f) (runs (λ y. p (f y)) xs) ≡ runs p (map f xs)
   map_runs xs = map_filter (map f) has_items has_items has_mapped (fields (λ y. p (f y)) xs) ∙ ap (filter has_items) (map_fields xs)
 
-dropped : (lines : List Text) (k : ℕ) (x : Text) (xs : List Text) → drop k lines ≡ x ∷ xs → (slice_index_or lines k [] ≡ x) × (drop (suc k) lines ≡ xs)
+pub dropped : (lines : List Text) (k : ℕ) (x : Text) (xs : List Text) → drop k lines ≡ x ∷ xs → (slice_index_or lines k [] ≡ x) × (drop (suc k) lines ≡ xs)
 dropped [] zero x xs is = cc
 dropped [] (suc k) x xs is = cc
 dropped (y ∷ lines) zero x xs is = ((cc), (cc))

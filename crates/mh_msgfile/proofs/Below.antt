@@ -1,7 +1,8 @@
 -- A sentence that is read is one of the grammar: its start and its tokens are known.
-use Rattle.std.proofs.Common.{◌≡◌, ◌<◌, ◌+◌, ℕ, zero, suc, Bool, true, false, List, [], ◌∷◌, length, Option, None, Some, refl, sym, ◌∙◌, ap, ap₂, subst, if◌then◌else◌, arith, take, drop, nat_lt, Result, Ok, Err, is_some, true≢false, append-nil, Bor}
+use Rattle.std.proofs.Common.{◌≡◌, ◌<◌, ◌+◌, ℕ, zero, suc, Bool, true, false, List, [], ◌∷◌, length, Option, None, Some, refl, sym, ◌∙◌, ap, ap₂, subst, if◌then◌else◌, arith, take, drop, nat_lt, Result, Ok, Err, append-nil, Bor}
 use Rattle.std.specs.Prelude.{is_ok}
 use Rattle.std.proofs.lemmas.List.{length-map}
+use Rattle.std.proofs.lemmas.Option.{none-some}
 use Rattle.std.proofs.lemmas.List.Elements.{recursion_from_All}
 use Rattle.std.specs.List.{list_all, position_from, All, AllByRecursion}
 use Rattle.std.specs.Str.{bytes_eq}
@@ -21,9 +22,6 @@ abbrev value_or : ℕ → Option ℕ → ℕ
 value_or none None = none
 value_or none (Some k) = k
 
-no_some : (k : ℕ) → None ≡ Some k → ⊥
-no_some k is = true≢false (sym (ap is_some is))
-
 position_on : (p : Text → Bool) (i k : ℕ) (x : Text) (xs : List Text) (c : Bool) → p x ≡ c → (position_from p (i + 1) xs ≡ Some k → k < i + 1 + length xs) → position_from p i (x ∷ xs) ≡ Some k → k < i + suc (length xs)
 position_on p i k x xs true here next is =
     let same : Some i ≡ Some k = rw here at is in
@@ -32,7 +30,7 @@ position_on p i k x xs false here next is =
     let later : position_from p (i + 1) xs ≡ Some k = rw here at is in omega (arith, next later)
 
 position_below : (p : Text → Bool) (i k : ℕ) (xs : List Text) → position_from p i xs ≡ Some k → k < i + length xs
-position_below p i k [] is = absurd (no_some k is)
+position_below p i k [] is = absurd (none-some k is)
 position_below p i k (x ∷ xs) is = position_on p i k x xs (p x) refl (position_below p (i + 1) k xs) is
 
 -- what names stand for is below these counts
@@ -45,9 +43,9 @@ number_below : (names : List Text) (name : Text) (k : ℕ) → number_of names n
 number_below names name k is = let lt : k < 0 + length names = position_below (bytes_eq name) 0 k names is in omega (arith, lt)
 
 only_below : (names : List Text) (k : ℕ) → only_one names ≡ Some k → k < length names
-only_below [] k is = absurd (no_some k is)
+only_below [] k is = absurd (none-some k is)
 only_below (name ∷ []) k is = let same : 0 ≡ k = ap (value_or 0) is in omega (arith, same)
-only_below (name ∷ other ∷ names) k is = absurd (no_some k is)
+only_below (name ∷ other ∷ names) k is = absurd (none-some k is)
 
 pub bounded : (g : Grammar) → IsBounded (length (start_names g)) (length (token_names g)) (vocabulary_of g)
 bounded g = record { starts = number_below (start_names g); only = only_below (start_names g); tokens = number_below (token_names g) }

@@ -3,7 +3,7 @@ use Rattle.std.proofs.Common.{◌≡◌, ◌≢◌, ◌<◌, ◌+◌, ◌==◌, 
 use Rattle.std.specs.Prelude.{slice_get}
 use Rattle.std.specs.List.{list_all, AllByRecursion, position_from}
 use Rattle.std.specs.Str.{bytes_eq}
-use Rattle.std.proofs.lemmas.Bool.{cases_Bool, eqb-true, eq-eqb, ne_eqb, cond-false}
+use Rattle.std.proofs.lemmas.Bool.{cases_Bool, and_parts, eqb-true, eqb-false, ne_eqb, cond-false}
 use Rattle.std.proofs.lemmas.Bool.Decides.{nat_tests}
 use Rattle.std.proofs.lemmas.List.{length-map}
 use Rattle.std.proofs.lemmas.List.Elements.{All-from_recursion}
@@ -12,6 +12,7 @@ use Rattle.std.proofs.lemmas.Slice.Eq.{bytes_eq-Decides}
 use Rattle.std.proofs.Math.Seq.{take-append_seam}
 use Rattle.mh_lex.specs.Bytes.{is_word_start, is_word_byte}
 use Rattle.mh_lex.specs.Words.{is_word}
+use Rattle.mh_lex.proofs.LaidOut.{start_is_byte}
 use Rattle.mh_grammar.specs.declared.types.Grammar.{Grammar}
 use Rattle.mh_grammar.specs.declared.types.TokenInfo.{TokenInfo}
 use Rattle.mh_grammar.specs.declared.types.NontermInfo.{NontermInfo}
@@ -66,32 +67,21 @@ word_byte_plain b is = rw (not_byte b 32 is refl, not_byte b 9 is refl, not_byte
 pub word_byte_no_colon : (b : ℕ) → is_word_byte b ≡ true → (b == 58) ≡ false
 word_byte_no_colon b is = not_byte b 58 is refl
 
-start_is_byte : (b : ℕ) → is_word_start b ≡ true → is_word_byte b ≡ true
-start_is_byte b is = rw is refl
-
-pub and_left : (a b : Bool) → (a && b) ≡ true → a ≡ true
-and_left true b is = refl
-and_left false b is = is
-
-pub and_right : (a b : Bool) → (a && b) ≡ true → b ≡ true
-and_right true b is = is
-and_right false b is = absurd (cc)
-
 bytes_plain : (w : Text) → list_all is_word_byte w ≡ true → Plain is_blank w
 bytes_plain [] is = tt
-bytes_plain (b ∷ w) is = (word_byte_plain b (and_left (is_word_byte b) (list_all is_word_byte w) is), bytes_plain w (and_right (is_word_byte b) (list_all is_word_byte w) is))
+bytes_plain (b ∷ w) is = (word_byte_plain b (and_parts (is_word_byte b) (list_all is_word_byte w) is).0, bytes_plain w (and_parts (is_word_byte b) (list_all is_word_byte w) is).1)
 
 no_colon : (w rest : Text) → list_all is_word_byte w ≡ true → colon_place (w ++ 58 ∷ rest) ≡ length w
 no_colon [] rest is = refl
 no_colon (b ∷ w) rest is =
-    rw (word_byte_no_colon b (and_left (is_word_byte b) (list_all is_word_byte w) is)) (ap (λ (n : ℕ). n + 1) (no_colon w rest (and_right (is_word_byte b) (list_all is_word_byte w) is)) ∙ add-one (length w))
+    rw (word_byte_no_colon b (and_parts (is_word_byte b) (list_all is_word_byte w) is).0) (ap (λ (n : ℕ). n + 1) (no_colon w rest (and_parts (is_word_byte b) (list_all is_word_byte w) is).1) ∙ add-one (length w))
 
 -- a word's bytes
 pub word_bytes : (w : Text) → is_word w ≡ true → list_all is_word_byte w ≡ true
 word_bytes [] is = refl
 word_bytes (b ∷ w) is =
-    let first = start_is_byte b (and_left (is_word_start b) (list_all is_word_byte w) is) in
-    let later = and_right (is_word_start b) (list_all is_word_byte w) is in rw (first, later) refl
+    let first = start_is_byte b (and_parts (is_word_start b) (list_all is_word_byte w) is).0 in
+    let later = (and_parts (is_word_start b) (list_all is_word_byte w) is).1 in rw (first, later) refl
 
 pub word_piece : (w rest : Text) → is_word w ≡ true → Starts is_blank rest → pieces (w ++ rest) ≡ w ∷ pieces rest
 word_piece [] rest is starts = absurd (cc)
@@ -127,7 +117,7 @@ module _ (names : List Text) (name_at : ℕ → Text) (are : (y : ℕ) (name : T
 -- ---- the names of a grammar
 
 module _ (g : Grammar) where
-  token_at : (y : ℕ) (name : Text) → slice_get (token_names g) y ≡ Some name → name ≡ token_name g y
+  pub token_at : (y : ℕ) (name : Text) → slice_get (token_names g) y ≡ Some name → name ≡ token_name g y
   unfolding token_name
   token_at y name at = sym (ap (λ (o : Option Text). unwrap_or o []) (sym (slice_get-map (λ (t : TokenInfo). t.name) g.tokens y) ∙ at))
 
@@ -205,17 +195,14 @@ module _ (g : Grammar) where
     abbrev IsPlainByte : ℕ → Type 0
     IsPlainByte b = (b ≢ 10) × (b ≢ 13)
 
-    differs : (b k : ℕ) → (b == k) ≡ false → b ≢ k
-    differs b k ne same = let both : (b == k) ≡ true = eq-eqb b k same in cc
-
     word_plain : (w rest : Text) → list_all is_word_byte w ≡ true → AllByRecursion IsPlainByte rest → AllByRecursion IsPlainByte (w ++ rest)
     word_plain [] rest is all = all
     word_plain (b ∷ w) rest is all =
-        let here = and_left (is_word_byte b) (list_all is_word_byte w) is in
-        ((differs b 10 (not_byte b 10 here refl), differs b 13 (not_byte b 13 here refl)), word_plain w rest (and_right (is_word_byte b) (list_all is_word_byte w) is) all)
+        let here = (and_parts (is_word_byte b) (list_all is_word_byte w) is).0 in
+        ((eqb-false b 10 (not_byte b 10 here refl), eqb-false b 13 (not_byte b 13 here refl)), word_plain w rest (and_parts (is_word_byte b) (list_all is_word_byte w) is).1 all)
 
     known_plain : (k : ℕ) → (k == 10) ≡ false → (k == 13) ≡ false → IsPlainByte k
-    known_plain k a b = (differs k 10 a, differs k 13 b)
+    known_plain k a b = (eqb-false k 10 a, eqb-false k 13 b)
 
     names_plain : (tokens : List ℕ) → AreTokens tokens → AllByRecursion IsPlainByte (names_after g tokens)
     names_plain [] are = tt
@@ -242,7 +229,7 @@ module _ (g : Grammar) where
     first_of_word : (w rest : Text) → is_word w ≡ true → (is_taken_out (w ++ rest) ≡ false) × (list_all is_blank (w ++ rest) ≡ false)
     first_of_word [] rest is = absurd (cc)
     first_of_word (b ∷ w) rest is =
-        let byte = start_is_byte b (and_left (is_word_start b) (list_all is_word_byte w) is) in
+        let byte = start_is_byte b (and_parts (is_word_start b) (list_all is_word_byte w) is).0 in
         (not_byte b 35 byte refl, rw (word_byte_plain b byte) refl)
 
     pub record LineBegins (line : Text) : Type 0 where

@@ -1,14 +1,13 @@
 -- Lines with an LF behind each, and the CR that a line may end in.
 use Rattle.std.proofs.Common.{◌≡◌, ◌≢◌, ◌<◌, ◌≤◌, ◌-◌, ◌==◌, ◌&&◌, ℕ, suc, Bool, true, false, cond, List, [], ◌∷◌, ◌++◌, length, take, sym, ◌∙◌, ap, subst, arith, nat_lt, append_assoc, get_or-take, slice_index}
 use Rattle.std.specs.List.{AllByRecursion, flat_map}
-use Rattle.std.proofs.lemmas.Bool.{eqb-true, cond-false}
+use Rattle.std.proofs.lemmas.Bool.{and_parts, eqb-true, cond-false}
 use Rattle.std.proofs.lemmas.List.{length-take-le, take_all}
 use Rattle.std.proofs.Math.Seq.{take-suc}
 use Rattle.std.proofs.lemmas.Bool.Decides.{nat_tests}
 use Rattle.bstr.specs.Text.{no_cr}
 use Rattle.mh_grammar.specs.Text.{Text}
 use Rattle.mh_msgfile.specs.Messages.{HasNoEnd, AreLines, NoLine, LastLine, EndedLine}
-use Rattle.mh_msgfile.proofs.Canonical.{and_left, and_right}
 
 abbrev pub with_ends : List Text → Text
 with_ends lines = flat_map (λ line. line ++ 10 ∷ []) lines
@@ -40,8 +39,8 @@ ends_in_cr line true is free = absurd (free (take (length line - 1) line) last_c
   where
     last_cr : line ≡ take (length line - 1) line ++ 13 ∷ []
     last_cr =
-        let some : nat_lt 0 (length line) ≡ true = and_left (nat_lt 0 (length line)) (slice_index line (length line - 1) == 13) is in
-        let byte : slice_index line (length line - 1) ≡ 13 = eqb-true _ 13 (and_right (nat_lt 0 (length line)) (slice_index line (length line - 1) == 13) is) in
+        let some : nat_lt 0 (length line) ≡ true = (and_parts (nat_lt 0 (length line)) (slice_index line (length line - 1) == 13) is).0 in
+        let byte : slice_index line (length line - 1) ≡ 13 = eqb-true _ 13 (and_parts (nat_lt 0 (length line)) (slice_index line (length line - 1) == 13) is).1 in
         let pos : 0 < length line = grind (arith, nat_tests) in
         let whole : suc (length line - 1) ≡ length line = omega arith in
         sym (take_all (length line) line (omega arith)) ∙ ap (λ (k : ℕ). take k line) (sym whole) ∙ take-suc line (length line - 1) 0 (omega arith) ∙ ap (λ (x : ℕ). take (length line - 1) line ++ x ∷ []) byte

@@ -1,7 +1,7 @@
 -- A start, a colon and names with blanks between are read as that sentence.
 use Rattle.std.proofs.Common.{◌≡◌, ◌<◌, ◌+◌, ◌==◌, ℕ, true, false, List, [], ◌∷◌, ◌++◌, length, map, take, drop, Some, refl, sym, ◌∙◌, ap, subst, arith, nat_lt, inl, inr, length-append, append-nil, add-one}
 use Rattle.std.specs.List.{list_all, AllByRecursion}
-use Rattle.std.proofs.lemmas.Bool.{cases_Bool, eqb-true}
+use Rattle.std.proofs.lemmas.Bool.{cases_Bool, and_parts, eqb-true}
 use Rattle.std.proofs.lemmas.Bool.Decides.{nat_tests}
 use Rattle.std.proofs.Math.Seq.{take-append_seam}
 use Rattle.mh_lex.specs.Bytes.{is_word_byte}
@@ -13,7 +13,7 @@ use Rattle.mh_msgfile.specs.Sentences.{vocabulary_of, is_blank, pieces, sole, co
 use Rattle.mh_msgfile.specs.Printed.{HasNames}
 use Rattle.mh_msgfile.specs.Spaced as spaced
 use Rattle.mh_msgfile.specs.Spaced.{Spaced, IsLineOf}
-use Rattle.mh_msgfile.proofs.Canonical.{all_words, and_left, and_right, behind, start_found, tokens_found, word_byte_no_colon, word_bytes, word_piece}
+use Rattle.mh_msgfile.proofs.Canonical.{all_words, behind, start_found, tokens_found, word_byte_no_colon, word_bytes, word_piece}
 
 abbrev AreWords : List Text → Type 0
 AreWords names = AllByRecursion (λ name. is_word name ≡ true) names
@@ -41,7 +41,7 @@ blank_clear b is = elim (cases_Bool (b == 58)) [
 
 word_clear : (w rest : Text) → list_all is_word_byte w ≡ true → AllByRecursion IsClear rest → AllByRecursion IsClear (w ++ rest)
 word_clear [] rest is clear = clear
-word_clear (b ∷ w) rest is clear = (word_byte_no_colon b (and_left (is_word_byte b) (list_all is_word_byte w) is), word_clear w rest (and_right (is_word_byte b) (list_all is_word_byte w) is) clear)
+word_clear (b ∷ w) rest is clear = (word_byte_no_colon b (and_parts (is_word_byte b) (list_all is_word_byte w) is).0, word_clear w rest (and_parts (is_word_byte b) (list_all is_word_byte w) is).1 clear)
 
 spaced_clear : (names : List Text) (text : Text) → AreWords names → Spaced names text → AllByRecursion IsClear text
 spaced_clear [] [] words spaced.Spaced.none = tt

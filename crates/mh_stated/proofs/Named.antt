@@ -1,5 +1,5 @@
 -- The look of a name.
-use Rattle.std.proofs.Common.{◌≡◌, ◌<◌, ◌+◌, ℕ, suc, Bool, true, false, List, [], ◌∷◌, length, Option, Some, None, codes, refl, sym, ap, ◌∙◌, subst, arith}
+use Rattle.std.proofs.Common.{◌≡◌, ◌<◌, ◌+◌, ℕ, suc, Bool, true, false, List, [], ◌∷◌, length, Some, None, codes, refl, sym, ap, ◌∙◌, subst, arith}
 use Rattle.std.specs.List.{slice_get, position_from}
 use Rattle.std.specs.Str.{bytes_eq}
 use Rattle.std.proofs.lemmas.List.{length-map}
@@ -9,9 +9,8 @@ use Rattle.mh_grammar.specs.declared.types.Look.{Look}
 use Rattle.mh_grammar.specs.declared.types.Look.TheVariants.{Token, End}
 use Rattle.mh_grammar.specs.Names.{token_name}
 use Rattle.mh_msgfile.specs.Sentences.{number_of, token_names}
-use Rattle.mh_msgfile.proofs.Canonical.{number_is}
-use Rattle.std.specs.Option.{unwrap_or}
-use Rattle.std.proofs.lemmas.Option.{slice_get_within, slice_get-map}
+use Rattle.mh_msgfile.proofs.Canonical.{number_is, token_at}
+use Rattle.std.proofs.lemmas.Option.{none-some, slice_get_within}
 use Rattle.std.proofs.lemmas.Slice.Eq.{bytes_eq-Decides}
 use Rattle.mh_valid.specs.Valid.{AreNamesApart}
 use Rattle.mh_stated.specs.Looking.{IsLookOf}
@@ -32,10 +31,6 @@ found_at : (name : List ℕ) (names : List (List ℕ)) (i k : ℕ) → position_
 found_at name [] i k is = cc
 found_at name (first ∷ names) i k is = found_on name first names i k (bytes_eq name first) refl (found_at name names (i + 1) k) is
 
-name_at : (g : Grammar) (z : ℕ) (name : List ℕ) → slice_get (token_names g) z ≡ Some name → name ≡ token_name g z
-unfolding token_name
-name_at g z name at = sym (ap (λ (o : Option (List ℕ)). unwrap_or o []) (sym (slice_get-map (λ (t : TokenInfo). t.name) g.tokens z) ∙ at))
-
 count : (g : Grammar) → length (token_names g) ≡ length g.tokens
 count g = length-map g.tokens (λ (t : TokenInfo). t.name)
 
@@ -44,16 +39,13 @@ token_named g name z h =
     let (y, e, at) = found_at name (token_names g) 0 z h in
     let same : y ≡ z = omega arith in
     let here : slice_get (token_names g) z ≡ Some name = subst (λ k. slice_get (token_names g) k ≡ Some name) same at in
-    record { below = (let lt = slice_get_within (token_names g) z name here in let n = count g in omega arith); named = name_at g z name here }
+    record { below = (let lt = slice_get_within (token_names g) z name here in let n = count g in omega arith); named = token_at g z name here }
 
 pub none_named : (g : Grammar) → AreNamesApart g → (name : List ℕ) → (name ≡ codes "#" → ⊥) → number_of (token_names g) name ≡ None → (look : Look) → IsLookOf g name look → ⊥
 none_named g n name other none (Token z) is =
     let c = count g in
     let lt : z < length (token_names g) = (let b = is.below in omega arith) in
-    let found : number_of (token_names g) (token_name g z) ≡ Some z = number_is (token_names g) (token_name g) (name_at g) (λ y x a b. n.apart y x (omega arith) (omega arith)) z lt in
+    let found : number_of (token_names g) (token_name g z) ≡ Some z = number_is (token_names g) (token_name g) (token_at g) (λ y x a b. n.apart y x (omega arith) (omega arith)) z lt in
     let gone : number_of (token_names g) (token_name g z) ≡ None = ap (number_of (token_names g)) (sym is.named) ∙ none in
-    no_some z (sym gone ∙ found)
-  where
-    no_some : (k : ℕ) → None ≡ Some k → ⊥
-    no_some k e = cc
+    none-some z (sym gone ∙ found)
 none_named g n name other none End is = other is.named

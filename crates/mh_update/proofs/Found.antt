@@ -1,5 +1,5 @@
 -- The sentences of a messages file, line by line.
-use Rattle.std.proofs.Common.{◌≡◌, ℕ, zero, suc, ◌+◌, ◌-◌, Bool, true, false, not, List, [], ◌∷◌, ◌++◌, length, map, drop, flat_map, filter, refl, sym, ◌∙◌, ap, if◌then◌else◌, arith, add-one, append-nil}
+use Rattle.std.proofs.Common.{◌≡◌, ℕ, ◌+◌, ◌-◌, Bool, true, false, not, List, [], ◌∷◌, ◌++◌, length, map, drop, flat_map, filter, refl, sym, ◌∙◌, ap, if◌then◌else◌, arith, add-one, append-nil}
 use Rattle.std.specs.Prelude.{slice_index_or}
 use Rattle.std.specs.List.{list_all}
 use Rattle.std.proofs.lemmas.Grind.{flat_map-append}
@@ -7,6 +7,7 @@ use Rattle.mh_grammar.specs.declared.types.Grammar.{Grammar}
 use Rattle.mh_grammar.specs.Text.{Text}
 use Rattle.mh_msgfile.specs.Sentences.{Vocabulary, vocabulary_of, put_first, fields, has_items, is_blank, LineFound, IsSentence, IsUnreadable, NamesNoStart, LacksStart, NamesUnknown, sentence_in}
 use Rattle.mh_msgfile.specs.Messages.{line_at, numbers_from, is_taken_out, is_kept, is_blank_line, blocks, FaultFound, BadShape, sentence_at, faults_of, sentences_of, first_number, faults_in, entries_in, MsgSpells}
+use Rattle.mh_msgfile.proofs.Again.{dropped, filter_on}
 use Rattle.mh_msgfile.specs.declared.messages.MsgSentence.{MsgSentence}
 use Rattle.mh_msgfile.specs.declared.messages.Entry.{Entry}
 use Rattle.mh_msgfile.specs.declared.messages.MsgFile.{MsgFile}
@@ -71,12 +72,6 @@ read_none Message = refl
 
 -- ---- the lines from a place on
 
-dropped : (lines : List Text) (k : ℕ) (x : Text) (xs : List Text) → drop k lines ≡ x ∷ xs → (slice_index_or lines k [] ≡ x) × (drop (suc k) lines ≡ xs)
-dropped [] zero x xs is = cc
-dropped [] (suc k) x xs is = cc
-dropped (y ∷ lines) zero x xs is = ((cc), (cc))
-dropped (y ∷ lines) (suc k) x xs is = dropped lines k x xs is
-
 record Line (lines : List Text) (k : ℕ) (x : Text) (xs : List Text) : Type 0 where
   line : line_at lines (k + 1) ≡ x
   rest : drop (k + 1) lines ≡ xs
@@ -92,19 +87,15 @@ module _ (lines : List Text) where
   abbrev kept_from : ℕ → List Text → List ℕ
   kept_from k xs = filter (is_kept lines) (numbers_from (k + 1) (length xs))
 
-  kept_on : (n : ℕ) (ns : List ℕ) (c : Bool) → is_kept lines n ≡ c → filter (is_kept lines) (n ∷ ns) ≡ (if c then n ∷ filter (is_kept lines) ns else filter (is_kept lines) ns)
-  kept_on n ns true is = rw is refl
-  kept_on n ns false is = rw is refl
-
   -- the texts of the kept lines
   kept_texts_on : (k : ℕ) (x : Text) (xs : List Text) (c : Bool) → is_taken_out x ≡ c → line_at lines (k + 1) ≡ x → map (line_at lines) (kept_from (k + 1) xs) ≡ filter (λ line. not (is_taken_out line)) xs
       → map (line_at lines) (kept_from k (x ∷ xs)) ≡ filter (λ line. not (is_taken_out line)) (x ∷ xs)
   kept_texts_on k x xs true is here more =
       let out : is_kept lines (k + 1) ≡ false = ap (λ (l : Text). not (is_taken_out l)) here ∙ ap not is in
-      ap (map (line_at lines)) (kept_on (k + 1) (numbers_from (k + 1 + 1) (length xs)) false out) ∙ more ∙ sym (rw is refl)
+      ap (map (line_at lines)) (filter_on (is_kept lines) (k + 1) (numbers_from (k + 1 + 1) (length xs)) false out) ∙ more ∙ sym (rw is refl)
   kept_texts_on k x xs false is here more =
       let stays : is_kept lines (k + 1) ≡ true = ap (λ (l : Text). not (is_taken_out l)) here ∙ ap not is in
-      ap (map (line_at lines)) (kept_on (k + 1) (numbers_from (k + 1 + 1) (length xs)) true stays) ∙ (λ i. here i ∷ more i) ∙ sym (rw is refl)
+      ap (map (line_at lines)) (filter_on (is_kept lines) (k + 1) (numbers_from (k + 1 + 1) (length xs)) true stays) ∙ (λ i. here i ∷ more i) ∙ sym (rw is refl)
 
   pub kept_texts : (k : ℕ) (xs : List Text) → drop k lines ≡ xs → map (line_at lines) (kept_from k xs) ≡ filter (λ line. not (is_taken_out line)) xs
   kept_texts k [] is = refl
@@ -145,17 +136,17 @@ module _ (lines : List Text) where
         → ((p : LinePlace) → IsRead p (k + 1) xs) → flat_map found_at (read place (fields_from k (x ∷ xs))) ≡ sentences_by (kind_by taken blank) place k x xs
     read_on place k x xs true blank out is here more =
         let gone : is_kept lines (k + 1) ≡ false = ap (λ (l : Text). not (is_taken_out l)) here ∙ ap not out in
-        ap (λ (ns : List ℕ). flat_map found_at (read place (fields (is_blank_line lines) ns))) (kept_on (k + 1) (numbers_from (k + 1 + 1) (length xs)) false gone) ∙ more place
+        ap (λ (ns : List ℕ). flat_map found_at (read place (fields (is_blank_line lines) ns))) (filter_on (is_kept lines) (k + 1) (numbers_from (k + 1 + 1) (length xs)) false gone) ∙ more place
     read_on place k x xs false true out is here more =
         let stays : is_kept lines (k + 1) ≡ true = ap (λ (l : Text). not (is_taken_out l)) here ∙ ap not out in
         let white : is_blank_line lines (k + 1) ≡ true = ap (list_all is_blank) here ∙ is in
-        ap (λ (ns : List ℕ). flat_map found_at (read place (fields (is_blank_line lines) ns))) (kept_on (k + 1) (numbers_from (k + 1 + 1) (length xs)) true stays)
+        ap (λ (ns : List ℕ). flat_map found_at (read place (fields (is_blank_line lines) ns))) (filter_on (is_kept lines) (k + 1) (numbers_from (k + 1 + 1) (length xs)) true stays)
         ∙ ap (λ (fs : List (List ℕ)). flat_map found_at (read place fs)) (fields_on (k + 1) (kept_from (k + 1) xs) true white)
         ∙ ap (flat_map found_at) (read_blank place (fields_from (k + 1) xs)) ∙ more (next Blank place)
     read_on place k x xs false false out is here more =
         let stays : is_kept lines (k + 1) ≡ true = ap (λ (l : Text). not (is_taken_out l)) here ∙ ap not out in
         let words : is_blank_line lines (k + 1) ≡ false = ap (list_all is_blank) here ∙ is in
-        ap (λ (ns : List ℕ). flat_map found_at (read place (fields (is_blank_line lines) ns))) (kept_on (k + 1) (numbers_from (k + 1 + 1) (length xs)) true stays)
+        ap (λ (ns : List ℕ). flat_map found_at (read place (fields (is_blank_line lines) ns))) (filter_on (is_kept lines) (k + 1) (numbers_from (k + 1 + 1) (length xs)) true stays)
         ∙ ap (λ (fs : List (List ℕ)). flat_map found_at (read place fs)) (fields_on (k + 1) (kept_from (k + 1) xs) false words)
         ∙ ap (flat_map found_at) (read_words place (k + 1) (fields_from (k + 1) xs))
         ∙ words_at place (k + 1) (read (next Words place) (fields_from (k + 1) xs)) (sentences v (next Words place) (k + 1) xs) (more (next Words place))

@@ -1,11 +1,11 @@
 -- Comment lines are lines that are made anew.
-use Rattle.std.proofs.Common.{◌≡◌, ◌≢◌, ℕ, ◌-◌, ◌<◌, ◌^◌, ◌==◌, ◌&&◌, Bool, true, false, List, [], ◌∷◌, ◌++◌, length, take, drop, refl, sym, ◌∙◌, ap, subst, if◌then◌else◌, arith, nat_lt, append_assoc, append-nil, true≢false, Option, None, Some}
+use Rattle.std.proofs.Common.{◌≡◌, ◌≢◌, ℕ, ◌-◌, ◌<◌, ◌^◌, ◌==◌, Bool, true, false, List, [], ◌∷◌, ◌++◌, length, take, drop, refl, sym, ◌∙◌, ap, subst, if◌then◌else◌, arith, nat_lt, append_assoc, append-nil, true≢false, Option, None, Some}
 use Rattle.std.specs.Prelude.{codes, decimal, slice_get}
 use Rattle.std.specs.Option.{option_map, unwrap_or}
 use Rattle.std.specs.List.{AllByRecursion, list_all}
 use Rattle.std.specs.Str.{all_ascii_digits}
 use Rattle.std.specs.Char.{is_ascii_digit}
-use Rattle.std.proofs.lemmas.Bool.{eqb-true}
+use Rattle.std.proofs.lemmas.Bool.{and_parts, eqb-true}
 use Rattle.std.proofs.lemmas.List.Elements.{All-from_recursion}
 use Rattle.std.proofs.lemmas.Grind.{flat_map-append}
 use Rattle.std.proofs.lemmas.List.Folds.{list_all-append}
@@ -41,19 +41,11 @@ use Rattle.mh_update.proofs.Walks.{IsMadeLine}
 in_both : (x y : Text) → IsInLine x → IsInLine y → IsInLine (x ++ y)
 in_both x y a b = list_all-append is_inner x y ∙ rw a (rw b refl)
 
-and_first : (x y : Bool) → (x && y) ≡ true → x ≡ true
-and_first true y is = refl
-and_first false y is = is
-
-and_second : (x y : Bool) → (x && y) ≡ true → y ≡ true
-and_second true y is = is
-and_second false y is = absurd (true≢false (sym is))
-
 inner_of : (b : ℕ) (text : Text) → IsInLine (b ∷ text) → is_inner b ≡ true
-inner_of b text is = and_first (is_inner b) (list_all is_inner text) is
+inner_of b text is = (and_parts (is_inner b) (list_all is_inner text) is).0
 
 rest_of : (b : ℕ) (text : Text) → IsInLine (b ∷ text) → IsInLine text
-rest_of b text is = and_second (is_inner b) (list_all is_inner text) is
+rest_of b text is = (and_parts (is_inner b) (list_all is_inner text) is).1
 
 no_lf : (b : ℕ) → is_inner b ≡ true → b ≢ 10
 no_lf b is = λ e. true≢false (sym (subst (λ (k : ℕ). is_inner k ≡ true) e is))
@@ -102,8 +94,8 @@ digit_by c false false e f is = rw e (rw f refl)
 digits_in : (ds : Text) → all_ascii_digits ds ≡ true → IsInLine ds
 digits_in [] is = refl
 digits_in (c ∷ ds) is =
-    let here : is_inner c ≡ true = digit_by c (c == 10) (c == 13) refl refl (and_first (is_ascii_digit c) (all_ascii_digits ds) is) in
-    rw here (digits_in ds (and_second (is_ascii_digit c) (all_ascii_digits ds) is))
+    let here : is_inner c ≡ true = digit_by c (c == 10) (c == 13) refl refl (and_parts (is_ascii_digit c) (all_ascii_digits ds) is).0 in
+    rw here (digits_in ds (and_parts (is_ascii_digit c) (all_ascii_digits ds) is).1)
 
 decimal_in : (n : ℕ) → n < 2 ^ 64 → IsInLine (decimal n)
 decimal_in n lt = digits_in (decimal n) (digits_decimal (numerals_by_value (λ (ds : Text). all_ascii_digits ds ≡ true) tells_all_ascii_digits) n lt)

@@ -20,8 +20,9 @@ use Rattle.mh_msgfile.specs.declared.messages.MsgSentence.{MsgSentence}
 use Rattle.mh_msgfile.specs.declared.messages.Entry.{Entry}
 use Rattle.mh_msgfile.specs.declared.messages.MsgFile.{MsgFile}
 use Rattle.mh_msgfile.specs.Messages.{IsOf, AreOf}
-use Rattle.mh_check.specs.Checks.{FailsIn, FaultFound, NotRefusedAt, RefusedEarlyAt, IsNoRefusal, Accepts, Overshoots, Breaks, NotRefused, RefusedEarly, Shared, sentences_of}
+use Rattle.mh_check.specs.Checks.{FailsIn, FaultFound, NotRefusedAt, RefusedEarlyAt, Accepts, Overshoots, Breaks, NotRefused, RefusedEarly, Shared, sentences_of}
 use Rattle.mh_tables.proofs.Refusing.{state_refused}
+use Rattle.mh_check.proofs.Once.{refuses_not}
 use Rattle.mh_comments.specs.Comments.{comments}
 use Rattle.mh_comments.proofs.Farthest.{some_farthest}
 use Rattle.mh_renewed.specs.declared.comment.Comment.{Comment}
@@ -30,10 +31,6 @@ use Rattle.mh_renewed.specs.Updates.{IsComment, AreComments, updated, IsUpdated,
 
 module _ (t : TableData) where
   -- ---- one fault
-
-  refuses_not : (how : Ending) (at s : ℕ) → IsNoRefusal how → how ≡ Rejected at s → ⊥
-  refuses_not how at s (Accepts read) is = cc
-  refuses_not how at s (Overshoots state) is = cc
 
   -- what fails does not break
   never : (x : MsgSentence) (f : FaultFound) (s : ℕ) → FailsIn t x s → Breaks t [] x f → ⊥

@@ -1,15 +1,17 @@
 -- A messages file line by line: which lines are sentences, what is told behind them, and the lines that the file has once it is brought
 -- up to date.
-use Rattle.std.proofs.Common.{◌≡◌, ℕ, ◌+◌, ◌-◌, Bool, true, false, List, [], ◌∷◌, ◌++◌, length, take, drop, filter, not, Option, None, Some, refl, sym, ◌∙◌, ap, subst, if◌then◌else◌, arith, append_assoc, append-nil, length-append, ◌==◌, ◌&&◌, nat_eq}
+use Rattle.std.proofs.Common.{◌≡◌, ℕ, ◌+◌, ◌-◌, Bool, true, false, List, [], ◌∷◌, ◌++◌, length, take, drop, filter, not, Option, None, Some, refl, sym, ◌∙◌, ap, subst, if◌then◌else◌, arith, append_assoc, append-nil, length-append, ◌==◌, nat_eq}
 use Rattle.std.specs.List.{AllByRecursion, list_all}
 use Rattle.std.specs.Cmp.Lexicographic.{pointwise}
-use Rattle.std.proofs.lemmas.Bool.{eqb-true}
+use Rattle.std.proofs.Math.Seq.{take-append_seam, drop-append_seam}
+use Rattle.std.proofs.lemmas.Bool.{and_parts, eqb-true}
 use Rattle.std.proofs.lemmas.Grind.{flat_map-append}
 use Rattle.std.proofs.lemmas.List.{drop-drop}
 use Rattle.mh_grammar.proofs.Lists.{recursion-append}
 use Rattle.mh_msgfile.specs.Sentences.{Vocabulary, is_blank, LineFound, IsSentence, IsUnreadable, NamesNoStart, LacksStart, NamesUnknown, sentence_in}
 use Rattle.mh_msgfile.specs.Messages.{is_taken_out}
 use Rattle.mh_msgfile.specs.declared.messages.MsgSentence.{MsgSentence}
+use Rattle.mh_msgfile.proofs.Again.{filter_on, is_kept_text}
 use Rattle.mh_msgfile.proofs.Endings.{with_ends, IsWhole}
 use Rattle.mh_renewed.specs.declared.comment.Comment.{Comment}
 use Rattle.mh_grammar.specs.Text.{Text}
@@ -85,13 +87,9 @@ sentences v place before (line ∷ lines) = put (before + 1) (told (kind_of line
 abbrev pub IsMadeLine : Text → Type 0
 IsMadeLine line = (is_made line ≡ true) × IsWhole line
 
-first_holds : (x y : Bool) → (x && y) ≡ true → x ≡ true
-first_holds true y is = refl
-first_holds false y is = is
-
 made_here : (b : ℕ) (line : Text) → is_made (b ∷ line) ≡ true → (b == 35) ≡ true
 made_here b line is =
-    let same : 35 ≡ b = eqb-true 35 b (first_holds (35 == b) (pointwise nat_eq (35 ∷ []) (take 1 line)) is) in
+    let same : 35 ≡ b = eqb-true 35 b (and_parts (35 == b) (pointwise nat_eq (35 ∷ []) (take 1 line)) is).0 in
     subst (λ (k : ℕ). (k == 35) ≡ true) same refl
 
 pub made_taken : (line : Text) → is_made line ≡ true → is_taken_out line ≡ true
@@ -182,19 +180,12 @@ module _ (v : Vocabulary) (IsTold : Content → Text → Type 0) where
   grown_whole place lines tales (Telling p x xs c l ls own some is made walk) all =
       (all.0, recursion-append IsWhole l (grown (next (kind_of x) p) xs ls walk) (made_whole l made) (grown_whole (next (kind_of x) p) xs ls walk all.1))
 
-  abbrev pub is_kept_text : Text → Bool
-  is_kept_text line = not (is_taken_out line)
-
-  filter_on : (x : Text) (xs : List Text) (c : Bool) → is_kept_text x ≡ c → filter is_kept_text (x ∷ xs) ≡ (if c then x ∷ filter is_kept_text xs else filter is_kept_text xs)
-  filter_on x xs true is = rw is refl
-  filter_on x xs false is = rw is refl
-
   one_more : (x : Text) (xs ys : List Text) → filter is_kept_text xs ≡ filter is_kept_text ys → filter is_kept_text (x ∷ xs) ≡ filter is_kept_text (x ∷ ys)
   one_more x xs ys same =
-      filter_on x xs (is_kept_text x) refl ∙ ap (λ (l : List Text). if is_kept_text x then x ∷ l else l) same ∙ sym (filter_on x ys (is_kept_text x) refl)
+      filter_on is_kept_text x xs (is_kept_text x) refl ∙ ap (λ (l : List Text). if is_kept_text x then x ∷ l else l) same ∙ sym (filter_on is_kept_text x ys (is_kept_text x) refl)
 
   made_out : (x : Text) (xs : List Text) → is_made x ≡ true → filter is_kept_text (x ∷ xs) ≡ filter is_kept_text xs
-  made_out x xs made = filter_on x xs false (ap not (made_taken x made))
+  made_out x xs made = filter_on is_kept_text x xs false (ap not (made_taken x made))
 
   tale_out : (tale lines : List Text) → AllByRecursion IsMadeLine tale → filter is_kept_text (tale ++ lines) ≡ filter is_kept_text lines
   tale_out [] lines all = refl
@@ -230,14 +221,6 @@ module _ (v : Vocabulary) (IsTold : Content → Text → Type 0) where
     rest = w.rest ∙ sym (append_assoc waiting (line ∷ []) lines);
   }
 
-  take_front : (xs ys : List Text) → take (length xs) (xs ++ ys) ≡ xs
-  take_front [] ys = refl
-  take_front (x ∷ xs) ys = ap (λ (l : List Text). x ∷ l) (take_front xs ys)
-
-  drop_front : (xs ys : List Text) → drop (length xs) (xs ++ ys) ≡ ys
-  drop_front [] ys = refl
-  drop_front (x ∷ xs) ys = drop_front xs ys
-
   -- those up to a sentence are written
   waits_told : (all : List Text) (written before : ℕ) (waiting : List Text) (line : Text) (lines : List Text) → Waits all written before waiting (line ∷ lines)
       → (take (before + 1 - written) (drop written all) ≡ waiting ++ line ∷ []) × Waits all (before + 1) (before + 1) [] lines
@@ -246,10 +229,10 @@ module _ (v : Vocabulary) (IsTold : Content → Text → Type 0) where
       let size : before + 1 - written ≡ length (waiting ++ line ∷ []) = omega (arith, long, w.place) in
       let place : written + length (waiting ++ line ∷ []) ≡ before + 1 = omega (arith, long, w.place) in
       let parts : drop written all ≡ (waiting ++ line ∷ []) ++ lines = w.rest ∙ sym (append_assoc waiting (line ∷ []) lines) in (
-        ap (λ (n : ℕ). take n (drop written all)) size ∙ ap (take (length (waiting ++ line ∷ []))) parts ∙ take_front (waiting ++ line ∷ []) lines,
+        ap (λ (n : ℕ). take n (drop written all)) size ∙ ap (take (length (waiting ++ line ∷ []))) parts ∙ take-append_seam (waiting ++ line ∷ []) lines,
         record {
           place = let e : before + 1 + 0 ≡ before + 1 = omega arith in e;
-          rest = ap (λ (n : ℕ). drop n all) (sym place) ∙ sym (drop-drop (length (waiting ++ line ∷ [])) written all) ∙ ap (drop (length (waiting ++ line ∷ []))) parts ∙ drop_front (waiting ++ line ∷ []) lines;
+          rest = ap (λ (n : ℕ). drop n all) (sym place) ∙ sym (drop-drop (length (waiting ++ line ∷ [])) written all) ∙ ap (drop (length (waiting ++ line ∷ []))) parts ∙ drop-append_seam (waiting ++ line ∷ []) lines;
         },
       )
 
