@@ -30,7 +30,7 @@ eqb_apart m n apart = go (m == n) refl
     go true e = absurd (apart ((Decides-eqb m n).0 e))
     go false e = e
 
-some_is : {A : Type 0} {x y : A} → Some x ≡ Some y → x ≡ y
+pub some_is : {A : Type 0} {x y : A} → Some x ≡ Some y → x ≡ y
 some_is e = cc
 
 module _ (w : Meanings) where

@@ -3,6 +3,7 @@ use Rattle.std.proofs.Common.{◌≡◌, ℕ, ◌+◌, ◌<◌, Bool, true, fals
 use Rattle.std.specs.Prelude.{◌||◌, not, if◌then◌else◌, Ok, Err}
 use Rattle.std.specs.List.{list_any}
 use Rattle.std.specs.HashSet.{HashSet}
+use Rattle.std.proofs.Math.Bool.{or-false}
 use Rattle.std.proofs.lemmas.List.{append-nil}
 use Rattle.std.proofs.lemmas.List.Folds.{list_any-append}
 use Rattle.mh_grammar.proofs.Lists.{taken}
@@ -21,16 +22,12 @@ pub record Seen (keys done rest all : List Text) : Type 0 where
   pub has : (x : Text) → list_any (same x) keys ≡ list_any (same x) done
   pub once : repeats done rest ≡ repeats [] all
 
-or_false : (b : Bool) → (b || false) ≡ b
-or_false true = refl
-or_false false = refl
-
 pub Seen-none : (all : List Text) → Seen [] [] all all
 Seen-none all = record { has = λ x. refl; once = refl }
 
 pub Seen-more : (keys new done rest all : List Text) (x : Text) → Seen keys done (x ∷ rest) all → ((y : Text) → list_any (same y) new ≡ (list_any (same y) keys || same y x)) → list_any (same x) keys ≡ false → Seen new (done ++ x ∷ []) rest all
 Seen-more keys new done rest all x seen put lacks = record {
-  has = λ y. put y ∙ ap (λ b. b || same y x) (seen.has y) ∙ ap (λ b. list_any (same y) done || b) (sym (or_false (same y x))) ∙ sym (list_any-append (same y) done (x ∷ []));
+  has = λ y. put y ∙ ap (λ b. b || same y x) (seen.has y) ∙ ap (λ b. list_any (same y) done || b) (sym (or-false (same y x))) ∙ sym (list_any-append (same y) done (x ∷ []));
   once = ap (λ b. unless (not b) (faults.Duplicate x) ++ repeats (done ++ x ∷ []) rest) (sym (sym (seen.has x) ∙ lacks)) ∙ seen.once;
 }
 

@@ -3,6 +3,7 @@ use Rattle.std.proofs.Common.{◌≡◌, ℕ, ◌+◌, Bool, true, false, List, 
 use Rattle.std.specs.Prelude.{◌&&◌, ◌||◌, if◌then◌else◌, is_some, option_map, codes}
 use Rattle.std.specs.List.{list_any, list_all, flat_map}
 use Rattle.std.specs.Option.{option_or}
+use Rattle.std.proofs.Math.Bool.{or-false, or-true, or_assoc}
 use Rattle.std.proofs.lemmas.Bool.Decides.{Decides-eqb}
 use Rattle.std.proofs.lemmas.List.{map-append}
 use Rattle.std.proofs.lemmas.List.Concat.{flat_map-append}
@@ -28,18 +29,6 @@ use Rattle.mh_meanings.proofs.Actuals.{flat_refs}
 
 -- A RULE THAT IS THERE HAS A NUMBER
 
-or_true : (b : Bool) → (b || true) ≡ true
-or_true true = refl
-or_true false = refl
-
-or_assoc : (a b c : Bool) → ((a || b) || c) ≡ (a || (b || c))
-or_assoc true b c = refl
-or_assoc false b c = refl
-
-or_false : (b : Bool) → (b || false) ≡ b
-or_false true = refl
-or_false false = refl
-
 module _ (p : Outline → Bool) (respects : (a b : Outline) → same_rule a b ≡ true → p a ≡ true → p b ≡ true) where
   any_of : (ks : List Outline) (x : Outline) → list_any (same_rule x) ks ≡ true → p x ≡ true → list_any p ks ≡ true
   any_of [] x h e = h
@@ -47,28 +36,28 @@ module _ (p : Outline → Bool) (respects : (a b : Outline) → same_rule a b �
     where
       go : (b : Bool) → same_rule x k ≡ b → (b || list_any (same_rule x) ks) ≡ true → (list_any (same_rule x) ks ≡ true → list_any p ks ≡ true) → (p k || list_any p ks) ≡ true
       go true is t rest = ap (λ b. b || list_any p ks) (respects x k is e)
-      go false is t rest = ap (λ b. p k || b) (rest t) ∙ or_true (p k)
+      go false is t rest = ap (λ b. p k || b) (rest t) ∙ or-true (p k)
 
   any_put : (ks : List Outline) (x : Outline) → (list_any p ks || p x) ≡ true → list_any p (insert_key same_rule ks x) ≡ true
   any_put ks x h = go (list_any (same_rule x) ks) refl
     where
       there : list_any (same_rule x) ks ≡ true → (b : Bool) → p x ≡ b → (list_any p ks || b) ≡ true → list_any p ks ≡ true
       there has true e t = any_of ks x has e
-      there has false e t = sym (or_false (list_any p ks)) ∙ t
+      there has false e t = sym (or-false (list_any p ks)) ∙ t
 
       go : (b : Bool) → list_any (same_rule x) ks ≡ b → list_any p (if b then ks else ks ++ x ∷ []) ≡ true
       go true has = there has (p x) refl h
-      go false has = list_any-append p ks (x ∷ []) ∙ ap (λ b. list_any p ks || b) (or_false (p x)) ∙ h
+      go false has = list_any-append p ks (x ∷ []) ∙ ap (λ b. list_any p ks || b) (or-false (p x)) ∙ h
 
   step : (ks : List Outline) (x : Outline) (c : Bool) → (list_any p ks || (p x || c)) ≡ true → (list_any p (insert_key same_rule ks x) || c) ≡ true
   step ks x c h = go (list_any p ks || p x) refl
     where
       go : (b : Bool) → (list_any p ks || p x) ≡ b → (list_any p (insert_key same_rule ks x) || c) ≡ true
       go true e = ap (λ b. b || c) (any_put ks x e)
-      go false e = ap (λ b. list_any p (insert_key same_rule ks x) || b) (sym (ap (λ b. b || c) e) ∙ or_assoc (list_any p ks) (p x) c ∙ h) ∙ or_true (list_any p (insert_key same_rule ks x))
+      go false e = ap (λ b. list_any p (insert_key same_rule ks x) || b) (sym (ap (λ b. b || c) e) ∙ or_assoc (list_any p ks) (p x) c ∙ h) ∙ or-true (list_any p (insert_key same_rule ks x))
 
   pub any_firsts : (ks xs : List Outline) → (list_any p ks || list_any p xs) ≡ true → list_any p (insert_all same_rule ks xs) ≡ true
-  any_firsts ks [] h = sym (or_false (list_any p ks)) ∙ h
+  any_firsts ks [] h = sym (or-false (list_any p ks)) ∙ h
   any_firsts ks (x ∷ xs) h = any_firsts (insert_key same_rule ks x) xs (step ks x (list_any p xs) h)
 
 pub and_left : (a b : Bool) → (a && b) ≡ true → a ≡ true
@@ -102,7 +91,7 @@ number_known p ms x h =
     is_some-position test (rules p ms)
     ∙ any_firsts test (respects_rule (Some 0) x) [] (map outline_of (definitions p ms))
     (ap (list_any test) (map-append outline_of from_files library) ∙ list_any-append test (map outline_of from_files) (map outline_of library)
-    ∙ ap (λ b. list_any test (map outline_of from_files) || b) (in_library x 0 (prelude_rules p) ∙ h) ∙ or_true (list_any test (map outline_of from_files)))
+    ∙ ap (λ b. list_any test (map outline_of from_files) || b) (in_library x 0 (prelude_rules p) ∙ h) ∙ or-true (list_any test (map outline_of from_files)))
 
 -- WHAT STANDS FOR SOMETHING
 

@@ -3,6 +3,7 @@ use Rattle.std.proofs.Common.{◌≡◌, ℕ, zero, suc, ◌+◌, ◌<◌, ◌�
 use Rattle.std.specs.Prelude.{◌==◌, ◌&&◌, ◌||◌, ◌≢◌, not, nat_lt, if◌then◌else◌, Ok, Err, AllPairs, option_map, option_and_then, slice_get, IfOk, Result}
 use Rattle.std.specs.List.{All, AllByRecursion, position, list_any, list_all, flat_map, enumerate_from}
 use Rattle.std.specs.Option.{option_or}
+use Rattle.std.proofs.Math.Bool.{or-true}
 use Rattle.std.proofs.lemmas.Bool.{ltb-true}
 use Rattle.std.proofs.lemmas.Bool.Decides.{Decides-eqb}
 use Rattle.std.proofs.lemmas.List.{length-map}
@@ -40,6 +41,7 @@ use Rattle.mh_rules.specs.Ready.{IsModuleReady, AreModulesReady, IsHeadBelow, Is
 use Rattle.mh_grammar.proofs.Lists.{get_cases, at_contains, recursion-from}
 use Rattle.mh_grammar.proofs.SameText.{same_is, same_self}
 use Rattle.mh_meanings.proofs.Lists.{position-push, is_some-position}
+use Rattle.mh_building.proofs.Adding.{some_is}
 use Rattle.mh_naming.proofs.Numbers.{none_from}
 use Rattle.mh_naming.proofs.Meaning.{find_position}
 use Rattle.mh_join.proofs.Costing.{tokens_costed}
@@ -47,9 +49,6 @@ use Rattle.mh_meanings.proofs.Resolving.{front_nil, back_nil, is_known}
 use Rattle.mh_join.proofs.Library.{and_left, and_right, owner_is}
 use Rattle.mh_join.proofs.Able.{few_tokens}
 use Rattle.mh_join.proofs.Shallow.{prelude_shallow}
-
-some_is : {A : Type 0} {x y : A} → Some x ≡ Some y → x ≡ y
-some_is e = cc
 
 eqb_is : (m n : ℕ) → (m == n) ≡ true → m ≡ n
 eqb_is m n = (Decides-eqb m n).0
@@ -398,12 +397,8 @@ module _ (own : Text → Bool) where
       not_before (before ++ r.name ∷ []) (own_names own rs) s.name (back_nil (unless (not (list_any (same r.name) before)) (faults.Duplicate r.name)) (repeats (before ++ r.name ∷ []) (own_names own rs)) whole)
       (own_in rs s h (ap own (sym is) ∙ private)) in
       let there : list_any (same s.name) (before ++ r.name ∷ []) ≡ true =
-      list_any-append (same s.name) before (r.name ∷ []) ∙ ap (λ b. list_any (same s.name) before || (b || false)) (ap (same s.name) is ∙ same_self s.name) ∙ or_true (list_any (same s.name) before) in
+      list_any-append (same s.name) before (r.name ∷ []) ∙ ap (λ b. list_any (same s.name) before || (b || false)) (ap (same s.name) is ∙ same_self s.name) ∙ or-true (list_any (same s.name) before) in
       let bad : true ≡ false = sym there ∙ free in cc
-    where
-      or_true : (b : Bool) → (b || true) ≡ true
-      or_true true = refl
-      or_true false = refl
 
   -- a file has one rule of its own of each name
   one_own : (before : List Text) (rs : List Rule) (r s : Rule) → repeats before (own_names own rs) ≡ [] → In rs r → In rs s → own r.name ≡ false → r.name ≡ s.name → r ≡ s

@@ -2,6 +2,7 @@
 use Rattle.std.proofs.Common.{◌≡◌, ℕ, suc, ◌+◌, ◌<◌, Bool, true, false, cond, List, [], ◌∷◌, ◌++◌, Option, Some, None, length, get_or, take, refl, sym, ap, subst, ◌∙◌, inl, inr, arith, zero-add, append_assoc}
 use Rattle.std.specs.Prelude.{is_some, ◌||◌}
 use Rattle.std.specs.List.{flat_map, enumerate_from, position, position_from, list_any}
+use Rattle.std.proofs.Math.Bool.{or-false, or-true}
 use Rattle.std.proofs.lemmas.List.Folds.{list_any-append, list_any_more}
 use Rattle.std.specs.Map.{lookup}
 use Rattle.std.specs.Option.{option_or}
@@ -123,30 +124,22 @@ fun_ext h = λ i x. h x i
 pub any_more : {A : Type 0} (p : A → Bool) (xs : List A) (i : ℕ) (x : A) → i < length xs → x ≡ get_or xs i x → (list_any p (take i xs) || p x) ≡ list_any p (take (i + 1) xs)
 any_more p xs i x h e = ap (λ k. list_any p (take i xs) || p k) e ∙ sym (list_any_more p xs i x h)
 
-or_false : (b : Bool) → (b || false) ≡ b
-or_false true = refl
-or_false false = refl
-
 pub any_enum_more : {A : Type 0} (p : ℕ × A → Bool) (n : ℕ) (xs : List A) (i j : ℕ) (x : A) → i < length xs → x ≡ get_or xs i x → n + i ≡ j → (list_any p (enumerate_from n (take i xs)) || p (j, x)) ≡ list_any p (enumerate_from n (take (i + 1) xs))
 any_enum_more p n xs i j x h e at =
-    ap (λ b. list_any p (enumerate_from n (take i xs)) || b) (sym (or_false (p (j, x)))) ∙ sym (list_any-append p (enumerate_from n (take i xs)) ((j, x) ∷ []))
+    ap (λ b. list_any p (enumerate_from n (take i xs)) || b) (sym (or-false (p (j, x)))) ∙ sym (list_any-append p (enumerate_from n (take i xs)) ((j, x) ∷ []))
     ∙ ap (λ k. list_any p (enumerate_from n (take i xs) ++ (k, x) ∷ [])) (sym at ∙ ap (λ k. n + k) (sym (length-take_in xs i h)))
     ∙ sym (ap (list_any p) (ap (enumerate_from n) (taken xs i x h e) ∙ enumerate-push n (take i xs) x))
-
-or_true : (b : Bool) → (b || true) ≡ true
-or_true true = refl
-or_true false = refl
 
 -- a name put into a set
 pub has_more : (old new : Text → Bool) (name : Text) → ((q : Text) → new q ≡ cond (same name q) true (old q)) → (x : Text) → new x ≡ (old x || same x name)
 has_more old new name at x =
     elim (same_cases name x) [
       | inl e ↦ subst (λ k. new k ≡ (old k || same k name)) e here
-      | inr apart ↦ at x ∙ ap (λ b. cond b true (old x)) apart.0 ∙ sym (ap (λ b. old x || b) apart.1 ∙ or_false (old x))
+      | inr apart ↦ at x ∙ ap (λ b. cond b true (old x)) apart.0 ∙ sym (ap (λ b. old x || b) apart.1 ∙ or-false (old x))
     ]
   where
     here : new name ≡ (old name || same name name)
-    here = at name ∙ ap (λ b. cond b true (old name)) (same_self name) ∙ sym (ap (λ b. old name || b) (same_self name) ∙ or_true (old name))
+    here = at name ∙ ap (λ b. cond b true (old name)) (same_self name) ∙ sym (ap (λ b. old name || b) (same_self name) ∙ or-true (old name))
 
 -- items pushed one after the other
 pub push_first : {A : Type 0} (a b : List A) (x y : A) → b ≡ a ++ x ∷ [] → x ≡ y → b ≡ a ++ y ∷ []

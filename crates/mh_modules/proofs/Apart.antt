@@ -2,6 +2,7 @@
 use Rattle.std.proofs.Common.{◌≡◌, ◌<◌, ◌∙◌, ◌||◌, ℕ, zero, suc, Bool, true, false, true≢false, List, [], ◌∷◌, ◌++◌, map, length, Option, Some, refl, sym, ap, subst, codes, get_or, if◌then◌else◌}
 use Rattle.std.specs.List.{All, Contains, flat_map, list_any, slice_get}
 use Rattle.std.specs.Option.{option_map, unwrap_or}
+use Rattle.std.proofs.Math.Bool.{or-true}
 use Rattle.std.proofs.lemmas.List.{length-map}
 use Rattle.std.proofs.lemmas.Option.{slice_get-get_or, slice_get-map}
 use Rattle.std.proofs.lemmas.List.Elements.{All-head, All-nil, All-push, All-tail, All-contains, All-map, All-append}
@@ -29,11 +30,7 @@ found_at k [] i e = absurd (cc)
 found_at k (x ∷ xs) zero e =
     let here : x ≡ k = cc in
     ap (λ (b : Bool). b || list_any (same k) xs) (ap (same k) here ∙ same_self k)
-found_at k (x ∷ xs) (suc i) e = ap (λ (b : Bool). same k x || b) (found_at k xs i e) ∙ or_true (same k x)
-  where
-    or_true : (b : Bool) → (b || true) ≡ true
-    or_true true = refl
-    or_true false = refl
+found_at k (x ∷ xs) (suc i) e = ap (λ (b : Bool). same k x || b) (found_at k xs i e) ∙ or-true (same k x)
 
 found_there : (k : Text) (ks : List Text) → list_any (same k) ks ≡ false → Contains ks k → ⊥
 found_there k ks none there = let at = at_contains ks k there in true≢false (sym (found_at k ks at.0 at.1) ∙ none)

@@ -1,32 +1,13 @@
 -- Which files define a name.
-use Rattle.std.proofs.Common.{◌≡◌, ℕ, Bool, true, false, cond, Some, refl, sym, ap, subst, ◌∙◌, inl, inr}
+use Rattle.std.proofs.Common.{◌≡◌, ℕ, Bool, false, cond, Some, sym, ap, subst, ◌∙◌, inl, inr}
 use Rattle.std.specs.Prelude.{◌&&◌, ◌||◌, ◌==◌, not}
 use Rattle.std.specs.HashMap.{HashMap, get}
+use Rattle.std.proofs.Math.Bool.{and-false, and-or_distrib_left, and-true, or-false, or_assoc}
 use Rattle.mh_meanings.specs.declared.names.Definers.{Definers}
 use Rattle.mh_grammar.specs.Text.{Text}
 use Rattle.mh_meanings.specs.Names.{same}
 use Rattle.mh_meanings.specs.Definers.{elsewhere_by, Defines}
 use Rattle.mh_grammar.proofs.SameText.{same_cases, same_self}
-
-or_false : (b : Bool) → b ≡ (b || false)
-or_false true = refl
-or_false false = refl
-
-and_false : (b : Bool) → (b && false) ≡ false
-and_false true = refl
-and_false false = refl
-
-and_true : (b : Bool) → (b && true) ≡ b
-and_true true = refl
-and_true false = refl
-
-or_assoc : (a b c : Bool) → ((a || b) || c) ≡ (a || (b || c))
-or_assoc true b c = refl
-or_assoc false b c = refl
-
-and_or : (a b c : Bool) → ((a && b) || (a && c)) ≡ (a && (b || c))
-and_or true b c = refl
-and_or false b c = refl
 
 module _ {S : Type 0} where
   pub Defines-one : (old new : HashMap Text Definers S) (file : ℕ) (name : Text) (more : Definers) → ((k : ℕ) → elsewhere_by (Some more) k ≡ (elsewhere_by (get same old name) k || not (file == k)))
@@ -34,8 +15,8 @@ module _ {S : Type 0} where
   Defines-one old new file name more says at = record {
     elsewhere = λ k x. elim (same_cases name x) [
       | inl e ↦ subst (λ z. elsewhere_by (get same new z) k ≡ (elsewhere_by (get same old z) k || (not (file == k) && same z name))) e (here k)
-      | inr apart ↦ ap (λ o. elsewhere_by o k) (at x ∙ ap (λ b. cond b (Some more) (get same old x)) apart.0) ∙ or_false (elsewhere_by (get same old x) k)
-          ∙ ap (λ b. elsewhere_by (get same old x) k || b) (sym (and_false (not (file == k)))) ∙ ap (λ b. elsewhere_by (get same old x) k || (not (file == k) && b)) (sym apart.1)
+      | inr apart ↦ ap (λ o. elsewhere_by o k) (at x ∙ ap (λ b. cond b (Some more) (get same old x)) apart.0) ∙ sym (or-false (elsewhere_by (get same old x) k))
+          ∙ ap (λ b. elsewhere_by (get same old x) k || b) (sym (and-false (not (file == k)))) ∙ ap (λ b. elsewhere_by (get same old x) k || (not (file == k) && b)) (sym apart.1)
     ];
   }
     where
@@ -43,16 +24,16 @@ module _ {S : Type 0} where
       stored = at name ∙ ap (λ b. cond b (Some more) (get same old name)) (same_self name)
 
       here : (k : ℕ) → elsewhere_by (get same new name) k ≡ (elsewhere_by (get same old name) k || (not (file == k) && same name name))
-      here k = ap (λ o. elsewhere_by o k) stored ∙ says k ∙ ap (λ b. elsewhere_by (get same old name) k || b) (sym (and_true (not (file == k))))
+      here k = ap (λ o. elsewhere_by o k) stored ∙ says k ∙ ap (λ b. elsewhere_by (get same old name) k || b) (sym (and-true (not (file == k))))
           ∙ ap (λ b. elsewhere_by (get same old name) k || (not (file == k) && b)) (sym (same_self name))
 
   pub Defines-none : (m : HashMap Text Definers S) (file : ℕ) → Defines file (λ x. false) m m
   Defines-none m file = record {
-    elsewhere = λ k x. or_false (elsewhere_by (get same m x) k) ∙ ap (λ b. elsewhere_by (get same m x) k || b) (sym (and_false (not (file == k))));
+    elsewhere = λ k x. sym (or-false (elsewhere_by (get same m x) k)) ∙ ap (λ b. elsewhere_by (get same m x) k || b) (sym (and-false (not (file == k))));
   }
 
   pub Defines-both : (a b c : HashMap Text Definers S) (file : ℕ) (f g h : Text → Bool) → ((x : Text) → (f x || g x) ≡ h x) → Defines file f a b → Defines file g b c → Defines file h a c
   Defines-both a b c file f g h both p q = record {
     elsewhere = λ k x. q.elsewhere k x ∙ ap (λ v. v || (not (file == k) && g x)) (p.elsewhere k x) ∙ or_assoc (elsewhere_by (get same a x) k) (not (file == k) && f x) (not (file == k) && g x)
-        ∙ ap (λ v. elsewhere_by (get same a x) k || v) (and_or (not (file == k)) (f x) (g x) ∙ ap (λ v. not (file == k) && v) (both x));
+        ∙ ap (λ v. elsewhere_by (get same a x) k || v) (sym (and-or_distrib_left (not (file == k)) (f x) (g x)) ∙ ap (λ v. not (file == k) && v) (both x));
   }
