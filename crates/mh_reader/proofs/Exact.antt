@@ -4,6 +4,7 @@ use Rattle.std.specs.Option.{option_or}
 use Rattle.std.proofs.Math.Seq.{take-suc, split_at}
 use Rattle.std.proofs.Math.ListN.{drop_of_length-le, take-append-drop}
 use Rattle.std.proofs.lemmas.List.{append-nil}
+use Rattle.std.proofs.lemmas.Option.{none-some}
 use Rattle.mh_lex.specs.declared.kinds.Lexeme.{Lexeme}
 use Rattle.std.proofs.Common.{Result, Ok, Err, IfOk}
 use Rattle.mh_lex.specs.declared.kinds.SyntaxFault.{SyntaxFault}
@@ -360,12 +361,9 @@ no_whole_module once bytes ls (Err Memory) lx h = tt
 no_whole_module once bytes ls (Err (Syntax line)) lx (halt, never) =
     (IsSyntaxLine.syntactic lx halt, λ m (ks, ly, f). never m (subst (λ k. File no_module (reads_of bytes k) m) (once bytes ls ks None None lx ly).0 f))
 
-none_some : (place : ℕ) → None ≡ Some place → ⊥
-none_some place e = cc
-
 lexical_fault : LexedOnce → (bytes : List ℕ) (line : ℕ) → (ls : List Lexeme) × (place : ℕ) × Lexes bytes ls (Some place) × (line ≡ line_at bytes place) →
     IsSyntaxLine bytes line × ((m : Module) → Spells bytes m → ⊥)
-lexical_fault once bytes line (ls, place, lx, e) = (IsSyntaxLine.lexical lx e, λ m (ks, ly, f). none_some place (once bytes ls ks (Some place) None lx ly).1)
+lexical_fault once bytes line (ls, place, lx, e) = (IsSyntaxLine.lexical lx e, λ m (ks, ly, f). none-some place (once bytes ls ks (Some place) None lx ly).1)
 
 -- LOOPS
 

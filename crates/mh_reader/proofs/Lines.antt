@@ -1,5 +1,6 @@
 -- A file that spells no module has one line that says where.
-use Rattle.std.proofs.Common.{◌≡◌, ℕ, List, [], ◌∷◌, ◌++◌, Some, None, sym, ap, subst, ◌∙◌}
+use Rattle.std.proofs.Common.{◌≡◌, ℕ, List, [], ◌∷◌, ◌++◌, Some, sym, ap, subst, ◌∙◌}
+use Rattle.std.proofs.lemmas.Option.{none-some}
 use Rattle.mh_lex.specs.declared.kinds.Lexeme.{Lexeme}
 use Rattle.mh_lex.specs.Lexing.{line_at}
 use Rattle.mh_lex.proofs.Takes.{LexesFrom-once}
@@ -50,17 +51,14 @@ module _ (bytes : List ℕ) where
   halt_once ls a b (unfinished starts none other) (unexpected before after l e begins never line) = absurd (not_earlier before ls after l e never starts)
   halt_once ls a b (unfinished starts none line) (unfinished begins never other) = line ∙ sym other
 
-  none_some : (place : ℕ) → None ≡ Some place → ⊥
-  none_some place e = cc
-
 -- bytes have at most one such line
 pub line_once : (bytes : List ℕ) (a b : ℕ) → IsSyntaxLine bytes a → IsSyntaxLine bytes b → a ≡ b
 line_once bytes a b (lexical {place = place} lx line) (lexical {place = other} ly e) =
     let both : Some other ≡ Some place = (LexesFrom-once lx ly).1 in
     let one : other ≡ place = cc in
     line ∙ ap (λ p. line_at bytes p) (sym one) ∙ sym e
-line_once bytes a b (lexical {place = place} lx line) (syntactic ly halt) = absurd (none_some bytes place (LexesFrom-once lx ly).1)
-line_once bytes a b (syntactic lx halt) (lexical {place = place} ly line) = absurd (none_some bytes place (LexesFrom-once ly lx).1)
+line_once bytes a b (lexical {place = place} lx line) (syntactic ly halt) = absurd (none-some place (LexesFrom-once lx ly).1)
+line_once bytes a b (syntactic lx halt) (lexical {place = place} ly line) = absurd (none-some place (LexesFrom-once ly lx).1)
 line_once bytes a b (syntactic {ls = ls} lx halt) (syntactic {ls = ks} ly stop) =
     halt_once bytes ls a b halt (subst (λ k. IsHalt bytes k b) (LexesFrom-once lx ly).0 stop)
 

@@ -2,6 +2,7 @@
 use Rattle.std.specs.Prelude.{◌⊎◌}
 use Rattle.std.proofs.Math.Nat.{max-le}
 use Rattle.std.proofs.lemmas.Bool.{leb-true}
+use Rattle.std.proofs.lemmas.Option.{same_Some}
 use Rattle.std.proofs.Common.{inl, inr, ◌≡◌, ◌≤◌, ◌+◌, ◌-◌, ℕ, suc, max, List, [], ◌∷◌, ◌++◌, length, map, Option, Some, None, Bool, true, false, refl, sym, subst, arith}
 use Rattle.std.specs.Option.{option_or}
 use Rattle.mh_rules.specs.declared.modules.Ref.{Ref}
@@ -729,17 +730,14 @@ next_safe places.Ended m g text l = tt
 
 -- WHOLE FILES
 
-same_module : (m out : Module) → Some m ≡ Some out → m ≡ out
-same_module m out e = cc
-
 finished : (p : Place) (m out : Module) → finish_at m p ≡ Some out → Asks p m [] out
 unfolding finish_at
-finished places.Rules m out e = subst (λ k. Rules m [] k) (same_module m out e) spelling.Rules.none
+finished places.Rules m out e = subst (λ k. Rules m [] k) (same_Some m out e) spelling.Rules.none
 finished (places.Group d) m out e =
-    absent_group m d [] out (inl ([], spelling.Semicolons.none, subst (λ k. Rules (ruled m (grouped d)) [] k) (same_module (ruled m (grouped d)) out e) spelling.Rules.none))
-finished (places.GroupClosed r) m out e = inl ([], spelling.Semicolons.none, subst (λ k. Rules (ruled m r) [] k) (same_module (ruled m r) out e) spelling.Rules.none)
-finished places.RuleEnd m out e = ([], spelling.Semicolons.none, subst (λ k. Rules m [] k) (same_module m out e) spelling.Rules.none)
-finished places.Ended m out e = (refl, sym (same_module m out e))
+    absent_group m d [] out (inl ([], spelling.Semicolons.none, subst (λ k. Rules (ruled m (grouped d)) [] k) (same_Some (ruled m (grouped d)) out e) spelling.Rules.none))
+finished (places.GroupClosed r) m out e = inl ([], spelling.Semicolons.none, subst (λ k. Rules (ruled m r) [] k) (same_Some (ruled m r) out e) spelling.Rules.none)
+finished places.RuleEnd m out e = ([], spelling.Semicolons.none, subst (λ k. Rules m [] k) (same_Some m out e) spelling.Rules.none)
+finished places.Ended m out e = (refl, sym (same_Some m out e))
 finished _ m out e = cc
 
 reads : (o : Option Reader) (c : Option ℕ) (xs : List Read) (out : Module) → go_on o (λ t. run (costed c t) xs) ≡ Some out → Stepped o (λ t. run (costed c t) xs ≡ Some out)
