@@ -181,46 +181,77 @@ fn put_lacked(
     result
 }
 
-/// Adds what a file becomes, or in a pair what the other lacks of it.
-fn put_by_automaton(
+/// Adds what a file becomes, by an automaton of its grammar.
+fn put_updated_by(
     alloc: Global,
     text: &mut String,
     grammar: &Grammar,
     automaton: &Automaton<1>,
     file: &[u8],
-    other: &[u8],
-    is_pair: bool,
 ) -> Result<(), Fail>
     requires width { length grammar.now.tokens ≤ 64 }
     requires range { IsInRange (plain_of grammar.now) }
     requires costs { HaveCosts grammar.now.tokens }
     requires automaton { IsAutomaton (plain_of grammar.now) automaton.now }
     requires short { length file.now ≤ 1000 }
-    requires other { length other.now ≤ 1000 }
 {
     let table = table_of(alloc, grammar, automaton)?;
-    let result = if is_pair {
-        put_lacked(alloc, text, grammar, &table, file, other)
-    } else {
-        put_updated(alloc, text, grammar, automaton, &table, file)
-    };
+    let result = put_updated(alloc, text, grammar, automaton, &table, file);
     release(table);
     result
 }
 
-fn put_told(
+/// Adds what the second of two files lacks, by an automaton of their grammar.
+fn put_lacked_by(
+    alloc: Global,
+    text: &mut String,
+    grammar: &Grammar,
+    automaton: &Automaton<1>,
+    left: &[u8],
+    right: &[u8],
+) -> Result<(), Fail>
+    requires width { length grammar.now.tokens ≤ 64 }
+    requires range { IsInRange (plain_of grammar.now) }
+    requires costs { HaveCosts grammar.now.tokens }
+    requires automaton { IsAutomaton (plain_of grammar.now) automaton.now }
+    requires left { length left.now ≤ 1000 }
+    requires right { length right.now ≤ 1000 }
+{
+    let table = table_of(alloc, grammar, automaton)?;
+    let result = put_lacked(alloc, text, grammar, &table, left, right);
+    release(table);
+    result
+}
+
+/// Adds what a file becomes.
+fn put_update(
     alloc: Global,
     text: &mut String,
     grammar: &Grammar,
     file: &[u8],
-    other: &[u8],
-    is_pair: bool,
 ) -> Result<(), Fail> {
-    if !is_small(grammar) || file.len() > 1_000 || other.len() > 1_000 {
+    if !is_small(grammar) || file.len() > 1_000 {
         return Err(Fail::from("out of range"));
     }
     let automaton = automaton_of(alloc, grammar)?;
-    let result = put_by_automaton(alloc, text, grammar, &automaton, file, other, is_pair);
+    let result = put_updated_by(alloc, text, grammar, &automaton, file);
+    release(automaton);
+    result
+}
+
+/// Adds what the second of two files lacks.
+fn put_pair(
+    alloc: Global,
+    text: &mut String,
+    grammar: &Grammar,
+    left: &[u8],
+    right: &[u8],
+) -> Result<(), Fail> {
+    if !is_small(grammar) || left.len() > 1_000 || right.len() > 1_000 {
+        return Err(Fail::from("out of range"));
+    }
+    let automaton = automaton_of(alloc, grammar)?;
+    let result = put_lacked_by(alloc, text, grammar, &automaton, left, right);
     release(automaton);
     result
 }
@@ -228,12 +259,14 @@ fn put_told(
 /// A case is a file, or two, and what is wanted.
 fn check_case(rt: &impl Abort, alloc: Global, grammar: &Grammar, case: &str) -> Result<(), Fail> {
     let (file, rest) = case.split_once('~').ok_or("a case without a text")?;
-    let (is_pair, other, wanted) = match rest.split_once('~') {
-        Some((other, wanted)) => (true, other.as_bytes(), wanted),
-        None => (false, b"".as_slice(), rest),
-    };
     let mut text = String::new(alloc);
-    let result = put_told(alloc, &mut text, grammar, file.as_bytes(), other, is_pair);
+    let (result, wanted) = match rest.split_once('~') {
+        Some((other, wanted)) => (
+            put_pair(alloc, &mut text, grammar, file.as_bytes(), other.as_bytes()),
+            wanted,
+        ),
+        None => (put_update(alloc, &mut text, grammar, file.as_bytes()), rest),
+    };
     check(rt, text, wanted, file);
     result
 }
