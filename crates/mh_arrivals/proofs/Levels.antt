@@ -31,7 +31,8 @@ use Rattle.mh_words.specs.Rising.{Rises, Same}
 use Rattle.mh_found.proofs.Queueing.{moves_taken, moves_sorted, moves_pushed, moves_drained, moves_higher, above}
 use Rattle.mh_arrivals.proofs.Arriving.{Comings, good_moves}
 use Rattle.mh_spots.proofs.Labelling.{label_laws, both_over, cheaper_at, by_numbers}
-use Rattle.mh_words.proofs.Listing.{here, rises_by, rises_all}
+use Rattle.mh_words.proofs.Listing.{rises_by, rises_all}
+use Rattle.mh_grammar.proofs.Lists.{contains_here}
 use Rattle.mh_spots.proofs.Spots.{label_one}
 use Rattle.mh_spots.proofs.Walking.{arrived_at}
 
@@ -83,7 +84,7 @@ module _ (t : TableData) (f : Facts t) (c : Classes) (cls : IsClasses t c) (word
       first y cost (inr beside) k l by by' = ready.rising.0 y beside.1 k l by by'
       first y cost (inl there) k l by by' = elim (gains.only cost y there) [
         | inl was ↦ (
-            let a = ready.good.items level x (inr (refl, here x xs)) in
+            let a = ready.good.items level x (inr (refl, contains_here x xs)) in
             let b = ready.good.items cost y (inl was) in
             let low = ready.good.low cost y (inl was) in
             let one : a.label ≡ k = label_one words ready.good.journey.labels x.step a.label k a.by by in

@@ -1,11 +1,12 @@
 -- How items are drawn from a queue, and how they come to stand in it or beside it.
-use Rattle.std.proofs.Common.{◌≡◌, ℕ, ◌+◌, ◌≤◌, ◌⊎◌, inl, inr, List, [], ◌∷◌, arith}
+use Rattle.std.proofs.Common.{◌≡◌, ℕ, ◌+◌, ◌≤◌, ◌⊎◌, inl, inr, List, [], ◌∷◌, sym, arith}
 use Rattle.std.specs.Global.{Vec}
 use Rattle.std.proofs.lemmas.Bool.{cases_lt}
+use Rattle.std.proofs.lemmas.List.Elements.{Contains-append_left, Contains-append_right}
 use Rattle.mh_ways.specs.Rows.{Waits, Beside, Gains, IsOne, Taken, NoneTaken}
 use Rattle.mh_found.specs.Drawn.{DrawsOne, DrawsNone, Keeps, DrawsSome, DrawsAll}
 use Rattle.mh_words.specs.Rising.{Same}
-use Rattle.mh_words.proofs.Listing.{here, in_more, in_cons, in_left, in_right, in_last, none_in}
+use Rattle.mh_grammar.proofs.Lists.{contains_here, contains_there, contains_cases, contains_none, contains_push}
 
 module _ {X : Type 0} (Done : X → Type 0) where
   -- what was in a queue is there still, or done
@@ -46,20 +47,20 @@ module _ {X : Type 0} (Done : X → Type 0) where
   -- ALL OF A COST
 
   pub drawn_none : (q : List (Vec X)) (cost : ℕ) → DrawsSome Done q q cost []
-  drawn_none q cost = record { kept = λ c o w. inl (inl w); only = λ c o w. w; each = λ o there. absurd (none_in o there) }
+  drawn_none q cost = record { kept = λ c o w. inl (inl w); only = λ c o w. w; each = λ o there. absurd (contains_none o there) }
 
   -- one item more is taken out
   pub drawn_more : (old mid new : List (Vec X)) (cost : ℕ) (i : X) (before after : List X) → DrawsSome Done old mid cost before → Taken mid new cost i → Keeps Done i before after → DrawsSome Done old new cost after
   drawn_more old mid new cost i before after h t (inl is) = record {
     kept = λ c o w. elim (h.kept c o w) [
       | inl left ↦ (elim left [
-        | inl there ↦ (elim (t.kept c o there) [ inl still ↦ inl (inl still) | inr one ↦ inr (one.0, rw (is, one.1) (in_right before (i ∷ []) i (here i []))) ])
+        | inl there ↦ (elim (t.kept c o there) [ inl still ↦ inl (inl still) | inr one ↦ inr (one.0, rw (is, one.1) (Contains-append_right before (i ∷ []) i (contains_here i []))) ])
         | inr done ↦ inl (inr done)
       ])
-      | inr beside ↦ inr (beside.0, rw is (in_left before (i ∷ []) o beside.1))
+      | inr beside ↦ inr (beside.0, rw is (Contains-append_left before (i ∷ []) o beside.1))
     ];
     only = λ c o w. h.only c o (t.only c o w);
-    each = λ o there. elim (in_last before i o (rw is at there)) [ inl was ↦ h.each o was | inr one ↦ rw one (h.only cost i t.was) ];
+    each = λ o there. elim (contains_push before i o (rw is at there)) [ inl was ↦ h.each o was | inr one ↦ rw one (h.only cost i t.was) ];
   }
   drawn_more old mid new cost i before after h t (inr is) = record {
     kept = λ c o w. elim (h.kept c o w) [
@@ -96,7 +97,7 @@ module _ {X : Type 0} (Done : X → Type 0) where
     where
       on : (cost : ℕ) (o : X) → Beside old level [] cost o → Beside mid level all cost o ⊎ Done o
       on cost o (inl there) = elim (takes.taken.kept cost o there) [ inl left ↦ (elim left [ inl still ↦ inl (inl still) | inr done ↦ inr done ]) | inr beside ↦ inl (inr beside) ]
-      on cost o (inr beside) = absurd (none_in o beside.1)
+      on cost o (inr beside) = absurd (contains_none o beside.1)
 
       back : (cost : ℕ) (o : X) → Beside mid level all cost o → Beside old level [] cost o
       back cost o (inl there) = inl (takes.taken.only cost o there)
@@ -120,11 +121,11 @@ module _ {X : Type 0} (Done : X → Type 0) where
     where
       on : (cost : ℕ) (o : X) → Beside old level (x ∷ xs) cost o → Beside mid level xs cost o ⊎ Done o
       on cost o (inl there) = inl (inl (gains.kept cost o there))
-      on cost o (inr beside) = elim (in_cons x xs o beside.1) [ inl is ↦ inl (inl (gains.all cost o (beside.0, is))) | inr other ↦ inl (inr (beside.0, other)) ]
+      on cost o (inr beside) = elim (contains_cases x xs o beside.1) [ inl is ↦ inl (inl (gains.all cost o (beside.0, sym is))) | inr other ↦ inl (inr (beside.0, other)) ]
 
       back : (cost : ℕ) (o : X) → Beside mid level xs cost o → Beside old level (x ∷ xs) cost o
-      back cost o (inl there) = elim (gains.only cost o there) [ inl was ↦ inl was | inr is ↦ inr (is.0, rw is.1 (here x xs)) ]
-      back cost o (inr beside) = inr (beside.0, in_more x xs o beside.1)
+      back cost o (inl there) = elim (gains.only cost o there) [ inl was ↦ inl was | inr is ↦ inr (is.0, rw is.1 (contains_here x xs)) ]
+      back cost o (inr beside) = inr (beside.0, contains_there x xs o beside.1)
 
   -- nothing of the level is left in the queue
   pub moves_drained : (old mid : List (Vec X)) (level : ℕ) (xs : List X) → DrawsNone Done old mid level → Moves (Beside old level xs) (Beside mid level xs)
@@ -144,15 +145,15 @@ module _ {X : Type 0} (Done : X → Type 0) where
     where
       on : (cost : ℕ) (o : X) → Beside q level [] cost o → Beside q (level + 1) [] cost o ⊎ Done o
       on cost o (inl there) = inl (inl there)
-      on cost o (inr beside) = absurd (none_in o beside.1)
+      on cost o (inr beside) = absurd (contains_none o beside.1)
 
       back : (cost : ℕ) (o : X) → Beside q (level + 1) [] cost o → Beside q level [] cost o
       back cost o (inl there) = inl there
-      back cost o (inr beside) = absurd (none_in o beside.1)
+      back cost o (inr beside) = absurd (contains_none o beside.1)
 
 -- where nothing of the level is left, all that waits costs more
 pub above : {X : Type 0} (q : List (Vec X)) (level : ℕ) → ((cost : ℕ) (o : X) → Beside q level [] cost o → level ≤ cost) → ((o : X) → Waits q level o → ⊥) → (cost : ℕ) (o : X) → Beside q (level + 1) [] cost o → level + 1 ≤ cost
-above q level low none cost o (inr beside) = absurd (none_in o beside.1)
+above q level low none cost o (inr beside) = absurd (contains_none o beside.1)
 above q level low none cost o (inl there) =
     let le = low cost o (inl there) in
     elim (cases_lt level cost) [ inl lt ↦ omega arith | inr ge ↦ absurd (none o (let same : cost ≡ level = omega arith in rw same at there)) ]
