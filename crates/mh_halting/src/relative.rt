@@ -227,17 +227,18 @@ fn first_look(
     }
 }
 
-/// The first start state alone that begins a relative run of more than `MAX_REDUCTIONS` reductions.
-fn first_start(
-    table: &Table,
-    stack: &mut Vec<u32>,
-) -> Result<Option<(u32, Option<Token>)>, AllocError>
+/// The first relative run of more than `MAX_REDUCTIONS` reductions that begins in a start state alone.
+fn first_start(table: &Table, stack: &mut Vec<u32>) -> Result<Option<RelativeRun>, AllocError>
     ensures { IfOk result (λ found. StateFound table.now None found) }
 {
     table.facts();
     'states: for state in 0..u32::from(table.starts()) {
-        if let Some(look) = first_look(table, stack, None, state)? {
-            return Ok(Some((state, look)));
+        if let Some(token) = first_look(table, stack, None, state)? {
+            return Ok(Some(RelativeRun {
+                below: None,
+                state,
+                token,
+            }));
         }
     }
     Ok(None)
@@ -285,35 +286,39 @@ fn targets_of(
     Ok(targets)
 }
 
-/// The first of the states that the edges of a lower one lead to that begins a relative run of more than
-/// `MAX_REDUCTIONS` reductions.
+/// The first relative run of more than `MAX_REDUCTIONS` reductions that begins above a state, in one of those that its
+/// edges lead to.
 fn first_among(
     table: &Table,
     stack: &mut Vec<u32>,
     below: u32,
     targets: &[u32],
-) -> Result<Option<(u32, Option<Token>)>, AllocError>
+) -> Result<Option<RelativeRun>, AllocError>
     requires below { below < length table.now.states }
     requires targets { AreTargets table.now below targets.now }
     ensures { IfOk result (λ found. StateFound table.now (Some below) found) }
 {
     table.facts();
     'targets: for target in targets {
-        if let Some(look) = first_look(table, stack, Some(below), *target)? {
-            return Ok(Some((*target, look)));
+        if let Some(token) = first_look(table, stack, Some(below), *target)? {
+            return Ok(Some(RelativeRun {
+                below: Some(below),
+                state: *target,
+                token,
+            }));
         }
     }
     Ok(None)
 }
 
-/// The first state over a lower one that begins a relative run of more than `MAX_REDUCTIONS` reductions.
+/// The first relative run of more than `MAX_REDUCTIONS` reductions that begins above a state.
 fn first_above(
     alloc: Global,
     table: &Table,
     stack: &mut Vec<u32>,
     bounds: &[u32],
     below: u32,
-) -> Result<Option<(u32, Option<Token>)>, AllocError>
+) -> Result<Option<RelativeRun>, AllocError>
     requires bounds { length bounds.now ≡ symbol_count table.now }
     requires settled { AreSettled table.now bounds.now }
     requires below { below < length table.now.states }
@@ -335,20 +340,12 @@ fn first_by(
     ensures { IfOk result (λ found. TestFound table.now found) }
 {
     table.facts();
-    if let Some((state, token)) = first_start(table, stack)? {
-        return Ok(Some(RelativeRun {
-            below: None,
-            state,
-            token,
-        }));
+    if let Some(found) = first_start(table, stack)? {
+        return Ok(Some(found));
     }
     'lower: for below in 0..table.states() {
-        if let Some((state, token)) = first_above(alloc, table, stack, bounds, below)? {
-            return Ok(Some(RelativeRun {
-                below: Some(below),
-                state,
-                token,
-            }));
+        if let Some(found) = first_above(alloc, table, stack, bounds, below)? {
+            return Ok(Some(found));
         }
     }
     Ok(None)

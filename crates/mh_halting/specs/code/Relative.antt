@@ -89,9 +89,9 @@ pub record FirstState (t : TableData) (below : Option ℕ) (s : ℕ) (look : Opt
 abbrev pub AllClear : TableData → Option ℕ → Type 0
 AllClear t below = (s : ℕ) → IsBeginning t below s → Clear t below s
 
-abbrev pub StateFound : TableData → Option ℕ → Option (ℕ × Option ℕ) → Type 0
+abbrev pub StateFound : TableData → Option ℕ → Option RelativeRun → Type 0
 StateFound t below None = AllClear t below
-StateFound t below (Some (s, look)) = FirstState t below s look
+StateFound t below (Some run) = (run.below ≡ below) × FirstState t below run.state run.token
 
 -- where an edge of a state leads was added, or no relative run above it loops
 pub record AddsTarget (t : TableData) (r u : ℕ) (old new : List ℕ) : Type 0 where
