@@ -1,5 +1,5 @@
 -- Runs of whole sentences, one token after another.
-use Rattle.std.proofs.Common.{◌≡◌, ℕ, zero, suc, ◌+◌, ◌-◌, ◌<◌, ◌≤◌, List, [], ◌∷◌, ◌++◌, length, take, drop, get_or, Some, None, Option, Bool, true, false, refl, ap, sym, subst, arith, ◌∙◌, ◌⊎◌, inl, inr, length-append, append_assoc, append-nil}
+use Rattle.std.proofs.Common.{◌≡◌, ℕ, zero, suc, ◌+◌, ◌-◌, ◌<◌, ◌≤◌, List, [], ◌∷◌, ◌++◌, length, take, drop, get_or, Bool, true, false, refl, ap, sym, subst, arith, ◌∙◌, ◌⊎◌, inl, inr, length-append, append_assoc, append-nil}
 use Rattle.std.proofs.lemmas.Bool.{cases_lt}
 use Rattle.std.proofs.lemmas.List.{take_more, take-append-drop, length-drop}
 use Rattle.std.proofs.Math.Seq.{take-length}
@@ -7,25 +7,21 @@ use Rattle.mh_tables.specs.Table.{TableData}
 use Rattle.mh_tables.specs.Run.{Move, Accepts as Accepting, Asks, Refuses, Shifts, Reduces, move_of, top_of}
 use Rattle.mh_tables.proofs.Asking.{no_refusal_at_end}
 use Rattle.mh_tables.proofs.Reductions.{no_shift_at_end}
-use Rattle.mh_grammar.specs.Trees.{SyntaxTree, Leaf}
-use Rattle.std.specs.Prelude.{Result, Ok, Err, IfOk}
-use Rattle.mh_grammar.specs.declared.types.Memory.{Memory}
-use Rattle.mh_engine.specs.Pairs.{Pairs}
-use Rattle.mh_engine.specs.Cells.{pushed}
+use Rattle.mh_grammar.specs.Trees.{SyntaxTree}
 use Rattle.mh_engine.specs.Positions.{Position}
-use Rattle.mh_engine.specs.Phases.{next_move, phase_of, phase_by, phase_where, first_of, IsAsking, CanGoOn}
+use Rattle.mh_engine.specs.Phases.{next_move, phase_of, phase_by, phase_where, IsAsking, CanGoOn}
 use Rattle.mh_engine.specs.Steps.{begun, offered, resumed}
 use Rattle.mh_engine.specs.StepsOn.{after_steps, CanMake}
 use Rattle.mh_tables.specs.Deep.{too_deep}
-use Rattle.mh_engine.specs.Settled.{Kept, Leads, SettlesTo, SettlesDeep}
-use Rattle.mh_engine.specs.Reached.{Reaches, Accepts, HasReached, IsAccept}
+use Rattle.mh_engine.specs.Settled.{Leads, SettlesTo, SettlesDeep}
+use Rattle.mh_engine.specs.Reached.{Reaches, Accepts, HasReached, Reads, IsAccept}
 use Rattle.mh_engine.specs.declared.phase.Phase.{Phase}
 use Rattle.mh_engine.specs.declared.phase.Phase.TheVariants as phases
 use Rattle.mh_engine.specs.declared.sentence.TreeOutcome.{TreeOutcome}
 use Rattle.mh_engine.specs.declared.sentence.TreeOutcome.TheVariants as outcomes
 use Rattle.mh_engine.proofs.Moves.{accepted_moves}
 use Rattle.mh_engine.proofs.Resuming.{asking_left, shifted_is}
-use Rattle.mh_engine.proofs.OneMore.{steps_offered, phase_offered, move_offered, after_more, can_more, table_stays, table_after}
+use Rattle.mh_engine.proofs.OneMore.{steps_offered, phase_offered, move_offered, table_after}
 
 -- STEPS AFTER STEPS
 
@@ -97,14 +93,6 @@ phase_rest [] c h = ap phase_of (with_none c)
 phase_rest (z ∷ zs) c h = ap phase_of (sym (with_more c z zs)) ∙ phase_rest zs (offered c z) (λ e. h (sym (move_offered c z h) ∙ e)) ∙ phase_offered c z h
 
 -- THE PLACES OF A SENTENCE
-
--- before the token at a place: all earlier ones were shifted
-pub record Reads (t : TableData) (start : ℕ) (w : List ℕ) (i : ℕ) (c : Position) : Type 0 where
-  pub steps : ℕ
-  pub leads : Leads steps (begun t start (take i w)) c
-  pub empty : c.left ≡ []
-  pub calm : c.refused ≡ false
-  pub within : i ≤ length w
 
 -- the token at a place waits
 pub record Feeds (t : TableData) (start : ℕ) (w : List ℕ) (i z : ℕ) (c : Position) : Type 0 where
@@ -285,12 +273,11 @@ not_fed c z l r none shifts handles accepts = go (phase_of c) refl
 pub reads_table : (t : TableData) (start : ℕ) (w : List ℕ) (i : ℕ) (c : Position) → Reads t start w i c → c.table ≡ t
 reads_table t start w i c r = ap (λ (p : Position). p.table) (sym r.leads.there) ∙ table_after r.steps (begun t start (take i w))
 
+pub settles_table : (c d : Position) → SettlesTo c d → d.table ≡ c.table
+settles_table c d s = ap (λ (p : Position). p.table) (sym s.leads.there) ∙ table_after s.steps c
+
 pub asks_here : (c : Position) (s : ℕ) → phase_of c ≡ phases.InputNeeded s → IsAsking (phase_of c)
 asks_here c s e = subst IsAsking (sym e) tt
 
 pub shifts_here : (c : Position) (s y : ℕ) → phase_of c ≡ phases.Shifting s y → CanGoOn (phase_of c)
 shifts_here c s y e = subst CanGoOn (sym e) tt
-
-pub if_ok : (r : Result TreeOutcome Memory) (P Q : TreeOutcome → Type 0) → ((o : TreeOutcome) → P o → Q o) → IfOk r P → IfOk r Q
-if_ok (Ok o) P Q f h = f o h
-if_ok (Err e) P Q f h = tt

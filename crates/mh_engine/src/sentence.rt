@@ -1,13 +1,15 @@
 //! Runs of whole sentences with their trees, by checkpoints.
-ghost use Rattle.std.specs.Prelude.{◌≡◌, ◌<◌, ◌^◌, length, true, false, IfOk, IfErr, OnOk, All};
+ghost use Rattle.std.specs.Prelude.{◌≡◌, ◌<◌, ◌^◌, ℕ, List, [], length, true, false, IfOk, IfErr, OnOk, All};
 ghost use Rattle.mh_tables.specs.Deep.{too_deep};
+ghost use Rattle.mh_tables.specs.Table.{TableData};
 ghost use Rattle.mh_tables.specs.TreeRuns.{IsTreeEnding};
 ghost use Rattle.mh_engine.specs.Outcomes.{tree_ending_for};
-ghost use Rattle.mh_engine.specs.Reached.{HasReached, IsAccept};
+ghost use Rattle.mh_engine.specs.Reached.{HasReached, HasRead, ReadsNext, IsAccept};
 ghost use Rattle.mh_engine.specs.Phases.{phase_of, IsAsking, CanGoOn};
 ghost use Rattle.mh_engine.specs.Steps.{offered, resumed};
 ghost use Rattle.mh_engine.specs.declared.fault.ResumeFault.TheVariants as faults;
 ghost use Rattle.mh_engine.specs.declared.phase.Phase.TheVariants as phases;
+ghost use Rattle.mh_engine.specs.declared.sentence.TreeOutcome.TheVariants as outcomes;
 
 use crate::checkpoint::{Checkpoint, begin};
 use crate::fault::ResumeFault;
@@ -46,65 +48,92 @@ pub fn run_with_trees(
     ensures { IfOk result (λ outcome. IsTreeEnding table.now start sentence.now (tree_ending_for outcome)) }
 {
     let _rows = table.table();
-    run(alloc, table, start, sentence)
+    match run(alloc, table, start, sentence) {
+        Ok(outcome) => Ok(outcome),
+        Err(ResumeFault::TooDeep) => Ok(TreeOutcome::TooDeep),
+        Err(ResumeFault::Memory) => Err(Memory),
+    }
 }
 
-/// The same, from checkpoint to checkpoint.
+/// The same, from checkpoint to checkpoint. It is too deep where a step of it is.
 fn run(
     alloc: Global,
     table: &Halting,
     start: u16,
     sentence: &[Token],
-) -> Result<TreeOutcome, Memory>
+) -> Result<TreeOutcome, ResumeFault>
     requires start { start < length table.now.grammar.starts }
     requires tokens { All (λ z. z < table.now.grammar.tokens) sentence.now }
     requires few { length sentence.now < 2 ^ 32 }
-    ensures { IfOk result (λ outcome. HasReached table.now start sentence.now outcome) }
+    ensures reached { IfOk result (λ outcome. HasReached table.now start sentence.now outcome) }
+    ensures deep { IfErr result (λ fault. fault ≡ faults.TooDeep → HasReached table.now start sentence.now outcomes.TooDeep) }
 {
     let mut at = begin(table, start);
     for (place, token) in sentence.iter().enumerate() {
-        let asking = match settle(alloc, at) {
-            Ok(asking) => asking,
-            Err(ResumeFault::TooDeep) => return Ok(TreeOutcome::TooDeep),
-            Err(ResumeFault::Memory) => return Err(Memory),
-        };
-        match asking.phase() {
-            Phase::InputNeeded { state: _ } => {}
-            Phase::Accepted => return accept(place as u32, &asking),
-            _ => unreachable!(),
-        }
-        let offered = offer_to(asking, *token)?;
-        let fed = match settle(alloc, offered) {
-            Ok(fed) => fed,
-            Err(ResumeFault::TooDeep) => return Ok(TreeOutcome::TooDeep),
-            Err(ResumeFault::Memory) => return Err(Memory),
-        };
-        match fed.phase() {
-            Phase::Shifting { state: _, token: _ } => {}
-            Phase::Accepted => return accept(place as u32, &fed),
-            Phase::HandlingError { state } => {
-                return Ok(TreeOutcome::Reject {
-                    at: place as u32,
-                    state,
-                });
-            }
-            _ => unreachable!(),
-        }
-        at = match resume_from(alloc, fed) {
-            Ok(next) => next,
-            Err(ResumeFault::TooDeep) => return Ok(TreeOutcome::TooDeep),
-            Err(ResumeFault::Memory) => return Err(Memory),
+        at = match feed(alloc, at, place as u32, *token) {
+            Ok(TokenOutcome::Shifted(next)) => next,
+            Ok(TokenOutcome::Ended(outcome)) => return Ok(outcome),
+            Err(fault) => return Err(fault),
         };
     }
     let end = match settle(alloc, at) {
         Ok(end) => end,
-        Err(ResumeFault::TooDeep) => return Ok(TreeOutcome::TooDeep),
-        Err(ResumeFault::Memory) => return Err(Memory),
+        Err(fault) => return Err(fault),
     };
     match end.phase() {
         Phase::InputNeeded { state } => Ok(TreeOutcome::Overshoot { state }),
-        Phase::Accepted => accept(sentence.len() as u32, &end),
+        Phase::Accepted => Ok(accept(sentence.len() as u32, &end)?),
         _ => unreachable!(),
+    }
+}
+
+/// What comes of one token of a sentence.
+#[derive(Drop)]
+enum TokenOutcome<'t> {
+    /// It is shifted, and the run goes on from here.
+    Shifted(Checkpoint<'t>),
+    /// The run ends, at it or before it.
+    Ended(TreeOutcome),
+}
+
+/// What comes of the token at this place, where all before it are shifted. It is too deep where a step of it is.
+fn feed<'t>(
+    alloc: Global,
+    at: Checkpoint<'t>,
+    place: u32,
+    token: Token,
+) -> Result<TokenOutcome<'t>, ResumeFault>
+    requires empty { at.left ≡ [] }
+    requires calm { at.refused ≡ false }
+    requires token { token < at.table.grammar.tokens }
+    ensures read { IfOk result (λ outcome. (t : TableData) (start : ℕ) (w : List ℕ) → ReadsNext t start w place token at.entry → HasRead t start w place outcome) }
+    ensures deep { IfErr result (λ fault. fault ≡ faults.TooDeep → (t : TableData) (start : ℕ) (w : List ℕ) → ReadsNext t start w place token at.entry → HasReached t start w outcomes.TooDeep) }
+{
+    let asking = match settle(alloc, at) {
+        Ok(asking) => asking,
+        Err(fault) => return Err(fault),
+    };
+    match asking.phase() {
+        Phase::InputNeeded { state: _ } => {}
+        Phase::Accepted => return Ok(TokenOutcome::Ended(accept(place, &asking)?)),
+        _ => unreachable!(),
+    }
+    let offered = offer_to(asking, token)?;
+    let fed = match settle(alloc, offered) {
+        Ok(fed) => fed,
+        Err(fault) => return Err(fault),
+    };
+    match fed.phase() {
+        Phase::Shifting { state: _, token: _ } => {}
+        Phase::Accepted => return Ok(TokenOutcome::Ended(accept(place, &fed)?)),
+        Phase::HandlingError { state } => {
+            return Ok(TokenOutcome::Ended(TreeOutcome::Reject { at: place, state }));
+        }
+        _ => unreachable!(),
+    }
+    match resume_from(alloc, fed) {
+        Ok(next) => Ok(TokenOutcome::Shifted(next)),
+        Err(fault) => Err(fault),
     }
 }
 

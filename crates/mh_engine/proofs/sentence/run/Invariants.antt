@@ -1,5 +1,4 @@
-use Rattle.std.proofs.Common.{◌≡◌}
-use Rattle.mh_engine.proofs.Reading.{Reads}
+use Rattle.mh_engine.specs.Reached.{Reads}
 use Rattle.mh_engine.proofs.sentence.run.Given as goal
 
 abbrev pub invariant-loop-place : goal.invariant-loop-place

@@ -1,11 +1,10 @@
-use Rattle.mh_tables.specs.TreeRuns.{IsTreeEnding}
-use Rattle.mh_engine.specs.Outcomes.{tree_ending_for}
-use Rattle.mh_engine.specs.Reached.{HasReached}
-use Rattle.mh_engine.proofs.Reading.{if_ok}
+use Rattle.mh_engine.specs.declared.sentence.TreeOutcome.TheVariants as outcomes
 use Rattle.mh_engine.proofs.Ending.{run_ending}
 use Rattle.mh_engine.proofs.sentence.run_with_trees.Goals as goal
 
-pub returns : goal.returns
-returns c =
-    if_ok c.run.result (HasReached c.args.table.now c.args.start c.args.sentence.now) (λ o. IsTreeEnding c.args.table.now c.args.start c.args.sentence.now (tree_ending_for o))
-    (run_ending c.args.table.now c.table-rows.ensures.facts.facts c.args.start c.args.sentence.now c.requires.start) c.run.ensures
+pub returns-in-Ok : goal.returns-in-Ok
+returns-in-Ok c = run_ending c.args.table.now c.table-rows.ensures.facts.facts c.args.start c.args.sentence.now c.requires.start c.in-Ok.outcome c.in-Ok.ensures.reached
+
+pub returns-in-Err-TooDeep : goal.returns-in-Err-TooDeep
+returns-in-Err-TooDeep c =
+    run_ending c.args.table.now c.table-rows.ensures.facts.facts c.args.start c.args.sentence.now c.requires.start outcomes.TooDeep (c.in-Err-TooDeep.ensures.deep c.in-Err-TooDeep.field-0-is)
