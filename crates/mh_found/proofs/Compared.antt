@@ -141,9 +141,11 @@ module _ (t : TableData) (facts : Facts) (tale : Tale t facts) where
         }
 
     -- words that differ tell the order
-    pub words_told : (left right : Part) (later : Bool) → IsToldOf (tolds.Later later) a b → Goes t facts old new left right (Some later) tale a b u v
-    words_told left right true h = record { told = before_lex b a v u h; rest = λ e. absurd (let y : Some true ≡ None = e in cc); smaller = λ e. absurd (let y : Some true ≡ None = e in cc) }
-    words_told left right false h = record { told = before_lex a b u v h; rest = λ e. absurd (let y : Some false ≡ None = e in cc); smaller = λ e. absurd (let y : Some false ≡ None = e in cc) }
+    pub earlier_told : (left right : Part) → Before a b → Goes t facts old new left right (Some false) tale a b u v
+    earlier_told left right h = record { told = before_lex a b u v h; rest = λ e. absurd (let y : Some false ≡ None = e in cc); smaller = λ e. absurd (let y : Some false ≡ None = e in cc) }
+
+    pub later_told : (left right : Part) → Before b a → Goes t facts old new left right (Some true) tale a b u v
+    later_told left right h = record { told = before_lex b a v u h; rest = λ e. absurd (let y : Some true ≡ None = e in cc); smaller = λ e. absurd (let y : Some true ≡ None = e in cc) }
 
     -- the right one is opened
     pub right_opened : (left right : Part) (k : FactKey) → right ≡ parts.Fact k → IsWordOf tale.words left a → IsWordOf tale.words right b → new.left.items ≡ old.left.items ++ left ∷ [] → Opens t facts (parts.Fact k) old.right.items new.right.items →
@@ -176,8 +178,8 @@ module _ (t : TableData) (facts : Facts) (tale : Tale t facts) where
 -- numbers of one group tell the order of their words
 turned : (book : Words) (c m n : ℕ) (a b : List ℕ) (told : Told) → IsBook book → StandsFor book m c a → StandsFor book n c b → IsTurn m n told → IsToldOf told a b
 turned book c m n a b tolds.Equal is x y e = sym x.letters ∙ ap (λ (i : ℕ). letters_of book i) e ∙ y.letters
-turned book c m n a b (tolds.Later true) is x y lt = let h : Before (letters_of book n) (letters_of book m) = (is.groups n m lt x.known).1 (y.group ∙ sym x.group) in rw (y.letters, x.letters) at h
-turned book c m n a b (tolds.Later false) is x y lt = let h : Before (letters_of book m) (letters_of book n) = (is.groups m n lt y.known).1 (x.group ∙ sym y.group) in rw (x.letters, y.letters) at h
+turned book c m n a b tolds.Earlier is x y lt = let h : Before (letters_of book m) (letters_of book n) = (is.groups m n lt y.known).1 (x.group ∙ sym y.group) in rw (x.letters, y.letters) at h
+turned book c m n a b tolds.Later is x y lt = let h : Before (letters_of book n) (letters_of book m) = (is.groups n m lt x.known).1 (y.group ∙ sym x.group) in rw (y.letters, x.letters) at h
 turned book c m n a b tolds.Cheaper is x y never = absurd never
 turned book c m n a b tolds.Dearer is x y never = absurd never
 

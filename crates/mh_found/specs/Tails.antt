@@ -59,16 +59,16 @@ IsToldBy (Some false) u v = LexLe u v
 -- the order of two numbers
 abbrev pub IsTurn : ℕ → ℕ → Told → Type 0
 IsTurn m n tolds.Equal = m ≡ n
-IsTurn m n (tolds.Later true) = n < m
-IsTurn m n (tolds.Later false) = m < n
+IsTurn m n tolds.Earlier = m < n
+IsTurn m n tolds.Later = n < m
 IsTurn m n tolds.Cheaper = ⊥
 IsTurn m n tolds.Dearer = ⊥
 
 -- what is told of two words
 abbrev pub IsToldOf : Told → List ℕ → List ℕ → Type 0
 IsToldOf tolds.Equal a b = a ≡ b
-IsToldOf (tolds.Later true) a b = Before b a
-IsToldOf (tolds.Later false) a b = Before a b
+IsToldOf tolds.Earlier a b = Before a b
+IsToldOf tolds.Later a b = Before b a
 IsToldOf tolds.Cheaper a b = Unit {0}
 IsToldOf tolds.Dearer a b = Unit {0}
 

@@ -56,8 +56,10 @@ fn open(table: &Table, store: &FactStore, parts: &mut Vec<Part>, key: FactKey) -
 #[derive(Clone, Copy, Drop)]
 pub enum Told {
     Equal,
-    /// Whether the left one comes later; neither begins with the other.
-    Later(bool),
+    /// The left one comes first, and neither begins with the other.
+    Earlier,
+    /// The left one comes later, and neither begins with the other.
+    Later,
     Cheaper,
     Dearer,
 }
@@ -69,7 +71,10 @@ fn by_numbers(left: usize, right: usize) -> Told
     if left == right {
         return Told::Equal;
     }
-    Told::Later(right < left)
+    if right < left {
+        return Told::Later;
+    }
+    Told::Earlier
 }
 
 /// What is told of the words of two settled facts. Words of one cost stand in the order of their numbers, but for those that are
@@ -146,7 +151,8 @@ fn turn_facts(
 {
     match tell(store, numbering, left, right) {
         Told::Equal => Ok(None),
-        Told::Later(later) => Ok(Some(later)),
+        Told::Earlier => Ok(Some(false)),
+        Told::Later => Ok(Some(true)),
         Told::Cheaper => open_right(table, store, rests, Part::Fact(left), right),
         Told::Dearer => open_left(table, store, rests, left, Part::Fact(right)),
     }
