@@ -1,7 +1,10 @@
 -- Words are compared through what their facts came from.
-use Rattle.std.proofs.Common.{◌≡◌, ℕ, nat_eq, ◌+◌, ◌*◌, ◌-◌, ◌<◌, ◌≤◌, inr, List, [], ◌∷◌, ◌++◌, Some, None, Option, Bool, true, false, refl, ap, sym, subst, arith, append_assoc, ◌∙◌}
+use Rattle.std.proofs.Common.{◌≡◌, ℕ, nat_eq, ◌+◌, ◌*◌, ◌-◌, ◌<◌, ◌≤◌, inl, inr, List, [], ◌∷◌, ◌++◌, Some, None, Option, true, false, refl, ap, sym, subst, arith, append_assoc, ◌∙◌}
 use Rattle.std.specs.Prelude.{slice_get, Result, Ok, Err, OnOk, IfOk}
 use Rattle.std.specs.Option.{option_map, option_eq}
+use Rattle.std.specs.Ordering.{MatchOrdering, is_gt}
+use Rattle.std.specs.declared.cmp.Ordering.{Ordering}
+use Rattle.std.specs.declared.cmp.Ordering.TheVariants.{Less, Equal, Greater}
 use Rattle.std.proofs.lemmas.List.{append-nil}
 use Rattle.std.proofs.lemmas.Grind.{common_steps}
 use Rattle.mh_grammar.specs.declared.types.Symbol.{Symbol}
@@ -20,16 +23,20 @@ use Rattle.mh_found.specs.declared.tails.Rests.{Rests}
 use Rattle.mh_ways.specs.Tales.{WordBy, Tale, token_of, sizes_of, size_by}
 use Rattle.mh_least.specs.Orders.{cap}
 use Rattle.mh_words.specs.Words.{Words, IsBook, Before, letters_of}
-use Rattle.mh_words.proofs.Ordered.{before_lex}
 use Rattle.mh_found.specs.declared.numbers.Numbering.{Numbering}
 use Rattle.mh_found.specs.declared.tails.Told.{Told}
 use Rattle.mh_found.specs.declared.tails.Told.TheVariants as tolds
 use Rattle.mh_found.specs.Numbers.{StandsFor, IsPlaced}
-use Rattle.mh_found.specs.Tails.{IsTurn, IsToldOf, Tells, IsWordOf, AreWordOf, tokens_of, parts_of, weight, Opens, Goes, Turns, AreShared, AreComparable, IsLater}
+use Rattle.mh_found.specs.Tails.{IsTurn, IsToldOf, IsToldBy, Tells, IsWordOf, AreWordOf, tokens_of, parts_of, weight, Opens, Goes, Turns, AreShared, AreComparable, IsLater}
 use Rattle.mh_ways.proofs.Wording.{some_is, fact_of_word}
 use Rattle.mh_grammar.proofs.Lists.{option_map_some}
 
 -- NUMBERS OF TOKENS
+
+tokens_order : (x y : ℕ) (u v : List ℕ) (order : Ordering) → MatchOrdering order (x < y) (x ≡ y) (y < x) → (x ≡ y → ⊥) → IsToldBy (Some order) (x ∷ u) (y ∷ v)
+tokens_order x y u v Less lt other = inl lt
+tokens_order x y u v Equal e other = absurd (other e)
+tokens_order x y u v Greater lt other = inl lt
 
 pub lex_behind : (p u v : List ℕ) → LexLe u v → LexLe (p ++ u) (p ++ v)
 lex_behind [] u v h = h
@@ -141,11 +148,15 @@ module _ (t : TableData) (facts : Facts) (tale : Tale t facts) where
         }
 
     -- words that differ tell the order
-    pub earlier_told : (left right : Part) → Before a b → Goes t facts old new left right (Some false) tale a b u v
-    earlier_told left right h = record { told = before_lex a b u v h; rest = λ e. absurd (let y : Some false ≡ None = e in cc); smaller = λ e. absurd (let y : Some false ≡ None = e in cc) }
+    pub words_told : (left right : Part) (order : Ordering) → IsToldBy (Some order) (a ++ u) (b ++ v) → Goes t facts old new left right (Some order) tale a b u v
+    words_told left right order h = record { told = h; rest = λ e. absurd (let y : Some order ≡ None = e in cc); smaller = λ e. absurd (let y : Some order ≡ None = e in cc) }
 
-    pub later_told : (left right : Part) → Before b a → Goes t facts old new left right (Some true) tale a b u v
-    later_told left right h = record { told = before_lex b a v u h; rest = λ e. absurd (let y : Some true ≡ None = e in cc); smaller = λ e. absurd (let y : Some true ≡ None = e in cc) }
+    pub tokens_told : (left right : Part) (x y : ℕ) (order : Ordering) → left ≡ parts.Token x → right ≡ parts.Token y → IsWordOf tale.words left a → IsWordOf tale.words right b → MatchOrdering order (x < y) (x ≡ y) (y < x) → (x ≡ y → ⊥) →
+        Goes t facts old new left right (Some order) tale a b u v
+    tokens_told left right x y order is is' h g turn other =
+        let p : a ≡ x ∷ [] = rw is at h in
+        let q : b ≡ y ∷ [] = rw is' at g in
+        words_told left right order (rw (p, q) (tokens_order x y u v order turn other))
 
     -- the right one is opened
     pub right_opened : (left right : Part) (k : FactKey) → right ≡ parts.Fact k → IsWordOf tale.words left a → IsWordOf tale.words right b → new.left.items ≡ old.left.items ++ left ∷ [] → Opens t facts (parts.Fact k) old.right.items new.right.items →
@@ -248,18 +259,18 @@ module _ (t : TableData) (facts : Facts) (all : Rests) where
 
   module _ (rests mid new : Rests) (one two : Part) (shared : AreShared t facts all rests) (left_top : rests.left.items ≡ mid.left.items ++ one ∷ []) (right_top : rests.right.items ≡ mid.right.items ++ two ∷ []) where
     -- the first parts of both, and what they tell
-    record Tops (later : Option Bool) (tale : Tale t facts) (u v : List ℕ) : Type 0 where
+    record Tops (order : Option Ordering) (tale : Tale t facts) (u v : List ℕ) : Type 0 where
       front : List ℕ
       a : List ℕ
       b : List ℕ
       x : List ℕ
       y : List ℕ
-      goes : Goes t facts mid new one two later tale a b x y
+      goes : Goes t facts mid new one two order tale a b x y
       left_is : u ≡ front ++ (a ++ x)
       right_is : v ≡ front ++ (b ++ y)
 
-    tops : (later : Option Bool) → Turns t facts mid new one two later → (tale : Tale t facts) (u v : List ℕ) → AreWordOf tale.words all.left.items u → AreWordOf tale.words all.right.items v → Tops later tale u v
-    tops later turns tale u v is is' =
+    tops : (order : Option Ordering) → Turns t facts mid new one two order → (tale : Tale t facts) (u v : List ℕ) → AreWordOf tale.words all.left.items u → AreWordOf tale.words all.right.items v → Tops order tale u v
+    tops order turns tale u v is is' =
         let s = shared tale u v is is' in
         let l = parts_top tale.words mid.left.items one s.left_rest (rw left_top at s.left_word) in
         let r = parts_top tale.words mid.right.items two s.right_rest (rw right_top at s.right_word) in
@@ -274,11 +285,12 @@ module _ (t : TableData) (facts : Facts) (all : Rests) where
           right_is = s.right_is ∙ ap (λ (w : List ℕ). s.front ++ w) r.4;
         }
 
-    pub told_after : (later : Bool) → Turns t facts mid new one two (Some later) → IsLater t facts all.left.items all.right.items later
-    told_after true turns =
-        λ tale v u is' is. let k = tops (Some true) turns tale u v is is' in lex_is v u (k.front ++ (k.b ++ k.y)) (k.front ++ (k.a ++ k.x)) k.right_is k.left_is (lex_behind k.front (k.b ++ k.y) (k.a ++ k.x) k.goes.told)
-    told_after false turns =
-        λ tale u v is is'. let k = tops (Some false) turns tale u v is is' in lex_is u v (k.front ++ (k.a ++ k.x)) (k.front ++ (k.b ++ k.y)) k.left_is k.right_is (lex_behind k.front (k.a ++ k.x) (k.b ++ k.y) k.goes.told)
+    pub told_after : (order : Ordering) → Turns t facts mid new one two (Some order) → IsLater t facts all.left.items all.right.items (is_gt order)
+    told_after Less turns =
+        λ tale u v is is'. let k = tops (Some Less) turns tale u v is is' in lex_is u v (k.front ++ (k.a ++ k.x)) (k.front ++ (k.b ++ k.y)) k.left_is k.right_is (lex_behind k.front (k.a ++ k.x) (k.b ++ k.y) k.goes.told)
+    told_after Equal turns = λ tale u v is is'. absurd (tops (Some Equal) turns tale u v is is').goes.told
+    told_after Greater turns =
+        λ tale v u is' is. let k = tops (Some Greater) turns tale u v is is' in lex_is v u (k.front ++ (k.b ++ k.y)) (k.front ++ (k.a ++ k.x)) k.right_is k.left_is (lex_behind k.front (k.b ++ k.y) (k.a ++ k.x) k.goes.told)
 
     pub goes_on : Turns t facts mid new one two None → AreShared t facts all new
     goes_on turns tale u v is is' =

@@ -1,5 +1,7 @@
 -- Words that are not written out: what they are made of, and which comes first.
 use Rattle.std.specs.Prelude.{◌≡◌, ◌<◌, ◌+◌, ◌*◌, ℕ, List, [], ◌∷◌, ◌++◌, Option, Some, None, Bool, true, false}
+use Rattle.std.specs.declared.cmp.Ordering.{Ordering}
+use Rattle.std.specs.declared.cmp.Ordering.TheVariants.{Less, Equal, Greater}
 use Rattle.mh_tables.specs.Table.{TableData}
 use Rattle.mh_facts.specs.declared.store.FactKey.{FactKey}
 use Rattle.mh_facts.specs.declared.store.Back.{Back}
@@ -50,11 +52,12 @@ abbrev pub Opens : TableData → Facts → Part → List Part → List Part → 
 Opens t facts p old new = (tale : Tale t facts) (v : List ℕ) → IsWordOf tale.words p v →
     ((u : List ℕ) → AreWordOf tale.words old u → AreWordOf tale.words new (v ++ u)) × (weight (sizes_of facts) new < weight (sizes_of facts) (p ∷ old))
 
--- whether the left comes later, where it is told
-abbrev pub IsToldBy : Option Bool → List ℕ → List ℕ → Type 0
+-- the order of two words, where it is told
+abbrev pub IsToldBy : Option Ordering → List ℕ → List ℕ → Type 0
 IsToldBy None u v = Unit {0}
-IsToldBy (Some true) u v = LexLe v u
-IsToldBy (Some false) u v = LexLe u v
+IsToldBy (Some Less) u v = LexLe u v
+IsToldBy (Some Equal) u v = ⊥
+IsToldBy (Some Greater) u v = LexLe v u
 
 -- the order of two numbers
 abbrev pub IsTurn : ℕ → ℕ → Told → Type 0
@@ -76,14 +79,14 @@ abbrev pub Tells : Facts → Numbering → FactKey → FactKey → Told → Type
 Tells facts numbering j k told = (words : FactKey → Option (List ℕ)) (a b : List ℕ) → IsNumbered facts words (cap + 1) numbering → words j ≡ Some a → words k ≡ Some b → IsToldOf told a b
 
 -- where the first parts tell nothing the rests go on behind one front
-pub record Goes (t : TableData) (facts : Facts) (old new : Rests) (left right : Part) (later : Option Bool) (tale : Tale t facts) (a b u v : List ℕ) : Type 0 where
-  pub told : IsToldBy later (a ++ u) (b ++ v)
-  pub rest : later ≡ None → (p : List ℕ) × (r : List ℕ) × (s : List ℕ) × AreWordOf tale.words new.left.items r × AreWordOf tale.words new.right.items s × (a ++ u ≡ p ++ r) × (b ++ v ≡ p ++ s)
-  pub smaller : later ≡ None → weight (sizes_of facts) new.left.items + weight (sizes_of facts) new.right.items < weight (sizes_of facts) (left ∷ old.left.items) + weight (sizes_of facts) (right ∷ old.right.items)
+pub record Goes (t : TableData) (facts : Facts) (old new : Rests) (left right : Part) (order : Option Ordering) (tale : Tale t facts) (a b u v : List ℕ) : Type 0 where
+  pub told : IsToldBy order (a ++ u) (b ++ v)
+  pub rest : order ≡ None → (p : List ℕ) × (r : List ℕ) × (s : List ℕ) × AreWordOf tale.words new.left.items r × AreWordOf tale.words new.right.items s × (a ++ u ≡ p ++ r) × (b ++ v ≡ p ++ s)
+  pub smaller : order ≡ None → weight (sizes_of facts) new.left.items + weight (sizes_of facts) new.right.items < weight (sizes_of facts) (left ∷ old.left.items) + weight (sizes_of facts) (right ∷ old.right.items)
 
-abbrev pub Turns : TableData → Facts → Rests → Rests → Part → Part → Option Bool → Type 0
-Turns t facts old new left right later = (tale : Tale t facts) (a b u v : List ℕ) → IsWordOf tale.words left a → IsWordOf tale.words right b → AreWordOf tale.words old.left.items u → AreWordOf tale.words old.right.items v →
-    Goes t facts old new left right later tale a b u v
+abbrev pub Turns : TableData → Facts → Rests → Rests → Part → Part → Option Ordering → Type 0
+Turns t facts old new left right order = (tale : Tale t facts) (a b u v : List ℕ) → IsWordOf tale.words left a → IsWordOf tale.words right b → AreWordOf tale.words old.left.items u → AreWordOf tale.words old.right.items v →
+    Goes t facts old new left right order tale a b u v
 
 -- at the first place where the words differ the first has the lower number
 abbrev pub AreNoHigher : TableData → Facts → List Part → List Part → Type 0

@@ -9,6 +9,7 @@ use mh_facts::{Back, FactKey, FactStore};
 use mh_grammar::{Memory, Token};
 use mh_tables::Table;
 use mh_ways::CAP;
+use std::cmp::Ordering;
 
 /// A part of a word.
 #[derive(Clone, Copy, Drop)]
@@ -114,7 +115,7 @@ fn open_right(
     rests: &mut Rests,
     left: Part,
     right: FactKey,
-) -> Result<Option<bool>, Memory>
+) -> Result<Option<Ordering>, Memory>
     ensures { IfOk result (Turns table.now store.now rests.old rests.new left (TheParts.Fact right)) }
 {
     rests.left.push(left)?;
@@ -129,7 +130,7 @@ fn open_left(
     rests: &mut Rests,
     left: FactKey,
     right: Part,
-) -> Result<Option<bool>, Memory>
+) -> Result<Option<Ordering>, Memory>
     ensures { IfOk result (Turns table.now store.now rests.old rests.new (TheParts.Fact left) right) }
 {
     open(table, store, &mut rests.left, left)?;
@@ -137,7 +138,7 @@ fn open_left(
     Ok(None)
 }
 
-/// What two facts tell of the order: whether the left comes later, where they differ.
+/// What two facts tell of the order.
 fn turn_facts(
     table: &Table,
     store: &FactStore,
@@ -145,20 +146,20 @@ fn turn_facts(
     rests: &mut Rests,
     left: FactKey,
     right: FactKey,
-) -> Result<Option<bool>, Memory>
+) -> Result<Option<Ordering>, Memory>
     requires { AllNumbered table.now store.now numbering.now }
     ensures { IfOk result (Turns table.now store.now rests.old rests.new (TheParts.Fact left) (TheParts.Fact right)) }
 {
     match tell(store, numbering, left, right) {
         Told::Equal => Ok(None),
-        Told::Earlier => Ok(Some(false)),
-        Told::Later => Ok(Some(true)),
+        Told::Earlier => Ok(Some(Ordering::Less)),
+        Told::Later => Ok(Some(Ordering::Greater)),
         Told::Cheaper => open_right(table, store, rests, Part::Fact(left), right),
         Told::Dearer => open_left(table, store, rests, left, Part::Fact(right)),
     }
 }
 
-/// What the first parts tell of the order: whether the left comes later, where they differ.
+/// What the first parts tell of the order.
 fn turn(
     table: &Table,
     store: &FactStore,
@@ -166,7 +167,7 @@ fn turn(
     rests: &mut Rests,
     left: Part,
     right: Part,
-) -> Result<Option<bool>, Memory>
+) -> Result<Option<Ordering>, Memory>
     requires { AllNumbered table.now store.now numbering.now }
     ensures { IfOk result (Turns table.now store.now rests.old rests.new left right) }
 {
@@ -175,7 +176,7 @@ fn turn(
             if one == two {
                 Ok(None)
             } else {
-                Ok(Some(one > two))
+                Ok(Some(one.cmp(&two)))
             }
         }
         (Part::Token(_), Part::Fact(two)) => open_right(table, store, rests, left, two),
@@ -225,7 +226,7 @@ pub fn is_later(
             Tops::RightEnds => return Ok(true),
             Tops::Both(one, two) => match turn(table, store, numbering, rests, one, two)? {
                 None => {}
-                Some(later) => return Ok(later),
+                Some(ordering) => return Ok(ordering.is_gt()),
             },
         }
     }

@@ -23,4 +23,4 @@ parts-preserved c =
 pub returns-in-Some : goal.returns-in-Some
 returns-in-Some c =
     let tops = rw c.in-Both.is at c.take_tops.ensures in
-    told_after c.args.table.now c.args.store.now c.args.rests.now c.parts.rests c.take_tops.new.rests c.turn.new.rests c.in-Both.one c.in-Both.two c.parts.invariant tops.0 tops.1 c.in-Some.later (rw c.in-Some.is at c.in_ok-turn-in-Both.ensures)
+    rw c.is_gt.ensures (told_after c.args.table.now c.args.store.now c.args.rests.now c.parts.rests c.take_tops.new.rests c.turn.new.rests c.in-Both.one c.in-Both.two c.parts.invariant tops.0 tops.1 c.in-Some.ordering (rw c.in-Some.is at c.in_ok-turn-in-Both.ensures))

@@ -1,6 +1,8 @@
 use Rattle.std.proofs.Common.{refl}
+use Rattle.std.specs.declared.cmp.Ordering.TheVariants.{Less, Greater}
+use Rattle.mh_words.proofs.Ordered.{before_lex}
 use Rattle.mh_found.specs.declared.tails.Part.TheVariants as parts
-use Rattle.mh_found.proofs.Compared.{earlier_told, later_told, same_words}
+use Rattle.mh_found.proofs.Compared.{same_words, words_told}
 use Rattle.mh_found.proofs.tails.turn_facts.Goals as goal
 
 pub returns-in-Equal : goal.returns-in-Equal
@@ -9,8 +11,8 @@ returns-in-Equal c tale a b u v h g p q =
 
 pub returns-in-Earlier : goal.returns-in-Earlier
 returns-in-Earlier c tale a b u v h g p q =
-    earlier_told c.args.table.now c.args.store.now tale c.args.rests.now _ a b u v p q (parts.Fact c.args.left) (parts.Fact c.args.right) (c.in-Earlier.ensures tale.words a b (c.requires tale) h g)
+    words_told c.args.table.now c.args.store.now tale c.args.rests.now _ a b u v p q (parts.Fact c.args.left) (parts.Fact c.args.right) Less (before_lex a b u v (c.in-Earlier.ensures tale.words a b (c.requires tale) h g))
 
 pub returns-in-Later : goal.returns-in-Later
 returns-in-Later c tale a b u v h g p q =
-    later_told c.args.table.now c.args.store.now tale c.args.rests.now _ a b u v p q (parts.Fact c.args.left) (parts.Fact c.args.right) (c.in-Later.ensures tale.words a b (c.requires tale) h g)
+    words_told c.args.table.now c.args.store.now tale c.args.rests.now _ a b u v p q (parts.Fact c.args.left) (parts.Fact c.args.right) Greater (before_lex b a v u (c.in-Later.ensures tale.words a b (c.requires tale) h g))
