@@ -17,7 +17,7 @@ ghost use Rattle.mh_words.specs.Rising.{Rises, Same};
 use crate::comings::Coming;
 use crate::sorting::BySentence;
 use mh_found::Found;
-use mh_grammar::{Edge, Memory, Symbol, Token};
+use mh_grammar::{Edge, Memory, Symbol, Token, lost};
 use mh_spots::{Arrival, Arrivals, Spot, Step, arrival_of, arrive_at, no_arrivals};
 use mh_tables::{Choice, Table, choose};
 use mh_ways::queue::{Queue, empty_queue, push, take};
@@ -420,12 +420,6 @@ fn arrive_all(
         arrive_level(alloc, table, classes, found, second, cost)?;
     }
     Ok(())
-}
-
-/// There was no memory to go on with a value, which is let go in one call: to do so field by field is far longer to prove.
-fn lost<T: Drop>(value: T) -> Memory {
-    drop(value);
-    Memory
 }
 
 /// The arrivals; the queue is let go.

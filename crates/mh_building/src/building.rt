@@ -11,7 +11,7 @@ ghost use Rattle.mh_meanings.specs.Maps.{meanings_in, elsewhere_in, formals_in};
 ghost use Rattle.mh_building.specs.Standing.{unresolved, unresolved_in_rule, unresolved_in_rules, unresolved_in_file, unresolved_on_error, definitions_by, Adds};
 
 use crate::printing::printed;
-use mh_grammar::{Level, Memory, Name, Sequence, TokenInfo};
+use mh_grammar::{Level, Memory, Name, Sequence, TokenInfo, lost};
 use mh_meanings::{Formals, Names, formals_of, marked_public, name_by, owner_in};
 use mh_rules::{
     Actual, Alternative, Applied, JoinedAlternative, JoinedRule, MAX_TOKENS, Module, Prec, Ref,
@@ -422,12 +422,6 @@ fn put_outlines(alloc: Global, names: &Names, rules: &mut Vec<JoinedRule>) -> Re
         })?;
     }
     Ok(())
-}
-
-/// There was no memory to go on with a value, which is let go in one call: to do so field by field is far longer to prove.
-pub(crate) fn lost<T: Drop>(value: T) -> Memory {
-    drop(value);
-    Memory
 }
 
 /// The rules before their alternatives.

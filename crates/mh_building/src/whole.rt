@@ -7,8 +7,8 @@ ghost use Rattle.mh_meanings.specs.Names.{files};
 ghost use Rattle.mh_meanings.specs.Maps.{meanings_in, elsewhere_in};
 ghost use Rattle.mh_building.specs.Standing.{CanJoin, definitions_by, unresolved_on_error};
 
-use crate::building::{joined_rules, lost, put_on_error, put_starts, put_tokens};
-use mh_grammar::{Memory, Sequence};
+use crate::building::{joined_rules, put_on_error, put_starts, put_tokens};
+use mh_grammar::{Memory, Sequence, lost};
 use mh_meanings::Names;
 use mh_rules::{Joined, MAX_TOKENS, Module, Rule};
 use std::alloc::Global;

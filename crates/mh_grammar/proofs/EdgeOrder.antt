@@ -17,6 +17,12 @@ look_never (Token a) (Token b) h k = omega arith
 look_never (Token a) End h k = k
 look_never End b h k = h
 
+pub symbol_never : (x y : Symbol) → IsSymbolBefore x y → IsSymbolBefore y x → ⊥
+symbol_never (T a) (T b) h k = omega arith
+symbol_never (T a) (N b) h k = k
+symbol_never (N a) (T b) h k = h
+symbol_never (N a) (N b) h k = omega arith
+
 pub same_itself : (x : Symbol) → same_symbol x x ≡ true
 same_itself (T a) = grind (arith, nat_tests)
 same_itself (N a) = grind (arith, nat_tests)

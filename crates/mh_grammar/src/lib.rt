@@ -14,5 +14,5 @@ pub use names::{left_side_name, nonterminal_name, start_name, symbol_name, token
 pub use sequence::Sequence;
 pub use types::{
     Assoc, Grammar, Level, Look, MAX_COST, MAX_HEIGHT, MAX_NUMBERED, Memory, NontermInfo,
-    Production, Sentence, Symbol, Token, TokenInfo,
+    Production, Sentence, Symbol, Token, TokenInfo, lost,
 };

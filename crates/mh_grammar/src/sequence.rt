@@ -1,5 +1,5 @@
 //! A `Vec` that contracts see as the list of its items.
-ghost use Rattle.std.specs.Prelude.{◌≡◌, [], ◌∷◌, ◌++◌, ◌<◌, ◌↔◌, length, slice_get, slice_index_or, slice_set, IsTrue, IfOk, OnOk, OnErr, OnSome};
+ghost use Rattle.std.specs.Prelude.{◌≡◌, [], ◌∷◌, ◌++◌, ◌<◌, ◌↔◌, length, slice_get, slice_index_or, IsTrue, IfOk, OnOk, OnErr, OnSome};
 ghost use Rattle.std.specs.Option.{option_copied};
 ghost use Rattle.std.specs.List.{AllZip};
 ghost use Rattle.std.specs.Cmp.Lexicographic.{pointwise, lists_per, lists_equiv};
@@ -91,14 +91,6 @@ impl<T: Drop> Sequence<T> {
     {
         self.items.push(item)?;
         Ok(())
-    }
-
-    /// Puts an item at a place that has one, counted from 0, instead of it.
-    pub fn set(&mut self, at: usize, item: T)
-        requires { at < length self.old }
-        ensures { self.new ≡ slice_set self.old at item }
-    {
-        self.items[at] = item;
     }
 }
 

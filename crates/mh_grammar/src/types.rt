@@ -19,6 +19,12 @@ impl<T: Drop> From<AllocFailed<T>> for Memory {
     }
 }
 
+/// There was no memory to go on with a value, which is let go in one call: to do so field by field is far longer to prove.
+pub fn lost<T: Drop>(value: T) -> Memory {
+    drop(value);
+    Memory
+}
+
 /// The number of a token, in order of first declaration.
 pub type Token = u16;
 

@@ -5,7 +5,6 @@ use Rattle.std.proofs.lemmas.List.{length-map, length-take-le}
 use Rattle.std.proofs.lemmas.Bool.{cases_lt}
 use Rattle.std.proofs.lemmas.Option.{slice_get_within}
 use Rattle.mh_grammar.specs.declared.types.Symbol.{Symbol}
-use Rattle.mh_grammar.specs.declared.types.Symbol.TheVariants.{T, N}
 use Rattle.mh_grammar.specs.declared.edges.Edge.{Edge}
 use Rattle.mh_grammar.specs.Plain.{PlainGrammar}
 use Rattle.mh_grammar.specs.Edges.{IsRising, IsSymbolBefore, IsEdgeBefore, same_symbol, find_edge}
@@ -24,19 +23,13 @@ use Rattle.mh_knuth.proofs.Finished.{kernel_get, kernel_got, edges_get}
 use Rattle.mh_kernels.proofs.OneList.{kernel_same}
 use Rattle.mh_grammar.proofs.Lists.{contains_here, contains_there, contains_cases, contains_none, recursion_contains, rising_same, zip_one}
 use Rattle.mh_knuth.proofs.Sets.{same_sym, same_trans, has_same, moved_same, close_same, reach_has}
-use Rattle.mh_grammar.proofs.EdgeOrder.{same_is}
+use Rattle.mh_grammar.proofs.EdgeOrder.{same_is, symbol_never}
 
 symbols_of : List Edge → List Symbol
 symbols_of row = map (λ e. e.symbol) row
 
-pub symbol_asymmetric : (X Y : Symbol) → IsSymbolBefore X Y → IsSymbolBefore Y X → ⊥
-symbol_asymmetric (T a) (T b) r s = omega arith
-symbol_asymmetric (T a) (N b) r s = s
-symbol_asymmetric (N a) (T b) r s = r
-symbol_asymmetric (N a) (N b) r s = omega arith
-
 symbol_apart : (X Y : Symbol) → IsSymbolBefore X Y → X ≡ Y → ⊥
-symbol_apart X Y r e = let s = rw (sym e) at r in symbol_asymmetric X X s s
+symbol_apart X Y r e = let s = rw (sym e) at r in symbol_never X X s s
 
 -- the symbols of edges that rise do
 rising_symbols : (row : List Edge) → IsRising IsEdgeBefore row → IsRising IsSymbolBefore (symbols_of row)
@@ -88,7 +81,7 @@ one_move : (g : PlainGrammar) (k m n : Kernel) (X : Symbol) → IsMoveOf g k X m
 one_move g k m n X a b = kernel_same g m n a.kernel b.kernel (same_trans (Holds m) (Moved g (Close g (Holds k)) X) (Holds n) a.same (same_sym (Holds n) (Moved g (Close g (Holds k)) X) b.same))
 
 symbols_same : (P : Symbol → Type 0) (xs ys : List Symbol) → IsRising IsSymbolBefore xs → IsRising IsSymbolBefore ys → ((X : Symbol) → Contains xs X ↔ P X) → ((X : Symbol) → Contains ys X ↔ P X) → xs ≡ ys
-symbols_same P xs ys r s p q = rising_same IsSymbolBefore symbol_asymmetric xs ys r s (λ X. ((λ c. (q X).1 ((p X).0 c)), (λ c. (p X).1 ((q X).0 c))))
+symbols_same P xs ys r s p q = rising_same IsSymbolBefore symbol_never xs ys r s (λ X. ((λ c. (q X).1 ((p X).0 c)), (λ c. (p X).1 ((q X).0 c))))
 
 one_next : (g : PlainGrammar) (k : Kernel) (a b : List Kernel) → Next g k a → Next g k b → a ≡ b
 one_next g k a b p q =

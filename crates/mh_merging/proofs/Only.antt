@@ -12,11 +12,12 @@ use Rattle.mh_grammar.proofs.OneNumbering.{same_places}
 use Rattle.mh_kernels.specs.Shapes.{Kernel}
 use Rattle.mh_kernels.specs.Kernels.{Holds, IsItemList}
 use Rattle.mh_kernels.proofs.OneList.{kernel_same}
-use Rattle.mh_knuth.proofs.Only.{edges_same, symbol_asymmetric}
+use Rattle.mh_knuth.proofs.Only.{edges_same}
 use Rattle.mh_knuth.specs.Canonical.{targets_of}
 use Rattle.mh_knuth.proofs.Sets.{same_sym, same_trans}
 use Rattle.mh_states.specs.Weak.{IsJoin}
 use Rattle.mh_merging.specs.Steps.{Work, Keeps, Takes, IsFirst, Queues, Puts, IsMoveOf, AllPut, AreMoving, symbols_of, IsStep, Steps, none, more, IsBegun, Overruns, IsSwollen}
+use Rattle.mh_grammar.proofs.EdgeOrder.{symbol_never}
 
 -- two works with the same parts are one
 one_work : (v w : Work) → v.kernels ≡ w.kernels → v.rows ≡ w.rows → v.queue ≡ w.queue → v ≡ w
@@ -109,7 +110,7 @@ module _ (g : PlainGrammar) where
   steps_longer first last (more {old} s step) = omega (arith, steps_longer first old s, step_longer old last step)
 
 symbols_one : (g : PlainGrammar) (k : Kernel) (xs ys : List Symbol) → AreMoving g k xs → AreMoving g k ys → xs ≡ ys
-symbols_one g k xs ys a b = rising_same IsSymbolBefore symbol_asymmetric xs ys a.rising b.rising (λ X. ((λ c. (b.exact X).1 ((a.exact X).0 c)), (λ c. (a.exact X).1 ((b.exact X).0 c))))
+symbols_one g k xs ys a b = rising_same IsSymbolBefore symbol_never xs ys a.rising b.rising (λ X. ((λ c. (b.exact X).1 ((a.exact X).0 c)), (λ c. (a.exact X).1 ((b.exact X).0 c))))
 
 module _ (g : PlainGrammar) (old : Work) (state other : ℕ) (waiting others : List ℕ) (k j : Kernel) where
   -- the state whose turn it is

@@ -11,7 +11,7 @@ use crate::kinds::put_kinds;
 use crate::levels::put_levels;
 use crate::numbering::{no_rules, put_rules};
 use crate::tokens::{put_starts, put_tokens};
-use mh_grammar::Memory;
+use mh_grammar::{Memory, lost};
 use mh_meanings::{NameList, Names};
 use mh_rules::{Module, Rule};
 use std::alloc::Global;
@@ -55,12 +55,6 @@ fn fill(
     put_definers(&mut names.definers, files)?;
     put_rules(&mut names.numbering, alloc, &names.starts, files, library)?;
     Ok(())
-}
-
-/// There was no memory to go on with a value, which is let go in one call: to do so field by field is far longer to prove.
-fn lost<T: Drop>(value: T) -> Memory {
-    drop(value);
-    Memory
 }
 
 /// What the names of these files stand for, with this prelude. Fails for want of memory alone.

@@ -4,10 +4,10 @@ ghost use Rattle.mh_places.specs.Signs.{is_capital};
 ghost use Rattle.mh_places.specs.Machine as machine;
 ghost use Rattle.mh_places.specs.Machine.{Refers};
 
-use crate::places::{Listing, Place, Purpose, Reader, Refusal, go_to, lost, no_memory, unexpected};
+use crate::places::{Listing, Place, Purpose, Reader, Refusal, go_to, no_memory, unexpected};
 use crate::signs::{Sign, is_capital_word};
 use crate::stack::Stack;
-use mh_grammar::{Memory, Name, Sequence, from_bytes};
+use mh_grammar::{Memory, Name, Sequence, from_bytes, lost};
 use mh_rules::{Actual, LevelDecl, Module, Ref, TokenDecl};
 use mh_steps::{Definition, definition_of, if_due};
 use std::alloc::Global;

@@ -13,7 +13,7 @@ pub use declarations::{
     at_aliased, at_comma, at_items, at_opening, at_parameter, at_token, at_type, declare,
 };
 pub use places::{
-    Draft, Listing, Pending, Place, Purpose, Reader, Refusal, go_to, lost, no_memory, unexpected,
+    Draft, Listing, Pending, Place, Purpose, Reader, Refusal, go_to, no_memory, unexpected,
 };
 pub use rules::{
     add_rule, at_begin, at_closed, at_formal_comma, at_formal_read, at_formals_closed,

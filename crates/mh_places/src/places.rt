@@ -143,12 +143,6 @@ pub fn unexpected<T: Drop, X>(read: T) -> Result<X, Refusal>
     Err(Refusal::Unexpected)
 }
 
-/// There was no memory to go on with a value, which is let go in one call for the same reason.
-pub fn lost<T: Drop>(value: T) -> Memory {
-    drop(value);
-    Memory
-}
-
 /// There is no memory for what was read, which is let go.
 pub fn no_memory<T: Drop, X>(read: T) -> Result<X, Refusal>
     ensures { result ≡ Err refusals.Memory }

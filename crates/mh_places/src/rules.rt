@@ -4,10 +4,10 @@ ghost use Rattle.mh_places.specs.Spelling.{ref_by, with_prec};
 ghost use Rattle.mh_places.specs.Machine as machine;
 ghost use Rattle.mh_places.specs.Machine.{Refers, ruled, grouped, grouped_with, produced, drafted, named, with_formal};
 
-use crate::places::{Draft, Place, Purpose, Reader, Refusal, go_to, lost, no_memory, unexpected};
+use crate::places::{Draft, Place, Purpose, Reader, Refusal, go_to, no_memory, unexpected};
 use crate::signs::Sign;
 use crate::stack::Stack;
-use mh_grammar::{Memory, Name, Sequence, from_bytes};
+use mh_grammar::{Memory, Name, Sequence, from_bytes, lost};
 use mh_rules::{Alternative, Module, Ref, Rule};
 use mh_steps::lacks_level;
 use std::alloc::Global;

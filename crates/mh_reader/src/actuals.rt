@@ -8,10 +8,10 @@ ghost use Rattle.mh_places.specs.Machine as machine;
 ghost use Rattle.mh_places.specs.Machine.{Refers, with_argument, with_producer};
 ghost use Rattle.mh_reader.specs.Limits.{Deep};
 
-use mh_grammar::{Memory, Name, Sequence, from_bytes};
+use mh_grammar::{Memory, Name, Sequence, from_bytes, lost};
 use mh_places::{
     Draft, Listing, Pending, Place, Purpose, Reader, Refusal, Sign, Stack, at_items, at_spaced,
-    go_to, lost, no_memory, reference, unexpected,
+    go_to, no_memory, reference, unexpected,
 };
 use mh_rules::{Actual, MAX_DEPTH, Module, Ref};
 use std::alloc::Global;

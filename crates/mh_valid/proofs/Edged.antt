@@ -3,11 +3,10 @@ use Rattle.std.proofs.Common.{◌≡◌, ℕ, List, [], ◌∷◌, Some, refl, s
 use Rattle.std.proofs.lemmas.Bool.{cases_Bool}
 use Rattle.std.specs.List.{Contains}
 use Rattle.mh_grammar.specs.declared.types.Symbol.{Symbol}
-use Rattle.mh_grammar.specs.declared.types.Symbol.TheVariants.{T, N}
 use Rattle.mh_grammar.specs.declared.edges.Edge.{Edge}
 use Rattle.mh_grammar.specs.Edges.{IsRising, IsSymbolBefore, IsEdgeBefore, find_edge, same_symbol}
 use Rattle.mh_grammar.proofs.Lists.{cons_same, contains_there, at_contains, contains_map, map_contains, rising_same, recursion-from, recursion_contains}
-use Rattle.mh_grammar.proofs.EdgeOrder.{edge_found, same_is}
+use Rattle.mh_grammar.proofs.EdgeOrder.{edge_found, same_is, symbol_never}
 use Rattle.mh_kernels.specs.Collection.{edge_symbols, targets_of}
 
 pub found_in : (es : List Edge) (x : Symbol) (u : ℕ) → find_edge es x ≡ Some u → Contains es (record { symbol = x; target = u })
@@ -31,12 +30,6 @@ on_symbol es h x c =
 
 pub has_symbol : (es : List Edge) (x : Symbol) (u : ℕ) → find_edge es x ≡ Some u → Contains (edge_symbols es) x
 has_symbol es x u h = contains_map (λ (k : Edge). k.symbol) es (record { symbol = x; target = u }) (found_in es x u h)
-
-symbol_never : (x y : Symbol) → IsSymbolBefore x y → IsSymbolBefore y x → ⊥
-symbol_never (T a) (T b) h k = omega arith
-symbol_never (T a) (N b) h k = k
-symbol_never (N a) (T b) h k = h
-symbol_never (N a) (N b) h k = omega arith
 
 no_more : (e : Edge) (es : List Edge) → [] ≡ edge_symbols (e ∷ es) → ⊥
 no_more e es h = cc
