@@ -183,21 +183,21 @@ fn unfold_around(
     expanded: &Expanded,
     known: &mut Vec<Sequence<Unfolding>>,
     producers: &[Part],
-    q: LastUse,
+    last_use: LastUse,
 ) -> Result<Vec<Unfolding>, Memory>
     requires known { AreKnown expanded.now.instances known.old.items producers.now }
-    requires at { slice_get producers.now q.producer ≡ Some (Part.Instance q.number) }
-    requires inlined { is_inlined expanded.now.instances q.number ≡ true }
+    requires at { slice_get producers.now last_use.producer ≡ Some (Part.Instance last_use.number) }
+    requires inlined { is_inlined expanded.now.instances last_use.number ≡ true }
     ensures unfolds { IfOk result (λ all. Unfolds expanded.now.instances producers.now all.items) }
-    ensures left { OnOk result (known.new.items ≡ slice_set known.old.items q.number []) }
+    ensures left { OnOk result (known.new.items ≡ slice_set known.old.items last_use.number []) }
 {
-    let front = front_to(producers, q.producer);
-    let behind = rest_from(producers, q.producer);
+    let front = front_to(producers, last_use.producer);
+    let behind = rest_from(producers, last_use.producer);
     if behind.is_empty() {
-        return unfold_to_last(alloc, expanded, known, front, q.number);
+        return unfold_to_last(alloc, expanded, known, front, last_use.number);
     }
     let seconds = unfold_side(alloc, expanded, known, behind)?;
-    let mut all = unfold_to_last(alloc, expanded, known, front, q.number)?;
+    let mut all = unfold_to_last(alloc, expanded, known, front, last_use.number)?;
     put_behind(alloc, &mut all, seconds.as_slice())?;
     Ok(all)
 }
@@ -223,17 +223,17 @@ fn unfold_to_alternative(
     expanded: &Expanded,
     known: &mut Vec<Sequence<Unfolding>>,
     productions: &[InstanceProduction],
-    q: LastUse,
+    last_use: LastUse,
 ) -> Result<Vec<Unfolding>, Memory>
     requires known { AreEachKnown expanded.now.instances known.old.items productions.now }
-    requires last { IsLastOf expanded.now.instances productions.now q }
-    ensures unfolds { IfOk result (λ all. UnfoldsEach expanded.now.instances (take (q.alternative + 1) productions.now) all.items) }
-    ensures left { OnOk result (known.new.items ≡ slice_set known.old.items q.number []) }
+    requires last { IsLastOf expanded.now.instances productions.now last_use }
+    ensures unfolds { IfOk result (λ all. UnfoldsEach expanded.now.instances (take (last_use.alternative + 1) productions.now) all.items) }
+    ensures left { OnOk result (known.new.items ≡ slice_set known.old.items last_use.number []) }
 {
-    let production = &productions[q.alternative];
-    let front = front_to(productions, q.alternative);
+    let production = &productions[last_use.alternative];
+    let front = front_to(productions, last_use.alternative);
     let before = unfold_alternatives(alloc, expanded, known, front)?;
-    let side = unfold_around(alloc, expanded, known, production.rhs.as_slice(), q)?;
+    let side = unfold_around(alloc, expanded, known, production.rhs.as_slice(), last_use)?;
     own_behind(before, production.prec, side)
 }
 
@@ -243,16 +243,16 @@ fn unfold_moved(
     expanded: &Expanded,
     known: &mut Vec<Sequence<Unfolding>>,
     productions: &[InstanceProduction],
-    q: LastUse,
+    last_use: LastUse,
 ) -> Result<Vec<Unfolding>, Memory>
     requires known { AreEachKnown expanded.now.instances known.old.items productions.now }
-    requires last { IsLastOf expanded.now.instances productions.now q }
+    requires last { IsLastOf expanded.now.instances productions.now last_use }
     ensures unfolds { IfOk result (λ all. UnfoldsEach expanded.now.instances productions.now all.items) }
-    ensures left { OnOk result (known.new.items ≡ slice_set known.old.items q.number []) }
+    ensures left { OnOk result (known.new.items ≡ slice_set known.old.items last_use.number []) }
 {
-    let rest = rest_from(productions, q.alternative);
+    let rest = rest_from(productions, last_use.alternative);
     let behind = unfold_alternatives(alloc, expanded, known, rest)?;
-    let mut all = unfold_to_alternative(alloc, expanded, known, productions, q)?;
+    let mut all = unfold_to_alternative(alloc, expanded, known, productions, last_use)?;
     add_own(&mut all, Prec::Absent, behind)?;
     Ok(all)
 }
@@ -263,15 +263,15 @@ pub(crate) fn unfold_with(
     expanded: &Expanded,
     known: &mut Vec<Sequence<Unfolding>>,
     productions: &[InstanceProduction],
-    q: Option<LastUse>,
+    last_use: Option<LastUse>,
 ) -> Result<Vec<Unfolding>, Memory>
     requires known { AreEachKnown expanded.now.instances known.old.items productions.now }
-    requires last { IfSome q (IsLastOf expanded.now.instances productions.now) }
+    requires last { IfSome last_use (IsLastOf expanded.now.instances productions.now) }
     ensures unfolds { IfOk result (λ all. UnfoldsEach expanded.now.instances productions.now all.items) }
-    ensures known { OnOk result (MayLack q known.old.items known.new.items) }
+    ensures known { OnOk result (MayLack last_use known.old.items known.new.items) }
 {
-    match q {
-        Some(q) => unfold_moved(alloc, expanded, known, productions, q),
+    match last_use {
+        Some(last_use) => unfold_moved(alloc, expanded, known, productions, last_use),
         None => unfold_alternatives(alloc, expanded, known, productions),
     }
 }

@@ -86,19 +86,19 @@ fn unfold_one(
     sizing: &Sizing,
     known: &mut Vec<Sequence<Unfolding>>,
     number: usize,
-    q: Option<LastUse>,
+    last_use: Option<LastUse>,
 ) -> Result<Sequence<Unfolding>, Memory>
     requires ready { IsExpandedReady expanded.now }
     requires next { IsNext expanded.now.instances sizing.now.sizes.items known.old.items number }
-    requires last { (i : Row) → slice_get expanded.now.instances number ≡ Some i → IfSome q (IsLastOf expanded.now.instances i.productions) }
+    requires last { (i : Row) → slice_get expanded.now.instances number ≡ Some i → IfSome last_use (IsLastOf expanded.now.instances i.productions) }
     ensures unfoldings { IfOk result (λ all. (us : List Unfolded) → UnfoldsPart expanded.now.instances (Part.Instance number) us → AreSmall us → all ≡ us) }
-    ensures known { OnOk result (MayLack q known.old.items known.new.items) }
+    ensures known { OnOk result (MayLack last_use known.old.items known.new.items) }
 {
     if !is_small(sizing.sizes[number]) {
         return Ok(Sequence::new(alloc));
     }
     let productions = expanded.instances[number].productions.as_slice();
-    let all = unfold_with(alloc, expanded, known, productions, q)?;
+    let all = unfold_with(alloc, expanded, known, productions, last_use)?;
     Ok(Sequence::from_vec(all))
 }
 
@@ -114,22 +114,22 @@ fn unfold_next(
     alloc: Global,
     expanded: &Expanded,
     sizing: &Sizing,
-    until: &[usize],
+    last: &[usize],
     known: &mut Vec<Sequence<Unfolding>>,
     place: usize,
 ) -> Result<(), Memory>
     requires ready { IsExpandedReady expanded.now }
     requires sizing { IsSizing expanded.now.instances sizing.now }
-    requires last { AreLast expanded.now.instances sizing.now.order.items until.now }
+    requires last { AreLast expanded.now.instances sizing.now.order.items last.now }
     requires at { place < length sizing.now.order.items }
-    requires known { KnowsNeeded expanded.now.instances sizing.now.order.items until.now place known.old.items }
-    ensures { OnOk result (KnowsNeeded expanded.now.instances sizing.now.order.items until.now (place + 1) known.new.items) }
+    requires known { KnowsNeeded expanded.now.instances sizing.now.order.items last.now place known.old.items }
+    ensures { OnOk result (KnowsNeeded expanded.now.instances sizing.now.order.items last.now (place + 1) known.new.items) }
 {
     let number = number_at(sizing, place);
-    let moved = last_use_of(expanded, known.as_slice(), until, place, number);
+    let moved = last_use_of(expanded, known.as_slice(), last, place, number);
     let all = unfold_one(alloc, expanded, sizing, known, number, moved)?;
     known[number] = all;
-    forget_inlined(alloc, expanded, until, known, number, place)
+    forget_inlined(alloc, expanded, last, known, number, place)
 }
 
 /// The unfoldings of each inline instance that an instance which is not inline is made of, where it has no more and no longer

@@ -6,4 +6,4 @@ pub unfold_moved-requires-clause-last : goal.unfold_moved-requires-clause-last
 unfold_moved-requires-clause-last c = rw c.in-Some.is at c.requires.last
 
 pub returns-in-Some-clause-known : goal.returns-in-Some-clause-known
-returns-in-Some-clause-known c = rw c.in-Some.is (on_ok_weaker c.unfold_moved.result (λ e. lacks_one c.in-Some.q c.args.known.now.items c.unfold_moved.new.known.items e) c.unfold_moved.ensures.left)
+returns-in-Some-clause-known c = rw c.in-Some.is (on_ok_weaker c.unfold_moved.result (λ e. lacks_one c.in-Some.last_use c.args.known.now.items c.unfold_moved.new.known.items e) c.unfold_moved.ensures.left)

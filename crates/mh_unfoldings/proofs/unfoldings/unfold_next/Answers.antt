@@ -11,7 +11,7 @@ pub last_use_of-moved-requires : goal.last_use_of-moved-requires
 last_use_of-moved-requires c = ordered_within c.args.expanded.now.instances c.args.sizing.now c.requires.sizing c.args.place c.number_at-number.result c.number_at-number.ensures
 
 pub unfold_one-requires-clause-next : goal.unfold_one-requires-clause-next
-unfold_one-requires-clause-next c = next_from c.args.expanded.now.instances c.args.sizing.now c.args.until.now c.args.known.now.items c.args.place c.number_at-number.result c.requires.sizing c.requires.last c.requires.known c.number_at-number.ensures
+unfold_one-requires-clause-next c = next_from c.args.expanded.now.instances c.args.sizing.now c.args.last.now c.args.known.now.items c.args.place c.number_at-number.result c.requires.sizing c.requires.last c.requires.known c.number_at-number.ensures
 
 pub unfold_one-requires-clause-last : goal.unfold_one-requires-clause-last
 unfold_one-requires-clause-last c = λ i at. last_of c.args.expanded.now.instances _ _ i.productions c.last_use_of-moved.result (c.last_use_of-moved.ensures i at)
@@ -39,7 +39,7 @@ returns c =
     let i = c.args.place in
     let n = c.number_at-number.result in
     let known = c.args.known.now.items in
-    let last = c.args.until.now in
+    let last = c.args.last.now in
     let all = c.in_ok-all.all in
     let new = c.forget_inlined.new.known.items in
     let w = ordered_within is c.args.sizing.now c.requires.sizing i n c.number_at-number.ensures in

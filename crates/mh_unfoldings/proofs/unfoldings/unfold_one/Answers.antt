@@ -46,4 +46,4 @@ unfold_with-requires-clause-last c =
     rw c.as_slice-productions.ensures (c.requires.last c.index-2.result.now (slice_get_read is (length is) c.args.number c.index-2.result.now refl l c.index-2.ensures))
 
 pub returns-then-not-is_small-clause-known : goal.returns-then-not-is_small-clause-known
-returns-then-not-is_small-clause-known c = lacks_same c.args.q c.args.known.now.items
+returns-then-not-is_small-clause-known c = lacks_same c.args.last_use c.args.known.now.items
