@@ -41,13 +41,13 @@ impl<const W: usize> Rows<W> {
         ensures rows { OnOk result (self.new.rows.items ≡ set self.old.rows.items place (row_at self.old place ++ item.entry ∷ [])) }
         ensures filled { OnOk result (AreFilled self.old → AreFilled self.new) }
     {
-        self.list(place)?;
+        self.note_filled(place)?;
         self.rows[place].push(item)?;
         Ok(())
     }
 
-    /// Lists a row that has no items yet.
-    fn list(&mut self, place: usize) -> Result<(), Memory>
+    /// Notes a row that has no items yet as filled.
+    fn note_filled(&mut self, place: usize) -> Result<(), Memory>
         requires few { W ≤ 8 }
         requires place { place < vec_len self.old.rows }
         requires small { vec_len self.old.rows < 2 ^ 32 }
