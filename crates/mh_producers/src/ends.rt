@@ -33,14 +33,6 @@ impl<T> Ends<T> {
             items: VecDeque::new(alloc),
         }
     }
-
-    /// The items, in order.
-    pub fn into_vec(self) -> Vec<T>
-        ensures { result.items ≡ self }
-    {
-        let Ends { items } = self;
-        items.into_vec()
-    }
 }
 
 impl<T: Copy + Drop> Ends<T> {
