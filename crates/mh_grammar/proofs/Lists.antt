@@ -105,15 +105,6 @@ module _ {X : Type 0} where
   pub cons_same : (x y : X) (xs ys : List X) → x ≡ y → xs ≡ ys → x ∷ xs ≡ y ∷ ys
   cons_same x y xs ys e f = λ i. e i ∷ f i
 
-  pub cons_first : (x y : X) (xs ys : List X) → x ∷ xs ≡ y ∷ ys → x ≡ y
-  cons_first x y xs ys e = cc
-
-  pub cons_rest : (x y : X) (xs ys : List X) → x ∷ xs ≡ y ∷ ys → xs ≡ ys
-  cons_rest x y xs ys e = cc
-
-  pub nil_cons : (x : X) (xs : List X) → [] ≡ x ∷ xs → ⊥
-  nil_cons x xs e = cc
-
   pub nil_parts : (xs ys : List X) → [] ≡ xs ++ ys → (xs ≡ []) × (ys ≡ [])
   nil_parts [] ys e = (refl, sym e)
   nil_parts (x ∷ xs) ys e = cc

@@ -1,6 +1,6 @@
 -- A list that is compared place by place with what the values of another are written as.
 use Rattle.std.proofs.Common.{◌≡◌, ◌↔◌, ◌<◌, ◌≤◌, ◌+◌, ℕ, suc, Bool, true, false, true≢false, IsTrue, List, [], ◌∷◌, map, length, drop, drop-cons, drop_of_length-le, get_or, refl, sym, ap, ◌∙◌, subst, arith}
-use Rattle.mh_grammar.proofs.Lists.{cons_first, cons_rest}
+use Rattle.mh_valid.proofs.OneKernel.{first_of, rest_of}
 
 module _ {A B : Type 0} (f : B → A) (xs : List A) (ys : List B) (i : ℕ) where
   pub mapped_all : length xs ≤ i → length xs ≡ length ys → ((drop i xs ≡ map f (drop i ys)) ↔ (xs ≡ map f ys)) → IsTrue true ↔ (xs ≡ map f ys)
@@ -24,8 +24,8 @@ module _ {A B : Type 0} (f : B → A) (xs : List A) (ys : List B) (i : ℕ) wher
         let next : suc i ≡ i + 1 = omega arith in
         subst (λ n. (drop n xs ≡ map f (drop n ys)) ↔ (xs ≡ map f ys)) next (
           (λ e. rest.0 (front ∙ ap (λ z. z ∷ drop (suc i) xs) (told.0 is) ∙ ap (λ zs. f y ∷ zs) e ∙ sym source)),
-          (λ e. cons_rest x (f y) (drop (suc i) xs) (map f (drop (suc i) ys)) (here e)),
+          (λ e. rest_of x (f y) (drop (suc i) xs) (map f (drop (suc i) ys)) (here e)),
         )
 
     pub mapped_differs : (result : Bool) → (IsTrue result ↔ (x ≡ f y)) → result ≡ false → IsTrue false ↔ (xs ≡ map f ys)
-    mapped_differs result told is = (λ t. absurd (true≢false (sym t)), λ e. sym is ∙ told.1 (cons_first x (f y) (drop (suc i) xs) (map f (drop (suc i) ys)) (here e)))
+    mapped_differs result told is = (λ t. absurd (true≢false (sym t)), λ e. sym is ∙ told.1 (first_of x (f y) (drop (suc i) xs) (map f (drop (suc i) ys)) (here e)))

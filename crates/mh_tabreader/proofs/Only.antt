@@ -3,7 +3,7 @@ use Rattle.std.proofs.Common.{inl, inr, ◌⊎◌, ◌≡◌, ◌≢◌, ◌+◌
 use Rattle.std.specs.List.{AllByRecursion, slice_split, join_with_byte}
 use Rattle.std.proofs.lemmas.List.Elements.{All-from_recursion}
 use Rattle.std.proofs.lemmas.List.Splits.{slice_split_at, slice_split_none, join_with_byte-slice_split}
-use Rattle.mh_grammar.proofs.Lists.{recursion-append, cons_first}
+use Rattle.mh_grammar.proofs.Lists.{recursion-append}
 use Rattle.mh_tabform.specs.declared.types.RawTable.{RawTable}
 use Rattle.mh_tabreader.specs.declared.reading.TabFault.{TabFault}
 use Rattle.mh_tabreader.specs.declared.reading.TabFault.TheVariants as faults
@@ -102,6 +102,9 @@ no_bad bytes raw n f (IsBadLine.early lines e hl b never k) =
 other_line : (n : ℕ) (m : Mode) → n < 2 ^ 32 → IsLine (head_line n m)
 other_line n m small = ((λ e. cc), (plain (codes "menhir-tables") refl, (number_plain n small, (mode_plain m, tt))))
 
+first_same : (x y : Line) (xs ys : List Line) → x ∷ xs ≡ y ∷ ys → x ≡ y
+first_same x y xs ys e = cc
+
 second_same : (a b c d : List ℕ) (xs ys : Line) → a ∷ b ∷ xs ≡ c ∷ d ∷ ys → b ≡ d
 second_same a b c d xs ys e = cc
 
@@ -115,7 +118,7 @@ version_is n (Some costs) e one two = two e
 
 clash : (raw : RawTable) (n : ℕ) (m : Mode) (more : List Line) → n < 2 ^ 32 → n ≢ 1 → n ≢ 2 → lines_of raw ++ ([] ∷ []) ∷ [] ≡ head_line n m ∷ more → ⊥
 clash raw n m more small one two e =
-    let head = cons_first (head_line (version_of raw.costs) raw.mode) (head_line n m) _ more e in
+    let head = first_same (head_line (version_of raw.costs) raw.mode) (head_line n m) _ more e in
     let number = second_same (codes "menhir-tables") (decimal (version_of raw.costs)) (codes "menhir-tables") (decimal n) (mode_name raw.mode ∷ []) (mode_name m ∷ []) head in
     version_is n raw.costs (sym (decimal_injective (version_of raw.costs) n (version_small raw.costs) (omega (arith, small)) number)) one two
 
@@ -163,5 +166,5 @@ pub never_other : (bytes : List ℕ) (parts : List (Bor (List ℕ))) (ws : Line)
 never_other bytes [] ws e some i f h = omega (arith, some)
 never_other bytes (p ∷ ps) ws e some i f h =
     let (more, v) = view_other bytes h in
-    let first : words_of p.now ≡ head_line h.version h.mode = cons_first (words_of p.now) (head_line h.version h.mode) (map words_of (seen ps)) more (ap (map words_of) e ∙ v) in
+    let first : words_of p.now ≡ head_line h.version h.mode = first_same (words_of p.now) (head_line h.version h.mode) (map words_of (seen ps)) more (ap (map words_of) e ∙ v) in
     true≢false (sym (ap is_other_head (i ∙ first) ∙ head_again h.version h.mode h.number h.not_one h.not_two) ∙ f)

@@ -13,7 +13,6 @@ use Rattle.mh_tabform.specs.declared.types.RawTable.{RawTable}
 use Rattle.mh_valid.specs.Valid.{HasKernel, AreNamesApart}
 use Rattle.mh_cells.specs.Names.{look_name}
 use Rattle.mh_tabform.specs.Written.{raw_item}
-use Rattle.mh_grammar.proofs.Lists.{cons_first, cons_rest, nil_cons}
 
 pub same_look : (g : Grammar) → AreNamesApart g → (l m : Look) → IsLookBelow (length g.tokens) l → IsLookBelow (length g.tokens) m → look_name g l ≡ look_name g m → l ≡ m
 same_look g n (Token y) (Token z) h k e = ap Token (n.apart y z h k e)
@@ -21,13 +20,23 @@ same_look g n (Token y) End h k e = absurd (n.no_end y h e)
 same_look g n End (Token z) h k e = absurd (n.no_end z k (sym e))
 same_look g n End End h k e = refl
 
+-- lists that are one have one first item and one rest
+pub first_of : {X : Type 0} (x y : X) (xs ys : List X) → x ∷ xs ≡ y ∷ ys → x ≡ y
+first_of x y xs ys e = cc
+
+pub rest_of : {X : Type 0} (x y : X) (xs ys : List X) → x ∷ xs ≡ y ∷ ys → xs ≡ ys
+rest_of x y xs ys e = cc
+
+pub none_cons : {X : Type 0} (x : X) (xs : List X) → [] ≡ x ∷ xs → ⊥
+none_cons x xs e = cc
+
 same_looks : (g : Grammar) → AreNamesApart g → (ls ms : List Look) → AllByRecursion (IsLookBelow (length g.tokens)) ls → AllByRecursion (IsLookBelow (length g.tokens)) ms → map (look_name g) ls ≡ map (look_name g) ms → ls ≡ ms
 same_looks g n [] [] h k e = refl
-same_looks g n [] (m ∷ ms) h k e = absurd (nil_cons (look_name g m) (map (look_name g) ms) e)
-same_looks g n (l ∷ ls) [] h k e = absurd (nil_cons (look_name g l) (map (look_name g) ls) (sym e))
+same_looks g n [] (m ∷ ms) h k e = absurd (none_cons (look_name g m) (map (look_name g) ms) e)
+same_looks g n (l ∷ ls) [] h k e = absurd (none_cons (look_name g l) (map (look_name g) ls) (sym e))
 same_looks g n (l ∷ ls) (m ∷ ms) (h, hs) (k, ks) e =
-    ap (λ x. x ∷ ls) (same_look g n l m h k (cons_first (look_name g l) (look_name g m) (map (look_name g) ls) (map (look_name g) ms) e))
-    ∙ ap (λ xs. m ∷ xs) (same_looks g n ls ms hs ks (cons_rest (look_name g l) (look_name g m) (map (look_name g) ls) (map (look_name g) ms) e))
+    ap (λ x. x ∷ ls) (same_look g n l m h k (first_of (look_name g l) (look_name g m) (map (look_name g) ls) (map (look_name g) ms) e))
+    ∙ ap (λ xs. m ∷ xs) (same_looks g n ls ms hs ks (rest_of (look_name g l) (look_name g m) (map (look_name g) ls) (map (look_name g) ms) e))
 
 pub same_item : (g : Grammar) → AreNamesApart g → (i j : KernelItem) → IsKernelItem (plain_of g) i → IsKernelItem (plain_of g) j → raw_item g i ≡ raw_item g j → i ≡ j
 same_item g n i j h k e =
@@ -38,11 +47,11 @@ same_item g n i j h k e =
 
 pub same_items : (g : Grammar) → AreNamesApart g → (is js : List KernelItem) → AllByRecursion (IsKernelItem (plain_of g)) is → AllByRecursion (IsKernelItem (plain_of g)) js → map (raw_item g) is ≡ map (raw_item g) js → is ≡ js
 same_items g n [] [] h k e = refl
-same_items g n [] (j ∷ js) h k e = absurd (nil_cons (raw_item g j) (map (raw_item g) js) e)
-same_items g n (i ∷ is) [] h k e = absurd (nil_cons (raw_item g i) (map (raw_item g) is) (sym e))
+same_items g n [] (j ∷ js) h k e = absurd (none_cons (raw_item g j) (map (raw_item g) js) e)
+same_items g n (i ∷ is) [] h k e = absurd (none_cons (raw_item g i) (map (raw_item g) is) (sym e))
 same_items g n (i ∷ is) (j ∷ js) (h, hs) (k, ks) e =
-    ap (λ x. x ∷ is) (same_item g n i j h k (cons_first (raw_item g i) (raw_item g j) (map (raw_item g) is) (map (raw_item g) js) e))
-    ∙ ap (λ xs. j ∷ xs) (same_items g n is js hs ks (cons_rest (raw_item g i) (raw_item g j) (map (raw_item g) is) (map (raw_item g) js) e))
+    ap (λ x. x ∷ is) (same_item g n i j h k (first_of (raw_item g i) (raw_item g j) (map (raw_item g) is) (map (raw_item g) js) e))
+    ∙ ap (λ xs. j ∷ xs) (same_items g n is js hs ks (rest_of (raw_item g i) (raw_item g j) (map (raw_item g) is) (map (raw_item g) js) e))
 
 pub kernel_is_one : (g : Grammar) → AreNamesApart g → (raw : RawTable) (s : ℕ) (k l : Kernel) → HasKernel g raw s k → HasKernel g raw s l → k ≡ l
 kernel_is_one g n raw s k l h i =
