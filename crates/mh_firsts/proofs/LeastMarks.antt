@@ -76,7 +76,7 @@ module _ (g : PlainGrammar) where
 
     pub all-from_nil : (Xs : List Symbol) (w : List ℕ) → DerivesAll g Xs w → w ≡ [] → AllMarked false g.productions Xs
     all-from_nil Xs w trees.Derivations.none e = marked.AllMarked.none
-    all-from_nil Xs w (trees.Derivations.more j t f) e = let n = nil_parts _ _ (sym e ∙ j) in marked.AllMarked.more (marked-from_nil _ _ t n.0) (all-from_nil _ _ f n.1)
+    all-from_nil Xs w (trees.Derivations.more j t f) e = let n = nil_parts _ _ (sym j ∙ e) in marked.AllMarked.more (marked-from_nil _ _ t n.0) (all-from_nil _ _ f n.1)
 
   -- with each token counted, what has a derivation is marked
   mutual

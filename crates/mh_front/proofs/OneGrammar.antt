@@ -1,6 +1,7 @@
 -- Modules give one grammar or one first fault, and the numbers of the grammar are in range.
 use Rattle.std.proofs.Common.{◌≡◌, ◌<◌, ◌≤◌, ◌⊎◌, Bool, List, [], ◌∷◌, ◌++◌, None, Some, Ok, flat_map, length, refl, sym, ap, subst, ◌∙◌, inl, inr, arith}
 use Rattle.std.proofs.lemmas.List.{length-map}
+use Rattle.mh_grammar.proofs.Lists.{nil_parts}
 use Rattle.mh_grammar.specs.declared.types.Grammar.{Grammar}
 use Rattle.mh_grammar.specs.Costs.{HaveCosts}
 use Rattle.mh_grammar.specs.Numbering.{AreDistinct}
@@ -16,7 +17,6 @@ use Rattle.mh_meanings.specs.Joining.{Joins}
 use Rattle.mh_rules.specs.declared.joined.TheConstants.{MAX_TOKENS}
 use Rattle.mh_rules.specs.Ready.{AreModulesReady, IsExpandedReady}
 use Rattle.mh_join.proofs.Readying as joins
-use Rattle.mh_meanings.proofs.Resolving.{front_nil, back_nil}
 use Rattle.mh_instances.specs.declared.fault.ExpandFault.{ExpandFault}
 use Rattle.mh_expand.specs.Expansion.{IsFirstFault}
 use Rattle.mh_expand.proofs.Few.{few_instances}
@@ -145,8 +145,8 @@ module _ (p : Bool) (ms : List Module) where
       let w = meanings p ms in
       let j = o.joined in
       let e = o.grammar.expanded in
-      let others = back_nil (duplicates w ms) (other_faults w ms) (back_nil (flat_map (undefined_in_file w) (files ms)) (duplicates w ms ++ other_faults w ms) o.joins.0) in
-      let named = front_nil (unless (has_some w.starts) joining.NoStart) (flat_map errors_in_file ms ++ (flat_map (unlevelled_in_file w) ms ++ many_tokens (length w.tokens))) others in
+      let others = (nil_parts (duplicates w ms) (other_faults w ms) (nil_parts (flat_map (undefined_in_file w) (files ms)) (duplicates w ms ++ other_faults w ms) o.joins.0).1).1 in
+      let named = (nil_parts (unless (has_some w.starts) joining.NoStart) (flat_map errors_in_file ms ++ (flat_map (unlevelled_in_file w) ms ++ many_tokens (length w.tokens))) others).0 in
       let some = some_start w.starts named in
       let of_joined = sym (length-map j.starts Some) ∙ ap length o.joins.1.starts_are ∙ length-map w.starts (w.numbers.rule None) in
       let of_expanded = (has_same_sentences j e o.grammar.expands).starts in

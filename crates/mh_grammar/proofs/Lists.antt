@@ -105,8 +105,8 @@ module _ {X : Type 0} where
   pub cons_same : (x y : X) (xs ys : List X) → x ≡ y → xs ≡ ys → x ∷ xs ≡ y ∷ ys
   cons_same x y xs ys e f = λ i. e i ∷ f i
 
-  pub nil_parts : (xs ys : List X) → [] ≡ xs ++ ys → (xs ≡ []) × (ys ≡ [])
-  nil_parts [] ys e = (refl, sym e)
+  pub nil_parts : (xs ys : List X) → xs ++ ys ≡ [] → (xs ≡ []) × (ys ≡ [])
+  nil_parts [] ys e = (refl, e)
   nil_parts (x ∷ xs) ys e = cc
 
   -- where a list that ends in y is split

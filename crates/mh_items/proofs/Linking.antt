@@ -86,7 +86,7 @@ begins_nil g (Token a) f = elim f [ ]
 begins_nil g End f = f
 
 all_parts : (g : PlainGrammar) (X : Symbol) (Xs : List Symbol) (w : List ℕ) → DerivesAll g (X ∷ Xs) w → w ≡ [] → Derives g X [] × DerivesAll g Xs []
-all_parts g X Xs w (trees.Derivations.more {u = u} {v = v} j t f) e = let n = nil_parts u v (sym e ∙ j) in (rw n.0 at t, rw n.1 at f)
+all_parts g X Xs w (trees.Derivations.more {u = u} {v = v} j t f) e = let n = nil_parts u v (sym j ∙ e) in (rw n.0 at t, rw n.1 at f)
 
 -- a string was read up to its rest
 pub record RestSoFar {W : ℕ} (sets : Sets W) (symbols : List Symbol) (tokens : List Look) (rest : List Symbol) : Type 0 where

@@ -4,6 +4,7 @@ use Rattle.std.specs.Prelude.{◌||◌, not, is_some, if◌then◌else◌}
 use Rattle.std.specs.List.{All, flat_map, enumerate_from, list_any}
 use Rattle.std.proofs.lemmas.Bool.{cases_lt, lt-ltb}
 use Rattle.std.proofs.lemmas.List.Concat.{flat_map-append}
+use Rattle.mh_grammar.proofs.Lists.{nil_parts}
 use Rattle.mh_rules.specs.declared.joined.TheConstants.{MAX_TOKENS}
 use Rattle.mh_rules.specs.declared.modules.Ref.{Ref}
 use Rattle.mh_rules.specs.declared.modules.Actual.{Actual}
@@ -25,19 +26,18 @@ use Rattle.mh_meanings.specs.Faults.{Meanings, meant_by, refs, is_error, text_of
 use Rattle.mh_meanings.specs.Joining.{IsJoinedBy, IsJoined}
 use Rattle.mh_meanings.specs.Maps.{meanings_in, elsewhere_in, HasMeanings}
 use Rattle.mh_building.specs.Standing.{unresolved, unresolved_in_rule, unresolved_in_rules, unresolved_in_file, unresolved_on_error, CanJoin, definitions_by}
-use Rattle.mh_meanings.proofs.Resolving.{front_nil, back_nil}
 use Rattle.mh_join.proofs.Library.{number_known, prelude_stands}
 use Rattle.mh_join.proofs.Shallow.{prelude_shallow}
 
 -- where one thing finds nothing at each item, another does not
 pub nil_by : {A B C : Type 0} (f : A → List B) (g : A → List C) → ((x : A) → f x ≡ [] → g x ≡ []) → (xs : List A) → flat_map f xs ≡ [] → flat_map g xs ≡ []
 nil_by f g by [] e = refl
-nil_by f g by (x ∷ xs) e = ap (λ k. k ++ flat_map g xs) (by x (front_nil (f x) (flat_map f xs) e)) ∙ nil_by f g by xs (back_nil (f x) (flat_map f xs) e)
+nil_by f g by (x ∷ xs) e = ap (λ k. k ++ flat_map g xs) (by x (nil_parts (f x) (flat_map f xs) e).0) ∙ nil_by f g by xs (nil_parts (f x) (flat_map f xs) e).1
 
 pub nil_by_two : {A B C : Type 0} (f g : A → List B) (h : A → List C) → ((x : A) → f x ≡ [] → g x ≡ [] → h x ≡ []) → (xs : List A) → flat_map f xs ≡ [] → flat_map g xs ≡ [] → flat_map h xs ≡ []
 nil_by_two f g h by [] e d = refl
 nil_by_two f g h by (x ∷ xs) e d =
-    ap (λ k. k ++ flat_map h xs) (by x (front_nil (f x) (flat_map f xs) e) (front_nil (g x) (flat_map g xs) d)) ∙ nil_by_two f g h by xs (back_nil (f x) (flat_map f xs) e) (back_nil (g x) (flat_map g xs) d)
+    ap (λ k. k ++ flat_map h xs) (by x (nil_parts (f x) (flat_map f xs) e).0 (nil_parts (g x) (flat_map g xs) d).0) ∙ nil_by_two f g h by xs (nil_parts (f x) (flat_map f xs) e).1 (nil_parts (g x) (flat_map g xs) d).1
 
 numbered : {B : Type 0} (g : Module → List B) (n : ℕ) (ms : List Module) → flat_map (λ f. g f.1) (enumerate_from n ms) ≡ flat_map g ms
 numbered g n [] = refl
@@ -60,7 +60,7 @@ actual_stands meant a = nil_by_two (undefined true meant) error_token (undefined
 alternative_stands : (aliased : Text → Option Text) (meant : Ref → Option Head) (a : Alternative) → undefined_in_alternative aliased meant a ≡ [] → errors_in_alternative a ≡ [] → unresolved meant a ≡ []
 alternative_stands aliased meant a p q =
     nil_by_two (undefined_in_actual true meant) errors_in_actual (undefined_in_actual false meant) (actual_stands meant) a.producers
-    (front_nil (flat_map (undefined_in_actual true meant) a.producers) (undefined_prec aliased a.prec) p) q
+    (nil_parts (flat_map (undefined_in_actual true meant) a.producers) (undefined_prec aliased a.prec) p).0 q
 
 module _ (w : Meanings) where
   rule_stands : (k : ℕ) (r : Rule) → undefined_in_rule w k r ≡ [] → errors_in_rule r ≡ [] → unresolved_in_rule w k r ≡ []
@@ -69,27 +69,27 @@ module _ (w : Meanings) where
   file_stands : (f : ℕ × Module) → undefined_in_file w f ≡ [] → errors_in_file f.1 ≡ [] → unresolved_in_file w f ≡ []
   file_stands f p q =
       nil_by_two (undefined_in_rule w f.0) errors_in_rule (unresolved_in_rule w f.0) (rule_stands f.0) f.1.rules
-      (back_nil (undefined_in_declarations w f.0 f.1) (flat_map (undefined_in_rule w f.0) f.1.rules) p) q
+      (nil_parts (undefined_in_declarations w f.0 f.1) (flat_map (undefined_in_rule w f.0) f.1.rules) p).1 q
 
   on_error_stands : (f : ℕ × Module) → undefined_in_file w f ≡ [] → unresolved_on_error w f ≡ []
   on_error_stands f p =
-      let declared = front_nil (undefined_in_declarations w f.0 f.1) (flat_map (undefined_in_rule w f.0) f.1.rules) p in
-      back_nil (flat_map (undefined_in_level w) f.1.levels) (flat_map (undefined_in_on_error (meant_by w f.0 (formal_number []))) f.1.on_error)
-      (back_nil (flat_map (undefined_start w) f.1.starts) (flat_map (undefined_in_level w) f.1.levels ++ flat_map (undefined_in_on_error (meant_by w f.0 (formal_number []))) f.1.on_error) declared)
+      let declared = (nil_parts (undefined_in_declarations w f.0 f.1) (flat_map (undefined_in_rule w f.0) f.1.rules) p).0 in
+      (nil_parts (flat_map (undefined_in_level w) f.1.levels) (flat_map (undefined_in_on_error (meant_by w f.0 (formal_number []))) f.1.on_error)
+      (nil_parts (flat_map (undefined_start w) f.1.starts) (flat_map (undefined_in_level w) f.1.levels ++ flat_map (undefined_in_on_error (meant_by w f.0 (formal_number []))) f.1.on_error) declared).1).1
 
   starts_stand : (f : ℕ × Module) → undefined_in_file w f ≡ [] → flat_map (undefined_start w) f.1.starts ≡ []
   starts_stand f p =
-      front_nil (flat_map (undefined_start w) f.1.starts) (flat_map (undefined_in_level w) f.1.levels ++ flat_map (undefined_in_on_error (meant_by w f.0 (formal_number []))) f.1.on_error)
-      (front_nil (undefined_in_declarations w f.0 f.1) (flat_map (undefined_in_rule w f.0) f.1.rules) p)
+      (nil_parts (flat_map (undefined_start w) f.1.starts) (flat_map (undefined_in_level w) f.1.levels ++ flat_map (undefined_in_on_error (meant_by w f.0 (formal_number []))) f.1.on_error)
+      (nil_parts (undefined_in_declarations w f.0 f.1) (flat_map (undefined_in_rule w f.0) f.1.rules) p).0).0
 
 -- the items of a set that are each in a list
 kept_nil : {B : Type 0} (f : Text → List B) (ks xs : List Text) → flat_map f ks ≡ [] → flat_map f xs ≡ [] → flat_map f (insert_all same ks xs) ≡ []
 kept_nil f ks [] p q = p
-kept_nil {B = B} f ks (x ∷ xs) p q = kept_nil f (insert_key same ks x) xs (go (list_any (same x) ks)) (back_nil (f x) (flat_map f xs) q)
+kept_nil {B = B} f ks (x ∷ xs) p q = kept_nil f (insert_key same ks x) xs (go (list_any (same x) ks)) (nil_parts (f x) (flat_map f xs) q).1
   where
     go : (b : Bool) → flat_map f (if b then ks else ks ++ x ∷ []) ≡ []
     go true = p
-    go false = flat_map-append f ks (x ∷ []) ∙ ap (λ k. k ++ (f x ++ [])) p ∙ ap (λ k. k ++ []) (front_nil (f x) (flat_map f xs) q)
+    go false = flat_map-append f ks (x ∷ []) ∙ ap (λ k. k ++ (f x ++ [])) p ∙ ap (λ k. k ++ []) (nil_parts (f x) (flat_map f xs) q).0
 
 pub few_tokens : (n : ℕ) → many_tokens n ≡ [] → n ≤ MAX_TOKENS
 few_tokens n h = go (cases_lt MAX_TOKENS n)
@@ -104,23 +104,23 @@ flat_starts f (m ∷ ms) = ap (λ k. flat_map f m.starts ++ k) (flat_starts f ms
 
 pub can_join : (p : Bool) (ms : List Module) (n : Names) (library : List Rule) → HasMeanings p ms n → AreModulesReady ms → library ≡ prelude_rules p → faults_by (meanings_in n) ms ≡ [] → CanJoin n ms library
 can_join p ms n library named ready is none = record {
-  few = few_tokens (length (meanings_in n).tokens) (back_nil (flat_map (unlevelled_in_file (meanings_in n)) ms) (many_tokens (length (meanings_in n).tokens)) (back_nil (flat_map errors_in_file ms) (flat_map (unlevelled_in_file (meanings_in n)) ms ++ many_tokens (length (meanings_in n).tokens)) later));
+  few = few_tokens (length (meanings_in n).tokens) (nil_parts (flat_map (unlevelled_in_file (meanings_in n)) ms) (many_tokens (length (meanings_in n).tokens)) (nil_parts (flat_map errors_in_file ms) (flat_map (unlevelled_in_file (meanings_in n)) ms ++ many_tokens (length (meanings_in n).tokens)) later).1).1;
   starts = subst (λ ks. flat_map (undefined_start (meanings_in n)) ks ≡ []) (sym (ap (λ (v : Meanings). v.starts) named.meanings_are))
       (kept_nil (undefined_start (meanings_in n)) [] (flat_map (λ m. m.starts) ms) refl (sym (flat_starts (undefined_start (meanings_in n)) ms) ∙ sym (numbered (λ (m : Module). flat_map (undefined_start (meanings_in n)) m.starts) 1 ms) ∙ nil_by (undefined_in_file (meanings_in n)) (λ (f : ℕ × Module). flat_map (undefined_start (meanings_in n)) f.1.starts) (starts_stand (meanings_in n)) (files ms) undefined_none));
   on_error = nil_by (undefined_in_file (meanings_in n)) (unresolved_on_error (meanings_in n)) (on_error_stands (meanings_in n)) (files ms) undefined_none;
   rules = nil_by_two (undefined_in_file (meanings_in n)) (λ (f : ℕ × Module). errors_in_file f.1) (unresolved_in_file (meanings_in n)) (file_stands (meanings_in n)) (files ms) undefined_none
-      (numbered errors_in_file 1 ms ∙ front_nil (flat_map errors_in_file ms) (flat_map (unlevelled_in_file (meanings_in n)) ms ++ many_tokens (length (meanings_in n).tokens)) later);
+      (numbered errors_in_file 1 ms ∙ (nil_parts (flat_map errors_in_file ms) (flat_map (unlevelled_in_file (meanings_in n)) ms ++ many_tokens (length (meanings_in n).tokens)) later).0);
   prelude = ap (unresolved_in_rules (meanings_in n) 0) is ∙ prelude_stands p (meanings_in n) (λ x h. ap (λ (v : Meanings). is_some (v.numbers.rule (Some 0) x)) named.meanings_are ∙ number_known p ms x h);
   files_ready = ready;
   prelude_shallow = subst (All AreProducersShallow) (sym is) (prelude_shallow p);
 }
   where
     undefined_none : flat_map (undefined_in_file (meanings_in n)) (files ms) ≡ []
-    undefined_none = front_nil (flat_map (undefined_in_file (meanings_in n)) (files ms)) (duplicates (meanings_in n) ms ++ other_faults (meanings_in n) ms) none
+    undefined_none = (nil_parts (flat_map (undefined_in_file (meanings_in n)) (files ms)) (duplicates (meanings_in n) ms ++ other_faults (meanings_in n) ms) none).0
 
     later : flat_map errors_in_file ms ++ (flat_map (unlevelled_in_file (meanings_in n)) ms ++ many_tokens (length (meanings_in n).tokens)) ≡ []
-    later = back_nil (unless (has_some (meanings_in n).starts) faults.NoStart) (flat_map errors_in_file ms ++ (flat_map (unlevelled_in_file (meanings_in n)) ms ++ many_tokens (length (meanings_in n).tokens)))
-        (back_nil (duplicates (meanings_in n) ms) (other_faults (meanings_in n) ms) (back_nil (flat_map (undefined_in_file (meanings_in n)) (files ms)) (duplicates (meanings_in n) ms ++ other_faults (meanings_in n) ms) none))
+    later = (nil_parts (unless (has_some (meanings_in n).starts) faults.NoStart) (flat_map errors_in_file ms ++ (flat_map (unlevelled_in_file (meanings_in n)) ms ++ many_tokens (length (meanings_in n).tokens)))
+        (nil_parts (duplicates (meanings_in n) ms) (other_faults (meanings_in n) ms) (nil_parts (flat_map (undefined_in_file (meanings_in n)) (files ms)) (duplicates (meanings_in n) ms ++ other_faults (meanings_in n) ms) none).1).1).1
 
 -- the files joined by the maps are the files joined
 pub joined_by : (p : Bool) (ms : List Module) (n : Names) (library : List Rule) (j : Joined) → HasMeanings p ms n → library ≡ prelude_rules p → IsJoinedBy (meanings_in n) (elsewhere_in n) n.numbering.rules.items (definitions_by n ms library) ms j → IsJoined p ms j

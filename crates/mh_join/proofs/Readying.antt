@@ -38,14 +38,14 @@ use Rattle.mh_meanings.specs.Faults.{Meanings, meanings, meant_by, unless, agree
 use Rattle.mh_meanings.specs.Joining.{all_of, applied_to, apply_step, resolved, all_resolved, prec_by, alternative_with, alternative_by, alternatives_by, is_number, alternatives_for, rule_without, without_alternatives, token_info, on_error_in, IsJoined, Joins}
 use Rattle.mh_rules.specs.Depth.{greatest, actual_depth, actual_depth_step, applied_depth, applied_depth_step, IsActualShallow, IsAppliedShallow, AreProducersShallow}
 use Rattle.mh_rules.specs.Ready.{IsModuleReady, AreModulesReady, IsHeadBelow, IsAppliedBelow, IsRuleReady, IsReady}
-use Rattle.mh_grammar.proofs.Lists.{get_cases, at_contains, recursion-from}
+use Rattle.mh_grammar.proofs.Lists.{get_cases, at_contains, recursion-from, nil_parts}
 use Rattle.mh_grammar.proofs.SameText.{same_is, same_self}
 use Rattle.mh_meanings.proofs.Lists.{position-push, is_some-position}
 use Rattle.mh_building.proofs.Adding.{some_is}
 use Rattle.mh_naming.proofs.Numbers.{none_from}
 use Rattle.mh_naming.proofs.Meaning.{find_position}
 use Rattle.mh_join.proofs.Costing.{tokens_costed}
-use Rattle.mh_meanings.proofs.Resolving.{front_nil, back_nil, is_known}
+use Rattle.mh_meanings.proofs.Resolving.{is_known}
 use Rattle.mh_join.proofs.Library.{and_left, and_right, owner_is}
 use Rattle.mh_join.proofs.Able.{few_tokens}
 use Rattle.mh_join.proofs.Shallow.{prelude_shallow}
@@ -91,8 +91,8 @@ in_flat {X = X} f (x ∷ xs) y h = go (in_flat f xs y) (in_append (f x) (flat_ma
 -- where nothing is found, nothing is found at a member
 nil_in : {X Y : Type 0} (f : X → List Y) (xs : List X) (x : X) → flat_map f xs ≡ [] → In xs x → f x ≡ []
 nil_in f [] x e h = elim h [ ]
-nil_in f (y ∷ xs) x e (inl is) = ap f (sym is) ∙ front_nil (f y) (flat_map f xs) e
-nil_in f (y ∷ xs) x e (inr h) = nil_in f xs x (back_nil (f y) (flat_map f xs) e) h
+nil_in f (y ∷ xs) x e (inl is) = ap f (sym is) ∙ (nil_parts (f y) (flat_map f xs) e).0
+nil_in f (y ∷ xs) x e (inr h) = nil_in f xs x (nil_parts (f y) (flat_map f xs) e).1 h
 
 length_in : {X Y : Type 0} (f : X → List Y) (xs : List X) (x : X) → In xs x → length (f x) ≤ length (flat_map f xs)
 length_in f [] x h = elim h [ ]
@@ -370,10 +370,10 @@ not_true false e h = refl
 not_before : (before xs : List Text) (x : Text) → repeats before xs ≡ [] → In xs x → list_any (same x) before ≡ false
 not_before before [] x e h = elim h [ ]
 not_before before (y ∷ ys) x e (inl is) =
-    ap (λ z. list_any (same z) before) (sym is) ∙ not_true (list_any (same y) before) (faults.Duplicate y) (front_nil (unless (not (list_any (same y) before)) (faults.Duplicate y)) (repeats (before ++ y ∷ []) ys) e)
+    ap (λ z. list_any (same z) before) (sym is) ∙ not_true (list_any (same y) before) (faults.Duplicate y) (nil_parts (unless (not (list_any (same y) before)) (faults.Duplicate y)) (repeats (before ++ y ∷ []) ys) e).0
 not_before before (y ∷ ys) x e (inr h) =
     left_false (list_any (same x) before) (list_any (same x) (y ∷ []))
-    (sym (list_any-append (same x) before (y ∷ [])) ∙ not_before (before ++ y ∷ []) ys x (back_nil (unless (not (list_any (same y) before)) (faults.Duplicate y)) (repeats (before ++ y ∷ []) ys) e) h)
+    (sym (list_any-append (same x) before (y ∷ [])) ∙ not_before (before ++ y ∷ []) ys x (nil_parts (unless (not (list_any (same y) before)) (faults.Duplicate y)) (repeats (before ++ y ∷ []) ys) e).1 h)
   where
     left_false : (a b : Bool) → (a || b) ≡ false → a ≡ false
     left_false true b f = f
@@ -394,7 +394,7 @@ module _ (own : Text → Bool) where
   none_behind before r rs s e private h is =
       let whole : repeats before (r.name ∷ own_names own rs) ≡ [] = subst (λ b. repeats before ((if b then [] else r.name ∷ []) ++ own_names own rs) ≡ []) private e in
       let free : list_any (same s.name) (before ++ r.name ∷ []) ≡ false =
-      not_before (before ++ r.name ∷ []) (own_names own rs) s.name (back_nil (unless (not (list_any (same r.name) before)) (faults.Duplicate r.name)) (repeats (before ++ r.name ∷ []) (own_names own rs)) whole)
+      not_before (before ++ r.name ∷ []) (own_names own rs) s.name (nil_parts (unless (not (list_any (same r.name) before)) (faults.Duplicate r.name)) (repeats (before ++ r.name ∷ []) (own_names own rs)) whole).1
       (own_in rs s h (ap own (sym is) ∙ private)) in
       let there : list_any (same s.name) (before ++ r.name ∷ []) ≡ true =
       list_any-append (same s.name) before (r.name ∷ []) ∙ ap (λ b. list_any (same s.name) before || (b || false)) (ap (same s.name) is ∙ same_self s.name) ∙ or-true (list_any (same s.name) before) in
@@ -410,7 +410,7 @@ module _ (own : Text → Bool) where
     where
       go : ((names : List Text) → repeats names (own_names own rs) ≡ [] → r ≡ s) → (b : Bool) → repeats before ((if b then [] else q.name ∷ []) ++ own_names own rs) ≡ [] → r ≡ s
       go later true f = later before f
-      go later false f = later (before ++ q.name ∷ []) (back_nil (unless (not (list_any (same q.name) before)) (faults.Duplicate q.name)) (repeats (before ++ q.name ∷ []) (own_names own rs)) f)
+      go later false f = later (before ++ q.name ∷ []) (nil_parts (unless (not (list_any (same q.name) before)) (faults.Duplicate q.name)) (repeats (before ++ q.name ∷ []) (own_names own rs)) f).1
 
 -- the prelude's names differ, and each of its rules has an alternative
 prelude_once : (p : Bool) → repeats [] (own_names (λ x. false) (prelude_rules p)) ≡ []
@@ -430,26 +430,26 @@ module _ (p : Bool) (ms : List Module) (none : join_faults p ms ≡ []) where
   w = meanings p ms
 
   past_undefined : duplicates w ms ++ other_faults w ms ≡ []
-  past_undefined = back_nil (flat_map (undefined_in_file w) (files ms)) (duplicates w ms ++ other_faults w ms) none
+  past_undefined = (nil_parts (flat_map (undefined_in_file w) (files ms)) (duplicates w ms ++ other_faults w ms) none).1
 
   rules_once : rule_duplicates w ms ≡ []
   rules_once =
-      front_nil (rule_duplicates w ms) (flat_map (levels_in_file w) (files ms))
-      (back_nil (name_duplicates w ms) (rule_duplicates w ms ++ flat_map (levels_in_file w) (files ms)) (front_nil (duplicates w ms) (other_faults w ms) past_undefined))
+      (nil_parts (rule_duplicates w ms) (flat_map (levels_in_file w) (files ms))
+      (nil_parts (name_duplicates w ms) (rule_duplicates w ms ++ flat_map (levels_in_file w) (files ms)) (nil_parts (duplicates w ms) (other_faults w ms) past_undefined).0).1).0
 
   own_once : flat_map (own_in_file w) ms ≡ []
-  own_once = front_nil (flat_map (own_in_file w) ms) (flat_map formals_in_file ms ++ flat_map (shapes_in_file w) ms) rules_once
+  own_once = (nil_parts (flat_map (own_in_file w) ms) (flat_map formals_in_file ms ++ flat_map (shapes_in_file w) ms) rules_once).0
 
   shapes_once : flat_map (shapes_in_file w) ms ≡ []
-  shapes_once = back_nil (flat_map formals_in_file ms) (flat_map (shapes_in_file w) ms) (back_nil (flat_map (own_in_file w) ms) (flat_map formals_in_file ms ++ flat_map (shapes_in_file w) ms) rules_once)
+  shapes_once = (nil_parts (flat_map formals_in_file ms) (flat_map (shapes_in_file w) ms) (nil_parts (flat_map (own_in_file w) ms) (flat_map formals_in_file ms ++ flat_map (shapes_in_file w) ms) rules_once).1).1
 
   tokens_few : length (token_names ms) ≤ MAX_TOKENS
   tokens_few =
       few_tokens (length (token_names ms))
-      (back_nil (flat_map (unlevelled_in_file w) ms) (many_tokens (length (token_names ms)))
-      (back_nil (flat_map errors_in_file ms) (flat_map (unlevelled_in_file w) ms ++ many_tokens (length (token_names ms)))
-      (back_nil (unless (has_some w.starts) faults.NoStart) (flat_map errors_in_file ms ++ (flat_map (unlevelled_in_file w) ms ++ many_tokens (length (token_names ms))))
-      (back_nil (duplicates w ms) (other_faults w ms) past_undefined))))
+      (nil_parts (flat_map (unlevelled_in_file w) ms) (many_tokens (length (token_names ms)))
+      (nil_parts (flat_map errors_in_file ms) (flat_map (unlevelled_in_file w) ms ++ many_tokens (length (token_names ms)))
+      (nil_parts (unless (has_some w.starts) faults.NoStart) (flat_map errors_in_file ms ++ (flat_map (unlevelled_in_file w) ms ++ many_tokens (length (token_names ms))))
+      (nil_parts (duplicates w ms) (other_faults w ms) past_undefined).1).1).1).1
 
   -- a public definition is like the first of its name
   public_shape : (m : Module) (r : Rule) (o : Outline) → In ms m → In m.rules r → is_public (start_names ms) m.rules r.name ≡ true → w.joined r.name ≡ Some o → o.formals ≡ length r.formals

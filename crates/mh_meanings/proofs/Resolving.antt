@@ -20,20 +20,14 @@ use Rattle.mh_meanings.proofs.Actuals.{actual_out}
 -- NOTHING FOUND
 
 module _ {A : Type 0} where
-  pub front_nil : (xs ys : List A) → xs ++ ys ≡ [] → xs ≡ []
-  front_nil xs ys e = (nil_parts xs ys (sym e)).0
-
-  pub back_nil : (xs ys : List A) → xs ++ ys ≡ [] → ys ≡ []
-  back_nil xs ys e = (nil_parts xs ys (sym e)).1
-
   pub split_item : (xs : List A) (i : ℕ) (x : A) → i < length xs → x ≡ get_or xs i x → xs ≡ take i xs ++ x ∷ drop (i + 1) xs
   split_item xs i x h at = split_at xs i x h at ∙ ap (λ k. take i xs ++ x ∷ drop k xs) (sym (add-one i))
 
 pub nil_at : {A B : Type 0} (f : A → List B) (xs : List A) (i : ℕ) (x : A) → i < length xs → x ≡ get_or xs i x → flat_map f xs ≡ [] → f x ≡ []
 nil_at f xs i x h at e =
-    front_nil (f x) (flat_map f (drop (i + 1) xs))
-    (back_nil (flat_map f (take i xs)) (f x ++ flat_map f (drop (i + 1) xs))
-    (sym (ap (flat_map f) (split_item xs i x h at) ∙ flat_map-append f (take i xs) (x ∷ drop (i + 1) xs)) ∙ e))
+    (nil_parts (f x) (flat_map f (drop (i + 1) xs))
+    (nil_parts (flat_map f (take i xs)) (f x ++ flat_map f (drop (i + 1) xs))
+    (sym (ap (flat_map f) (split_item xs i x h at) ∙ flat_map-append f (take i xs) (x ∷ drop (i + 1) xs)) ∙ e)).1).0
 
 pub enum_split : {A : Type 0} (n : ℕ) (xs ys : List A) → enumerate_from n (xs ++ ys) ≡ enumerate_from n xs ++ enumerate_from (n + length xs) ys
 enum_split n [] ys = ap (λ k. enumerate_from k ys) (let e : n ≡ n + 0 = omega arith in e)
@@ -42,11 +36,11 @@ enum_split n (x ∷ xs) ys = ap (λ k. (n, x) ∷ k) (enum_split (n + 1) xs ys �
 pub nil_enum_at : {A B : Type 0} (f : ℕ × A → List B) (n : ℕ) (xs : List A) (i j : ℕ) (x : A) → i < length xs → x ≡ get_or xs i x → n + i ≡ j → flat_map f (enumerate_from n xs) ≡ [] → f (j, x) ≡ []
 nil_enum_at f n xs i j x h at place e =
     let rest = enumerate_from (j + 1) (drop (i + 1) xs) in
-    front_nil (f (j, x)) (flat_map f rest)
-    (back_nil (flat_map f (enumerate_from n (take i xs))) (f (j, x) ++ flat_map f rest)
+    (nil_parts (f (j, x)) (flat_map f rest)
+    (nil_parts (flat_map f (enumerate_from n (take i xs))) (f (j, x) ++ flat_map f rest)
     (sym (ap (flat_map f) (ap (enumerate_from n) (split_item xs i x h at) ∙ enum_split n (take i xs) (x ∷ drop (i + 1) xs)
     ∙ ap (λ k. enumerate_from n (take i xs) ++ enumerate_from k (x ∷ drop (i + 1) xs)) (ap (λ k. n + k) (length-take_in xs i h) ∙ place))
-    ∙ flat_map-append f (enumerate_from n (take i xs)) ((j, x) ∷ rest)) ∙ e))
+    ∙ flat_map-append f (enumerate_from n (take i xs)) ((j, x) ∷ rest)) ∙ e)).1).0
 
 -- HEADS AND ARGUMENTS
 
@@ -59,10 +53,10 @@ module _ (meant : Ref → Option Head) (a : Actual) (stands : undefined_in_actua
   parts = actual_out (undefined false meant) a ∙ stands
 
   pub stands_head : is_some (meant (out-Actual a).head) ≡ true
-  stands_head = is_known _ _ (front_nil (undefined false meant (out-Actual a).head) (flat_map (undefined_in_actual false meant) (out-Actual a).args) parts)
+  stands_head = is_known _ _ (nil_parts (undefined false meant (out-Actual a).head) (flat_map (undefined_in_actual false meant) (out-Actual a).args) parts).0
 
   pub stands_args : flat_map (undefined_in_actual false meant) (out-Actual a).args ≡ []
-  stands_args = back_nil (undefined false meant (out-Actual a).head) (flat_map (undefined_in_actual false meant) (out-Actual a).args) parts
+  stands_args = (nil_parts (undefined false meant (out-Actual a).head) (flat_map (undefined_in_actual false meant) (out-Actual a).args) parts).1
 
 pub all_somes : {A : Type 0} (xs : List A) → all_of (map Some xs) ≡ Some xs
 all_somes [] = refl

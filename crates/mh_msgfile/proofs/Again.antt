@@ -194,7 +194,7 @@ module _ (g : Grammar) where
     block_good : (block : List ℕ) → faults_of (vocabulary_of g) lines block ≡ [] → AreGood (texts_of lines block)
     block_good [] is = tt
     block_good (n ∷ block) is =
-        let both = nil_parts (fault_at n (found_in (line_at lines n))) (faults_of (vocabulary_of g) lines block) (sym is) in
+        let both = nil_parts (fault_at n (found_in (line_at lines n))) (faults_of (vocabulary_of g) lines block) is in
         (good_from n (found_in (line_at lines n)) both.0, block_good block both.1)
 
     good_block : (block : List ℕ) → AreGood (texts_of lines block) → faults_of (vocabulary_of g) lines block ≡ []
@@ -203,9 +203,9 @@ module _ (g : Grammar) where
 
     right_from : (bs : List (List ℕ)) → faults_in (vocabulary_of g) lines bs ≡ [] → Right (map (texts_of lines) bs)
     right_from [] is = tt
-    right_from (block ∷ []) is = absurd (let both = nil_parts (faults_of (vocabulary_of g) lines block) (BadShape (first_number block) ∷ []) (sym is) in let no = both.1 in cc)
+    right_from (block ∷ []) is = absurd (let both = nil_parts (faults_of (vocabulary_of g) lines block) (BadShape (first_number block) ∷ []) is in let no = both.1 in cc)
     right_from (block ∷ message ∷ rest) is =
-        let both = nil_parts (faults_of (vocabulary_of g) lines block) (faults_in (vocabulary_of g) lines rest) (sym is) in (block_good block both.0, right_from rest both.1)
+        let both = nil_parts (faults_of (vocabulary_of g) lines block) (faults_in (vocabulary_of g) lines rest) is in (block_good block both.0, right_from rest both.1)
 
     right_to : (bs : List (List ℕ)) → Right (map (texts_of lines) bs) → faults_in (vocabulary_of g) lines bs ≡ []
     right_to [] right = refl

@@ -89,15 +89,15 @@ place_said s e = cc
 
 silent : (g : Grammar) (s : ℕ) (look : Look) (kind : ConflictKind) → warning_line g s look kind ≡ [] → kind ≡ Solved
 silent g s look Solved e = refl
-silent g s look Unsolved e = absurd (place_said s (nil_parts (conflict_place s) (look_name g look) (sym (nil_parts (conflict_place s ++ look_name g look) _ (sym e)).0)).0)
+silent g s look Unsolved e = absurd (place_said s (nil_parts (conflict_place s) (look_name g look) (nil_parts (conflict_place s ++ look_name g look) _ e).0).0)
 silent g s look Stream e = absurd (cc)
 
 all_silent : (g : Grammar) (cs : List Conflict) → warning_lines g cs ≡ [] → (n : ℕ) (c : Conflict) → slice_get cs n ≡ Some c → c.kind ≡ Solved
 all_silent g [] e n c at = absurd (cc)
 all_silent g (x ∷ cs) e zero c at =
     let same : x ≡ c = cc in
-    subst (λ (y : Conflict). y.kind ≡ Solved) same (silent g x.state x.look x.kind (nil_parts (warning_line g x.state x.look x.kind) (warning_lines g cs) (sym e)).0)
-all_silent g (x ∷ cs) e (suc n) c at = all_silent g cs (nil_parts (warning_line g x.state x.look x.kind) (warning_lines g cs) (sym e)).1 n c at
+    subst (λ (y : Conflict). y.kind ≡ Solved) same (silent g x.state x.look x.kind (nil_parts (warning_line g x.state x.look x.kind) (warning_lines g cs) e).0)
+all_silent g (x ∷ cs) e (suc n) c at = all_silent g cs (nil_parts (warning_line g x.state x.look x.kind) (warning_lines g cs) e).1 n c at
 
 pub unwarned_clear : (g : Grammar) (a : Automaton) (cs : List Conflict) → AreConflicts g a cs → HasNoLevels g → warning_lines g cs ≡ [] → HasNoConflicts g a
 unwarned_clear g a cs are none e s lt = record { one = one; stream = λ x. not_solved (record { state = s; look = End; kind = Stream }) (λ same. cc) (lt, (refl, x)) }

@@ -99,7 +99,7 @@ module _ (v : Vocabulary) (old new : List Text) where
   block_right [] (m ∷ ms) zip is = absurd zip
   block_right (n ∷ ns) [] zip is = absurd zip
   block_right (n ∷ ns) (m ∷ ms) zip is =
-      let both = nil_parts (fault_at n (found old n)) (faults_of v old ns) (sym is) in
+      let both = nil_parts (fault_at n (found old n)) (faults_of v old ns) is in
       let here : fault_at m (found new m) ≡ [] = ap (λ (l : Text). fault_at m (sentence_in v l)) (sym zip.0) ∙ no_fault n m (found old n) both.0 in
       ap (λ (l : List FaultFound). l ++ faults_of v new ms) here ∙ block_right ns ms zip.1 both.1
 
@@ -107,10 +107,10 @@ module _ (v : Vocabulary) (old new : List Text) where
   right_alike [] [] zip is = refl
   right_alike [] (c ∷ cs) zip is = absurd zip
   right_alike (b ∷ bs) [] zip is = absurd zip
-  right_alike (b ∷ []) (c ∷ cs) zip is = absurd (let both = nil_parts (faults_of v old b) (BadShape (first_number b) ∷ []) (sym is) in let no = both.1 in cc)
+  right_alike (b ∷ []) (c ∷ cs) zip is = absurd (let both = nil_parts (faults_of v old b) (BadShape (first_number b) ∷ []) is in let no = both.1 in cc)
   right_alike (b ∷ m ∷ bs) (c ∷ []) zip is = absurd zip.1
   right_alike (b ∷ m ∷ bs) (c ∷ d ∷ cs) zip is =
-      let both = nil_parts (faults_of v old b) (faults_in v old bs) (sym is) in
+      let both = nil_parts (faults_of v old b) (faults_in v old bs) is in
       ap (λ (l : List FaultFound). l ++ faults_in v new cs) (block_right b c zip.0 both.0) ∙ right_alike bs cs zip.1.1 both.1
 
   -- ---- content

@@ -166,7 +166,7 @@ module _ (lines : List Text) where
     of_entries [] right = refl
     of_entries (block ∷ []) right = absurd (none_left (faults_of v lines block) (BadShape (first_number block)) right)
     of_entries (block ∷ message ∷ rest) right =
-        ap (λ (l : List MsgSentence). sentences_of v lines block ++ l) (of_entries rest (nil_parts (faults_of v lines block) (faults_in v lines rest) (sym right)).1) ∙ sym (flat_map-append found_at block (odd rest))
+        ap (λ (l : List MsgSentence). sentences_of v lines block ++ l) (of_entries rest (nil_parts (faults_of v lines block) (faults_in v lines rest) right).1) ∙ sym (flat_map-append found_at block (odd rest))
 
 -- all sentences of a file
 pub sentences_are : (g : Grammar) (bytes : Text) (file : MsgFile) → MsgSpells g bytes file → all_sentences file ≡ sentences (vocabulary_of g) Outside 0 file.lines

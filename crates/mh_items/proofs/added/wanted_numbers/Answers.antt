@@ -25,7 +25,6 @@ pub loop-n-preserved : goal.loop-n-preserved
 loop-n-preserved _ c =
     let g = plain_of c.args.grammar.now in
     let s = c.args.set.now in
-    let f = c.args.firsts.now in
     let i = c.loop-n.n-index in
     let same = c.as_slice-n-items.ensures.value in
     let short : i < length s.queue.items = rw same at c.loop-n-test.true in
@@ -33,7 +32,7 @@ loop-n-preserved _ c =
     let at = slice_get-get_or s.queue.items i 0 short in
     let known = queue_known g s n c.requires.table c.requires.size (omega (arith, s.looks.ok.0)) (contains_at s.queue.items i n at) in
     let row = c.index.result.now in
-    let read = slice_get_read f.productions (length f.productions) n row refl (omega (arith, c.requires.firsts.productions_len)) (rw (c.from.ensures, same) at c.index.ensures) in
+    let read = slice_get_read c.args.firsts.now.productions (length c.args.firsts.now.productions) n row refl (omega (arith, c.requires.firsts.productions_len)) (rw (c.from.ensures, same) at c.index.ensures) in
     rw (c.in_ok-extend_from_slice.ensures.items, c.as_slice.ensures) (NumbersUpto-extend g s c.loop-n.numbers.items row i n c.requires.table c.loop-n.invariant at (c.requires.firsts.productions n row read))
 
 pub returns-clause-rising : goal.returns-clause-rising

@@ -35,17 +35,16 @@ returns-in-Greater-clause-more _ c = omega arith
 pub returns-in-Equal-clause-merged : goal.returns-in-Equal-clause-merged
 returns-in-Equal-clause-merged _ c =
     let g = plain_of c.args.grammar.now in
-    let left = c.args.left.now in
-    let right = c.args.right.now in
     let x = c.index-left-i-in-Equal.result in
     let y = c.index-right-j-in-Equal.result in
-    let z = c.joined_item.result in
+    let left = c.args.left.now in
+    let right = c.args.right.now in
     let t = rw c.in-Equal.is at c.turn.ensures in
     let at : slice_get left c.args.i ≡ Some x = slice_get_read left (length left) c.args.i x refl t.0 c.index-left-i-in-Equal.is in
     let at' : slice_get right c.args.j ≡ Some y = slice_get_read right (length right) c.args.j y refl t.1 c.index-right-j-in-Equal.is in
     let place = t.2 x y at at' in
-    let valid = joined_item g x y z (recursion_at (IsKernelItem g) left c.requires.left.items c.args.i x at) (recursion_at (IsKernelItem g) right c.requires.right.items c.args.j y at') c.joined_item.ensures in
-    λ items merged. IsMerged-both g left right items c.args.i c.args.j c.requires.left c.requires.right merged x y z at at' place.0 place.1 valid c.joined_item.ensures
+    let valid = joined_item g x y c.joined_item.result (recursion_at (IsKernelItem g) left c.requires.left.items c.args.i x at) (recursion_at (IsKernelItem g) right c.requires.right.items c.args.j y at') c.joined_item.ensures in
+    λ items merged. IsMerged-both g left right items c.args.i c.args.j c.requires.left c.requires.right merged x y c.joined_item.result at at' place.0 place.1 valid c.joined_item.ensures
 
 pub returns-in-Equal-clause-more : goal.returns-in-Equal-clause-more
 returns-in-Equal-clause-more _ c = omega arith

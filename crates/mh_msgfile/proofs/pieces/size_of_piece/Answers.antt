@@ -1,13 +1,10 @@
 use Rattle.std.proofs.Common.{arith, refl, sym, ◌∙◌}
-use Rattle.std.proofs.lemmas.List.{drop_more}
 use Rattle.mh_msgfile.specs.Sentences.{piece_size, is_blank}
 use Rattle.mh_msgfile.proofs.Writing.{counted_next, counted_to}
 use Rattle.mh_msgfile.proofs.pieces.size_of_piece.Goals as goal
 
 pub loop-byte-preserved : goal.loop-byte-preserved
-loop-byte-preserved c =
-    (omega (arith, c.loop-byte.invariant.0), counted_next (piece_size is_blank) c.args.bytes.now c.loop-byte.byte-index c.loop-byte.invariant.1 _ (drop_more _ _ 0 c.loop-byte-test.true) (rw (sym c.is_blank.ensures ∙ c.if-is_blank.false) refl))
+loop-byte-preserved c = (omega (arith, c.loop-byte.invariant.0), counted_next (piece_size is_blank) c.args.bytes.now c.loop-byte.byte-index 0 c.loop-byte.invariant.1 c.loop-byte-test.true (rw (sym c.is_blank.ensures ∙ c.if-is_blank.false) refl))
 
 pub returns-then-is_blank-clause-value : goal.returns-then-is_blank-clause-value
-returns-then-is_blank-clause-value c =
-    counted_to (piece_size is_blank) c.args.bytes.now c.loop-byte.byte-index c.loop-byte.invariant.1 c.loop-byte.count _ c.loop-byte.invariant.0 (drop_more _ _ 0 c.loop-byte-test.true) (rw (sym c.is_blank.ensures ∙ c.if-is_blank.true) refl)
+returns-then-is_blank-clause-value c = counted_to (piece_size is_blank) c.args.bytes.now c.loop-byte.byte-index 0 c.loop-byte.invariant.1 c.loop-byte-test.true c.loop-byte.count c.loop-byte.invariant.0 (rw (sym c.is_blank.ensures ∙ c.if-is_blank.true) refl)

@@ -12,11 +12,11 @@ returns-in_ok-numbered-in-Ok-clause-ok g c = c.in_ok-numbered-in-Ok.ensures.ok
 pub returns-in_ok-numbered-in-Ok-clause-few : goal.returns-in_ok-numbered-in-Ok-clause-few
 returns-in_ok-numbered-in-Ok-clause-few g c = c.in_ok-numbered-in-Ok.ensures.few
 
-pub returns-in_ok-numbered-in-Ok-clause-over : goal.returns-in_ok-numbered-in-Ok-clause-over
-returns-in_ok-numbered-in-Ok-clause-over g c same = cc
-
 pub returns-in_ok-numbered-in-Ok-clause-exact : goal.returns-in_ok-numbered-in-Ok-clause-exact
 returns-in_ok-numbered-in-Ok-clause-exact g c = not_over (plain_of c.args.grammar.now) (work_of c.list_all.new.worklist) c.in-Ok.ensures.ok c.in-Ok.ensures.done MAX_STATES c.in-Ok.ensures.few
+
+pub returns-in_ok-numbered-in-Ok-clause-over : goal.returns-in_ok-numbered-in-Ok-clause-over
+returns-in_ok-numbered-in-Ok-clause-over g c same = cc
 
 pub returns-in-Err-clause-over : goal.returns-in-Err-clause-over
 returns-in-Err-clause-over g c same = let fault : c.in-Err.fault ≡ TooManyStates = cc in c.in-Err.ensures.over (ap Err fault)

@@ -13,7 +13,6 @@ unfold_alternatives-requires c = rw (c.deref.ensures.value, c.rest_from-rest.ens
 
 pub returns-clause-unfolds : goal.returns-clause-unfolds
 returns-clause-unfolds c =
-    let is = c.args.expanded.now.instances in
-    let ps = c.args.productions.now in
     let last = c.requires.last in
-    subst (UnfoldsEach is ps) (sym c.in_ok-add_own.ensures) (each_done is ps c.args.last_use.alternative last.production c.in_ok-all.all.items c.in_ok-behind.behind.items last.alternative c.in_ok-all.ensures.unfolds (rw c.rest_from-rest.ensures at c.in_ok-behind.ensures))
+    let ps = c.args.productions.now in
+    subst (UnfoldsEach c.args.expanded.now.instances ps) (sym c.in_ok-add_own.ensures) (each_done c.args.expanded.now.instances ps c.args.last_use.alternative last.production c.in_ok-all.all.items c.in_ok-behind.behind.items last.alternative c.in_ok-all.ensures.unfolds (rw c.rest_from-rest.ensures at c.in_ok-behind.ensures))

@@ -7,10 +7,10 @@ use Rattle.mh_update.proofs.comments.all_comments.Goals as goal
 
 pub returns-in-Err : goal.returns-in-Err
 returns-in-Err g c =
-    let t = c.args.table.now in
-    let es = c.args.entries.now in
     let i = c.loop-entry.entry-index in
     let e = c.entry-item.result in
+    let t = c.args.table.now in
+    let es = c.args.entries.now in
     let done = of_entries (take i es) in
     let given = c.in-Err.ensures done c.loop-entry.invariant in
     let told = subst (λ (xs : List MsgSentence). Tells c.in-Err.fault (FirstUnfit t (done ++ xs))) c.as_slice-sentences.ensures given in
