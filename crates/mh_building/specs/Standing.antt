@@ -11,7 +11,7 @@ use Rattle.mh_rules.specs.declared.joined.JoinedRule.{JoinedRule}
 use Rattle.mh_rules.specs.Depth.{AreProducersShallow}
 use Rattle.mh_rules.specs.Ready.{AreModulesReady}
 use Rattle.mh_meanings.specs.declared.fault.JoinFault.{JoinFault}
-use Rattle.mh_meanings.specs.Names.{Definition, files, formal_number, definitions_in, library_definitions}
+use Rattle.mh_meanings.specs.Names.{Definition, files, formal_number, definitions_in, prelude_definitions}
 use Rattle.mh_meanings.specs.Faults.{Meanings, meant_by, undefined_in_actual, undefined_in_on_error, undefined_start}
 use Rattle.mh_meanings.specs.declared.names.Names.{Names}
 use Rattle.mh_meanings.specs.Maps.{meanings_in}
@@ -38,15 +38,15 @@ abbrev pub unresolved_on_error : Meanings → ℕ × Module → List JoinFault
 unresolved_on_error w f = flat_map (undefined_in_on_error (meant_by w f.0 (formal_number []))) f.1.on_error
 
 -- nothing is in the way of joining these files, and nothing in them or the prelude is too deep
-pub record CanJoin (n : Names) (ms : List Module) (library : List Rule) : Type 0 where
+pub record CanJoin (n : Names) (ms : List Module) (from_prelude : List Rule) : Type 0 where
   pub few : length n.tokens.keys ≤ MAX_TOKENS
   pub starts : flat_map (undefined_start (meanings_in n)) (meanings_in n).starts ≡ []
   pub on_error : flat_map (unresolved_on_error (meanings_in n)) (files ms) ≡ []
   pub rules : flat_map (unresolved_in_file (meanings_in n)) (files ms) ≡ []
-  pub prelude : unresolved_in_rules (meanings_in n) 0 library ≡ []
+  pub prelude : unresolved_in_rules (meanings_in n) 0 from_prelude ≡ []
   pub files_ready : AreModulesReady ms
-  pub prelude_shallow : All AreProducersShallow library
+  pub prelude_shallow : All AreProducersShallow from_prelude
 
 -- the definitions in these files and this prelude
 abbrev pub definitions_by : Names → List Module → List Rule → List Definition
-definitions_by n ms library = flat_map (definitions_in n.starts.keys) (files ms) ++ library_definitions library
+definitions_by n ms from_prelude = flat_map (definitions_in n.starts.keys) (files ms) ++ prelude_definitions from_prelude

@@ -390,7 +390,7 @@ fn add_prelude(
     requires few { length names.now.tokens.keys ≤ MAX_TOKENS }
     requires stand { unresolved_in_rules (meanings_in names.now) 0 rules.now ≡ [] }
     ensures { OnOk result
-        (Adds (meanings_in names.now) (names_spec.library_definitions rules.now) joined.old joined.new) }
+        (Adds (meanings_in names.now) (names_spec.prelude_definitions rules.now) joined.old joined.new) }
 {
     let mut place = 0u64;
     for rule in rules {
@@ -458,18 +458,18 @@ fn add_all(
     alloc: Global,
     names: &Names,
     modules: &[Module],
-    library: &[Rule],
+    from_prelude: &[Rule],
     joined: &mut [JoinedRule],
 ) -> Result<(), Memory>
     requires few { length names.now.tokens.keys ≤ MAX_TOKENS }
     requires stand { flat_map (unresolved_in_file (meanings_in names.now)) (files modules.now) ≡ [] }
-    requires library_stands { unresolved_in_rules (meanings_in names.now) 0 library.now ≡ [] }
+    requires prelude_stands { unresolved_in_rules (meanings_in names.now) 0 from_prelude.now ≡ [] }
     ensures { OnOk result
-        (Adds (meanings_in names.now) (definitions_by names.now modules.now library.now) joined.old
+        (Adds (meanings_in names.now) (definitions_by names.now modules.now from_prelude.now) joined.old
         joined.new) }
 {
     add_files(alloc, names, modules, joined)?;
-    add_prelude(alloc, names, library, joined)?;
+    add_prelude(alloc, names, from_prelude, joined)?;
     Ok(())
 }
 
@@ -478,17 +478,17 @@ pub(crate) fn joined_rules(
     alloc: Global,
     names: &Names,
     modules: &[Module],
-    library: &[Rule],
+    from_prelude: &[Rule],
 ) -> Result<Sequence<JoinedRule>, Memory>
     requires few { length names.now.tokens.keys ≤ MAX_TOKENS }
     requires stand { flat_map (unresolved_in_file (meanings_in names.now)) (files modules.now) ≡ [] }
-    requires library_stands { unresolved_in_rules (meanings_in names.now) 0 library.now ≡ [] }
+    requires prelude_stands { unresolved_in_rules (meanings_in names.now) 0 from_prelude.now ≡ [] }
     ensures { IfOk result
         (AreRules (meanings_in names.now) (elsewhere_in names.now) names.now.numbering.rules.items
-        (definitions_by names.now modules.now library.now)) }
+        (definitions_by names.now modules.now from_prelude.now)) }
 {
     let mut rules = rules_without(alloc, names)?;
-    match add_all(alloc, names, modules, library, rules.as_mut_slice()) {
+    match add_all(alloc, names, modules, from_prelude, rules.as_mut_slice()) {
         Ok(()) => Ok(Sequence::from_vec(rules)),
         Err(_) => Err(lost(rules)),
     }

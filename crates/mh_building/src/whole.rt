@@ -47,14 +47,14 @@ pub fn joined(
     alloc: Global,
     names: &Names,
     modules: &[Module],
-    library: &[Rule],
+    from_prelude: &[Rule],
 ) -> Result<Joined, Memory>
-    requires { CanJoin names.now modules.now library.now }
+    requires { CanJoin names.now modules.now from_prelude.now }
     ensures { IfOk result
         (IsJoinedBy (meanings_in names.now) (elsewhere_in names.now) names.now.numbering.rules.items
-        (definitions_by names.now modules.now library.now) modules.now) }
+        (definitions_by names.now modules.now from_prelude.now) modules.now) }
 {
-    let rules = joined_rules(alloc, names, modules, library)?;
+    let rules = joined_rules(alloc, names, modules, from_prelude)?;
     let mut joined = Joined {
         tokens: Sequence::new(alloc),
         starts: Sequence::new(alloc),

@@ -16,7 +16,7 @@ use Rattle.mh_msgfile.specs.declared.messages.MsgSentence.{MsgSentence}
 use Rattle.mh_msgfile.specs.declared.messages.Entry.{Entry}
 use Rattle.mh_msgfile.specs.declared.messages.MsgFile.{MsgFile}
 use Rattle.mh_msgfile.specs.Messages.{IsOf, AreOf}
-use Rattle.mh_check.specs.declared.places.Place.{Place}
+use Rattle.mh_check.specs.declared.places.SentencePlace.{SentencePlace}
 use Rattle.mh_check.specs.Checks.{FailsIn, FaultFound, NotRefusedAt, RefusedEarlyAt, SharedBy, Accepts, Overshoots, Breaks, NotRefused, RefusedEarly, FirstFault, sentences_of}
 use Rattle.mh_check.specs.Compiling.{Item, item, items_of, items_from, sentences_in, place_of, message_of_place, Placed, IsCompiled}
 use Rattle.mh_tables.proofs.Refusing.{state_refused}
@@ -29,7 +29,7 @@ module _ (t : TableData) (h : HaltingFacts t) where
 
   -- the places of some items, or the first fault among their sentences
   abbrev Settled : List Item → Type 0
-  Settled all = ((places : List (Option Place)) × (length places ≡ length t.states) × Placed t all places) ⊎ ((f : FaultFound) × FirstFault t (sentences_in all) f)
+  Settled all = ((places : List (Option SentencePlace)) × (length places ≡ length t.states) × Placed t all places) ⊎ ((f : FaultFound) × FirstFault t (sentences_in all) f)
 
   one_first : (done : List Item) (x : Item) (rest : List Item) → (done ++ x ∷ []) ++ rest ≡ done ++ x ∷ rest
   one_first done x rest = append_assoc done (x ∷ []) rest
@@ -44,8 +44,8 @@ module _ (t : TableData) (h : HaltingFacts t) where
       )
 
   -- one item more, where the others settle behind it
-  module _ (done : List Item) (x : Item) (rest : List Item) (places : List (Option Place)) (fits : Fits x) (size : length places ≡ length t.states) (placed : Placed t done places) (on : (new : List (Option Place)) → length new ≡ length t.states → Placed t (done ++ x ∷ []) new → Settled ((done ++ x ∷ []) ++ rest)) where
-    at_place : (s : ℕ) (o : Option (Option Place)) → FailsIn t x.sentence s → s < length places → slice_get places s ≡ o → Settled (done ++ x ∷ rest)
+  module _ (done : List Item) (x : Item) (rest : List Item) (places : List (Option SentencePlace)) (fits : Fits x) (size : length places ≡ length t.states) (placed : Placed t done places) (on : (new : List (Option SentencePlace)) → length new ≡ length t.states → Placed t (done ++ x ∷ []) new → Settled ((done ++ x ∷ []) ++ rest)) where
+    at_place : (s : ℕ) (o : Option (Option SentencePlace)) → FailsIn t x.sentence s → s < length places → slice_get places s ≡ o → Settled (done ++ x ∷ rest)
     at_place s None fails within is = let there = slice_get-get_or places s None within in absurd (cc)
     at_place s (Some None) fails within is =
         subst Settled (one_first done x rest)
@@ -73,7 +73,7 @@ module _ (t : TableData) (h : HaltingFacts t) where
     by_verdict (Overshot state) verdict = fault_all done x rest (NotRefusedAt x.sentence.line (Overshot state)) (breaks t done x places (NotRefusedAt x.sentence.line (Overshot state)) placed (NotRefused (Overshot state) (Overshoots state) verdict))
     by_verdict (Rejected at s) verdict = refused at s verdict
 
-  settle : (rest done : List Item) (places : List (Option Place)) → AllByRecursion Fits rest → length places ≡ length t.states → Placed t done places → Settled (done ++ rest)
+  settle : (rest done : List Item) (places : List (Option SentencePlace)) → AllByRecursion Fits rest → length places ≡ length t.states → Placed t done places → Settled (done ++ rest)
   settle [] done places fits size placed = inl (places, size, subst (λ (l : List Item). Placed t l places) (sym (append-nil done)) placed)
   settle (x ∷ rest) done places fits size placed =
       let has = has_verdict t h x.sentence.start x.sentence.tokens fits.0.start (recursion_from_All (λ z. z < t.grammar.tokens) x.sentence.tokens fits.0.known) in
@@ -89,8 +89,8 @@ module _ (t : TableData) (h : HaltingFacts t) where
 
   pub compiled_or_fault : (file : MsgFile) → AreOf (length t.grammar.starts) t.grammar.tokens file → ((compiled : List (Option (List ℕ))) × IsCompiled t file compiled) ⊎ ((f : FaultFound) × FirstFault t (sentences_of file) f)
   compiled_or_fault file of =
-      let none : List (Option Place) = replicate (length t.states) None in
-      by (settle (items_from 0 file.entries) [] none (fits_from 0 file.entries of) (length-replicate {A = Option Place} (length t.states) None) (placed_replicate t (length t.states) none refl))
+      let none : List (Option SentencePlace) = replicate (length t.states) None in
+      by (settle (items_from 0 file.entries) [] none (fits_from 0 file.entries of) (length-replicate {A = Option SentencePlace} (length t.states) None) (placed_replicate t (length t.states) none refl))
     where
       by : Settled (items_from 0 file.entries) → ((compiled : List (Option (List ℕ))) × IsCompiled t file compiled) ⊎ ((f : FaultFound) × FirstFault t (sentences_of file) f)
       by (inl (places, size, placed)) = inl (_, is_compiled t file places (map (λ (e : Entry). e.message) file.entries) refl placed size)

@@ -12,7 +12,7 @@ use Rattle.mh_tables.specs.Table.{TableData}
 use Rattle.mh_msgfile.specs.declared.messages.MsgSentence.{MsgSentence}
 use Rattle.mh_msgfile.specs.declared.messages.Entry.{Entry}
 use Rattle.mh_msgfile.specs.declared.messages.MsgFile.{MsgFile}
-use Rattle.mh_check.specs.declared.places.Place.{Place}
+use Rattle.mh_check.specs.declared.places.SentencePlace.{SentencePlace}
 use Rattle.mh_check.specs.Checks.{Sound, IsMessage, sentences_of}
 use Rattle.mh_check.specs.Compiling.{Item, item, items_of, items_from, sentences_in, place_of, Placed, message_of_place, message_at, itself, itself_place, place_in, IsCompiled}
 
@@ -60,14 +60,14 @@ sentence_split done entry xs i x lt is =
 
 -- the places of the first sentences of an entry: of none, of one more, of all
 module _ (t : TableData) (done : List Item) (entry : ℕ) (xs : List MsgSentence) where
-  pub none_placed : (places : List (Option Place)) → Placed t done places → Placed t (done ++ items_of entry (take 0 xs)) places
+  pub none_placed : (places : List (Option SentencePlace)) → Placed t done places → Placed t (done ++ items_of entry (take 0 xs)) places
   none_placed places h = subst (λ (l : List Item). Placed t l places) (sym (append-nil done)) h
 
-  pub one_placed : (i : ℕ) (x : MsgSentence) (places : List (Option Place)) → i < length xs → x ≡ get_or xs i x → Placed t ((done ++ items_of entry (take i xs)) ++ item entry x ∷ []) places → Placed t (done ++ items_of entry (take (i + 1) xs)) places
+  pub one_placed : (i : ℕ) (x : MsgSentence) (places : List (Option SentencePlace)) → i < length xs → x ≡ get_or xs i x → Placed t ((done ++ items_of entry (take i xs)) ++ item entry x ∷ []) places → Placed t (done ++ items_of entry (take (i + 1) xs)) places
   one_placed i x places lt is h =
       subst (λ (l : List Item). Placed t l places) (append_assoc done (items_of entry (take i xs)) (item entry x ∷ []) ∙ ap (λ (l : List Item). done ++ l) (sym (items_push entry xs i x lt is))) h
 
-  pub all_placed : (i : ℕ) (places : List (Option Place)) → length xs ≤ i → Placed t (done ++ items_of entry (take i xs)) places → Placed t (done ++ items_of entry xs) places
+  pub all_placed : (i : ℕ) (places : List (Option SentencePlace)) → length xs ≤ i → Placed t (done ++ items_of entry (take i xs)) places → Placed t (done ++ items_of entry xs) places
   all_placed i places past h = subst (λ (l : List MsgSentence). Placed t (done ++ items_of entry l) places) (take_all i xs past) h
 
 -- the entries up to one, and those behind it
@@ -140,7 +140,7 @@ item_in k (f ∷ es) (suc i) e x at c =
 
 -- ---- what was compiled
 
-module _ (t : TableData) (file : MsgFile) (places : List (Option Place)) (messages : List (List ℕ)) where
+module _ (t : TableData) (file : MsgFile) (places : List (Option SentencePlace)) (messages : List (List ℕ)) where
   abbrev compiled : List (Option (List ℕ))
   compiled = map (message_of_place messages) places
 
@@ -151,11 +151,11 @@ module _ (t : TableData) (file : MsgFile) (places : List (Option Place)) (messag
     message_is : (i : ℕ) (e : Entry) → slice_get file.entries i ≡ Some e → slice_get messages i ≡ Some e.message
     message_is i e at = rw are (slice_get-map (λ (f : Entry). f.message) file.entries i ∙ (rw at refl))
 
-    from_place : (s : ℕ) (message : List ℕ) (p : Place) → slice_get places s ≡ Some (Some p) → slice_get messages p.entry ≡ Some message → IsMessage t file s message
+    from_place : (s : ℕ) (message : List ℕ) (p : SentencePlace) → slice_get places s ≡ Some (Some p) → slice_get messages p.entry ≡ Some message → IsMessage t file s message
     from_place s message p at is =
         let found = placed.found s p at in
         let of_entry = entry_of 0 file.entries found.0 found.1 in
-        let number : p.entry ≡ of_entry.place = ap (λ (q : Place). q.entry) found.3 ∙ of_entry.number ∙ omega arith in
+        let number : p.entry ≡ of_entry.place = ap (λ (q : SentencePlace). q.entry) found.3 ∙ of_entry.number ∙ omega arith in
         let here : slice_get messages p.entry ≡ Some of_entry.entry.message = ap (slice_get messages) number ∙ message_is of_entry.place of_entry.entry of_entry.at in
         record {
           entry = of_entry.entry;
@@ -166,7 +166,7 @@ module _ (t : TableData) (file : MsgFile) (places : List (Option Place)) (messag
           is = (let both : Some message ≡ Some of_entry.entry.message = sym is ∙ here in cc);
         }
 
-    to : (s : ℕ) (message : List ℕ) (o : Option (Option Place)) → slice_get places s ≡ o → option_and_then itself (option_map (message_of_place messages) o) ≡ Some message → IsMessage t file s message
+    to : (s : ℕ) (message : List ℕ) (o : Option (Option SentencePlace)) → slice_get places s ≡ o → option_and_then itself (option_map (message_of_place messages) o) ≡ Some message → IsMessage t file s message
     to s message None at is = cc
     to s message (Some None) at is = cc
     to s message (Some (Some p)) at is = from_place s message p at is
@@ -187,24 +187,24 @@ module _ (t : TableData) (file : MsgFile) (places : List (Option Place)) (messag
     }
 
 -- the message of a state, by its place
-placed_at : (places : List (Option Place)) (s : ℕ) (p : Place) (o : Option (Option Place)) → slice_get places s ≡ o → option_and_then itself_place o ≡ Some p → slice_get places s ≡ Some (Some p)
+placed_at : (places : List (Option SentencePlace)) (s : ℕ) (p : SentencePlace) (o : Option (Option SentencePlace)) → slice_get places s ≡ o → option_and_then itself_place o ≡ Some p → slice_get places s ≡ Some (Some p)
 placed_at places s p None at is = cc
 placed_at places s p (Some None) at is = cc
-placed_at places s p (Some (Some q)) at is = let same : q ≡ p = cc in at ∙ ap (λ (r : Place). Some (Some r)) same
+placed_at places s p (Some (Some q)) at is = let same : q ≡ p = cc in at ∙ ap (λ (r : SentencePlace). Some (Some r)) same
 
-module _ (places : List (Option Place)) (messages : List (List ℕ)) (seen : List (Option (List ℕ))) (view : map (message_of_place messages) places ≡ seen) where
+module _ (places : List (Option SentencePlace)) (messages : List (List ℕ)) (seen : List (Option (List ℕ))) (view : map (message_of_place messages) places ≡ seen) where
   seen_at : (s : ℕ) → message_at seen s ≡ option_and_then itself (option_map (message_of_place messages) (slice_get places s))
   seen_at s = ap (λ (l : List (Option (List ℕ))). message_at l s) (sym view) ∙ ap (λ (o : Option (Option (List ℕ))). option_and_then itself o) (slice_get-map (message_of_place messages) places s)
 
-  by_place : (s : ℕ) (p : Place) → place_in places s ≡ Some p → message_at seen s ≡ slice_get messages p.entry
+  by_place : (s : ℕ) (p : SentencePlace) → place_in places s ≡ Some p → message_at seen s ≡ slice_get messages p.entry
   by_place s p is = seen_at s ∙ (rw (placed_at places s p (slice_get places s) refl is) refl)
 
-  pub message_some : (s : ℕ) (p : Place) (r : Option (Bor (List ℕ))) → place_in places s ≡ Some p → MatchOption r (slice_get messages p.entry ≡ None) (λ m. slice_get messages p.entry ≡ Some m.now)
+  pub message_some : (s : ℕ) (p : SentencePlace) (r : Option (Bor (List ℕ))) → place_in places s ≡ Some p → MatchOption r (slice_get messages p.entry ≡ None) (λ m. slice_get messages p.entry ≡ Some m.now)
       → MatchOption r (message_at seen s ≡ None) (λ m. message_at seen s ≡ Some m.now)
   message_some s p None is found = by_place s p is ∙ found
   message_some s p (Some m) is found = by_place s p is ∙ found
 
-  none_by : (o : Option (Option Place)) → option_and_then itself_place o ≡ None → option_and_then itself (option_map (message_of_place messages) o) ≡ None
+  none_by : (o : Option (Option SentencePlace)) → option_and_then itself_place o ≡ None → option_and_then itself (option_map (message_of_place messages) o) ≡ None
   none_by None is = refl
   none_by (Some None) is = refl
   none_by (Some (Some p)) is = absurd (cc)

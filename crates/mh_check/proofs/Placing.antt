@@ -11,7 +11,7 @@ use Rattle.mh_tables.specs.Table.{TableData}
 use Rattle.mh_tables.specs.Run.{VerdictOf, Rejected}
 use Rattle.mh_msgfile.specs.declared.messages.MsgSentence.{MsgSentence}
 use Rattle.mh_bystate.specs.Places.{PutsOnce}
-use Rattle.mh_check.specs.declared.places.Place.{Place}
+use Rattle.mh_check.specs.declared.places.SentencePlace.{SentencePlace}
 use Rattle.mh_check.specs.declared.compiling.CheckFault.{CheckFault}
 use Rattle.mh_check.specs.declared.compiling.CheckFault.TheVariants as faults
 use Rattle.mh_tables.specs.Facts.{Facts}
@@ -91,28 +91,28 @@ module _ (t : TableData) where
 
   -- ---- and has its place
 
-  pub placed_none : (places : List (Option Place)) → ((k : ℕ) (d : Option Place) → k < length places → get_or places k d ≡ None) → Placed t [] places
+  pub placed_none : (places : List (Option SentencePlace)) → ((k : ℕ) (d : Option SentencePlace) → k < length places → get_or places k d ≡ None) → Placed t [] places
   placed_none places none = record {
     sound = sound_none;
     found = λ s p at. absurd (never s p at);
     kept = λ x s c. absurd (contains_none x c);
   }
     where
-      never : (s : ℕ) (p : Place) → slice_get places s ≡ Some (Some p) → ⊥
+      never : (s : ℕ) (p : SentencePlace) → slice_get places s ≡ Some (Some p) → ⊥
       never s p at = let is : get_or places s None ≡ Some p = get_or_from_slice_get places s (Some p) None at in let empty : get_or places s None ≡ None = none s None (slice_get_within places s (Some p) at) in cc
 
-  module _ (done : List Item) (x : Item) (s : ℕ) (places : List (Option Place)) (placed : Placed t done places) (fails : FailsIn t x.sentence s) (within : s < length places) where
+  module _ (done : List Item) (x : Item) (s : ℕ) (places : List (Option SentencePlace)) (placed : Placed t done places) (fails : FailsIn t x.sentence s) (within : s < length places) where
     here : slice_get (set places s (Some (place_of x))) s ≡ Some (Some (place_of x))
     here =
         let long : s < length (set places s (Some (place_of x))) = omega (arith, length-set places s (Some (place_of x))) in
         slice_get-get_or (set places s (Some (place_of x))) s None long ∙ ap Some (get_or-set_same places s (Some (place_of x)) None within)
 
-    there : (r : ℕ) (o : Option Place) → r ≢ s → slice_get (set places s (Some (place_of x))) r ≡ Some o → slice_get places r ≡ Some o
+    there : (r : ℕ) (o : Option SentencePlace) → r ≢ s → slice_get (set places s (Some (place_of x))) r ≡ Some o → slice_get places r ≡ Some o
     there r o other is =
         let long : r < length places = omega (arith, slice_get_within (set places s (Some (place_of x))) r o is, length-set places s (Some (place_of x))) in
         slice_get-get_or places r o long ∙ ap Some (sym (get_or-set_other places s r (Some (place_of x)) o other) ∙ get_or_from_slice_get (set places s (Some (place_of x))) r o o is)
 
-    there_too : (r : ℕ) (o : Option Place) → r ≢ s → slice_get places r ≡ Some o → slice_get (set places s (Some (place_of x))) r ≡ Some o
+    there_too : (r : ℕ) (o : Option SentencePlace) → r ≢ s → slice_get places r ≡ Some o → slice_get (set places s (Some (place_of x))) r ≡ Some o
     there_too r o other is =
         let long : r < length (set places s (Some (place_of x))) = omega (arith, slice_get_within places r o is, length-set places s (Some (place_of x))) in
         slice_get-get_or (set places s (Some (place_of x))) r o long ∙ ap Some (get_or-set_other places s r (Some (place_of x)) o other ∙ get_or_from_slice_get places r o o is)
@@ -123,7 +123,7 @@ module _ (t : TableData) where
         let kept = placed.kept at.of_item s at.among (subst (λ (u : MsgSentence). FailsIn t u s) (sym at.is) in_y) in
         not_both (slice_get places s) (place_of at.of_item) empty kept
       where
-        not_both : (o : Option (Option Place)) (p : Place) → o ≡ Some None → o ≡ Some (Some p) → ⊥
+        not_both : (o : Option (Option SentencePlace)) (p : SentencePlace) → o ≡ Some None → o ≡ Some (Some p) → ⊥
         not_both o p a b = cc
 
     pub placed_more : slice_get places s ≡ Some None → Placed t (done ++ x ∷ []) (set places s (Some (place_of x)))
@@ -146,10 +146,10 @@ module _ (t : TableData) where
     }
 
     -- another sentence is there
-    pub shares : (p : Place) → slice_get places s ≡ Some (Some p) → FirstFault t (sentences_in (done ++ x ∷ [])) (SharedBy p.line x.sentence.line s)
+    pub shares : (p : SentencePlace) → slice_get places s ≡ Some (Some p) → FirstFault t (sentences_in (done ++ x ∷ [])) (SharedBy p.line x.sentence.line s)
     shares p at =
         let old = placed.found s p at in
-        let line : old.0.sentence.line ≡ p.line = sym (ap (λ (q : Place). q.line) old.3) in
+        let line : old.0.sentence.line ≡ p.line = sym (ap (λ (q : SentencePlace). q.line) old.3) in
         subst (λ (k : ℕ). FirstFault t (sentences_in (done ++ x ∷ [])) (SharedBy k x.sentence.line s)) line (record {
           before = sentences_in done;
           sentence = x.sentence;
@@ -159,12 +159,12 @@ module _ (t : TableData) where
           breaks = Shared old.0.sentence s (contains_sentence done old.0 old.1) old.2 fails;
         })
 
-  pub placed_replicate : (n : ℕ) (places : List (Option Place)) → places ≡ replicate n None → Placed t [] places
+  pub placed_replicate : (n : ℕ) (places : List (Option SentencePlace)) → places ≡ replicate n None → Placed t [] places
   placed_replicate n places is =
-      subst (Placed t []) (sym is) (placed_none (replicate n None) (λ k d lt. get_or-replicate n k None d (omega (arith, lt, length-replicate {A = Option Place} n None))))
+      subst (Placed t []) (sym is) (placed_none (replicate n None) (λ k d lt. get_or-replicate n k None d (omega (arith, lt, length-replicate {A = Option SentencePlace} n None))))
 
   -- a sentence that does not fail
-  pub breaks : (done : List Item) (x : Item) (places : List (Option Place)) (f : FaultFound) → Placed t done places → Breaks t (sentences_in done) x.sentence f → FirstFault t (sentences_in (done ++ x ∷ [])) f
+  pub breaks : (done : List Item) (x : Item) (places : List (Option SentencePlace)) (f : FaultFound) → Placed t done places → Breaks t (sentences_in done) x.sentence f → FirstFault t (sentences_in (done ++ x ∷ [])) f
   breaks done x places f placed is = record { before = sentences_in done; sentence = x.sentence; later = []; order = sentences_push done x; sound = placed.sound; breaks = is }
 
   -- ---- more sentences behind
@@ -216,10 +216,10 @@ module _ (t : TableData) (x : MsgSentence) (ts : List ℕ) (same : ts ≡ x.toke
 
 -- what stands at a place
 -- what was put in, or was there
-pub was_free : (old new : List (Option Place)) (s : ℕ) (p : Place) (o : Option Place) → PutsOnce old s p new o → o ≡ None → (slice_get old s ≡ Some None) × (new ≡ set old s (Some p))
+pub was_free : (old new : List (Option SentencePlace)) (s : ℕ) (p : SentencePlace) (o : Option SentencePlace) → PutsOnce old s p new o → o ≡ None → (slice_get old s ≡ Some None) × (new ≡ set old s (Some p))
 was_free old new s p None puts is = puts
 was_free old new s p (Some earlier) puts is = cc
 
-pub was_taken : (old new : List (Option Place)) (s : ℕ) (p earlier : Place) (o : Option Place) → PutsOnce old s p new o → o ≡ Some earlier → slice_get old s ≡ Some (Some earlier)
+pub was_taken : (old new : List (Option SentencePlace)) (s : ℕ) (p earlier : SentencePlace) (o : Option SentencePlace) → PutsOnce old s p new o → o ≡ Some earlier → slice_get old s ≡ Some (Some earlier)
 was_taken old new s p earlier None puts is = cc
 was_taken old new s p earlier (Some found) puts is = puts.0 ∙ ap Some is

@@ -8,7 +8,7 @@ use Rattle.mh_msgfile.specs.declared.messages.Entry.{Entry}
 use Rattle.mh_msgfile.specs.declared.messages.MsgFile.{MsgFile}
 use Rattle.mh_run.specs.Verdicts.{ending_for}
 use Rattle.mh_bystate.specs.Places.{kept_at}
-use Rattle.mh_check.specs.declared.places.Place.{Place}
+use Rattle.mh_check.specs.declared.places.SentencePlace.{SentencePlace}
 use Rattle.mh_check.specs.declared.compiling.CheckFault.{CheckFault}
 use Rattle.mh_check.specs.declared.compiling.CheckFault.TheVariants as faults
 use Rattle.mh_check.specs.Checks.{FailsIn, Sound, FaultFound, NotRefusedAt, RefusedEarlyAt, SharedBy, FirstFault, IsMessage, sentences_of}
@@ -34,13 +34,13 @@ items_from entry (e ∷ es) = items_of entry e.sentences ++ items_from (entry + 
 abbrev pub sentences_in : List Item → List MsgSentence
 sentences_in xs = map (λ x. x.sentence) xs
 
-abbrev pub place_of : Item → Place
+abbrev pub place_of : Item → SentencePlace
 place_of x = record { line = x.sentence.line; entry = x.entry }
 
 -- the places of some sound sentences, by the states that they fail in
-pub record Placed (t : TableData) (done : List Item) (places : List (Option Place)) : Type 0 where
+pub record Placed (t : TableData) (done : List Item) (places : List (Option SentencePlace)) : Type 0 where
   pub sound : Sound t (sentences_in done)
-  pub found : (s : ℕ) (p : Place) → slice_get places s ≡ Some (Some p) → (x : Item) × Contains done x × FailsIn t x.sentence s × (p ≡ place_of x)
+  pub found : (s : ℕ) (p : SentencePlace) → slice_get places s ≡ Some (Some p) → (x : Item) × Contains done x × FailsIn t x.sentence s × (p ≡ place_of x)
   pub kept : (x : Item) (s : ℕ) → Contains done x → FailsIn t x.sentence s → slice_get places s ≡ Some (Some (place_of x))
 
 -- the fault that a call tells
@@ -51,31 +51,31 @@ Tells (faults.SharedState first second state) Is = Is (SharedBy first second sta
 Tells faults.Memory Is = ⊤
 
 -- what a call answers that looks at some sentences more
-abbrev pub PlacesMore : TableData → List Item → List Item → List (Option Place) → {T : Type 0} → Result T CheckFault → Type 0
+abbrev pub PlacesMore : TableData → List Item → List Item → List (Option SentencePlace) → {T : Type 0} → Result T CheckFault → Type 0
 PlacesMore t done more new (Ok _) = Placed t (done ++ more) new
 PlacesMore t done more new (Err fault) = Tells fault (FirstFault t (sentences_in (done ++ more)))
 
 -- the places of a file's sentences, or its first fault
-abbrev pub PlacesAll : TableData → List Entry → Result (List (Option Place)) CheckFault → Type 0
+abbrev pub PlacesAll : TableData → List Entry → Result (List (Option SentencePlace)) CheckFault → Type 0
 PlacesAll t es (Ok places) = (length places ≡ length t.states) × Placed t (items_from 0 es) places
 PlacesAll t es (Err fault) = Tells fault (FirstFault t (sentences_in (items_from 0 es)))
 
 -- the items of a vector
-abbrev pub listed : Result (Vec (Option Place) Global) CheckFault → Result (List (Option Place)) CheckFault
+abbrev pub listed : Result (Vec (Option SentencePlace) Global) CheckFault → Result (List (Option SentencePlace)) CheckFault
 listed (Ok places) = Ok places.items
 listed (Err fault) = Err fault
 
 -- ---- what was compiled
 
-abbrev pub itself_place : Option Place → Option Place
+abbrev pub itself_place : Option SentencePlace → Option SentencePlace
 itself_place o = o
 
 -- the place of a state, if it has one
-abbrev pub place_in : List (Option Place) → ℕ → Option Place
+abbrev pub place_in : List (Option SentencePlace) → ℕ → Option SentencePlace
 place_in places s = kept_at places s
 
 -- the message of the entry at a place
-abbrev pub message_of_place : List (List ℕ) → Option Place → Option (List ℕ)
+abbrev pub message_of_place : List (List ℕ) → Option SentencePlace → Option (List ℕ)
 message_of_place messages None = None
 message_of_place messages (Some p) = slice_get messages p.entry
 

@@ -2,7 +2,7 @@
 ghost use Rattle.std.specs.Prelude.{◌≡◌, ◌≤◌, ◌^◌, ◌∷◌, ◌++◌, [], length, map, filter, is_some, slice_get, MatchOption, IfOk, OnOk, Some, None};
 ghost use Rattle.mh_check.specs.Compiling.{message_at, message_of_place, is_missing, missing};
 
-use crate::places::Place;
+use crate::places::SentencePlace;
 use mh_bystate::{place_at, put_lacking};
 use mh_grammar::{Memory, Sequence};
 use std::alloc::Global;
@@ -11,7 +11,7 @@ use std::marker::Model;
 /// Messages by the states that they are for. The states of one entry share its message.
 #[derive(Drop)]
 pub struct Compiled {
-    places: Vec<Option<Place>>,
+    places: Vec<Option<SentencePlace>>,
     messages: Vec<Sequence<u8>>,
 }
 
@@ -25,14 +25,17 @@ impl Model for Compiled {
 }
 
 /// These messages, by the entries of the states' places.
-pub(crate) fn compiled_of(places: Vec<Option<Place>>, messages: Vec<Sequence<u8>>) -> Compiled
+pub(crate) fn compiled_of(
+    places: Vec<Option<SentencePlace>>,
+    messages: Vec<Sequence<u8>>,
+) -> Compiled
     ensures { result ≡ map (message_of_place messages.items) places.items }
 {
     Compiled { places, messages }
 }
 
 /// The message of an entry.
-fn message_at_place(messages: &[Sequence<u8>], place: Place) -> Option<&[u8]>
+fn message_at_place(messages: &[Sequence<u8>], place: SentencePlace) -> Option<&[u8]>
     ensures { MatchOption result (slice_get messages.now place.entry ≡ None) (λ message. slice_get messages.now place.entry ≡ Some message.now) }
 {
     match messages.get(place.entry) {

@@ -16,7 +16,7 @@ use std::alloc::Global;
 
 /// Where the sentence stands that fails in a state.
 #[derive(Clone, Copy)]
-pub struct Place {
+pub struct SentencePlace {
     /// The number of its line.
     pub(crate) line: u32,
     /// The number of its entry, counted from 0.
@@ -24,7 +24,7 @@ pub struct Place {
 }
 
 /// No place for any state.
-fn no_places(alloc: Global, table: &Table) -> Result<Vec<Option<Place>>, Memory>
+fn no_places(alloc: Global, table: &Table) -> Result<Vec<Option<SentencePlace>>, Memory>
     ensures size { IfOk result (λ places. length places.items ≡ length table.now.states) }
     ensures none { IfOk result (λ places. Placed table.now [] places.items) }
 {
@@ -63,7 +63,7 @@ fn failing_state(alloc: Global, table: &Halting, sentence: &MsgSentence) -> Resu
 fn place_sentence(
     alloc: Global,
     table: &Halting,
-    places: &mut Vec<Option<Place>>,
+    places: &mut Vec<Option<SentencePlace>>,
     sentence: &MsgSentence,
     entry: usize,
 ) -> Result<(), CheckFault>
@@ -77,7 +77,7 @@ fn place_sentence(
         Ok(state) => state,
         Err(fault) => return Err(fault),
     };
-    match put_once(places, state, Place { line, entry }) {
+    match put_once(places, state, SentencePlace { line, entry }) {
         Some(earlier) => Err(CheckFault::SharedState {
             first: earlier.line,
             second: line,
@@ -91,7 +91,7 @@ fn place_sentence(
 fn place_entry(
     alloc: Global,
     table: &Halting,
-    places: &mut Vec<Option<Place>>,
+    places: &mut Vec<Option<SentencePlace>>,
     sentences: &[MsgSentence],
     entry: usize,
 ) -> Result<(), CheckFault>
@@ -114,7 +114,7 @@ pub(crate) fn place_file(
     alloc: Global,
     table: &Halting,
     entries: &[Entry],
-) -> Result<Vec<Option<Place>>, CheckFault>
+) -> Result<Vec<Option<SentencePlace>>, CheckFault>
     requires { AllByRecursion (λ entry. AllByRecursion (IsOf (length table.now.grammar.starts) table.now.grammar.tokens) entry.sentences) entries.now }
     ensures { PlacesAll table.now entries.now (listed result) }
 {

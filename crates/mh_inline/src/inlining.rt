@@ -252,7 +252,7 @@ fn inline_searched(
 /// An alternative gives a production for each way to choose among the alternatives of its inline producers; the choice for
 /// the leftmost producer varies slowest. Of the `%prec` in it the alternative's own wins, else that of the rightmost inlined
 /// alternative that has one; without any, the level is that of the rightmost token. The productions stand in the order of
-/// their alternatives: by file, the standard library behind the files of the command line, by place in the file, by instance,
+/// their alternatives: by file, the prelude behind the files of the command line, by place in the file, by instance,
 /// and then in the order of the choices. The instances that are not inline are the nonterminals, in their order.
 ///
 /// The first of these faults is answered: `InlineCycle` with the first instance that reaches itself through inline ones;

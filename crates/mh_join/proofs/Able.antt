@@ -21,12 +21,12 @@ use Rattle.mh_meanings.specs.declared.names.Names.{Names}
 use Rattle.mh_meanings.specs.declared.outlines.Outline.{Outline}
 use Rattle.mh_meanings.specs.Prelude.{prelude_rules}
 use Rattle.mh_grammar.specs.Text.{Text}
-use Rattle.mh_meanings.specs.Names.{same, files, formal_number, start_names, definitions, definitions_in, library_definitions, is_elsewhere, rules, insert_all, insert_key}
+use Rattle.mh_meanings.specs.Names.{same, files, formal_number, start_names, definitions, definitions_in, prelude_definitions, is_elsewhere, rules, insert_all, insert_key}
 use Rattle.mh_meanings.specs.Faults.{Meanings, meant_by, refs, is_error, text_of, unless, undefined, undefined_in_actual, undefined_in_alternative, undefined_prec, undefined_in_rule, undefined_start, undefined_in_level, undefined_in_on_error, undefined_in_declarations, undefined_in_file, duplicates, has_some, error_token, errors_in_actual, errors_in_alternative, errors_in_rule, errors_in_file, unlevelled_in_file, many_tokens, other_faults, faults_by}
 use Rattle.mh_meanings.specs.Joining.{IsJoinedBy, IsJoined}
 use Rattle.mh_meanings.specs.Maps.{meanings_in, elsewhere_in, HasMeanings}
 use Rattle.mh_building.specs.Standing.{unresolved, unresolved_in_rule, unresolved_in_rules, unresolved_in_file, unresolved_on_error, CanJoin, definitions_by}
-use Rattle.mh_join.proofs.Library.{number_known, prelude_stands}
+use Rattle.mh_join.proofs.Prelude.{number_known, prelude_stands}
 use Rattle.mh_join.proofs.Shallow.{prelude_shallow}
 
 -- where one thing finds nothing at each item, another does not
@@ -102,8 +102,8 @@ flat_starts : (f : Text → List JoinFault) (ms : List Module) → flat_map (λ 
 flat_starts f [] = refl
 flat_starts f (m ∷ ms) = ap (λ k. flat_map f m.starts ++ k) (flat_starts f ms) ∙ sym (flat_map-append f m.starts (flat_map (λ m. m.starts) ms))
 
-pub can_join : (p : Bool) (ms : List Module) (n : Names) (library : List Rule) → HasMeanings p ms n → AreModulesReady ms → library ≡ prelude_rules p → faults_by (meanings_in n) ms ≡ [] → CanJoin n ms library
-can_join p ms n library named ready is none = record {
+pub can_join : (p : Bool) (ms : List Module) (n : Names) (from_prelude : List Rule) → HasMeanings p ms n → AreModulesReady ms → from_prelude ≡ prelude_rules p → faults_by (meanings_in n) ms ≡ [] → CanJoin n ms from_prelude
+can_join p ms n from_prelude named ready is none = record {
   few = few_tokens (length (meanings_in n).tokens) (nil_parts (flat_map (unlevelled_in_file (meanings_in n)) ms) (many_tokens (length (meanings_in n).tokens)) (nil_parts (flat_map errors_in_file ms) (flat_map (unlevelled_in_file (meanings_in n)) ms ++ many_tokens (length (meanings_in n).tokens)) later).1).1;
   starts = subst (λ ks. flat_map (undefined_start (meanings_in n)) ks ≡ []) (sym (ap (λ (v : Meanings). v.starts) named.meanings_are))
       (kept_nil (undefined_start (meanings_in n)) [] (flat_map (λ m. m.starts) ms) refl (sym (flat_starts (undefined_start (meanings_in n)) ms) ∙ sym (numbered (λ (m : Module). flat_map (undefined_start (meanings_in n)) m.starts) 1 ms) ∙ nil_by (undefined_in_file (meanings_in n)) (λ (f : ℕ × Module). flat_map (undefined_start (meanings_in n)) f.1.starts) (starts_stand (meanings_in n)) (files ms) undefined_none));
@@ -123,14 +123,14 @@ can_join p ms n library named ready is none = record {
         (nil_parts (duplicates (meanings_in n) ms) (other_faults (meanings_in n) ms) (nil_parts (flat_map (undefined_in_file (meanings_in n)) (files ms)) (duplicates (meanings_in n) ms ++ other_faults (meanings_in n) ms) none).1).1).1
 
 -- the files joined by the maps are the files joined
-pub joined_by : (p : Bool) (ms : List Module) (n : Names) (library : List Rule) (j : Joined) → HasMeanings p ms n → library ≡ prelude_rules p → IsJoinedBy (meanings_in n) (elsewhere_in n) n.numbering.rules.items (definitions_by n ms library) ms j → IsJoined p ms j
-joined_by p ms n library j named is by =
+pub joined_by : (p : Bool) (ms : List Module) (n : Names) (from_prelude : List Rule) (j : Joined) → HasMeanings p ms n → from_prelude ≡ prelude_rules p → IsJoinedBy (meanings_in n) (elsewhere_in n) n.numbering.rules.items (definitions_by n ms from_prelude) ms j → IsJoined p ms j
+joined_by p ms n from_prelude j named is by =
     subst (λ (w : Meanings). IsJoinedBy w (is_elsewhere ms) (rules p ms) (definitions p ms) ms j) named.meanings_are
     (subst (λ (e : ℕ → Text → Bool). IsJoinedBy (meanings_in n) e (rules p ms) (definitions p ms) ms j) named.elsewhere_is
     (subst (λ (os : List Outline). IsJoinedBy (meanings_in n) (elsewhere_in n) os (definitions p ms) ms j) named.rules_are
     (subst (λ ds. IsJoinedBy (meanings_in n) (elsewhere_in n) n.numbering.rules.items ds ms j) definitions_are by)))
   where
-    definitions_are : definitions_by n ms library ≡ definitions p ms
+    definitions_are : definitions_by n ms from_prelude ≡ definitions p ms
     definitions_are =
-        ap (λ starts. flat_map (definitions_in starts) (files ms) ++ library_definitions library) (ap (λ (v : Meanings). v.starts) named.meanings_are)
-        ∙ ap (λ rs. flat_map (definitions_in (start_names ms)) (files ms) ++ library_definitions rs) is
+        ap (λ starts. flat_map (definitions_in starts) (files ms) ++ prelude_definitions from_prelude) (ap (λ (v : Meanings). v.starts) named.meanings_are)
+        ∙ ap (λ rs. flat_map (definitions_in (start_names ms)) (files ms) ++ prelude_definitions rs) is

@@ -1,4 +1,4 @@
-pub mod Library
+pub mod Prelude
 pub mod Shallow
 pub mod Able
 pub mod Costing

@@ -33,7 +33,7 @@ use Rattle.mh_meanings.specs.declared.fault.JoinFault.{JoinFault}
 use Rattle.mh_meanings.specs.declared.fault.JoinFault.TheVariants as faults
 use Rattle.mh_meanings.specs.Prelude.{prelude_rules}
 use Rattle.mh_grammar.specs.Text.{Text}
-use Rattle.mh_meanings.specs.Names.{same, files, firsts, token_names, start_names, is_elsewhere, is_public, owner_in, Definition, definitions, definitions_from, definitions_in, library_definitions, outline_of, same_owner, is_rule, same_rule, rules, rule_number, formal_number, visible_head, user_head, rule_head, token_head, insert_all, insert_key}
+use Rattle.mh_meanings.specs.Names.{same, files, firsts, token_names, start_names, is_elsewhere, is_public, owner_in, Definition, definitions, definitions_from, definitions_in, prelude_definitions, outline_of, same_owner, is_rule, same_rule, rules, rule_number, formal_number, visible_head, user_head, rule_head, token_head, insert_all, insert_key}
 use Rattle.mh_meanings.specs.Faults.{Meanings, meanings, meant_by, unless, agrees, same_flag, same_shape, repeats, own_name, own_names, own_in_file, formals_in_file, shapes_in_file, other_shape, name_duplicates, rule_duplicates, duplicates, levels_in_file, has_some, errors_in_file, unlevelled_in_file, many_tokens, other_faults, undefined_in_file, join_faults, first}
 use Rattle.mh_meanings.specs.Joining.{all_of, applied_to, apply_step, resolved, all_resolved, prec_by, alternative_with, alternative_by, alternatives_by, is_number, alternatives_for, rule_without, without_alternatives, token_info, on_error_in, IsJoined, Joins}
 use Rattle.mh_rules.specs.Depth.{greatest, actual_depth, actual_depth_step, applied_depth, applied_depth_step, IsActualShallow, IsAppliedShallow, AreProducersShallow}
@@ -46,7 +46,7 @@ use Rattle.mh_naming.proofs.Numbers.{none_from}
 use Rattle.mh_naming.proofs.Meaning.{find_position}
 use Rattle.mh_join.proofs.Costing.{tokens_costed}
 use Rattle.mh_meanings.proofs.Resolving.{is_known}
-use Rattle.mh_join.proofs.Library.{and_left, and_right, owner_is}
+use Rattle.mh_join.proofs.Prelude.{and_left, and_right, owner_is}
 use Rattle.mh_join.proofs.Able.{few_tokens}
 use Rattle.mh_join.proofs.Shallow.{prelude_shallow}
 
@@ -354,9 +354,9 @@ data IsPlaced (p : Bool) (ms : List Module) (d : Definition) : Type 0 where
   in_prelude : StandsIn (λ x. Some 0) 0 (prelude_rules p) d → IsPlaced p ms d
 
 placed : (p : Bool) (ms : List Module) (d : Definition) → In (definitions p ms) d → IsPlaced p ms d
-placed p ms d h = go (in_append (flat_map (definitions_in (start_names ms)) (files ms)) (library_definitions (prelude_rules p)) d h)
+placed p ms d h = go (in_append (flat_map (definitions_in (start_names ms)) (files ms)) (prelude_definitions (prelude_rules p)) d h)
   where
-    go : In (flat_map (definitions_in (start_names ms)) (files ms)) d ⊎ In (library_definitions (prelude_rules p)) d → IsPlaced p ms d
+    go : In (flat_map (definitions_in (start_names ms)) (files ms)) d ⊎ In (prelude_definitions (prelude_rules p)) d → IsPlaced p ms d
     go (inl a) = let f = in_flat (definitions_in (start_names ms)) (files ms) d a in in_file f.0 f.1 (stands_in (owner_in (start_names ms) f.0.0 f.0.1.rules) f.0.0 0 f.0.1.rules d f.2)
     go (inr b) = in_prelude (stands_in (λ x. Some 0) 0 0 (prelude_rules p) d b)
 

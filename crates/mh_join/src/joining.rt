@@ -19,15 +19,15 @@ fn join_named(
     names: &Names,
     modules: &[Module],
     prelude: bool,
-    library: &[Rule],
+    from_prelude: &[Rule],
 ) -> Result<Joined, JoinFault>
     requires named { HasMeanings prelude modules.now names.now }
     requires ready { AreModulesReady modules.now }
-    requires library { library.now ≡ spec.prelude_rules prelude }
+    requires from_prelude { from_prelude.now ≡ spec.prelude_rules prelude }
     ensures { Joins prelude modules.now result }
 {
     match check(alloc, names, modules) {
-        Ok(()) => match joined(alloc, names, modules, library) {
+        Ok(()) => match joined(alloc, names, modules, from_prelude) {
             Ok(joined) => Ok(joined),
             Err(_) => Err(JoinFault::Memory),
         },
@@ -40,14 +40,14 @@ fn join_with(
     alloc: Global,
     modules: &[Module],
     prelude: bool,
-    library: &[Rule],
+    from_prelude: &[Rule],
 ) -> Result<Joined, JoinFault>
     requires ready { AreModulesReady modules.now }
-    requires library { library.now ≡ spec.prelude_rules prelude }
+    requires from_prelude { from_prelude.now ≡ spec.prelude_rules prelude }
     ensures { Joins prelude modules.now result }
 {
-    match names_of(alloc, modules, prelude, library) {
-        Ok(names) => join_named(alloc, &names, modules, prelude, library),
+    match names_of(alloc, modules, prelude, from_prelude) {
+        Ok(names) => join_named(alloc, &names, modules, prelude, from_prelude),
         Err(_) => Err(JoinFault::Memory),
     }
 }
@@ -71,7 +71,7 @@ pub fn join(alloc: Global, modules: &[Module], prelude: bool) -> Result<Joined, 
     ensures ready { IfOk result IsReady }
 {
     match prelude_rules(alloc, prelude) {
-        Ok(library) => join_with(alloc, modules, prelude, library.as_slice()),
+        Ok(from_prelude) => join_with(alloc, modules, prelude, from_prelude.as_slice()),
         Err(_) => Err(JoinFault::Memory),
     }
 }

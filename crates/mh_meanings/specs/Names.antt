@@ -152,12 +152,12 @@ abbrev pub definitions_in : List Text → ℕ × Module → List Definition
 definitions_in starts f = definitions_from (owner_in starts f.0 f.1.rules) f.0 0 f.1.rules
 
 -- those of the prelude, whose rules are its own
-abbrev pub library_definitions : List Rule → List Definition
-library_definitions rs = definitions_from (λ x. Some 0) 0 0 rs
+abbrev pub prelude_definitions : List Rule → List Definition
+prelude_definitions rs = definitions_from (λ x. Some 0) 0 0 rs
 
 -- those of the files in order, and then those of the prelude
 abbrev pub definitions : Bool → List Module → List Definition
-definitions p ms = flat_map (definitions_in (start_names ms)) (files ms) ++ library_definitions (prelude_rules p)
+definitions p ms = flat_map (definitions_in (start_names ms)) (files ms) ++ prelude_definitions (prelude_rules p)
 
 abbrev pub outline_of : Definition → Outline
 outline_of d = record { name = d.rule.name; owner = d.owner; inlined = d.rule.inlined; formals = length d.rule.formals }

@@ -47,4 +47,4 @@ outlines_in starts f = map (outline_in starts f.0 f.1.rules) f.1.rules
 
 -- the rules of these files and of this prelude
 abbrev pub outlines_of : List Text → List Module → List Rule → List Outline
-outlines_of starts ms library = firsts same_rule (flat_map (outlines_in starts) (files ms) ++ map (outline_by (Some 0)) library)
+outlines_of starts ms from_prelude = firsts same_rule (flat_map (outlines_in starts) (files ms) ++ map (outline_by (Some 0)) from_prelude)

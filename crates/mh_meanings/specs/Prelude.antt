@@ -1,4 +1,4 @@
--- The standard library of rules, as the module that its text spells. Source: the Menhir manual's standard library; this
+-- The prelude, the rules of Menhir's standard library, as the module that its text spells. Source: the Menhir manual's standard library; this
 -- project's profile.
 use Rattle.std.specs.Prelude.{ℕ, codes, List, [], ◌∷◌, ◌++◌, map, None, Bool, true, false}
 use Prim.Native.String.{String}

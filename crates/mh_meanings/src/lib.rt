@@ -27,4 +27,4 @@ pub use name_list::NameList;
 pub use names::{Costs, Definers, DefinersOf, Kinds, Levels, Names};
 pub use numbering::Numbering;
 pub use outlines::Outline;
-pub use publics::{is_public, library_owner, marked_public, owner_in};
+pub use publics::{is_public, marked_public, owner_in, prelude_owner};

@@ -56,7 +56,7 @@ pub fn owner_in(starts: &NameList, marked: &HashSet<Name>, file: u64, name: &Nam
 }
 
 /// Who owns the rules of the prelude: they are its own, so that none is joined with a rule of a file.
-pub fn library_owner() -> Option<u64>
+pub fn prelude_owner() -> Option<u64>
     ensures { result ≡ Some 0 }
 {
     Some(0)

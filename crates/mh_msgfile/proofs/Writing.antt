@@ -19,9 +19,8 @@ module _ {A B : Type 0} (f : A → List B) (xs : List A) (i : ℕ) (all now : Li
   written_all le = sym (append-nil now) ∙ ap (λ (l : List A). now ++ flat_map f l) (sym (drop_all i xs le)) ∙ so_far
 
 module _ {A : Type 0} (count : List A → ℕ) (xs : List A) (i : ℕ) (d : A) (so_far : count xs ≡ count (drop i xs) + i) (within : i < length xs) where
-  private
-    here : count (drop i xs) ≡ count (get_or xs i d ∷ drop (i + 1) xs)
-    here = ap count (drop_more xs i d within)
+  here : count (drop i xs) ≡ count (get_or xs i d ∷ drop (i + 1) xs)
+  here = ap count (drop_more xs i d within)
 
   -- one item more is counted
   pub counted_next : count (get_or xs i d ∷ drop (i + 1) xs) ≡ count (drop (i + 1) xs) + 1 → count xs ≡ count (drop (i + 1) xs) + (i + 1)

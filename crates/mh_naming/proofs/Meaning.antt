@@ -11,7 +11,7 @@ use Rattle.mh_rules.specs.declared.modules.Module.{Module}
 use Rattle.mh_meanings.specs.declared.names.Names.{Names}
 use Rattle.mh_meanings.specs.Prelude.{prelude_rules}
 use Rattle.mh_grammar.specs.Text.{Text}
-use Rattle.mh_meanings.specs.Names.{same, files, token_names, token_number, aliased, levels_in, level_of, cost_of, is_elsewhere, start_names, definitions_from, definitions_in, library_definitions, outline_of, owner_in, is_rule, same_rule, firsts, rules, rule_number}
+use Rattle.mh_meanings.specs.Names.{same, files, token_names, token_number, aliased, levels_in, level_of, cost_of, is_elsewhere, start_names, definitions_from, definitions_in, prelude_definitions, outline_of, owner_in, is_rule, same_rule, firsts, rules, rule_number}
 use Rattle.mh_meanings.specs.Faults.{kind_of}
 use Rattle.mh_meanings.specs.Definers.{elsewhere_by}
 use Rattle.mh_meanings.specs.Numbering.{outline_by, outlines_in, outlines_of, number_in, IsNumbered}
@@ -36,7 +36,7 @@ outlines_are p ms =
     ap (firsts same_rule)
     (ap (λ os. os ++ map (outline_by (Some 0)) (prelude_rules p)) (outline_files (start_names ms) (files ms))
     ∙ ap (λ os. map outline_of (flat_map (definitions_in (start_names ms)) (files ms)) ++ os) (outline_from (λ x. Some 0) 0 0 (prelude_rules p))
-    ∙ sym (map-append outline_of (flat_map (definitions_in (start_names ms)) (files ms)) (library_definitions (prelude_rules p))))
+    ∙ sym (map-append outline_of (flat_map (definitions_in (start_names ms)) (files ms)) (prelude_definitions (prelude_rules p))))
 
 -- PLACES
 

@@ -40,10 +40,10 @@ fn fill(
     alloc: Global,
     files: &[Module],
     prelude: bool,
-    library: &[Rule],
+    from_prelude: &[Rule],
 ) -> Result<(), Memory>
     requires blank { IsBlank names.old }
-    requires library { library.now ≡ prelude_rules prelude }
+    requires from_prelude { from_prelude.now ≡ prelude_rules prelude }
     ensures { OnOk result (HasMeanings prelude files.now names.new) }
 {
     put_tokens(&mut names.tokens, files)?;
@@ -53,7 +53,13 @@ fn fill(
     put_costs(&mut names.costs, files)?;
     put_kinds(&mut names.kinds, files)?;
     put_definers(&mut names.definers, files)?;
-    put_rules(&mut names.numbering, alloc, &names.starts, files, library)?;
+    put_rules(
+        &mut names.numbering,
+        alloc,
+        &names.starts,
+        files,
+        from_prelude,
+    )?;
     Ok(())
 }
 
@@ -62,13 +68,13 @@ pub fn names_of(
     alloc: Global,
     files: &[Module],
     prelude: bool,
-    library: &[Rule],
+    from_prelude: &[Rule],
 ) -> Result<Names, Memory>
-    requires { library.now ≡ prelude_rules prelude }
+    requires { from_prelude.now ≡ prelude_rules prelude }
     ensures { IfOk result (HasMeanings prelude files.now) }
 {
     let mut names = no_names(alloc);
-    match fill(&mut names, alloc, files, prelude, library) {
+    match fill(&mut names, alloc, files, prelude, from_prelude) {
         Ok(()) => Ok(names),
         Err(_) => Err(lost(names)),
     }

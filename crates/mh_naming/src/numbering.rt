@@ -10,7 +10,7 @@ ghost use Rattle.mh_naming.specs.Blank.{HasNone};
 
 use mh_grammar::{Memory, Name};
 use mh_meanings::{
-    NameList, Numbering, Outline, library_owner, marked_public, owner_in, put_first,
+    NameList, Numbering, Outline, marked_public, owner_in, prelude_owner, put_first,
 };
 use mh_rules::{Module, Rule};
 use std::alloc::Global;
@@ -140,7 +140,7 @@ fn add_prelude(numbering: &mut Numbering, rules: &[Rule]) -> Result<(), Memory>
     ensures { OnOk result (Numbers numbering.old numbering.new (map (outline_by (Some 0)) rules.now)) }
 {
     for rule in rules {
-        add_rule(numbering, library_owner(), rule)?;
+        add_rule(numbering, prelude_owner(), rule)?;
     }
     Ok(())
 }

@@ -17,7 +17,7 @@ pub struct Order {
     pub canonical: bool,
     /// `--strict`: a conflict is a refusal.
     pub strict: bool,
-    /// Whether the standard library may be used; `--no-stdlib` forbids it.
+    /// Whether the prelude may be used; `--no-stdlib` forbids it.
     pub stdlib: bool,
     /// `--interpret-show-cst`: trees of what is accepted.
     pub show_cst: bool,

@@ -1,4 +1,4 @@
-//! The standard library of rules, as the module that its text spells.
+//! The prelude, the rules of Menhir's standard library, as the module that its text spells.
 #![tactic(auto)]
 
 mod prelude;

@@ -1,4 +1,4 @@
-//! The standard library of rules.
+//! The prelude, the rules of Menhir's standard library.
 ghost use Rattle.std.specs.Prelude.{◌≡◌, ◌∷◌, ◌++◌, [], codes, map, true, false, IfOk, OnOk};
 ghost use Rattle.mh_meanings.specs.Prelude as spec;
 ghost use Rattle.mh_meanings.specs.Prelude.{plain, rule_of, in_order, list_rule, nonempty_list_rule, separated_items, separated_list_rule, separated_nonempty_list_rule, option_rules, pair_rules, list_rules, other_rules};

@@ -15,7 +15,7 @@ pub enum Part {
 /// An alternative of an instance.
 #[derive(Drop)]
 pub struct InstanceProduction {
-    /// The number of its file: the files count from 1, and the standard library is file 0.
+    /// The number of its file: the files count from 1, and the prelude is file 0.
     pub file: u64,
     /// Its place among all alternatives of that file, from 0.
     pub place: u64,

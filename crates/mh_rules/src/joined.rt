@@ -30,7 +30,7 @@ pub enum Prec {
 /// An alternative, with what its names stand for.
 #[derive(Drop)]
 pub struct JoinedAlternative {
-    /// The number of its file: the files count from 1, and the standard library is file 0.
+    /// The number of its file: the files count from 1, and the prelude is file 0.
     pub file: u64,
     /// Its place among all alternatives of that file, from 0.
     pub place: u64,
@@ -42,7 +42,7 @@ pub struct JoinedAlternative {
 #[derive(Drop)]
 pub struct JoinedRule {
     /// The name as it is printed: with `@k` behind it for a rule of file k's own where another file defines that name too,
-    /// and with `@0` for a rule of the standard library where a file defines its name.
+    /// and with `@0` for a rule of the prelude where a file defines its name.
     pub name: Name,
     pub inlined: bool,
     pub formals: u64,
@@ -58,6 +58,6 @@ pub struct Joined {
     pub starts: Sequence<u64>,
     /// The `%on_error_reduce` declarations in order of files and text: the rank of one is its place, from 0.
     pub on_error: Sequence<Sequence<Applied>>,
-    /// In order of first definitions, those of the standard library last.
+    /// In order of first definitions, those of the prelude last.
     pub rules: Sequence<JoinedRule>,
 }

@@ -88,8 +88,8 @@ ACCEPT
 ~
 "#;
 
-// A file's own rule goes before the public one, and that before the standard library's. Where a file defines a rule of
-// the library, the library's has `@0` behind its name.
+// A file's own rule goes before the public one, and that before the prelude's. Where a file defines a rule of
+// the prelude, the prelude's has `@0` behind its name.
 const SHADOWED: &str = r#"0 --interpret --interpret-show-cst a.mly b.mly
 ~
 a.mly

@@ -157,8 +157,8 @@ ACCEPT
 ~
 "#;
 
-// The rules of the standard library, those that are inlined leaving nothing.
-const LIBRARY: &str = "0 --interpret --interpret-show-cst g.mly
+// The rules of the prelude, those that are inlined leaving nothing.
+const PRELUDE: &str = "0 --interpret --interpret-show-cst g.mly
 ~
 g.mly
 %token A B C COMMA EOF
@@ -251,6 +251,6 @@ fn trees_of_lines(rt: HostRuntime) -> Result<(), Fail> {
     check_cases(&rt, alloc, TREES)?;
     check_cases(&rt, alloc, BRANCHES)?;
     check_cases(&rt, alloc, LEVELS)?;
-    check_cases(&rt, alloc, LIBRARY)?;
+    check_cases(&rt, alloc, PRELUDE)?;
     check_cases_with(&rt, alloc, NESTED, HEIGHTS)
 }

@@ -345,7 +345,7 @@ fn check_counts(alloc: Global) -> Result<(), Fail> {
     Ok(())
 }
 
-/// The standard library as a file.
+/// The prelude as a file.
 fn prelude_text() -> &'static str {
     "%%\n\
      %public option(X): {} | X {}\n\

@@ -5,12 +5,12 @@ use Rattle.mh_join.proofs.Able.{can_join, joined_by}
 use Rattle.mh_join.proofs.joining.join_named.Goals as goal
 
 pub joined-requires : goal.joined-requires
-joined-requires c = can_join c.args.prelude c.args.modules.now c.args.names.now c.args.library.now c.requires.named c.requires.ready c.requires.library c.in-Ok.ensures
+joined-requires c = can_join c.args.prelude c.args.modules.now c.args.names.now c.args.from_prelude.now c.requires.named c.requires.ready c.requires.from_prelude c.in-Ok.ensures
 
 pub returns-in-Ok-joined : goal.returns-in-Ok-joined
 returns-in-Ok-joined c = (
   subst (λ (w : Meanings). faults_by w c.args.modules.now ≡ []) c.requires.named.meanings_are c.in-Ok.ensures,
-  joined_by c.args.prelude c.args.modules.now c.args.names.now c.args.library.now c.in-Ok-joined.joined c.requires.named c.requires.library c.in-Ok-joined.ensures,
+  joined_by c.args.prelude c.args.modules.now c.args.names.now c.args.from_prelude.now c.in-Ok-joined.joined c.requires.named c.requires.from_prelude c.in-Ok-joined.ensures,
 )
 
 pub returns-in-Err : goal.returns-in-Err

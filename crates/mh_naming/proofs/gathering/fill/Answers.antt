@@ -29,4 +29,4 @@ put_rules-requires c = c.requires.blank.numbering
 
 pub returns : goal.returns
 returns c = has_meanings c.args.prelude c.args.files.now _ c.in_ok-put_tokens.ensures c.in_ok-put_starts.ensures c.in_ok-put_aliases.ensures c.in_ok-put_levels.ensures c.in_ok-put_costs.ensures c.in_ok-put_kinds.ensures c.in_ok-put_definers.ensures c.in_ok-put_rules.ensures.numbered
-    (c.in_ok-put_rules.ensures.rules ∙ ap (outlines_of c.put_starts.new.names.keys c.args.files.now) c.requires.library)
+    (c.in_ok-put_rules.ensures.rules ∙ ap (outlines_of c.put_starts.new.names.keys c.args.files.now) c.requires.from_prelude)

@@ -23,7 +23,7 @@ loop-at-preserved c =
 pub returns-clause-rules : goal.returns-clause-rules
 returns-clause-rules c =
     let from_files = flat_map (outlines_in c.args.starts.now.keys) (files c.args.files.now) in
-    let library = map (outline_by (Some 0)) c.args.prelude.now in
+    let from_prelude = map (outline_by (Some 0)) c.args.prelude.now in
     c.in_ok-add_prelude.ensures.rules
-    ∙ ap (λ k. insert_all same_rule k library) (rw (take_all c.loop-at.at c.args.files.now c.loop-at-test.false) at c.loop-at.invariant.rules ∙ ap (λ k. insert_all same_rule k from_files) c.requires.rules)
-    ∙ sym (insert_all-append same_rule [] from_files library)
+    ∙ ap (λ k. insert_all same_rule k from_prelude) (rw (take_all c.loop-at.at c.args.files.now c.loop-at-test.false) at c.loop-at.invariant.rules ∙ ap (λ k. insert_all same_rule k from_files) c.requires.rules)
+    ∙ sym (insert_all-append same_rule [] from_files from_prelude)

@@ -20,7 +20,7 @@ use Rattle.mh_meanings.specs.declared.outlines.Outline.{Outline}
 use Rattle.mh_meanings.specs.declared.fault.JoinFault.TheVariants as faults
 use Rattle.mh_meanings.specs.Prelude.{call, words, plain, optional, in_order, texts, prelude_rules, separated_items, list_rule, nonempty_list_rule, separated_list_rule, separated_nonempty_list_rule, option_rules, pair_rules, list_rules, other_rules}
 use Rattle.mh_grammar.specs.Text.{Text}
-use Rattle.mh_meanings.specs.Names.{same, files, formal_number, definitions, definitions_from, definitions_in, library_definitions, outline_of, same_owner, is_rule, same_rule, rules, rule_number, start_names, insert_all, insert_key}
+use Rattle.mh_meanings.specs.Names.{same, files, formal_number, definitions, definitions_from, definitions_in, prelude_definitions, outline_of, same_owner, is_rule, same_rule, rules, rule_number, start_names, insert_all, insert_key}
 use Rattle.mh_meanings.specs.Faults.{Meanings, meant_by, refs, refs_step, unless, undefined, undefined_in_actual}
 use Rattle.mh_building.specs.Standing.{unresolved, unresolved_in_rule, unresolved_in_rules}
 use Rattle.mh_grammar.proofs.SameText.{same_is}
@@ -79,19 +79,19 @@ respects_rule owner x a b s h =
     ap (λ o. same_owner owner o && same x b.name) (sym (owner_is a.owner b.owner (and_left (same_owner a.owner b.owner) (same a.name b.name) s)))
     ∙ ap (λ n. same_owner owner a.owner && same x n) (sym (same_is a.name b.name (and_right (same_owner a.owner b.owner) (same a.name b.name) s))) ∙ h
 
-in_library : (x : Text) (n : ℕ) (rs : List Rule) → list_any (is_rule (Some 0) x) (map outline_of (definitions_from (λ y. Some 0) 0 n rs)) ≡ list_any (λ r. same x r.name) rs
-in_library x n [] = refl
-in_library x n (r ∷ rs) = ap (λ b. same x r.name || b) (in_library x (n + length r.alternatives) rs)
+prelude_has : (x : Text) (n : ℕ) (rs : List Rule) → list_any (is_rule (Some 0) x) (map outline_of (definitions_from (λ y. Some 0) 0 n rs)) ≡ list_any (λ r. same x r.name) rs
+prelude_has x n [] = refl
+prelude_has x n (r ∷ rs) = ap (λ b. same x r.name || b) (prelude_has x (n + length r.alternatives) rs)
 
 -- a rule of the prelude has a number
 pub number_known : (p : Bool) (ms : List Module) (x : Text) → list_any (λ r. same x r.name) (prelude_rules p) ≡ true → is_some (rule_number p ms (Some 0) x) ≡ true
 number_known p ms x h =
     let test = is_rule (Some 0) x in
-    let from_files = flat_map (definitions_in (start_names ms)) (files ms) in let library = library_definitions (prelude_rules p) in
+    let from_files = flat_map (definitions_in (start_names ms)) (files ms) in let from_prelude = prelude_definitions (prelude_rules p) in
     is_some-position test (rules p ms)
     ∙ any_firsts test (respects_rule (Some 0) x) [] (map outline_of (definitions p ms))
-    (ap (list_any test) (map-append outline_of from_files library) ∙ list_any-append test (map outline_of from_files) (map outline_of library)
-    ∙ ap (λ b. list_any test (map outline_of from_files) || b) (in_library x 0 (prelude_rules p) ∙ h) ∙ or-true (list_any test (map outline_of from_files)))
+    (ap (list_any test) (map-append outline_of from_files from_prelude) ∙ list_any-append test (map outline_of from_files) (map outline_of from_prelude)
+    ∙ ap (λ b. list_any test (map outline_of from_files) || b) (prelude_has x 0 (prelude_rules p) ∙ h) ∙ or-true (list_any test (map outline_of from_files)))
 
 -- WHAT STANDS FOR SOMETHING
 
