@@ -5,6 +5,3 @@ returns-in-Ok-clause-text g c = c.in-Ok.ensures.bytes
 
 pub returns-in-Err-clause-text : goal.returns-in-Err-clause-text
 returns-in-Err-clause-text g c = c.in-Err.ensures.bytes
-
-pub returns-in-Err-clause-counts : goal.returns-in-Err-clause-counts
-returns-in-Err-clause-counts g c = c.in-Err.ensures.counts
