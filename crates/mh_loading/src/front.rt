@@ -2,6 +2,7 @@
 ghost use Rattle.std.specs.Prelude.{◌≡◌, ◌≤◌, List, ℕ, length, map, string_bytes, IfOk};
 ghost use Rattle.mh_grammar.specs.Costs.{HaveCosts};
 ghost use Rattle.mh_grammar.specs.Plain.{plain_of, IsInRange};
+ghost use Rattle.mh_rules.specs.declared.joined.TheConstants.{MAX_TOKENS};
 ghost use Rattle.mh_drive.specs.Causes.{Go};
 ghost use Rattle.mh_modules.specs.FrontStage.{IsFront};
 ghost use Rattle.mh_modules.specs.GrammarTurns.{AsksForGrammars, IsGrammarTurn};
@@ -24,7 +25,7 @@ pub fn front_of<F: Shelf>(alloc: Global, words: &[String], shelf: &mut F) -> Res
     ensures order { IfOk result (λ front. staged_order (map string_bytes words.now) ≡ Go front.order) }
     ensures range { IfOk result (λ front. IsInRange (plain_of front.grammar)) }
     ensures costs { IfOk result (λ front. HaveCosts front.grammar.tokens) }
-    ensures tokens { IfOk result (λ front. length front.grammar.tokens ≤ 512) }
+    ensures tokens { IfOk result (λ front. length front.grammar.tokens ≤ MAX_TOKENS) }
     ensures apart { IfOk result (λ front. AreNamesApart front.grammar) }
     ensures may_still { IfOk result (λ _. (other : List ℕ) → F.MayAsk shelf.old other → F.MayAsk shelf.new other) }
     ensures kept { F.files shelf.new ≡ F.files shelf.old }

@@ -3,6 +3,7 @@ ghost use Rattle.std.specs.Prelude.{◌≤◌, length, IfOk};
 ghost use Rattle.mh_grammar.specs.Costs.{HaveCosts};
 ghost use Rattle.mh_grammar.specs.Plain.{plain_of, IsInRange};
 ghost use Rattle.std.specs.List.{All};
+ghost use Rattle.mh_rules.specs.declared.joined.TheConstants.{MAX_TOKENS};
 ghost use Rattle.mh_rules.specs.Ready.{AreModulesReady};
 ghost use Rattle.mh_valid.specs.Valid.{AreNamesApart};
 ghost use Rattle.mh_modules.specs.GrammarStage.{IsGrammarStage};
@@ -43,7 +44,7 @@ pub fn grammar_in(alloc: Global, modules: Vec<Module>, prelude: bool) -> Result<
     ensures grammar { StageHas (IsGrammarStage prelude modules.items) result }
     ensures range { IfOk result (λ grammar. IsInRange (plain_of grammar)) }
     ensures costs { IfOk result (λ grammar. HaveCosts grammar.tokens) }
-    ensures tokens { IfOk result (λ grammar. length grammar.tokens ≤ 512) }
+    ensures tokens { IfOk result (λ grammar. length grammar.tokens ≤ MAX_TOKENS) }
     ensures apart { IfOk result AreNamesApart }
 {
     match grammar_of(alloc, &modules, prelude) {

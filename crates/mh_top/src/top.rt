@@ -3,6 +3,7 @@ ghost use Rattle.std.specs.Prelude.{◌≡◌, ◌≤◌, ◌*◌, List, length,
 ghost use Rattle.std.specs.List.{All};
 ghost use Rattle.mh_grammar.specs.Costs.{HaveCosts};
 ghost use Rattle.mh_grammar.specs.Plain.{plain_of, IsInRange};
+ghost use Rattle.mh_rules.specs.declared.joined.TheConstants.{MAX_TOKENS};
 ghost use Rattle.mh_valid.specs.Valid.{AreNamesApart};
 ghost use Rattle.mh_grammar.specs.Text.{Text};
 ghost use Rattle.mh_drive.specs.Causes.{Go};
@@ -99,7 +100,7 @@ fn work_at_width<F: Shelf, I: Source, O: Sink, E: Sink>(
     out: &mut O,
     err: &mut E,
 ) -> Result<(), Stop>
-    requires tokens { length front.grammar.tokens ≤ 512 }
+    requires tokens { length front.grammar.tokens ≤ MAX_TOKENS }
     requires range { IsInRange (plain_of front.grammar) }
     requires costs { HaveCosts front.grammar.tokens }
     requires apart { AreNamesApart front.grammar }

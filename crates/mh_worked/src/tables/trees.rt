@@ -1,6 +1,7 @@
 //! Worked trees, with heights, tokens and texts computed by hand.
 ghost use Rattle.std.specs.Prelude.{◌≡◌, ◌<◌, IfOk};
 ghost use Rattle.mh_grammar.specs.Trees.{height_of, Node, Cons, Nil};
+ghost use Rattle.mh_grammar.specs.declared.types.TheConstants.{MAX_HEIGHT};
 
 use crate::tables::cases::{check_cases, put_bytes, release};
 use mh_grammar::{Grammar, Memory};
@@ -10,8 +11,8 @@ use std::fmt::Write;
 use std::test::Fail;
 
 fn pair(alloc: Global, production: u32, first: Tree, second: Tree) -> Result<Tree, Memory>
-    requires first { height_of first < 4000 }
-    requires second { height_of second < 4000 }
+    requires first { height_of first < MAX_HEIGHT }
+    requires second { height_of second < MAX_HEIGHT }
     ensures { IfOk result (λ t. t ≡ Node production (Cons first (Cons second Nil))) }
 {
     let mut children = Vec::new(alloc);
@@ -21,7 +22,7 @@ fn pair(alloc: Global, production: u32, first: Tree, second: Tree) -> Result<Tre
 }
 
 fn two_leaves(alloc: Global) -> Result<Tree, Memory>
-    ensures { IfOk result (λ t. height_of t < 4000) }
+    ensures { IfOk result (λ t. height_of t < MAX_HEIGHT) }
 {
     let first = leaf(alloc, 0)?;
     let second = leaf(alloc, 1)?;
@@ -29,7 +30,7 @@ fn two_leaves(alloc: Global) -> Result<Tree, Memory>
 }
 
 fn behind_an_empty_node(alloc: Global, tree: &Tree) -> Result<Tree, Memory>
-    requires { height_of tree.now < 4000 }
+    requires { height_of tree.now < MAX_HEIGHT }
 {
     let empty = node(alloc, 2, Vec::new(alloc))?;
     let shared = tree.share()?;
@@ -45,7 +46,7 @@ fn shared(alloc: Global) -> Result<Tree, Memory> {
 }
 
 fn over(alloc: Global, child: Tree) -> Result<Tree, Memory>
-    requires { height_of child < 4000 }
+    requires { height_of child < MAX_HEIGHT }
     ensures { IfOk result (λ t. t ≡ Node 1 (Cons child Nil)) }
 {
     let mut children = Vec::new(alloc);
