@@ -1,3 +1,3 @@
 pub mod Levels
 pub mod Lowest
-pub mod Rows
+pub mod code

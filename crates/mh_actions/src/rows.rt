@@ -1,6 +1,6 @@
 //! What the end of the stream keeps, and which cells a default fits.
 ghost use Rattle.std.specs.Prelude.{◌≡◌, ◌↔◌, IsTrue};
-ghost use Rattle.mh_actions.specs.Rows.{IsFitting, kept_of};
+ghost use Rattle.mh_actions.specs.code.Rows.{IsFitting, kept_of};
 
 use mh_tables::Action;
 

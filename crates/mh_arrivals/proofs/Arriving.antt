@@ -23,7 +23,7 @@ use Rattle.mh_spots.specs.declared.arrivals.Spot.{Spot}
 use Rattle.mh_spots.specs.declared.arrivals.Step.TheVariants as steps
 use Rattle.mh_spots.specs.declared.arrivals.Arrival.{Arrival}
 use Rattle.mh_arrivals.specs.declared.comings.Coming.{Coming}
-use Rattle.mh_ways.specs.Rows.{Waits, Gains, Among}
+use Rattle.mh_ways.specs.code.Rows.{Waits, Gains, Among}
 use Rattle.mh_ways.specs.Classes.{IsClasses, rep_of, place_of}
 use Rattle.mh_ways.specs.Rules.{wholes_at}
 use Rattle.mh_ways.specs.Tales.{NoLater, capped}

@@ -12,7 +12,7 @@ use Rattle.mh_ways.specs.declared.work.Whole.{Whole}
 use Rattle.mh_ways.specs.declared.work.Work.{Work}
 use Rattle.mh_ways.specs.declared.classes.Classes.{Classes}
 use Rattle.mh_found.specs.declared.found.Found.{Found}
-use Rattle.mh_ways.specs.Rows.{Gains, IsOne}
+use Rattle.mh_ways.specs.code.Rows.{Gains, IsOne}
 use Rattle.mh_ways.specs.Classes.{IsClasses, rep_of}
 use Rattle.mh_ways.specs.Rules.{wholes_at}
 use Rattle.mh_ways.specs.Tales.{Tale, capped}

@@ -13,7 +13,7 @@ use Rattle.mh_spots.specs.declared.arrivals.Step.TheVariants as steps
 use Rattle.mh_spots.specs.declared.arrivals.Arrival.{Arrival}
 use Rattle.mh_arrivals.specs.declared.comings.Coming.{Coming}
 use Rattle.mh_ways.specs.declared.classes.Classes.{Classes}
-use Rattle.mh_ways.specs.Rows.{Gains, Among}
+use Rattle.mh_ways.specs.code.Rows.{Gains, Among}
 use Rattle.mh_ways.specs.Classes.{rep_of, list_at}
 use Rattle.mh_arrivals.specs.Arriving.{StepsOn, StepsAlong, StepsEdge, StepsShift}
 use Rattle.mh_ways.proofs.Gaining.{gains_by}

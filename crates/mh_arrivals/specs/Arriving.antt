@@ -16,7 +16,7 @@ use Rattle.mh_spots.specs.declared.arrivals.Step.{Step}
 use Rattle.mh_spots.specs.declared.arrivals.Step.TheVariants as steps
 use Rattle.mh_spots.specs.declared.arrivals.Arrival.{Arrival}
 use Rattle.mh_arrivals.specs.declared.comings.Coming.{Coming}
-use Rattle.mh_ways.specs.Rows.{Waits, Beside, IsOne, Below, Among}
+use Rattle.mh_ways.specs.code.Rows.{Waits, Beside, IsOne, Below, Among}
 use Rattle.mh_found.specs.Drawn.{DrawsOne, DrawsNone, Keeps, DrawsSome, DrawsAll}
 use Rattle.mh_ways.specs.Classes.{rep_of, place_of, list_at}
 use Rattle.mh_ways.specs.Rules.{wholes_at}

@@ -4,7 +4,7 @@ ghost use Rattle.std.specs.List.{Contains};
 ghost use Rattle.mh_tables.specs.Table.{edge_of};
 ghost use Rattle.mh_ways.specs.declared.work.Whole.{Whole};
 ghost use Rattle.mh_least.specs.Orders.{cap};
-ghost use Rattle.mh_ways.specs.Rows.{Gains, Among, row_of};
+ghost use Rattle.mh_ways.specs.code.Rows.{Gains, Among, row_of};
 ghost use Rattle.mh_ways.specs.Classes.{IsClasses, place_of};
 ghost use Rattle.mh_ways.specs.Rules.{OnlyAt};
 ghost use Rattle.mh_found.specs.Found.{IsFound};

@@ -21,7 +21,7 @@ use Rattle.mh_producers.specs.Unfoldings as unfoldings
 use Rattle.mh_producers.specs.Unfoldings.{UnfoldsPart, Unfolds, UnfoldsEach}
 use Rattle.mh_producers.specs.Sizes.{AreSettled, AreSizes, AreAllSized}
 use Rattle.mh_producers.specs.MadeOf.{IsMadeOf}
-use Rattle.mh_cycles.specs.Found.{Adds, IsTable}
+use Rattle.mh_cycles.specs.code.Found.{Adds, IsTable}
 use Rattle.mh_producers.proofs.Producers.{inline_instance}
 use Rattle.mh_cycles.proofs.Finding.{kept_contains}
 

@@ -15,7 +15,7 @@ use Rattle.mh_producers.specs.Instances.{inline_number}
 use Rattle.mh_producers.specs.MadeOf.{IsAmong}
 use Rattle.mh_producers.specs.MadeOf.{IsIn}
 use Rattle.mh_producers.specs.MadeOf.{IsMadeOf}
-use Rattle.mh_cycles.specs.Found.{AreQueued, Adds, IsTable, IsSame}
+use Rattle.mh_cycles.specs.code.Found.{AreQueued, Adds, IsTable, IsSame}
 use Rattle.mh_producers.proofs.Among.{among_one, one_among, kept_none, among_cases, among_front, among_last, in_cases, in_front, in_last, made_in, in_made}
 
 pub Adds-none : (P : ℕ → Type 0) (f : Found) → AreQueued f → ((m : ℕ) → P m → ⊥) → Adds P f f

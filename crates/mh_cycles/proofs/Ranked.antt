@@ -8,7 +8,7 @@ use Rattle.mh_rules.specs.declared.instances.Instance.{Instance}
 use Rattle.mh_producers.specs.Instances.{is_inlined, Inlines, Reaches}
 use Rattle.mh_producers.specs.Instances.Reaches.{one, more}
 use Rattle.mh_producers.specs.MadeOf.{IsMadeOf}
-use Rattle.mh_cycles.specs.Ranks.{IsRanked, AreRanked, IsAbove}
+use Rattle.mh_cycles.specs.code.Ranks.{IsRanked, AreRanked, IsAbove}
 use Rattle.mh_producers.proofs.Producers.{inline_instance}
 
 module _ (is : List Instance) (ranks : List ℕ) where

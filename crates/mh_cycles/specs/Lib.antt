@@ -1,4 +1,2 @@
 pub mod Cycles
-pub mod Found
-pub mod Ranks
-pub mod Searching
+pub mod code

@@ -5,8 +5,8 @@ ghost use Rattle.mh_cycles.specs.Cycles.{HasNoCycle, IsFirstCyclicAt};
 ghost use Rattle.mh_producers.specs.MadeOf.{IsAmong};
 ghost use Rattle.mh_producers.specs.MadeOf.{IsIn};
 ghost use Rattle.mh_producers.specs.MadeOf.{IsMadeOf};
-ghost use Rattle.mh_cycles.specs.Found.{Adds, AreQueued, IsSame, IsTable};
-ghost use Rattle.mh_cycles.specs.Ranks.{AreRanked};
+ghost use Rattle.mh_cycles.specs.code.Found.{Adds, AreQueued, IsSame, IsTable};
+ghost use Rattle.mh_cycles.specs.code.Ranks.{AreRanked};
 ghost use Rattle.mh_producers.specs.Sizes.{AreAllSized, AreSettled, IsSizing};
 
 use crate::ranks::{are_ranked, is_on_no_cycle};

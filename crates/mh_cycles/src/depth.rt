@@ -3,7 +3,7 @@
 //! left to size, and the ranks are tested before they are used.
 ghost use Rattle.std.specs.Prelude.{◌<◌, length, IfOk, OnOk};
 ghost use Rattle.std.specs.List.{All};
-ghost use Rattle.mh_cycles.specs.Searching.{IsSearch, IsVisitBelow};
+ghost use Rattle.mh_cycles.specs.code.Searching.{IsSearch, IsVisitBelow};
 
 use mh_grammar::Memory;
 use mh_producers::inlined_in;

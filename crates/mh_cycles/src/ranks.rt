@@ -2,7 +2,7 @@
 ghost use Rattle.std.specs.Prelude.{◌≡◌, ◌<◌, length, slice_index_or, IfOk, IsTrue};
 ghost use Rattle.std.specs.List.{All};
 ghost use Rattle.mh_producers.specs.Instances.{Reaches};
-ghost use Rattle.mh_cycles.specs.Ranks.{AreRanked, IsAbove, IsRanked};
+ghost use Rattle.mh_cycles.specs.code.Ranks.{AreRanked, IsAbove, IsRanked};
 
 use mh_grammar::Memory;
 use mh_producers::{inlined_in, is_inline};

@@ -5,7 +5,7 @@ use Rattle.mh_tables.specs.Table.{TableData}
 use Rattle.mh_engine.specs.Positions.{Position}
 use Rattle.mh_engine.specs.Phases.{phase_of, CanGoOn}
 use Rattle.mh_engine.specs.Steps.{begun, resumed, offered}
-use Rattle.mh_engine.specs.StepsOn.{after_steps, CanMake}
+use Rattle.mh_engine.specs.code.StepsOn.{after_steps, CanMake}
 use Rattle.mh_engine.specs.Branches.{Branch, StandsAt, AreSteps, run_position, with_token, with_step, new_branch}
 use Rattle.mh_engine.specs.declared.fault.ResumeFault.{ResumeFault}
 use Rattle.mh_engine.proofs.OneMore.{after_more, can_more, table_stays, steps_offered}

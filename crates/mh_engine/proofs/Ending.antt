@@ -8,15 +8,15 @@ use Rattle.mh_tables.specs.RunTrees.{grow, trees_after, Stands, yields}
 use Rattle.mh_tables.proofs.Ending.{step_moves}
 use Rattle.mh_tables.proofs.Trees.{stands_from_start}
 use Rattle.mh_grammar.specs.Trees.{SyntaxTree, Leaf}
-use Rattle.mh_engine.specs.Pairs.{Pairs}
+use Rattle.mh_engine.specs.code.Pairs.{Pairs}
 use Rattle.mh_engine.specs.Positions.{Position}
 use Rattle.mh_engine.specs.Phases.{next_move, phase_of, phase_by, phase_where}
 use Rattle.mh_engine.specs.Steps.{begun}
-use Rattle.mh_engine.specs.StepsOn.{after_steps}
+use Rattle.mh_engine.specs.code.StepsOn.{after_steps}
 use Rattle.mh_tables.specs.Deep.{too_deep}
-use Rattle.mh_engine.specs.Settled.{Leads, SettlesDeep}
+use Rattle.mh_engine.specs.code.Settled.{Leads, SettlesDeep}
 use Rattle.mh_engine.specs.Outcomes.{tree_ending_for}
-use Rattle.mh_engine.specs.Reached.{Reaches, Accepts, HasReached}
+use Rattle.mh_engine.specs.code.Reached.{Reaches, Accepts, HasReached}
 use Rattle.mh_tables.specs.TreeRuns.{IsTreeOfRead, IsTooDeep, IsTreeEnding}
 use Rattle.mh_tables.proofs.Accepted.{accepted_from}
 use Rattle.mh_engine.specs.declared.phase.Phase.{Phase}

@@ -8,11 +8,11 @@ use Rattle.mh_tables.proofs.Reductions.{no_shift_at_end}
 use Rattle.mh_tables.proofs.Longer.{move_longer}
 use Rattle.mh_tables.proofs.Ending.{step_moves}
 use Rattle.mh_grammar.specs.Trees.{SyntaxTree}
-use Rattle.mh_engine.specs.Pairs.{Pairs}
+use Rattle.mh_engine.specs.code.Pairs.{Pairs}
 use Rattle.mh_engine.specs.Positions.{Position}
 use Rattle.mh_engine.specs.Phases.{next_move, phase_of, phase_by, phase_where, first_of, IsAsking, CanGoOn}
 use Rattle.mh_engine.specs.Steps.{begun, resumed, offered, config_of}
-use Rattle.mh_engine.specs.StepsOn.{after_steps, CanMake}
+use Rattle.mh_engine.specs.code.StepsOn.{after_steps, CanMake}
 use Rattle.mh_engine.specs.declared.phase.Phase.{Phase}
 use Rattle.mh_engine.proofs.Resuming.{resumed_by, by_move, going}
 

@@ -11,10 +11,10 @@ use Rattle.mh_grammar.specs.Trees.{SyntaxTree}
 use Rattle.mh_engine.specs.Positions.{Position}
 use Rattle.mh_engine.specs.Phases.{next_move, phase_of, phase_by, phase_where, IsAsking, CanGoOn}
 use Rattle.mh_engine.specs.Steps.{begun, offered, resumed}
-use Rattle.mh_engine.specs.StepsOn.{after_steps, CanMake}
+use Rattle.mh_engine.specs.code.StepsOn.{after_steps, CanMake}
 use Rattle.mh_tables.specs.Deep.{too_deep}
-use Rattle.mh_engine.specs.Settled.{Leads, SettlesTo, SettlesDeep}
-use Rattle.mh_engine.specs.Reached.{Reaches, Accepts, HasReached, Reads, IsAccept}
+use Rattle.mh_engine.specs.code.Settled.{Leads, SettlesTo, SettlesDeep}
+use Rattle.mh_engine.specs.code.Reached.{Reaches, Accepts, HasReached, Reads, IsAccept}
 use Rattle.mh_engine.specs.declared.phase.Phase.{Phase}
 use Rattle.mh_engine.specs.declared.phase.Phase.TheVariants as phases
 use Rattle.mh_engine.specs.declared.sentence.TreeOutcome.{TreeOutcome}

@@ -17,13 +17,13 @@ use Rattle.mh_tables.proofs.Ending.{step_moves}
 use Rattle.mh_tables.proofs.Reductions.{no_shift_at_end, reduces_from_move, shifts_from_move, reduced}
 use Rattle.mh_grammar.specs.Trees.{SyntaxTree, Leaf, Node, forest_of, height_of}
 use Rattle.mh_tables.specs.Deep.{too_deep}
-use Rattle.mh_engine.specs.Pairs.{Pairs}
-use Rattle.mh_engine.specs.Cells.{pushed, taken}
+use Rattle.mh_engine.specs.code.Pairs.{Pairs}
+use Rattle.mh_engine.specs.code.Cells.{pushed, taken}
 use Rattle.mh_engine.specs.Positions.{Position}
 use Rattle.mh_engine.specs.Phases.{next_move, phase_of, phase_by, phase_where, IsAsking, CanGoOn}
 use Rattle.mh_engine.specs.Steps.{resumed, offered, refused_at, config_of, is_refusal}
-use Rattle.mh_engine.specs.Reducing.{CanReduce}
-use Rattle.mh_engine.specs.Sound.{IsSound}
+use Rattle.mh_engine.specs.code.Reducing.{CanReduce}
+use Rattle.mh_engine.specs.code.Sound.{IsSound}
 use Rattle.mh_engine.specs.declared.phase.Phase.{Phase}
 use Rattle.mh_tables.proofs.Depth.{shift_fits, reduce_fits, reduce_many, reduce_high, deep_pairs}
 

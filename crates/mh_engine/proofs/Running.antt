@@ -9,7 +9,7 @@ use Rattle.mh_grammar.specs.Trees.{SyntaxTree}
 use Rattle.mh_engine.specs.Positions.{Position}
 use Rattle.mh_engine.specs.Phases.{next_move}
 use Rattle.mh_engine.specs.Steps.{begun, resumed, config_of, is_refusal}
-use Rattle.mh_engine.specs.StepsOn.{after_steps, CanMake}
+use Rattle.mh_engine.specs.code.StepsOn.{after_steps, CanMake}
 use Rattle.mh_engine.specs.Branches.{was_refusal, run_position}
 use Rattle.mh_engine.proofs.Resuming.{resumed_by, by_move}
 use Rattle.mh_engine.proofs.OneMore.{table_stays, table_after, after_more}

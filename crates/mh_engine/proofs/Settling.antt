@@ -14,10 +14,10 @@ use Rattle.mh_tables.proofs.Settling.{Relative, relative_few, relative_begins, r
 use Rattle.mh_engine.specs.Positions.{Position}
 use Rattle.mh_engine.specs.Phases.{next_move, phase_of, phase_by, phase_where, CanGoOn}
 use Rattle.mh_engine.specs.Steps.{resumed}
-use Rattle.mh_engine.specs.StepsOn.{after_steps, CanMake}
+use Rattle.mh_engine.specs.code.StepsOn.{after_steps, CanMake}
 use Rattle.mh_tables.specs.Deep.{too_deep}
-use Rattle.mh_engine.specs.Sound.{IsSound}
-use Rattle.mh_engine.specs.Settled.{Kept, Leads, SettlesTo, SettlesDeep}
+use Rattle.mh_engine.specs.code.Sound.{IsSound}
+use Rattle.mh_engine.specs.code.Settled.{Kept, Leads, SettlesTo, SettlesDeep}
 use Rattle.mh_engine.specs.declared.phase.Phase.{Phase}
 use Rattle.mh_engine.specs.declared.phase.Phase.TheVariants as phases
 use Rattle.mh_engine.proofs.Resuming.{by_move}

@@ -1,13 +1,6 @@
 pub mod Branches
-pub mod Cells
-pub mod Falls
 pub mod Outcomes
-pub mod Pairs
 pub mod Phases
 pub mod Positions
-pub mod Reached
-pub mod Reducing
-pub mod Settled
-pub mod Sound
 pub mod Steps
-pub mod StepsOn
+pub mod code

@@ -2,7 +2,7 @@
 use Rattle.std.specs.Prelude.{ℕ, Bool, List, Option}
 use Rattle.mh_tables.specs.Table.{TableData}
 use Rattle.mh_tables.specs.Halting.{look_list}
-use Rattle.mh_engine.specs.Pairs.{Pairs}
+use Rattle.mh_engine.specs.code.Pairs.{Pairs}
 
 -- a table; the states with their trees; the tokens to come; whether the last step was a refusal
 pub record Position : Type 0 where

@@ -3,8 +3,8 @@ use Rattle.std.specs.Prelude.{ℕ, Bool, true, false, List, [], ◌∷◌, ◌++
 use Rattle.mh_tables.specs.Table.{TableData}
 use Rattle.mh_tables.specs.Run.{Config, Move, Accepts, Asks, Refuses, Shifts, Reduces, step, next_of}
 use Rattle.mh_tables.specs.RunTrees.{grow}
-use Rattle.mh_engine.specs.Pairs.{Pairs}
-use Rattle.mh_engine.specs.Cells.{bottom}
+use Rattle.mh_engine.specs.code.Pairs.{Pairs}
+use Rattle.mh_engine.specs.code.Cells.{bottom}
 use Rattle.mh_engine.specs.Positions.{Position}
 use Rattle.mh_engine.specs.Phases.{next_move}
 

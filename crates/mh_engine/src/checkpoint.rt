@@ -3,10 +3,10 @@ ghost use Rattle.std.specs.Prelude.{◌≡◌, ◌<◌, ◌∷◌, [], length, t
 ghost use Rattle.mh_tables.specs.Run.{Shifts, Reduces};
 ghost use Rattle.mh_tables.specs.Moves.{move_for};
 ghost use Rattle.mh_tables.specs.Deep.{too_deep};
-ghost use Rattle.mh_engine.specs.Reducing.{CanReduce};
+ghost use Rattle.mh_engine.specs.code.Reducing.{CanReduce};
 ghost use Rattle.mh_engine.specs.Phases.{next_move, phase_of, IsAsking, CanGoOn};
 ghost use Rattle.mh_engine.specs.Branches.{Branch, StandsAt, new_branch, with_token, with_step};
-ghost use Rattle.mh_engine.specs.Settled.{Kept};
+ghost use Rattle.mh_engine.specs.code.Settled.{Kept};
 ghost use Rattle.mh_engine.specs.Steps.{begun, offered, refused_at, resumed};
 ghost use Rattle.mh_engine.specs.declared.phase.Phase.TheVariants as phases;
 ghost use Rattle.mh_engine.specs.declared.fault.ResumeFault.TheVariants as faults;
@@ -35,14 +35,14 @@ impl<'t> Model for Checkpoint<'t> {
 
     ghost Value = { Position };
 
-    ghost use Rattle.mh_engine.specs.Pairs.{pairs_code};
+    ghost use Rattle.mh_engine.specs.code.Pairs.{pairs_code};
     ghost use Rattle.std.specs.Coded.{codes};
 
     ghost coded = { Prim.hlevel (codes, pairs_code) };
 
     ghost view = { λ c. waiting c.table.now c.stack c.pending c.refused };
 
-    ghost use Rattle.mh_engine.specs.Sound.{IsSound};
+    ghost use Rattle.mh_engine.specs.code.Sound.{IsSound};
     ghost use Rattle.mh_tables.specs.Halting.{IsLook};
 
     ghost invariant = { λ c. IsSound (waiting c.table.now c.stack c.pending c.refused) × IsLook c.table.now c.pending };

@@ -1,6 +1,6 @@
 //! The reductions that come next.
 ghost use Rattle.std.specs.Prelude.{◌≡◌, IfOk, IfErr};
-ghost use Rattle.mh_engine.specs.Settled.{SettlesTo, SettlesDeep};
+ghost use Rattle.mh_engine.specs.code.Settled.{SettlesTo, SettlesDeep};
 ghost use Rattle.mh_engine.specs.declared.fault.ResumeFault.TheVariants as faults;
 
 use crate::checkpoint::Checkpoint;

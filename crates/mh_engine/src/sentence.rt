@@ -4,7 +4,7 @@ ghost use Rattle.mh_tables.specs.Deep.{too_deep};
 ghost use Rattle.mh_tables.specs.Table.{TableData};
 ghost use Rattle.mh_tables.specs.TreeRuns.{IsTreeEnding};
 ghost use Rattle.mh_engine.specs.Outcomes.{tree_ending_for};
-ghost use Rattle.mh_engine.specs.Reached.{HasReached, HasRead, ReadsNext, IsAccept};
+ghost use Rattle.mh_engine.specs.code.Reached.{HasReached, HasRead, ReadsNext, IsAccept};
 ghost use Rattle.mh_engine.specs.Phases.{phase_of, IsAsking, CanGoOn};
 ghost use Rattle.mh_engine.specs.Steps.{offered, resumed};
 ghost use Rattle.mh_engine.specs.declared.fault.ResumeFault.TheVariants as faults;

@@ -2,8 +2,8 @@
 ghost use Rattle.std.specs.Prelude.{◌≡◌, ◌↔◌, IsTrue, ◌+◌, ◌-◌, ◌<◌, ◌≤◌, ◌^◌, ◌++◌, ◌∷◌, [], length, take, drop, IfOk, IfSome, IfNone};
 ghost use Rattle.mh_tables.specs.Run.{top_of};
 ghost use Rattle.mh_tables.specs.Deep.{max_depth};
-ghost use Rattle.mh_engine.specs.Pairs.{Pairs};
-ghost use Rattle.mh_engine.specs.Cells.{bottom, pushed, taken};
+ghost use Rattle.mh_engine.specs.code.Pairs.{Pairs};
+ghost use Rattle.mh_engine.specs.code.Cells.{bottom, pushed, taken};
 
 use mh_bounds::has_room;
 use mh_grammar::Memory;
@@ -37,13 +37,13 @@ struct Cell {
 
 impl Model for Stack {
     ghost use Rattle.std.specs.Prelude.{◌≡◌, length};
-    ghost use Rattle.mh_engine.specs.Pairs.{Pairs, pairs_code};
+    ghost use Rattle.mh_engine.specs.code.Pairs.{Pairs, pairs_code};
 
     ghost Value = { Pairs };
 
     ghost coded = { pairs_code };
 
-    ghost use Rattle.mh_engine.specs.Cells.{pairs_of};
+    ghost use Rattle.mh_engine.specs.code.Cells.{pairs_of};
 
     ghost view = { λ s. pairs_of s.link };
 
@@ -51,7 +51,7 @@ impl Model for Stack {
 
     ghost size = { λ v. length v.trees };
 
-    ghost use Rattle.mh_engine.specs.Falls.{below_is_shorter};
+    ghost use Rattle.mh_engine.specs.code.Falls.{below_is_shorter};
 
     ghost size_decreases = { λ s h. below_is_shorter s.link };
 }

@@ -21,8 +21,8 @@ use Rattle.mh_instances.specs.declared.fault.ExpandFault.TheVariants.{Arity, Exp
 use Rattle.mh_expand.specs.Terms.{Term, head_of, head_name, arguments, text}
 use Rattle.mh_expand.specs.Expansion as expansion
 use Rattle.mh_expand.specs.Expansion.{IsInstance, IsRule, Takes, Fits, IsNew, IsFault, IsClear, IsReached, AreFirst, finds, Fails, IsFirstFault, Causes, producers_of, alternatives_of, start_term, start_terms, IsProduction, IsInstanceOf, IsExpanded}
-use Rattle.mh_expand.specs.Sharing.{term_at, terms_at}
-use Rattle.mh_expand.specs.Searching.{AreFound, IsSearch, IsFit, WentInstance, WentStarts, AreRanks, IsLonger, IsExpanding}
+use Rattle.mh_expand.specs.code.Sharing.{term_at, terms_at}
+use Rattle.mh_expand.specs.code.Searching.{AreFound, IsSearch, IsFit, WentInstance, WentStarts, AreRanks, IsLonger, IsExpanding}
 use Rattle.mh_expand.proofs.Found.{AreFound-none, IsClear-none, Causes-from}
 use Rattle.mh_expand.proofs.Going.{IsLonger-found, IsProduction-kept}
 use Rattle.mh_expand.proofs.Ranking.{AreRanks-grows}

@@ -23,8 +23,8 @@ use Rattle.mh_expand.specs.Expansion as expansion
 use Rattle.mh_expand.specs.Expansion.{IsInstance, IsNew, IsFull, IsFault, IsClear, Fits, Causes}
 use Rattle.mh_rules.specs.declared.instances.Part.TheVariants as parts
 use Rattle.mh_instances.specs.declared.fault.ExpandFault.TheVariants.{Arity, Expansion, Memory}
-use Rattle.mh_expand.specs.Sharing.{term_at, terms_at}
-use Rattle.mh_expand.specs.Searching.{IsSight, AreFound, IsSearch, IsTextWithin, Finds}
+use Rattle.mh_expand.specs.code.Sharing.{term_at, terms_at}
+use Rattle.mh_expand.specs.code.Searching.{IsSight, AreFound, IsSearch, IsTextWithin, Finds}
 use Rattle.mh_expand.proofs.Shared.{get_term, term_got}
 
 pub IsClear-none : (j : Joined) → IsClear j []

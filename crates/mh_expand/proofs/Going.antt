@@ -19,8 +19,8 @@ use Rattle.mh_rules.specs.declared.instances.Part.TheVariants as parts
 use Rattle.mh_rules.specs.declared.instances.InstanceProduction.{InstanceProduction}
 use Rattle.mh_expand.specs.Terms.{Term, arguments}
 use Rattle.mh_expand.specs.Expansion.{IsFault, IsPart, IsProduction, IsRule, Takes, Fails, Causes, right_side, rule_at, rule_of, alternatives_of}
-use Rattle.mh_expand.specs.Sharing.{term_at, terms_at, Grows}
-use Rattle.mh_expand.specs.Searching.{IsSearch, Finds, Went, WentAlternative, WentAlternatives, IsLonger}
+use Rattle.mh_expand.specs.code.Sharing.{term_at, terms_at, Grows}
+use Rattle.mh_expand.specs.code.Searching.{IsSearch, Finds, Went, WentAlternative, WentAlternatives, IsLonger}
 use Rattle.mh_expand.proofs.Actuals.{Grows-none, Grows-more, stands}
 use Rattle.mh_expand.proofs.Shared.{terms_at-kept}
 use Rattle.mh_expand.proofs.Found.{Causes-from}

@@ -12,9 +12,9 @@ use Rattle.mh_rules.specs.declared.joined.Applied.{Applied}
 use Rattle.mh_rules.specs.declared.joined.Head.TheVariants.{Formal, Token, Rule}
 use Rattle.mh_expand.specs.Terms.{Term, Atom, Apply, term_of, replaced}
 use Rattle.mh_expand.specs.Expansion.{Declares, IsRank}
-use Rattle.mh_expand.specs.Sharing.{term_at, Grows}
+use Rattle.mh_expand.specs.code.Sharing.{term_at, Grows}
 use Rattle.mh_expand.proofs.Shared.{get_term}
-use Rattle.mh_expand.specs.Searching.{AreRanks, AddsRank}
+use Rattle.mh_expand.specs.code.Searching.{AreRanks, AddsRank}
 
 pub replaced-none : (t : Term) → replaced [] t ≡ t
 replaced-none (Atom (Formal k)) = refl

@@ -7,7 +7,7 @@ use Rattle.mh_expand.specs.Terms.{Term, Atom, Apply, apply_all, separator, text,
 use Rattle.std.specs.List.{slice_get}
 use Rattle.std.proofs.lemmas.List.{map-append}
 use Rattle.std.proofs.Math.Seq.{take-suc}
-use Rattle.mh_expand.specs.Sharing.{term_at, terms_at}
+use Rattle.mh_expand.specs.code.Sharing.{term_at, terms_at}
 use Rattle.mh_expand.proofs.Shared.{term_got}
 use Rattle.mh_expand.proofs.Applying.{apply_all-push}
 

@@ -17,8 +17,8 @@ use Rattle.mh_instances.specs.declared.fault.ExpandFault.{ExpandFault}
 use Rattle.mh_instances.specs.declared.applications.Application.{Application}
 use Rattle.mh_expand.specs.Terms.{Term, Atom, apply_all, arguments, head_of}
 use Rattle.mh_expand.specs.Expansion.{IsFault, Fails, Causes, right_side, start_term}
-use Rattle.mh_expand.specs.Sharing.{term_at, terms_at, node_term, IsNode, Grows}
-use Rattle.mh_expand.specs.Searching.{IsSearch, Finds, Went, WentAlternative, WentAlternatives}
+use Rattle.mh_expand.specs.code.Sharing.{term_at, terms_at, node_term, IsNode, Grows}
+use Rattle.mh_expand.specs.code.Searching.{IsSearch, Finds, Went, WentAlternative, WentAlternatives}
 use Rattle.mh_expand.proofs.Applying.{head_of-apply_all}
 use Rattle.mh_expand.proofs.Actuals.{stands, Grows-none, Grows-more, Grows-placed}
 use Rattle.mh_expand.proofs.Shared.{terms_at-kept, term_got}

@@ -7,9 +7,9 @@ ghost use Rattle.mh_expand.specs.Terms.{Term, arguments, text};
 ghost use Rattle.mh_expand.specs.Expansion.{Fails, Causes, IsExpanded, IsFirstFault, producers_of, right_side, rule_at, start_terms};
 ghost use Rattle.mh_rules.specs.Ready.{IsReady, IsExpandedReady};
 ghost use Rattle.mh_expand.specs.Sentences.{HasSameSentences};
-ghost use Rattle.mh_expand.specs.Sharing.{terms_of, term_at, terms_at, Grows};
+ghost use Rattle.mh_expand.specs.code.Sharing.{terms_of, term_at, terms_at, Grows};
 ghost use Rattle.mh_expand.specs.Whole.{IsExpandedWhole};
-ghost use Rattle.mh_expand.specs.Searching.{IsSearch, IsFit, AreRanks, WentStarts, WentInstance, WentAlternatives, WentAlternative, IsExpanding, AreExpanded};
+ghost use Rattle.mh_expand.specs.code.Searching.{IsSearch, IsFit, AreRanks, WentStarts, WentInstance, WentAlternatives, WentAlternative, IsExpanding, AreExpanded};
 
 use crate::ranks::{Ranks, rank_of, ranks_of};
 use crate::replacing::replace;

@@ -2,8 +2,8 @@
 ghost use Rattle.std.specs.Prelude.{◌≡◌, ◌∷◌, ◌++◌, [], List, length, nat_eq, IfOk, OnOk};
 ghost use Rattle.indexmap.specs.IndexMap.{get};
 ghost use Rattle.mh_rules.specs.declared.joined.Applied.{Applied as Actual};
-ghost use Rattle.mh_expand.specs.Sharing.{terms_of};
-ghost use Rattle.mh_expand.specs.Searching.{AreRanks, AddsRank};
+ghost use Rattle.mh_expand.specs.code.Sharing.{terms_of};
+ghost use Rattle.mh_expand.specs.code.Searching.{AreRanks, AddsRank};
 
 use crate::replacing::replace;
 use crate::terms::Terms;

@@ -2,7 +2,7 @@
 ghost use Rattle.std.specs.Prelude.{◌≡◌, ◌<◌, length, slice_get, IfOk};
 ghost use Rattle.std.specs.List.{All};
 ghost use Rattle.mh_expand.specs.Terms.{replaced, replaced_head, term_of};
-ghost use Rattle.mh_expand.specs.Sharing.{terms_of, terms_at, Grows, IsNode};
+ghost use Rattle.mh_expand.specs.code.Sharing.{terms_of, terms_at, Grows, IsNode};
 
 use crate::terms::Terms;
 use mh_grammar::{Memory, Sequence};

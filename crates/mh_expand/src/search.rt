@@ -3,8 +3,8 @@ ghost use Rattle.std.specs.Prelude.{◌≡◌, ◌<◌, ◌≤◌, ◌↔◌, �
 ghost use Rattle.mh_grammar.specs.Placed.{Placed};
 ghost use Rattle.mh_expand.specs.Terms.{Term, head_of, head_name, text};
 ghost use Rattle.mh_expand.specs.Expansion.{IsInstance, Fits, IsFault, Causes};
-ghost use Rattle.mh_expand.specs.Sharing.{terms_of, term_at};
-ghost use Rattle.mh_expand.specs.Searching.{IsSearch, Finds};
+ghost use Rattle.mh_expand.specs.code.Sharing.{terms_of, term_at};
+ghost use Rattle.mh_expand.specs.code.Searching.{IsSearch, Finds};
 
 use crate::terms::Terms;
 use crate::texts::text_within;

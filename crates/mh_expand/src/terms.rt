@@ -2,7 +2,7 @@
 ghost use Rattle.std.specs.Prelude.{◌≡◌, ◌<◌, [], length, slice_get, IfOk, OnErr};
 ghost use Rattle.std.specs.List.{All};
 ghost use Rattle.mh_grammar.specs.Placed.{Placed};
-ghost use Rattle.mh_expand.specs.Sharing.{AreNodes, terms_of, node_term};
+ghost use Rattle.mh_expand.specs.code.Sharing.{AreNodes, terms_of, node_term};
 
 use indexmap::IndexSet;
 use mh_instances::Application;

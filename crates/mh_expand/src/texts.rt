@@ -2,8 +2,8 @@
 ghost use Rattle.std.specs.Prelude.{◌≡◌, ◌<◌, ◌≤◌, ◌++◌, length, take, IfOk, OnOk};
 ghost use Rattle.mh_expand.specs.Terms.{head_name};
 ghost use Rattle.mh_expand.specs.Terms as spec;
-ghost use Rattle.mh_expand.specs.Sharing.{terms_of, term_at};
-ghost use Rattle.mh_expand.specs.Searching.{IsTextWithin};
+ghost use Rattle.mh_expand.specs.code.Sharing.{terms_of, term_at};
+ghost use Rattle.mh_expand.specs.code.Searching.{IsTextWithin};
 
 use crate::terms::Terms;
 use mh_grammar::{Memory, Name, from_bytes};

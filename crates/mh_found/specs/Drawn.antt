@@ -2,7 +2,7 @@
 use Rattle.std.specs.Prelude.{◌≡◌, ◌⊎◌, ℕ, List, [], ◌∷◌, ◌++◌}
 use Rattle.std.specs.List.{Contains}
 use Rattle.std.specs.Global.{Vec}
-use Rattle.mh_ways.specs.Rows.{Waits, IsOne}
+use Rattle.mh_ways.specs.code.Rows.{Waits, IsOne}
 
 -- the next item of a cost that is not done
 pub record DrawsOne {X : Type 0} (Done Fresh : X → Type 0) (old new : List (Vec X)) (cost : ℕ) (i : X) : Type 0 where

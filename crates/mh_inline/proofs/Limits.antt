@@ -23,7 +23,7 @@ use Rattle.mh_producers.specs.Sizes.{longest, AreSmall, AreAllSized, IsSizing, I
 use Rattle.mh_unfoldings.specs.Uses.{KnowsUsed}
 use Rattle.mh_inline.specs.Inlined as inlined
 use Rattle.mh_inline.specs.Inlined.{is_kept, nonterminal_of, number_of, production_of, IsOrigin, AreOrigins, AreProductions, IsInlined}
-use Rattle.mh_inline.specs.Making.{longest_side, IsOriginKnown, IsOriginsSize, AreOriginsSmall}
+use Rattle.mh_inline.specs.code.Making.{longest_side, IsOriginKnown, IsOriginsSize, AreOriginsSmall}
 use Rattle.mh_inline.specs.Faults.{IsSmall, IsOver}
 use Rattle.mh_producers.proofs.Choices.{append_same}
 use Rattle.mh_producers.proofs.Same.{unfolds_same, small_part}

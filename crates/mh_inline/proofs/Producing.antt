@@ -23,8 +23,8 @@ use Rattle.mh_producers.specs.Unfoldings.{only, own, joined, choices, UnfoldsPar
 use Rattle.mh_producers.specs.Sizes.{longest, IsSideSize, IsBlocked, AreAllSized}
 use Rattle.mh_inline.specs.Inlined as inlined
 use Rattle.mh_inline.specs.Inlined.{symbol_of, last_token, production_of, AreProductions}
-use Rattle.mh_kept.specs.Making.{symbol_by, AreNumbers}
-use Rattle.mh_inline.specs.Making.{production_by, token_else, longest_side, AddsOrigin, IsOriginsSize, IsUnfoldingBelow}
+use Rattle.mh_kept.specs.code.Making.{symbol_by, AreNumbers}
+use Rattle.mh_inline.specs.code.Making.{production_by, token_else, longest_side, AddsOrigin, IsOriginsSize, IsUnfoldingBelow}
 
 pub last_token-push : (Xs : List Part) (X : Part) → last_token (Xs ++ X ∷ []) ≡ token_else X (last_token Xs)
 last_token-push [] (Token a) = refl

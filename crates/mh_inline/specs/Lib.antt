@@ -1,4 +1,4 @@
 pub mod Faults
 pub mod Inlined
-pub mod Making
 pub mod Sentences
+pub mod code

@@ -6,11 +6,11 @@ ghost use Rattle.mh_grammar.specs.Numbering.{AreDistinct};
 ghost use Rattle.mh_rules.specs.Ready.{IsExpandedReady};
 ghost use Rattle.mh_producers.specs.Sizes.{AreAllSized, IsSizing};
 ghost use Rattle.mh_inline.specs.Inlined.{AreOrigins, AreProductions, IsInlined};
-ghost use Rattle.mh_kept.specs.Making.{AreNumbers};
-ghost use Rattle.mh_inline.specs.Making.{AreOriginsSmall};
+ghost use Rattle.mh_kept.specs.code.Making.{AreNumbers};
+ghost use Rattle.mh_inline.specs.code.Making.{AreOriginsSmall};
 ghost use Rattle.mh_cycles.specs.Cycles.{HasNoCycle, IsFirstCyclicAt};
 ghost use Rattle.mh_inline.specs.Faults.{HasEmptyStart, HasNoInlineStart, IsFault, IsFirstInlineStartAt, IsFirstUnmarked, IsGrammarOf, IsHindrance, IsNamed, IsSmall};
-ghost use Rattle.mh_cycles.specs.Searching.{IsSearch};
+ghost use Rattle.mh_cycles.specs.code.Searching.{IsSearch};
 ghost use Rattle.mh_inline.specs.Sentences.{KeepsSentences};
 
 use crate::fault::InlineFault;

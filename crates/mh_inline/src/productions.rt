@@ -7,8 +7,8 @@ ghost use Rattle.mh_rules.specs.Ready.{IsExpandedReady};
 ghost use Rattle.mh_producers.specs.Unfoldings.{own};
 ghost use Rattle.mh_producers.specs.Sizes.{AreAllSized, IsSizing};
 ghost use Rattle.mh_inline.specs.Inlined.{last_token, level_of, token_level, AreProductions, IsOrigin};
-ghost use Rattle.mh_kept.specs.Making.{AreNumbers};
-ghost use Rattle.mh_inline.specs.Making.{production_by, token_else, AddsOrigin, IsOriginKnown, IsOriginsSize, IsUnfoldingBelow};
+ghost use Rattle.mh_kept.specs.code.Making.{AreNumbers};
+ghost use Rattle.mh_inline.specs.code.Making.{production_by, token_else, AddsOrigin, IsOriginKnown, IsOriginsSize, IsUnfoldingBelow};
 
 use mh_choices::rightmost_prec;
 use mh_cycles::size_of_side;

@@ -18,7 +18,7 @@ use Rattle.mh_kept.specs.contracts.origins.OriginOrd.TheImpl as order
 use Rattle.mh_producers.specs.Instances.{is_inlined}
 use Rattle.mh_choices.specs.Ranks.{rank_of}
 use Rattle.mh_kept.specs.Kept.{IsOrigin, IsOriginBefore, AreOrigins}
-use Rattle.mh_kept.specs.Making.{IsBelow, AreOriginsBelow}
+use Rattle.mh_kept.specs.code.Making.{IsBelow, AreOriginsBelow}
 
 less : (a b : ℕ) → nat_cmp a b ≡ Less → a < b
 less a b e = grind (arith, nat_tests)

@@ -5,7 +5,7 @@ ghost use Rattle.mh_grammar.specs.declared.types.TheConstants.{MAX_NUMBERED};
 ghost use Rattle.mh_rules.specs.declared.instances.TheConstants.{MAX_INSTANCES};
 ghost use Rattle.mh_rules.specs.Ready.{IsPartBelow};
 ghost use Rattle.mh_kept.specs.Kept.{is_kept, nonterminal_of};
-ghost use Rattle.mh_kept.specs.Making.{symbol_by, AreNumbers};
+ghost use Rattle.mh_kept.specs.code.Making.{symbol_by, AreNumbers};
 
 use mh_grammar::{Memory, NontermInfo, Symbol};
 use mh_rules::{Instance, Part};

@@ -5,7 +5,7 @@ ghost use Rattle.mh_rules.specs.declared.instances.TheConstants.{MAX_INSTANCES};
 ghost use Rattle.mh_rules.specs.Ready.{IsExpandedReady};
 ghost use Rattle.mh_choices.specs.Ranks.{rank_of};
 ghost use Rattle.mh_kept.specs.Kept.{AreOrigins};
-ghost use Rattle.mh_kept.specs.Making.{AreOriginsBelow};
+ghost use Rattle.mh_kept.specs.code.Making.{AreOriginsBelow};
 
 use mh_choices::rank;
 use mh_grammar::Memory;

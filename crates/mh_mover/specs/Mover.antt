@@ -3,7 +3,7 @@ use Rattle.std.specs.Prelude.{ℕ}
 use Rattle.mh_grammar.specs.Plain.{PlainGrammar}
 use Rattle.mh_items.specs.Closer.{IsCloser}
 use Rattle.mh_mover.specs.declared.mover.Mover.{Mover}
-use Rattle.mh_moves.specs.Rows.{AreEmpty}
+use Rattle.mh_moves.specs.code.Rows.{AreEmpty}
 
 pub record IsMover {W : ℕ} (g : PlainGrammar) (m : Mover W) : Type 0 where
   pub closer : IsCloser g m.closer

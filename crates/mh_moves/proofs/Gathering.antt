@@ -18,7 +18,7 @@ use Rattle.mh_kernels.proofs.Sides.{side_below}
 use Rattle.mh_grammar.proofs.Lists.{all_at, recursion_at}
 use Rattle.mh_kernels.proofs.Advancing.{MovedSoFar, MovedSoFar-start, MovedSoFar-push, MovedSoFar-skip, moved_of}
 use Rattle.mh_moves.specs.declared.rows.Rows.{Rows}
-use Rattle.mh_moves.specs.Rows.{place_of, row_at, AreEmpty, AreFilled, AreGathered, AreReady}
+use Rattle.mh_moves.specs.code.Rows.{place_of, row_at, AreEmpty, AreFilled, AreGathered, AreReady}
 
 abbrev of_items : List KernelItem → Kernel
 of_items items = record { items = items }

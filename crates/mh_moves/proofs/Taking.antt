@@ -23,7 +23,7 @@ use Rattle.mh_kernels.proofs.Dotted.{drop_from-slice_get}
 use Rattle.mh_moves.specs.declared.rows.Rows.{Rows}
 use Rattle.mh_kernels.specs.Collection.{IsBehindDot, IsMove}
 use Rattle.mh_moves.specs.Moves.{Move, AreMoves, symbols_of}
-use Rattle.mh_moves.specs.Rows.{place_of, symbol_of, row_at, AreEmpty, AreReady, move_from}
+use Rattle.mh_moves.specs.code.Rows.{place_of, symbol_of, row_at, AreEmpty, AreReady, move_from}
 use Rattle.mh_moves.proofs.Gathering.{symbol_below, place_within}
 
 -- ---- lists that rise

@@ -2,7 +2,7 @@
 ghost use Rattle.std.specs.Prelude.{◌≡◌, ◌<◌, ◌≤◌, ◌+◌, map, length, IfOk, OnOk};
 ghost use Rattle.mh_grammar.specs.Plain.{plain_of, IsInRange};
 ghost use Rattle.mh_kernels.specs.Kernels.{IsItemList};
-ghost use Rattle.mh_moves.specs.Rows.{AreEmpty, AreGathered, AreReady, move_from, symbol_of};
+ghost use Rattle.mh_moves.specs.code.Rows.{AreEmpty, AreGathered, AreReady, move_from, symbol_of};
 ghost use Rattle.mh_moves.specs.Moves.{AreMoves};
 
 use crate::rows::{Rows, place};

@@ -1,7 +1,7 @@
 //! A row of items for each symbol.
 ghost use Rattle.std.specs.Prelude.{◌≡◌, ◌<◌, ◌≤◌, ◌+◌, ◌^◌, [], ◌∷◌, ◌++◌, ℕ, set, length, vec_len, slice_index_or, IfOk, OnOk};
 ghost use Rattle.mh_grammar.specs.Plain.{plain_of, IsInRange, IsSymbolBelow};
-ghost use Rattle.mh_moves.specs.Rows.{AreEmpty, AreFilled, IsListed, place_of, row_at};
+ghost use Rattle.mh_moves.specs.code.Rows.{AreEmpty, AreFilled, IsListed, place_of, row_at};
 
 use mh_grammar::{Grammar, Memory, Sequence, Symbol};
 use mh_kernels::KernelItem;

@@ -17,7 +17,7 @@ use Rattle.mh_least.specs.Least.{GoesLike}
 use Rattle.mh_past.specs.declared.past.Reduction.{Reduction}
 use Rattle.mh_ways.specs.declared.classes.Class.{Class}
 use Rattle.mh_ways.specs.declared.classes.Classes.{Classes}
-use Rattle.mh_ways.specs.Rows.{row_of}
+use Rattle.mh_ways.specs.code.Rows.{row_of}
 use Rattle.mh_ways.specs.Classes.{rep_of}
 use Rattle.mh_past.specs.Past.{IsPast}
 use Rattle.mh_past.specs.Classing.{IsRow, IsPartition, IsAlike, AreAlike, agrees}

@@ -6,7 +6,7 @@ use Rattle.std.proofs.lemmas.List.Elements.{Contains-append_left}
 use Rattle.indexmap.specs.IndexSet.{insert_key}
 use Rattle.indexmap.proofs.CallerLemmas.{Contains-list_any}
 use Rattle.mh_grammar.proofs.Lists.{contains_last, contains_push}
-use Rattle.mh_ways.specs.Rows.{Collects}
+use Rattle.mh_ways.specs.code.Rows.{Collects}
 
 -- a key is put behind the others, where it is new
 collects_key : {X : Type 0} (eq : X → X → Bool) → ((x y : X) → eq x y ≡ true → x ≡ y) → (ks : List X) (k : X) → Collects (λ r. r ≡ k) ks (insert_key eq ks k)

@@ -8,7 +8,7 @@ use Rattle.mh_tables.specs.Table.{TableData}
 use Rattle.mh_least.specs.Least.{GoesLike}
 use Rattle.mh_ways.specs.declared.classes.Class.{Class}
 use Rattle.mh_ways.specs.declared.classes.Classes.{Classes}
-use Rattle.mh_ways.specs.Rows.{row_of}
+use Rattle.mh_ways.specs.code.Rows.{row_of}
 use Rattle.mh_ways.specs.Classes.{class_in, rep_of, place_of, list_at, IsClasses}
 use Rattle.mh_past.specs.Classing.{IsRow, IsPartition, AreTokens}
 use Rattle.mh_ways.proofs.Rowing.{row_past}

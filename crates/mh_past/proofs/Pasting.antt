@@ -14,7 +14,7 @@ use Rattle.mh_tables.specs.Facts.{Facts}
 use Rattle.mh_least.specs.Least.{IsEnd}
 use Rattle.mh_least.proofs.Bound.{one_end, end_known}
 use Rattle.mh_past.specs.declared.past.Reduction.{Reduction}
-use Rattle.mh_ways.specs.Rows.{Collects}
+use Rattle.mh_ways.specs.code.Rows.{Collects}
 use Rattle.mh_past.specs.Past.{PastIn, IsPast}
 use Rattle.mh_ways.proofs.Collecting.{both}
 use Rattle.mh_ways.proofs.Edging.{edge_there, edge_leads}

@@ -4,7 +4,7 @@ ghost use Rattle.std.specs.List.{Contains};
 ghost use Rattle.mh_grammar.specs.Plain.{production_count};
 ghost use Rattle.mh_tables.specs.Table.{edge_of};
 ghost use Rattle.mh_ways.specs.Left.{IsByLeft};
-ghost use Rattle.mh_ways.specs.Rows.{Collects};
+ghost use Rattle.mh_ways.specs.code.Rows.{Collects};
 ghost use Rattle.mh_past.specs.Past.{EndOf, PastOne, PastOn, PastBehind, PastIn, IsPast};
 
 use indexmap::IndexSet;

@@ -11,7 +11,7 @@ use Rattle.mh_places.specs.declared.places.Listing.TheVariants as lists
 use Rattle.mh_places.specs.declared.places.Place.TheVariants as places
 use Rattle.mh_steps.specs.Due.{if_due}
 use Rattle.mh_steps.specs.Tokens.{definition_of}
-use Rattle.mh_places.specs.Machine.{declare, close, list_item, list_word, list_quoted, at_items, at_modified, onward, is_type, alias_by, at_token, behind_name, at_parameter, in_rules, in_production, at_begin, drafted, at_spaced, behind_group, ruled, at_group, grouped, at_rule_end}
+use Rattle.mh_places.specs.code.Machine.{declare, close, list_item, list_word, list_quoted, at_items, at_modified, onward, is_type, alias_by, at_token, behind_name, at_parameter, in_rules, in_production, at_begin, drafted, at_spaced, behind_group, ruled, at_group, grouped, at_rule_end}
 
 -- a list ends where something else than an item or a comma stands
 pub items_else : (m : Module) (l : Listing) (g : Sign) (text : List ℕ) → (g ≡ signs.Word → ⊥) → (g ≡ signs.Quoted → ⊥) → (g ≡ signs.Comma → ⊥) → at_items m l g text ≡ declare (close m l) g

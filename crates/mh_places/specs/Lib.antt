@@ -1,4 +1,4 @@
 pub mod Costs
 pub mod Signs
 pub mod Spelling
-pub mod Machine
+pub mod code

@@ -1,8 +1,8 @@
 //! Declarations and their lists.
 ghost use Rattle.std.specs.Prelude.{◌≡◌, ◌∷◌, ◌++◌, [], IfOk};
 ghost use Rattle.mh_places.specs.Signs.{is_capital};
-ghost use Rattle.mh_places.specs.Machine as machine;
-ghost use Rattle.mh_places.specs.Machine.{Refers};
+ghost use Rattle.mh_places.specs.code.Machine as machine;
+ghost use Rattle.mh_places.specs.code.Machine.{Refers};
 
 use crate::places::{Listing, Place, Purpose, Reader, Refusal, go_to, no_memory, unexpected};
 use crate::signs::{Sign, is_capital_word};

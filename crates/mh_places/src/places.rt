@@ -1,7 +1,7 @@
 //! Where a reader stands.
 ghost use Rattle.std.specs.Prelude.{◌≡◌, Err, None};
-ghost use Rattle.mh_places.specs.Machine as machine;
-ghost use Rattle.mh_places.specs.Machine.{Refers};
+ghost use Rattle.mh_places.specs.code.Machine as machine;
+ghost use Rattle.mh_places.specs.code.Machine.{Refers};
 ghost use Rattle.mh_places.specs.declared.places.Refusal.TheVariants as refusals;
 
 use crate::stack::Stack;

@@ -1,8 +1,8 @@
 //! Rules but for their actuals.
 ghost use Rattle.std.specs.Prelude.{◌≡◌, ◌∷◌, ◌++◌, [], IfOk, OnOk, Some, None, map};
 ghost use Rattle.mh_places.specs.Spelling.{ref_by, with_prec};
-ghost use Rattle.mh_places.specs.Machine as machine;
-ghost use Rattle.mh_places.specs.Machine.{Refers, ruled, grouped, grouped_with, produced, drafted, named, with_formal};
+ghost use Rattle.mh_places.specs.code.Machine as machine;
+ghost use Rattle.mh_places.specs.code.Machine.{Refers, ruled, grouped, grouped_with, produced, drafted, named, with_formal};
 
 use crate::places::{Draft, Place, Purpose, Reader, Refusal, go_to, no_memory, unexpected};
 use crate::signs::Sign;

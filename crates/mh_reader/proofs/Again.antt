@@ -26,8 +26,8 @@ use Rattle.mh_places.specs.Signs.{Read, is_capital}
 use Rattle.mh_places.specs.Spelling as spelling
 use Rattle.mh_rules.specs.Modules.{applied, alternative}
 use Rattle.mh_places.specs.Spelling.{ref_by, ref_of, suffix_of, with_prec, own_or, starts_with_bar, is_bar, Suffixed, Base, Args, IsActual, Limited, ListOf, IsAlias, IsToken, IsWord, IsRef, MayType, Declaration, Semicolons, IsProducer, Producers, IsPrec, Productions, Groups, Modifiers, Formals, MayFormals, MayBar, IsRule, Rules, File}
-use Rattle.mh_places.specs.Machine as machine
-use Rattle.mh_places.specs.Machine.{at, next_at, finish_at, run, go_on, costed, fits, close, token_of, with_token, named, drafted, produced, with_producer, with_argument, grouped, grouped_with, ruled}
+use Rattle.mh_places.specs.code.Machine as machine
+use Rattle.mh_places.specs.code.Machine.{at, next_at, finish_at, run, go_on, costed, fits, close, token_of, with_token, named, drafted, produced, with_producer, with_argument, grouped, grouped_with, ruled}
 use Rattle.mh_reader.proofs.Heads.{IsHead, Head-along, Head-here, is_quiet, is_calm, is_firm, is_end, is_unquoted, is_untyped, is_unlevelled, is_begin, end_calm, end_unquoted, end_untyped, ref_untyped, Suffixed-quiet, Limited-calm, Producers-firm, Semicolons-calm, Semicolons-unlevelled, Prec-firm, List-head, Rules-begin, File-end}
 
 -- a step

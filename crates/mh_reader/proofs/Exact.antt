@@ -31,7 +31,7 @@ use Rattle.mh_places.specs.Spelling.{File, Spells, Begins}
 use Rattle.mh_reader.specs.Limits.{IsShallow}
 use Rattle.mh_reader.specs.Faults.{IsHalt, IsSyntaxLine, Stops, Refuses}
 use Rattle.mh_reader.specs.Faults.IsHalt.{unexpected, unfinished}
-use Rattle.mh_places.specs.Machine.{at, next_at, finish_at, run, go_on, start, taken, costed, costed_place}
+use Rattle.mh_places.specs.code.Machine.{at, next_at, finish_at, run, go_on, start, taken, costed, costed_place}
 use Rattle.mh_reader.proofs.Again.{again-file, option_or-none}
 use Rattle.mh_reader.proofs.Sound.{sound, Safe, next_safe, costed_shallow}
 

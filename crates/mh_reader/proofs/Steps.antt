@@ -14,7 +14,7 @@ use Rattle.mh_places.specs.declared.places.Place.TheVariants as places
 use Rattle.mh_places.specs.declared.places.Purpose.{Purpose}
 use Rattle.mh_places.specs.declared.places.Purpose.TheVariants as purposes
 use Rattle.mh_places.specs.Spelling.{suffix_of}
-use Rattle.mh_places.specs.Machine.{after, at_head, at_named, finish_at}
+use Rattle.mh_places.specs.code.Machine.{after, at_head, at_named, finish_at}
 
 pub suffix_none : (g : Sign) → (g ≡ signs.Question → ⊥) → (g ≡ signs.Star → ⊥) → (g ≡ signs.Plus → ⊥) → suffix_of g ≡ None
 suffix_none signs.Question h k l = absurd (h refl)

@@ -4,8 +4,8 @@ ghost use Rattle.mh_rules.specs.declared.modules.Ref.TheVariants.{Plain};
 ghost use Rattle.mh_rules.specs.Modules.{applied};
 ghost use Rattle.mh_places.specs.declared.places.Place.TheVariants as places;
 ghost use Rattle.mh_places.specs.Spelling.{ref_by};
-ghost use Rattle.mh_places.specs.Machine as machine;
-ghost use Rattle.mh_places.specs.Machine.{Refers, with_argument, with_producer};
+ghost use Rattle.mh_places.specs.code.Machine as machine;
+ghost use Rattle.mh_places.specs.code.Machine.{Refers, with_argument, with_producer};
 ghost use Rattle.mh_reader.specs.Limits.{Deep};
 
 use mh_grammar::{Memory, Name, Sequence, from_bytes, lost};

@@ -1,7 +1,7 @@
 //! One lexeme more.
 ghost use Rattle.std.specs.Prelude.{◌≡◌};
-ghost use Rattle.mh_places.specs.Machine as machine;
-ghost use Rattle.mh_places.specs.Machine.{Refers};
+ghost use Rattle.mh_places.specs.code.Machine as machine;
+ghost use Rattle.mh_places.specs.code.Machine.{Refers};
 ghost use Rattle.mh_reader.specs.Limits.{IsShallow};
 
 use crate::actuals::{Measured, Within, after, at_argument, at_head, at_named};

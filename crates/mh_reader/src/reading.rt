@@ -9,7 +9,7 @@ ghost use Rattle.mh_places.specs.Signs.{reads_of, sign_by, text_by};
 ghost use Rattle.mh_reader.specs.Limits.{IsShallow};
 ghost use Rattle.mh_rules.specs.Modules.{no_module};
 ghost use Rattle.mh_places.specs.Spelling.{File, Spells};
-ghost use Rattle.mh_places.specs.Machine.{Refers, costed, finish_at, start, taken};
+ghost use Rattle.mh_places.specs.code.Machine.{Refers, costed, finish_at, start, taken};
 ghost use Rattle.mh_places.specs.Costs as spec;
 ghost use Rattle.std.specs.Option.{option_or};
 ghost use Rattle.mh_reader.specs.Faults.{Refuses, Stops};

@@ -8,7 +8,7 @@ use Rattle.mh_msgfile.specs.Sentences.{Vocabulary, vocabulary_of}
 use Rattle.mh_commands.specs.declared.command.Command.{Command}
 use Rattle.mh_branches.specs.declared.command.SessionFault.TheVariants as faults
 use Rattle.mh_grammar.specs.Text.{Text}
-use Rattle.mh_session.specs.Moments.{Moment}
+use Rattle.mh_session.specs.code.Moments.{Moment}
 use Rattle.mh_branches.specs.Answers.{Branches, Answer, next}
 use Rattle.mh_session.specs.Standing.{StandsFor}
 use Rattle.mh_session.specs.Served.{IsServed}

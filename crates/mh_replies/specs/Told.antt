@@ -4,7 +4,7 @@ use Rattle.std.specs.declared.alloc.Global.{Global}
 use Rattle.mh_grammar.specs.declared.types.Grammar.{Grammar}
 use Rattle.mh_grammar.specs.declared.types.Memory.{Memory}
 use Rattle.mh_grammar.specs.Text.{Text}
-use Rattle.mh_session.specs.Moments.{Moment}
+use Rattle.mh_session.specs.code.Moments.{Moment}
 use Rattle.mh_branches.specs.Answers.{Branches}
 use Rattle.mh_session.specs.Standing.{StandsFor}
 use Rattle.mh_branches.specs.Lines.{Said}

@@ -8,7 +8,7 @@ use Rattle.mh_tables.specs.Facts.{Facts}
 use Rattle.mh_ways.specs.declared.work.Item.{Item}
 use Rattle.mh_ways.specs.declared.classes.Classes.{Classes}
 use Rattle.mh_ways.specs.declared.left.ByLeft.{ByLeft}
-use Rattle.mh_ways.specs.Rows.{Gains, Among}
+use Rattle.mh_ways.specs.code.Rows.{Gains, Among}
 use Rattle.mh_ways.specs.Classes.{list_at}
 use Rattle.mh_ways.specs.Left.{IsByLeft}
 use Rattle.mh_ways.specs.Rules.{IsEmptyItem}

@@ -13,7 +13,7 @@ use Rattle.mh_least.specs.Orders.{cap}
 use Rattle.mh_ways.specs.declared.work.Item.{Item}
 use Rattle.mh_ways.specs.declared.work.Work.{Work}
 use Rattle.mh_ways.specs.declared.classes.Classes.{Classes}
-use Rattle.mh_ways.specs.Rows.{Waits, Gains, IsOne}
+use Rattle.mh_ways.specs.code.Rows.{Waits, Gains, IsOne}
 use Rattle.mh_ways.specs.Classes.{IsClasses, rep_of}
 use Rattle.mh_ways.specs.Rules.{queue_of}
 use Rattle.mh_ways.specs.Tales.{NoLater, WordBy}

@@ -13,12 +13,12 @@ use Rattle.mh_ways.specs.declared.work.Whole.{Whole}
 use Rattle.mh_ways.specs.declared.work.Way.{Way}
 use Rattle.mh_ways.specs.declared.work.Work.{Work}
 use Rattle.mh_ways.specs.declared.classes.Classes.{Classes}
-use Rattle.mh_ways.specs.Rows.{Gains, Among, Files}
+use Rattle.mh_ways.specs.code.Rows.{Gains, Among, Files}
 use Rattle.mh_ways.specs.Classes.{rep_of, place_of, list_at}
 use Rattle.mh_ways.specs.Rules.{FollowsShift, FollowsWay, Goes, whole_of, way_of, IsWayOf, queue_of, paths_at, wholes_at, Knows, Follows, Expanded}
 use Rattle.mh_ways.specs.Rules as rules
 use Rattle.mh_search.specs.Adding.{Adds, MeetsOn, paths_before}
-use Rattle.mh_ways.specs.Rows.{Collects}
+use Rattle.mh_ways.specs.code.Rows.{Collects}
 
 none_some : {X : Type 0} (o : Option X) (x : X) → o ≡ None → o ≡ Some x → ⊥
 none_some o x a b = (let y : None ≡ Some x = sym a ∙ b in cc)

@@ -21,7 +21,7 @@ use Rattle.mh_ways.specs.declared.classes.Classes.{Classes}
 use Rattle.mh_found.specs.declared.numbers.Numbering.{Numbering}
 use Rattle.mh_search.specs.declared.ranking.Ranked.{Ranked}
 use Rattle.mh_found.specs.declared.found.Found.{Found}
-use Rattle.mh_ways.specs.Rows.{Waits, Gains, IsOne}
+use Rattle.mh_ways.specs.code.Rows.{Waits, Gains, IsOne}
 use Rattle.mh_ways.specs.Classes.{IsClasses, rep_of}
 use Rattle.mh_search.specs.Begins.{IsBegun}
 use Rattle.mh_ways.specs.Rules.{path_of, queue_of, Expanded}

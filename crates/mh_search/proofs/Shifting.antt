@@ -13,7 +13,7 @@ use Rattle.mh_least.specs.Orders.{cap}
 use Rattle.mh_ways.specs.declared.work.Item.{Item}
 use Rattle.mh_ways.specs.declared.work.Path.{Path}
 use Rattle.mh_ways.specs.declared.classes.Classes.{Classes}
-use Rattle.mh_ways.specs.Rows.{Gains, Among}
+use Rattle.mh_ways.specs.code.Rows.{Gains, Among}
 use Rattle.mh_ways.specs.Classes.{IsClasses, rep_of, list_at}
 use Rattle.mh_ways.specs.Rules.{FollowsShift, further}
 use Rattle.mh_search.specs.Adding.{WithNext, with_next}

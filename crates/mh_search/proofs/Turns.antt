@@ -30,7 +30,7 @@ use Rattle.mh_ways.specs.declared.work.Way.{Way}
 use Rattle.mh_ways.specs.declared.work.Work.{Work}
 use Rattle.mh_found.specs.declared.found.Found.{Found}
 use Rattle.mh_ways.specs.declared.classes.Classes.{Classes}
-use Rattle.mh_ways.specs.Rows.{Waits}
+use Rattle.mh_ways.specs.code.Rows.{Waits}
 use Rattle.mh_ways.specs.Classes.{IsClasses, rep_of, place_of}
 use Rattle.mh_ways.specs.Rules.{InRange, path_of, further, FollowsShift, Fits, FollowsWay, Goes, whole_of, way_of, IsWayOf, queue_of, paths_at, wholes_at, Knows, HasRows, IsReady, Follows, Expanded, IsEmptyItem}
 use Rattle.mh_ways.specs.Rules as rules

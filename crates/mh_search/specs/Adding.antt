@@ -8,7 +8,7 @@ use Rattle.mh_ways.specs.declared.work.Whole.{Whole}
 use Rattle.mh_ways.specs.declared.work.Way.{Way}
 use Rattle.mh_ways.specs.declared.work.Work.{Work}
 use Rattle.mh_ways.specs.declared.classes.Classes.{Classes}
-use Rattle.mh_ways.specs.Rows.{Waits, Among, IsOne}
+use Rattle.mh_ways.specs.code.Rows.{Waits, Among, IsOne}
 use Rattle.mh_ways.specs.Classes.{place_of}
 use Rattle.mh_ways.specs.Rules.{FollowsWay, Goes, whole_of, way_of, IsWayOf, queue_of, paths_at, wholes_at, Knows}
 

@@ -12,7 +12,7 @@ use Rattle.mh_ways.specs.declared.work.Whole.{Whole}
 use Rattle.mh_ways.specs.declared.work.Way.{Way}
 use Rattle.mh_ways.specs.declared.classes.Classes.{Classes}
 use Rattle.mh_ways.specs.declared.left.ByLeft.{ByLeft}
-use Rattle.mh_ways.specs.Rows.{Among, IsOne, Waits, Below}
+use Rattle.mh_ways.specs.code.Rows.{Among, IsOne, Waits, Below}
 use Rattle.mh_ways.specs.Left.{left_at}
 use Rattle.mh_ways.specs.Rules.{IsEmptyItem, queue_of, paths_at, wholes_at, Knows}
 

@@ -13,7 +13,7 @@ use Rattle.mh_ways.specs.declared.work.Whole.{Whole}
 use Rattle.mh_ways.specs.declared.work.Way.{Way}
 use Rattle.mh_ways.specs.declared.work.Work.{Work}
 use Rattle.mh_ways.specs.declared.classes.Classes.{Classes}
-use Rattle.mh_ways.specs.Rows.{Waits, Beside}
+use Rattle.mh_ways.specs.code.Rows.{Waits, Beside}
 use Rattle.mh_found.specs.Drawn.{DrawsOne, DrawsNone, Keeps, DrawsSome, DrawsAll}
 use Rattle.mh_ways.specs.Classes.{rep_of, place_of}
 use Rattle.mh_ways.specs.Rules.{InRange, path_of, way_of, queue_of, paths_at, wholes_at, Knows, IsReady}

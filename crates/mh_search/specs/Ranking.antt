@@ -10,7 +10,7 @@ use Rattle.mh_ways.specs.declared.work.Item.{Item}
 use Rattle.mh_ways.specs.declared.classes.Classes.{Classes}
 use Rattle.mh_search.specs.declared.ranking.Ranked.{Ranked}
 use Rattle.mh_found.specs.declared.found.Found.{Found}
-use Rattle.mh_ways.specs.Rows.{Waits}
+use Rattle.mh_ways.specs.code.Rows.{Waits}
 use Rattle.mh_ways.specs.Rules.{queue_of}
 use Rattle.mh_ways.specs.Tales.{WordBy}
 use Rattle.mh_search.specs.Good.{Good, InOrder, LevelReady}

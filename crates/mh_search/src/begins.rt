@@ -1,7 +1,7 @@
 //! The facts of empty paths, with which the search begins.
 ghost use Rattle.std.specs.Prelude.{◌≡◌, ◌<◌, ℕ, [], OnOk, IfOk, length};
 ghost use Rattle.mh_grammar.specs.declared.types.Symbol.TheVariants.{N};
-ghost use Rattle.mh_ways.specs.Rows.{Gains, Among, row_of};
+ghost use Rattle.mh_ways.specs.code.Rows.{Gains, Among, row_of};
 ghost use Rattle.mh_ways.specs.Classes.{IsClasses};
 ghost use Rattle.mh_ways.specs.Rules.{IsEmptyItem};
 ghost use Rattle.mh_ways.specs.Left.{IsByLeft};

@@ -7,11 +7,11 @@ ghost use Rattle.mh_least.specs.Orders.{cap};
 ghost use Rattle.std.specs.List.{Contains};
 ghost use Rattle.mh_ways.specs.declared.work.Whole.{Whole};
 ghost use Rattle.mh_ways.specs.declared.work.Path.{Path};
-ghost use Rattle.mh_ways.specs.Rows.{Gains, Among, IsOne, Files};
+ghost use Rattle.mh_ways.specs.code.Rows.{Gains, Among, IsOne, Files};
 ghost use Rattle.mh_ways.specs.Classes.{IsClasses, rep_of, place_of};
 ghost use Rattle.mh_ways.specs.Rules.{InRange, FollowsShift, FollowsWay, HasRows, IsReady, Expanded, whole_of, wholes_at};
 ghost use Rattle.mh_search.specs.Adding.{WithNext, Adds, MeetsOn};
-ghost use Rattle.mh_ways.specs.Rows.{Collects};
+ghost use Rattle.mh_ways.specs.code.Rows.{Collects};
 ghost use Rattle.mh_ways.specs.Classes.{list_at};
 
 use mh_facts::{Back, FactKey};

@@ -10,10 +10,10 @@ use Rattle.mh_engine.specs.declared.checkpoint.Checkpoint.{Checkpoint}
 use Rattle.mh_engine.specs.Branches.{Branch, StandsAt}
 use Rattle.mh_grammar.specs.Text.{Text}
 use Rattle.mh_branches.specs.Names.{same, at_name, without, with_name}
-use Rattle.mh_session.specs.Moments.{Moment}
+use Rattle.mh_session.specs.code.Moments.{Moment}
 use Rattle.mh_branches.specs.Answers.{Branches}
 use Rattle.mh_session.specs.Standing.{Fits, StandsFor}
-use Rattle.mh_session.specs.Puts.{Puts, AreOf}
+use Rattle.mh_session.specs.code.Puts.{Puts, AreOf}
 
 -- the positions of a session are of its table
 pub of_table : (t : TableData) (held : List (Text × Position)) (name : Text) (o : Option (Bor Checkpoint)) → option_copied o ≡ at_name name held → AreOf t held → IfSome o (λ c. c.now.table ≡ t)

@@ -12,7 +12,7 @@ use Rattle.mh_branches.specs.Names.{same}
 use Rattle.mh_branches.specs.Lines.{Form, BeginOnly, BeginAt, OfferTo, ResumeOf, ForkTo, ShowOf, TreeOf, ForgetOf, words_of, HasForm, said_by, ReadsCommand}
 use Rattle.mh_branches.specs.Forms.{of_one, of_two, of_words, form_of}
 use Rattle.mh_branches.proofs.Forms.{has_form}
-use Rattle.mh_session.specs.Forms.{ReadsSaid}
+use Rattle.mh_session.specs.code.Forms.{ReadsSaid}
 use Rattle.mh_grammar.proofs.SameText.{same_is}
 
 -- ---- only the words of a form are of that form

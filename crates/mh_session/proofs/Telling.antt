@@ -6,7 +6,7 @@ use Rattle.mh_tables.specs.Table.{TableData}
 use Rattle.mh_commands.specs.declared.command.Command.{Command}
 use Rattle.mh_branches.specs.declared.command.SessionFault.{SessionFault}
 use Rattle.mh_branches.specs.declared.command.SessionFault.TheVariants as faults
-use Rattle.mh_session.specs.Moments.{Moment}
+use Rattle.mh_session.specs.code.Moments.{Moment}
 use Rattle.mh_engine.specs.Positions.{Position}
 use Rattle.mh_grammar.specs.Text.{Text}
 use Rattle.mh_branches.specs.Names.{at_name}

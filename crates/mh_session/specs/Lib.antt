@@ -1,5 +1,3 @@
-pub mod Forms
-pub mod Moments
-pub mod Puts
 pub mod Served
 pub mod Standing
+pub mod code

@@ -4,7 +4,7 @@ use Rattle.mh_engine.specs.declared.phase.Phase.{Phase}
 use Rattle.mh_commands.specs.declared.command.Command.{Command}
 use Rattle.mh_branches.specs.declared.command.SessionFault.{SessionFault}
 use Rattle.mh_branches.specs.declared.command.SessionFault.TheVariants as faults
-use Rattle.mh_session.specs.Moments.{Moment}
+use Rattle.mh_session.specs.code.Moments.{Moment}
 use Rattle.mh_branches.specs.Answers.{Answer, Branches, answer, next}
 use Rattle.mh_session.specs.Standing.{StandsFor}
 

@@ -5,7 +5,7 @@ use Rattle.mh_engine.specs.Positions.{Position}
 use Rattle.mh_engine.specs.Branches.{Branch, StandsAt}
 use Rattle.mh_grammar.specs.Text.{Text}
 use Rattle.mh_branches.specs.Names.{at_name}
-use Rattle.mh_session.specs.Moments.{Moment}
+use Rattle.mh_session.specs.code.Moments.{Moment}
 use Rattle.mh_branches.specs.Answers.{Branches}
 
 -- both have nothing, or a position of the table and its branch

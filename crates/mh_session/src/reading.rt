@@ -6,7 +6,7 @@ ghost use Rattle.mh_msgfile.specs.Sentences.{pieces, vocabulary_in, vocabulary_o
 ghost use Rattle.mh_branches.specs.Names.{same};
 ghost use Rattle.mh_branches.specs.Lines.{ReadsCommand, said_by};
 ghost use Rattle.mh_branches.specs.Forms.{of_one, of_two, form_by, form_of};
-ghost use Rattle.mh_session.specs.Forms.{as_form, as_forms, FirstWord, ReadsSaid};
+ghost use Rattle.mh_session.specs.code.Forms.{as_form, as_forms, FirstWord, ReadsSaid};
 
 use mh_branches::CommandFault;
 use mh_commands::Command;

@@ -5,7 +5,7 @@ ghost use Rattle.mh_engine.specs.Phases.{phase_of, CanGoOn};
 ghost use Rattle.mh_branches.specs.declared.command.Reply.TheVariants as replies;
 ghost use Rattle.mh_branches.specs.declared.command.SessionFault.TheVariants as faults;
 ghost use Rattle.mh_branches.specs.Names.{at_name};
-ghost use Rattle.mh_session.specs.Puts.{Puts};
+ghost use Rattle.mh_session.specs.code.Puts.{Puts};
 ghost use Rattle.mh_branches.specs.Answers.{IsKnown, Branches, answer, next};
 ghost use Rattle.mh_session.specs.Standing.{StandsFor};
 ghost use Rattle.mh_session.specs.Served.{IsServed};
@@ -29,18 +29,18 @@ pub struct Session<'t> {
 }
 
 impl<'t> Model for Session<'t> {
-    ghost use Rattle.mh_session.specs.Moments.{Moment};
+    ghost use Rattle.mh_session.specs.code.Moments.{Moment};
 
     ghost Value = { Moment };
 
-    ghost use Rattle.mh_engine.specs.Pairs.{pairs_code};
+    ghost use Rattle.mh_engine.specs.code.Pairs.{pairs_code};
     ghost use Rattle.std.specs.Coded.{codes};
 
     ghost coded = { Prim.hlevel (codes, pairs_code) };
 
     ghost view = { λ s. record { table = s.table.now; held = s.branches.entries } };
 
-    ghost use Rattle.mh_session.specs.Puts.{AreOf};
+    ghost use Rattle.mh_session.specs.code.Puts.{AreOf};
 
     ghost invariant = { λ s. AreOf s.table.now s.branches.entries };
 }

@@ -8,7 +8,7 @@ use Rattle.mh_ways.specs.declared.work.Way.{Way}
 use Rattle.std.proofs.lemmas.List.{get_or_default}
 use Rattle.std.proofs.lemmas.List.Sorted.{Contains-permutation, IsPermutation-sym}
 use Rattle.mh_grammar.proofs.Lists.{contains_here, contains_there, contains_cases}
-use Rattle.mh_ways.specs.Rows.{Collects}
+use Rattle.mh_ways.specs.code.Rows.{Collects}
 use Rattle.mh_ways.proofs.Firsts.{OfFirst, of_none, of_more, of_fewer, of_all, of_some}
 
 module _ {X : Type 0} where

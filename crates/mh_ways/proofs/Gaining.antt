@@ -5,7 +5,7 @@ use Rattle.std.specs.Global.{Vec}
 use Rattle.std.proofs.lemmas.Bool.{cases_lt}
 use Rattle.std.proofs.lemmas.List.{get_or_default}
 use Rattle.mh_ways.proofs.Firsts.{OfFirst, of_none, of_more, of_fewer, of_all, of_some}
-use Rattle.mh_ways.specs.Rows.{Gains, IsOne, Among, Below}
+use Rattle.mh_ways.specs.code.Rows.{Gains, IsOne, Among, Below}
 
 module _ {Y : Type 0} where
   pub gains_none : (P : ℕ → Y → Type 0) (q : List (Vec Y)) → ((c : ℕ) (o : Y) → P c o → ⊥) → Gains P q q

@@ -7,7 +7,7 @@ use Rattle.mh_grammar.specs.Plain.{lhs_of, production_count}
 use Rattle.mh_grammar.proofs.Lists.{contains_none}
 use Rattle.mh_tables.specs.Table.{TableData}
 use Rattle.mh_ways.specs.declared.left.ByLeft.{ByLeft}
-use Rattle.mh_ways.specs.Rows.{row_of, Files}
+use Rattle.mh_ways.specs.code.Rows.{row_of, Files}
 use Rattle.mh_ways.specs.Left.{IsByLeft, IsByLeftTo}
 
 pub left_begins : (t : TableData) (left : ByLeft) → length left.rows.items ≡ t.grammar.nonterminals → ((n : ℕ) → row_of left.rows.items n ≡ []) → IsByLeftTo t (length t.grammar.starts) left

@@ -6,7 +6,7 @@ use Rattle.std.proofs.lemmas.List.Elements.{Contains-append_left}
 use Rattle.std.specs.Prelude.{slice_set, option_to_list, IsSome}
 use Rattle.std.specs.Global.{Vec}
 use Rattle.mh_grammar.proofs.Lists.{contains_last, contains_none, contains_push}
-use Rattle.mh_ways.specs.Rows.{row_of, Files, Gains, IsOne, Taken, NoneTaken, Takes}
+use Rattle.mh_ways.specs.code.Rows.{row_of, Files, Gains, IsOne, Taken, NoneTaken, Takes}
 
 module _ {X : Type 0} where
   -- an empty row behind rows

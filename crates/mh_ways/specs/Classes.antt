@@ -6,7 +6,7 @@ use Rattle.mh_tables.specs.Table.{TableData}
 use Rattle.mh_least.specs.Least.{GoesLike}
 use Rattle.mh_ways.specs.declared.classes.Class.{Class}
 use Rattle.mh_ways.specs.declared.classes.Classes.{Classes}
-use Rattle.mh_ways.specs.Rows.{row_of}
+use Rattle.mh_ways.specs.code.Rows.{row_of}
 
 abbrev pub class_in : Classes → ℕ → ℕ → Option Class
 class_in c s z = slice_get (row_of c.rows.items s) z

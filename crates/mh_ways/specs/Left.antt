@@ -4,7 +4,7 @@ use Rattle.std.specs.List.{Contains}
 use Rattle.mh_grammar.specs.Plain.{IsProductionFor}
 use Rattle.mh_tables.specs.Table.{TableData}
 use Rattle.mh_ways.specs.declared.left.ByLeft.{ByLeft}
-use Rattle.mh_ways.specs.Rows.{row_of}
+use Rattle.mh_ways.specs.code.Rows.{row_of}
 
 abbrev pub left_at : ByLeft → ℕ → List ℕ
 left_at left n = row_of left.rows.items n

@@ -1,5 +1,5 @@
 pub mod Classes
 pub mod Left
-pub mod Rows
 pub mod Rules
 pub mod Tales
+pub mod code

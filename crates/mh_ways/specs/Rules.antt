@@ -16,7 +16,7 @@ use Rattle.mh_ways.specs.declared.work.Whole.{Whole}
 use Rattle.mh_ways.specs.declared.work.Way.{Way}
 use Rattle.mh_ways.specs.declared.work.Work.{Work}
 use Rattle.mh_ways.specs.declared.classes.Classes.{Classes}
-use Rattle.mh_ways.specs.Rows.{Waits, IsOne, row_of}
+use Rattle.mh_ways.specs.code.Rows.{Waits, IsOne, row_of}
 use Rattle.mh_ways.specs.Classes.{rep_of, place_of, list_at}
 
 -- the numbers of a fact are the table's, and it ends where its path does

@@ -1,6 +1,6 @@
 //! What waits, by cost.
 ghost use Rattle.std.specs.Prelude.{◌≡◌, [], OnOk};
-ghost use Rattle.mh_ways.specs.Rows.{Gains, IsOne, Takes};
+ghost use Rattle.mh_ways.specs.code.Rows.{Gains, IsOne, Takes};
 
 use mh_grammar::Memory;
 use std::alloc::Global;

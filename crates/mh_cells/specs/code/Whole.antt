@@ -15,7 +15,7 @@ use Rattle.mh_grammar.specs.Plain.{plain_of, IsLookBelow}
 use Rattle.mh_grammar.specs.Edges.{find_edge}
 use Rattle.mh_grammar.specs.declared.types.Symbol.TheVariants.{T}
 use Rattle.mh_cells.specs.declared.cells.Cell.{Cell}
-pub use Rattle.mh_actions.specs.Rows.{kept_of}
+pub use Rattle.mh_actions.specs.code.Rows.{kept_of}
 use Rattle.mh_cells.specs.States.{State, Raw, IsStreamConflict, IsForErrors}
 use Rattle.mh_cells.specs.code.Rows.{AreCells, IsDecidedOn}
 

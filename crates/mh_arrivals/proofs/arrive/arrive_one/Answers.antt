@@ -1,5 +1,5 @@
 use Rattle.std.proofs.Common.{◌<◌, ◌++◌, ◌∷◌, [], arith, drop, inl, sym}
-use Rattle.mh_ways.specs.Rows.{Gains}
+use Rattle.mh_ways.specs.code.Rows.{Gains}
 use Rattle.mh_arrivals.specs.Arriving.{ComesNext, GoesOn, ReadyAt}
 use Rattle.mh_arrivals.proofs.Arriving.{arrival_for, arrive_settles}
 use Rattle.mh_arrivals.proofs.Levels.{level_drained, level_pushed}

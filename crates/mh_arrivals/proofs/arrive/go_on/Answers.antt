@@ -2,7 +2,7 @@ use Rattle.std.proofs.Common.{◌≡◌, ◌<◌, ap, sym, ◌∙◌, arith, len
 use Rattle.std.specs.Global.{Vec}
 use Rattle.std.proofs.lemmas.Result.{on_ok_weaker}
 use Rattle.mh_ways.specs.declared.work.Whole.{Whole}
-use Rattle.mh_ways.specs.Rows.{row_of, Among}
+use Rattle.mh_ways.specs.code.Rows.{row_of, Among}
 use Rattle.mh_ways.specs.Classes.{place_of}
 use Rattle.mh_arrivals.specs.Arriving.{StepsShift, StepsWay}
 use Rattle.mh_ways.proofs.Rowing.{row_is}

@@ -1,5 +1,5 @@
 use Rattle.std.proofs.Common.{length}
-use Rattle.mh_ways.specs.Rows.{row_of}
+use Rattle.mh_ways.specs.code.Rows.{row_of}
 use Rattle.mh_found.proofs.Queueing.{Thinned}
 use Rattle.mh_arrivals.specs.Arriving.{IsDone}
 use Rattle.mh_arrivals.proofs.arrive.next_coming.Given as goal

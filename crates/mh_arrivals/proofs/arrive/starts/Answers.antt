@@ -1,5 +1,5 @@
 use Rattle.std.proofs.Common.{◌≡◌, arith, length, []}
-use Rattle.mh_ways.specs.Rows.{Among}
+use Rattle.mh_ways.specs.code.Rows.{Among}
 use Rattle.mh_ways.specs.Classes.{list_at}
 use Rattle.mh_arrivals.specs.Arriving.{StartsOn}
 use Rattle.mh_ways.proofs.Gaining.{below_begins, below_goes}

@@ -1,5 +1,5 @@
 use Rattle.std.proofs.Common.{[]}
-use Rattle.mh_ways.specs.Rows.{Gains, Below, Among}
+use Rattle.mh_ways.specs.code.Rows.{Gains, Below, Among}
 use Rattle.mh_ways.specs.Classes.{list_at}
 use Rattle.mh_arrivals.specs.Arriving.{StartsOn}
 use Rattle.mh_arrivals.proofs.arrive.starts.Given as goal

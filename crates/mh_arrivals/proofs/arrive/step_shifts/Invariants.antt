@@ -1,5 +1,5 @@
 use Rattle.mh_tables.specs.Table.{state_at}
-use Rattle.mh_ways.specs.Rows.{Gains}
+use Rattle.mh_ways.specs.code.Rows.{Gains}
 use Rattle.mh_arrivals.specs.Arriving.{StepsEdge}
 use Rattle.mh_ways.proofs.Gaining.{First}
 use Rattle.mh_arrivals.proofs.arrive.step_shifts.Given as goal

@@ -1,4 +1,4 @@
-use Rattle.mh_ways.specs.Rows.{Gains}
+use Rattle.mh_ways.specs.code.Rows.{Gains}
 use Rattle.mh_arrivals.specs.Arriving.{StepsWay}
 use Rattle.mh_ways.proofs.Gaining.{First}
 use Rattle.mh_arrivals.proofs.arrive.step_ways.Given as goal

@@ -1,5 +1,5 @@
 use Rattle.std.proofs.Common.{length}
-use Rattle.mh_ways.specs.Rows.{row_of}
+use Rattle.mh_ways.specs.code.Rows.{row_of}
 use Rattle.mh_arrivals.specs.Arriving.{TakesComings}
 use Rattle.mh_arrivals.proofs.arrive.take_all.Given as goal
 

@@ -1,6 +1,6 @@
 use Rattle.std.proofs.Common.{take}
 use Rattle.mh_producers.specs.MadeOf.{IsAmong}
-use Rattle.mh_cycles.specs.Found.{Adds}
+use Rattle.mh_cycles.specs.code.Found.{Adds}
 use Rattle.mh_cycles.proofs.cycles.add_side.Given as goal
 
 abbrev pub invariant-loop-part : goal.invariant-loop-part

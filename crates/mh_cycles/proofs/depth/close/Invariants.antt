@@ -1,5 +1,5 @@
 use Rattle.std.proofs.Common.{length}
-use Rattle.mh_cycles.specs.Searching.{IsSearch}
+use Rattle.mh_cycles.specs.code.Searching.{IsSearch}
 use Rattle.mh_cycles.proofs.depth.close.Given as goal
 
 abbrev pub invariant-loop-member : goal.invariant-loop-member

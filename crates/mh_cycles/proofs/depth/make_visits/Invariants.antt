@@ -1,5 +1,5 @@
 use Rattle.std.proofs.Common.{length}
-use Rattle.mh_cycles.specs.Searching.{IsSearch}
+use Rattle.mh_cycles.specs.code.Searching.{IsSearch}
 use Rattle.mh_cycles.proofs.depth.make_visits.Given as goal
 
 abbrev pub invariant-loop : goal.invariant-loop

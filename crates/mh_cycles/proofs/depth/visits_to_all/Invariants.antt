@@ -1,5 +1,5 @@
 use Rattle.std.specs.List.{All}
-use Rattle.mh_cycles.specs.Searching.{IsVisitBelow}
+use Rattle.mh_cycles.specs.code.Searching.{IsVisitBelow}
 use Rattle.mh_cycles.proofs.depth.visits_to_all.Given as goal
 
 abbrev pub invariant-loop-number : goal.invariant-loop-number

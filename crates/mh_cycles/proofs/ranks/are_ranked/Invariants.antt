@@ -1,5 +1,5 @@
 use Rattle.std.proofs.Common.{ℕ, ◌<◌}
-use Rattle.mh_cycles.specs.Ranks.{IsRanked}
+use Rattle.mh_cycles.specs.code.Ranks.{IsRanked}
 use Rattle.mh_cycles.proofs.ranks.are_ranked.Given as goal
 
 abbrev pub invariant-loop-number : goal.invariant-loop-number

@@ -1,6 +1,6 @@
 use Rattle.std.proofs.Common.{subst}
 use Rattle.std.proofs.lemmas.Result.{IfOk-weaker}
-use Rattle.mh_cycles.specs.Ranks.{IsAbove}
+use Rattle.mh_cycles.specs.code.Ranks.{IsAbove}
 use Rattle.mh_cycles.proofs.Ranked.{no_cycle}
 use Rattle.mh_cycles.proofs.ranks.is_on_no_cycle.Goals as goal
 

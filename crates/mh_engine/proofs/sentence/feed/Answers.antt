@@ -1,9 +1,9 @@
 use Rattle.std.proofs.Common.{◌≡◌, ◌<◌, ℕ, List, [], ◌∷◌, ◌++◌, ap, sym, subst, ◌∙◌}
 use Rattle.mh_tables.specs.Table.{TableData}
 use Rattle.mh_engine.specs.Positions.{Position}
-use Rattle.mh_engine.specs.Settled.{SettlesTo}
+use Rattle.mh_engine.specs.code.Settled.{SettlesTo}
 use Rattle.mh_engine.specs.Steps.{offered}
-use Rattle.mh_engine.specs.Reached.{ReadsNext}
+use Rattle.mh_engine.specs.code.Reached.{ReadsNext}
 use Rattle.mh_engine.proofs.Reading.{Feeds, reads_on, feeds, feeds_on, reads_deep, feeds_deep, step_deep, reads_accept, feeds_accept, feeds_reject, reads_more, not_at_end, not_fed, settles_table, shifts_here}
 use Rattle.mh_engine.proofs.sentence.feed.Goals as goal
 

@@ -1,4 +1,4 @@
-use Rattle.mh_engine.specs.Reached.{Reads}
+use Rattle.mh_engine.specs.code.Reached.{Reads}
 use Rattle.mh_engine.proofs.sentence.run.Given as goal
 
 abbrev pub invariant-loop-place : goal.invariant-loop-place

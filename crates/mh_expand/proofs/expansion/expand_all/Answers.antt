@@ -1,8 +1,8 @@
 use Rattle.std.proofs.Common.{ℕ, ◌<◌, ◌++◌, nat_eq, length, take, get_or, subst, sym, ◌∙◌, arith}
 use Rattle.indexmap.specs.IndexMap.{get}
 use Rattle.mh_expand.specs.Expansion.{finds, Fails, Causes, producers_of}
-use Rattle.mh_expand.specs.Sharing.{terms_of, term_at, terms_at}
-use Rattle.mh_expand.specs.Searching.{IsFit, WentInstance}
+use Rattle.mh_expand.specs.code.Sharing.{terms_of, term_at, terms_at}
+use Rattle.mh_expand.specs.code.Searching.{IsFit, WentInstance}
 use Rattle.mh_expand.proofs.Shared.{terms_of-distinct}
 use Rattle.mh_expand.proofs.Going.{IsLonger-found}
 use Rattle.mh_expand.proofs.Expanding.{fit_next, fault_next, IsExpanding-step, IsLonger-none, IsLonger-more}

@@ -1,7 +1,7 @@
 use Rattle.std.proofs.Common.{◌-◌, nat_eq, length}
 use Rattle.indexmap.specs.IndexMap.{get}
-use Rattle.mh_expand.specs.Sharing.{terms_of, terms_at}
-use Rattle.mh_expand.specs.Searching.{IsExpanding, IsLonger}
+use Rattle.mh_expand.specs.code.Sharing.{terms_of, terms_at}
+use Rattle.mh_expand.specs.code.Searching.{IsExpanding, IsLonger}
 use Rattle.mh_expand.proofs.expansion.expand_all.Given as goal
 
 abbrev pub decreases-instances : goal.decreases-instances

@@ -3,7 +3,7 @@ use Rattle.std.proofs.lemmas.List.{take_all}
 use Rattle.std.proofs.lemmas.Option.{slice_get_within}
 use Rattle.mh_expand.specs.Terms.{arguments}
 use Rattle.mh_expand.specs.Expansion.{Fails, Causes}
-use Rattle.mh_expand.specs.Sharing.{terms_of, terms_at}
+use Rattle.mh_expand.specs.code.Sharing.{terms_of, terms_at}
 use Rattle.mh_expand.proofs.Actuals.{stands}
 use Rattle.mh_expand.proofs.Going.{below_grows}
 use Rattle.mh_expand.proofs.Steps.{producers_none, producers_more, producers_fail}

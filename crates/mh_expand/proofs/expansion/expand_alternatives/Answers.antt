@@ -1,6 +1,6 @@
 use Rattle.std.proofs.Common.{arith}
 use Rattle.std.proofs.lemmas.List.{take_all}
-use Rattle.mh_expand.specs.Sharing.{terms_of}
+use Rattle.mh_expand.specs.code.Sharing.{terms_of}
 use Rattle.mh_expand.proofs.Going.{below_grows}
 use Rattle.mh_expand.proofs.Steps.{alternatives_none, alternatives_more, alternatives_fail}
 use Rattle.mh_expand.proofs.expansion.expand_alternatives.Goals as goal

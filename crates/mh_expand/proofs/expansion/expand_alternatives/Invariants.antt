@@ -1,5 +1,5 @@
 use Rattle.std.proofs.Common.{take}
-use Rattle.mh_expand.specs.Sharing.{terms_of}
+use Rattle.mh_expand.specs.code.Sharing.{terms_of}
 use Rattle.mh_expand.proofs.Steps.{AlternativesSoFar}
 use Rattle.mh_expand.proofs.expansion.expand_alternatives.Given as goal
 

@@ -4,8 +4,8 @@ use Rattle.mh_grammar.specs.Numbering.{Names}
 use Rattle.mh_rules.specs.declared.instances.Expanded.{Expanded}
 use Rattle.mh_expand.specs.Expansion.{IsExpanded, start_terms}
 use Rattle.mh_expand.specs.Whole.{IsExpandedWhole}
-use Rattle.mh_expand.specs.Sharing.{terms_of, terms_at}
-use Rattle.mh_expand.specs.Searching.{IsSearch, WentStarts}
+use Rattle.mh_expand.specs.code.Sharing.{terms_of, terms_at}
+use Rattle.mh_expand.specs.code.Searching.{IsSearch, WentStarts}
 use Rattle.mh_expand.proofs.Shared.{terms_of-distinct}
 use Rattle.mh_expand.proofs.Expanding.{fault_start, IsSearch-none, IsExpanding-start, IsExpanded-done, Names-longer}
 use Rattle.mh_expand.proofs.Same.{has_same_sentences}

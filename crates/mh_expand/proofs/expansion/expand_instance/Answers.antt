@@ -3,8 +3,8 @@ use Rattle.std.specs.Option.{option_map}
 use Rattle.mh_rules.specs.declared.joined.JoinedRule.{JoinedRule}
 use Rattle.mh_expand.specs.Terms.{Term, arguments}
 use Rattle.mh_expand.specs.Expansion.{Fails, Causes, rule_at, rule_of, alternatives_of, producers_of, right_side, IsRank}
-use Rattle.mh_expand.specs.Sharing.{terms_of, term_at}
-use Rattle.mh_expand.specs.Searching.{IsFit, WentInstance}
+use Rattle.mh_expand.specs.code.Sharing.{terms_of, term_at}
+use Rattle.mh_expand.specs.code.Searching.{IsFit, WentInstance}
 use Rattle.mh_expand.proofs.Shared.{get_term, node_head}
 use Rattle.mh_expand.proofs.Going.{rule_there, alternatives_there}
 use Rattle.mh_expand.proofs.expansion.expand_instance.Goals as goal

@@ -2,8 +2,8 @@ use Rattle.std.proofs.Common.{◌≡◌, ◌++◌, List, flat_map, sym, ap, ◌�
 use Rattle.std.proofs.lemmas.Result.{IfOk-weaker, IfErr-weaker}
 use Rattle.mh_expand.specs.Terms.{Term, arguments}
 use Rattle.mh_expand.specs.Expansion.{Fails, Causes, right_side}
-use Rattle.mh_expand.specs.Sharing.{terms_of, term_at, terms_at}
-use Rattle.mh_expand.specs.Searching.{IsSearch, WentAlternatives}
+use Rattle.mh_expand.specs.code.Sharing.{terms_of, term_at, terms_at}
+use Rattle.mh_expand.specs.code.Searching.{IsSearch, WentAlternatives}
 use Rattle.mh_expand.proofs.Shared.{node_arguments}
 use Rattle.mh_expand.proofs.expansion.expand_rule.Goals as goal
 

@@ -4,8 +4,8 @@ use Rattle.std.proofs.lemmas.List.{take_all}
 use Rattle.indexmap.specs.IndexMap.{get}
 use Rattle.mh_grammar.proofs.Lists.{taken}
 use Rattle.mh_expand.specs.Terms.{term_of}
-use Rattle.mh_expand.specs.Sharing.{terms_of}
-use Rattle.mh_expand.specs.Searching.{AddsRank}
+use Rattle.mh_expand.specs.code.Sharing.{terms_of}
+use Rattle.mh_expand.specs.code.Searching.{AddsRank}
 use Rattle.mh_expand.proofs.Shared.{terms_of-distinct}
 use Rattle.mh_expand.proofs.Ranking.{replaced-none, AreRanks-open, AreRanks-grows, AreRanks-add}
 use Rattle.mh_expand.proofs.ranks.add_ranks.Goals as goal

@@ -2,7 +2,7 @@ use Rattle.std.proofs.Common.{◌≡◌, ◌∷◌, [], ◌+◌, Some, drop, sym
 use Rattle.std.specs.List.{slice_get}
 use Rattle.std.proofs.Math.Seq.{drop-cons}
 use Rattle.std.proofs.lemmas.List.{drop_all}
-use Rattle.mh_expand.specs.Sharing.{terms_of, terms_at}
+use Rattle.mh_expand.specs.code.Sharing.{terms_of, terms_at}
 use Rattle.mh_expand.proofs.Actuals.{stands, IsReplacing, IsReplacing-start, IsReplacing-step, IsReplacing-done}
 use Rattle.mh_expand.proofs.Shared.{terms_at-kept}
 use Rattle.mh_expand.proofs.replacing.+replace.Goals as goal

@@ -1,5 +1,5 @@
 use Rattle.std.proofs.Common.{drop}
-use Rattle.mh_expand.specs.Sharing.{terms_of, terms_at}
+use Rattle.mh_expand.specs.code.Sharing.{terms_of, terms_at}
 use Rattle.mh_expand.proofs.Actuals.{stands, IsReplacing}
 use Rattle.mh_expand.proofs.replacing.+replace.Given as goal
 

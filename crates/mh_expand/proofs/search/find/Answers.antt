@@ -1,7 +1,7 @@
 use Rattle.std.proofs.Common.{◌≡◌, refl, sym, ap, ◌∙◌}
 use Rattle.mh_rules.specs.declared.joined.Head.TheVariants.{Token}
 use Rattle.mh_expand.specs.Terms.{Atom, apply_all}
-use Rattle.mh_expand.specs.Sharing.{terms_of, term_at, terms_at, node_term}
+use Rattle.mh_expand.specs.code.Sharing.{terms_of, term_at, terms_at, node_term}
 use Rattle.mh_expand.proofs.Shared.{node_count, node_head, term_got}
 use Rattle.mh_expand.proofs.Found.{Finds-token, empty_list}
 use Rattle.mh_expand.proofs.search.find.Goals as goal

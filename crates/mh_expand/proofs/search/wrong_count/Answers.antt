@@ -1,5 +1,5 @@
 use Rattle.mh_expand.proofs.Found.{wrong_count}
-use Rattle.mh_expand.specs.Sharing.{terms_of, term_at}
+use Rattle.mh_expand.specs.code.Sharing.{terms_of, term_at}
 use Rattle.mh_expand.proofs.search.wrong_count.Goals as goal
 
 pub returns-in-Ok : goal.returns-in-Ok

@@ -1,6 +1,6 @@
 use Rattle.std.proofs.Common.{◌≡◌, ◌<◌, ◌⊎◌, ◌∷◌, ◌++◌, [], take, length, get_or, arith, ap, inl, inr, refl, sym}
 use Rattle.mh_expand.specs.Terms.{text}
-use Rattle.mh_expand.specs.Sharing.{terms_of, term_at}
+use Rattle.mh_expand.specs.code.Sharing.{terms_of, term_at}
 use Rattle.mh_expand.proofs.Room.{take_full, take_within, IsWriting-start, IsWriting-arg, IsWriting-bare, IsWriting-end}
 use Rattle.mh_expand.proofs.texts.+write_term.Goals as goal
 use Rattle.mh_expand.proofs.texts.+write_term.Goals.{then-place-eq0, else-place-eq0}

@@ -1,6 +1,6 @@
 use Rattle.std.proofs.Common.{take}
 use Rattle.mh_expand.specs.Terms.{Atom, apply_all}
-use Rattle.mh_expand.specs.Sharing.{terms_of, terms_at}
+use Rattle.mh_expand.specs.code.Sharing.{terms_of, terms_at}
 use Rattle.mh_expand.proofs.Room.{IsWriting}
 use Rattle.mh_expand.proofs.texts.+write_term.Given as goal
 

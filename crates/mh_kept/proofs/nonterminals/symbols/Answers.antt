@@ -1,7 +1,7 @@
 use Rattle.std.proofs.Common.{map, get_or, ap, refl, ◌∙◌}
 use Rattle.std.proofs.lemmas.List.{take_all}
 use Rattle.mh_rules.specs.declared.instances.Part.TheVariants.{Token}
-use Rattle.mh_kept.specs.Making.{symbol_by}
+use Rattle.mh_kept.specs.code.Making.{symbol_by}
 use Rattle.mh_grammar.proofs.Lists.{mapped_more}
 use Rattle.mh_kept.proofs.nonterminals.symbols.Goals as goal
 

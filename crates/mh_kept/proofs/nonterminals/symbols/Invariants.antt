@@ -1,5 +1,5 @@
 use Rattle.std.proofs.Common.{◌≡◌, take, map}
-use Rattle.mh_kept.specs.Making.{symbol_by}
+use Rattle.mh_kept.specs.code.Making.{symbol_by}
 use Rattle.mh_kept.proofs.nonterminals.symbols.Given as goal
 
 abbrev pub invariant-loop-part : goal.invariant-loop-part

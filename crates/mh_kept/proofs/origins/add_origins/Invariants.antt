@@ -1,4 +1,4 @@
-use Rattle.mh_kept.specs.Making.{AreOriginsBelow}
+use Rattle.mh_kept.specs.code.Making.{AreOriginsBelow}
 use Rattle.mh_kept.proofs.origins.add_origins.Given as goal
 
 abbrev pub invariant-loop-alternative : goal.invariant-loop-alternative

@@ -1,4 +1,4 @@
-use Rattle.mh_kept.specs.Making.{AreOriginsBelow}
+use Rattle.mh_kept.specs.code.Making.{AreOriginsBelow}
 use Rattle.mh_kept.proofs.origins.origins_of.Given as goal
 
 abbrev pub invariant-loop-number : goal.invariant-loop-number

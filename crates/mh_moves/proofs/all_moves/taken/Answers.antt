@@ -2,7 +2,7 @@ use Rattle.std.proofs.Common.{◌≡◌, ◌<◌, [], ℕ, length, get_or, set, 
 use Rattle.std.proofs.lemmas.List.{get_or_read}
 use Rattle.std.specs.List.Sorted.{IsStrictlyIncreasing}
 use Rattle.mh_grammar.specs.Plain.{plain_of}
-use Rattle.mh_moves.specs.Rows.{row_at}
+use Rattle.mh_moves.specs.code.Rows.{row_at}
 use Rattle.mh_moves.proofs.Taking.{listed_place, taken-step, taken-all}
 use Rattle.mh_moves.proofs.all_moves.taken.Goals as goal
 

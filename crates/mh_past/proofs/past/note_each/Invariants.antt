@@ -1,4 +1,4 @@
-use Rattle.mh_ways.specs.Rows.{Collects}
+use Rattle.mh_ways.specs.code.Rows.{Collects}
 use Rattle.mh_past.specs.Past.{PastOne}
 use Rattle.mh_ways.proofs.Collecting.{FirstOf}
 use Rattle.mh_past.proofs.past.note_each.Given as goal

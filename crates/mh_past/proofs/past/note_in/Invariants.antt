@@ -1,5 +1,5 @@
 use Rattle.mh_tables.specs.Table.{state_at}
-use Rattle.mh_ways.specs.Rows.{Collects}
+use Rattle.mh_ways.specs.code.Rows.{Collects}
 use Rattle.mh_past.specs.Past.{PastBehind}
 use Rattle.mh_ways.proofs.Collecting.{FirstOf}
 use Rattle.mh_past.proofs.past.note_in.Given as goal

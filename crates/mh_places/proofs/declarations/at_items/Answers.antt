@@ -1,5 +1,5 @@
 use Rattle.std.proofs.Common.{sym, subst}
-use Rattle.mh_places.specs.Machine.{Refers}
+use Rattle.mh_places.specs.code.Machine.{Refers}
 use Rattle.mh_places.proofs.Steps.{items_else}
 use Rattle.mh_places.proofs.declarations.at_items.Goals as goal
 

@@ -1,5 +1,5 @@
 use Rattle.std.proofs.Common.{sym, subst}
-use Rattle.mh_places.specs.Machine.{Refers, suffixed}
+use Rattle.mh_places.specs.code.Machine.{Refers, suffixed}
 use Rattle.mh_reader.proofs.Steps.{suffix_none}
 use Rattle.mh_reader.proofs.actuals.after.Goals as goal
 

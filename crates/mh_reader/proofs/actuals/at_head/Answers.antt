@@ -1,5 +1,5 @@
 use Rattle.std.proofs.Common.{sym, subst}
-use Rattle.mh_places.specs.Machine.{Refers}
+use Rattle.mh_places.specs.code.Machine.{Refers}
 use Rattle.mh_reader.proofs.Steps.{head_else}
 use Rattle.mh_reader.proofs.actuals.at_head.Goals as goal
 

@@ -1,5 +1,5 @@
 use Rattle.std.proofs.Common.{[]}
-use Rattle.mh_ways.specs.Rows.{Gains, Below}
+use Rattle.mh_ways.specs.code.Rows.{Gains, Below}
 use Rattle.mh_ways.specs.Rules.{IsEmptyItem}
 use Rattle.mh_search.proofs.begins.begin_all.Given as goal
 

@@ -1,6 +1,6 @@
 use Rattle.std.proofs.Common.{ℕ, ◌≡◌, sym, ◌∙◌}
 use Rattle.mh_grammar.specs.declared.types.Symbol.TheVariants.{N}
-use Rattle.mh_ways.specs.Rows.{Among}
+use Rattle.mh_ways.specs.code.Rows.{Among}
 use Rattle.mh_ways.specs.Left.{left_at}
 use Rattle.mh_search.specs.Begins.{BeginsOn, BeginsBehind}
 use Rattle.mh_ways.proofs.Gaining.{gains_by}

@@ -1,5 +1,5 @@
 use Rattle.mh_tables.specs.Table.{state_at}
-use Rattle.mh_ways.specs.Rows.{Gains}
+use Rattle.mh_ways.specs.code.Rows.{Gains}
 use Rattle.mh_ways.specs.Classes.{list_at}
 use Rattle.mh_search.specs.Begins.{BeginsBehind}
 use Rattle.mh_ways.proofs.Gaining.{First}

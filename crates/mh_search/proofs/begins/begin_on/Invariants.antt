@@ -1,4 +1,4 @@
-use Rattle.mh_ways.specs.Rows.{Gains}
+use Rattle.mh_ways.specs.code.Rows.{Gains}
 use Rattle.mh_search.specs.Begins.{BeginsOn}
 use Rattle.mh_ways.proofs.Gaining.{First}
 use Rattle.mh_search.proofs.begins.begin_on.Given as goal

@@ -1,6 +1,6 @@
 use Rattle.std.proofs.Common.{◌≡◌, ℕ, ◌+◌, ◌∷◌, [], List, length, length-append, ap, ◌∙◌, arith}
 use Rattle.std.specs.Global.{Vec}
-use Rattle.mh_ways.specs.Rows.{row_of}
+use Rattle.mh_ways.specs.code.Rows.{row_of}
 use Rattle.mh_ways.proofs.Rowing.{row_more}
 use Rattle.mh_search.proofs.begins.empty_rows.Goals as goal
 

@@ -1,4 +1,4 @@
-use Rattle.mh_ways.specs.Rows.{Gains}
+use Rattle.mh_ways.specs.code.Rows.{Gains}
 use Rattle.mh_ways.specs.Rules.{FollowsWay}
 use Rattle.mh_ways.proofs.Gaining.{First}
 use Rattle.mh_search.proofs.joins.join_paths.Given as goal

@@ -2,7 +2,7 @@ use Rattle.std.proofs.Common.{◌≡◌, ◌<◌, refl, ap, sym, ◌∙◌, arit
 use Rattle.std.specs.Global.{Vec}
 use Rattle.mh_ways.specs.declared.work.Path.{Path}
 use Rattle.mh_ways.specs.declared.work.Whole.{Whole}
-use Rattle.mh_ways.specs.Rows.{row_of}
+use Rattle.mh_ways.specs.code.Rows.{row_of}
 use Rattle.mh_ways.specs.Classes.{place_of}
 use Rattle.mh_ways.proofs.Rowing.{row_is, files}
 use Rattle.mh_search.proofs.joins.meet_path.Goals as goal

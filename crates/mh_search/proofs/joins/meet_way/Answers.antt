@@ -4,10 +4,10 @@ use Rattle.std.specs.Prelude.{slice_set}
 use Rattle.mh_grammar.specs.Plain.{lhs_of}
 use Rattle.mh_ways.specs.declared.work.Path.{Path}
 use Rattle.mh_ways.specs.declared.work.Whole.{Whole}
-use Rattle.mh_ways.specs.Rows.{row_of}
+use Rattle.mh_ways.specs.code.Rows.{row_of}
 use Rattle.mh_ways.specs.Classes.{place_of}
 use Rattle.mh_ways.specs.Rules.{Goes}
-use Rattle.mh_ways.specs.Rows.{Files}
+use Rattle.mh_ways.specs.code.Rows.{Files}
 use Rattle.mh_ways.proofs.Rowing.{row_is, files}
 use Rattle.mh_search.proofs.Meeting.{adds_known, adds_new}
 use Rattle.mh_search.proofs.joins.meet_way.Goals as goal

@@ -1,6 +1,6 @@
 use Rattle.std.proofs.Common.{◌≡◌, ◌++◌, ◌∷◌, [], None, true, false, sym, ◌∙◌}
 use Rattle.mh_facts.specs.Stored.{fact_at}
-use Rattle.mh_ways.specs.Rows.{Taken}
+use Rattle.mh_ways.specs.code.Rows.{Taken}
 use Rattle.mh_found.specs.Found.{IsStored}
 use Rattle.mh_search.specs.Good.{IsDone}
 use Rattle.mh_found.proofs.Queueing.{draws_none, draws_one, drop_done}

@@ -6,9 +6,9 @@ use Rattle.mh_tables.specs.Run.{Refuses, Shifts, Reduces}
 use Rattle.mh_engine.specs.Positions.{Position, waiting}
 use Rattle.mh_engine.specs.Phases.{next_move, phase_of, IsAsking}
 use Rattle.mh_engine.specs.Steps.{resumed, offered}
-use Rattle.mh_engine.specs.Sound.{IsSound}
+use Rattle.mh_engine.specs.code.Sound.{IsSound}
 use Rattle.mh_tables.specs.Deep.{too_deep}
-use Rattle.mh_engine.specs.Reducing.{CanReduce}
+use Rattle.mh_engine.specs.code.Reducing.{CanReduce}
 use Rattle.mh_engine.proofs.Moves.{no_shift_waiting}
 use Rattle.mh_engine.proofs.Resuming.{full, offered_made, refused_is, shifted_made, shifted_keeps, shifted_fits, shifted_deep, Found, reduced_made, reduced_keeps, reduced_low, reduced_deep, can_reduce, going}
 use Rattle.mh_grammar.specs.declared.types.Symbol.TheVariants.{N}
@@ -16,7 +16,7 @@ use Rattle.mh_grammar.specs.Plain.{rhs_of, lhs_of}
 use Rattle.mh_tables.specs.Table.{TableData}
 use Rattle.std.proofs.Common.{ℕ, ◌<◌, length}
 use Rattle.mh_grammar.specs.Trees.{height_of, Node, forest_of, SyntaxTree}
-use Rattle.mh_engine.specs.Cells.{pushed}
+use Rattle.mh_engine.specs.code.Cells.{pushed}
 use Rattle.mh_engine.proofs.checkpoint.Checkpoint.reduce.Goals.{then-not-has_room-via-then-not-has_room, then-not-has_room-via-else-not-has_room+then-not-can_be_children}
 use Rattle.mh_engine.proofs.checkpoint.Checkpoint.reduce.Goals as goal
 

@@ -3,7 +3,7 @@ use Rattle.mh_grammar.specs.Trees.{SyntaxTree}
 use Rattle.mh_tables.specs.Table.{TableData}
 use Rattle.mh_tables.specs.Facts.{Facts}
 use Rattle.mh_engine.specs.Positions.{Position}
-use Rattle.mh_engine.specs.Sound.{IsSound}
+use Rattle.mh_engine.specs.code.Sound.{IsSound}
 use Rattle.mh_engine.proofs.Moves.{accepted_tree, accepted_some}
 use Rattle.mh_engine.proofs.checkpoint.Checkpoint.tree.Goals as goal
 

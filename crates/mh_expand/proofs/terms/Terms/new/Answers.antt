@@ -1,5 +1,5 @@
 use Rattle.std.proofs.Common.{ap, ◌∙◌}
-use Rattle.mh_expand.specs.Sharing.{terms_of}
+use Rattle.mh_expand.specs.code.Sharing.{terms_of}
 use Rattle.mh_expand.proofs.Shared.{terms_of-none}
 use Rattle.mh_expand.proofs.terms.Terms.new.Goals as goal
 

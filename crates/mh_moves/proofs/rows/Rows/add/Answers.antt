@@ -1,6 +1,6 @@
 use Rattle.std.proofs.Common.{◌≡◌, ◌<◌, ◌++◌, ◌∷◌, [], length, set, refl, inl, inr, arith}
 use Rattle.std.proofs.lemmas.List.{get_or_read}
-use Rattle.mh_moves.specs.Rows.{row_at}
+use Rattle.mh_moves.specs.code.Rows.{row_at}
 use Rattle.mh_moves.proofs.Gathering.{filled_first, filled_more}
 use Rattle.mh_moves.proofs.rows.Rows.add.Goals as goal
 

@@ -1,7 +1,7 @@
 use Rattle.std.proofs.Common.{◌≡◌, ap, sym, subst, ◌∙◌}
 use Rattle.mh_branches.specs.Names.{at_name}
-use Rattle.mh_session.specs.Moments.{Moment}
-use Rattle.mh_session.specs.Puts.{AreOf}
+use Rattle.mh_session.specs.code.Moments.{Moment}
+use Rattle.mh_session.specs.code.Puts.{AreOf}
 use Rattle.mh_session.proofs.Naming.{of_table}
 use Rattle.mh_session.proofs.session.Session.find.Goals as goal
 

@@ -5,7 +5,7 @@ use Rattle.mh_grammar.specs.Trees.{SyntaxTree}
 use Rattle.mh_engine.specs.Positions.{Position}
 use Rattle.mh_engine.specs.Phases.{phase_of}
 use Rattle.mh_engine.specs.Steps.{begun}
-use Rattle.mh_engine.specs.Settled.{Leads, SettlesDeep}
+use Rattle.mh_engine.specs.code.Settled.{Leads, SettlesDeep}
 use Rattle.mh_engine.specs.declared.phase.Phase.{Phase}
 use Rattle.mh_engine.specs.declared.phase.Phase.TheVariants as phases
 use Rattle.mh_engine.specs.declared.sentence.TokenOutcome.{TokenOutcome}

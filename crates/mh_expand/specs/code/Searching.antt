@@ -12,7 +12,7 @@ use Rattle.mh_rules.specs.declared.joined.JoinedAlternative.{JoinedAlternative}
 use Rattle.mh_rules.specs.declared.instances.InstanceProduction.{InstanceProduction}
 use Rattle.mh_rules.specs.declared.instances.Instance.{Instance}
 use Rattle.mh_expand.specs.Expansion.{IsInstance, IsClear, Fits, IsPart, right_side, producers_of, start_terms, finds, AreFirst, Declares, IsRank, IsProduction, IsInstanceOf}
-use Rattle.mh_expand.specs.Sharing.{terms_at, Grows}
+use Rattle.mh_expand.specs.code.Sharing.{terms_at, Grows}
 
 -- where an instance was found first
 pub record IsSight (before earlier : List Term) (t : Term) : Type 0 where

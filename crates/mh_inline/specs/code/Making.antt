@@ -16,7 +16,7 @@ use Rattle.mh_rules.specs.Ready.{IsPartBelow}
 use Rattle.mh_producers.specs.Unfoldings.{own, Unfolds}
 use Rattle.mh_unfoldings.specs.Known.{AreKnown}
 use Rattle.mh_inline.specs.Inlined.{level_of, production_of, AreProductions}
-use Rattle.mh_kept.specs.Making.{symbol_by}
+use Rattle.mh_kept.specs.code.Making.{symbol_by}
 
 abbrev pub production_by : List TokenInfo → List ℕ → ℕ → Unfolding → Production
 production_by tokens numbers lhs u = record { lhs = lhs; rhs = map (symbol_by numbers) u.rhs; level = level_of tokens u.prec u.rhs }

@@ -5,7 +5,7 @@ use Rattle.mh_tables.specs.Table.{TableData}
 use Rattle.mh_engine.specs.Positions.{Position}
 use Rattle.mh_grammar.specs.Text.{Text}
 use Rattle.mh_branches.specs.Names.{same, at_name}
-use Rattle.mh_session.specs.Moments.{Moment}
+use Rattle.mh_session.specs.code.Moments.{Moment}
 
 -- all positions are of one table
 abbrev pub AreOf : TableData → List (Text × Position) → Type 0

@@ -4,7 +4,7 @@ use Rattle.std.proofs.Common.{arith, length-append, ◌∷◌, []}
 use Rattle.mh_engine.specs.declared.stack.Link.{Link}
 use Rattle.mh_engine.specs.declared.stack.Link.TheVariants as link
 use Rattle.mh_engine.specs.declared.stack.Stack.TheDeep.{deep-Link}
-use Rattle.mh_engine.specs.Cells.{pairs_of}
+use Rattle.mh_engine.specs.code.Cells.{pairs_of}
 
 pub below_is_shorter : (l : Link) → max (deep-Link l) 0 ≤ length (pairs_of l).trees
 below_is_shorter (link.Bottom start) = omega arith

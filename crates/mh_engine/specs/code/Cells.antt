@@ -1,7 +1,7 @@
 -- What the cells of a stack say.
 use Rattle.std.specs.Prelude.{ℕ, List, [], ◌∷◌, ◌++◌, length, take, drop, ◌-◌}
 use Rattle.mh_grammar.specs.Trees.{SyntaxTree}
-use Rattle.mh_engine.specs.Pairs.{Pairs}
+use Rattle.mh_engine.specs.code.Pairs.{Pairs}
 use Rattle.mh_engine.specs.declared.stack.Link.{Link}
 use Rattle.mh_engine.specs.declared.stack.Link.TheVariants as link
 
