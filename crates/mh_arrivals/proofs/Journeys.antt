@@ -1,5 +1,6 @@
 -- What arrivals tell, where one more is stored.
 use Rattle.std.proofs.Common.{◌≡◌, ℕ, ◌+◌, ◌⊎◌, inl, inr, List, [], ◌∷◌, ◌++◌, Some, None, Option, refl, ap, sym, arith, ◌∙◌}
+use Rattle.std.proofs.lemmas.List.Sums.{fold_push}
 use Rattle.mh_tables.specs.Table.{TableData}
 use Rattle.mh_facts.specs.declared.store.FactKey.{FactKey}
 use Rattle.mh_least.specs.Least.{Label}
@@ -9,12 +10,12 @@ use Rattle.mh_spots.specs.declared.arrivals.Step.TheVariants as steps
 use Rattle.mh_spots.specs.declared.arrivals.Arrival.{Arrival}
 use Rattle.mh_ways.specs.Tales.{capped}
 use Rattle.mh_spots.specs.Spots.{Spots, arrival_at, put_at, height_by, with_height, heights_of, LabelBy, Reached, Journey}
-use Rattle.mh_ways.proofs.Keyed.{put_here, put_cases, put_other, each_more, none_more, fold_more}
+use Rattle.mh_ways.proofs.Keyed.{put_here, put_cases, put_other, each_more, none_more}
 use Rattle.mh_ways.proofs.Wording.{some_is}
 use Rattle.mh_spots.proofs.Spots.{spot_keys}
 
 pub heights_more : (spots : Spots) (e : Spot × Arrival) → heights_of (spots ++ e ∷ []) ≡ with_height (heights_of spots) e
-heights_more spots e = fold_more (λ heights e. with_height heights e) (λ k. 0) spots e
+heights_more spots e = fold_push (λ heights e. with_height heights e) (λ k. 0) spots e
 
 -- what is made of stored labels stays where they stay
 pub label_kept : (words : FactKey → Option (List ℕ)) (labels new : Spot → Option Label) (step : Step) (l : Label) → ((o : Spot) (u : Label) → labels o ≡ Some u → new o ≡ Some u) → LabelBy words labels step l → LabelBy words new step l

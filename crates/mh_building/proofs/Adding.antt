@@ -2,12 +2,11 @@
 use Rattle.std.proofs.Common.{◌≡◌, ℕ, zero, suc, ◌+◌, ◌<◌, ◌≤◌, Bool, true, false, List, [], ◌∷◌, ◌++◌, Option, Some, None, length, get_or, set, take, map, refl, sym, ap, subst, ◌∙◌, inl, inr, arith, append_assoc}
 use Rattle.std.specs.Prelude.{◌==◌, if◌then◌else◌, slice_get}
 use Rattle.std.specs.List.{flat_map, enumerate_from}
-use Rattle.std.proofs.Math.Seq.{take-append_seam}
 use Rattle.std.proofs.lemmas.Bool.{cases_eq}
 use Rattle.std.proofs.lemmas.Bool.Decides.{Decides-eqb}
 use Rattle.std.proofs.lemmas.List.{append-nil, length-map}
 use Rattle.std.proofs.lemmas.List.Concat.{flat_map-append}
-use Rattle.std.proofs.lemmas.Option.{slice_get-get_or, slice_get_within}
+use Rattle.std.proofs.lemmas.Option.{slice_get-get_or, slice_get_within, same_Some}
 use Rattle.mh_grammar.proofs.Lists.{taken, set_here, set_elsewhere}
 use Rattle.mh_rules.specs.declared.modules.Rule.{Rule}
 use Rattle.mh_rules.specs.declared.joined.JoinedAlternative.{JoinedAlternative}
@@ -30,14 +29,11 @@ eqb_apart m n apart = go (m == n) refl
     go true e = absurd (apart ((Decides-eqb m n).0 e))
     go false e = e
 
-pub some_is : {A : Type 0} {x y : A} → Some x ≡ Some y → x ≡ y
-some_is e = cc
-
 module _ (w : Meanings) where
   pub Adds-nothing : (rs : List JoinedRule) → Adds w [] rs rs
   Adds-nothing rs = record {
     outlines = refl;
-    alternatives = λ i s r p q. ap (λ (k : JoinedRule). map Some k.alternatives) (some_is (sym q ∙ p)) ∙ sym (append-nil (map Some s.alternatives));
+    alternatives = λ i s r p q. ap (λ (k : JoinedRule). map Some k.alternatives) (same_Some _ _ (sym q ∙ p)) ∙ sym (append-nil (map Some s.alternatives));
   }
 
   pub Adds-append : (ds es : List Definition) (a b c : List JoinedRule) → Adds w ds a b → Adds w es b c → Adds w (ds ++ es) a c
@@ -57,7 +53,7 @@ module _ (w : Meanings) where
   Adds-none d rs none = record {
     outlines = refl;
     alternatives = λ i s r p q.
-        ap (λ (k : JoinedRule). map Some k.alternatives) (some_is (sym q ∙ p)) ∙ sym (append-nil (map Some s.alternatives))
+        ap (λ (k : JoinedRule). map Some k.alternatives) (same_Some _ _ (sym q ∙ p)) ∙ sym (append-nil (map Some s.alternatives))
         ∙ ap (λ b. map Some s.alternatives ++ ((if b then alternatives_by w d else []) ++ [])) (sym (none i (slice_get_within rs i s p)));
   }
 
@@ -73,13 +69,13 @@ module _ (w : Meanings) where
     outlines = ap (map without_alternatives) put ∙ kept old n within at;
     alternatives = λ i t r p q. elim (cases_eq i n) [
       | inl e ↦
-          let r_is : record s { alternatives = more } ≡ r = some_is (sym (set_here old n (record s { alternatives = more }) within) ∙ ap (slice_get (set old n (record s { alternatives = more }))) (sym e) ∙ ap (λ k. slice_get k i) (sym put) ∙ q) in
-          let t_is : s ≡ t = some_is (ap Some at ∙ sym (slice_get-get_or old n s within) ∙ ap (slice_get old) (sym e) ∙ p) in
+          let r_is : record s { alternatives = more } ≡ r = same_Some _ _ (sym (set_here old n (record s { alternatives = more }) within) ∙ ap (slice_get (set old n (record s { alternatives = more }))) (sym e) ∙ ap (λ k. slice_get k i) (sym put) ∙ q) in
+          let t_is : s ≡ t = same_Some _ _ (ap Some at ∙ sym (slice_get-get_or old n s within) ∙ ap (slice_get old) (sym e) ∙ p) in
           ap (λ (k : JoinedRule). map Some k.alternatives) (sym r_is) ∙ added ∙ ap (λ (k : JoinedRule). map Some k.alternatives ++ alternatives_by w d) t_is
           ∙ ap (λ k. map Some t.alternatives ++ k) (sym (append-nil (alternatives_by w d)))
           ∙ ap (λ b. map Some t.alternatives ++ ((if b then alternatives_by w d else []) ++ [])) (sym (ap (is_number i) number ∙ ap (λ k. k == n) e ∙ eqb_self n))
       | inr apart ↦
-          let r_is : t ≡ r = some_is (sym p ∙ sym (set_elsewhere old n (record s { alternatives = more }) i apart) ∙ ap (λ k. slice_get k i) (sym put) ∙ q) in
+          let r_is : t ≡ r = same_Some _ _ (sym p ∙ sym (set_elsewhere old n (record s { alternatives = more }) i apart) ∙ ap (λ k. slice_get k i) (sym put) ∙ q) in
           ap (λ (k : JoinedRule). map Some k.alternatives) (sym r_is) ∙ sym (append-nil (map Some t.alternatives))
           ∙ ap (λ b. map Some t.alternatives ++ ((if b then alternatives_by w d else []) ++ [])) (sym (ap (is_number i) number ∙ eqb_apart i n apart))
     ];
@@ -135,17 +131,13 @@ Adds-enum_more w f a b c n xs i j x h e at p q =
 
 -- RULES
 
--- a front that was written back
-pub written : {A : Type 0} (n : ℕ) (xs ys : List A) → length xs ≡ n → take n (xs ++ ys) ≡ xs
-written n xs ys e = subst (λ k. take k (xs ++ ys) ≡ xs) e (take-append_seam xs ys)
-
 bare : (elsewhere : ℕ → Text → Bool) (os : List Outline) → map without_alternatives (map (rule_without elsewhere) os) ≡ map (rule_without elsewhere) os
 bare elsewhere [] = refl
 bare elsewhere (o ∷ os) = ap (λ rs. rule_without elsewhere o ∷ rs) (bare elsewhere os)
 
 no_alternatives : (elsewhere : ℕ → Text → Bool) (os : List Outline) (i : ℕ) (s : JoinedRule) → slice_get (map (rule_without elsewhere) os) i ≡ Some s → s.alternatives ≡ []
 no_alternatives elsewhere [] i s e = let bad : None ≡ Some s = e in cc
-no_alternatives elsewhere (o ∷ os) zero s e = ap (λ (k : JoinedRule). k.alternatives) (sym (some_is e))
+no_alternatives elsewhere (o ∷ os) zero s e = ap (λ (k : JoinedRule). k.alternatives) (sym (same_Some _ _ e))
 no_alternatives elsewhere (o ∷ os) (suc i) s e = no_alternatives elsewhere os i s e
 
 pub AreRules-from : (w : Meanings) (elsewhere : ℕ → Text → Bool) (os : List Outline) (ds : List Definition) (start rs : List JoinedRule) → start ≡ map (rule_without elsewhere) os → Adds w ds start rs → AreRules w elsewhere os ds rs

@@ -3,7 +3,7 @@ use Rattle.std.proofs.Common.{◌≡◌, ℕ, ◌==◌, ◌&&◌, ◌||◌, Bool
 use Rattle.std.specs.Prelude.{is_some, if◌then◌else◌}
 use Rattle.std.specs.List.{list_all}
 use Rattle.std.specs.Str.{bytes_eq}
-use Rattle.std.proofs.lemmas.Bool.{not-true}
+use Rattle.std.proofs.lemmas.Bool.{not-true, and_parts, or_right, both_ways}
 use Rattle.std.proofs.lemmas.Bool.Decides.{Decides-eqb}
 use Rattle.std.proofs.lemmas.Slice.Eq.{bytes_eq-Decides}
 use Rattle.mh_bytes.specs.declared.keywords.Keyword.{Keyword}
@@ -11,13 +11,11 @@ use Rattle.mh_bytes.specs.declared.keywords.Keyword.TheVariants.{Token, Start, �
 use Rattle.mh_bytes.specs.declared.keywords.Row.{Row}
 use Rattle.mh_bytes.specs.Keywords.{keywords, keyword_among, keyword_named, is_keyword}
 use Rattle.mh_bytes.specs.Words.{is_word}
-use Rattle.mh_bytes.proofs.Tests.{both, not_both}
-
 -- each is a word
 word_among : (rows : List (Row (List ℕ))) (w : List ℕ) → list_all (λ row. is_word row.word) rows ≡ true → is_some (keyword_among rows w) ≡ true → is_word w ≡ true
 word_among [] w all h = absurd (cc)
 word_among (row ∷ rows) w all h =
-    let two = both (is_word row.word) (list_all (λ row. is_word row.word) rows) all in
+    let two = and_parts (is_word row.word) (list_all (λ row. is_word row.word) rows) all in
     by (bytes_eq w row.word) refl two.0 (λ k. word_among rows w two.1 k) h
   where
     by : (b : Bool) → bytes_eq w row.word ≡ b → is_word row.word ≡ true → (is_some (keyword_among rows w) ≡ true → is_word w ≡ true) → is_some (if b then Some row.keyword else keyword_among rows w) ≡ true → is_word w ≡ true
@@ -57,10 +55,6 @@ abbrev all_differ : List (Row (List ℕ)) → Bool
 all_differ [] = true
 all_differ (row ∷ rows) = not (stands_in (number_of row.keyword) rows) && all_differ rows
 
-or_second : (a b : Bool) → b ≡ true → (a || b) ≡ true
-or_second true b h = refl
-or_second false b h = h
-
 found_in : (rows : List (Row (List ℕ))) (w : List ℕ) (k : Keyword) → keyword_among rows w ≡ Some k → stands_in (number_of k) rows ≡ true
 found_in [] w k e = absurd (cc)
 found_in (row ∷ rows) w k e = by (bytes_eq w row.word) (found_in rows w k) e
@@ -71,16 +65,16 @@ found_in (row ∷ rows) w k e = by (bytes_eq w row.word) (found_in rows w k) e
     by : (b : Bool) → (keyword_among rows w ≡ Some k → stands_in (number_of k) rows ≡ true) → (if b then Some row.keyword else keyword_among rows w) ≡ Some k →
         (number_of row.keyword == number_of k || stands_in (number_of k) rows) ≡ true
     by true later e = here (cc)
-    by false later e = or_second (number_of row.keyword == number_of k) (stands_in (number_of k) rows) (later e)
+    by false later e = or_right (number_of row.keyword == number_of k) (stands_in (number_of k) rows) (later e)
 
 one_among : (rows : List (Row (List ℕ))) → all_differ rows ≡ true → (v w : List ℕ) (k : Keyword) → keyword_among rows v ≡ Some k → keyword_among rows w ≡ Some k → w ≡ v
 one_among [] all v w k d e = absurd (cc)
 one_among (row ∷ rows) all v w k d e =
-    let two = both (not (stands_in (number_of row.keyword) rows)) (all_differ rows) all in
+    let two = and_parts (not (stands_in (number_of row.keyword) rows)) (all_differ rows) all in
     by (bytes_eq v row.word) (bytes_eq w row.word) refl refl (not-true (stands_in (number_of row.keyword) rows) two.0) (λ f g. one_among rows two.1 v w k f g) d e
   where
     apart : (u : List ℕ) → stands_in (number_of row.keyword) rows ≡ false → row.keyword ≡ k → keyword_among rows u ≡ Some k → ⊥
-    apart u lone same f = not_both (stands_in (number_of row.keyword) rows) (subst (λ i. stands_in (number_of i) rows ≡ true) (sym same) (found_in rows u k f)) lone
+    apart u lone same f = both_ways (stands_in (number_of row.keyword) rows) lone (subst (λ i. stands_in (number_of i) rows ≡ true) (sym same) (found_in rows u k f))
 
     by : (a b : Bool) → bytes_eq v row.word ≡ a → bytes_eq w row.word ≡ b → stands_in (number_of row.keyword) rows ≡ false → (keyword_among rows v ≡ Some k → keyword_among rows w ≡ Some k → w ≡ v) →
         (if a then Some row.keyword else keyword_among rows v) ≡ Some k → (if b then Some row.keyword else keyword_among rows w) ≡ Some k → w ≡ v

@@ -1,14 +1,8 @@
 -- What tests of bytes say.
-use Rattle.std.proofs.Common.{◌≡◌, ℕ, ◌==◌, ◌&&◌, Bool, true, false, cond, List, [], ◌∷◌, drop, refl, sym, ap, ◌∙◌, true≢false}
+use Rattle.std.proofs.Common.{◌≡◌, ℕ, ◌==◌, Bool, true, false, cond, List, [], ◌∷◌, drop, refl, ap, ◌∙◌}
 use Rattle.std.proofs.lemmas.Bool.Decides.{Decides-eqb}
+use Rattle.std.proofs.lemmas.Bool.{both_ways}
 use Rattle.mh_bytes.specs.Bytes.{has}
-
-pub both : (a b : Bool) → (a && b) ≡ true → (a ≡ true) × (b ≡ true)
-both true b h = (refl, h)
-both false b h = absurd (cc)
-
-pub not_both : (b : Bool) → b ≡ true → b ≡ false → ⊥
-not_both b h k = true≢false (sym h ∙ k)
 
 -- the first test that holds
 pub second : {X : Type 0} (p q : Bool) (x y z : X) → p ≡ false → q ≡ true → cond p x (cond q y z) ≡ y
@@ -22,13 +16,13 @@ fourth p q r k x y z u v e f g h = rw (e, f, g, h) refl
 
 -- the bytes at the front
 pub front_is : (s : List ℕ) (c : ℕ) → (256 == c) ≡ false → has s 0 c ≡ true → s ≡ c ∷ drop 1 s
-front_is [] c e h = absurd (not_both (256 == c) h e)
+front_is [] c e h = absurd (both_ways (256 == c) e h)
 front_is (b ∷ bs) c e h = ap (λ k. k ∷ bs) ((Decides-eqb b c).0 h)
 
 pub two_are : (s : List ℕ) (c d : ℕ) → (256 == c) ≡ false → (256 == d) ≡ false → has s 0 c ≡ true → has s 1 d ≡ true → s ≡ c ∷ d ∷ drop 2 s
-two_are [] c d e f h k = absurd (not_both (256 == c) h e)
+two_are [] c d e f h k = absurd (both_ways (256 == c) e h)
 two_are (a ∷ bs) c d e f h k = ap (λ b. b ∷ bs) ((Decides-eqb a c).0 h) ∙ ap (λ l. c ∷ l) (front_is bs d f k)
 
 pub three_are : (s : List ℕ) (c d g : ℕ) → (256 == c) ≡ false → (256 == d) ≡ false → (256 == g) ≡ false → has s 0 c ≡ true → has s 1 d ≡ true → has s 2 g ≡ true → s ≡ c ∷ d ∷ g ∷ drop 3 s
-three_are [] c d g e f i h k l = absurd (not_both (256 == c) h e)
+three_are [] c d g e f i h k l = absurd (both_ways (256 == c) e h)
 three_are (a ∷ bs) c d g e f i h k l = ap (λ b. b ∷ bs) ((Decides-eqb a c).0 h) ∙ ap (λ t. c ∷ t) (two_are bs d g f i k l)

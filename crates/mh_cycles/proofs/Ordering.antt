@@ -76,10 +76,6 @@ settled_blocked is sizes n i at b = record {
   );
 }
 
-pub or_false : (a b : Bool) → (a || b) ≡ false → (a ≡ false) × (b ≡ false)
-or_false true b e = absurd (false≢true (sym e))
-or_false false b e = (refl, e)
-
 pub more_step : (a b : Bool) (x y z : ℕ) → (a ≡ true → y < z) → (a ≡ false → y ≡ z) → (b ≡ true → x < y) → (b ≡ false → x ≡ y) → (a || b) ≡ true → x < z
 more_step true true x y z f g h k e = let p = f refl in let q = h refl in omega arith
 more_step true false x y z f g h k e = let p = f refl in let q = k refl in omega arith

@@ -1,5 +1,5 @@
 -- What stands on a run's stack can be finished, where each nonterminal is productive.
-use Rattle.std.proofs.Common.{◌≡◌, ℕ, zero, suc, ◌+◌, ◌<◌, ◌≤◌, List, [], ◌∷◌, ◌++◌, length, take, drop, get_or, refl, ap, sym, subst, arith, ◌∙◌, append_assoc, append-nil}
+use Rattle.std.proofs.Common.{◌≡◌, ℕ, zero, suc, ◌+◌, ◌<◌, ◌≤◌, List, [], ◌∷◌, ◌++◌, length, take, drop, get_or, refl, ap, sym, subst, arith, ◌∙◌, append_assoc, append-nil, take-suc}
 use Rattle.std.specs.List.{All}
 use Rattle.std.proofs.Math.Seq.{take-length}
 use Rattle.std.proofs.lemmas.List.Elements.{All-head, All-tail, All-drop}
@@ -31,11 +31,6 @@ use Rattle.mh_kernels.proofs.Dotted.{drop_tail}
 yields-push : (a : List SyntaxTree) (x : SyntaxTree) → yields (a ++ x ∷ []) ≡ yields a ++ yield_of x
 yields-push [] x = append-nil (yield_of x)
 yields-push (y ∷ a) x = ap (λ (l : List ℕ). yield_of y ++ l) (yields-push a x) ∙ sym (append_assoc (yield_of y) (yields a) (yield_of x))
-
-take-suc : (k : ℕ) (xs : List SyntaxTree) (d : SyntaxTree) → k < length xs → take (suc k) xs ≡ take k xs ++ get_or xs k d ∷ []
-take-suc k [] d lt = absurd (omega arith)
-take-suc zero (x ∷ xs) d lt = refl
-take-suc (suc k) (x ∷ xs) d lt = ap (λ (l : List SyntaxTree). x ∷ l) (take-suc k xs d (omega arith))
 
 -- a run asks at the end alone
 asks_at_end : (t : TableData) (s : ℕ) (left : List ℕ) → move_of t s left ≡ Asks → left ≡ []
@@ -85,7 +80,7 @@ module _ (t : TableData) (range : IsInRange t.grammar) (productive : AllProducti
         let word : yields (take k kids) ++ ((yield_of x ++ v) ++ z.0) ≡ yields (take (suc k) kids) ++ (v ++ z.0) =
         ap (λ (w : List ℕ). yields (take k kids) ++ w) (append_assoc (yield_of x) v z.0)
         ∙ sym (append_assoc (yields (take k kids)) (yield_of x) (v ++ z.0))
-        ∙ ap (λ (w : List ℕ). w ++ (v ++ z.0)) (sym (ap yields (take-suc k kids (Leaf 0) within) ∙ yields-push (take k kids) x)) in
+        ∙ ap (λ (w : List ℕ). w ++ (v ++ z.0)) (sym (ap yields (take-suc kids k (Leaf 0) within) ∙ yields-push (take k kids) x)) in
         (z.0, rw word at z.1)
 
     start_finishes : Finishes 0 start 0

@@ -1,19 +1,12 @@
 -- Nodes that compare equal are one.
-use Rattle.std.proofs.Common.{◌≡◌, ℕ, List, Bool, true, false, ◌&&◌, eqb, Decides, refl, sym, ap, ◌∙◌}
+use Rattle.std.proofs.Common.{◌≡◌, ℕ, List, Bool, false, ◌&&◌, eqb, Decides, refl, sym, ap, ◌∙◌}
 use Rattle.std.specs.Cmp.Lexicographic.{pointwise}
 use Rattle.std.proofs.lemmas.Slice.Eq.{slice_eq-Decides}
 use Rattle.std.proofs.lemmas.Bool.Decides.{Decides-eqb}
+use Rattle.std.proofs.lemmas.Bool.{and_parts, and_from}
 use Rattle.mh_rules.specs.declared.joined.Head.{Head}
 use Rattle.mh_rules.specs.declared.joined.Head.TheVariants.{Formal, Token, Rule}
 use Rattle.mh_instances.specs.declared.applications.Application.{Application}
-
-both : (p q : Bool) → (p && q) ≡ true → (p ≡ true) × (q ≡ true)
-both true q e = (refl, e)
-both false q e = cc
-
-put : (p q : Bool) → p ≡ true → q ≡ true → (p && q) ≡ true
-put true q e f = f
-put false q e f = e
 
 abbrev pub node : Head → List ℕ → Application
 node h ns = record { head = h; args = ns }
@@ -43,11 +36,11 @@ head_Decides (Rule k) (Token l) = ((λ e. cc), (λ e. cc))
 node_Decides : (a b : Application) (r : Bool) → r ≡ (head_eq a.head b.head && pointwise eqb a.args b.args) → Decides r (a ≡ b)
 node_Decides a b r e =
     let args = slice_eq-Decides Decides-eqb a.args b.args (pointwise eqb a.args b.args) refl in (
-      (λ h. let t = both _ _ (sym e ∙ h) in
+      (λ h. let t = and_parts _ _ (sym e ∙ h) in
           let p = (head_Decides a.head b.head).0 t.0 in
           let q = args.0 t.1 in
           λ i. record { head = p i; args = q i }),
-      (λ h. e ∙ put _ _ ((head_Decides a.head b.head).1 (ap (λ (x : Application). x.head) h)) (args.1 (ap (λ (x : Application). x.args) h))),
+      (λ h. e ∙ and_from _ _ ((head_Decides a.head b.head).1 (ap (λ (x : Application). x.head) h)) (args.1 (ap (λ (x : Application). x.args) h))),
     )
 
 -- what compares nodes of known heads so

@@ -184,10 +184,6 @@ Finds-token j before ts numbers z s = record {
     no_fault e (expansion.IsFault.long f n l) = n.instance
     no_fault e (expansion.IsFault.full f n l) = n.instance
 
-pub empty_list : {X : Type 0} (xs : List X) → length xs ≡ 0 → xs ≡ []
-empty_list [] e = refl
-empty_list (x ∷ xs) e = absurd (omega (arith, e))
-
 -- a cause that follows from another
 pub wrong_count : (j : Joined) (before : List Term) (t : Term) (most : ℕ) (name : Option (List ℕ)) (e : ExpandFault) → (Fits j t → ⊥) → IsTextWithin most (text j t) name → e ≡ count_fault name → Causes (IsFault j before t) e
 wrong_count j before t most (Some n) e count within is = rw (is, within.0) (expansion.IsFault.count count)

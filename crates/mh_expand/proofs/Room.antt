@@ -16,12 +16,6 @@ take_again zero a b = refl
 take_again (suc n) [] b = refl
 take_again (suc n) (x ∷ a) b = ap (λ l. x ∷ l) (take_again n a b)
 
-pub take_full : (n : ℕ) (a b : List ℕ) → length a ≡ n → take n (a ++ b) ≡ a
-take_full zero [] b e = refl
-take_full zero (x ∷ a) b e = absurd (omega (arith, e))
-take_full (suc n) [] b e = absurd (omega (arith, e))
-take_full (suc n) (x ∷ a) b e = ap (λ l. x ∷ l) (take_full n a b (omega (arith, e)))
-
 pub take_within : (n : ℕ) (a : List ℕ) → length (take n a) ≤ n
 take_within n a = omega (arith, length-take n a)
 

@@ -1,7 +1,8 @@
 -- One fact more, and where facts stand.
-use Rattle.std.proofs.Common.{◌≡◌, ℕ, ◌≤◌, ◌↔◌, [], ◌∷◌, ◌++◌, None, Some, Option, Bool, true, false, nat_eq, ◌&&◌, refl, ap, sym, arith, ◌∙◌}
+use Rattle.std.proofs.Common.{◌≡◌, ℕ, ◌≤◌, ◌↔◌, [], ◌∷◌, ◌++◌, None, Some, Option, true, nat_eq, refl, ap, sym, arith, ◌∙◌}
 use Rattle.std.specs.Prelude.{max, IfSome}
 use Rattle.std.proofs.lemmas.Grind.{common_steps}
+use Rattle.std.proofs.lemmas.Bool.{and_parts}
 use Rattle.mh_facts.specs.declared.store.FactKey.{FactKey}
 use Rattle.mh_facts.specs.declared.store.Fact.{Fact}
 use Rattle.mh_facts.specs.Ordered.{place_in}
@@ -16,20 +17,16 @@ pub last_push : (es : Facts) (k : FactKey) (f : Fact) → last_of es ≤ f.cost 
 last_push [] k f le = grind (arith, common_steps)
 last_push (e ∷ es) k f le = last_more e.1.cost f.cost es k f refl le (last_push es k f (grind (arith, common_steps)))
 
-both_true : (a b : Bool) → (a && b) ≡ true → (a ≡ true) × (b ≡ true)
-both_true true b e = (refl, e)
-both_true false b e = cc
-
 same_number : (a b : ℕ) → nat_eq a b ≡ true → a ≡ b
 same_number a b e = grind (arith, common_steps)
 
 -- keys that agree are one
 pub same_fact_is : (x y : FactKey) → same_fact x y ≡ true → x ≡ y
 same_fact_is x y e =
-    let a = both_true (nat_eq x.from y.from) _ e in
-    let b = both_true (nat_eq x.production y.production) _ a.1 in
-    let c = both_true (nat_eq x.dot y.dot) _ b.1 in
-    let d = both_true (nat_eq x.first y.first) (nat_eq x.next y.next) c.1 in
+    let a = and_parts (nat_eq x.from y.from) _ e in
+    let b = and_parts (nat_eq x.production y.production) _ a.1 in
+    let c = and_parts (nat_eq x.dot y.dot) _ b.1 in
+    let d = and_parts (nat_eq x.first y.first) (nat_eq x.next y.next) c.1 in
     let e1 = same_number x.from y.from a.0 in
     let e2 = same_number x.production y.production b.0 in
     let e3 = same_number x.dot y.dot c.0 in

@@ -1,5 +1,5 @@
 -- The flags of FIRST: what a pass adds is right, and flags to which no pass adds any are all of FIRST; then its rows.
-use Rattle.std.proofs.Common.{◌≡◌, ℕ, ◌+◌, ◌*◌, ◌<◌, ◌≤◌, ◌||◌, ◌↔◌, Bool, true, false, List, [], ◌∷◌, ◌++◌, Some, length, get_or, set, drop, refl, sym, ap, ◌∙◌, arith, inl, inr, add-one, drop-cons, take, ◌-◌}
+use Rattle.std.proofs.Common.{◌≡◌, ℕ, ◌+◌, ◌*◌, ◌<◌, ◌≤◌, ◌||◌, ◌↔◌, Bool, true, false, List, [], ◌∷◌, ◌++◌, Some, length, get_or, set, drop, refl, sym, ap, ◌∙◌, arith, inl, inr, take, ◌-◌}
 use Rattle.std.specs.List.{slice_get}
 use Rattle.std.proofs.lemmas.Bool.{cases_eq, cases_lt, false≢true}
 use Rattle.std.proofs.lemmas.List.Elements.{All-head, All-tail, All-push, All-weaker, All-contains, Contains-push, Contains-push_cases, Contains-append_left}
@@ -180,9 +180,6 @@ TokensSoFar-skip flags tokens i h e = record {
 
 pub marks_from-nullable : (g : PlainGrammar) (nullable : List Bool) → ((n : ℕ) → (get_or nullable n false ≡ true) ↔ IsNullable g n) → AreMarks false g.productions nullable
 marks_from-nullable g nullable m = λ n. (λ e. marked-from_nil g (N n) [] ((m n).0 e) refl, λ k. (m n).1 (nil_from-marked g (N n) k))
-
-pub drop_at : {X : Type 0} (xs : List X) (i : ℕ) (d : X) → i < length xs → drop i xs ≡ get_or xs i d ∷ drop (i + 1) xs
-drop_at xs i d l = rw add-one (drop-cons xs i d l)
 
 -- what is written to a part of a list that is all of it
 pub written : {X : Type 0} (len : ℕ) (new old : List X) → length new ≡ length old → len ≡ length old → take len (new ++ drop (length new) old) ≡ new

@@ -1,6 +1,6 @@
 -- Words are compared through what their facts came from.
 use Rattle.std.proofs.Common.{◌≡◌, ℕ, nat_eq, ◌+◌, ◌*◌, ◌-◌, ◌<◌, ◌≤◌, inl, inr, List, [], ◌∷◌, ◌++◌, Some, None, Option, true, false, refl, ap, sym, subst, arith, append_assoc, ◌∙◌}
-use Rattle.std.specs.Prelude.{slice_get, Result, Ok, Err, OnOk, IfOk}
+use Rattle.std.specs.Prelude.{slice_get}
 use Rattle.std.specs.Option.{option_map, option_eq}
 use Rattle.std.specs.Ordering.{MatchOrdering, is_gt}
 use Rattle.std.specs.declared.cmp.Ordering.{Ordering}
@@ -228,14 +228,6 @@ same_cost o m n e h = rw (← e) h
 
 pub opens_by : (t : TableData) (facts : Facts) (k : FactKey) (back : Back) (old new : List Part) → option_map (λ (f : Fact). f.back) (fact_at facts k) ≡ Some back → new ≡ old ++ parts_of t k back → Opens t facts (parts.Fact k) old new
 opens_by t facts k back old new e grown tale v is = let f = option_map_some (λ (f : Fact). f.back) (fact_at facts k) back e in opened t facts tale k f.0 v old new is f.1 (rw f.2 grown)
-
-pub on_ok : {A B : Type 0} (r : Result A B) (P Q : Type 0) → (P → Q) → OnOk r P → OnOk r Q
-on_ok (Ok x) P Q f h = f h
-on_ok (Err e) P Q f h = h
-
-pub if_ok : {A B : Type 0} (r : Result A B) (P Q : A → Type 0) → ((x : A) → P x → Q x) → IfOk r P → IfOk r Q
-if_ok (Ok x) P Q f h = f x h
-if_ok (Err e) P Q f h = h
 
 -- A WHOLE COMPARISON
 

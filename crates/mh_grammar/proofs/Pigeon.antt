@@ -4,19 +4,13 @@ use Rattle.std.specs.List.{slice_get, list_any, All, AllByRecursion, IsDistinct,
 use Rattle.std.proofs.lemmas.Bool.Decides.{Decides-eqb}
 use Rattle.std.proofs.lemmas.Option.{slice_get_within}
 use Rattle.std.proofs.lemmas.Map.Steps.{length-le_from_distinct_below}
+use Rattle.std.proofs.lemmas.Bool.{ne_eqb}
 use Rattle.mh_grammar.specs.Numbering.{AreDistinct, Names, Reached, IsNumbering, IsOver}
 use Rattle.mh_grammar.proofs.Placing.{contains_at, at_contains}
 
-unequal : (x y : ℕ) → (x ≡ y → ⊥) → eqb x y ≡ false
-unequal x y f = go (eqb x y) refl
-  where
-    go : (b : Bool) → eqb x y ≡ b → b ≡ false
-    go true e = absurd (f ((Decides-eqb x y).0 e))
-    go false e = refl
-
 apart : (x : ℕ) (xs : List ℕ) → ((j y : ℕ) → slice_get xs j ≡ Some y → x ≡ y → ⊥) → AllByRecursion (λ y. eqb x y ≡ false) xs
 apart x [] f = tt
-apart x (y ∷ xs) f = (unequal x y (f 0 y refl), apart x xs (λ j z e. f (suc j) z e))
+apart x (y ∷ xs) f = (ne_eqb x y (f 0 y refl), apart x xs (λ j z e. f (suc j) z e))
 
 distinct_numbers : (xs : List ℕ) → ((i j x : ℕ) → slice_get xs i ≡ Some x → slice_get xs j ≡ Some x → i ≡ j) → IsDistinct eqb xs
 unfolding IsDistinct

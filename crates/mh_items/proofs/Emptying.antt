@@ -3,6 +3,7 @@ use Rattle.std.proofs.Common.{◌≡◌, ℕ, ◌<◌, ◌⊎◌, Bool, true, fa
 use Rattle.std.specs.List.{slice_get}
 use Rattle.std.proofs.lemmas.List.{length-set}
 use Rattle.std.proofs.lemmas.List.Sums.{sum_by-set}
+use Rattle.std.proofs.lemmas.Bool.{both_ways, false_from_ne_true}
 use Rattle.mh_grammar.specs.declared.types.Symbol.{Symbol}
 use Rattle.mh_grammar.specs.declared.types.Symbol.TheVariants.{N}
 use Rattle.mh_grammar.specs.declared.types.Production.{Production}
@@ -41,13 +42,6 @@ mark_set marks n l e = record {
 pub record AsksNone (g : PlainGrammar) (kernel : Kernel) (marks : List Bool) : Type 0 where
   pub none : (p d n : ℕ) (look : Look) → Holds kernel p d look → slice_get (rhs_of g p) d ≡ Some (N n) → get_or marks n false ≡ false
 
-not_both : (b : Bool) → b ≡ false → b ≡ true → ⊥
-not_both b e f = cc
-
-is_false : (b : Bool) → (b ≡ true → ⊥) → b ≡ false
-is_false true h = absurd (h refl)
-is_false false h = refl
-
 module _ (g : PlainGrammar) (kernel : Kernel) (marks : List Bool) (closed : AreEmpties g.productions marks) (asks : AsksNone g kernel marks) where
   -- an added item is of a production of an unmarked nonterminal
   record IsQuiet (p d : ℕ) : Type 0 where
@@ -60,7 +54,7 @@ module _ (g : PlainGrammar) (kernel : Kernel) (marks : List Bool) (closed : AreE
   not_empty n p for off e =
       let l = listed_from_for g n p for in
       let begins : begins_empty marks l.production.rhs ≡ true = rw (← l.rhs) e in
-      not_both (get_or marks n false) off (rw l.lhs at (closed.closed l.place l.production l.at begins))
+      both_ways (get_or marks n false) off (rw l.lhs at (closed.closed l.place l.production l.at begins))
 
   origin : (p d : ℕ) (a : Look) → Close g (Holds kernel) p d a → Holds kernel p d a ⊎ IsQuiet p d
   origin p d a (sets.Close.given h) = inl h
@@ -70,7 +64,7 @@ module _ (g : PlainGrammar) (kernel : Kernel) (marks : List Bool) (closed : AreE
     produced = for;
     unmarked = elim (origin q e b c) [
       | inl h ↦ asks.none q e n b h (at_drop (rhs_of g q) e (N n) y before)
-      | inr k ↦ is_false (get_or marks n false) (λ on.
+      | inr k ↦ false_from_ne_true (get_or marks n false) (λ on.
           let side : rhs_of g q ≡ N n ∷ y = rw k.start at before in
           not_empty k.n q k.produced k.unmarked (rw side on))
     ];

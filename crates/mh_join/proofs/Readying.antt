@@ -10,7 +10,7 @@ use Rattle.std.proofs.lemmas.List.{length-map}
 use Rattle.std.proofs.lemmas.List.Elements.{All-from_recursion, recursion_from_All}
 use Rattle.std.proofs.lemmas.List.Folds.{list_any-append}
 use Rattle.std.proofs.lemmas.List.Quantifiers.{position-Some}
-use Rattle.std.proofs.lemmas.Option.{slice_get_within, slice_get-get_or, slice_get-map}
+use Rattle.std.proofs.lemmas.Option.{slice_get_within, slice_get-get_or, slice_get-map, same_Some}
 use Rattle.mh_rules.specs.declared.joined.TheConstants.{MAX_TOKENS}
 use Rattle.mh_rules.specs.declared.modules.TheConstants.{MAX_DEPTH}
 use Rattle.mh_rules.specs.declared.modules.Ref.{Ref}
@@ -41,7 +41,6 @@ use Rattle.mh_rules.specs.Ready.{IsModuleReady, AreModulesReady, IsHeadBelow, Is
 use Rattle.mh_grammar.proofs.Lists.{get_cases, at_contains, recursion-from, nil_parts}
 use Rattle.mh_grammar.proofs.SameText.{same_is, same_self}
 use Rattle.mh_meanings.proofs.Lists.{position-push, is_some-position}
-use Rattle.mh_building.proofs.Adding.{some_is}
 use Rattle.mh_naming.proofs.Numbers.{none_from}
 use Rattle.mh_naming.proofs.Meaning.{find_position}
 use Rattle.mh_join.proofs.Costing.{tokens_costed}
@@ -62,7 +61,7 @@ In (y ∷ ys) x = (y ≡ x) ⊎ In ys x
 
 in_at : {X : Type 0} (xs : List X) (i : ℕ) (x : X) → slice_get xs i ≡ Some x → In xs x
 in_at [] i x e = let bad : None ≡ Some x = e in cc
-in_at (y ∷ ys) zero x e = inl (some_is e)
+in_at (y ∷ ys) zero x e = inl (same_Some _ _ e)
 in_at (y ∷ ys) (suc i) x e = inr (in_at ys i x e)
 
 in_append : {X : Type 0} (xs ys : List X) (x : X) → In (xs ++ ys) x → In xs x ⊎ In ys x
@@ -184,18 +183,18 @@ rule_self o = ap (λ b. b && same o.name o.name) (owner_self o.owner) ∙ same_s
 -- ACTUALS
 
 all_of_parts : {A : Type 0} (os : List (Option A)) (xs : List A) → all_of os ≡ Some xs → os ≡ map Some xs
-all_of_parts [] xs e = ap (map Some) (some_is e)
+all_of_parts [] xs e = ap (map Some) (same_Some _ _ e)
 all_of_parts {A = A} (o ∷ os) xs e = go (all_of_parts os) o (all_of os) refl e
   where
     go : ((ys : List A) → all_of os ≡ Some ys → os ≡ map Some ys) → (p : Option A) (rest : Option (List A)) → all_of os ≡ rest → option_and_then (λ x. option_map (λ ys. x ∷ ys) rest) p ≡ Some xs → p ∷ os ≡ map Some xs
     go parts None rest is f = let bad : None ≡ Some xs = f in cc
     go parts (Some x) None is f = let bad : None ≡ Some xs = f in cc
-    go parts (Some x) (Some ys) is f = ap (λ k. Some x ∷ k) (parts ys is) ∙ ap (map Some) (some_is f)
+    go parts (Some x) (Some ys) is f = ap (λ k. Some x ∷ k) (parts ys is) ∙ ap (map Some) (same_Some _ _ f)
 
 applied_parts : (o : Option Head) (args : Option (List Applied)) (k : Applied) → option_and_then (λ h. option_map (applied_to h) args) o ≡ Some k → (h : Head) × (ks : List Applied) × (o ≡ Some h) × (args ≡ Some ks) × (applied_to h ks ≡ k)
 applied_parts None args k e = let bad : None ≡ Some k = e in cc
 applied_parts (Some h) None k e = let bad : None ≡ Some k = e in cc
-applied_parts (Some h) (Some ks) k e = (h, ks, refl, refl, some_is e)
+applied_parts (Some h) (Some ks) k e = (h, ks, refl, refl, same_Some _ _ e)
 
 -- what is so of each beside it
 with_facts : {X : Type 0} (Q : X → Type 0) (xs : List X) → AllByRecursion Q xs → List ((x : X) × Q x)
@@ -290,7 +289,7 @@ gives_or P (Some x) b p q = p
 
 gives_number : (P : Head → Type 0) (f : ℕ → Head) (o : Option ℕ) → ((n : ℕ) → o ≡ Some n → P (f n)) → Gives P (option_map f o)
 gives_number P f None p h e = gives_none P h e
-gives_number P f (Some n) p h e = subst P (some_is e) (p n refl)
+gives_number P f (Some n) p h e = subst P (same_Some _ _ e) (p n refl)
 
 gives_found : (P : Head → Type 0) (f : Text → Option Head) (o : Option Text) → ((x : Text) → Gives P (f x)) → Gives P (option_and_then f o)
 gives_found P f None p = gives_none P
@@ -472,20 +471,20 @@ module _ (p : Bool) (ms : List Module) (none : join_faults p ms ≡ []) where
       go true private x h i = let bad : None ≡ Some n = h in cc
       go false private true h i = let bad : None ≡ Some n = i in cc
       go false private false h i =
-          let one : g.1 ≡ f.1 = one_number 1 ms g f at_g at_f (some_is i ∙ sym (some_is h)) in
+          let one : g.1 ≡ f.1 = one_number 1 ms g f at_g at_f (same_Some _ _ i ∙ sym (same_Some _ _ h)) in
           private_once f.1 d.rule e.rule (number_from 1 ms f at_f).1 a.rule_in (subst (λ (m : Module). In m.rules e.rule) one b.rule_in) private is
   private_same d e n (in_file f at_f a) (in_prelude b) d_is e_is is =
       absurd (no_file f at_f (is_public (start_names ms) f.1.rules d.rule.name) (sym a.owner_is ∙ d_is ∙ sym e_is ∙ b.owner_is))
     where
       no_file : (f : ℕ × Module) → In (files ms) f → (c : Bool) → (if c then None else Some f.0) ≡ Some 0 → ⊥
       no_file f at_f true h = let bad : ◌≡◌ {A = Option ℕ} None (Some 0) = h in cc
-      no_file f at_f false h = let zero_is : f.0 ≡ 0 = some_is h in let above = (number_from 1 ms f at_f).0 in omega arith
+      no_file f at_f false h = let zero_is : f.0 ≡ 0 = same_Some _ _ h in let above = (number_from 1 ms f at_f).0 in omega arith
   private_same d e n (in_prelude a) (in_file f at_f b) d_is e_is is =
       absurd (no_file f at_f (is_public (start_names ms) f.1.rules e.rule.name) (sym b.owner_is ∙ e_is ∙ sym d_is ∙ a.owner_is))
     where
       no_file : (f : ℕ × Module) → In (files ms) f → (c : Bool) → (if c then None else Some f.0) ≡ Some 0 → ⊥
       no_file f at_f true h = let bad : ◌≡◌ {A = Option ℕ} None (Some 0) = h in cc
-      no_file f at_f false h = let zero_is : f.0 ≡ 0 = some_is h in let above = (number_from 1 ms f at_f).0 in omega arith
+      no_file f at_f false h = let zero_is : f.0 ≡ 0 = same_Some _ _ h in let above = (number_from 1 ms f at_f).0 in omega arith
   private_same d e n (in_prelude a) (in_prelude b) d_is e_is is = one_own (λ x. false) [] (prelude_rules p) d.rule e.rule (prelude_once p) a.rule_in b.rule_in refl is
 
   -- a rule has as many formals as each of its definitions
@@ -496,7 +495,7 @@ module _ (p : Bool) (ms : List Module) (none : join_faults p ms ≡ []) where
       found = at_position (is_rule d.owner d.rule.name) (rules p ms) i number
 
       one : is_rule d.owner d.rule.name o ≡ true
-      one = ap (is_rule d.owner d.rule.name) (some_is (sym at_o ∙ found.1)) ∙ found.2
+      one = ap (is_rule d.owner d.rule.name) (same_Some _ _ (sym at_o ∙ found.1)) ∙ found.2
 
       from : (e : Definition) × In (definitions p ms) e × (outline_of e ≡ o)
       from = in_map outline_of (definitions p ms) o (in_firsts same_rule rule_self (map outline_of (definitions p ms)) o (in_at (rules p ms) i o at_o))
@@ -571,7 +570,7 @@ module _ (p : Bool) (ms : List Module) (j : Joined) (none : join_faults p ms ≡
     where
       go : (q : Option Outline) → slice_get (rules p ms) i ≡ q → option_map (rule_without (is_elsewhere ms)) q ≡ Some (without_alternatives r) → (o : Outline) × (slice_get (rules p ms) i ≡ Some o) × (o.formals ≡ r.formals)
       go None e f = let bad : None ≡ Some (without_alternatives r) = f in cc
-      go (Some o) e f = (o, e, ap (λ (v : JoinedRule). v.formals) (some_is f))
+      go (Some o) e f = (o, e, ap (λ (v : JoinedRule). v.formals) (same_Some _ _ f))
 
   below : (k : ℕ) (fs : List Text) (actuals : List Actual) (ks : List Applied) → all_resolved (meant_by (meanings p ms) k (formal_number fs)) actuals ≡ Some ks → All (IsAppliedBelow (length fs) (length j.tokens) (length j.rules)) ks
   below k fs actuals ks e =
@@ -596,7 +595,7 @@ module _ (p : Bool) (ms : List Module) (j : Joined) (none : join_faults p ms ≡
       go : (o : Option (List Applied)) → all_resolved (meant_by (meanings p ms) d.file (formal_number d.rule.formals)) e.1.producers ≡ o
           → option_map (alternative_with d.file e.0 (prec_by (meanings p ms).aliased (meanings p ms).level e.1.prec)) o ≡ Some a → All (IsAppliedBelow (length d.rule.formals) (length j.tokens) (length j.rules)) a.producers
       go None f g = let bad : None ≡ Some a = g in cc
-      go (Some ks) f g = subst (λ (v : JoinedAlternative). All (IsAppliedBelow (length d.rule.formals) (length j.tokens) (length j.rules)) v.producers) (some_is g) (below d.file d.rule.formals e.1.producers ks f)
+      go (Some ks) f g = subst (λ (v : JoinedAlternative). All (IsAppliedBelow (length d.rule.formals) (length j.tokens) (length j.rules)) v.producers) (same_Some _ _ g) (below d.file d.rule.formals e.1.producers ks f)
 
   alternative_below : (i : ℕ) (r : JoinedRule) → slice_get j.rules i ≡ Some r → (a : JoinedAlternative) → In r.alternatives a → All (IsAppliedBelow r.formals (length j.tokens) (length j.rules)) a.producers
   alternative_below i r at a h =
@@ -616,7 +615,7 @@ module _ (p : Bool) (ms : List Module) (j : Joined) (none : join_faults p ms ≡
           → option_map (alternative_with d.file e.0 (prec_by (meanings p ms).aliased (meanings p ms).level e.1.prec)) o ≡ Some a → All IsAppliedShallow a.producers
       go None f g = let bad : None ≡ Some a = g in cc
       go (Some ks) f g =
-          subst (λ (v : JoinedAlternative). All IsAppliedShallow v.producers) (some_is g)
+          subst (λ (v : JoinedAlternative). All IsAppliedShallow v.producers) (same_Some _ _ g)
           (all_kept (meant_by (meanings p ms) d.file (formal_number d.rule.formals)) e.1.producers ks f shallow)
 
   alternative_shallow : AreModulesReady ms → (i : ℕ) (r : JoinedRule) → slice_get j.rules i ≡ Some r → (a : JoinedAlternative) → In r.alternatives a → All IsAppliedShallow a.producers
@@ -671,7 +670,7 @@ module _ (p : Bool) (ms : List Module) (j : Joined) (none : join_faults p ms ≡
     where
       go : (o : Option Text) → slice_get (start_names ms) i ≡ o → option_map (rule_number p ms None) o ≡ Some (Some s) → (x : Text) × (slice_get (start_names ms) i ≡ Some x) × (rule_number p ms None x ≡ Some s)
       go None e f = let bad : None ≡ Some (Some s) = f in cc
-      go (Some x) e f = (x, e, some_is f)
+      go (Some x) e f = (x, e, same_Some _ _ f)
 
   start_below : (i s : ℕ) → slice_get j.starts i ≡ Some s → s < length j.rules
   start_below i s at = let x = start_at i s at in subst (λ n. s < n) (sym rules_length) (position_below (is_rule None x.0) (rules p ms) s x.2)
@@ -683,9 +682,9 @@ module _ (p : Bool) (ms : List Module) (j : Joined) (none : join_faults p ms ≡
       let one = at_position (is_rule None x.0) (rules p ms) s x.2 in
       let two = at_position (is_rule None y.0) (rules p ms) s y.2 in
       let name : x.0 ≡ y.0 =
-      same_is x.0 one.0.name (and_right (same_owner None one.0.owner) (same x.0 one.0.name) one.2) ∙ ap (λ (v : Outline). v.name) (some_is (sym one.1 ∙ two.1))
+      same_is x.0 one.0.name (and_right (same_owner None one.0.owner) (same x.0 one.0.name) one.2) ∙ ap (λ (v : Outline). v.name) (same_Some _ _ (sym one.1 ∙ two.1))
       ∙ sym (same_is y.0 two.0.name (and_right (same_owner None two.0.owner) (same y.0 two.0.name) two.2)) in
-      some_is (sym (firsts_first same same_self (flat_map (λ (m : Module). m.starts) ms) i x.0 x.1) ∙ ap (λ z. position (same z) (start_names ms)) name ∙ firsts_first same same_self (flat_map (λ (m : Module). m.starts) ms) k y.0 y.1)
+      same_Some _ _ (sym (firsts_first same same_self (flat_map (λ (m : Module). m.starts) ms) i x.0 x.1) ∙ ap (λ z. position (same z) (start_names ms)) name ∙ firsts_first same same_self (flat_map (λ (m : Module). m.starts) ms) k y.0 y.1)
 
   starts_distinct : AllPairs (λ a b. a ≢ b) j.starts
   starts_distinct i k d before within same_start =
@@ -764,4 +763,4 @@ joined_or_fault p ms j e a (inr fault) = let bad : None ≡ Some e = ap first (s
 pub one_fault : (p : Bool) (ms : List Module) (e f : JoinFault) → Joins p ms (Err e) → Joins p ms (Err f) → e ≢ faults.Memory → f ≢ faults.Memory → e ≡ f
 one_fault p ms e f (inl memory) b here there = absurd (here memory)
 one_fault p ms e f (inr a) (inl memory) here there = absurd (there memory)
-one_fault p ms e f (inr a) (inr b) here there = some_is (sym a ∙ b)
+one_fault p ms e f (inr a) (inr b) here there = same_Some _ _ (sym a ∙ b)

@@ -3,13 +3,10 @@ use Rattle.std.proofs.Common.{◌≡◌, Bool, true, false, eqb, ◌&&◌, Decid
 use Rattle.std.specs.Cmp.Lexicographic.{pointwise}
 use Rattle.std.proofs.lemmas.Slice.Eq.{slice_eq-Decides}
 use Rattle.std.proofs.lemmas.Bool.Decides.{Decides-eqb}
+use Rattle.std.proofs.lemmas.Bool.{and_parts}
 use Rattle.mh_grammar.specs.declared.types.Look.{Look}
 use Rattle.mh_kernels.specs.Shapes.{KernelItem}
 use Rattle.mh_kernels.specs.Shapes.{Kernel}
-
-both : (p q : Bool) → (p && q) ≡ true → (p ≡ true) × (q ≡ true)
-both true q e = (refl, e)
-both false q e = cc
 
 all_three : (p q s : Bool) → p ≡ true → q ≡ true → s ≡ true → (p && (q && s)) ≡ true
 all_three true true s e f g = g
@@ -19,7 +16,7 @@ all_three false q s e f g = e
 pub item_Decides : (F : Look → Look → Bool) → ((a b : Look) → Decides (F a b) (a ≡ b)) → (a b : KernelItem) (r : Bool) → r ≡ (eqb a.production b.production && (eqb a.dot b.dot && pointwise F a.looks b.looks)) → Decides r (a ≡ b)
 item_Decides F d a b r e =
     let looks = slice_eq-Decides d a.looks b.looks (pointwise F a.looks b.looks) refl in (
-      (λ h. let t = both _ _ (sym e ∙ h) in let u = both _ _ t.1 in
+      (λ h. let t = and_parts _ _ (sym e ∙ h) in let u = and_parts _ _ t.1 in
           let p = (Decides-eqb a.production b.production).0 t.0 in
           let q = (Decides-eqb a.dot b.dot).0 u.0 in
           let l = looks.0 u.1 in

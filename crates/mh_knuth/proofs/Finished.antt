@@ -1,9 +1,10 @@
 -- A collection with all its edges is the canonical one.
-use Rattle.std.proofs.Common.{◌≡◌, ℕ, zero, suc, ◌<◌, ◌≤◌, List, [], ◌∷◌, Some, None, length, get_or, refl, sym, ap, ◌∙◌, arith, inl, inr}
+use Rattle.std.proofs.Common.{◌≡◌, ℕ, ◌<◌, List, [], ◌∷◌, Some, None, length, sym, ap, ◌∙◌, arith, inl, inr}
 use Rattle.std.proofs.lemmas.Bool.{cases_lt}
 use Rattle.std.specs.List.{slice_get}
 use Rattle.std.proofs.lemmas.List.Elements.{All-get_or}
 use Rattle.std.proofs.lemmas.Option.{slice_get-get_or, slice_get_within}
+use Rattle.std.proofs.lemmas.List.{get_or_past}
 use Rattle.mh_grammar.specs.declared.types.Symbol.{Symbol}
 use Rattle.mh_grammar.specs.Plain.{PlainGrammar}
 use Rattle.mh_grammar.specs.Edges.{find_edge}
@@ -31,17 +32,12 @@ pub edges_get : (a : Automaton) (s : ℕ) → s < length a.edges → slice_get a
 unfolding edges_at
 edges_get a s l = slice_get-get_or a.edges s [] l
 
-past : {X : Type 0} (xs : List X) (none : X) (s : ℕ) → length xs ≤ s → get_or xs s none ≡ none
-past [] none s l = refl
-past (x ∷ xs) none zero l = absurd (omega arith)
-past (x ∷ xs) none (suc s) l = past xs none s (omega arith)
-
 -- there are no items but those of the states
 pub items_within : (a : Automaton) (s p d : ℕ) → HasPlace (kernel_at a s) p d → s < length a.kernels
 unfolding kernel_at
 items_within a s p d h = elim (cases_lt s (length a.kernels)) [
   | inl l ↦ l
-  | inr l ↦ absurd (let none = past a.kernels no_kernel s l in contains_none h.0 (rw none at h.1))
+  | inr l ↦ absurd (let none = get_or_past a.kernels s no_kernel l in contains_none h.0 (rw none at h.1))
 ]
 
 -- there are no edges but those of the states
@@ -49,7 +45,7 @@ pub edges_within : (a : Automaton) (s u : ℕ) (X : Symbol) → leads_to a s X �
 unfolding edges_at
 edges_within a s u X e = elim (cases_lt s (length a.edges)) [
   | inl l ↦ l
-  | inr l ↦ absurd (let none = past a.edges [] s l in let f = ap (λ es. find_edge es X) none in let g : None ≡ Some u = sym f ∙ e in cc)
+  | inr l ↦ absurd (let none = get_or_past a.edges s [] l in let f = ap (λ es. find_edge es X) none in let g : None ≡ Some u = sym f ∙ e in cc)
 ]
 
 -- what the start kernels and the edges say carries over to all paths

@@ -1,6 +1,6 @@
 -- Each run makes a path of facts.
 use Rattle.std.proofs.Common.{◌≡◌, ℕ, zero, suc, ◌+◌, ◌-◌, ◌<◌, ◌≤◌, inl, inr, List, [], ◌∷◌, ◌++◌, length, take, drop, Some, None, Option, refl, ap, sym, arith, length-append, length-drop, append_assoc, ◌∙◌}
-use Rattle.std.proofs.lemmas.List.{take_at}
+use Rattle.std.proofs.lemmas.List.{take_at, nil_from_length}
 use Rattle.mh_grammar.specs.declared.types.Symbol.TheVariants.{N}
 use Rattle.mh_tables.specs.Table.{TableData, edge_of}
 use Rattle.mh_grammar.specs.Plain.{rhs_of, lhs_of}
@@ -164,14 +164,10 @@ last_known : (n : ℕ) (v : List ℕ) (z : ℕ) → AllByRecursion (λ y. y < n)
 last_known n [] z h = h.0
 last_known n (x ∷ v) z h = last_known n v z h.1
 
-none_behind : (l : List ℕ) → length l ≡ 0 → l ≡ []
-none_behind [] e = refl
-none_behind (x ∷ l) e = absurd (omega arith)
-
 refused_at : (t : TableData) (i : ℕ) (w : List ℕ) (s : ℕ) (c : Config) → i < length t.grammar.starts → AllByRecursion (λ z. z < t.grammar.tokens) w → Stood t i w c → Refusal t c (length w - 1) s → Refused t i w s
 refused_at t i w s c start all h refusal =
     let count : length w ≡ length h.before + (length h.rest + 1) = ap length h.word ∙ length-append h.before (h.next ∷ h.rest) ∙ omega arith in
-    let none : h.rest ≡ [] = none_behind h.rest (let a = h.count in let b = refusal.read in omega arith) in
+    let none : h.rest ≡ [] = nil_from_length h.rest (let a = h.count in let b = refusal.read in omega arith) in
     let word : w ≡ h.before ++ h.next ∷ [] = rw none at h.word in
     let top : h.top ≡ s = sym (top_is t i c.stack h.top h.before h.next h.built) ∙ refusal.top in
     record {

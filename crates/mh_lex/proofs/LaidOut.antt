@@ -1,7 +1,7 @@
 -- Texts with spaces behind them are lexed to themselves.
 use Rattle.std.proofs.Common.{◌≡◌, ℕ, zero, suc, ◌+◌, ◌-◌, ◌<◌, ◌==◌, ◌&&◌, ◌||◌, Bool, true, false, not, List, [], ◌∷◌, ◌++◌, length, take, drop, Some, None, refl, sym, ap, subst, ◌∙◌, arith, length-append}
 use Rattle.std.specs.List.{AllByRecursion, list_all}
-use Rattle.std.proofs.lemmas.Bool.{not-true}
+use Rattle.std.proofs.lemmas.Bool.{not-true, and_left, and_parts}
 use Rattle.std.proofs.lemmas.Bool.Decides.{nat_tests, Decides-eqb}
 use Rattle.std.proofs.lemmas.List.Elements.{recursion_from_All}
 use Rattle.std.proofs.lemmas.List.Sums.{AllPass-from_list_all}
@@ -25,7 +25,7 @@ use Rattle.mh_lex.specs.Lexing.LexesFrom.{ended, taken}
 use Rattle.mh_lex.specs.Texts.{LexemeText, IsText, is_content, laid, places, one_of, count_of_percents}
 use Rattle.mh_lex.specs.Texts.LexemeText.{word, mark, percents, keyword, quoted, empty_action, cost}
 use Rattle.mh_bytes.proofs.Rows.{keyword_is_word}
-use Rattle.mh_lex.proofs.Tests.{both, third, fourth}
+use Rattle.mh_lex.proofs.Tests.{third, fourth}
 
 -- one of two
 either : {P : Type 0} (a b : Bool) → (a || b) ≡ true → (a ≡ true → P) → (b ≡ true → P) → P
@@ -71,9 +71,6 @@ mark_front b h = mark_cases IsMarkFront (λ rest. refl) (λ rest. refl) (λ rest
 percent_tests : (b : ℕ) → is_word_start b ≡ true → ((b == 37) ≡ false) × ((b == 123) ≡ false) × ((b == 91) ≡ false)
 percent_tests b h = (grind (arith, nat_tests), grind (arith, nat_tests), grind (arith, nat_tests))
 
-and_false : (p q : Bool) → p ≡ false → (p && q) ≡ false
-and_false p q e = rw e refl
-
 pub take_all : (t rest : List ℕ) → take (length t) (t ++ rest) ≡ t
 take_all [] rest = refl
 take_all (b ∷ bs) rest = ap (λ k. b ∷ k) (take_all bs rest)
@@ -84,7 +81,7 @@ unfolding front percent keyword_of
 keyword_front_by b bs rest h start e =
     let tests = percent_tests b start in
     let whole : take (word_rest (b ∷ bs ++ 32 ∷ rest)) (b ∷ bs ++ 32 ∷ rest) ≡ b ∷ bs = ap (λ n. take n (b ∷ bs ++ 32 ∷ rest)) e ∙ take_all (b ∷ bs) (32 ∷ rest) in
-    fourth _ _ _ _ _ _ _ _ _ tests.0 tests.1 (and_false _ _ tests.2) (ap is_keyword whole ∙ h) ∙ ap (λ n. Short (Some kinds.Keyword) (n + 1)) e
+    fourth _ _ _ _ _ _ _ _ _ tests.0 tests.1 (and_left _ _ tests.2) (ap is_keyword whole ∙ h) ∙ ap (λ n. Short (Some kinds.Keyword) (n + 1)) e
 
 keyword_front : (w rest : List ℕ) → is_keyword w ≡ true → front (37 ∷ w ++ 32 ∷ rest) ≡ Short (Some kinds.Keyword) (length w + 1)
 keyword_front w rest h = by w h (keyword_is_word w h)
@@ -92,7 +89,7 @@ keyword_front w rest h = by w h (keyword_is_word w h)
     by : (w : List ℕ) → is_keyword w ≡ true → is_word w ≡ true → front (37 ∷ w ++ 32 ∷ rest) ≡ Short (Some kinds.Keyword) (length w + 1)
     by [] h k = absurd (cc)
     by (b ∷ bs) h k =
-        let two = both (is_word_start b) (list_all is_word_byte bs) k in
+        let two = and_parts (is_word_start b) (list_all is_word_byte bs) k in
         keyword_front_by b bs rest h two.0 (word_rest-append (b ∷ bs) rest (start_is_byte b two.0, recursion_from_All (λ c. is_word_byte c ≡ true) bs (AllPass-from_list_all is_word_byte bs two.1)))
 
 -- %%
@@ -105,7 +102,7 @@ pub string_rest-append : (held : Bool) (s rest : List ℕ) → is_content held s
 string_rest-append true [] rest h = cc
 string_rest-append false [] rest h = refl
 string_rest-append held (b ∷ bs) rest h =
-    let two = both (not (not held && b == 34)) (is_content (not held && b == 92) bs) h in
+    let two = and_parts (not (not held && b == 34)) (is_content (not held && b == 92) bs) h in
     let plain : (not held && b == 34) ≡ false = not-true (not held && b == 34) two.0 in
     rw plain (ap more (string_rest-append (not held && b == 92) bs rest two.1) ∙ ap Some (omega arith))
 

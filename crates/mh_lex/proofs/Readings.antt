@@ -5,6 +5,8 @@ use Rattle.std.specs.List.{AllByRecursion, starts_with}
 use Rattle.std.proofs.lemmas.List.{take-append-drop}
 use Rattle.std.proofs.lemmas.Slice.Eq.{starts_is}
 use Rattle.std.proofs.lemmas.Bool.Decides.{nat_tests, Decides-eqb}
+use Rattle.std.proofs.lemmas.Bool.{not-false, and_parts, both_ways}
+use Rattle.std.proofs.lemmas.Option.{same_Some}
 use Rattle.mh_bytes.specs.declared.code.Ends.{Ends}
 use Rattle.mh_bytes.specs.declared.code.Ends.TheVariants.{Comment, Brace, Bracket, Header, Angle, Slash}
 use Rattle.mh_bytes.specs.declared.code.Step.{Step}
@@ -22,7 +24,7 @@ use Rattle.mh_lex.specs.InCode.{Starts as starts}
 use Rattle.mh_lex.proofs.LaidOut.{take_all}
 use Rattle.mh_lex.proofs.Levels.{each_end}
 use Rattle.mh_lex.proofs.Spelled.{string_split, word_bytes}
-use Rattle.mh_lex.proofs.Tests.{both, not_both, front_is, two_are}
+use Rattle.mh_lex.proofs.Tests.{front_is, two_are}
 
 -- bytes
 abbrev pub AreBytes : List ℕ → Type 0
@@ -47,10 +49,10 @@ content_of true [] h = absurd (cc)
 content_of false [] h = nothing
 content_of true (b ∷ bs) h = taken (content_of false bs h)
 content_of false (b ∷ bs) h =
-    let two = both (not (b == 34)) (is_content (b == 92) bs) h in
+    let two = and_parts (not (b == 34)) (is_content (b == 92) bs) h in
     by_bool (b == 92)
     (λ e. subst (λ k. Content (k ∷ bs)) (sym ((Decides-eqb b 92).0 e)) (content_of true bs (subst (λ k. is_content k bs ≡ true) e two.1)))
-    (λ e. free (not_quote b two.0) (λ q. not_both (b == 92) ((Decides-eqb b 92).1 q) e) (content_of false bs (subst (λ k. is_content k bs ≡ true) e two.1)))
+    (λ e. free (not_quote b two.0) (λ q. both_ways (b == 92) e ((Decides-eqb b 92).1 q)) (content_of false bs (subst (λ k. is_content k bs ≡ true) e two.1)))
 
 -- CHARACTERS
 
@@ -80,17 +82,17 @@ escaped_front a b s r h c = rw ((Decides-eqb a 39).0 h.0, (Decides-eqb b 92).0 h
 
 escape_text : (s : List ℕ) → IsEscaped s → (is_escape (byte_at s 2) && has s 3 39) ≡ true → Character (take 4 s)
 escape_text s h k =
-    let x = four s (both (is_escape (byte_at s 2)) (has s 3 39) k).1 in
+    let x = four s (and_parts (is_escape (byte_at s 2)) (has s 3 39) k).1 in
     subst (λ l. IsEscaped l → (is_escape (byte_at l 2) && has l 3 39) ≡ true → Character (take 4 l)) (sym x.4) (at x.0 x.1 x.2 x.3) h k
   where
     at : (a b c : ℕ) (r : List ℕ) → IsEscaped (a ∷ b ∷ c ∷ 39 ∷ r) → (is_escape c && true) ≡ true → Character (a ∷ b ∷ c ∷ 39 ∷ [])
-    at a b c r i j = escaped_front a b (c ∷ 39 ∷ r) (c ∷ 39 ∷ []) i (escape (both (is_escape c) true j).0)
+    at a b c r i j = escaped_front a b (c ∷ 39 ∷ r) (c ∷ 39 ∷ []) i (escape (and_parts (is_escape c) true j).0)
 
 decimal_text : (s : List ℕ) → IsEscaped s → (is_decimal (byte_at s 2) && (is_decimal (byte_at s 3) && (is_decimal (byte_at s 4) && has s 5 39))) ≡ true → Character (take 6 s)
 decimal_text s h k =
-    let p = both (is_decimal (byte_at s 2)) (is_decimal (byte_at s 3) && (is_decimal (byte_at s 4) && has s 5 39)) k in
-    let q = both (is_decimal (byte_at s 3)) (is_decimal (byte_at s 4) && has s 5 39) p.1 in
-    let r = both (is_decimal (byte_at s 4)) (has s 5 39) q.1 in
+    let p = and_parts (is_decimal (byte_at s 2)) (is_decimal (byte_at s 3) && (is_decimal (byte_at s 4) && has s 5 39)) k in
+    let q = and_parts (is_decimal (byte_at s 3)) (is_decimal (byte_at s 4) && has s 5 39) p.1 in
+    let r = and_parts (is_decimal (byte_at s 4)) (has s 5 39) q.1 in
     let x = six s r.1 in
     subst (λ l. IsEscaped l → is_decimal (byte_at l 2) ≡ true → is_decimal (byte_at l 3) ≡ true → is_decimal (byte_at l 4) ≡ true → Character (take 6 l)) (sym x.6)
     (at x.0 x.1 x.2 x.3 x.4 x.5) h p.0 q.0 r.0
@@ -100,9 +102,9 @@ decimal_text s h k =
 
 hexadecimal_text : (s : List ℕ) → IsEscaped s → (has s 2 120 && (is_hexadecimal (byte_at s 3) && (is_hexadecimal (byte_at s 4) && has s 5 39))) ≡ true → Character (take 6 s)
 hexadecimal_text s h k =
-    let p = both (has s 2 120) (is_hexadecimal (byte_at s 3) && (is_hexadecimal (byte_at s 4) && has s 5 39)) k in
-    let q = both (is_hexadecimal (byte_at s 3)) (is_hexadecimal (byte_at s 4) && has s 5 39) p.1 in
-    let r = both (is_hexadecimal (byte_at s 4)) (has s 5 39) q.1 in
+    let p = and_parts (has s 2 120) (is_hexadecimal (byte_at s 3) && (is_hexadecimal (byte_at s 4) && has s 5 39)) k in
+    let q = and_parts (is_hexadecimal (byte_at s 3)) (is_hexadecimal (byte_at s 4) && has s 5 39) p.1 in
+    let r = and_parts (is_hexadecimal (byte_at s 4)) (has s 5 39) q.1 in
     let x = six s r.1 in
     subst (λ l. IsEscaped l → has l 2 120 ≡ true → is_hexadecimal (byte_at l 3) ≡ true → is_hexadecimal (byte_at l 4) ≡ true → Character (take 6 l)) (sym x.6)
     (at x.0 x.1 x.2 x.3 x.4 x.5) h p.0 q.0 r.0
@@ -113,10 +115,10 @@ hexadecimal_text s h k =
 
 octal_text : (s : List ℕ) → IsEscaped s → (has s 2 111 && (is_octal (byte_at s 3) && (is_octal (byte_at s 4) && (is_octal (byte_at s 5) && has s 6 39)))) ≡ true → Character (take 7 s)
 octal_text s h k =
-    let p = both (has s 2 111) (is_octal (byte_at s 3) && (is_octal (byte_at s 4) && (is_octal (byte_at s 5) && has s 6 39))) k in
-    let q = both (is_octal (byte_at s 3)) (is_octal (byte_at s 4) && (is_octal (byte_at s 5) && has s 6 39)) p.1 in
-    let r = both (is_octal (byte_at s 4)) (is_octal (byte_at s 5) && has s 6 39) q.1 in
-    let u = both (is_octal (byte_at s 5)) (has s 6 39) r.1 in
+    let p = and_parts (has s 2 111) (is_octal (byte_at s 3) && (is_octal (byte_at s 4) && (is_octal (byte_at s 5) && has s 6 39))) k in
+    let q = and_parts (is_octal (byte_at s 3)) (is_octal (byte_at s 4) && (is_octal (byte_at s 5) && has s 6 39)) p.1 in
+    let r = and_parts (is_octal (byte_at s 4)) (is_octal (byte_at s 5) && has s 6 39) q.1 in
+    let u = and_parts (is_octal (byte_at s 5)) (has s 6 39) r.1 in
     let x = seven s u.1 in
     subst (λ l. IsEscaped l → has l 2 111 ≡ true → is_octal (byte_at l 3) ≡ true → is_octal (byte_at l 4) ≡ true → is_octal (byte_at l 5) ≡ true → Character (take 7 l)) (sym x.7)
     (at x.0 x.1 x.2 x.3 x.4 x.5 x.6) h p.0 q.0 r.0 u.0
@@ -133,14 +135,14 @@ none_of false false true h = absurd (cc)
 none_of false false false h = (refl, refl, refl)
 
 other_byte : (b c : ℕ) → (b == c) ≡ false → b ≢ c
-other_byte b c h q = not_both (b == c) ((Decides-eqb b c).1 q) h
+other_byte b c h q = both_ways (b == c) h ((Decides-eqb b c).1 q)
 
 one_text : (s : List ℕ) → has s 0 39 ≡ true → has s 1 92 ≡ false → (has s 2 39 && not (has s 1 39 || (has s 1 10 || has s 1 256))) ≡ true → Character (take 3 s)
 one_text [] h k m = absurd (cc)
 one_text (a ∷ []) h k m = absurd (cc)
 one_text (a ∷ b ∷ []) h k m = absurd (cc)
 one_text (a ∷ b ∷ c ∷ r) h k m =
-    let two = both (c == 39) (not (b == 39 || (b == 10 || b == 256))) m in
+    let two = and_parts (c == 39) (not (b == 39 || (b == 10 || b == 256))) m in
     let lone = none_of (b == 39) (b == 10) (b == 256) two.1 in
     rw ((Decides-eqb a 39).0 h, (Decides-eqb c 39).0 two.0) (one (other_byte b 92 k) (other_byte b 39 lone.0) (other_byte b 10 lone.1))
 
@@ -166,15 +168,11 @@ escaped_spans s h =
     (λ _. spans_cond (has s 2 120 && (is_hexadecimal (byte_at s 3) && (is_hexadecimal (byte_at s 4) && has s 5 39))) (λ k. spans (hexadecimal_text s h k))
     (λ _. spans_cond (has s 2 111 && (is_octal (byte_at s 3) && (is_octal (byte_at s 4) && (is_octal (byte_at s 5) && has s 6 39)))) (λ k. spans (octal_text s h k)) (λ _. spans_none))))
 
-not_false : (b : Bool) → not b ≡ false → b ≡ true
-not_false true h = refl
-not_false false h = absurd (cc)
-
 literal_spans : (s : List ℕ) → Spans s (literal s)
 unfolding literal
 literal_spans s =
     spans_cond (not (has s 0 39)) (λ _. spans_none)
-    (λ q. let quote = not_false (has s 0 39) q in spans_cond (has s 1 92) (λ k. escaped_spans s (quote, k))
+    (λ q. let quote = not-false (has s 0 39) q in spans_cond (has s 1 92) (λ k. escaped_spans s (quote, k))
     (λ k. spans_cond (has s 2 39 && not (has s 1 39 || (has s 1 10 || has s 1 256))) (λ m. spans (one_text s quote k m)) (λ _. spans_none)))
 
 -- a character has its length
@@ -263,7 +261,7 @@ opening_in s h = by (has s 0 123 && has s (id_rest (drop 1 s) + 1) 124) refl h
         subst (λ k. OpeningIn (k ∷ bs) (id_rest bs + 2)) (sym ((Decides-eqb b 123).0 h.0)) (behind_brace bs bar)
 
     by : (c : Bool) → (has s 0 123 && has s (id_rest (drop 1 s) + 1) 124) ≡ c → nat_lt 0 (cond c (id_rest (drop 1 s) + 2) 0) ≡ true → OpeningIn s (cond c (id_rest (drop 1 s) + 2) 0)
-    by true e k = at s (both (has s 0 123) (has s (id_rest (drop 1 s) + 1) 124) e)
+    by true e k = at s (and_parts (has s 0 123) (has s (id_rest (drop 1 s) + 1) 124) e)
     by false e k = absurd (cc)
 
 pub opening_is : (id s : List ℕ) → IsId id → quoted_opening (123 ∷ id ++ 124 ∷ s) ≡ length id + 2
@@ -281,7 +279,7 @@ opening_some id s h = let size : length id + 2 ≡ suc (length id + 1) = omega a
 pub closes_split : (id s : List ℕ) → closes_quoted id s ≡ true → (r : List ℕ) × (s ≡ id ++ 125 ∷ r)
 unfolding closes_quoted
 closes_split id s h =
-    let two = both (starts_with nat_eq s id) (has s (length id) 125) h in
+    let two = and_parts (starts_with nat_eq s id) (has s (length id) 125) h in
     let split : s ≡ id ++ drop (length id) s = (starts_is Decides-eqb s id (starts_with nat_eq s id) refl).0 two.0 in
     let brace : has (drop (length id) s) 0 125 ≡ true = sym (has_behind id (drop (length id) s) 125) ∙ subst (λ k. has k (length id) 125 ≡ true) split two.1 in
     (drop 1 (drop (length id) s), split ∙ ap (λ k. id ++ k) (front_is (drop (length id) s) 125 refl brace))
@@ -310,12 +308,12 @@ until_of id (b ∷ bs) n e = by (b == 124 && closes_quoted id bs) refl (quoted_r
         let head : b ≡ 124 = ap (λ l. byte_at l 0) whole in
         let tail : bs ≡ id ++ 125 ∷ behind = ap (λ l. drop 1 l) whole in
         let both_true : (b == 124 && closes_quoted id bs) ≡ true = rw (head, tail) (closes_here id behind) in
-        not_both (b == 124 && closes_quoted id bs) both_true k
+        both_ways (b == 124 && closes_quoted id bs) k both_true
 
     by : (c : Bool) → (b == 124 && closes_quoted id bs) ≡ c → (o : Option ℕ) → ((m : ℕ) → o ≡ Some m → Until (124 ∷ id ++ 125 ∷ []) (take m bs) (drop m bs)) → cond c (Some (length id + 2)) (more o) ≡ Some n →
         Until (124 ∷ id ++ 125 ∷ []) (take n (b ∷ bs)) (drop n (b ∷ bs))
     by true k o f e =
-        let two = both (b == 124) (closes_quoted id bs) k in
+        let two = and_parts (b == 124) (closes_quoted id bs) k in
         let same : length id + 2 ≡ n = cc in
         here (ap (λ m. take m (b ∷ bs)) (sym same) ∙ ends ((Decides-eqb b 124).0 two.0) (closes_split id bs two.1))
     by false k None f e = absurd (cc)
@@ -370,7 +368,7 @@ has_items _ = true
 -- what closes the code
 two_close : {nest : Option ℕ} (s : List ℕ) (c d : ℕ) → (256 == c) ≡ false → (256 == d) ≡ false → (b : Bool) → (has s 0 c && has s 1 d) ≡ b → nat_lt 0 (cond b 2 0) ≡ true →
     Reading nest (c ∷ d ∷ []) s (Closes (cond b 2 0))
-two_close s c d e f true h k = let x = both (has s 0 c) (has s 1 d) h in ends (two_are s c d e f x.0 x.1)
+two_close s c d e f true h k = let x = and_parts (has s 0 c) (has s 1 d) h in ends (two_are s c d e f x.0 x.1)
 two_close s c d e f false h k = absurd (cc)
 
 one_close : {nest : Option ℕ} (s : List ℕ) (c : ℕ) → (256 == c) ≡ false → (b : Bool) → has s 0 c ≡ b → nat_lt 0 (cond b 1 0) ≡ true → Reading nest (c ∷ []) s (Closes (cond b 1 0))
@@ -389,7 +387,7 @@ close_some : (e : Ends) (behind : List ℕ) → nat_lt 0 (closer e (close_of e +
 close_some e behind = each_end (λ e. nat_lt 0 (closer e (close_of e ++ behind)) ≡ true) refl refl refl refl refl refl e
 
 not_closed : (e : Ends) (s : List ℕ) → nat_lt 0 (closer e s) ≡ false → (behind : List ℕ) → s ≡ close_of e ++ behind → ⊥
-not_closed e s k behind q = not_both (nat_lt 0 (closer e s)) (subst (λ t. nat_lt 0 (closer e t) ≡ true) (sym q) (close_some e behind)) k
+not_closed e s k behind q = both_ways (nat_lt 0 (closer e s)) k (subst (λ t. nat_lt 0 (closer e t) ≡ true) (sym q) (close_some e behind))
 
 -- items
 string_item : (s : List ℕ) (m : ℕ) → has s 0 34 ≡ true → string_rest false (drop 1 s) ≡ Some m → Item (take (m + 1) s) (drop (m + 1) s)
@@ -459,9 +457,9 @@ quoted_reading {nest} {close} s n x =
 -- single bytes
 starts_not : {s : List ℕ} → Starts s → AreBytes s → has s 0 34 ≡ false → nat_lt 0 (literal s) ≡ false → is_word_start (byte_at s 0) ≡ false → nat_lt 0 (quoted_opening s) ≡ false → begins_comment s ≡ false → ⊥
 starts_not starts.string are h i j k l = true≢false h
-starts_not (starts.character text s c) are h i j k l = not_both (nat_lt 0 (literal (text ++ s))) (literal_some text s c are) i
-starts_not (starts.word {b = b} w) are h i j k l = not_both (is_word_start b) w j
-starts_not (starts.quoted id s w) are h i j k l = not_both (nat_lt 0 (quoted_opening (123 ∷ id ++ 124 ∷ s))) (opening_some id s w) k
+starts_not (starts.character text s c) are h i j k l = both_ways (nat_lt 0 (literal (text ++ s))) i (literal_some text s c are)
+starts_not (starts.word {b = b} w) are h i j k l = both_ways (is_word_start b) j w
+starts_not (starts.quoted id s w) are h i j k l = both_ways (nat_lt 0 (quoted_opening (123 ∷ id ++ 124 ∷ s))) k (opening_some id s w)
 starts_not starts.comment are h i j k l = true≢false l
 
 nest_reading : (e : Ends) (s : List ℕ) → nests_in e s ≡ true → (Starts s → ⊥) → Reading (nest_of e) (close_of e) s Nests
@@ -469,12 +467,9 @@ nest_reading Brace s k lone = begins 123 refl (front_is s 123 refl k) lone
 nest_reading Bracket s k lone = begins 91 refl (front_is s 91 refl k) lone
 nest_reading _ s k lone = absurd (true≢false (sym k))
 
-pub some_is : {a b : ℕ} → Some a ≡ Some b → b ≡ a
-some_is e = cc
-
 nest_not : (e : Ends) (b : ℕ) (bs : List ℕ) → nests_in e (b ∷ bs) ≡ false → nest_of e ≢ Some b
-nest_not Brace b bs k q = not_both (b == 123) ((Decides-eqb b 123).1 (some_is q)) k
-nest_not Bracket b bs k q = not_both (b == 91) ((Decides-eqb b 91).1 (some_is q)) k
+nest_not Brace b bs k q = both_ways (b == 123) k ((Decides-eqb b 123).1 (sym (same_Some _ _ q)))
+nest_not Bracket b bs k q = both_ways (b == 91) k ((Decides-eqb b 91).1 (sym (same_Some _ _ q)))
 nest_not _ b bs k q = absurd (cc)
 
 byte_reading : (e : Ends) (s : List ℕ) → is_end s ≡ false → nests_in e s ≡ false → (Starts s → ⊥) → ((behind : List ℕ) → s ≡ close_of e ++ behind → ⊥) → Reading (nest_of e) (close_of e) s (Passes 1)
@@ -511,6 +506,6 @@ pub reading_of : (e : Ends) (s : List ℕ) → has_items e ≡ true → AreBytes
 unfolding step
 reading_of e s h are =
     reading_cond (nat_lt 0 (closer e s)) (λ k. closed e s k)
-    (λ k. reading_cond (has_remarks e && begins_comment s) (λ l. let x = both (has s 0 40) (has s 1 42) (both (has_remarks e) (begins_comment s) l).1 in comes (two_are s 40 42 refl refl x.0 x.1))
+    (λ k. reading_cond (has_remarks e && begins_comment s) (λ l. let x = and_parts (has s 0 40) (has s 1 42) (and_parts (has_remarks e) (begins_comment s) l).1 in comes (two_are s 40 42 refl refl x.0 x.1))
     (λ l. subst (λ f. Reading (nest_of e) (close_of e) s f) (sym (plain_is e s h))
     (item_reading e s are (subst (λ b. (b && begins_comment s) ≡ false) (remarks_are e h) l) (not_closed e s k))))

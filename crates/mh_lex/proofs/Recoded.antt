@@ -4,6 +4,8 @@ use Rattle.std.specs.Prelude.{nat_lt}
 use Rattle.std.specs.List.{AllByRecursion}
 use Rattle.std.proofs.lemmas.List.{take-append-drop}
 use Rattle.std.proofs.lemmas.Bool.Decides.{nat_tests, Decides-eqb}
+use Rattle.std.proofs.lemmas.Bool.{and_parts}
+use Rattle.std.proofs.lemmas.Option.{same_Some}
 use Rattle.mh_bytes.specs.declared.code.Ends.{Ends}
 use Rattle.mh_bytes.specs.declared.code.Ends.TheVariants.{Comment, Brace, Bracket, Header, Angle, Slash}
 use Rattle.mh_bytes.specs.declared.code.Step.{Step}
@@ -31,9 +33,9 @@ use Rattle.mh_lex.specs.Lexing.Taken.{long}
 use Rattle.mh_lex.proofs.LaidOut.{drop_all, start_is_byte, string_rest-append}
 use Rattle.mh_lex.proofs.Levels.{each_end}
 use Rattle.mh_lex.proofs.Coded.{bytes_behind}
-use Rattle.mh_lex.proofs.Readings.{AreBytes, Reading, nest_of, close_of, has_items, differ, some_is, above, literal_is, opening_is, closes_split, closes_here, behind_opening, id_told, reading_of}
+use Rattle.mh_lex.proofs.Readings.{AreBytes, Reading, nest_of, close_of, has_items, differ, above, literal_is, opening_is, closes_split, closes_here, behind_opening, id_told, reading_of}
 use Rattle.mh_lex.proofs.Readings.{Reading as readings}
-use Rattle.mh_lex.proofs.Tests.{both, second, third, fourth}
+use Rattle.mh_lex.proofs.Tests.{second, third, fourth}
 
 -- WHAT AN ITEM IS TO THE STEP
 
@@ -88,7 +90,7 @@ until_is id text r (later {b = b} {text = t} lone u) = by (b == 124 && closes_qu
   where
     ends_here : (b == 124 && closes_quoted id (t ++ r)) ≡ true → ⊥
     ends_here h =
-        let two = both (b == 124) (closes_quoted id (t ++ r)) h in
+        let two = and_parts (b == 124) (closes_quoted id (t ++ r)) h in
         let x = closes_split id (t ++ r) two.1 in
         lone x.0 (ap (λ k. k ∷ t ++ r) ((Decides-eqb b 124).0 two.0) ∙ ap (λ k. 124 ∷ k) (x.1 ∙ sym (append_assoc id (125 ∷ []) x.0)))
 
@@ -200,8 +202,8 @@ byte_nests b s lone (readings.stays f) o open_still = absurd (f (λ e. cc) lone)
 
 -- what nests closes nothing
 level_open : (e : Ends) (b : ℕ) (s : List ℕ) → nest_of e ≡ Some b → (behind : List ℕ) → b ∷ s ≡ close_of e ++ behind → ⊥
-level_open Brace b s o behind q = let one : b ≡ 123 = some_is o in let other : b ≡ 125 = ap (λ l. byte_at l 0) q in omega (arith, one, other)
-level_open Bracket b s o behind q = let one : b ≡ 91 = some_is o in let other : b ≡ 93 = ap (λ l. byte_at l 0) q in omega (arith, one, other)
+level_open Brace b s o behind q = let one : b ≡ 123 = sym (same_Some _ _ o) in let other : b ≡ 125 = ap (λ l. byte_at l 0) q in omega (arith, one, other)
+level_open Bracket b s o behind q = let one : b ≡ 91 = sym (same_Some _ _ o) in let other : b ≡ 93 = ap (λ l. byte_at l 0) q in omega (arith, one, other)
 level_open _ b s o behind q = cc
 
 closing_step : (e : Ends) (rest : List ℕ) → step e (close_of e ++ rest) ≡ Closes (length (close_of e))

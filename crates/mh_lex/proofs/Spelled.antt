@@ -3,6 +3,7 @@ use Rattle.std.proofs.Common.{◌≡◌, ℕ, ◌+◌, ◌-◌, ◌==◌, ◌&&�
 use Rattle.std.specs.List.{AllByRecursion}
 use Rattle.std.proofs.lemmas.List.{take-append-drop, drop-drop}
 use Rattle.std.proofs.lemmas.Bool.Decides.{Decides-eqb}
+use Rattle.std.proofs.lemmas.Bool.{and_parts}
 use Rattle.mh_bytes.specs.declared.code.Ends.{Ends}
 use Rattle.mh_bytes.specs.declared.code.Ends.TheVariants as ends
 use Rattle.mh_lex.specs.declared.kinds.Kind.{Kind}
@@ -23,7 +24,7 @@ use Rattle.mh_lex.specs.Lexing.LexesFrom.{ended, trailer, taken, fault}
 use Rattle.mh_lex.specs.Texts.{LexemeText, is_content, bytes_of, HasText, IsSpelled}
 use Rattle.mh_lex.specs.Texts.LexemeText.{word, mark, percents, keyword, quoted}
 use Rattle.mh_lex.proofs.LaidOut.{drop_all, take_all}
-use Rattle.mh_lex.proofs.Tests.{both, front_is, two_are, three_are}
+use Rattle.mh_lex.proofs.Tests.{front_is, two_are, three_are}
 
 -- one of two
 by_cond : {P : Type 0} {X : Type 0} (b : Bool) (x y z : X) → cond b x y ≡ z → (b ≡ true → x ≡ z → P) → (b ≡ false → y ≡ z → P) → P
@@ -69,7 +70,7 @@ string_longer held b bs n h (Some m) q d later =
 pub string_split : (held : Bool) (s : List ℕ) (n : ℕ) → string_rest held s ≡ Some n → (c : List ℕ) × (take n s ≡ c ++ 34 ∷ []) × (is_content held c ≡ true)
 string_split held [] n e = absurd (cc)
 string_split held (b ∷ bs) n e = by_cond (not held && b == 34) (Some 1) (more (string_rest (not held && b == 92) bs)) (Some n) e
-    (λ h d. let one : n ≡ 1 = cc in let two = both (not held) (b == 34) h in ([], rw (one, (Decides-eqb b 34).0 two.1) refl, two.0))
+    (λ h d. let one : n ≡ 1 = cc in let two = and_parts (not held) (b == 34) h in ([], rw (one, (Decides-eqb b 34).0 two.1) refl, two.0))
     (λ h d. string_longer held b bs n h (string_rest (not held && b == 92) bs) refl d (λ m q. string_split (not held && b == 92) bs m q))
 
 quoted_text : (s : List ℕ) (n : ℕ) → has s 0 34 ≡ true → string_rest false (drop 1 s) ≡ Some n → LexemeText kinds.Quoted (take (n + 1) s)
@@ -190,7 +191,7 @@ opens_keyword w = opens_cond (is_keyword (take (word_rest w) w)) (λ _. opens_sh
 opens_percent : (s : List ℕ) → has s 0 37 ≡ true → Opens s (percent s)
 unfolding percent
 opens_percent s h = opens_cond (has s 1 37) (λ _. opens_short) (opens_cond (has s 1 123) (λ k. opens (header (two_are s 37 123 refl refl h k)))
-    (opens_cond (has s 1 91 && has s 2 64) (λ k. let x = both (has s 1 91) (has s 2 64) k in opens (own_attribute (three_are s 37 91 64 refl refl refl h x.0 x.1))) (opens_keyword (drop 1 s))))
+    (opens_cond (has s 1 91 && has s 2 64) (λ k. let x = and_parts (has s 1 91) (has s 2 64) k in opens (own_attribute (three_are s 37 91 64 refl refl refl h x.0 x.1))) (opens_keyword (drop 1 s))))
 
 opens_slash : {s : List ℕ} (t : List ℕ) → Opens s (slash t)
 unfolding slash
@@ -208,7 +209,7 @@ opens_front s = opens_cond (is_end s) (λ _. opens_ended)
     (opens_cond (has s 0 34) (λ _. opens_string (string_rest false (drop 1 s)))
     (opens_cond (has s 0 123) (λ h. opens (action (front_is s 123 refl h)))
     (opens_cond (has s 0 60) (λ _. opens type_text)
-    (opens_cond (has s 0 91 && has s 1 64) (λ h. let x = both (has s 0 91) (has s 1 64) h in opens (attribute (two_are s 91 64 refl refl x.0 x.1))) opens_fault))))))))))
+    (opens_cond (has s 0 91 && has s 1 64) (λ h. let x = and_parts (has s 0 91) (has s 1 64) h in opens (attribute (two_are s 91 64 refl refl x.0 x.1))) opens_fault))))))))))
 
 pub opening_at : (s : List ℕ) (k : Kind) (d : Ends) (n : ℕ) → front s ≡ Long (Some k) d n → Opening k d n s
 opening_at s k d n e = (opens_front s).opening k d n e

@@ -1,9 +1,9 @@
 -- The rows that have items, taken in their order: they are the moves.
-use Rattle.std.proofs.Common.{◌≡◌, ℕ, zero, suc, ◌+◌, ◌-◌, ◌<◌, ◌≤◌, List, [], ◌∷◌, ◌++◌, Some, length, get_or, map, set, take, vec_len, lt-ltb, le-ltb, refl, sym, ap, subst, ◌∙◌, arith, inl, inr, get_or-set_same}
+use Rattle.std.proofs.Common.{◌≡◌, ℕ, suc, ◌+◌, ◌-◌, ◌<◌, ◌≤◌, List, [], ◌∷◌, ◌++◌, Some, length, get_or, map, set, take, vec_len, lt-ltb, le-ltb, refl, sym, ap, subst, ◌∙◌, arith, inl, inr, get_or-set_same}
 use Rattle.std.specs.List.{slice_get, AllByRecursion, Contains}
 use Rattle.std.specs.List.Sorted.{IsStrictlyIncreasing}
 use Rattle.std.proofs.lemmas.Bool.{cases_eq, cases_lt}
-use Rattle.std.proofs.lemmas.List.{get_or-set_other, length-set, get_or-take, get_or_past, length-take, map-append, take_more}
+use Rattle.std.proofs.lemmas.List.{get_or-set_other, length-set, get_or-take, get_or_past, length-take, map-append, take_more, take_all}
 use Rattle.std.proofs.lemmas.List.Elements.{All-map, Contains-append_left, Contains-get_or}
 use Rattle.std.proofs.lemmas.List.Kept.{AllPairs-from_increasing}
 use Rattle.std.proofs.lemmas.Option.{slice_get_within, get_or_from_slice_get}
@@ -142,12 +142,6 @@ listed_place g old new filled i moves same ready h l =
     let known = ((ready.filled.listed (get_or filled i 0)).0 (subst P same (Contains-get_or filled i 0 l))).0 in
     (omega (arith, known, h.size, old.rows.ok.0, new.rows.ok.0), omega (arith, known, ready.size))
 
-take_past : {X : Type 0} (xs : List X) (i : ℕ) → length xs ≤ i → take i xs ≡ xs
-take_past [] zero l = refl
-take_past [] (suc i) l = refl
-take_past (x ∷ xs) zero l = absurd (omega arith)
-take_past (x ∷ xs) (suc i) l = ap (λ ys. x ∷ ys) (take_past xs i (omega arith))
-
 no_items : {X : Type 0} (xs : List X) → (0 < length xs → ⊥) → xs ≡ []
 no_items [] o = refl
 no_items (x ∷ xs) o = absurd (o (omega arith))
@@ -156,8 +150,8 @@ pub taken-all : {W : ℕ} (g : PlainGrammar) (old : Rows W) (filled : List ℕ) 
 taken-all g old filled i new moves same ready past h = record {
   size = omega (arith, h.size, ready.size, old.rows.ok.0, new.rows.ok.0);
   none = λ n. elim (cases_lt 0 (length (row_at old n))) [
-    | inl some ↦ h.before n (rw (take_past filled i past, same) ((ready.filled.listed n).1 (within n some, some)))
-    | inr bare ↦ h.after n (λ c. (let listed = (ready.filled.listed n).0 (rw (take_past filled i past, same) at c) in omega (arith, listed.1))) ∙ no_items (row_at old n) (λ s. omega arith)
+    | inl some ↦ h.before n (rw (take_all i filled past, same) ((ready.filled.listed n).1 (within n some, some)))
+    | inr bare ↦ h.after n (λ c. (let listed = (ready.filled.listed n).0 (rw (take_all i filled past, same) at c) in omega (arith, listed.1))) ∙ no_items (row_at old n) (λ s. omega arith)
   ];
   unlisted = h.unlisted;
 }

@@ -2,6 +2,7 @@
 use Rattle.std.proofs.Common.{◌≡◌, ◌∙◌, ◌++◌, ◌||◌, Bool, true, false, not, List, [], ◌∷◌, refl, sym, ap, subst, bytes_eq, if◌then◌else◌, true≢false}
 use Rattle.std.specs.Prelude.{unwrap_or}
 use Rattle.std.proofs.lemmas.Slice.Eq.{bytes_eq-Decides}
+use Rattle.std.proofs.lemmas.Bool.{false_from_ne_true}
 use Rattle.clap.specs.Walk.{Row, Text, all_of, default_rows, has_row, more_values, used_as, with_values, without}
 use Rattle.clap.specs.declared.builder.value_parser.Reading.{Reading}
 use Rattle.clap.specs.declared.builder.action.ArgAction.{ArgAction}
@@ -11,10 +12,6 @@ use Rattle.clap.specs.declared.parser.matches.ValueSource.TheVariants.{DefaultVa
 
 -- TEXTS
 
-pub false_of : (b : Bool) → (b ≡ true → ⊥) → b ≡ false
-false_of true h = absurd (h refl)
-false_of false h = refl
-
 pub same_text : (a : Text) → bytes_eq a a ≡ true
 same_text a = (bytes_eq-Decides a a).1 refl
 
@@ -22,7 +19,7 @@ pub other_text : (a b c : Text) → bytes_eq a b ≡ true → bytes_eq b c ≡ f
 other_text a b c e apart = subst (λ (t : Text). bytes_eq t c ≡ false) (sym ((bytes_eq-Decides a b).0 e)) apart
 
 pub other_way : (a b : Text) → bytes_eq a b ≡ false → bytes_eq b a ≡ false
-other_way a b apart = false_of (bytes_eq b a) (λ e. true≢false (sym ((bytes_eq-Decides a b).1 (sym ((bytes_eq-Decides b a).0 e))) ∙ apart))
+other_way a b apart = false_from_ne_true (bytes_eq b a) (λ e. true≢false (sym ((bytes_eq-Decides a b).1 (sym ((bytes_eq-Decides b a).0 e))) ∙ apart))
 
 -- ANOTHER ROW
 

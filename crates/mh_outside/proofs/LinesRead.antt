@@ -1,8 +1,9 @@
 -- A line that is read byte by byte: one byte more, the end of the input, and the faults of a byte that is not added.
-use Rattle.std.proofs.Common.{◌≡◌, ◌≢◌, ◌<◌, ◌≤◌, ◌+◌, ℕ, List, [], ◌∷◌, ◌++◌, length, Option, None, Some, Ok, Err, MatchOption, refl, sym, ◌∙◌, ap, arith, inl, inr, length-append, subst}
+use Rattle.std.proofs.Common.{◌≡◌, ◌≢◌, ◌<◌, ◌≤◌, ◌+◌, ℕ, List, [], ◌∷◌, ◌++◌, length, Option, None, Some, Ok, Err, MatchOption, sym, ◌∙◌, ap, arith, inl, inr, length-append, subst}
 use Rattle.std.specs.Io.KnownBytes.{Consumes, Keeps, IsAtEnd}
 use Rattle.std.specs.Prelude.{Vec, ⊤}
 use Rattle.std.specs.declared.alloc.Global.{Global}
+use Rattle.std.proofs.lemmas.List.{nil_from_length}
 use Rattle.mh_outside.specs.declared.lines.LineFault.{LineFault}
 use Rattle.mh_outside.specs.declared.lines.LineFault.TheVariants.{Failed, TooBig, Memory}
 use Rattle.mh_outside.specs.Lines.{HasNoEnd, TakesLine, AddsByte, ReadsLine, LineCounts}
@@ -20,10 +21,6 @@ length-push line more byte is = ap length is ∙ length-append line (byte ∷ []
 Consumes-keep : (a b c : List ℕ) (line : List ℕ) → Consumes (Some a) (Some b) line → Keeps (Some b) (Some c) → Consumes (Some a) (Some c) line
 Consumes-keep a b c line taken same = taken ∙ ap (λ (l : List ℕ). line ++ l) (sym same)
 
-empty : (line : List ℕ) → length line ≡ 0 → line ≡ []
-empty [] is = refl
-empty (b ∷ line) is = absurd (omega (arith, is))
-
 ends : (a b c : Option (List ℕ)) (line : List ℕ) → Consumes a b line → IsAtEnd b → Keeps b c → line ≡ [] → IsAtEnd a × Keeps a c
 ends None b c line taken none same is = (tt, tt)
 ends (Some a) None c line taken none same is = absurd taken
@@ -40,7 +37,7 @@ takes (Some a) (Some b) (Some c) line taken none same some = inr (Consumes-keep 
 -- no byte was left behind a line without LF
 pub reads_last : (limit : ℕ) (a b c : Option (List ℕ)) (line : List ℕ) (r : Option (Vec ℕ Global)) → Consumes a b line → HasNoEnd line → length line ≤ limit → IsAtEnd b → Keeps b c
     → MatchOption r (length line ≡ 0) (λ last. (last.items ≡ line) × (0 < length last.items)) → ReadsLine limit a c (Ok r)
-reads_last limit a b c line None taken no_end fits none same is = ends a b c line taken none same (empty line is)
+reads_last limit a b c line None taken no_end fits none same is = ends a b c line taken none same (nil_from_length line is)
 reads_last limit a b c line (Some last) taken no_end fits none same (is, some) =
     let taken_so : Consumes a b last.items = subst (Consumes a b) (sym is) taken in
     (takes a b c last.items taken_so none same some, subst HasNoEnd (sym is) no_end, subst (λ l. length l ≤ limit) (sym is) fits)

@@ -2,7 +2,7 @@
 use Rattle.std.proofs.Common.{◌≡◌, ℕ, zero, suc, ◌<◌, ◌≤◌, ◌+◌, inl, inr, Bool, true, eqb, ◌&&◌, List, length, Some, None, Option, refl, ap, sym, arith, ◌∙◌}
 use Rattle.std.specs.Prelude.{slice_get}
 use Rattle.std.specs.List.{Contains}
-use Rattle.std.proofs.lemmas.Bool.{cases_lt}
+use Rattle.std.proofs.lemmas.Bool.{cases_lt, and_parts}
 use Rattle.std.proofs.lemmas.Bool.Decides.{Decides-eqb}
 use Rattle.mh_grammar.specs.declared.types.Symbol.{Symbol}
 use Rattle.mh_grammar.specs.declared.types.Symbol.TheVariants.{N}
@@ -16,7 +16,6 @@ use Rattle.mh_least.proofs.Bound.{one_end, end_known}
 use Rattle.mh_past.specs.declared.past.Reduction.{Reduction}
 use Rattle.mh_ways.specs.code.Rows.{Collects}
 use Rattle.mh_past.specs.Past.{PastIn, IsPast}
-use Rattle.mh_ways.proofs.Collecting.{both}
 use Rattle.mh_ways.proofs.Edging.{edge_there, edge_leads}
 
 pub edge_is : (t : TableData) (s : ℕ) (x : Symbol) (es : List Edge) (o : Option ℕ) → es ≡ (state_at t s).edges → o ≡ find_edge es x → edge_of t s x ≡ o
@@ -76,8 +75,8 @@ past_ends t f past h = record { all = h.all; known = h.known }
 
 pub reduction_same : (x y : Reduction) (r : Bool) → r ≡ (eqb x.end y.end && (eqb x.production y.production && eqb x.target y.target)) → r ≡ true → x ≡ y
 reduction_same x y r e t =
-    let a = both (eqb x.end y.end) _ (sym e ∙ t) in
-    let b = both (eqb x.production y.production) (eqb x.target y.target) a.1 in
+    let a = and_parts (eqb x.end y.end) _ (sym e ∙ t) in
+    let b = and_parts (eqb x.production y.production) (eqb x.target y.target) a.1 in
     let e1 = (Decides-eqb x.end y.end).0 a.0 in
     let e2 = (Decides-eqb x.production y.production).0 b.0 in
     let e3 = (Decides-eqb x.target y.target).0 b.1 in

@@ -3,17 +3,17 @@ use Rattle.std.proofs.Common.{◌≡◌, ◌+◌, ◌-◌, ◌*◌, ◌%◌, ◌
 use Rattle.std.specs.Prelude.{codes, decimal, nat_le, nat_lt, bytes_eq, IfSome}
 use Rattle.std.specs.List.{AllByRecursion}
 use Rattle.std.specs.Int.{IsInRange}
-use Rattle.std.proofs.lemmas.Bool.{leb-true, le-leb, ltb-true, lt-ltb, false≢true}
+use Rattle.std.proofs.lemmas.Bool.{leb-true, le-leb, ltb-true, lt-ltb, false≢true, and_parts}
 use Rattle.std.proofs.lemmas.Bool.Decides.{nat_tests, Decides-eqb}
 use Rattle.std.proofs.lemmas.Slice.Eq.{bytes_eq-Decides}
 use Rattle.std.proofs.lemmas.List.{take-append-drop}
 use Rattle.std.proofs.Math.Seq.{drop-append_seam, drop-cons, take-append_seam}
 use Rattle.std.proofs.lemmas.Fmt.{decimal_by_steps, decimal-digits_value, digits_decimal, digits_value-decimal}
 use Rattle.std.proofs.lemmas.Str.Parse.{IsDigitsTest, IsNumeralModel, FoldsDigits, numerals_by_fold}
+use Rattle.std.proofs.lemmas.Option.{same_Some}
 use Rattle.mh_grammar.specs.declared.types.TheConstants.{MAX_COST}
 use Rattle.mh_grammar.specs.Costs.{IsCost}
 use Rattle.mh_lex.specs.Bytes.{byte_at, is_blank, is_decimal}
-use Rattle.mh_lex.proofs.Tests.{both}
 use Rattle.mh_places.specs.Costs.{IsCostText, front_of, value, limited, is_closing, numbered, spaced, cost_of}
 
 -- CLASSES OF BYTES AT THE FRONT
@@ -43,7 +43,7 @@ in_front p bs rest h e = ap (λ n. take n (bs ++ rest)) (front-append p bs rest 
 -- NUMBERS
 
 decimal_range : (c : ℕ) → is_decimal c ≡ true → IsInRange 48 57 c
-decimal_range c h = let b = both (nat_le 48 c) (nat_le c 57) h in (leb-true 48 c b.0, leb-true c 57 b.1)
+decimal_range c h = let b = and_parts (nat_le 48 c) (nat_le c 57) h in (leb-true 48 c b.0, leb-true c 57 b.1)
 
 range_decimal : (c : ℕ) → IsInRange 48 57 c → is_decimal c ≡ true
 range_decimal c h = rw (le-leb 48 c h.0, le-leb c 57 h.1) refl
@@ -151,12 +151,9 @@ taken_else false o n e = (refl, e)
 limited_is : (m n : ℕ) → limited m ≡ Some n → (m ≡ n) × (1 ≤ n) × (n ≤ MAX_COST)
 limited_is m n e =
     let t = taken_if (nat_le 1 m && nat_le m MAX_COST) (Some m) n e in
-    let same : m ≡ n = some_same m n t.1 in
-    let limits = both (nat_le 1 m) (nat_le m MAX_COST) t.0 in
+    let same : m ≡ n = same_Some m n t.1 in
+    let limits = and_parts (nat_le 1 m) (nat_le m MAX_COST) t.0 in
     (same, subst (λ k. 1 ≤ k) same (leb-true 1 m limits.0), subst (λ k. k ≤ MAX_COST) same (leb-true m MAX_COST limits.1))
-  where
-    some_same : (a b : ℕ) → Some a ≡ Some b → a ≡ b
-    some_same a b e = cc
 
 split_front : (p : ℕ → Bool) (s : List ℕ) → s ≡ take (front_of p s) s ++ drop (front_of p s) s
 split_front p s = sym (take-append-drop (front_of p s) s)

@@ -2,8 +2,7 @@
 use Rattle.std.proofs.Common.{◌≡◌, ℕ, suc, ◌<◌, ◌≤◌, ◌+◌, add-one, List, [], ◌∷◌, ◌++◌, length, take, drop, get_or, Option, Some, None, refl, sym, ap, subst, ◌∙◌, append_assoc}
 use Rattle.std.specs.Option.{option_or}
 use Rattle.std.proofs.Math.Seq.{take-suc, split_at}
-use Rattle.std.proofs.Math.ListN.{drop_of_length-le, take-append-drop}
-use Rattle.std.proofs.lemmas.List.{append-nil}
+use Rattle.std.proofs.lemmas.List.{append-nil, take_all}
 use Rattle.std.proofs.lemmas.Option.{none-some}
 use Rattle.mh_lex.specs.declared.kinds.Lexeme.{Lexeme}
 use Rattle.std.proofs.Common.{Result, Ok, Err, IfOk}
@@ -378,11 +377,8 @@ pub halts_at : (bytes : List ℕ) (ls : List Lexeme) (i : ℕ) (d : Lexeme) (s :
     IsHalt bytes ls line × ((m : Module) → File no_module (reads_of bytes ls) m → ⊥)
 halts_at bytes ls i d s line h g e n = halts bytes ls (take i ls) (drop (suc i) ls) (get_or ls i d) s line (split_at ls i d h) g e n
 
-take_whole : (ls : List Lexeme) (i : ℕ) → length ls ≤ i → take i ls ≡ ls
-take_whole ls i h = sym (append-nil (take i ls)) ∙ ap (λ k. take i ls ++ k) (sym (drop_of_length-le ls h)) ∙ take-append-drop i ls
-
 goes_whole : (bytes : List ℕ) (ls : List Lexeme) (i : ℕ) (s : Reader) → length ls ≤ i → Goes (reads_of bytes (take i ls)) s → Goes (reads_of bytes ls) s
-goes_whole bytes ls i s h g = subst (λ k. Goes (reads_of bytes k) s) (take_whole ls i h) g
+goes_whole bytes ls i s h g = subst (λ k. Goes (reads_of bytes k) s) (take_all i ls h) g
 
 -- the loop is over
 pub whole_at : (bytes : List ℕ) (ls : List Lexeme) (i : ℕ) (s : Reader) (m : Module) → length ls ≤ i → Goes (reads_of bytes (take i ls)) s → finish_at s.made s.place ≡ Some m → File no_module (reads_of bytes ls) m

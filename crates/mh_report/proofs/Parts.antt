@@ -1,6 +1,5 @@
 -- How the texts of an automaton are put together.
 use Rattle.std.proofs.Common.{◌≡◌, ◌<◌, ℕ, suc, List, ◌++◌, length, get_or, refl, ap, sym, subst, ◌∙◌, append_assoc}
-use Rattle.std.specs.Prelude.{Result, Ok, Err, OnOk}
 use Rattle.mh_grammar.specs.declared.types.Grammar.{Grammar}
 use Rattle.mh_grammar.specs.declared.edges.Edge.{Edge}
 use Rattle.mh_kernels.specs.Shapes.{Kernel}
@@ -20,10 +19,6 @@ kernel_text_is g a n kernel items old new lt e f is =
 pub goto_text_is : (g : Grammar) (a : Automaton) (n : ℕ) (edges row : List Edge) (old new : Text) → n < length a.edges → row ≡ get_or a.edges n row → edges ≡ row
     → new ≡ old ++ goto_lines g edges → new ≡ old ++ goto_lines g (edges_at a n)
 goto_text_is g a n edges row old new lt e f is = is ∙ ap (λ (l : List Edge). old ++ goto_lines g l) (sym (edges_are a n edges row lt e f))
-
-pub on_ok : {X E : Type 0} (r : Result X E) (P Q : Type 0) → (P → Q) → OnOk r P → OnOk r Q
-on_ok (Ok x) P Q f p = f p
-on_ok (Err e) P Q f p = tt
 
 -- four pieces behind a text
 pieces : (old a b c d t1 t2 t3 t4 : Text) → t1 ≡ old ++ a → t2 ≡ t1 ++ b → t3 ≡ t2 ++ c → t4 ≡ t3 ++ d → t4 ≡ old ++ (a ++ b ++ c ++ d)

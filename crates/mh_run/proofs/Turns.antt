@@ -10,10 +10,6 @@ use Rattle.mh_run.specs.code.Following.{Following, along, along_after, RunsSo}
 use Rattle.mh_run.specs.code.Settled.{left_with, standing, SettlesTo}
 use Rattle.mh_run.proofs.Along.{after_one_more, along_one_more, along_add}
 
--- nothing is left past the end
-pub none_left : (w : List ℕ) (read : ℕ) → length w ≤ read → drop read w ≡ []
-none_left w read le = drop_all read w le
-
 -- what is left before it
 pub next_is : (w : List ℕ) (read z : ℕ) → read < length w → z ≡ get_or w read 0 → drop read w ≡ z ∷ drop (read + 1) w
 next_is w read z lt e = drop_more w read 0 lt ∙ ap (λ (y : ℕ). y ∷ drop (read + 1) w) (sym e)
@@ -110,6 +106,6 @@ turn_shifts f t facts start w first old new read z j before now h lt e s =
 pub last_ends : {S : Type 0} (f : Following S) (t : TableData) (start : ℕ) (w : List ℕ) (first : S) (old new : List ℕ) (read : ℕ) (before now : S) (m : Move) (how : Ending) → SoFar f t start w first old read before → length w ≤ read
     → SettlesTo f t None old new before now m → step_by t (at new read []) m ≡ Ends how → RunsSo f t start w first how now
 last_ends f t start w first old new read before now m how h le s ended =
-    let left = none_left w read le in
+    let left = drop_all read w le in
     so_far_ends f t start w first new read now (so_far_settled f t start w first old read before h None [] new now m left s) m how (ap (move_of t (top_of new)) left ∙ s.next)
     (rw left ended)

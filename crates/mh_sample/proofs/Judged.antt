@@ -1,5 +1,5 @@
 -- Sentences that were run, one after another.
-use Rattle.std.proofs.Common.{◌≡◌, ℕ, ◌+◌, List, [], ◌∷◌, ◌++◌, map, sym, ◌∙◌, ap, subst, arith, Result, Ok, Err, IfOk}
+use Rattle.std.proofs.Common.{◌≡◌, ℕ, ◌+◌, List, [], ◌∷◌, ◌++◌, map, sym, ◌∙◌, ap, subst, arith}
 use Rattle.std.proofs.lemmas.Slice.Zip.{all_zipped_more}
 use Rattle.std.proofs.lemmas.List.{map-append}
 use Rattle.mh_grammar.specs.declared.types.Sentence.{Sentence}
@@ -12,11 +12,6 @@ use Rattle.mh_msgfile.specs.Sentences.{Vocabulary, vocabulary_of}
 use Rattle.mh_sample.specs.Texts.{each_from, operators_of}
 use Rattle.mh_sample.specs.Counts.{HaveEndings, sentences_at, sample_sentences}
 use Rattle.mh_sample.proofs.Fronts.{each_more}
-
--- what is so where there is a result
-pub more_if_ok : {A E : Type 0} (r : Result A E) (P Q : A → Type 0) → ((x : A) → P x → Q x) → IfOk r P → IfOk r Q
-more_if_ok (Ok x) P Q more is = more x is
-more_if_ok (Err e) P Q more is = tt
 
 module _ (t : TableData) where
   -- one more

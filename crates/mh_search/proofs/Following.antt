@@ -1,6 +1,7 @@
 -- What follows from settled facts is sound, and costs what its word costs.
-use Rattle.std.proofs.Common.{◌≡◌, ℕ, zero, suc, ◌+◌, ◌-◌, ◌<◌, ◌≤◌, List, [], ◌∷◌, ◌++◌, length, Some, None, Option, refl, ap, sym, subst, arith}
+use Rattle.std.proofs.Common.{◌≡◌, ℕ, suc, ◌+◌, ◌-◌, ◌≤◌, List, [], ◌∷◌, ◌++◌, length, Some, Option, refl, ap, sym, subst, arith}
 use Rattle.std.specs.Prelude.{slice_get}
+use Rattle.std.proofs.lemmas.Option.{slice_get_within}
 use Rattle.mh_grammar.specs.declared.types.Symbol.{Symbol}
 use Rattle.mh_grammar.specs.declared.types.Symbol.TheVariants.{T, N}
 use Rattle.mh_grammar.specs.Plain.{rhs_of}
@@ -21,11 +22,6 @@ use Rattle.mh_ways.specs.Tales.{before_dot}
 use Rattle.mh_found.specs.Found.{WholeOk}
 use Rattle.mh_search.specs.Good.{ItemOk, PathOk}
 use Rattle.mh_ways.proofs.Wording.{capped_one, capped_both, min_cap, token_costs, not_free, both_free}
-
-within : (xs : List Symbol) (d : ℕ) (x : Symbol) → slice_get xs d ≡ Some x → d < length xs
-within [] d x e = absurd (let y : None ≡ Some x = e in cc)
-within (y ∷ xs) zero x e = omega arith
-within (y ∷ xs) (suc d) x e = let l = within xs d x e in omega arith
 
 end_more : (t : TableData) (r p d b s : ℕ) (x : Symbol) → IsEnd t r p d b → slice_get (rhs_of t.grammar p) d ≡ Some x → edge_of t b x ≡ Some s → IsEnd t r p (d + 1) s
 end_more t r p d b s x h symbol edge = let e : d + 1 ≡ suc d = omega arith in rw e (b, x, h, symbol, edge)
@@ -53,7 +49,7 @@ module _ (t : TableData) (f : Facts t) (c : Classes) (cls : IsClasses t c) (word
           end_known = f.each_target p.end (T s.x) s.end edge;
           ordinary = r.ordinary;
           production = r.production;
-          within = let l = within (rhs_of t.grammar p.key.production) p.key.dot (T s.x) s.symbol in omega arith;
+          within = let l = slice_get_within (rhs_of t.grammar p.key.production) p.key.dot (T s.x) s.symbol in omega arith;
           first = r.first;
           next = cls.in_range s.end s.z s.known;
           at_end = end_more t p.key.from p.key.production p.key.dot p.end s.end (T s.x) r.at_end s.symbol edge;
@@ -81,7 +77,7 @@ module _ (t : TableData) (f : Facts t) (c : Classes) (cls : IsClasses t c) (word
           end_known = f.each_target p.end (N w.nonterminal) w.target edge;
           ordinary = r.ordinary;
           production = r.production;
-          within = let l = within (rhs_of t.grammar p.key.production) p.key.dot (N w.nonterminal) fits.symbol in omega arith;
+          within = let l = slice_get_within (rhs_of t.grammar p.key.production) p.key.dot (N w.nonterminal) fits.symbol in omega arith;
           first = r.first;
           next = g.next;
           at_end = end_more t p.key.from p.key.production p.key.dot p.end w.target (N w.nonterminal) r.at_end fits.symbol edge;

@@ -1,7 +1,8 @@
 -- A settled fact is filed, and what follows from it comes in.
-use Rattle.std.proofs.Common.{◌≡◌, ℕ, zero, suc, ◌≤◌, ◌⊎◌, inl, inr, List, [], ◌∷◌, length, Some, None, Option, refl, ap, sym, arith, ◌∙◌}
+use Rattle.std.proofs.Common.{◌≡◌, ℕ, ◌≤◌, ◌⊎◌, inl, inr, List, [], length, Some, None, Option, refl, ap, sym, arith, ◌∙◌}
 use Rattle.std.specs.Prelude.{slice_get}
 use Rattle.std.specs.List.{Contains}
+use Rattle.std.proofs.lemmas.Option.{slice_get_past}
 use Rattle.mh_grammar.specs.declared.types.Symbol.{Symbol}
 use Rattle.mh_grammar.specs.declared.types.Symbol.TheVariants.{T, N}
 use Rattle.mh_grammar.specs.Plain.{rhs_of, lhs_of}
@@ -23,11 +24,6 @@ use Rattle.mh_ways.specs.code.Rows.{Collects}
 none_some : {X : Type 0} (o : Option X) (x : X) → o ≡ None → o ≡ Some x → ⊥
 none_some o x a b = (let y : None ≡ Some x = sym a ∙ b in cc)
 
-past_end : (xs : List Symbol) (n : ℕ) → length xs ≤ n → slice_get xs n ≡ None
-past_end [] n le = refl
-past_end (x ∷ xs) zero le = absurd (omega arith)
-past_end (x ∷ xs) (suc n) le = past_end xs n (omega arith)
-
 two_symbols : (o : Option Symbol) (x n : ℕ) → o ≡ Some (T x) → o ≡ Some (N n) → ⊥
 two_symbols o x n a b = (let y : Some (T x) ≡ Some (N n) = sym a ∙ b in let z : T x ≡ N n = cc in cc)
 
@@ -47,7 +43,7 @@ module _ (t : TableData) (c : Classes) (old new : Work) (p : Path) where
     path_joins = λ w cost o there s. absurd (two_symbols (slice_get (rhs_of t.grammar p.key.production) p.key.dot) x w.nonterminal symbol s.fits.symbol);
     way_kept = λ n w h. rw wholes h;
     way_only = λ n w h. inl (rw wholes at h);
-    way_all = λ target y goes. absurd (none_some (slice_get (rhs_of t.grammar p.key.production) p.key.dot) (T x) (past_end (rhs_of t.grammar p.key.production) p.key.dot (let e = goes.whole in omega arith)) symbol);
+    way_all = λ target y goes. absurd (none_some (slice_get (rhs_of t.grammar p.key.production) p.key.dot) (T x) (slice_get_past (rhs_of t.grammar p.key.production) p.key.dot (let e = goes.whole in omega arith)) symbol);
     known_kept = λ k h. rw known h;
     known_only = λ k h. inl (rw known at h);
   }
@@ -67,7 +63,7 @@ module _ (t : TableData) (c : Classes) (old new : Work) (p : Path) where
     path_joins = λ w cost o there s. g.all cost o (w, rw wholes at there, s);
     way_kept = λ n w h. rw wholes h;
     way_only = λ n w h. inl (rw wholes at h);
-    way_all = λ target y goes. absurd (none_some (slice_get (rhs_of t.grammar p.key.production) p.key.dot) (N m) (past_end (rhs_of t.grammar p.key.production) p.key.dot (let e = goes.whole in omega arith)) symbol);
+    way_all = λ target y goes. absurd (none_some (slice_get (rhs_of t.grammar p.key.production) p.key.dot) (N m) (slice_get_past (rhs_of t.grammar p.key.production) p.key.dot (let e = goes.whole in omega arith)) symbol);
     known_kept = λ k h. rw known h;
     known_only = λ k h. inl (rw known at h);
   }
@@ -75,7 +71,7 @@ module _ (t : TableData) (c : Classes) (old new : Work) (p : Path) where
   -- at the end of its production, where the nonterminal leads nowhere
   pub dead_expands : length (rhs_of t.grammar p.key.production) ≤ p.key.dot → edge_of t p.key.from (N (lhs_of t.grammar p.key.production)) ≡ None → new ≡ old → Expanded t c old new p
   dead_expands end none same =
-      let symbol : slice_get (rhs_of t.grammar p.key.production) p.key.dot ≡ None = past_end (rhs_of t.grammar p.key.production) p.key.dot end in
+      let symbol : slice_get (rhs_of t.grammar p.key.production) p.key.dot ≡ None = slice_get_past (rhs_of t.grammar p.key.production) p.key.dot end in
       let paths : new.paths.items ≡ old.paths.items = ap (λ (w : Work). w.paths.items) same in
       let wholes : new.wholes.items ≡ old.wholes.items = ap (λ (w : Work). w.wholes.items) same in
       let known : new.known.keys ≡ old.known.keys = ap (λ (w : Work). w.known.keys) same in
@@ -100,7 +96,7 @@ module _ (t : TableData) (c : Classes) (old new : Work) (p : Path) where
   -- at the end of its production
   pub whole_expands : (target : ℕ) → length (rhs_of t.grammar p.key.production) ≤ p.key.dot → edge_of t p.key.from (N (lhs_of t.grammar p.key.production)) ≡ Some target → MeetsOn t c old new p target (list_at c target) → Expanded t c old new p
   whole_expands target end edge m =
-      let symbol : slice_get (rhs_of t.grammar p.key.production) p.key.dot ≡ None = past_end (rhs_of t.grammar p.key.production) p.key.dot end in
+      let symbol : slice_get (rhs_of t.grammar p.key.production) p.key.dot ≡ None = slice_get_past (rhs_of t.grammar p.key.production) p.key.dot end in
       record {
         paths_rows = ap length m.paths;
         wholes_rows = m.rows;

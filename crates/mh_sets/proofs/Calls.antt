@@ -5,6 +5,7 @@ use Rattle.std.specs.List.{Contains}
 use Rattle.std.proofs.lemmas.Bool.Decides.{Decides-eqb}
 use Rattle.std.proofs.lemmas.List.{get_or-replicate, length-replicate}
 use Rattle.std.proofs.lemmas.List.Elements.{All-replicate}
+use Rattle.std.proofs.lemmas.Bool.{and_parts, and_from, or_right, or_left, or_cases, both_ways}
 use Rattle.mh_grammar.specs.declared.types.Look.{Look}
 use Rattle.mh_grammar.specs.declared.types.Look.TheVariants.{Token, End}
 use Rattle.mh_grammar.specs.Edges.{IsRising, IsLookBefore}
@@ -13,20 +14,8 @@ use Rattle.mh_sets.specs.Sets.{IsSet}
 use Rattle.mh_grammar.proofs.Lists.{contains_here, contains_cases, recursion_contains}
 use Rattle.mh_sets.proofs.Members.{Has, one_set}
 use Rattle.mh_sets.proofs.Places.{no_bits}
-use Rattle.mh_sets.proofs.Views.{member_sound, member_complete, is_set, rises, grown, words_same, or_cases, or_left, or_right}
-
-pub not_true : (t : Bool) → t ≡ false → t ≡ true → ⊥
-not_true t e f = cc
-
+use Rattle.mh_sets.proofs.Views.{member_sound, member_complete, is_set, rises, grown, words_same}
 -- ---- bools
-
-pub both : (p q : Bool) → (p && q) ≡ true → (p ≡ true) × (q ≡ true)
-both true q e = (refl, e)
-both false q e = cc
-
-pub and_true : (p q : Bool) → p ≡ true → q ≡ true → (p && q) ≡ true
-and_true true q e f = f
-and_true false q e f = cc
 
 of_not : (t : Bool) → not t ≡ true → t ≡ true → ⊥
 of_not true e f = cc
@@ -39,10 +28,6 @@ to_not false h = refl
 decide_not : (t : Bool) → (t ≡ true) ⊎ (not t ≡ true)
 decide_not true = inl refl
 decide_not false = inr refl
-
-pub bool_cases : (t : Bool) → (t ≡ true) ⊎ (t ≡ false)
-bool_cases true = inl refl
-bool_cases false = inr refl
 
 -- ---- the words of a set
 
@@ -124,22 +109,22 @@ module _ (words : List ℕ) (end : Bool) (looks : List Look) (is : looks_of word
       ]
 
   not_before : (a : ℕ) → ((b : ℕ) → b < a → has_token words b ≡ false) → (b : Look) → Contains looks b → IsLookBefore b (Token a) → ⊥
-  not_before a least (Token c) k l = not_true (has_token words c) (least c l) (held (Token c) k)
+  not_before a least (Token c) k l = both_ways (has_token words c) (least c l) (held (Token c) k)
   not_before a least End k l = l
 
   pub first_token : (a : ℕ) → has_token words a ≡ true → ((b : ℕ) → b < a → has_token words b ≡ false) → Some (Token a) ≡ slice_get looks 0
   first_token a h least = first_from (Token a) (holds (Token a) h) (not_before a least) looks refl rise_is
 
   not_before_end : ((b : ℕ) → has_token words b ≡ false) → (b : Look) → Contains looks b → IsLookBefore b End → ⊥
-  not_before_end empty (Token c) k l = not_true (has_token words c) (empty c) (held (Token c) k)
+  not_before_end empty (Token c) k l = both_ways (has_token words c) (empty c) (held (Token c) k)
   not_before_end empty End k l = l
 
   pub first_end : ((b : ℕ) → has_token words b ≡ false) → end ≡ true → Some End ≡ slice_get looks 0
   first_end empty h = first_from End (holds End h) (not_before_end empty) looks refl rise_is
 
   nothing : ((b : ℕ) → has_token words b ≡ false) → end ≡ false → (b : Look) → Contains looks b → ⊥
-  nothing empty h (Token c) k = not_true (has_token words c) (empty c) (held (Token c) k)
-  nothing empty h End k = not_true end h (held End k)
+  nothing empty h (Token c) k = both_ways (has_token words c) (empty c) (held (Token c) k)
+  nothing empty h End k = both_ways end h (held End k)
 
   pub none_left : ((b : ℕ) → has_token words b ≡ false) → end ≡ false → looks ≡ []
   none_left empty h = one_set looks [] rise_is tt (λ b. ((λ c. absurd (nothing empty h b c)), (λ c. absurd (let l = c.1 in omega arith))))
@@ -208,25 +193,25 @@ module _ (words : List ℕ) (end : Bool) (looks : List Look) (is : looks_of word
 
   shared_from : (b : Look) → Has (has_token words) end b → Has (has_token other) late b → (share : Bool) → (((a : ℕ) × (has_token words a ≡ true) × (has_token other a ≡ true)) → IsTrue share) → (share || (end && late)) ≡ true
   shared_from (Token a) h k share back = or_left share (end && late) (back (a, h, k))
-  shared_from End h k share back = or_right share (end && late) (and_true end late h k)
+  shared_from End h k share back = or_right share (end && late) (and_from end late h k)
 
   pub meets_is : (share : Bool) → IsTrue share ↔ ((a : ℕ) × (has_token words a ≡ true) × (has_token other a ≡ true)) → IsTrue (share || (end && late)) ↔ ((b : Look) × Contains looks b × Contains theirs b)
   meets_is share exact = (
     (λ h. elim (or_cases share (end && late) h) [
       | inl k ↦ (let f = exact.0 k in (Token f.0, holds words end looks is (Token f.0) f.1, holds other late theirs are (Token f.0) f.2))
-      | inr k ↦ (let f = both end late k in (End, holds words end looks is End f.0, holds other late theirs are End f.1))
+      | inr k ↦ (let f = and_parts end late k in (End, holds words end looks is End f.0, holds other late theirs are End f.1))
     ]),
     (λ f. shared_from f.0 (held words end looks is f.0 f.1) (held other late theirs are f.0 f.2) share exact.1),
   )
 
   within_to : (within : Bool) → (IsTrue within → (a : ℕ) → has_token words a ≡ true → has_token other a ≡ true) → (within && (not end || late)) ≡ true → (b : Look) → Has (has_token words) end b → Has (has_token other) late b
-  within_to within h e (Token a) k = h (both within (not end || late) e).0 a k
-  within_to within h e End k = elim (or_cases (not end) late (both within (not end || late) e).1) [ inl n ↦ absurd (of_not end n k) | inr l ↦ l ]
+  within_to within h e (Token a) k = h (and_parts within (not end || late) e).0 a k
+  within_to within h e End k = elim (or_cases (not end) late (and_parts within (not end || late) e).1) [ inl n ↦ absurd (of_not end n k) | inr l ↦ l ]
 
   pub subset_is : (within : Bool) → IsTrue within ↔ ((a : ℕ) → has_token words a ≡ true → has_token other a ≡ true) → IsTrue (within && (not end || late)) ↔ ((b : Look) → Contains looks b → Contains theirs b)
   subset_is within exact = (
     (λ h b c. holds other late theirs are b (within_to within exact.0 h b (held words end looks is b c))),
-    (λ s. and_true within (not end || late) (exact.1 (λ a h. held other late theirs are (Token a) (s (Token a) (holds words end looks is (Token a) h))))
+    (λ s. and_from within (not end || late) (exact.1 (λ a h. held other late theirs are (Token a) (s (Token a) (holds words end looks is (Token a) h))))
         (elim (decide_not end) [ inl k ↦ or_right (not end) late (held other late theirs are End (s End (holds words end looks is End k))) | inr n ↦ or_left (not end) late n ])),
   )
 

@@ -1,7 +1,7 @@
 -- Taking the first look out.
 use Rattle.std.proofs.Common.{◌≡◌, ℕ, ◌<◌, ◌⊎◌, ◌==◌, Bool, true, false, if◌then◌else◌, List, ◌∷◌, refl, sym, ap, subst, ◌∙◌, arith, inl, inr}
 use Rattle.std.specs.List.{Contains}
-use Rattle.std.proofs.lemmas.Bool.{cases_lt, cases_eq}
+use Rattle.std.proofs.lemmas.Bool.{cases_lt, cases_eq, cases_Bool, both_ways}
 use Rattle.std.proofs.lemmas.Bool.Decides.{Decides-eqb}
 use Rattle.mh_grammar.specs.declared.types.Look.{Look}
 use Rattle.mh_grammar.specs.declared.types.Look.TheVariants.{Token, End}
@@ -10,17 +10,16 @@ use Rattle.mh_sets.specs.Words.{has_token, looks_of}
 use Rattle.mh_grammar.proofs.Lists.{contains_here, contains_there, contains_cases, recursion-from}
 use Rattle.mh_sets.proofs.Members.{Has, one_set}
 use Rattle.mh_sets.proofs.Views.{member_sound, member_complete, rises}
-use Rattle.mh_sets.proofs.Calls.{held, holds, rise_is, not_true, bool_cases}
-
+use Rattle.mh_sets.proofs.Calls.{held, holds, rise_is}
 gone : (a c : ℕ) (t u : Bool) → u ≡ (if a == c then false else t) → u ≡ true → (t ≡ true) × (a ≡ c → ⊥)
 gone a c t u e h = elim (cases_eq a c) [
-  | inl same ↦ absurd (let one = (Decides-eqb a c).1 same in let f : u ≡ false = e ∙ ap (λ (b : Bool). if b then false else t) one in not_true u f h)
-  | inr o ↦ (let no : (a == c) ≡ false = (elim (bool_cases (a == c)) [ inl y ↦ absurd (o ((Decides-eqb a c).0 y)) | inr n ↦ n ]) in let f : u ≡ t = e ∙ ap (λ (b : Bool). if b then false else t) no in (sym f ∙ h, o))
+  | inl same ↦ absurd (let one = (Decides-eqb a c).1 same in let f : u ≡ false = e ∙ ap (λ (b : Bool). if b then false else t) one in both_ways u f h)
+  | inr o ↦ (let no : (a == c) ≡ false = (elim (cases_Bool (a == c)) [ inl y ↦ absurd (o ((Decides-eqb a c).0 y)) | inr n ↦ n ]) in let f : u ≡ t = e ∙ ap (λ (b : Bool). if b then false else t) no in (sym f ∙ h, o))
 ]
 
 stays : (a c : ℕ) (t u : Bool) → u ≡ (if a == c then false else t) → (a ≡ c → ⊥) → t ≡ true → u ≡ true
 stays a c t u e o h =
-    let no : (a == c) ≡ false = (elim (bool_cases (a == c)) [ inl y ↦ absurd (o ((Decides-eqb a c).0 y)) | inr n ↦ n ]) in
+    let no : (a == c) ≡ false = (elim (cases_Bool (a == c)) [ inl y ↦ absurd (o ((Decides-eqb a c).0 y)) | inr n ↦ n ]) in
     e ∙ ap (λ (b : Bool). if b then false else t) no ∙ h
 
 module _ (words : List ℕ) (end : Bool) (looks : List Look) (is : looks_of words end ≡ looks) where
@@ -29,7 +28,7 @@ module _ (words : List ℕ) (end : Bool) (looks : List Look) (is : looks_of word
     after (Token c) h =
         let g = gone a c (has_token words c) (has_token new c) (bits c) h in
         elim (cases_lt c a) [
-          | inl l ↦ absurd (not_true (has_token words c) (least c l) g.0)
+          | inl l ↦ absurd (both_ways (has_token words c) (least c l) g.0)
           | inr l ↦ (let ne = g.1 in elim (cases_eq a c) [ inl e ↦ absurd (ne e) | inr o ↦ omega arith ])
         ]
     after End h = tt
@@ -62,11 +61,11 @@ module _ (words : List ℕ) (end : Bool) (looks : List Look) (is : looks_of word
 
   module _ (empty : (b : ℕ) → has_token words b ≡ false) (ends : end ≡ true) where
     only_end : (b : Look) → Has (has_token words) end b → b ≡ End
-    only_end (Token c) h = absurd (not_true (has_token words c) (empty c) h)
+    only_end (Token c) h = absurd (both_ways (has_token words c) (empty c) h)
     only_end End h = refl
 
     nothing : (b : Look) → Has (has_token words) false b → ⊥
-    nothing (Token c) h = not_true (has_token words c) (empty c) h
+    nothing (Token c) h = both_ways (has_token words c) (empty c) h
     nothing End h = cc
 
     pub take_end : looks ≡ End ∷ looks_of words false

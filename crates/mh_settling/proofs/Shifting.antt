@@ -1,5 +1,5 @@
 -- Edges one after another, and the shifts of tokens.
-use Rattle.std.proofs.Common.{◌≡◌, ℕ, suc, ◌<◌, ◌+◌, ◌⊎◌, List, [], ◌∷◌, length, drop, drop-cons, get_or, set, replicate, eqb, Option, Some, None, false, refl, ap, sym, ◌∙◌, arith, inl, inr}
+use Rattle.std.proofs.Common.{◌≡◌, ℕ, ◌<◌, ◌+◌, ◌⊎◌, List, [], ◌∷◌, length, drop, get_or, set, replicate, eqb, Option, Some, None, false, refl, ap, sym, ◌∙◌, arith, inl, inr}
 use Rattle.std.specs.List.{slice_get}
 use Rattle.std.proofs.lemmas.Bool.Decides.{nat_tests}
 use Rattle.std.proofs.lemmas.Bool.{cases_eq}
@@ -37,9 +37,6 @@ skipped tokens edges i n edge shifts at is a = record {
     | inr x ↦ inr x
   ];
 }
-
-pub next_edge : (edges : List Edge) (i : ℕ) (d : Edge) → i < length edges → drop i edges ≡ get_or edges i d ∷ drop (i + 1) edges
-next_edge edges i d lt = let one : suc i ≡ i + 1 = omega arith in drop-cons edges i d lt ∙ ap (λ n. get_or edges i d ∷ drop n edges) one
 
 -- an edge on a token
 pub shifted : (tokens : ℕ) (edges : List Edge) (i b : ℕ) (edge : Edge) (shifts : List (Option ℕ)) → IsRising IsEdgeBefore edges → slice_get edges i ≡ Some edge → drop i edges ≡ edge ∷ drop (i + 1) edges → edge.symbol ≡ T b → b < tokens

@@ -1,6 +1,7 @@
 -- Spots as keys of a map, and the one sentence of a step.
-use Rattle.std.proofs.Common.{◌≡◌, ℕ, List, [], ◌∷◌, Option, Bool, true, false, nat_eq, ◌&&◌, refl, ap, sym, arith, ◌∙◌}
+use Rattle.std.proofs.Common.{◌≡◌, ℕ, List, [], ◌∷◌, Option, true, nat_eq, refl, ap, sym, arith, ◌∙◌}
 use Rattle.std.proofs.lemmas.Grind.{common_steps}
+use Rattle.std.proofs.lemmas.Bool.{and_parts}
 use Rattle.mh_facts.specs.declared.store.FactKey.{FactKey}
 use Rattle.mh_least.specs.Least.{Label, longer}
 use Rattle.mh_spots.specs.declared.arrivals.Spot.{Spot}
@@ -10,10 +11,6 @@ use Rattle.mh_spots.specs.Spots.{same_spot, spot, LabelBy}
 use Rattle.mh_ways.proofs.Keyed.{AreKeys}
 use Rattle.mh_ways.proofs.Wording.{some_is}
 
-both_true : (a b : Bool) → (a && b) ≡ true → (a ≡ true) × (b ≡ true)
-both_true true b e = (refl, e)
-both_true false b e = cc
-
 same_number : (a b : ℕ) → nat_eq a b ≡ true → a ≡ b
 same_number a b e = grind (arith, common_steps)
 
@@ -22,7 +19,7 @@ number_same n = grind (arith, common_steps)
 
 pub same_spot_is : (x y : Spot) → same_spot x y ≡ true → x ≡ y
 same_spot_is x y e =
-    let a = both_true (nat_eq x.state y.state) (nat_eq x.next y.next) e in
+    let a = and_parts (nat_eq x.state y.state) (nat_eq x.next y.next) e in
     let e1 = same_number x.state y.state a.0 in
     let e2 = same_number x.next y.next a.1 in
     let whole : spot x.state x.next ≡ spot y.state y.next = rw (e1, e2) refl in

@@ -1,6 +1,7 @@
 -- What sentences are made of, and what a comparison of their parts tells.
 use Rattle.std.proofs.Common.{◌≡◌, ℕ, ◌+◌, ◌<◌, List, [], ◌∷◌, ◌++◌, Some, None, Option, Bool, true, false, refl, ap, sym, arith, append_assoc, ◌∙◌}
 use Rattle.std.proofs.lemmas.List.{append-nil}
+use Rattle.std.proofs.lemmas.Option.{same_Some}
 use Rattle.mh_tables.specs.Table.{TableData}
 use Rattle.mh_facts.specs.declared.store.FactKey.{FactKey}
 use Rattle.mh_facts.specs.Stored.{Facts as Stored}
@@ -49,14 +50,11 @@ module _ (t : TableData) (words : FactKey → Option (List ℕ)) (spots : Spots)
   label_at : (from : Spot) (l : Label) (r : Arrival) → journey.labels from ≡ Some l → arrival_at spots from ≡ Some r → LabelBy words journey.labels r.step l
   label_at from l r e there = let told = journey.some from r there in let one : told.label ≡ l = some_is (journey.labels from) told.label l told.is e in rw one at told.by
 
-  same_spot_is : (a b : Spot) → Some a ≡ Some b → a ≡ b
-  same_spot_is a b e = cc
-
   -- one step back
   pub rest_goes : (step : Step) (ps : List Part) (whole : Label) (from : Spot) (r : Arrival) → from_of step ≡ Some from → arrival_at spots from ≡ Some r → Rest words journey.labels step ps whole → Rest words journey.labels r.step (ps ++ part_of step ∷ []) whole
   rest_goes (steps.Begin start) ps whole from r e there h = absurd (let y : None ≡ Some from = e in cc)
   rest_goes (steps.Shift k token) ps whole from r e there h =
-      let back = same_spot_is k from e in
+      let back = same_Some k from e in
       let m = h.by.0 in
       let word : h.label.word ≡ m.word ++ token ∷ [] = ap (λ (l : Label). l.word) h.by.2 in
       record {
@@ -68,7 +66,7 @@ module _ (t : TableData) (words : FactKey → Option (List ℕ)) (spots : Spots)
         is = sym (append_assoc m.word (token ∷ []) h.word) ∙ ap (λ (l : List ℕ). l ++ h.word) (sym word) ∙ h.is;
       }
   rest_goes (steps.Way k inner) ps whole from r e there h =
-      let back = same_spot_is k from e in
+      let back = same_Some k from e in
       let m = h.by.0 in
       let v = h.by.1 in
       let word : h.label.word ≡ m.word ++ v = ap (λ (l : Label). l.word) h.by.4 in
@@ -84,13 +82,13 @@ module _ (t : TableData) (words : FactKey → Option (List ℕ)) (spots : Spots)
   -- what a step leads on from is reached
   pub from_there : (step : Step) (l : Label) (from : Spot) → LabelBy words journey.labels step l → from_of step ≡ Some from → (r : Arrival) × (arrival_at spots from ≡ Some r)
   from_there (steps.Begin start) l from by e = absurd (let y : None ≡ Some from = e in cc)
-  from_there (steps.Shift k token) l from by e = rw (same_spot_is k from e) at (arrived_at t words spots journey k by.0 by.1)
-  from_there (steps.Way k inner) l from by e = rw (same_spot_is k from e) at (arrived_at t words spots journey k by.0 by.2)
+  from_there (steps.Shift k token) l from by e = rw (same_Some k from e) at (arrived_at t words spots journey k by.0 by.1)
+  from_there (steps.Way k inner) l from by e = rw (same_Some k from e) at (arrived_at t words spots journey k by.0 by.2)
 
   height_from : (step : Step) (from : Spot) → from_of step ≡ Some from → height_by (heights_of spots) step ≡ heights_of spots from + 1
   height_from (steps.Begin start) from e = absurd (let y : None ≡ Some from = e in cc)
-  height_from (steps.Shift k token) from e = ap (λ (q : Spot). heights_of spots q + 1) (same_spot_is k from e)
-  height_from (steps.Way k inner) from e = ap (λ (q : Spot). heights_of spots q + 1) (same_spot_is k from e)
+  height_from (steps.Shift k token) from e = ap (λ (q : Spot). heights_of spots q + 1) (same_Some k from e)
+  height_from (steps.Way k inner) from e = ap (λ (q : Spot). heights_of spots q + 1) (same_Some k from e)
 
   pub falls : (step : Step) (from : Spot) (r : Arrival) → from_of step ≡ Some from → arrival_at spots from ≡ Some r → height_by (heights_of spots) r.step < height_by (heights_of spots) step
   falls step from r e there = let a = lower t words spots journey from r there in let b = height_from step from e in omega arith

@@ -2,7 +2,7 @@
 use Rattle.std.proofs.Common.{inl, inr, ◌⊎◌, ◌≡◌, ◌≢◌, ◌+◌, ◌<◌, ◌≤◌, ◌==◌, ℕ, suc, Bool, true, false, cond, not, max, List, [], ◌∷◌, ◌++◌, length, map, Option, Some, None, Result, Ok, Err, refl, sym, ap, ◌∙◌, subst, arith, append_assoc, append-nil, length-append, codes, decimal, true≢false, eqb-true, eq-eqb, flat_map, nat_eq, take, get_or, Bor, take-suc, take_all, length-take-le}
 use Rattle.std.specs.List.{AllByRecursion, slice_split, onto_first, join_with_byte}
 use Rattle.std.proofs.lemmas.Grind.{flat_map-append}
-use Rattle.std.proofs.lemmas.List.{length-map}
+use Rattle.std.proofs.lemmas.List.{length-map, map_push}
 use Rattle.std.proofs.lemmas.List.Splits.{join_with_byte-slice_split}
 use Rattle.mh_grammar.proofs.Lists.{recursion-weaker}
 use Rattle.mh_cells.specs.declared.kinds.Mode.{Mode}
@@ -11,6 +11,8 @@ use Rattle.mh_cells.specs.Names.{mode_name}
 use Rattle.mh_tabreader.specs.Reading.{IsOtherVersion, IsBadLine, IsReading}
 use Rattle.mh_tabform.specs.Form.{Line, line_text, text, IsInWord, IsLine, Spells, Begins, IsFileOf, IsNumber}
 use Rattle.std.specs.Cmp.Lexicographic.{same_text}
+use Rattle.std.proofs.lemmas.Bool.{and_parts}
+use Rattle.std.proofs.lemmas.Option.{same_Some}
 use Rattle.mh_tabreader.specs.declared.places.Reader.{Reader}
 use Rattle.mh_tabreader.specs.declared.reading.TabFault.{TabFault}
 use Rattle.mh_tabreader.specs.declared.reading.TabFault.TheVariants as faults
@@ -18,8 +20,8 @@ use Rattle.mh_tabreader.specs.code.Machine.{run, start, finish}
 use Rattle.mh_tabreader.specs.code.Lines.{words_of, lines_in, IsMisplaced, Reaches, EndsAt, is_other_head, is_other_number, is_mode}
 use Rattle.mh_tabreader.specs.code.Words.{same_word, number_of, mode_of}
 use Rattle.mh_tablines.specs.Versions.{first_line, version_fault}
-use Rattle.mh_tabform.proofs.Plain.{both, not_equal}
-use Rattle.mh_tabreader.proofs.Tellings.{chosen, none_some, same_some, number_sound, mode_sound}
+use Rattle.mh_tabform.proofs.Plain.{not_equal}
+use Rattle.mh_tabreader.proofs.Tellings.{chosen, none_some, number_sound, mode_sound}
 use Rattle.mh_tabreader.proofs.Exact.{taken_begin, taken_whole, taken_early}
 
 -- Parts.
@@ -142,16 +144,12 @@ end_reading (Err faults.Memory) bytes parts last r n c e f h g = tt
 
 -- Borrowed parts.
 
-map_front : {X Y : Type 0} (f : X → Y) (xs : List X) (x : X) → map f (xs ++ x ∷ []) ≡ map f xs ++ f x ∷ []
-map_front f [] x = refl
-map_front f (y ∷ ys) x = ap (λ l. f y ∷ l) (map_front f ys x)
-
 abbrev pub seen : List (Bor (List ℕ)) → List (List ℕ)
 seen parts = map (λ x. x.now) parts
 
 pub cut_at : (bytes : List ℕ) (parts : List (Bor (List ℕ))) (n : ℕ) (d : Bor (List ℕ)) → seen parts ≡ slice_split (λ b. b == 10) bytes → length parts ≡ suc n → IsCut bytes (seen (take n parts)) (get_or parts n d).now
 cut_at bytes parts n d e some = is_cut bytes (seen (take n parts)) (get_or parts n d).now
-    (sym (map_front (λ (x : Bor (List ℕ)). x.now) (take n parts) (get_or parts n d)) ∙ ap seen (sym (take-suc parts n d (omega (arith, some)))) ∙ ap (λ k. seen (take k parts)) (sym some) ∙ ap seen (take_all (length parts) parts (omega arith)) ∙ e)
+    (sym (map_push (λ (x : Bor (List ℕ)). x.now) (take n parts) (get_or parts n d)) ∙ ap seen (sym (take-suc parts n d (omega (arith, some)))) ∙ ap (λ k. seen (take k parts)) (sym some) ∙ ap seen (take_all (length parts) parts (omega arith)) ∙ e)
 
 seen_length : (parts : List (Bor (List ℕ))) (n : ℕ) → length parts ≡ suc n → n ≡ length (seen (take n parts))
 seen_length parts n e = sym (length-map (take n parts) (λ x. x.now) ∙ length-take-le n parts (omega (arith, e)))
@@ -194,7 +192,7 @@ parts_few bytes parts e = omega (arith, sym (length-map parts (λ x. x.now)) ∙
 
 other_by : (o : Option ℕ) → is_other_number o ≡ true → (n : ℕ) × (o ≡ Some n) × (n ≢ 1) × (n ≢ 2)
 other_by None e = absurd (true≢false (sym e))
-other_by (Some n) e = let h = both (not (n == 1)) (not (n == 2)) e in (n, refl, not_equal n 1 h.0, not_equal n 2 h.1)
+other_by (Some n) e = let h = and_parts (not (n == 1)) (not (n == 2)) e in (n, refl, not_equal n 1 h.0, not_equal n 2 h.1)
 
 mode_by : (o : Option Mode) → is_mode o ≡ true → (m : Mode) × (o ≡ Some m)
 mode_by None e = absurd (true≢false (sym e))
@@ -245,7 +243,7 @@ other_version bytes [] ws e some i h = absurd (omega (arith, some))
 other_version bytes (p ∷ ps) ws e some i h = other_of bytes p.now (subst IsOtherHead i (other_head ws h)) (first_part bytes p.now (seen ps) e)
 
 pub told : (other : Bool) (fault : TabFault) (o : Option TabFault) → o ≡ version_fault other faults.Version → o ≡ Some fault → (other ≡ true) × (fault ≡ faults.Version)
-told true fault o e s = (refl, same_some fault faults.Version (sym s ∙ e))
+told true fault o e s = (refl, same_Some fault faults.Version (sym s ∙ e))
 told false fault o e s = absurd (none_some fault (sym e ∙ s))
 
 pub untold : (other : Bool) (o : Option TabFault) → o ≡ version_fault other faults.Version → o ≡ None → other ≡ false

@@ -8,9 +8,9 @@ use Rattle.mh_tabreader.specs.Reading.{IsBadLine}
 use Rattle.mh_tabform.specs.Form.{Line, line_text, Spells, Begins}
 use Rattle.mh_tabreader.specs.code.Lines.{words_of}
 use Rattle.std.proofs.lemmas.Bool.{cases_lt}
+use Rattle.std.proofs.lemmas.List.{same_from_push}
 use Rattle.mh_tabreader.proofs.Cuts.{split_some}
-use Rattle.mh_tabreader.proofs.Only.{map_some, not_line, snoc_same, view, view_again, view_whole}
-
+use Rattle.mh_tabreader.proofs.Only.{map_some, not_line, view, view_again, view_whole}
 some_length : {X : Type 0} (xs : List X) → xs ≢ [] → 0 < length xs
 some_length [] n = absurd (n refl)
 some_length (x ∷ xs) n = omega arith
@@ -96,7 +96,7 @@ not_blocked before tail other behind line more len e same f some =
 
 not_unended : (before tail other behind : List Line) (words : Line) → tail ≡ ([] ∷ []) ∷ [] → before ++ tail ≡ other ++ behind → behind ≡ words ∷ [] → words ≢ [] ∷ [] → ⊥
 not_unended before tail other behind words e same f some =
-    some (sym (snoc_same before other ([] ∷ []) words (ap (λ l. before ++ l) (sym e) ∙ same ∙ ap (λ l. other ++ l) f)).1)
+    some (sym (same_from_push before other ([] ∷ []) words (ap (λ l. before ++ l) (sym e) ∙ same ∙ ap (λ l. other ++ l) f)).1)
 
 numbers : (before tail other behind : List Line) (n m : ℕ) → length before ≡ length other → before ++ tail ≡ other ++ behind → Kind before tail n → Kind other behind m → n ≡ m
 numbers before tail other behind n m len same (Early e k) (Early f l) = k ∙ ap (λ c. max 1 c) len ∙ sym l

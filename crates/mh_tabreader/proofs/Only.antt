@@ -8,6 +8,7 @@ use Rattle.mh_tabform.specs.declared.types.RawTable.{RawTable}
 use Rattle.mh_tabreader.specs.declared.reading.TabFault.{TabFault}
 use Rattle.mh_tabreader.specs.declared.reading.TabFault.TheVariants as faults
 use Rattle.std.proofs.lemmas.Fmt.{decimal_injective}
+use Rattle.std.proofs.lemmas.List.{same_from_push}
 use Rattle.mh_cells.specs.declared.kinds.Mode.{Mode}
 use Rattle.mh_tabreader.specs.code.Words.{mode_of}
 use Rattle.mh_cells.specs.Names.{mode_name}
@@ -53,16 +54,6 @@ view_again (l ∷ ls) last (h, hs) =
 pub view_whole : (ls : List Line) → AllByRecursion IsLine ls → view (text ls) ≡ ls ++ ([] ∷ []) ∷ []
 view_whole ls h = ap view (sym (append-nil (text ls))) ∙ view_again ls [] h
 
-pub snoc_same : {X : Type 0} (xs ys : List X) (x y : X) → xs ++ x ∷ [] ≡ ys ++ y ∷ [] → (xs ≡ ys) × (x ≡ y)
-snoc_same [] [] x y e = (refl, cc)
-snoc_same [] (b ∷ bs) x y e = absurd (omega (arith, ap length e, length-append bs (y ∷ [])))
-snoc_same (a ∷ aa) [] x y e = absurd (omega (arith, ap length e, length-append aa (x ∷ [])))
-snoc_same (a ∷ aa) (b ∷ bs) x y e =
-    let same : a ≡ b = cc in
-    let rest : aa ++ x ∷ [] ≡ bs ++ y ∷ [] = cc in
-    let h = snoc_same aa bs x y rest in
-    (ap (λ k. k ∷ aa) same ∙ ap (λ k. b ∷ k) h.0, h.1)
-
 front_of : {X : Type 0} (xs ys zs : List X) (e x : X) → xs ++ e ∷ [] ≡ ys ++ x ∷ zs → zs ≢ [] → (more : List X) × (xs ≡ (ys ++ x ∷ []) ++ more)
 front_of [] [] zs e x h n = absurd (n (let f : zs ≡ [] = cc in f))
 front_of [] (y ∷ ys) zs e x h n = absurd (omega (arith, ap length h, length-append ys (x ∷ zs)))
@@ -83,7 +74,7 @@ not_line (b ∷ bs) (h, hs) = (ne_eqb b 10 h, not_line bs hs)
 
 pub same_file : (bytes : List ℕ) (one two : RawTable) → IsFileOf bytes one → IsFileOf bytes two → one ≡ two
 same_file bytes one two f g =
-    let same = snoc_same (lines_of one) (lines_of two) ([] ∷ []) ([] ∷ []) (sym (view_whole (lines_of one) f.words) ∙ ap view (sym f.whole ∙ g.whole) ∙ view_whole (lines_of two) g.words) in
+    let same = same_from_push (lines_of one) (lines_of two) ([] ∷ []) ([] ∷ []) (sym (view_whole (lines_of one) f.words) ∙ ap view (sym f.whole ∙ g.whole) ∙ view_whole (lines_of two) g.words) in
     spelled_once (lines_of two) one two (f.spelled, sym same.0) (g.spelled, refl)
 
 pub no_bad : (bytes : List ℕ) (raw : RawTable) (n : ℕ) → IsFileOf bytes raw → IsBadLine bytes n → ⊥
@@ -93,10 +84,10 @@ no_bad bytes raw n f (IsBadLine.misplaced before line rest e hb hl b never k) =
     never (more, raw, (f.spelled, sym m))
 no_bad bytes raw n f (IsBadLine.unended before last e hb hl some b k) =
     let alone : view last ≡ words_of last ∷ [] = ap (map words_of) (slice_split_none (λ b. b == 10) last (All-from_recursion (λ b. (b == 10) ≡ false) last (not_line last hl))) in
-    let same = snoc_same (lines_of raw) before ([] ∷ []) (words_of last) (sym (view_whole (lines_of raw) f.words) ∙ ap view (sym f.whole ∙ e) ∙ view_again before last hb ∙ ap (λ l. before ++ l) alone) in
+    let same = same_from_push (lines_of raw) before ([] ∷ []) (words_of last) (sym (view_whole (lines_of raw) f.words) ∙ ap view (sym f.whole ∙ e) ∙ view_again before last hb ∙ ap (λ l. before ++ l) alone) in
     some (sym (join_with_byte-slice_split 32 last) ∙ ap (join_with_byte 32) (sym same.1))
 no_bad bytes raw n f (IsBadLine.early lines e hl b never k) =
-    let same = snoc_same (lines_of raw) lines ([] ∷ []) ([] ∷ []) (sym (view_whole (lines_of raw) f.words) ∙ ap view (sym f.whole ∙ e) ∙ view_whole lines hl) in
+    let same = same_from_push (lines_of raw) lines ([] ∷ []) ([] ∷ []) (sym (view_whole (lines_of raw) f.words) ∙ ap view (sym f.whole ∙ e) ∙ view_whole lines hl) in
     never raw (f.spelled, sym same.0)
 
 other_line : (n : ℕ) (m : Mode) → n < 2 ^ 32 → IsLine (head_line n m)

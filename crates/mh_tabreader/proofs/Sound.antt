@@ -2,6 +2,8 @@
 use Rattle.std.proofs.Common.{inl, inr, ◌⊎◌, ◌≡◌, ◌≢◌, ◌+◌, ◌-◌, ◌^◌, ◌<◌, ◌≤◌, ℕ, suc, Bool, true, false, nat_eq, ◌==◌, cond, List, [], ◌∷◌, ◌++◌, map, length, Option, Some, None, refl, sym, ap, ◌∙◌, subst, codes, decimal, arith, append_assoc, append-nil, length-append, eqb-true, zero-add, add-zero}
 use Rattle.std.proofs.lemmas.Bool.{eqb-false}
 use Rattle.std.specs.List.{AllByRecursion}
+use Rattle.std.proofs.lemmas.Option.{same_Some}
+use Rattle.std.proofs.lemmas.List.{map_push}
 use Rattle.mh_grammar.proofs.Lists.{recursion-push}
 use Rattle.mh_cells.specs.declared.kinds.Mode.{Mode}
 use Rattle.mh_tables.specs.declared.parts.Fallback.{Fallback}
@@ -23,7 +25,7 @@ use Rattle.mh_tabform.specs.Form.{Line, IsName, IsNumber, IsRawProduction, IsRaw
 use Rattle.mh_tabreader.specs.code.Words.{◌>>=◌, kind_of, count_of, names_of, numbers_of, number_of, mode_of, production_of, item_of, edge_of, cell_of, fallback_of}
 use Rattle.mh_tabreader.specs.code.Machine.{start, table_of, costs_for, place_behind_tokens, read_head, at_head, at_tokens, at_costs, at_starts, at_productions, at_states, at_production, open_state, at_state, at_end, at_cells, at_edges, at_items, at_listing, ended_by, closed, between, next, next_at, finish, finish_at, run, go_on, ended, Outcome}
 use Rattle.mh_tabreader.specs.code.Machine.Outcome.{Reads, Stops}
-use Rattle.mh_tabreader.proofs.Tellings.{none_some, bind_some, chosen, same_some, Named, kind_sound, mode_sound, number_sound, numbers_sound, names_sound, count_sound, production_sound, item_sound, edge_sound, cell_sound, fallback_sound}
+use Rattle.mh_tabreader.proofs.Tellings.{none_some, bind_some, chosen, Named, kind_sound, mode_sound, number_sound, numbers_sound, names_sound, count_sound, production_sound, item_sound, edge_sound, cell_sound, fallback_sound}
 use Rattle.mh_tabreader.proofs.Again.{to}
 
 -- the open state as it stands
@@ -92,10 +94,6 @@ pub record Goes (before : List Line) (x : Line) (t : Reader) : Type 0 where
 
 -- Lists.
 
-map_snoc : {X Y : Type 0} (f : X → Y) (xs : List X) (x : X) → map f (xs ++ x ∷ []) ≡ map f xs ++ f x ∷ []
-map_snoc f [] x = refl
-map_snoc f (y ∷ ys) x = ap (λ l. f y ∷ l) (map_snoc f ys x)
-
 snoc2 : (a b c : List Line) → a ++ (b ++ c) ≡ (a ++ b) ++ c
 snoc2 a b c = sym (append_assoc a b c)
 
@@ -116,9 +114,9 @@ at_place r place p = record { tokens = p.tokens; costs = p.costs; starts = p.sta
 
 costs_sound : (n : ℕ) (costs : Option (List ℕ)) → costs_for n ≡ Some costs → (n ≡ version_of costs) × AreCosts costs
 costs_sound n costs e = elim (chosen (nat_eq n 1) (Some None) (cond (nat_eq n 2) (Some (Some [])) None) (Some costs) e) [
-  | inl (b, f) ↦ subst (λ c. (n ≡ version_of c) × AreCosts c) (same_some None costs f) (eqb-true n 1 b, tt)
+  | inl (b, f) ↦ subst (λ c. (n ≡ version_of c) × AreCosts c) (same_Some None costs f) (eqb-true n 1 b, tt)
   | inr (b, f) ↦ elim (chosen (nat_eq n 2) (Some (Some [])) None (Some costs) f) [
-    | inl (c, g) ↦ subst (λ c. (n ≡ version_of c) × AreCosts c) (same_some (Some []) costs g) (eqb-true n 2 c, tt)
+    | inl (c, g) ↦ subst (λ c. (n ≡ version_of c) × AreCosts c) (same_Some (Some []) costs g) (eqb-true n 2 c, tt)
     | inr (c, g) ↦ absurd (none_some _ g)
   ]
 ]
@@ -131,7 +129,7 @@ head_case kinds.Head r t w (v ∷ m ∷ []) p h n e =
     let (costs, e2, f2) = bind_some (costs_for number) (λ costs. mode_of m >>= λ mode. Some (record r { mode = mode; costs = costs; place = places.Tokens })) t f1 in
     let (mode, e3, f3) = bind_some (mode_of m) (λ mode. Some (record r { mode = mode; costs = costs; place = places.Tokens })) t f2 in
     let version = costs_sound number costs e2 in
-    subst (Goes [] (w ∷ v ∷ m ∷ [])) {x = record r { mode = mode; costs = costs; place = places.Tokens }} (same_some _ t f3) (record {
+    subst (Goes [] (w ∷ v ∷ m ∷ [])) {x = record r { mode = mode; costs = costs; place = places.Tokens }} (same_Some _ t f3) (record {
       parts = record { tokens = p.tokens; costs = version.1; starts = p.starts; productions = p.productions; states = p.states; items = p.items; edges = p.edges; cells = p.cells };
       holds = h;
       written = sym (ap (λ x. (x ∷ v ∷ m ∷ []) ∷ []) n ∙ ap (λ x. (codes "menhir-tables" ∷ x ∷ m ∷ []) ∷ []) ((number_sound v number e1).1 ∙ ap decimal version.0) ∙ ap (λ x. (codes "menhir-tables" ∷ decimal (version_of costs) ∷ x ∷ []) ∷ []) (mode_sound m mode e3));
@@ -156,7 +154,7 @@ tokens_case : (k : Kind) (r t : Reader) (w : List ℕ) (ws : Line) → Parts r �
 tokens_case kinds.Tokens r t w ws p h n e =
     let (names, f, g) = bind_some (names_of ws) (λ names. Some (record r { tokens = names; place = place_behind_tokens r.costs })) t e in
     let is = names_sound ws names f in
-    subst (Goes (written_at places.Tokens r) (w ∷ ws)) (same_some (record r { tokens = names; place = place_behind_tokens r.costs }) t g)
+    subst (Goes (written_at places.Tokens r) (w ∷ ws)) (same_Some (record r { tokens = names; place = place_behind_tokens r.costs }) t g)
     (subst (λ x. Goes (written_at places.Tokens r) x (record r { tokens = names; place = place_behind_tokens r.costs })) (sym (ap (λ x. x ∷ ws) n ∙ ap (λ x. codes "tokens" ∷ x) is.1)) (with_tokens r.costs r names p p.costs h.0 h.1 is.0))
 tokens_case _ r t w ws p h n e = absurd (none_some _ e)
 
@@ -164,7 +162,7 @@ costs_case : (k : Kind) (r t : Reader) (w : List ℕ) (ws : Line) → Parts r �
 costs_case kinds.Costs r t w ws p (hp, hs, old, o) n e =
     let (costs, f, g) = bind_some (numbers_of ws) (λ costs. Some (record r { costs = Some costs; place = places.Starts })) t e in
     let is = numbers_sound ws costs f in
-    subst (Goes (written_at places.Costs r) (w ∷ ws)) (same_some (record r { costs = Some costs; place = places.Starts }) t g) (record {
+    subst (Goes (written_at places.Costs r) (w ∷ ws)) (same_Some (record r { costs = Some costs; place = places.Starts }) t g) (record {
       parts = record { tokens = p.tokens; costs = is.0; starts = p.starts; productions = p.productions; states = p.states; items = p.items; edges = p.edges; cells = p.cells };
       holds = (hp, hs);
       written = sym (ap (λ c. head_line (version_of c) r.mode ∷ (codes "tokens" ∷ r.tokens) ∷ (w ∷ ws) ∷ []) o ∙ ap (λ x. head_line 2 r.mode ∷ (codes "tokens" ∷ r.tokens) ∷ x ∷ []) (ap (λ x. x ∷ ws) n ∙ ap (λ x. codes "costs" ∷ x) is.1));
@@ -175,7 +173,7 @@ starts_case : (k : Kind) (r t : Reader) (w : List ℕ) (ws : Line) → Parts r �
 starts_case kinds.Starts r t w ws p h n e =
     let (names, f, g) = bind_some (names_of ws) (λ names. Some (record r { starts = names; place = places.Productions })) t e in
     let is = names_sound ws names f in
-    subst (Goes (written_at places.Starts r) (w ∷ ws)) (same_some (record r { starts = names; place = places.Productions }) t g) (record {
+    subst (Goes (written_at places.Starts r) (w ∷ ws)) (same_Some (record r { starts = names; place = places.Productions }) t g) (record {
       parts = record { tokens = p.tokens; costs = p.costs; starts = is.0; productions = p.productions; states = p.states; items = p.items; edges = p.edges; cells = p.cells };
       holds = h;
       written = ap (λ x. heads r ++ x ∷ []) (sym (ap (λ x. x ∷ ws) n ∙ ap (λ x. codes "starts" ∷ x) is.1));
@@ -186,7 +184,7 @@ count_case : (k : Kind) (r t : Reader) (w : List ℕ) (ws : Line) → Parts r �
 count_case kinds.Productions r t w ws p (hp, hs) n e =
     let (m, f, g) = bind_some (count_of ws) (λ n. Some (record r { place = places.Listing n })) t e in
     let is = count_sound ws m f in
-    subst (Goes (written_at places.Productions r) (w ∷ ws)) (same_some (record r { place = places.Listing m }) t g) (record {
+    subst (Goes (written_at places.Productions r) (w ∷ ws)) (same_Some (record r { place = places.Listing m }) t g) (record {
       parts = at_place r (places.Listing m) p;
       holds = (subst (λ ps. IsNumber (length ps + m)) (sym hp) (subst IsNumber (sym (zero-add m)) is.0), hs);
       written = ap (λ ps. heads r ++ ((codes "starts" ∷ r.starts) ∷ count_line (codes "productions") (length ps + m) ∷ map production_line ps)) hp
@@ -203,11 +201,11 @@ production_case r t left line p (small, hs) some e =
     let (q, f, g) = bind_some (production_of line) (λ q. Some (record r { productions = r.productions ++ q ∷ []; place = places.Listing (left - 1) })) t e in
     let is = production_sound line q f in
     let count : length (r.productions ++ q ∷ []) + (left - 1) ≡ length r.productions + left = omega (arith, length-append r.productions (q ∷ []), some) in
-    subst (Goes (written_at (places.Listing left) r) line) (same_some (record r { productions = r.productions ++ q ∷ []; place = places.Listing (left - 1) }) t g) (record {
+    subst (Goes (written_at (places.Listing left) r) line) (same_Some (record r { productions = r.productions ++ q ∷ []; place = places.Listing (left - 1) }) t g) (record {
       parts = record { tokens = p.tokens; costs = p.costs; starts = p.starts; productions = recursion-push IsRawProduction r.productions q p.productions is.0; states = p.states; items = p.items; edges = p.edges; cells = p.cells };
       holds = (subst IsNumber (sym count) small, hs);
       written = ap (λ k. heads r ++ ((codes "starts" ∷ r.starts) ∷ count_line (codes "productions") k ∷ map production_line (r.productions ++ q ∷ []))) count
-          ∙ ap (λ ls. heads r ++ ((codes "starts" ∷ r.starts) ∷ count_line (codes "productions") (length r.productions + left) ∷ ls)) (map_snoc production_line r.productions q)
+          ∙ ap (λ ls. heads r ++ ((codes "starts" ∷ r.starts) ∷ count_line (codes "productions") (length r.productions + left) ∷ ls)) (map_push production_line r.productions q)
           ∙ snoc2 (heads r) (listed r (length r.productions + left)) (production_line q ∷ [])
           ∙ ap (λ x. (heads r ++ listed r (length r.productions + left)) ++ x ∷ []) (sym is.1);
     })
@@ -217,7 +215,7 @@ states_case kinds.States r t w ws p (small, hs) n e =
     let (m, f, g) = bind_some (count_of ws) (λ n. Some (record r { place = places.Between n })) t e in
     let is = count_sound ws m f in
     let none : length r.productions + 0 ≡ length r.productions = add-zero (length r.productions) in
-    subst (Goes (written_at (places.Listing 0) r) (w ∷ ws)) (same_some (record r { place = places.Between m }) t g) (record {
+    subst (Goes (written_at (places.Listing 0) r) (w ∷ ws)) (same_Some (record r { place = places.Between m }) t g) (record {
       parts = at_place r (places.Between m) p;
       holds = (subst IsNumber none small, subst (λ ss. IsNumber (length ss + m)) (sym hs) (subst IsNumber (sym (zero-add m)) is.0));
       written = ap (λ ss. heads r ++ (listed r (length r.productions) ++ (count_line (codes "states") (length ss + m) ∷ states_lines 0 ss))) hs
@@ -242,7 +240,7 @@ opened_case : (r t : Reader) (left m : ℕ) → IsNumber (length r.productions) 
 opened_case r t left m few small some p (inr (b, f)) x is = absurd (none_some _ f)
 opened_case r t left m few small some p (inl (b, f)) x is =
     let count : length r.states + 1 + (left - 1) ≡ length r.states + left = omega (arith, some) in
-    subst (Goes (written_at (places.Between left) r) x) (same_some (record r { items = []; edges = []; cells = []; place = places.Items (left - 1) }) t f) (record {
+    subst (Goes (written_at (places.Between left) r) x) (same_Some (record r { items = []; edges = []; cells = []; place = places.Items (left - 1) }) t f) (record {
       parts = record { tokens = p.tokens; costs = p.costs; starts = p.starts; productions = p.productions; states = p.states; items = tt; edges = tt; cells = tt };
       holds = (few, subst IsNumber (sym count) small, refl, refl);
       written = ap (λ k. heads r ++ (listed r (length r.productions) ++ (states_listed r k ++ count_line (codes "state") (length r.states) ∷ []))) count
@@ -260,7 +258,7 @@ state_case _ r t left w ws p h some n e = absurd (none_some _ e)
 end_case : (k : Kind) (r t : Reader) (w : List ℕ) (ws : Line) → Parts r → Holds_at (places.Between 0) r → Named k w → at_end r k ws ≡ Some t → Goes (written_at (places.Between 0) r) (w ∷ ws) t
 end_case kinds.End r t w [] p (few, small) n e =
     let none : length r.states + 0 ≡ length r.states = add-zero (length r.states) in
-    subst (Goes (written_at (places.Between 0) r) (w ∷ [])) (same_some (record r { place = places.Ended }) t e) (record {
+    subst (Goes (written_at (places.Between 0) r) (w ∷ [])) (same_Some (record r { place = places.Ended }) t e) (record {
       parts = at_place r places.Ended p;
       holds = (few, subst IsNumber none small);
       written = snoc3 (heads r) (listed r (length r.productions)) (states_listed r (length r.states)) (end_line ∷ [])
@@ -313,11 +311,11 @@ cells_case kinds.Cell r t left w ws p few small n e =
     let is = cell_sound ws c f in
     let line : w ∷ ws ≡ cell_line c = ap (λ v. v ∷ ws) n ∙ is.1 in
     let i = length r.states in
-    subst (Goes (in_state r left) (w ∷ ws)) (same_some (record r { cells = r.cells ++ c ∷ []; place = places.Cells left }) t g) (record {
+    subst (Goes (in_state r left) (w ∷ ws)) (same_Some (record r { cells = r.cells ++ c ∷ []; place = places.Cells left }) t g) (record {
       parts = record { tokens = p.tokens; costs = p.costs; starts = p.starts; productions = p.productions; states = p.states; items = p.items; edges = p.edges; cells = recursion-push IsRawCell r.cells c p.cells is.0 };
       holds = (few, small);
       written = grown r left (record { items = r.items; edges = r.edges; cells = cells.Cells (r.cells ++ c ∷ []) }) (w ∷ ws)
-          (ap (λ l. count_line (codes "state") i ∷ map item_line r.items ++ (map edge_line r.edges ++ l)) (map_snoc cell_line r.cells c ∙ ap (λ x. map cell_line r.cells ++ x ∷ []) (sym line))
+          (ap (λ l. count_line (codes "state") i ∷ map item_line r.items ++ (map edge_line r.edges ++ l)) (map_push cell_line r.cells c ∙ ap (λ x. map cell_line r.cells ++ x ∷ []) (sym line))
           ∙ snoc3 (count_line (codes "state") i ∷ map item_line r.items) (map edge_line r.edges) (map cell_line r.cells) ((w ∷ ws) ∷ []));
     })
 cells_case k r t left w ws p few small n e = ends_case k r t left w ws p few small n e
@@ -329,12 +327,12 @@ edges_case kinds.Edge r t left w ws p few small none n e =
     let line : w ∷ ws ≡ edge_line c = ap (λ v. v ∷ ws) n ∙ is.1 in
     let i = length r.states in
     let front = count_line (codes "state") i ∷ map item_line r.items in
-    subst (Goes (in_state r left) (w ∷ ws)) (same_some (record r { edges = r.edges ++ c ∷ []; place = places.Edges left }) t g) (record {
+    subst (Goes (in_state r left) (w ∷ ws)) (same_Some (record r { edges = r.edges ++ c ∷ []; place = places.Edges left }) t g) (record {
       parts = record { tokens = p.tokens; costs = p.costs; starts = p.starts; productions = p.productions; states = p.states; items = p.items; edges = recursion-push IsRawEdge r.edges c p.edges is.0; cells = p.cells };
       holds = (few, small, none);
       written = grown r left (record { items = r.items; edges = r.edges ++ c ∷ []; cells = cells.Cells r.cells }) (w ∷ ws)
           (ap (λ cs. front ++ (map edge_line (r.edges ++ c ∷ []) ++ map cell_line cs)) none
-          ∙ ap (λ l. front ++ l) (append-nil (map edge_line (r.edges ++ c ∷ [])) ∙ map_snoc edge_line r.edges c ∙ ap (λ x. map edge_line r.edges ++ x ∷ []) (sym line))
+          ∙ ap (λ l. front ++ l) (append-nil (map edge_line (r.edges ++ c ∷ [])) ∙ map_push edge_line r.edges c ∙ ap (λ x. map edge_line r.edges ++ x ∷ []) (sym line))
           ∙ snoc2 front (map edge_line r.edges) ((w ∷ ws) ∷ [])
           ∙ ap (λ l. (front ++ l) ++ (w ∷ ws) ∷ []) (sym (ap (λ cs. map edge_line r.edges ++ map cell_line cs) none ∙ append-nil (map edge_line r.edges))));
     })
@@ -343,7 +341,7 @@ edges_case kinds.Default r t left w ws p few small none n e =
     let is = fallback_sound ws c f in
     let line : w ∷ ws ≡ fallback_line c = ap (λ v. v ∷ ws) n ∙ is.1 in
     let front = count_line (codes "state") (length r.states) ∷ map item_line r.items in
-    subst (Goes (in_state r left) (w ∷ ws)) (same_some (ended_by r (cells.Fallback c) (places.Between left)) t g) (record {
+    subst (Goes (in_state r left) (w ∷ ws)) (same_Some (ended_by r (cells.Fallback c) (places.Between left)) t g) (record {
       parts = closed_parts r (cells.Fallback c) (places.Between left) p is.0;
       holds = closed_holds r (cells.Fallback c) left few small;
       written = closing r left (cells.Fallback c) ((w ∷ ws) ∷ [])
@@ -360,12 +358,12 @@ items_case kinds.Item r t left w ws p few small bare none n e =
     let line : w ∷ ws ≡ item_line c = ap (λ v. v ∷ ws) n ∙ is.1 in
     let head = count_line (codes "state") (length r.states) in
     let nothing : map edge_line r.edges ++ map cell_line r.cells ≡ [] = ap (λ es. map edge_line es ++ map cell_line r.cells) bare ∙ ap (λ cs. map cell_line cs) none in
-    subst (Goes (in_state r left) (w ∷ ws)) (same_some (record r { items = r.items ++ c ∷ []; place = places.Items left }) t g) (record {
+    subst (Goes (in_state r left) (w ∷ ws)) (same_Some (record r { items = r.items ++ c ∷ []; place = places.Items left }) t g) (record {
       parts = record { tokens = p.tokens; costs = p.costs; starts = p.starts; productions = p.productions; states = p.states; items = recursion-push IsRawItem r.items c p.items is.0; edges = p.edges; cells = p.cells };
       holds = (few, small, bare, none);
       written = grown r left (record { items = r.items ++ c ∷ []; edges = r.edges; cells = cells.Cells r.cells }) (w ∷ ws)
           (ap (λ l. head ∷ map item_line (r.items ++ c ∷ []) ++ l) nothing
-          ∙ ap (λ l. head ∷ l) (append-nil (map item_line (r.items ++ c ∷ [])) ∙ map_snoc item_line r.items c ∙ ap (λ x. map item_line r.items ++ x ∷ []) (sym line) ∙ ap (λ l. l ++ (w ∷ ws) ∷ []) (sym (append-nil (map item_line r.items))))
+          ∙ ap (λ l. head ∷ l) (append-nil (map item_line (r.items ++ c ∷ [])) ∙ map_push item_line r.items c ∙ ap (λ x. map item_line r.items ++ x ∷ []) (sym line) ∙ ap (λ l. l ++ (w ∷ ws) ∷ []) (sym (append-nil (map item_line r.items))))
           ∙ ap (λ l. (head ∷ map item_line r.items ++ l) ++ (w ∷ ws) ∷ []) (sym nothing));
     })
 items_case k r t left w ws p few small bare none n e = edges_case k r t left w ws p few small none n e

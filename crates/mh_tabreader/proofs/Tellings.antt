@@ -4,6 +4,8 @@ use Rattle.std.specs.List.{AllByRecursion, list_all}
 use Rattle.std.specs.Cmp.Lexicographic.{same_text}
 use Rattle.std.proofs.lemmas.Str.Parse.{IsNumeralModel, numerals_by_fold}
 use Rattle.std.proofs.lemmas.Fmt.{digits_decimal, digits_value-decimal, decimal-digits_value, decimal_nonempty, first_decimal, decimal_digit}
+use Rattle.std.proofs.lemmas.Bool.{and_parts, not-true}
+use Rattle.std.proofs.lemmas.Option.{same_Some}
 use Rattle.mh_cells.specs.declared.kinds.Mode.{Mode}
 use Rattle.mh_cells.specs.declared.kinds.Mode.TheVariants.{Merged, Canonical}
 use Rattle.mh_tables.specs.declared.parts.Action.{Action}
@@ -18,7 +20,6 @@ use Rattle.mh_tabreader.specs.declared.places.Kind.{Kind}
 use Rattle.mh_tabreader.specs.declared.places.Kind.TheVariants as kinds
 use Rattle.mh_cells.specs.Names.{mode_name}
 use Rattle.mh_tabform.specs.Form.{Line, IsName, IsNumber, IsRawProduction, IsRawItem, IsRawEdge, IsRawAction, IsRawCell, IsRawFallback, production_line, item_line, edge_line, action_words, cell_line, fallback_line}
-use Rattle.mh_tabform.proofs.Plain.{both}
 use Rattle.mh_tabreader.specs.code.Words.{◌>>=◌, same_word, is_name, names_of, is_digit, value_from, has_zero_first, small_value, number_of, numbers_of, mode_of, kind_of, count_of, production_of, item_of, edge_of, action_of, cell_of, fallback_of}
 
 -- Options and tests.
@@ -33,9 +34,6 @@ bind_some (Some a) f y e = (a, refl, e)
 pub chosen : {A : Type 0} (b : Bool) (x y z : A) → cond b x y ≡ z → ((b ≡ true) × (x ≡ z)) ⊎ ((b ≡ false) × (y ≡ z))
 chosen true x y z e = inl (refl, e)
 chosen false x y z e = inr (refl, e)
-
-pub same_some : {A : Type 0} (x y : A) → Some x ≡ Some y → x ≡ y
-same_some x y e = cc
 
 -- Numbers.
 
@@ -55,10 +53,6 @@ zero_alone (b ∷ c ∷ ds) h = (omega arith, λ e. grind (arith, h, e))
 decimal_first : (n : ℕ) → n < 2 ^ 32 → get_or (decimal n) 0 0 ≡ 48 → length (decimal n) ≡ 1
 decimal_first n small e = elim (eq-zero-or-pos n) [ inl z ↦ subst (λ k. length (decimal k) ≡ 1) (sym z) (ap length (decimal_digit 0 (omega arith))) | inr pos ↦ absurd (omega (arith, e, first_decimal n pos (omega (arith, small)))) ]
 
-not_true : (b : Bool) → not b ≡ true → b ≡ false
-not_true true e = sym e
-not_true false e = refl
-
 small_again : (w : List ℕ) (n : ℕ) → n < 2 ^ 32 → value_from 0 w ≡ n → small_value w ≡ Some n
 small_again w n small v = ap (λ k. cond (nat_lt k (2 ^ 32)) (Some k) None) v ∙ ap (λ b. cond b (Some n) None) (lt-ltb n (2 ^ 32) small)
 
@@ -72,14 +66,14 @@ number_again n small =
     ∙ small_again w n small (digits_value-decimal own n wide)
 
 small_sound : (w : List ℕ) (n : ℕ) → small_value w ≡ Some n → (value_from 0 w < 2 ^ 32) × (value_from 0 w ≡ n)
-small_sound w n e = elim (chosen (nat_lt (value_from 0 w) (2 ^ 32)) (Some (value_from 0 w)) None (Some n) e) [ inl (b, f) ↦ (ltb-true (value_from 0 w) (2 ^ 32) b, same_some (value_from 0 w) n f) | inr (b, f) ↦ absurd (none_some _ f) ]
+small_sound w n e = elim (chosen (nat_lt (value_from 0 w) (2 ^ 32)) (Some (value_from 0 w)) None (Some n) e) [ inl (b, f) ↦ (ltb-true (value_from 0 w) (2 ^ 32) b, same_Some (value_from 0 w) n f) | inr (b, f) ↦ absurd (none_some _ f) ]
 
 pub number_sound : (word : List ℕ) (n : ℕ) → number_of word ≡ Some n → IsNumber n × (word ≡ decimal n)
 unfolding number_of
 number_sound word n e = elim (chosen (list_all is_digit word && not (has_zero_first word)) (small_value word) None (Some n) e) [
   | inl (b, f) ↦
-      let tests = both (list_all is_digit word) (not (has_zero_first word)) b in
-      let first = zero_alone word (not_true (has_zero_first word) tests.1) in
+      let tests = and_parts (list_all is_digit word) (not (has_zero_first word)) b in
+      let first = zero_alone word (not-true (has_zero_first word) tests.1) in
       let small = small_sound word n f in
       (subst (λ k. k < 2 ^ 32) small.1 small.0, (sym (decimal-digits_value own word tests.0 first.0 first.1 (omega (arith, small.0))) ∙ ap decimal small.1))
   | inr (b, f) ↦ absurd (none_some _ f)
@@ -101,7 +95,7 @@ all_again (w ∷ ws) (h, hs) = ap (λ b. b && list_all is_name ws) (name_again w
 
 all_sound : (words : Line) → list_all is_name words ≡ true → AllByRecursion IsName words
 all_sound [] e = tt
-all_sound (w ∷ ws) e = let h = both (is_name w) (list_all is_name ws) e in (name_sound w h.0, all_sound ws h.1)
+all_sound (w ∷ ws) e = let h = and_parts (is_name w) (list_all is_name ws) e in (name_sound w h.0, all_sound ws h.1)
 
 pub names_again : (words : Line) → AllByRecursion IsName words → names_of words ≡ Some words
 unfolding names_of
@@ -109,20 +103,20 @@ names_again words h = ap (λ b. cond b (Some words) None) (all_again words h)
 
 pub names_sound : (words names : Line) → names_of words ≡ Some names → AllByRecursion IsName names × (words ≡ names)
 unfolding names_of
-names_sound words names e = elim (chosen (list_all is_name words) (Some words) None (Some names) e) [ inl (b, f) ↦ let same = same_some words names f in (subst (AllByRecursion IsName) same (all_sound words b), same) | inr (b, f) ↦ absurd (none_some _ f) ]
+names_sound words names e = elim (chosen (list_all is_name words) (Some words) None (Some names) e) [ inl (b, f) ↦ let same = same_Some words names f in (subst (AllByRecursion IsName) same (all_sound words b), same) | inr (b, f) ↦ absurd (none_some _ f) ]
 
 pub numbers_again : (ns : List ℕ) → AllByRecursion IsNumber ns → numbers_of (map decimal ns) ≡ Some ns
 numbers_again [] h = refl
 numbers_again (n ∷ ns) (h, hs) = ap (λ x. x >>= λ m. numbers_of (map decimal ns) >>= λ ms. Some (m ∷ ms)) (number_again n h) ∙ ap (λ x. x >>= λ ms. Some (n ∷ ms)) (numbers_again ns hs)
 
 pub numbers_sound : (words : Line) (ns : List ℕ) → numbers_of words ≡ Some ns → AllByRecursion IsNumber ns × (words ≡ map decimal ns)
-numbers_sound [] ns e = subst (λ k. AllByRecursion IsNumber k × ([] ≡ map decimal k)) (same_some [] ns e) (tt, refl)
+numbers_sound [] ns e = subst (λ k. AllByRecursion IsNumber k × ([] ≡ map decimal k)) (same_Some [] ns e) (tt, refl)
 numbers_sound (w ∷ ws) ns e =
     let (n, f, g) = bind_some (number_of w) (λ n. numbers_of ws >>= λ ms. Some (n ∷ ms)) ns e in
     let (ms, h, k) = bind_some (numbers_of ws) (λ ms. Some (n ∷ ms)) ns g in
     let one = number_sound w n f in
     let more = numbers_sound ws ms h in
-    subst (λ x. AllByRecursion IsNumber x × (w ∷ ws ≡ map decimal x)) (same_some (n ∷ ms) ns k) ((one.0, more.0), (ap (λ v. v ∷ ws) one.1 ∙ ap (λ vs. decimal n ∷ vs) more.1))
+    subst (λ x. AllByRecursion IsNumber x × (w ∷ ws ≡ map decimal x)) (same_Some (n ∷ ms) ns k) ((one.0, more.0), (ap (λ v. v ∷ ws) one.1 ∙ ap (λ vs. decimal n ∷ vs) more.1))
 
 -- Modes and kinds.
 
@@ -137,9 +131,9 @@ mode_again Canonical = refl
 pub mode_sound : (w : List ℕ) (m : Mode) → mode_of w ≡ Some m → w ≡ mode_name m
 unfolding mode_of
 mode_sound w m e = elim (chosen (same_word w (codes "merged")) (Some Merged) (cond (same_word w (codes "canonical")) (Some Canonical) None) (Some m) e) [
-  | inl (b, f) ↦ word_is w (codes "merged") b ∙ ap mode_name (same_some Merged m f)
+  | inl (b, f) ↦ word_is w (codes "merged") b ∙ ap mode_name (same_Some Merged m f)
   | inr (b, f) ↦ elim (chosen (same_word w (codes "canonical")) (Some Canonical) None (Some m) f) [
-    | inl (c, h) ↦ word_is w (codes "canonical") c ∙ ap mode_name (same_some Canonical m h)
+    | inl (c, h) ↦ word_is w (codes "canonical") c ∙ ap mode_name (same_Some Canonical m h)
     | inr (c, h) ↦ absurd (none_some _ h)
   ]
 ]
@@ -203,10 +197,10 @@ production_sound [] p e = absurd (none_some _ e)
 production_sound (l ∷ []) p e = absurd (none_some _ e)
 production_sound (l ∷ a ∷ ws) p e = elim (chosen (is_name l && same_word a (codes "->")) (names_of ws >>= λ names. Some (record { lhs = l; rhs = names })) None (Some p) e) [
   | inl (b, f) ↦
-      let tests = both (is_name l) (same_word a (codes "->")) b in
+      let tests = and_parts (is_name l) (same_word a (codes "->")) b in
       let (names, g, h) = bind_some (names_of ws) (λ names. Some (record { lhs = l; rhs = names })) p f in
       let rest = names_sound ws names g in
-      subst (λ q. IsRawProduction q × (l ∷ a ∷ ws ≡ production_line q)) (same_some (record { lhs = l; rhs = names }) p h)
+      subst (λ q. IsRawProduction q × (l ∷ a ∷ ws ≡ production_line q)) (same_Some (record { lhs = l; rhs = names }) p h)
       ((name_sound l tests.0, rest.0), (ap (λ v. l ∷ v ∷ ws) (word_is a (codes "->") tests.1) ∙ ap (λ vs. l ∷ codes "->" ∷ vs) rest.1))
   | inr (b, f) ↦ absurd (none_some _ f)
 ]
@@ -229,7 +223,7 @@ item_sound (p ∷ d ∷ ws) i e =
     let one = number_sound p m f in
     let two = number_sound d n h in
     let rest = names_sound ws names o in
-    subst (λ j. IsRawItem j × (codes "item" ∷ p ∷ d ∷ ws ≡ item_line j)) (same_some (record { production = m; dot = n; looks = names }) i q)
+    subst (λ j. IsRawItem j × (codes "item" ∷ p ∷ d ∷ ws ≡ item_line j)) (same_Some (record { production = m; dot = n; looks = names }) i q)
     ((one.0, two.0, rest.0), (ap (λ v. codes "item" ∷ v ∷ d ∷ ws) one.1 ∙ ap (λ v. codes "item" ∷ decimal m ∷ v ∷ ws) two.1 ∙ ap (λ vs. codes "item" ∷ decimal m ∷ decimal n ∷ vs) rest.1))
 
 pub edge_again : (e : RawEdge) → IsRawEdge e → edge_of (e.symbol ∷ decimal e.target ∷ []) ≡ Some e
@@ -246,7 +240,7 @@ edge_sound (x ∷ t ∷ []) i e = elim (chosen (is_name x) (number_of t >>= λ t
   | inl (b, f) ↦
       let (n, g, h) = bind_some (number_of t) (λ target. Some (record { symbol = x; target = target })) i f in
       let one = number_sound t n g in
-      subst (λ j. IsRawEdge j × (codes "edge" ∷ x ∷ t ∷ [] ≡ edge_line j)) (same_some (record { symbol = x; target = n }) i h) ((name_sound x b, one.0), ap (λ v. codes "edge" ∷ x ∷ v ∷ []) one.1)
+      subst (λ j. IsRawEdge j × (codes "edge" ∷ x ∷ t ∷ [] ≡ edge_line j)) (same_Some (record { symbol = x; target = n }) i h) ((name_sound x b, one.0), ap (λ v. codes "edge" ∷ x ∷ v ∷ []) one.1)
   | inr (b, f) ↦ absurd (none_some _ f)
 ]
 edge_sound (x ∷ t ∷ w ∷ ws) i e = absurd (none_some _ e)
@@ -274,12 +268,12 @@ action_sound verb n a e = elim (chosen (same_word verb (codes "shift")) (number_
   | inl (b, f) ↦
       let (j, g, h) = bind_some (number_of n) (λ j. Some (actions.Shift j)) a f in
       let one = number_sound n j g in
-      subst (λ x. IsRawAction x × (verb ∷ n ∷ [] ≡ action_words x)) (same_some (actions.Shift j) a h) (one.0, (ap (λ v. v ∷ n ∷ []) (word_is verb (codes "shift") b) ∙ ap (λ v. codes "shift" ∷ v ∷ []) one.1))
+      subst (λ x. IsRawAction x × (verb ∷ n ∷ [] ≡ action_words x)) (same_Some (actions.Shift j) a h) (one.0, (ap (λ v. v ∷ n ∷ []) (word_is verb (codes "shift") b) ∙ ap (λ v. codes "shift" ∷ v ∷ []) one.1))
   | inr (b, f) ↦ elim (chosen (same_word verb (codes "reduce")) (number_of n >>= λ p. Some (actions.Reduce p)) None (Some a) f) [
     | inl (c, k) ↦
         let (j, g, h) = bind_some (number_of n) (λ j. Some (actions.Reduce j)) a k in
         let one = number_sound n j g in
-        subst (λ x. IsRawAction x × (verb ∷ n ∷ [] ≡ action_words x)) (same_some (actions.Reduce j) a h) (one.0, (ap (λ v. v ∷ n ∷ []) (word_is verb (codes "reduce") c) ∙ ap (λ v. codes "reduce" ∷ v ∷ []) one.1))
+        subst (λ x. IsRawAction x × (verb ∷ n ∷ [] ≡ action_words x)) (same_Some (actions.Reduce j) a h) (one.0, (ap (λ v. v ∷ n ∷ []) (word_is verb (codes "reduce") c) ∙ ap (λ v. codes "reduce" ∷ v ∷ []) one.1))
     | inr (c, k) ↦ absurd (none_some _ k)
   ]
 ]
@@ -293,7 +287,7 @@ cell_sound (z ∷ verb ∷ n ∷ []) i e = elim (chosen (is_name z) (action_of v
   | inl (b, f) ↦
       let (a, g, h) = bind_some (action_of verb n) (λ a. Some (record { token = z; action = a })) i f in
       let one = action_sound verb n a g in
-      subst (λ j. IsRawCell j × (codes "cell" ∷ z ∷ verb ∷ n ∷ [] ≡ cell_line j)) (same_some (record { token = z; action = a }) i h) ((name_sound z b, one.0), ap (λ vs. codes "cell" ∷ z ∷ vs) one.1)
+      subst (λ j. IsRawCell j × (codes "cell" ∷ z ∷ verb ∷ n ∷ [] ≡ cell_line j)) (same_Some (record { token = z; action = a }) i h) ((name_sound z b, one.0), ap (λ vs. codes "cell" ∷ z ∷ vs) one.1)
   | inr (b, f) ↦ absurd (none_some _ f)
 ]
 cell_sound (z ∷ verb ∷ n ∷ w ∷ ws) i e = absurd (none_some _ e)
@@ -310,14 +304,14 @@ pub fallback_sound : (ws : Line) (f : Fallback) → fallback_of ws ≡ Some f �
 unfolding fallback_of
 fallback_sound [] i e = absurd (none_some _ e)
 fallback_sound (verb ∷ []) i e = elim (chosen (same_word verb (codes "accept")) (Some fallbacks.Accept) None (Some i) e) [
-  | inl (b, f) ↦ subst (λ j. IsRawFallback j × (codes "default" ∷ verb ∷ [] ≡ fallback_line j)) (same_some fallbacks.Accept i f) (tt, ap (λ v. codes "default" ∷ v ∷ []) (word_is verb (codes "accept") b))
+  | inl (b, f) ↦ subst (λ j. IsRawFallback j × (codes "default" ∷ verb ∷ [] ≡ fallback_line j)) (same_Some fallbacks.Accept i f) (tt, ap (λ v. codes "default" ∷ v ∷ []) (word_is verb (codes "accept") b))
   | inr (b, f) ↦ absurd (none_some _ f)
 ]
 fallback_sound (verb ∷ n ∷ []) i e = elim (chosen (same_word verb (codes "reduce")) (number_of n >>= λ p. Some (fallbacks.Reduce p)) None (Some i) e) [
   | inl (b, f) ↦
       let (j, g, h) = bind_some (number_of n) (λ j. Some (fallbacks.Reduce j)) i f in
       let one = number_sound n j g in
-      subst (λ x. IsRawFallback x × (codes "default" ∷ verb ∷ n ∷ [] ≡ fallback_line x)) (same_some (fallbacks.Reduce j) i h) (one.0, (ap (λ v. codes "default" ∷ v ∷ n ∷ []) (word_is verb (codes "reduce") b) ∙ ap (λ v. codes "default" ∷ codes "reduce" ∷ v ∷ []) one.1))
+      subst (λ x. IsRawFallback x × (codes "default" ∷ verb ∷ n ∷ [] ≡ fallback_line x)) (same_Some (fallbacks.Reduce j) i h) (one.0, (ap (λ v. codes "default" ∷ v ∷ n ∷ []) (word_is verb (codes "reduce") b) ∙ ap (λ v. codes "default" ∷ codes "reduce" ∷ v ∷ []) one.1))
   | inr (b, f) ↦ absurd (none_some _ f)
 ]
 fallback_sound (verb ∷ n ∷ w ∷ ws) i e = absurd (none_some _ e)

@@ -7,6 +7,7 @@ use Rattle.std.proofs.lemmas.Bool.Decides.{Decides-eqb}
 use Rattle.mh_ways.specs.declared.work.Way.{Way}
 use Rattle.std.proofs.lemmas.List.{get_or_default}
 use Rattle.std.proofs.lemmas.List.Sorted.{Contains-permutation, IsPermutation-sym}
+use Rattle.std.proofs.lemmas.Bool.{and_parts}
 use Rattle.mh_grammar.proofs.Lists.{contains_here, contains_there, contains_cases}
 use Rattle.mh_ways.specs.code.Rows.{Collects}
 use Rattle.mh_ways.proofs.Firsts.{OfFirst, of_none, of_more, of_fewer, of_all, of_some}
@@ -51,15 +52,11 @@ module _ {X : Type 0} (eq : X → X → Bool) (same : (x y : X) → eq x y ≡ t
     only = λ r h. inl (rw stays at h);
   }
 
-pub both : (a b : Bool) → (a && b) ≡ true → (a ≡ true) × (b ≡ true)
-both true b e = (refl, e)
-both false b e = cc
-
 pub way_same : (x y : Way) (r : Bool) → r ≡ (eqb x.from y.from && (eqb x.nonterminal y.nonterminal && (eqb x.first y.first && eqb x.next y.next))) → r ≡ true → x ≡ y
 way_same x y r e t =
-    let a = both (eqb x.from y.from) _ (sym e ∙ t) in
-    let b = both (eqb x.nonterminal y.nonterminal) _ a.1 in
-    let c = both (eqb x.first y.first) (eqb x.next y.next) b.1 in
+    let a = and_parts (eqb x.from y.from) _ (sym e ∙ t) in
+    let b = and_parts (eqb x.nonterminal y.nonterminal) _ a.1 in
+    let c = and_parts (eqb x.first y.first) (eqb x.next y.next) b.1 in
     let e1 = (Decides-eqb x.from y.from).0 a.0 in
     let e2 = (Decides-eqb x.nonterminal y.nonterminal).0 b.0 in
     let e3 = (Decides-eqb x.first y.first).0 c.0 in

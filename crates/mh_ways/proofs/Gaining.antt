@@ -1,6 +1,5 @@
 -- How a queue grows.
 use Rattle.std.proofs.Common.{◌≡◌, ℕ, ◌<◌, ◌⊎◌, inl, inr, List, length, arith, ◌+◌, get_or}
-use Rattle.std.specs.List.{Contains}
 use Rattle.std.specs.Global.{Vec}
 use Rattle.std.proofs.lemmas.Bool.{cases_lt}
 use Rattle.std.proofs.lemmas.List.{get_or_default}
@@ -47,9 +46,6 @@ module _ {X Y : Type 0} (rule : X → ℕ → Y → Type 0) (xs : List X) where
 
   pub first_all : (n : ℕ) (old new : List (Vec Y)) → n ≡ length xs → Gains (First rule xs n) old new → Gains (Among rule xs) old new
   first_all n old new e g = gains_by (First rule xs n) (Among rule xs) old new (λ c o. of_all (λ p. rule p c o) xs n e) (λ c o. of_some (λ p. rule p c o) xs n e) g
-
-pub in_list : {X : Type 0} (xs : List X) (n : ℕ) (d : X) → n < length xs → Contains xs (get_or xs n d)
-in_list xs n d lt = (n, lt, get_or_default xs n (get_or xs n d) d lt)
 
 pub gains_only : {Y : Type 0} (P : ℕ → Y → Type 0) (cost : ℕ) (i : Y) (old new : List (Vec Y)) → P cost i × ((c : ℕ) (o : Y) → P c o → IsOne cost i c o) → Gains (IsOne cost i) old new → Gains P old new
 gains_only P cost i old new one g = gains_by (IsOne cost i) P old new (λ c o e. rw (e.0, e.1) one.0) one.1 g

@@ -1,6 +1,5 @@
 -- A list of values by key, and a function of keys, with one value more.
 use Rattle.std.proofs.Common.{◌≡◌, ◌⊎◌, inl, inr, List, [], ◌∷◌, ◌++◌, Some, None, Option, Bool, true, false, cond, refl, sym, ◌∙◌}
-use Rattle.std.specs.Prelude.{fold}
 use Rattle.std.specs.Map.{lookup}
 
 -- keys that agree are one
@@ -71,7 +70,3 @@ module _ {K V : Type 0} {same : K → K → Bool} (keys : AreKeys same) where
 -- a function that gives nothing where nothing is stored, with one value more in both
 pub none_more : {K V W : Type 0} {same : K → K → Bool} (keys : AreKeys same) (f : K → Option W) (a : List (K × V)) (k : K) (v : V) (w : Option W) → ((q : K) → lookup (same q) a ≡ None → f q ≡ None) → (q : K) → lookup (same q) (a ++ (k, v) ∷ []) ≡ None → cond (same q k) w (f q) ≡ None
 none_more keys f a k v w none q e = let h = at_none keys a k q v e in put_other keys f k w q h.1 ∙ none q h.0
-
-pub fold_more : {A B : Type 0} (step : B → A → B) (b : B) (xs : List A) (x : A) → fold step b (xs ++ x ∷ []) ≡ step (fold step b xs) x
-fold_more step b [] x = refl
-fold_more step b (y ∷ xs) x = fold_more step (step b y) xs x

@@ -1,7 +1,7 @@
 -- Rows that are made and filled.
 use Rattle.std.proofs.Common.{◌≡◌, ℕ, zero, suc, ◌<◌, ◌≤◌, ◌+◌, inl, inr, get_or, Option, Some, None, List, [], ◌∷◌, ◌++◌, length, refl, ap, arith, ◌∙◌, length-append, true, false}
 use Rattle.std.proofs.lemmas.Bool.{cases_eq, cases_lt}
-use Rattle.std.proofs.lemmas.List.{length_push}
+use Rattle.std.proofs.lemmas.List.{length_push, nil_from_length}
 use Rattle.std.proofs.lemmas.List.Elements.{Contains-append_left}
 use Rattle.std.specs.Prelude.{slice_set, option_to_list, IsSome}
 use Rattle.std.specs.Global.{Vec}
@@ -107,14 +107,10 @@ module _ {X : Type 0} where
     only = λ n q h. elim (f.only n q h) [ inl was ↦ inl (rw (same n) at was) | inr is ↦ inr is ];
   }
 
-  pub no_items : (xs : List X) → length xs ≡ 0 → xs ≡ []
-  no_items [] e = refl
-  no_items (x ∷ xs) e = absurd (omega arith)
-
   -- an empty row of which nothing is taken
   pub none_taken : (rs : List (Vec X)) (k : ℕ) (d v : Vec X) → k < length rs → (get_or rs k d).items ≡ v.items ++ [] → length v.items ≡ 0 → NoneTaken rs (slice_set rs k v) k
   none_taken rs k d v lt items long =
-      let none : v.items ≡ [] = no_items v.items long in
+      let none : v.items ≡ [] = nil_from_length v.items long in
       let was : row_of rs k ≡ [] = row_is rs k d lt ∙ items ∙ rw none refl in
       let now : row_of (slice_set rs k v) k ≡ [] = row_set_here rs k v lt ∙ none in
       record {

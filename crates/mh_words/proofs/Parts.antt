@@ -1,6 +1,6 @@
 -- What parts spell and weigh, and what a word is opened to.
 use Rattle.std.proofs.Common.{◌≡◌, ◌∙◌, ℕ, zero, suc, ◌+◌, ◌*◌, ◌<◌, ◌≤◌, List, [], ◌∷◌, ◌++◌, length, Some, refl, ap, sym, arith, append_assoc}
-use Rattle.std.specs.Prelude.{slice_get, Result, Ok, Err, OnOk}
+use Rattle.std.specs.Prelude.{slice_get}
 use Rattle.std.proofs.lemmas.List.{append-nil}
 use Rattle.mh_words.specs.declared.made.Last.{Last}
 use Rattle.mh_words.specs.declared.made.Last.TheVariants as lasts
@@ -92,7 +92,3 @@ module _ (entries : List Entry) (n : ℕ) (old new : List Last) where
         below = λ h. rw grown (below_append (length words) (old ++ e.made.last ∷ []) (lasts.Word e.made.front ∷ []) (below_append (length words) old (e.made.last ∷ []) h (below.1, tt)) (below.0, tt));
         smaller = omega arith;
       }
-
-pub on_ok : {A B : Type 0} (r : Result A B) (P Q : Type 0) → (P → Q) → OnOk r P → OnOk r Q
-on_ok (Ok x) P Q f h = f h
-on_ok (Err e) P Q f h = h

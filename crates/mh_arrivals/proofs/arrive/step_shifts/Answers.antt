@@ -1,10 +1,11 @@
 use Rattle.std.proofs.Common.{◌≡◌, arith, length, get_or, List, subst, ap}
 use Rattle.std.specs.List.{Contains}
+use Rattle.std.proofs.lemmas.List.Elements.{Contains-get_or}
 use Rattle.mh_grammar.specs.declared.types.Symbol.TheVariants.{T}
 use Rattle.mh_grammar.specs.declared.edges.Edge.{Edge}
 use Rattle.mh_tables.specs.Table.{state_at}
 use Rattle.mh_arrivals.specs.Arriving.{StepsEdge}
-use Rattle.mh_ways.proofs.Gaining.{in_list, first_next, first_all}
+use Rattle.mh_ways.proofs.Gaining.{first_next, first_all}
 use Rattle.mh_ways.proofs.Edging.{edge_leads}
 use Rattle.mh_arrivals.proofs.Stepping.{step_gains}
 use Rattle.mh_arrivals.proofs.arrive.step_shifts.Goals as goal
@@ -12,7 +13,7 @@ use Rattle.mh_arrivals.proofs.arrive.step_shifts.Goals as goal
 pub step_edge-requires-clause-edge : goal.step_edge-requires-clause-edge
 step_edge-requires-clause-edge c =
     let none : Edge = record { symbol = T 0; target = 0 } in
-    let there : Contains c.edges-edge-items.result.now (get_or c.edges-edge-items.result.now c.loop-edge.edge-index none) = in_list c.edges-edge-items.result.now c.loop-edge.edge-index none c.loop-edge-test.true in
+    let there : Contains c.edges-edge-items.result.now (get_or c.edges-edge-items.result.now c.loop-edge.edge-index none) = Contains-get_or c.edges-edge-items.result.now c.loop-edge.edge-index none c.loop-edge-test.true in
     edge_leads c.args.table.now c.facts.ensures c.args.from.spot.state (get_or c.edges-edge-items.result.now c.loop-edge.edge-index none) (subst (λ (xs : List Edge). Contains xs (get_or c.edges-edge-items.result.now c.loop-edge.edge-index none)) c.edges-edge-items.ensures.edges there)
 
 pub loop-edge-preserved : goal.loop-edge-preserved

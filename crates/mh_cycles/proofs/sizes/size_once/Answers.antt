@@ -1,8 +1,8 @@
 use Rattle.std.proofs.Common.{◌-◌, sym, ap, ◌∙◌, arith, inl, inr, subst}
-use Rattle.std.proofs.lemmas.Bool.{cases_eq}
+use Rattle.std.proofs.lemmas.Bool.{cases_eq, or_parts}
 use Rattle.mh_producers.specs.declared.sizes.Sizing.{Sizing}
 use Rattle.mh_producers.specs.Sizes.{IsSettled, unsized_count}
-use Rattle.mh_cycles.proofs.Ordering.{or_false, more_step}
+use Rattle.mh_cycles.proofs.Ordering.{more_step}
 use Rattle.mh_cycles.proofs.sizes.size_once.Goals as goal
 
 pub loop-done-preserved : goal.loop-done-preserved
@@ -16,9 +16,9 @@ loop-done-preserved c =
     record {
       sizing = c.in_ok-changed.ensures.sizing;
       count = inv.count;
-      same = λ e. let both = or_false before now e in (c.in_ok-changed.ensures.same both.1).0 ∙ inv.same both.0;
+      same = λ e. let both = or_parts before now e in (c.in_ok-changed.ensures.same both.1).0 ∙ inv.same both.0;
       settled = λ e n l.
-          let both = or_false before now e in
+          let both = or_parts before now e in
           let one = c.in_ok-changed.ensures.same both.1 in
           subst (λ (s : Sizing). IsSettled is s.sizes.items n) (sym one.0) (elim (cases_eq n (c.len-count.result - 1 - c.loop-done.done)) [
             | inl here ↦ rw here one.1

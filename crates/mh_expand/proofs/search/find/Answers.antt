@@ -1,9 +1,10 @@
 use Rattle.std.proofs.Common.{◌≡◌, refl, sym, ap, ◌∙◌}
+use Rattle.std.proofs.lemmas.List.{nil_from_length}
 use Rattle.mh_rules.specs.declared.joined.Head.TheVariants.{Token}
 use Rattle.mh_expand.specs.Terms.{Atom, apply_all}
 use Rattle.mh_expand.specs.code.Sharing.{terms_of, term_at, terms_at, node_term}
 use Rattle.mh_expand.proofs.Shared.{node_count, node_head, term_got}
-use Rattle.mh_expand.proofs.Found.{Finds-token, empty_list}
+use Rattle.mh_expand.proofs.Found.{Finds-token}
 use Rattle.mh_expand.proofs.search.find.Goals as goal
 use Rattle.mh_expand.proofs.search.find.Goals.{in_default-via-in-Token+else-is_empty, in_default-via-in_default}
 
@@ -17,7 +18,7 @@ wrong_count-requires-clause-count c = λ f.
     let head = node_head ts c.args.number c.at-node.result.now c.at-node.ensures.means in
     elim c.in_default.branch [
       | in_default-via-in-Token+else-is_empty w ↦ (let g = rw (head ∙ w.in-Token.is) at f in
-          let e = empty_list c.at-node.result.now.args (sym count ∙ g) in
+          let e = nil_from_length c.at-node.result.now.args (sym count ∙ g) in
           let u = w.if-is_empty.ensures.1 e in cc)
       | in_default-via-in_default w ↦ (let g = rw (head ∙ w.in_default.is) at f in g)
     ]

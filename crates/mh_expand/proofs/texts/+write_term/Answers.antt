@@ -1,7 +1,8 @@
 use Rattle.std.proofs.Common.{◌≡◌, ◌<◌, ◌⊎◌, ◌∷◌, ◌++◌, [], take, length, get_or, arith, ap, inl, inr, refl, sym}
+use Rattle.std.proofs.lemmas.List.{take_at}
 use Rattle.mh_expand.specs.Terms.{text}
 use Rattle.mh_expand.specs.code.Sharing.{terms_of, term_at}
-use Rattle.mh_expand.proofs.Room.{take_full, take_within, IsWriting-start, IsWriting-arg, IsWriting-bare, IsWriting-end}
+use Rattle.mh_expand.proofs.Room.{take_within, IsWriting-start, IsWriting-arg, IsWriting-bare, IsWriting-end}
 use Rattle.mh_expand.proofs.texts.+write_term.Goals as goal
 use Rattle.mh_expand.proofs.texts.+write_term.Goals.{then-place-eq0, else-place-eq0}
 
@@ -24,7 +25,7 @@ returns-in_ok-write_bytes-2 t c =
     IsWriting-end c.args.joined.now c.args.room c.args.text.now.items c.loop-place.text.items c.write_bytes-then-not-is_empty.new.text.items node.head (terms_of c.args.terms.now.nodes.keys) node.args c.loop-place.place c.args.number (λ e. let f = c.if-not-is_empty.ensures.1 e in cc) (omega (arith, ap length c.as_slice-arg-items.ensures)) c.at-node.ensures.means c.loop-place.invariant c.in_ok-write_bytes-2.ensures
 
 pub returns-then-len-room : goal.returns-then-len-room
-returns-then-len-room t c = sym (take_full c.args.room c.args.text.now.items (text c.args.joined.now (term_at (terms_of c.args.terms.now.nodes.keys) c.args.number)) (omega arith))
+returns-then-len-room t c = sym (take_at c.args.text.now.items (text c.args.joined.now (term_at (terms_of c.args.terms.now.nodes.keys) c.args.number)) c.args.room (omega arith))
 
 pub loop-place-init : goal.loop-place-init
 loop-place-init t c = IsWriting-start c.args.joined.now c.args.room c.args.text.now.items c.write_head.new.text.items c.at-node.result.now.head c.in_ok-write_head.ensures

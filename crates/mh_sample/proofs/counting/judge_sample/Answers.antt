@@ -1,10 +1,11 @@
 use Rattle.std.proofs.Common.{map}
+use Rattle.std.proofs.lemmas.Result.{IfOk-weaker}
 use Rattle.mh_run.specs.Verdicts.{ending_for}
 use Rattle.mh_msgfile.specs.Sentences.{vocabulary_in}
-use Rattle.mh_sample.proofs.Judged.{endings_all, more_if_ok}
+use Rattle.mh_sample.proofs.Judged.{endings_all}
 use Rattle.mh_sample.proofs.counting.judge_sample.Goals as goal
 
 pub returns : goal.returns
 returns c =
-    more_if_ok c.judge_sentences.result _ _
+    IfOk-weaker c.judge_sentences.result _ _
     (λ vs all. endings_all c.args.table.now c.args.grammar.now c.args.number c.operators.result c.sentences.result (vocabulary_in c.in_ok-lexicon.lexicon) (map ending_for vs.items) c.in_ok-lexicon.ensures c.operators.ensures c.sentences.ensures all) c.judge_sentences.ensures

@@ -1,11 +1,12 @@
 use Rattle.std.proofs.Common.{◌≡◌, arith, length, get_or, List, subst, ap}
 use Rattle.std.specs.List.{Contains}
+use Rattle.std.proofs.lemmas.List.Elements.{Contains-get_or}
 use Rattle.mh_grammar.specs.declared.types.Symbol.TheVariants.{T}
 use Rattle.mh_grammar.specs.declared.edges.Edge.{Edge}
 use Rattle.mh_tables.specs.Table.{state_at}
 use Rattle.mh_ways.specs.Classes.{list_at}
 use Rattle.mh_search.specs.Begins.{BeginsBehind}
-use Rattle.mh_ways.proofs.Gaining.{in_list, first_next, first_all}
+use Rattle.mh_ways.proofs.Gaining.{first_next, first_all}
 use Rattle.mh_ways.proofs.Edging.{edge_leads, known_nonterminal}
 use Rattle.mh_search.proofs.Beginning.{begin_gains}
 use Rattle.mh_search.proofs.begins.begin_in.Goals as goal
@@ -13,7 +14,7 @@ use Rattle.mh_search.proofs.begins.begin_in.Goals as goal
 pub begin_behind-requires : goal.begin_behind-requires
 begin_behind-requires c n e =
     let none : Edge = record { symbol = T 0; target = 0 } in
-    let there : Contains c.edges-edge-items.result.now (get_or c.edges-edge-items.result.now c.loop-edge.edge-index none) = in_list c.edges-edge-items.result.now c.loop-edge.edge-index none c.loop-edge-test.true in
+    let there : Contains c.edges-edge-items.result.now (get_or c.edges-edge-items.result.now c.loop-edge.edge-index none) = Contains-get_or c.edges-edge-items.result.now c.loop-edge.edge-index none c.loop-edge-test.true in
     let leads = edge_leads c.args.table.now c.facts.ensures c.args.from (get_or c.edges-edge-items.result.now c.loop-edge.edge-index none) (subst (λ (xs : List Edge). Contains xs (get_or c.edges-edge-items.result.now c.loop-edge.edge-index none)) c.edges-edge-items.ensures.edges there) in
     let known = known_nonterminal c.args.table.now c.facts.ensures c.args.from n _ (rw e at leads) in
     let rows = c.requires.left.rows in

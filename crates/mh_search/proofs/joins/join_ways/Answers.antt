@@ -1,10 +1,11 @@
 use Rattle.std.proofs.Common.{arith}
+use Rattle.std.proofs.lemmas.List.Elements.{Contains-get_or}
 use Rattle.mh_ways.specs.Rules.{FollowsWay}
-use Rattle.mh_ways.proofs.Gaining.{in_list, first_next, first_all}
+use Rattle.mh_ways.proofs.Gaining.{first_next, first_all}
 use Rattle.mh_search.proofs.joins.join_ways.Goals as goal
 
 pub join-requires-clause-whole : goal.join-requires-clause-whole
-join-requires-clause-whole c = c.requires.wholes _ (in_list c.args.wholes.now c.loop-whole.whole-index _ c.loop-whole-test.true)
+join-requires-clause-whole c = c.requires.wholes _ (Contains-get_or c.args.wholes.now c.loop-whole.whole-index _ c.loop-whole-test.true)
 
 pub loop-whole-preserved : goal.loop-whole-preserved
 loop-whole-preserved c = first_next (FollowsWay c.args.table.now c.args.path) c.args.wholes.now c.loop-whole.whole-index _ c.args.queue.now.buckets.items c.loop-whole.queue.buckets.items c.join.new.queue.buckets.items c.loop-whole-test.true c.loop-whole.invariant c.in_ok-join.ensures

@@ -1,8 +1,9 @@
 use Rattle.std.proofs.Common.{◌≡◌, ◌<◌, ◌+◌, ap, ◌∙◌, arith, length, get_or, take}
+use Rattle.std.proofs.lemmas.List.{take_all}
 use Rattle.mh_ways.specs.Classes.{list_at}
 use Rattle.mh_search.specs.Adding.{Adds}
 use Rattle.mh_ways.specs.Rules.{whole_of}
-use Rattle.mh_search.proofs.Taking.{take_more, take_whole}
+use Rattle.mh_search.proofs.Taking.{take_more}
 use Rattle.mh_search.proofs.Meeting.{meets_none, meets_more}
 use Rattle.mh_search.proofs.joins.meet_whole.Goals as goal
 
@@ -29,5 +30,5 @@ pub returns : goal.returns
 returns c =
     let xs = list_at c.args.classes.now c.args.target in
     let same : length c.list_of-next-items.result.now ≡ length xs = ap length c.list_of-next-items.ensures in
-    let all : take c.loop-next.next-index xs ≡ xs = take_whole xs c.loop-next.next-index (let a = c.loop-next-test.false in omega arith) in
+    let all : take c.loop-next.next-index xs ≡ xs = take_all c.loop-next.next-index xs (let a = c.loop-next-test.false in omega arith) in
     rw all at c.loop-next.invariant

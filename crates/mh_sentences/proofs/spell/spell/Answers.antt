@@ -1,8 +1,8 @@
 use Rattle.std.proofs.Common.{◌≡◌, ◌<◌, ◌++◌, ◌∷◌, [], inl, inr, true, false, arith, length}
 use Rattle.std.specs.Prelude.{reverse}
 use Rattle.std.proofs.lemmas.Bool.{cases_lt}
+use Rattle.std.proofs.lemmas.List.{nil_from_length}
 use Rattle.mh_ways.specs.Tales.{sizes_of}
-use Rattle.mh_ways.proofs.Rowing.{no_items}
 use Rattle.mh_sentences.proofs.Spelled.{Tells, next_on, next_less, tells_begin, tells_end, words_pop, size_of_all}
 use Rattle.mh_sentences.proofs.spell.spell.Goals as goal
 
@@ -27,6 +27,6 @@ facts-smaller c =
 pub returns-in-None : goal.returns-in-None
 returns-in-None c tale w e =
     let z : length c.facts.stack.items ≡ 0 = elim (cases_lt 0 (length c.facts.stack.items)) [ inl lt ↦ absurd (let y : false ≡ true = c.in-None.ensures.variant.1 (let o = c.facts.stack.ok in omega (arith, lt, o.0)) in cc) | inr le ↦ omega arith ] in
-    let none : c.facts.stack.items ≡ [] = no_items c.facts.stack.items z in
+    let none : c.facts.stack.items ≡ [] = nil_from_length c.facts.stack.items z in
     let h : Tells tale.words [] c.facts.backwards.items (w ++ reverse c.args.backwards.now.items) = rw none at (c.facts.invariant tale w e) in
     tells_end tale.words c.facts.backwards.items (w ++ reverse c.args.backwards.now.items) h

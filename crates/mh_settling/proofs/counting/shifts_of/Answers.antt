@@ -1,7 +1,8 @@
 use Rattle.std.proofs.Common.{◌<◌, ap, sym, ◌∙◌, arith}
 use Rattle.std.proofs.lemmas.Option.{slice_get-get_or}
+use Rattle.std.proofs.lemmas.List.{drop_more}
 use Rattle.mh_grammar.specs.declared.types.Symbol.TheVariants.{T}
-use Rattle.mh_settling.proofs.Shifting.{shifted, skipped, token_known, next_edge}
+use Rattle.mh_settling.proofs.Shifting.{shifted, skipped, token_known}
 use Rattle.mh_settling.proofs.counting.shifts_of.Goals as goal
 use Rattle.mh_settling.proofs.counting.shifts_of.Goals.{in-T, in_default}
 
@@ -15,7 +16,7 @@ index_mut-requires c =
 pub loop-edge-preserved : goal.loop-edge-preserved
 loop-edge-preserved c =
     let here = slice_get-get_or c.args.edges.now c.loop-edge.edge-index _ c.loop-edge-test.true in
-    let at = next_edge c.args.edges.now c.loop-edge.edge-index _ c.loop-edge-test.true in
+    let at = drop_more c.args.edges.now c.loop-edge.edge-index _ c.loop-edge-test.true in
     elim c.match-edge.branch [
       | in-T w ↦ (
           let known = token_known c.args.tokens c.args.edges.now c.loop-edge.edge-index w.in-T.token _ c.requires.rising here w.in-T.is c.requires.known in

@@ -1,4 +1,4 @@
-use Rattle.mh_words.proofs.Parts.{on_ok}
+use Rattle.std.proofs.lemmas.Result.{on_ok_weaker}
 use Rattle.mh_words.proofs.Turning.{right_word_known, right_opened}
 use Rattle.mh_words.specs.Words.{words_of}
 use Rattle.mh_words.proofs.comparing.open_right.Goals as goal
@@ -8,4 +8,4 @@ open-requires-clause-known c = right_word_known (words_of c.args.entries.now) c.
 
 pub returns : goal.returns
 returns c =
-    on_ok c.open.result _ _ (right_opened (words_of c.args.entries.now) c.args.rests.now (record { left = c.put_back.new.parts; right = c.open.new.parts }) c.args.left c.args.right c.requires.tops c.in_ok-put_back.ensures) c.open.ensures
+    on_ok_weaker c.open.result (right_opened (words_of c.args.entries.now) c.args.rests.now (record { left = c.put_back.new.parts; right = c.open.new.parts }) c.args.left c.args.right c.requires.tops c.in_ok-put_back.ensures) c.open.ensures
