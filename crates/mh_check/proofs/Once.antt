@@ -3,7 +3,7 @@ use Rattle.std.proofs.Common.{◌≡◌, ℕ, suc, ◌-◌, ◌<◌, List, [], �
 use Rattle.std.specs.List.{slice_get}
 use Rattle.std.proofs.lemmas.Option.{slice_get_within}
 use Rattle.std.proofs.lemmas.List.Elements.{Contains-append_right}
-use Rattle.mh_grammar.proofs.Lists.{at_contains, get_left, contains_here}
+use Rattle.mh_grammar.proofs.Lists.{at_contains, get_left, contains_here, get_behind}
 use Rattle.mh_tables.specs.Table.{TableData}
 use Rattle.mh_tables.specs.Run.{Ending, Rejected}
 use Rattle.mh_tables.proofs.OneTreeEnding.{one_verdict}
@@ -38,11 +38,6 @@ refuses_not how at s (Accepts read) is = cc
 refuses_not how at s (Overshoots state) is = cc
 
 module _ (t : TableData) where
-  -- a place of the sentence behind some others
-  behind_place : (a m : List MsgSentence) (x : MsgSentence) → slice_get (a ++ x ∷ m) (length a) ≡ Some x
-  behind_place [] m x = refl
-  behind_place (z ∷ a) m x = behind_place a m x
-
   never_sound : (a m : List MsgSentence) (x : MsgSentence) (f : FaultFound) → Sound t (a ++ x ∷ m) → Breaks t a x f → ⊥
   never_sound a m x f sound (NotRefused how none verdict) =
       let fails = sound.each x (Contains-append_right a (x ∷ m) x (contains_here x m)) in
@@ -53,7 +48,7 @@ module _ (t : TableData) where
       let place : at ≡ length x.tokens - 1 = cc in omega arith
   never_sound a m x f sound (Shared y s c in_y in_x) =
       let at = at_contains a y c in
-      let same : at.0 ≡ length a = sound.apart at.0 (length a) s y x (get_left a (x ∷ m) at.0 y at.1) (behind_place a m x) in_y in_x in
+      let same : at.0 ≡ length a = sound.apart at.0 (length a) s y x (get_left a (x ∷ m) at.0 y at.1) (get_behind a x m) in_y in_x in
       let within : at.0 < length a = slice_get_within a at.0 y at.1 in omega arith
 
   breaks_once : (a : List MsgSentence) (x : MsgSentence) (f g : FaultFound) → Sound t a → Breaks t a x f → Breaks t a x g → f ≡ g

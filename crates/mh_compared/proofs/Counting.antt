@@ -1,5 +1,5 @@
 -- What lists of lines tell, and how far they are right.
-use Rattle.std.proofs.Common.{◌≡◌, ◌<◌, ◌≤◌, ◌+◌, ◌++◌, ℕ, zero, suc, true, List, [], ◌∷◌, length, drop, drop_of_length-le, get_or, refl, sym, ap, ◌∙◌, subst, arith}
+use Rattle.std.proofs.Common.{◌≡◌, ◌<◌, ◌≤◌, ◌+◌, ◌++◌, ℕ, zero, suc, true, List, [], ◌∷◌, length, drop, drop_of_length-le, get_or, refl, sym, ap, ◌∙◌, subst, arith, append_assoc, append-nil}
 use Rattle.std.specs.Prelude.{slice_index_or}
 use Rattle.std.proofs.lemmas.List.{get_or_default}
 use Rattle.mh_grammar.proofs.Lists.{read_again}
@@ -52,14 +52,6 @@ cells_stop g raw parts n p lt e each none = record { within = omega (arith, lt);
 
 -- ---- edges that are made one after another
 
-snoc_more : {X : Type 0} (xs : List X) (x : X) (ys : List X) → (xs ++ x ∷ []) ++ ys ≡ xs ++ x ∷ ys
-snoc_more [] x ys = refl
-snoc_more (z ∷ xs) x ys = ap (λ zs. z ∷ zs) (snoc_more xs x ys)
-
-nothing_more : {X : Type 0} (xs : List X) → xs ++ [] ≡ xs
-nothing_more [] = refl
-nothing_more (x ∷ xs) = ap (λ zs. x ∷ zs) (nothing_more xs)
-
 pub row_step : (ms : List Move) (rs : List RawEdge) (row new : List Edge) (at : ℕ) (m : Move) (r : RawEdge) → at < length ms → at < length rs → m ≡ get_or ms at m → r ≡ get_or rs at r → row ++ edges_on (drop at ms) (drop at rs) ≡ edges_on ms rs
     → new ≡ row ++ record { symbol = (get_or ms at m).symbol; target = (get_or rs at r).target } ∷ [] → new ++ edges_on (drop (at + 1) ms) (drop (at + 1) rs) ≡ edges_on ms rs
 row_step ms rs row new at m r lm lr em er so e =
@@ -69,9 +61,9 @@ row_step ms rs row new at m r lm lr em er so e =
     ap (λ (x : Move). record { symbol = x.symbol; target = r.target }) em ∙ ap (λ (x : RawEdge). record { symbol = (get_or ms at m).symbol; target = x.target }) er in
     let e2 : new ≡ row ++ record { symbol = m.symbol; target = r.target } ∷ [] = e ∙ ap (λ (x : Edge). row ++ x ∷ []) (sym both) in
     subst (λ n. new ++ edges_on (drop n ms) (drop n rs) ≡ edges_on ms rs) next
-    (ap (λ (k : List Edge). k ++ edges_on (drop (suc at) ms) (drop (suc at) rs)) e2 ∙ snoc_more row (record { symbol = m.symbol; target = r.target }) (edges_on (drop (suc at) ms) (drop (suc at) rs)) ∙ ap (λ (k : List Edge). row ++ k) (sym here) ∙ so)
+    (ap (λ (k : List Edge). k ++ edges_on (drop (suc at) ms) (drop (suc at) rs)) e2 ∙ append_assoc row ((record { symbol = m.symbol; target = r.target }) ∷ []) (edges_on (drop (suc at) ms) (drop (suc at) rs)) ∙ ap (λ (k : List Edge). row ++ k) (sym here) ∙ so)
 
 pub row_done : (ms : List Move) (rs : List RawEdge) (row : List Edge) (at : ℕ) → length ms ≤ at → row ++ edges_on (drop at ms) (drop at rs) ≡ edges_on ms rs → row ≡ edges_on ms rs
 row_done ms rs row at past so =
     let none : drop at ms ≡ [] = drop_of_length-le ms past in
-    sym (nothing_more row) ∙ ap (λ (k : List Move). row ++ edges_on k (drop at rs)) (sym none) ∙ so
+    sym (append-nil row) ∙ ap (λ (k : List Move). row ++ edges_on k (drop at rs)) (sym none) ∙ so

@@ -11,7 +11,7 @@ use Rattle.mh_grammar.specs.Plain.{PlainGrammar, plain_of, rhs_of}
 use Rattle.mh_grammar.specs.Edges.{IsRising, IsSymbolBefore, IsEdgeBefore}
 use Rattle.mh_grammar.specs.ItemSets as items
 use Rattle.mh_grammar.specs.ItemSets.{AreSame, Close, Moved}
-use Rattle.mh_grammar.proofs.Lists.{contains_here, contains_there, contains_cases, contains_none, at_contains, contains_map, recursion-from, recursion_contains}
+use Rattle.mh_grammar.proofs.Lists.{contains_here, contains_there, contains_cases, contains_none, at_contains, contains_map, recursion-from, recursion_contains, first_same}
 use Rattle.mh_kernels.specs.Shapes.{Kernel}
 use Rattle.mh_kernels.specs.Kernels.{Holds, IsItemList}
 use Rattle.mh_kernels.specs.Automaton.{no_kernel, kernel_at, move_of, Moves, IsTarget}
@@ -22,10 +22,10 @@ use Rattle.mh_tabform.specs.declared.types.RawEdge.{RawEdge}
 use Rattle.mh_tabform.specs.declared.types.RawTable.{RawTable}
 use Rattle.mh_tabform.specs.Written.{raw_edge}
 use Rattle.mh_valid.specs.Valid.{AreKernels, HasEdges, of_kernels, raw_state}
-use Rattle.mh_valid.proofs.OneKernel.{first_of, rest_of, none_cons}
-use Rattle.mh_valid.proofs.Edged.{found_in, on_symbol, has_symbol, one_symbols, symbols_rise}
+use Rattle.mh_valid.proofs.OneKernel.{rest_of, none_cons}
+use Rattle.mh_valid.proofs.Edged.{on_symbol, has_symbol, one_symbols, symbols_rise}
 use Rattle.mh_grammar.specs.Names.{symbol_name}
-use Rattle.mh_grammar.proofs.EdgeOrder.{edge_found}
+use Rattle.mh_grammar.proofs.EdgeOrder.{edge_found, found_in}
 use Rattle.mh_compared.specs.Leading.{Leads, IsRowOf, edges_on}
 use Rattle.mh_valid.specs.Finding.{Finds}
 use Rattle.mh_compared.proofs.Within.{target_of, holds_move}
@@ -125,7 +125,7 @@ module _ (g : Grammar) (raw : RawTable) (ks : List Kernel) (s : ℕ) (moves : Li
   zip_leads [] (e ∷ es) on ins ts kernels = absurd (none_cons e.symbol (edge_symbols es) on)
   zip_leads (m ∷ ms) [] on ins ts kernels = absurd (none_cons m.symbol (symbols_of ms) (sym on))
   zip_leads (m ∷ ms) (e ∷ es) on ins ts kernels = (
-    leads_of m (ins m (contains_here m ms)) e (first_of m.symbol e.symbol (symbols_of ms) (edge_symbols es) on) kernels (ts e (contains_here e es)),
+    leads_of m (ins m (contains_here m ms)) e (first_same m.symbol e.symbol (symbols_of ms) (edge_symbols es) on) kernels (ts e (contains_here e es)),
     zip_leads ms es (rest_of m.symbol e.symbol (symbols_of ms) (edge_symbols es) on) (λ x c. ins x (contains_there m ms x c)) (λ x c. ts x (contains_there e es x c)) kernels,
   )
 

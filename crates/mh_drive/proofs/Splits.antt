@@ -1,16 +1,11 @@
 -- How the lines of an input begin.
-use Rattle.std.proofs.Common.{◌≡◌, ◌≢◌, ◌<◌, ◌≤◌, ℕ, zero, suc, true, false, List, [], ◌∷◌, ◌++◌, length, refl, ap, arith}
+use Rattle.std.proofs.Common.{◌≡◌, ◌<◌, ◌≤◌, ℕ, zero, suc, true, false, List, [], ◌∷◌, ◌++◌, length, refl, ap, arith}
 use Rattle.std.proofs.lemmas.Bool.Decides.{nat_tests}
-use Rattle.std.specs.Prelude.{nat_le, ◌==◌}
+use Rattle.std.specs.Prelude.{nat_le}
 use Rattle.mh_outside.specs.Lines.{HasNoEnd}
+use Rattle.mh_outside.proofs.LinesFound.{tail, not_end}
 use Rattle.mh_grammar.specs.Text.{Text}
 use Rattle.mh_drive.specs.Lines.{put_first, split, asked, is_small}
-
-tail : (b : ℕ) (line : Text) → HasNoEnd (b ∷ line) → HasNoEnd line
-tail b line h k d lt = h (suc k) d (omega arith)
-
-not_end : (b : ℕ) (line : Text) → HasNoEnd (b ∷ line) → (b == 10) ≡ false
-not_end b line h = let ne : b ≢ 10 = h 0 0 (omega arith) in grind (arith, nat_tests)
 
 pub split-line : (line rest : Text) → HasNoEnd line → split (line ++ 10 ∷ rest) ≡ line ∷ split rest
 split-line [] rest h = refl

@@ -6,7 +6,7 @@ use Rattle.std.specs.HashSet.{HashSet}
 use Rattle.std.proofs.Math.Bool.{or-false}
 use Rattle.std.proofs.lemmas.List.{append-nil}
 use Rattle.std.proofs.lemmas.List.Folds.{list_any-append}
-use Rattle.mh_grammar.proofs.Lists.{taken}
+use Rattle.mh_grammar.proofs.Lists.{taken, left_at}
 use Rattle.mh_rules.specs.declared.modules.Rule.{Rule}
 use Rattle.mh_meanings.specs.declared.fault.JoinFault.{JoinFault}
 use Rattle.mh_meanings.specs.declared.fault.JoinFault.TheVariants as faults
@@ -15,8 +15,7 @@ use Rattle.mh_meanings.specs.Names.{same}
 use Rattle.mh_meanings.specs.Faults.{first, unless, repeats, own_name, own_names}
 use Rattle.mh_duplicates.specs.Once.{PutsOwn}
 use Rattle.mh_meanings.proofs.Lists.{flat_more}
-use Rattle.mh_meanings.proofs.Finding.{IsFirst, drop_item}
-
+use Rattle.mh_meanings.proofs.Finding.{IsFirst}
 -- the set has these names, of which none repeats; the rest is to come
 pub record Seen (keys done rest all : List Text) : Type 0 where
   pub has : (x : Text) → list_any (same x) keys ≡ list_any (same x) done
@@ -38,7 +37,7 @@ Seen-err keys done rest all x e seen (inr d) =
 
 module _ (test : Text → Bool) where
   own_drop : (rules : List Rule) (i : ℕ) (r : Rule) → i < length rules → r ≡ get_or rules i r → own_names test (drop i rules) ≡ own_name test r ++ own_names test (drop (i + 1) rules)
-  own_drop rules i r h at = ap (own_names test) (drop_item rules i r h at)
+  own_drop rules i r h at = ap (own_names test) (left_at rules i r h at)
 
   own_take : (rules : List Rule) (i : ℕ) (r : Rule) → i < length rules → r ≡ get_or rules i r → own_names test (take (i + 1) rules) ≡ own_names test (take i rules) ++ own_name test r
   own_take rules i r h at = flat_more (own_name test) rules i r h at ∙ ap (λ k. own_names test (take i rules) ++ k) (append-nil (own_name test r))
@@ -68,7 +67,7 @@ own_err test old new rules i r h at seen e puts =
 -- one more name
 pub name_more : (keys new names : List Text) (i : ℕ) (x : Text) → i < length names → x ≡ get_or names i x → Seen keys (take i names) (drop i names) names → ((y : Text) → list_any (same y) new ≡ (list_any (same y) keys || same y x)) → list_any (same x) keys ≡ false → Seen new (take (i + 1) names) (drop (i + 1) names) names
 name_more keys new names i x h at seen put lacks =
-    subst (λ k. Seen new k (drop (i + 1) names) names) (sym (taken names i x h at)) (Seen-more keys new (take i names) (drop (i + 1) names) names x (subst (λ k. Seen keys (take i names) k names) (drop_item names i x h at) seen) put lacks)
+    subst (λ k. Seen new k (drop (i + 1) names) names) (sym (taken names i x h at)) (Seen-more keys new (take i names) (drop (i + 1) names) names x (subst (λ k. Seen keys (take i names) k names) (left_at names i x h at) seen) put lacks)
 
 pub name_err : (keys names : List Text) (i : ℕ) (x : Text) → i < length names → x ≡ get_or names i x → Seen keys (take i names) (drop i names) names → (e : JoinFault) → (e ≡ faults.Memory) ⊎ ((e ≡ faults.Duplicate x) × (list_any (same x) keys ≡ true)) → IsFirst (repeats [] names) e
-name_err keys names i x h at seen e puts = Seen-err keys (take i names) (drop (i + 1) names) names x e (subst (λ k. Seen keys (take i names) k names) (drop_item names i x h at) seen) puts
+name_err keys names i x h at seen e puts = Seen-err keys (take i names) (drop (i + 1) names) names x e (subst (λ k. Seen keys (take i names) k names) (left_at names i x h at) seen) puts

@@ -1,6 +1,6 @@
 -- Texts of which only so many bytes are kept.
 use Rattle.std.proofs.Common.{◌≡◌, ℕ, zero, suc, ◌+◌, ◌<◌, ◌≤◌, List, [], ◌∷◌, ◌++◌, length, take, ◌⊎◌, get_or, refl, sym, ap, ◌∙◌, arith, inl, inr, add-one, Some}
-use Rattle.std.proofs.lemmas.List.{length-take, take_all, append_assoc}
+use Rattle.std.proofs.lemmas.List.{take_all, append_assoc}
 use Rattle.mh_rules.specs.declared.joined.Joined.{Joined}
 use Rattle.mh_rules.specs.declared.joined.Head.{Head}
 use Rattle.mh_expand.specs.Terms.{Term, Atom, Apply, apply_all, separator, text, unclosed, head_name}
@@ -15,9 +15,6 @@ pub take_again : (n : ℕ) (a b : List ℕ) → take n (take n a ++ b) ≡ take 
 take_again zero a b = refl
 take_again (suc n) [] b = refl
 take_again (suc n) (x ∷ a) b = ap (λ l. x ∷ l) (take_again n a b)
-
-pub take_within : (n : ℕ) (a : List ℕ) → length (take n a) ≤ n
-take_within n a = omega (arith, length-take n a)
 
 -- what was written of a term, with some of its arguments
 pub record IsWriting (j : Joined) (room : ℕ) (start now : List ℕ) (t : Term) : Type 0 where

@@ -1,12 +1,11 @@
 -- Rows are added state by state.
-use Rattle.std.proofs.Common.{◌≡◌, ℕ, ◌+◌, ◌<◌, ◌≤◌, ◌⊎◌, inl, inr, List, [], ◌∷◌, ◌++◌, length, Some, None, refl, ap, sym, ◌∙◌, subst, arith}
+use Rattle.std.proofs.Common.{◌≡◌, ℕ, ◌+◌, ◌<◌, ◌≤◌, inl, inr, List, [], ◌∷◌, ◌++◌, length, Some, None, refl, ap, sym, ◌∙◌, subst, arith}
 use Rattle.std.specs.Prelude.{min, Ok, Err, Vec}
 use Rattle.std.specs.declared.alloc.Global.{Global}
 use Rattle.std.proofs.lemmas.Grind.{common_steps}
 use Rattle.std.specs.List.{AllByRecursion}
-use Rattle.std.proofs.lemmas.Bool.{cases_lt}
 use Rattle.std.proofs.lemmas.List.Elements.{All-get_or, Contains-push, Contains-append_left}
-use Rattle.mh_grammar.proofs.Lists.{recursion_contains, recursion-push, recursion-weaker, rising-push}
+use Rattle.mh_grammar.proofs.Lists.{recursion_contains, recursion-push, recursion-weaker, rising-push, below_next}
 use Rattle.mh_grammar.specs.Costs.{IsCost}
 use Rattle.mh_tables.specs.Table.{TableData, cost_of_token}
 use Rattle.mh_tables.specs.Failing.{Row as TableRow, IsRowBefore, FailsFirst, FailsCheaply, Failing, TooLongAt, Catalogue, IsInOrder, cost_of_word, dearest}
@@ -58,9 +57,6 @@ cheap_of t s c least le = ((least.1).0, (least.1).1, (least.1).2, within c (cost
     within c n e le = grind (arith, common_steps, e, le)
 
 -- ---- one state more
-
-below_next : (s n : ℕ) → s < n + 1 → (s < n) ⊎ (s ≡ n)
-below_next s n lt = elim (cases_lt s n) [ inl l ↦ inl l | inr le ↦ inr (omega arith) ]
 
 module _ (t : TableData) (n : ℕ) (rows : List TableRow) (h : RowsBelow t n rows) where
   pub rows_skip : LeastCost t n None → RowsBelow t (n + 1) rows

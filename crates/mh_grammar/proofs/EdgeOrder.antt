@@ -1,21 +1,27 @@
 -- The orders of symbols, edges and looks; in a list of edges in the order of symbols each edge is the one on its symbol.
-use Rattle.std.proofs.Common.{◌≡◌, ℕ, zero, suc, ◌+◌, ◌<◌, ◌≤◌, List, [], ◌∷◌, Some, None, true, false, length, refl, ap, arith, inl, inr}
+use Rattle.std.proofs.Common.{◌≡◌, ℕ, zero, suc, ◌+◌, ◌<◌, ◌≤◌, ◌⊎◌, List, [], ◌∷◌, Some, None, true, false, length, refl, ap, arith, inl, inr}
 use Rattle.std.proofs.lemmas.Bool.Decides.{nat_tests}
-use Rattle.std.proofs.lemmas.Bool.{cases_eq, cases_lt}
+use Rattle.std.proofs.lemmas.Bool.{cases_Bool, cases_eq, cases_lt}
 use Rattle.std.proofs.lemmas.Option.{slice_get_within}
-use Rattle.std.specs.List.{slice_get}
+use Rattle.std.specs.List.{slice_get, Contains}
 use Rattle.mh_grammar.specs.declared.types.Symbol.{Symbol}
 use Rattle.mh_grammar.specs.declared.types.Symbol.TheVariants.{T, N}
 use Rattle.mh_grammar.specs.declared.types.Look.{Look}
 use Rattle.mh_grammar.specs.declared.types.Look.TheVariants.{Token, End}
 use Rattle.mh_grammar.specs.declared.edges.Edge.{Edge}
-use Rattle.mh_grammar.proofs.Lists.{recursion_at, rising_at}
+use Rattle.mh_grammar.proofs.Lists.{contains_there, recursion_at, rising_at}
 use Rattle.mh_grammar.specs.Edges.{IsRising, IsEdgeBefore, IsLookBefore, IsSymbolBefore, same_symbol, find_edge}
 
 pub look_never : (a b : Look) → IsLookBefore a b → IsLookBefore b a → ⊥
 look_never (Token a) (Token b) h k = omega arith
 look_never (Token a) End h k = k
 look_never End b h k = h
+
+pub same_look : (a b : Look) → (a ≡ b) ⊎ (a ≡ b → ⊥)
+same_look (Token y) (Token z) = elim (cases_eq y z) [ inl e ↦ inl (ap Token e) | inr n ↦ inr (λ e. n (let s : y ≡ z = cc in s)) ]
+same_look (Token y) End = inr (λ e. cc)
+same_look End (Token z) = inr (λ e. cc)
+same_look End End = inl refl
 
 pub symbol_never : (x y : Symbol) → IsSymbolBefore x y → IsSymbolBefore y x → ⊥
 symbol_never (T a) (T b) h k = omega arith
@@ -54,6 +60,15 @@ same_is (T a) (T b) h = ap T (grind (arith, nat_tests))
 same_is (T a) (N b) h = cc
 same_is (N a) (T b) h = cc
 same_is (N a) (N b) h = ap N (grind (arith, nat_tests))
+
+-- an edge that is found by its symbol is one of the list
+pub found_in : (es : List Edge) (x : Symbol) (u : ℕ) → find_edge es x ≡ Some u → Contains es (record { symbol = x; target = u })
+found_in [] x u h = cc
+found_in (e ∷ es) x u h = elim (cases_Bool (same_symbol e.symbol x)) [
+  | inl same ↦ (let on : e.symbol ≡ x = same_is e.symbol x same in let h2 : Some e.target ≡ Some u = rw same at h in let to : e.target ≡ u = cc in
+      let whole : e ≡ record { symbol = x; target = u } = (let both : record { symbol = e.symbol; target = e.target } ≡ record { symbol = x; target = u } = rw (on, to) refl in both) in (0, omega arith, whole))
+  | inr other ↦ contains_there e es (record { symbol = x; target = u }) (found_in es x u (rw other at h))
+]
 
 pub before_before : (x y z : Symbol) → IsSymbolBefore x y → IsSymbolBefore y z → IsSymbolBefore x z
 before_before (T a) (T b) (T c) h k = omega arith

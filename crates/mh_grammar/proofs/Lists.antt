@@ -1,7 +1,7 @@
 -- Lists, for every crate above: items by their places, what a list contains, fronts that grow by one item, items that are set, pairs at
 -- equal places, lists that rise, and the keys of a set in its order. Where std has a lemma it is cited from there (`List.Elements`: of
 -- `Contains` and `++`, of `All`; `Bool`: `and_parts`, `or_parts`; `Math.Bool`: `or-false`, `or_assoc`; `Option`: `same_Some`, `none-some`).
-use Rattle.std.proofs.Common.{◌≡◌, ℕ, zero, suc, ◌+◌, ◌<◌, ◌⊎◌, ◌↔◌, List, [], ◌∷◌, ◌++◌, Option, None, Some, length, get_or, take, drop, map, set, flat_map, refl, sym, ap, ◌∙◌, arith, inl, inr}
+use Rattle.std.proofs.Common.{◌≡◌, ℕ, zero, suc, ◌+◌, ◌<◌, ◌≤◌, ◌⊎◌, ◌↔◌, List, [], ◌∷◌, ◌++◌, Option, None, Some, length, get_or, take, drop, map, set, flat_map, refl, sym, ap, ◌∙◌, arith, inl, inr}
 use Rattle.std.specs.List.{slice_get, All, AllByRecursion, AllZip, Contains}
 use Rattle.std.specs.declared.cmp.Ordering.{Ordering}
 use Rattle.std.specs.declared.cmp.Ordering.TheVariants.{Less, Equal, Greater}
@@ -9,8 +9,8 @@ use Rattle.std.specs.Option.{option_map}
 use Rattle.std.specs.Ordering.{match_ordering}
 use Rattle.std.specs.BTreeSet.{BTreeSet, IsOrdered, insert_key}
 use Rattle.std.specs.List.Sorted.{IsStrictlySortedBy}
-use Rattle.std.proofs.lemmas.Bool.{cases_eq}
-use Rattle.std.proofs.lemmas.List.{get_or_append_left, get_or_push, get_or_default, length_push, length-append, take_more, map_more}
+use Rattle.std.proofs.lemmas.Bool.{cases_eq, cases_lt}
+use Rattle.std.proofs.lemmas.List.{get_or_append_left, get_or_push, get_or_default, length_push, length-append, length-take, drop_more, take_more, map_more}
 use Rattle.std.proofs.lemmas.List.Elements.{All-nil, All-cons, All-weaker, All-contains, All-from_recursion, recursion_from_All, Contains-append_left, Contains-append_right, Contains-append_cases, Contains-push, Contains-push_cases}
 use Rattle.std.proofs.lemmas.Map.Keys.{sorted_tail}
 use Rattle.std.proofs.lemmas.Map.Views.{All-after_first}
@@ -39,6 +39,11 @@ module _ {X : Type 0} where
             inl (slice_get-get_or xs i x l ∙ ap Some (sym (get_or_append_left xs (y ∷ []) x i l) ∙ at)))
       ]
 
+  -- the place behind a front
+  pub get_behind : (before : List X) (x : X) (xs : List X) → slice_get (before ++ x ∷ xs) (length before) ≡ Some x
+  get_behind [] x xs = refl
+  get_behind (y ∷ before) x xs = get_behind before x xs
+
   -- one place has one item
   pub same_at : (xs : List X) (i : ℕ) (x y : X) → slice_get xs i ≡ Some x → slice_get xs i ≡ Some y → x ≡ y
   same_at xs i x y e f = cc
@@ -52,6 +57,14 @@ module _ {X : Type 0} where
   -- an item that is read stands at its place
   pub read_again : (xs : List X) (i : ℕ) (d : X) → i < length xs → get_or xs i d ≡ get_or xs i (get_or xs i d)
   read_again xs i d l = get_or_default xs i d (get_or xs i d) l
+
+  -- what is left begins with the item at this place
+  pub left_at : (xs : List X) (i : ℕ) (x : X) → i < length xs → x ≡ get_or xs i x → drop i xs ≡ x ∷ drop (i + 1) xs
+  left_at xs i x l at = drop_more xs i x l ∙ ap (λ (y : X). y ∷ drop (i + 1) xs) (sym at)
+
+  -- a front is not longer than it is said to be
+  pub take_few : (xs : List X) (n : ℕ) → length (take n xs) ≤ n
+  take_few xs n = omega (arith, length-take n xs)
 
   -- the first item behind a front
   pub at_drop : (xs : List X) (i : ℕ) (x : X) (ys : List X) → drop i xs ≡ x ∷ ys → slice_get xs i ≡ Some x
@@ -101,7 +114,15 @@ module _ {X : Type 0} where
   some_item [] l = absurd (omega arith)
   some_item (x ∷ xs) l = (x, contains_here x xs)
 
-  -- lists with equal parts
+  -- a list that is not empty has items
+  pub some_length : (xs : List X) → (xs ≡ [] → ⊥) → 0 < length xs
+  some_length [] h = absurd (h refl)
+  some_length (x ∷ xs) h = omega arith
+
+  -- equal lists have equal parts, and lists with equal parts are equal
+  pub first_same : (x y : X) (xs ys : List X) → x ∷ xs ≡ y ∷ ys → x ≡ y
+  first_same x y xs ys e = cc
+
   pub cons_same : (x y : X) (xs ys : List X) → x ≡ y → xs ≡ ys → x ∷ xs ≡ y ∷ ys
   cons_same x y xs ys e f = λ i. e i ∷ f i
 
@@ -304,6 +325,15 @@ contains_flat_map f (z ∷ xs) x y c d = elim (contains_cases z xs x c) [
   | inl e ↦ (let here : Contains (f z) y = rw e d in Contains-append_left (f z) (flat_map f xs) y here)
   | inr h ↦ Contains-append_right (f z) (flat_map f xs) y (contains_flat_map f xs x y h d)
 ]
+
+-- the images of a list that is not empty
+pub map_some : {X Y : Type 0} (f : X → Y) (xs : List X) → (xs ≡ [] → ⊥) → map f xs ≡ [] → ⊥
+map_some f [] h e = h refl
+map_some f (x ∷ xs) h e = absurd (cc)
+
+-- a number below the next one
+pub below_next : (i n : ℕ) → i < n + 1 → (i < n) ⊎ (i ≡ n)
+below_next i n lt = elim (cases_lt i n) [ inl l ↦ inl l | inr le ↦ inr (omega arith) ]
 
 -- pairs at equal places of two lists
 module _ {A B : Type 0} (R : A → B → Type 0) where

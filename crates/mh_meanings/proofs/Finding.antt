@@ -1,7 +1,8 @@
 -- Faults that are sought one after the other.
-use Rattle.std.proofs.Common.{◌≡◌, ℕ, suc, ◌+◌, ◌<◌, List, [], ◌∷◌, ◌++◌, Some, None, Ok, Err, Result, length, get_or, drop, sym, ap, subst, ◌∙◌, ◌⊎◌, inl, inr, arith, add-one, drop-cons}
+use Rattle.std.proofs.Common.{◌≡◌, ℕ, ◌+◌, ◌<◌, List, [], ◌∷◌, ◌++◌, Some, None, Ok, Err, Result, length, get_or, drop, sym, ap, subst, ◌∙◌, ◌⊎◌, inl, inr, arith}
 use Rattle.std.specs.Result.{result_and}
 use Rattle.std.specs.List.{flat_map, enumerate_from}
+use Rattle.mh_grammar.proofs.Lists.{left_at}
 use Rattle.mh_meanings.specs.declared.fault.JoinFault.{JoinFault}
 use Rattle.mh_meanings.specs.declared.fault.JoinFault.TheVariants as faults
 use Rattle.mh_meanings.specs.Faults.{Finds, first}
@@ -22,12 +23,9 @@ pub finds_and : {X Y : Type 0} (es fs : List JoinFault) (r : Result X JoinFault)
 finds_and es fs (Ok x) s p q = finds_then es fs s p q
 finds_and es fs (Err e) s p q = first_then es fs e p
 
-pub drop_item : {A : Type 0} (xs : List A) (i : ℕ) (x : A) → i < length xs → x ≡ get_or xs i x → drop i xs ≡ x ∷ drop (i + 1) xs
-drop_item xs i x h e = rw (add-one, drop-cons xs i x) (ap (λ k. k ∷ drop (suc i) xs) (sym e))
-
 module _ {A : Type 0} (f : A → List JoinFault) (xs : List A) (i : ℕ) (x : A) (h : i < length xs) (at : x ≡ get_or xs i x) (so_far : flat_map f (drop i xs) ≡ flat_map f xs) where
   here : f x ++ flat_map f (drop (i + 1) xs) ≡ flat_map f xs
-  here = ap (flat_map f) (sym (drop_item xs i x h at)) ∙ so_far
+  here = ap (flat_map f) (sym (left_at xs i x h at)) ∙ so_far
 
   pub finds_more : f x ≡ [] → flat_map f (drop (i + 1) xs) ≡ flat_map f xs
   finds_more e = ap (λ k. k ++ flat_map f (drop (i + 1) xs)) (sym e) ∙ here
@@ -40,7 +38,7 @@ module _ {A : Type 0} (f : ℕ × A → List JoinFault) (xs : List A) (n i j : �
   here_at =
       ap (λ k. f (k, x) ++ flat_map f (enumerate_from (n + (i + 1)) (drop (i + 1) xs))) (sym place)
       ∙ ap (λ k. f (n + i, x) ++ flat_map f (enumerate_from k (drop (i + 1) xs))) (let e : n + (i + 1) ≡ n + i + 1 = omega arith in e)
-      ∙ ap (λ k. flat_map f (enumerate_from (n + i) k)) (sym (drop_item xs i x h at)) ∙ so_far
+      ∙ ap (λ k. flat_map f (enumerate_from (n + i) k)) (sym (left_at xs i x h at)) ∙ so_far
 
   pub finds_more_at : f (j, x) ≡ [] → flat_map f (enumerate_from (n + (i + 1)) (drop (i + 1) xs)) ≡ flat_map f (enumerate_from n xs)
   finds_more_at e = ap (λ k. k ++ flat_map f (enumerate_from (n + (i + 1)) (drop (i + 1) xs))) (sym e) ∙ here_at

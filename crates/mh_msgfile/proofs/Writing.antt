@@ -1,12 +1,7 @@
 -- Loops that write one item after another, and loops that count what stands in front: what is done, and what is still to come.
-use Rattle.std.proofs.Common.{◌≡◌, ◌+◌, ◌<◌, ◌≤◌, ℕ, suc, List, ◌∷◌, ◌++◌, length, drop, get_or, sym, ap, ◌∙◌, arith, append_assoc, append-nil, add-one}
+use Rattle.std.proofs.Common.{◌≡◌, ◌+◌, ◌<◌, ◌≤◌, ℕ, List, ◌∷◌, ◌++◌, length, drop, get_or, sym, ap, ◌∙◌, arith, append_assoc, append-nil}
 use Rattle.std.specs.List.{flat_map}
 use Rattle.std.proofs.lemmas.List.{drop_all, drop_more}
-use Rattle.std.proofs.Math.Seq.{drop-cons}
-
--- what is left begins with the item at this place
-pub left_at : {A : Type 0} (xs : List A) (i : ℕ) (x : A) → i < length xs → x ≡ get_or xs i x → drop i xs ≡ x ∷ drop (i + 1) xs
-left_at {A = A} xs i x lt is = drop-cons xs i x lt ∙ ap (λ (t : A). t ∷ drop (suc i) xs) (sym is) ∙ ap (λ (k : ℕ). x ∷ drop k xs) (sym (add-one i))
 
 module _ {A B : Type 0} (f : A → List B) (xs : List A) (i : ℕ) (all now : List B) (so_far : now ++ flat_map f (drop i xs) ≡ all) where
   -- one item more is written

@@ -6,6 +6,7 @@ use Rattle.std.specs.Map.{lookup}
 use Rattle.std.proofs.lemmas.List.{map-append}
 use Rattle.std.proofs.lemmas.Iterator.Adapters.{position_from-zero}
 use Rattle.std.specs.HashMap.{get}
+use Rattle.mh_grammar.proofs.Lists.{get_behind}
 use Rattle.mh_rules.specs.declared.modules.Rule.{Rule}
 use Rattle.mh_rules.specs.declared.modules.Module.{Module}
 use Rattle.mh_meanings.specs.declared.names.Names.{Names}
@@ -41,10 +42,6 @@ outlines_are p ms =
 -- PLACES
 
 -- what stands at the first place is what is found
-get_behind : {A : Type 0} (before : List A) (x : A) (xs : List A) → slice_get (before ++ x ∷ xs) (length before) ≡ Some x
-get_behind [] x xs = refl
-get_behind (y ∷ before) x xs = get_behind before x xs
-
 find_from : {A : Type 0} (p : A → Bool) (before xs : List A) → option_and_then (λ i. slice_get (before ++ xs) i) (position_from p (length before) xs) ≡ find p xs
 find_from p before [] = refl
 find_from {A = A} p before (x ∷ xs) = go (p x) (subst (λ k. option_and_then (λ i. slice_get k i) (position_from p (length before + 1) xs) ≡ find p xs) (append_assoc before (x ∷ []) xs)

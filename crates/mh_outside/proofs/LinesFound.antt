@@ -8,10 +8,11 @@ use Rattle.mh_outside.specs.declared.lines.LineFault.{LineFault}
 use Rattle.mh_outside.specs.declared.lines.LineFault.TheVariants.{Failed, TooBig, Memory}
 use Rattle.mh_outside.specs.Lines.{HasNoEnd, TakesLine, ReadsLine, FindsLine, first_line, behind_line, line_found, fitting, Line, LongLine, NoLine}
 
-tail : (b : ℕ) (line : List ℕ) → HasNoEnd (b ∷ line) → HasNoEnd line
+-- a line that does not end in itself, by its first byte
+pub tail : (b : ℕ) (line : List ℕ) → HasNoEnd (b ∷ line) → HasNoEnd line
 tail b line h k d lt = h (suc k) d (omega arith)
 
-not_end : (b : ℕ) (line : List ℕ) → HasNoEnd (b ∷ line) → (b == 10) ≡ false
+pub not_end : (b : ℕ) (line : List ℕ) → HasNoEnd (b ∷ line) → (b == 10) ≡ false
 not_end b line h = let ne : b ≢ 10 = h 0 0 (omega arith) in grind (arith, nat_tests)
 
 first_line-append : (got rest : List ℕ) → HasNoEnd got → first_line (got ++ rest) ≡ got ++ first_line rest

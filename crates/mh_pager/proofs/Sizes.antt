@@ -1,7 +1,8 @@
 -- How many items a kernel holds, of those that there are: a join that adds something holds more.
-use Rattle.std.proofs.Common.{◌≡◌, ◌⊎◌, ◌<◌, ◌≤◌, ℕ, suc, List, [], ◌∷◌, length, refl, ap, arith, inl, inr, subst, if◌then◌else◌, nat_lt, lt-ltb, le-ltb}
+use Rattle.std.proofs.Common.{◌≡◌, ◌⊎◌, ◌<◌, ◌≤◌, ℕ, suc, List, [], ◌∷◌, length, refl, arith, inl, inr, subst, if◌then◌else◌, nat_lt, lt-ltb, le-ltb}
 use Rattle.std.specs.List.{Contains}
 use Rattle.std.proofs.lemmas.Bool.{cases_eq}
+use Rattle.mh_grammar.proofs.EdgeOrder.{same_look}
 use Rattle.mh_grammar.specs.declared.types.Look.{Look}
 use Rattle.mh_grammar.specs.declared.types.Look.TheVariants.{Token, End}
 use Rattle.mh_grammar.specs.Plain.{PlainGrammar, production_count, rhs_of, IsLookBelow}
@@ -11,12 +12,6 @@ use Rattle.mh_kernels.specs.Shapes.{Kernel}
 use Rattle.mh_kernels.specs.Kernels.{Holds, IsKernelItem, IsItemList}
 use Rattle.mh_states.specs.Weak.{Covers}
 use Rattle.mh_pager.proofs.Sums.{sum_below, sum_le, sum_same, bit, bit_le, bit_back, bit_one}
-
-same_look : (a b : Look) → (a ≡ b) ⊎ (a ≡ b → ⊥)
-same_look (Token y) (Token z) = elim (cases_eq y z) [ inl e ↦ inl (ap Token e) | inr n ↦ inr (λ e. n (let s : y ≡ z = cc in s)) ]
-same_look (Token y) End = inr (λ e. cc)
-same_look End (Token z) = inr (λ e. cc)
-same_look End End = inl refl
 
 has_look : (looks : List Look) (a : Look) → Contains looks a ⊎ (Contains looks a → ⊥)
 has_look [] a = inr (λ c. contains_none a c)

@@ -1,13 +1,13 @@
 -- What is read is ready to be joined: each rule has an alternative, costs are in range, and no actual is too deep.
-use Rattle.std.proofs.Common.{◌<◌, ◌≢◌, ℕ, List, [], ◌∷◌, ◌++◌, length, refl, arith, Ok, Err}
+use Rattle.std.proofs.Common.{◌<◌, ℕ, List, [], ◌∷◌, ◌++◌, length, Ok, Err}
 use Rattle.std.specs.Prelude.{Result, IfOk, None}
 use Rattle.std.specs.List.{All, AllByRecursion}
 use Rattle.std.proofs.lemmas.List.Elements.{All-push, All-from_recursion}
+use Rattle.mh_grammar.proofs.Lists.{some_length}
 use Rattle.mh_lex.specs.declared.kinds.Lexeme.{Lexeme}
 use Rattle.mh_lex.specs.declared.kinds.SyntaxFault.{SyntaxFault}
 use Rattle.mh_lex.specs.Lexing.{Lexes}
 use Rattle.mh_lex.proofs.Spelled.{lexemes_spelled}
-use Rattle.mh_rules.specs.declared.modules.Alternative.{Alternative}
 use Rattle.mh_rules.specs.declared.modules.Rule.{Rule}
 use Rattle.mh_rules.specs.declared.modules.TokenDecl.{TokenDecl}
 use Rattle.mh_rules.specs.declared.modules.Module.{Module}
@@ -21,10 +21,6 @@ use Rattle.mh_reader.proofs.Shallow.{rules_shallow, lists_shallow}
 
 abbrev IsFilled : Rule → Type 0
 IsFilled r = 0 < length r.alternatives
-
-some_length : (ks : List Alternative) → ks ≢ [] → 0 < length ks
-some_length [] h = absurd (h refl)
-some_length (k ∷ ks) h = omega arith
 
 rules_filled : (rs : List Rule) → AllByRecursion FitsRule rs → AllByRecursion IsFilled rs
 rules_filled [] h = tt

@@ -4,7 +4,7 @@ use Rattle.std.proofs.Common.{◌≡◌, ◌≢◌, ◌-◌, ◌==◌, ℕ, suc,
 use Rattle.std.specs.Prelude.{IfSome}
 use Rattle.std.specs.Option.{option_or}
 use Rattle.std.specs.List.{AllByRecursion}
-use Rattle.mh_grammar.proofs.Lists.{recursion-append, recursion-push}
+use Rattle.mh_grammar.proofs.Lists.{recursion-append, recursion-push, map_some}
 use Rattle.mh_grammar.specs.declared.types.Assoc.TheVariants.{Left, Right, Nonassoc}
 use Rattle.mh_bytes.specs.declared.keywords.Keyword.{Keyword}
 use Rattle.mh_bytes.specs.declared.keywords.Keyword.TheVariants as keywords
@@ -405,10 +405,6 @@ Groups-fit (spelling.Groups.more {done = done} {ks = ks} {g = g} b q e t) h k =
 joined_some : {X : Type 0} (xs ys : List X) → ys ≢ [] → xs ++ ys ≢ []
 joined_some [] ys h e = h e
 joined_some (x ∷ xs) ys h e = absurd (cc)
-
-map_some : {X Y : Type 0} (f : X → Y) (xs : List X) → xs ≢ [] → map f xs ≢ []
-map_some f [] h e = h refl
-map_some f (x ∷ xs) h e = absurd (cc)
 
 Productions-some : {done all : List Alternative} {xs rest : List Read} → Productions done xs rest all → all ≢ []
 Productions-some (spelling.Productions.last {done = done} {ps = ps} {p = p} b q e) = joined_some done (alternative ps p ∷ []) (λ e. absurd (cc))

@@ -24,7 +24,7 @@ fn made_of(made: Module, place: Place) -> Module
 }
 
 /// The reader behind one lexeme more.
-#[tactic(auto, unfolding(mh_places::specs::Machine::next_at))]
+#[tactic(auto, unfolding(mh_places::specs::code::Machine::next_at))]
 pub(crate) fn advance(
     alloc: Global,
     reader: Reader,

@@ -40,7 +40,7 @@ fn fresh(alloc: Global) -> Reader
 }
 
 /// The module, where the file may end here.
-#[tactic(auto, unfolding(mh_places::specs::Machine::finish_at))]
+#[tactic(auto, unfolding(mh_places::specs::code::Machine::finish_at))]
 fn ended(reader: Reader) -> Result<Module, Refusal>
     ensures { Refers (finish_at reader.made reader.place) result }
 {

@@ -1,5 +1,5 @@
 -- The best way to fail in a state comes first of all.
-use Rattle.std.proofs.Common.{◌≡◌, ℕ, ◌+◌, ◌<◌, ◌≤◌, ◌⊎◌, inl, inr, List, [], ◌∷◌, ◌++◌, length, Some, None, Option, refl, ap, sym, subst, arith, length-append, ◌∙◌}
+use Rattle.std.proofs.Common.{◌≡◌, ℕ, ◌+◌, ◌<◌, ◌≤◌, inl, inr, List, [], ◌∷◌, ◌++◌, length, Some, None, Option, refl, ap, sym, subst, arith, length-append, ◌∙◌}
 use Rattle.std.specs.Prelude.{IfSome, min}
 use Rattle.std.specs.List.{AllByRecursion}
 use Rattle.std.proofs.lemmas.Grind.{common_steps}
@@ -15,7 +15,7 @@ use Rattle.mh_least.specs.Orders.{cap}
 use Rattle.mh_least.specs.Orders as orders
 use Rattle.mh_least.proofs.Least.{fails_candidate, closed_reached, candidate_fails}
 use Rattle.mh_least.proofs.Best.{closes_all_at}
-use Rattle.mh_grammar.proofs.Lists.{get_cases}
+use Rattle.mh_grammar.proofs.Lists.{get_cases, below_next}
 use Rattle.mh_grammar.proofs.WordOrder.{lex_same}
 use Rattle.mh_ways.specs.declared.classes.Classes.{Classes}
 use Rattle.mh_found.specs.declared.found.Found.{Found}
@@ -34,9 +34,6 @@ use Rattle.mh_spots.proofs.Labelling.{label_laws, by_numbers, cheaper_at, both_o
 use Rattle.mh_spots.proofs.Spots.{label_one}
 use Rattle.mh_spots.proofs.Tracing.{precedes_after}
 use Rattle.mh_spots.proofs.Walking.{arrived_at}
-
-below_next : (z n : ℕ) → z < n + 1 → (z < n) ⊎ (z ≡ n)
-below_next z n lt = elim (cases_lt z n) [ inl l ↦ inl l | inr le ↦ inr (omega arith) ]
 
 pub best_begins : (t : TableData) (c : Classes) (facts : Stored) (spots : Spots) (s : ℕ) → BestBelow t c facts spots s 0 None
 best_begins t c facts spots s z r lt refuses e = absurd (omega arith)

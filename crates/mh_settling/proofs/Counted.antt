@@ -1,9 +1,9 @@
 -- Looks one after another, and items one after another.
-use Rattle.std.proofs.Common.{◌≡◌, ℕ, ◌<◌, ◌+◌, ◌⊎◌, List, [], ◌∷◌, ◌++◌, subst, length, take, get_or, replicate, Option, refl, ap, sym, ◌∙◌, arith, inl, inr}
-use Rattle.std.proofs.lemmas.Bool.{cases_lt}
+use Rattle.std.proofs.Common.{◌≡◌, ℕ, ◌<◌, ◌+◌, List, [], ◌∷◌, ◌++◌, subst, length, take, get_or, replicate, Option, refl, ap, sym, ◌∙◌, arith, inl, inr}
 use Rattle.std.proofs.lemmas.List.{get_or-replicate, append_assoc, append-nil}
 use Rattle.std.proofs.lemmas.List.Elements.{Contains-append_left, Contains-append_right}
 use Rattle.std.specs.List.{AllByRecursion}
+use Rattle.mh_grammar.proofs.EdgeOrder.{same_look}
 use Rattle.mh_grammar.specs.declared.types.Grammar.{Grammar}
 use Rattle.mh_grammar.specs.declared.types.Look.{Look}
 use Rattle.mh_grammar.specs.declared.types.Look.TheVariants.{Token, End}
@@ -28,19 +28,6 @@ tallied_same g I J shifts t new old h = record {
   len = h.len;
   each = λ look known. same_is (weighed (compared g look) (shift_in shifts look)) (Seen g I look) (Seen g J look) (tally_on t look) (new look) (old look) (h.each look known);
 }
-
-same_look : (a b : Look) → (a ≡ b) ⊎ (a ≡ b → ⊥)
-same_look (Token x) (Token y) =
-    elim (cases_lt x y) [
-      | inl lt ↦ inr (λ e. let same : x ≡ y = cc in omega arith)
-      | inr ge ↦ elim (cases_lt y x) [
-        | inl lt ↦ inr (λ e. let same : x ≡ y = cc in omega arith)
-        | inr le ↦ inl (let same : x ≡ y = omega arith in ap Token same)
-      ]
-    ]
-same_look (Token x) End = inr (λ e. cc)
-same_look End (Token y) = inr (λ e. cc)
-same_look End End = inl refl
 
 -- nothing was seen
 pub none_tallied : (g : Grammar) (shifts : List (Option ℕ)) (t : Tallies) → length t.tokens.items ≡ length g.tokens → t.tokens.items ≡ replicate (length g.tokens) empty_tally → t.last ≡ empty_tally → AreTallied g (Holds (record { items = [] })) shifts t

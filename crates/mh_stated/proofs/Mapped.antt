@@ -1,7 +1,7 @@
 -- A list that is compared place by place with what the values of another are written as.
 use Rattle.std.proofs.Common.{◌≡◌, ◌↔◌, ◌<◌, ◌≤◌, ◌+◌, ℕ, suc, Bool, true, false, true≢false, IsTrue, List, [], ◌∷◌, map, length, drop, drop-cons, drop_of_length-le, get_or, refl, sym, ap, ◌∙◌, subst, arith}
-use Rattle.mh_valid.proofs.OneKernel.{first_of, rest_of}
-
+use Rattle.mh_grammar.proofs.Lists.{first_same}
+use Rattle.mh_valid.proofs.OneKernel.{rest_of}
 module _ {A B : Type 0} (f : B → A) (xs : List A) (ys : List B) (i : ℕ) where
   pub mapped_all : length xs ≤ i → length xs ≡ length ys → ((drop i xs ≡ map f (drop i ys)) ↔ (xs ≡ map f ys)) → IsTrue true ↔ (xs ≡ map f ys)
   mapped_all past same rest =
@@ -28,4 +28,4 @@ module _ {A B : Type 0} (f : B → A) (xs : List A) (ys : List B) (i : ℕ) wher
         )
 
     pub mapped_differs : (result : Bool) → (IsTrue result ↔ (x ≡ f y)) → result ≡ false → IsTrue false ↔ (xs ≡ map f ys)
-    mapped_differs result told is = (λ t. absurd (true≢false (sym t)), λ e. sym is ∙ told.1 (first_of x (f y) (drop (suc i) xs) (map f (drop (suc i) ys)) (here e)))
+    mapped_differs result told is = (λ t. absurd (true≢false (sym t)), λ e. sym is ∙ told.1 (first_same x (f y) (drop (suc i) xs) (map f (drop (suc i) ys)) (here e)))

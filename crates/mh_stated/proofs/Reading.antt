@@ -5,8 +5,8 @@ use Rattle.std.proofs.lemmas.List.{map-append, length-append}
 use Rattle.std.proofs.lemmas.Option.{slice_get_within}
 use Rattle.std.proofs.lemmas.Bool.{cases_lt}
 use Rattle.mh_grammar.specs.Edges.{IsRising}
-use Rattle.mh_grammar.proofs.Lists.{contains_here, contains_there, contains_cases, contains_none, at_contains, contains_at, get_last, same_at, taken, split_at, recursion_contains, recursion-push, rising-push, rising_at}
-use Rattle.mh_valid.proofs.OneKernel.{first_of, rest_of, none_cons}
+use Rattle.mh_grammar.proofs.Lists.{contains_here, contains_there, contains_cases, contains_none, at_contains, contains_at, get_last, same_at, taken, split_at, recursion_contains, recursion-push, rising-push, rising_at, first_same}
+use Rattle.mh_valid.proofs.OneKernel.{rest_of, none_cons}
 use Rattle.mh_stated.specs.Looking.{AreRead, IsLast}
 
 module _ {X N : Type 0} (raw_of : X → N) (Is : X → Type 0) (R : X → X → Type 0) where
@@ -25,10 +25,10 @@ module _ {X N : Type 0} (raw_of : X → N) (Is : X → Type 0) (R : X → X → 
     ahead : (front ys : List X) (raw : N) (rest : List N) → AllByRecursion Is front → AllByRecursion Is ys → IsRising R ys → map raw_of front ++ raw ∷ rest ≡ map raw_of ys
         → (y : X) × Contains ys y × Is y × (raw ≡ raw_of y) × ((z : X) → Contains front z → R z y)
     ahead [] [] raw rest f a r e = absurd (none_cons raw rest (sym e))
-    ahead [] (y ∷ ys) raw rest f a r e = (y, contains_here y ys, a.0, first_of raw (raw_of y) rest (map raw_of ys) e, λ z c. absurd (contains_none z c))
+    ahead [] (y ∷ ys) raw rest f a r e = (y, contains_here y ys, a.0, first_same raw (raw_of y) rest (map raw_of ys) e, λ z c. absurd (contains_none z c))
     ahead (x ∷ front) [] raw rest f a r e = absurd (none_cons (raw_of x) (map raw_of front ++ raw ∷ rest) (sym e))
     ahead (x ∷ front) (y ∷ ys) raw rest f a r e =
-        let same : x ≡ y = one x y f.0 a.0 (first_of (raw_of x) (raw_of y) (map raw_of front ++ raw ∷ rest) (map raw_of ys) e) in
+        let same : x ≡ y = one x y f.0 a.0 (first_same (raw_of x) (raw_of y) (map raw_of front ++ raw ∷ rest) (map raw_of ys) e) in
         let (w, c, is, s, behind) = ahead front ys raw rest f.1 a.1 r.1 (rest_of (raw_of x) (raw_of y) (map raw_of front ++ raw ∷ rest) (map raw_of ys) e) in
         let first : R x w = subst (λ k. R k w) (sym same) (recursion_contains (R y) ys r.0 w c) in
         (w, contains_there y ys w c, is, s, λ z d. elim (contains_cases x front z d) [ inl at ↦ subst (λ k. R k w) at first | inr there ↦ behind z there ])

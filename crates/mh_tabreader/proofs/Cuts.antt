@@ -4,7 +4,7 @@ use Rattle.std.specs.List.{AllByRecursion, slice_split, onto_first, join_with_by
 use Rattle.std.proofs.lemmas.Grind.{flat_map-append}
 use Rattle.std.proofs.lemmas.List.{length-map, map_push}
 use Rattle.std.proofs.lemmas.List.Splits.{join_with_byte-slice_split}
-use Rattle.mh_grammar.proofs.Lists.{recursion-weaker}
+use Rattle.mh_grammar.proofs.Lists.{recursion-weaker, some_length}
 use Rattle.mh_cells.specs.declared.kinds.Mode.{Mode}
 use Rattle.mh_tabform.specs.declared.types.RawTable.{RawTable}
 use Rattle.mh_cells.specs.Names.{mode_name}
@@ -177,10 +177,6 @@ short_by false x (part ∷ parts) n h = omega (arith, h)
 short : {X : Type 0} (p : X → Bool) (xs : List X) → length (slice_split p xs) ≤ length xs + 1
 short p [] = omega arith
 short p (x ∷ xs) = omega (arith, short_by (p x) x (slice_split p xs) (length xs + 1) (short p xs))
-
-some_length : {X : Type 0} (xs : List X) → xs ≢ [] → 0 < length xs
-some_length [] h = absurd (h refl)
-some_length (x ∷ xs) h = omega arith
 
 pub parts_some : (bytes : List ℕ) (parts : List (Bor (List ℕ))) → seen parts ≡ slice_split (λ b. b == 10) bytes → 0 < length parts
 parts_some bytes parts e = omega (arith, sym (length-map parts (λ x. x.now)) ∙ ap length e, some_length (slice_split (λ b. b == 10) bytes) (split_some (λ b. b == 10) bytes))

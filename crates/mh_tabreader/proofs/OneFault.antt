@@ -9,12 +9,9 @@ use Rattle.mh_tabform.specs.Form.{Line, line_text, Spells, Begins}
 use Rattle.mh_tabreader.specs.code.Lines.{words_of}
 use Rattle.std.proofs.lemmas.Bool.{cases_lt}
 use Rattle.std.proofs.lemmas.List.{same_from_push}
+use Rattle.mh_grammar.proofs.Lists.{some_length, map_some}
 use Rattle.mh_tabreader.proofs.Cuts.{split_some}
-use Rattle.mh_tabreader.proofs.Only.{map_some, not_line, view, view_again, view_whole}
-some_length : {X : Type 0} (xs : List X) → xs ≢ [] → 0 < length xs
-some_length [] n = absurd (n refl)
-some_length (x ∷ xs) n = omega arith
-
+use Rattle.mh_tabreader.proofs.Only.{not_line, view, view_again, view_whole}
 longer : {X : Type 0} (xs ys zs ts : List X) (x : X) → ys ++ x ∷ zs ≡ xs ++ ts → length ys < length xs → (more : List X) × (xs ≡ (ys ++ x ∷ []) ++ more)
 longer [] ys zs ts x e lt = absurd (omega (arith, lt))
 longer (a ∷ aa) [] zs ts x e lt = (aa, (let same : x ≡ a = cc in ap (λ k. k ∷ aa) (sym same)))

@@ -3,7 +3,7 @@ use Rattle.std.proofs.Common.{inl, inr, ◌⊎◌, ◌≡◌, ◌≢◌, ◌+◌
 use Rattle.std.specs.List.{AllByRecursion, slice_split, join_with_byte}
 use Rattle.std.proofs.lemmas.List.Elements.{All-from_recursion}
 use Rattle.std.proofs.lemmas.List.Splits.{slice_split_at, slice_split_none, join_with_byte-slice_split}
-use Rattle.mh_grammar.proofs.Lists.{recursion-append}
+use Rattle.mh_grammar.proofs.Lists.{recursion-append, first_same, map_some}
 use Rattle.mh_tabform.specs.declared.types.RawTable.{RawTable}
 use Rattle.mh_tabreader.specs.declared.reading.TabFault.{TabFault}
 use Rattle.mh_tabreader.specs.declared.reading.TabFault.TheVariants as faults
@@ -64,10 +64,6 @@ front_of (a ∷ aa) (y ∷ ys) zs e x h n =
     let k = front_of aa ys zs e x rest n in
     (k.0, ap (λ l. l ∷ aa) same ∙ ap (λ l. y ∷ l) k.1)
 
-pub map_some : {X Y : Type 0} (f : X → Y) (xs : List X) → xs ≢ [] → map f xs ≢ []
-map_some f [] n e = n refl
-map_some f (x ∷ xs) n e = cc
-
 pub not_line : (last : List ℕ) → AllByRecursion (λ b. b ≢ 10) last → AllByRecursion (λ b. (b == 10) ≡ false) last
 not_line [] h = tt
 not_line (b ∷ bs) (h, hs) = (ne_eqb b 10 h, not_line bs hs)
@@ -92,9 +88,6 @@ no_bad bytes raw n f (IsBadLine.early lines e hl b never k) =
 
 other_line : (n : ℕ) (m : Mode) → n < 2 ^ 32 → IsLine (head_line n m)
 other_line n m small = ((λ e. cc), (plain (codes "menhir-tables") refl, (number_plain n small, (mode_plain m, tt))))
-
-first_same : (x y : Line) (xs ys : List Line) → x ∷ xs ≡ y ∷ ys → x ≡ y
-first_same x y xs ys e = cc
 
 second_same : (a b c d : List ℕ) (xs ys : Line) → a ∷ b ∷ xs ≡ c ∷ d ∷ ys → b ≡ d
 second_same a b c d xs ys e = cc

@@ -1,20 +1,13 @@
 -- A row of edges and what is found in it.
-use Rattle.std.proofs.Common.{◌≡◌, ℕ, List, [], ◌∷◌, Some, refl, sym, subst, inl, inr, arith}
-use Rattle.std.proofs.lemmas.Bool.{cases_Bool}
+use Rattle.std.proofs.Common.{◌≡◌, ℕ, List, [], ◌∷◌, Some, refl, sym, subst}
 use Rattle.std.specs.List.{Contains}
 use Rattle.mh_grammar.specs.declared.types.Symbol.{Symbol}
 use Rattle.mh_grammar.specs.declared.edges.Edge.{Edge}
-use Rattle.mh_grammar.specs.Edges.{IsRising, IsSymbolBefore, IsEdgeBefore, find_edge, same_symbol}
-use Rattle.mh_grammar.proofs.Lists.{cons_same, contains_there, at_contains, contains_map, map_contains, rising_same, recursion-from, recursion_contains}
-use Rattle.mh_grammar.proofs.EdgeOrder.{edge_found, same_is, symbol_never}
+use Rattle.mh_grammar.specs.Edges.{IsRising, IsSymbolBefore, IsEdgeBefore, find_edge}
+use Rattle.mh_grammar.proofs.Lists.{cons_same, at_contains, contains_map, map_contains, rising_same, recursion-from, recursion_contains}
+use Rattle.mh_grammar.proofs.EdgeOrder.{edge_found, symbol_never, found_in}
 use Rattle.mh_kernels.specs.Collection.{edge_symbols, targets_of}
 
-pub found_in : (es : List Edge) (x : Symbol) (u : ℕ) → find_edge es x ≡ Some u → Contains es (record { symbol = x; target = u })
-found_in [] x u h = cc
-found_in (e ∷ es) x u h = elim (cases_Bool (same_symbol e.symbol x)) [
-  | inl same ↦ (let on : e.symbol ≡ x = same_is e.symbol x same in let h2 : Some e.target ≡ Some u = rw same at h in let to : e.target ≡ u = cc in
-      let whole : e ≡ record { symbol = x; target = u } = (let both : record { symbol = e.symbol; target = e.target } ≡ record { symbol = x; target = u } = rw (on, to) refl in both) in (0, omega arith, whole))
-  | inr other ↦ contains_there e es (record { symbol = x; target = u }) (found_in es x u (rw other at h))
 ]
 
 -- the symbols rise where the edges do

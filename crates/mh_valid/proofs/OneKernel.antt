@@ -1,6 +1,7 @@
 -- A file spells one kernel for each state.
 use Rattle.std.proofs.Common.{◌≡◌, ℕ, List, [], ◌∷◌, map, length, refl, sym, ap, ◌∙◌}
 use Rattle.std.specs.List.{AllByRecursion}
+use Rattle.mh_grammar.proofs.Lists.{first_same}
 use Rattle.mh_grammar.specs.declared.types.Look.{Look}
 use Rattle.mh_grammar.specs.declared.types.Look.TheVariants.{Token, End}
 use Rattle.mh_grammar.specs.declared.types.Grammar.{Grammar}
@@ -20,10 +21,7 @@ same_look g n (Token y) End h k e = absurd (n.no_end y h e)
 same_look g n End (Token z) h k e = absurd (n.no_end z k (sym e))
 same_look g n End End h k e = refl
 
--- lists that are one have one first item and one rest
-pub first_of : {X : Type 0} (x y : X) (xs ys : List X) → x ∷ xs ≡ y ∷ ys → x ≡ y
-first_of x y xs ys e = cc
-
+-- lists that are one have one rest
 pub rest_of : {X : Type 0} (x y : X) (xs ys : List X) → x ∷ xs ≡ y ∷ ys → xs ≡ ys
 rest_of x y xs ys e = cc
 
@@ -35,7 +33,7 @@ same_looks g n [] [] h k e = refl
 same_looks g n [] (m ∷ ms) h k e = absurd (none_cons (look_name g m) (map (look_name g) ms) e)
 same_looks g n (l ∷ ls) [] h k e = absurd (none_cons (look_name g l) (map (look_name g) ls) (sym e))
 same_looks g n (l ∷ ls) (m ∷ ms) (h, hs) (k, ks) e =
-    ap (λ x. x ∷ ls) (same_look g n l m h k (first_of (look_name g l) (look_name g m) (map (look_name g) ls) (map (look_name g) ms) e))
+    ap (λ x. x ∷ ls) (same_look g n l m h k (first_same (look_name g l) (look_name g m) (map (look_name g) ls) (map (look_name g) ms) e))
     ∙ ap (λ xs. m ∷ xs) (same_looks g n ls ms hs ks (rest_of (look_name g l) (look_name g m) (map (look_name g) ls) (map (look_name g) ms) e))
 
 pub same_item : (g : Grammar) → AreNamesApart g → (i j : KernelItem) → IsKernelItem (plain_of g) i → IsKernelItem (plain_of g) j → raw_item g i ≡ raw_item g j → i ≡ j
@@ -50,7 +48,7 @@ same_items g n [] [] h k e = refl
 same_items g n [] (j ∷ js) h k e = absurd (none_cons (raw_item g j) (map (raw_item g) js) e)
 same_items g n (i ∷ is) [] h k e = absurd (none_cons (raw_item g i) (map (raw_item g) is) (sym e))
 same_items g n (i ∷ is) (j ∷ js) (h, hs) (k, ks) e =
-    ap (λ x. x ∷ is) (same_item g n i j h k (first_of (raw_item g i) (raw_item g j) (map (raw_item g) is) (map (raw_item g) js) e))
+    ap (λ x. x ∷ is) (same_item g n i j h k (first_same (raw_item g i) (raw_item g j) (map (raw_item g) is) (map (raw_item g) js) e))
     ∙ ap (λ xs. j ∷ xs) (same_items g n is js hs ks (rest_of (raw_item g i) (raw_item g j) (map (raw_item g) is) (map (raw_item g) js) e))
 
 pub kernel_is_one : (g : Grammar) → AreNamesApart g → (raw : RawTable) (s : ℕ) (k l : Kernel) → HasKernel g raw s k → HasKernel g raw s l → k ≡ l

@@ -1,5 +1,5 @@
 -- Edges of a state, one by one.
-use Rattle.std.proofs.Common.{◌≡◌, ℕ, zero, suc, ◌<◌, ◌-◌, nat_lt, List, [], ◌∷◌, Bool, true, false, cond, length, Some, None, Option, refl, arith}
+use Rattle.std.proofs.Common.{◌≡◌, ℕ, zero, suc, ◌<◌, ◌-◌, nat_lt, [], ◌∷◌, Bool, true, false, length, Some, None, Option, refl}
 use Rattle.std.specs.Prelude.{slice_get, slice_index, if◌then◌else◌}
 use Rattle.std.specs.Option.{option_map, unwrap_or}
 use Rattle.std.specs.List.{Contains}
@@ -8,28 +8,13 @@ use Rattle.mh_grammar.specs.declared.types.Production.{Production}
 use Rattle.mh_grammar.specs.declared.types.Symbol.{Symbol}
 use Rattle.mh_grammar.specs.declared.types.Symbol.TheVariants.{T, N}
 use Rattle.mh_grammar.specs.declared.edges.Edge.{Edge}
-use Rattle.mh_grammar.specs.Edges.{find_edge, same_symbol}
 use Rattle.mh_grammar.specs.Plain.{rhs_of, IsSymbolBelow, IsProductionBelow}
-use Rattle.mh_grammar.proofs.EdgeOrder.{edge_found, same_is}
+use Rattle.mh_grammar.proofs.EdgeOrder.{edge_found, found_in}
 use Rattle.mh_grammar.proofs.Lists.{at_contains, contains_at}
 use Rattle.mh_tables.specs.Table.{TableData, state_at, edge_of}
 use Rattle.mh_tables.specs.Facts.{Facts}
 use Rattle.mh_tables.specs.Run.{Shifts, move_of}
 use Rattle.mh_tables.proofs.Reductions.{shifts_from_move}
-
-pub found_in : (es : List Edge) (x : Symbol) (u : ℕ) → find_edge es x ≡ Some u → Contains es (record { symbol = x; target = u })
-found_in [] x u e = absurd (let y : None ≡ Some u = e in cc)
-found_in (d ∷ es) x u e = by (same_symbol d.symbol x) refl e (λ h. found_in es x u h)
-  where
-    by : (b : Bool) → same_symbol d.symbol x ≡ b → cond b (Some d.target) (find_edge es x) ≡ Some u → (find_edge es x ≡ Some u → Contains es (record { symbol = x; target = u })) → Contains (d ∷ es) (record { symbol = x; target = u })
-    by true s h on =
-        let sx : d.symbol ≡ x = same_is d.symbol x s in
-        let tu : d.target ≡ u = (let y : Some d.target ≡ Some u = h in cc) in
-        let a : Edge = record { symbol = d.symbol; target = d.target } in
-        let b : Edge = record { symbol = x; target = u } in
-        let whole : a ≡ b = rw (sx, tu) refl in
-        (0, omega arith, whole)
-    by false s h on = let r = on h in (suc r.0, (let l = r.1 in omega arith), r.2)
 
 -- each edge of a state leads where it says
 pub edge_leads : (t : TableData) (f : Facts t) (s : ℕ) (e : Edge) → Contains (state_at t s).edges e → edge_of t s e.symbol ≡ Some e.target

@@ -7,7 +7,7 @@ use Rattle.std.proofs.lemmas.Option.{slice_get_within}
 use Rattle.std.proofs.lemmas.List.Elements.{Contains-append_left}
 use Rattle.indexmap.specs.IndexSet.{insert_key}
 use Rattle.indexmap.proofs.CallerLemmas.{Contains-list_any}
-use Rattle.mh_grammar.proofs.Lists.{get_cases, get_left, get_last, same_at, has_place, contains_at, at_contains, contains_last, contains_push, contains_none}
+use Rattle.mh_grammar.proofs.Lists.{get_cases, get_left, get_last, same_at, has_place, contains_at, at_contains, contains_last, contains_push, contains_none, below_next}
 use Rattle.mh_words.specs.contracts.made.MadePartialEq.TheImpl.{ghosts}
 use Rattle.mh_words.specs.declared.made.Made.{Made}
 use Rattle.mh_words.specs.declared.made.Entry.{Entry}
@@ -16,12 +16,6 @@ use Rattle.mh_words.specs.Words.{Words, Before, spelled, words_of}
 use Rattle.mh_words.specs.Numbered.{AreEven, PutsOnce, IsEqual, IsRepeated, AddsNew, IsGiven, Gives, AreNumbers, number_in}
 use Rattle.mh_words.specs.Rising.{NoLater, Rises, Same}
 use Rattle.mh_words.proofs.Ordered.{before_after, apart_before}
-
-below_next : (i n : ℕ) → i < n + 1 → (i < n) ⊎ (i ≡ n)
-below_next zero zero lt = inr refl
-below_next zero (suc n) lt = inl (omega arith)
-below_next (suc i) zero lt = absurd (omega arith)
-below_next (suc i) (suc n) lt = elim (below_next i n (omega arith)) [ inl l ↦ inl (omega arith) | inr e ↦ inr (ap suc e) ]
 
 -- WORDS THAT ARE MADE ALIKE
 

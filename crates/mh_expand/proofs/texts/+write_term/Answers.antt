@@ -1,8 +1,9 @@
 use Rattle.std.proofs.Common.{◌≡◌, ◌<◌, ◌⊎◌, ◌∷◌, ◌++◌, [], take, length, get_or, arith, ap, inl, inr, refl, sym}
 use Rattle.std.proofs.lemmas.List.{take_at}
+use Rattle.mh_grammar.proofs.Lists.{take_few}
 use Rattle.mh_expand.specs.Terms.{text}
 use Rattle.mh_expand.specs.code.Sharing.{terms_of, term_at}
-use Rattle.mh_expand.proofs.Room.{take_within, IsWriting-start, IsWriting-arg, IsWriting-bare, IsWriting-end}
+use Rattle.mh_expand.proofs.Room.{IsWriting-start, IsWriting-arg, IsWriting-bare, IsWriting-end}
 use Rattle.mh_expand.proofs.texts.+write_term.Goals as goal
 use Rattle.mh_expand.proofs.texts.+write_term.Goals.{then-place-eq0, else-place-eq0}
 
@@ -31,7 +32,7 @@ pub loop-place-init : goal.loop-place-init
 loop-place-init t c = IsWriting-start c.args.joined.now c.args.room c.args.text.now.items c.write_head.new.text.items c.at-node.result.now.head c.in_ok-write_head.ensures
 
 pub write_bytes-requires : goal.write_bytes-requires
-write_bytes-requires t c = rw c.loop-place.invariant.text (take_within c.args.room _)
+write_bytes-requires t c = rw c.loop-place.invariant.text (take_few _ c.args.room)
 
 pub write_term-requires : goal.write_term-requires
 write_term-requires t c =
@@ -39,7 +40,7 @@ write_term-requires t c =
     let items = c.as_slice-arg-items.result.now in
     let inside : i < length c.at-node.result.now.args = omega (arith, ap length c.as_slice-arg-items.ensures) in
     let below : get_or items i 0 < c.args.number = rw c.as_slice-arg-items.ensures (c.at-node.ensures.below i 0 inside) in
-    (omega (arith, below, c.decreases), (omega (arith, below, c.requires.number), rw c.in_ok-write_bytes.ensures (take_within c.args.room _)))
+    (omega (arith, below, c.decreases), (omega (arith, below, c.requires.number), rw c.in_ok-write_bytes.ensures (take_few _ c.args.room)))
 
 pub returns-else-not-is_empty : goal.returns-else-not-is_empty
 returns-else-not-is_empty t c =

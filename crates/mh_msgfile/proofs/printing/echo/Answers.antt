@@ -1,8 +1,9 @@
 use Rattle.std.proofs.Common.{◌++◌, List, ap, ◌∙◌}
+use Rattle.mh_grammar.proofs.Lists.{left_at}
 use Rattle.mh_msgfile.specs.Printed.{sentence_lines}
 use Rattle.mh_msgfile.specs.declared.messages.MsgSentence.{MsgSentence}
 use Rattle.mh_msgfile.specs.declared.messages.Entry.{Entry}
-use Rattle.mh_msgfile.proofs.Writing.{left_at, written_next, written_all}
+use Rattle.mh_msgfile.proofs.Writing.{written_next, written_all}
 use Rattle.mh_msgfile.proofs.printing.echo.Goals as goal
 
 pub loop-entry-preserved : goal.loop-entry-preserved

@@ -1,5 +1,6 @@
+use Rattle.mh_grammar.proofs.Lists.{left_at}
 use Rattle.mh_msgfile.specs.Printed.{entry_text}
-use Rattle.mh_msgfile.proofs.Writing.{left_at, written_next, written_all}
+use Rattle.mh_msgfile.proofs.Writing.{written_next, written_all}
 use Rattle.mh_msgfile.proofs.printing.print_messages.Goals as goal
 
 pub loop-entry-preserved : goal.loop-entry-preserved

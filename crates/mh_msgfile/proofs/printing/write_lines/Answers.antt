@@ -1,5 +1,6 @@
+use Rattle.mh_grammar.proofs.Lists.{left_at}
 use Rattle.mh_msgfile.specs.Printed.{sentence_line}
-use Rattle.mh_msgfile.proofs.Writing.{left_at, written_next, written_all}
+use Rattle.mh_msgfile.proofs.Writing.{written_next, written_all}
 use Rattle.mh_msgfile.proofs.printing.write_lines.Goals as goal
 
 pub loop-sentence-preserved : goal.loop-sentence-preserved
