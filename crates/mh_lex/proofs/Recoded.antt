@@ -179,15 +179,12 @@ no_item s n lone i = lone (subst Starts (take-append-drop n s) (item_starts (tak
 no_comment : (s : List ℕ) → (Starts s → ⊥) → s ≡ 40 ∷ 42 ∷ drop 2 s → ⊥
 no_comment s lone q = lone (subst Starts (sym q) starts.comment)
 
-same_byte : {b c : ℕ} {s t : List ℕ} → b ∷ s ≡ c ∷ t → c ≡ b
-same_byte q = cc
-
 byte_passes : {nest : Option ℕ} {close : List ℕ} {f : Step} (b : ℕ) (s : List ℕ) → (Starts (b ∷ s) → ⊥) → Reading nest close (b ∷ s) f → nest ≢ Some b → ((behind : List ℕ) → b ∷ s ≡ close ++ behind → ⊥) →
     f ≡ Passes 1
 byte_passes b s lone (readings.ends {n = n} q) o open_still = absurd (open_still (drop n (b ∷ s)) q)
 byte_passes b s lone (readings.goes {n = n} i) o open_still = absurd (no_item (b ∷ s) n lone i)
 byte_passes b s lone (readings.comes q) o open_still = absurd (no_comment (b ∷ s) lone q)
-byte_passes b s lone (readings.begins c n q k) o open_still = absurd (o (n ∙ ap Some (same_byte q)))
+byte_passes b s lone (readings.begins c n q k) o open_still = absurd (let one : c ≡ b = ap (λ l. byte_at l 0) (sym q) in o (n ∙ ap Some one))
 byte_passes b s lone (readings.goes_by c p q k m) o open_still = refl
 byte_passes b s lone (readings.stays f) o open_still = absurd (f (λ e. cc) lone)
 
@@ -197,7 +194,7 @@ byte_nests b s lone (readings.ends {n = n} q) o open_still = absurd (open_still 
 byte_nests b s lone (readings.goes {n = n} i) o open_still = absurd (no_item (b ∷ s) n lone i)
 byte_nests b s lone (readings.comes q) o open_still = absurd (no_comment (b ∷ s) lone q)
 byte_nests b s lone (readings.begins c n q k) o open_still = refl
-byte_nests b s lone (readings.goes_by c p q k m) o open_still = absurd (p (o ∙ ap Some (sym (same_byte q))))
+byte_nests b s lone (readings.goes_by c p q k m) o open_still = absurd (let one : b ≡ c = ap (λ l. byte_at l 0) q in p (o ∙ ap Some one))
 byte_nests b s lone (readings.stays f) o open_still = absurd (f (λ e. cc) lone)
 
 -- what nests closes nothing

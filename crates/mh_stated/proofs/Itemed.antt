@@ -143,10 +143,6 @@ one_look g n name l m h k = same_look g n l m h.below k.below (sym h.named ∙ k
 pub one_item : (g : Grammar) → AreNamesApart g → (raw : RawItem) (i j : KernelItem) → IsItemOf g raw i → IsItemOf g raw j → i ≡ j
 one_item g n raw i j h k = same_item g n i j h.kept k.kept (sym h.spelled ∙ k.spelled)
 
-pub some_length : {X : Type 0} (xs : List X) → (xs ≡ [] → ⊥) → 0 < length xs
-some_length [] h = absurd (h refl)
-some_length (x ∷ xs) h = omega arith
-
 pub some_count : (n : ℕ) → (n == 0) ≡ false → 0 < n
 some_count zero h = cc
 some_count (suc n) h = omega arith

@@ -1,5 +1,6 @@
 use Rattle.std.proofs.Common.{sym, ◌∙◌, true≢false}
-use Rattle.mh_stated.proofs.Itemed.{item_place, item_from, some_length}
+use Rattle.mh_grammar.proofs.Lists.{some_length}
+use Rattle.mh_stated.proofs.Itemed.{item_place, item_from}
 use Rattle.mh_stated.proofs.items.item_of.Goals as goal
 
 pub returns-then-not-is_place : goal.returns-then-not-is_place
