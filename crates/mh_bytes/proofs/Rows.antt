@@ -11,6 +11,7 @@ use Rattle.mh_bytes.specs.declared.keywords.Keyword.TheVariants.{Token, Start, �
 use Rattle.mh_bytes.specs.declared.keywords.Row.{Row}
 use Rattle.mh_bytes.specs.Keywords.{keywords, keyword_among, keyword_named, is_keyword}
 use Rattle.mh_bytes.specs.Words.{is_word}
+
 -- each is a word
 word_among : (rows : List (Row (List ℕ))) (w : List ℕ) → list_all (λ row. is_word row.word) rows ≡ true → is_some (keyword_among rows w) ≡ true → is_word w ≡ true
 word_among [] w all h = absurd (cc)

@@ -16,6 +16,7 @@ use Rattle.mh_meanings.specs.Faults.{first, unless, repeats, own_name, own_names
 use Rattle.mh_duplicates.specs.Once.{PutsOwn}
 use Rattle.mh_meanings.proofs.Lists.{flat_more}
 use Rattle.mh_meanings.proofs.Finding.{IsFirst}
+
 -- the set has these names, of which none repeats; the rest is to come
 pub record Seen (keys done rest all : List Text) : Type 0 where
   pub has : (x : Text) → list_any (same x) keys ≡ list_any (same x) done

@@ -15,6 +15,7 @@ use Rattle.mh_grammar.proofs.Lists.{contains_here, contains_cases, recursion_con
 use Rattle.mh_sets.proofs.Members.{Has, one_set}
 use Rattle.mh_sets.proofs.Places.{no_bits}
 use Rattle.mh_sets.proofs.Views.{member_sound, member_complete, is_set, rises, grown, words_same}
+
 -- ---- bools
 
 of_not : (t : Bool) → not t ≡ true → t ≡ true → ⊥

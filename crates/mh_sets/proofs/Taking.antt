@@ -11,6 +11,7 @@ use Rattle.mh_grammar.proofs.Lists.{contains_here, contains_there, contains_case
 use Rattle.mh_sets.proofs.Members.{Has, one_set}
 use Rattle.mh_sets.proofs.Views.{member_sound, member_complete, rises}
 use Rattle.mh_sets.proofs.Calls.{held, holds, rise_is}
+
 gone : (a c : ℕ) (t u : Bool) → u ≡ (if a == c then false else t) → u ≡ true → (t ≡ true) × (a ≡ c → ⊥)
 gone a c t u e h = elim (cases_eq a c) [
   | inl same ↦ absurd (let one = (Decides-eqb a c).1 same in let f : u ≡ false = e ∙ ap (λ (b : Bool). if b then false else t) one in both_ways u f h)

@@ -2,6 +2,7 @@
 use Rattle.std.proofs.Common.{◌≡◌, ◌↔◌, ◌<◌, ◌≤◌, ◌+◌, ℕ, suc, Bool, true, false, true≢false, IsTrue, List, [], ◌∷◌, map, length, drop, drop-cons, drop_of_length-le, get_or, refl, sym, ap, ◌∙◌, subst, arith}
 use Rattle.mh_grammar.proofs.Lists.{first_same}
 use Rattle.mh_valid.proofs.OneKernel.{rest_of}
+
 module _ {A B : Type 0} (f : B → A) (xs : List A) (ys : List B) (i : ℕ) where
   pub mapped_all : length xs ≤ i → length xs ≡ length ys → ((drop i xs ≡ map f (drop i ys)) ↔ (xs ≡ map f ys)) → IsTrue true ↔ (xs ≡ map f ys)
   mapped_all past same rest =

@@ -12,6 +12,7 @@ use Rattle.std.proofs.lemmas.List.{same_from_push}
 use Rattle.mh_grammar.proofs.Lists.{some_length, map_some}
 use Rattle.mh_tabreader.proofs.Cuts.{split_some}
 use Rattle.mh_tabreader.proofs.Only.{not_line, view, view_again, view_whole}
+
 longer : {X : Type 0} (xs ys zs ts : List X) (x : X) → ys ++ x ∷ zs ≡ xs ++ ts → length ys < length xs → (more : List X) × (xs ≡ (ys ++ x ∷ []) ++ more)
 longer [] ys zs ts x e lt = absurd (omega (arith, lt))
 longer (a ∷ aa) [] zs ts x e lt = (aa, (let same : x ≡ a = cc in ap (λ k. k ∷ aa) (sym same)))

@@ -8,6 +8,7 @@ use Rattle.mh_facts.specs.Stored.{Facts, same_fact}
 use Rattle.mh_facts.proofs.Storing.{same_fact_is}
 use Rattle.mh_ways.specs.Tales.{with_size, sizes_of}
 use Rattle.mh_ways.proofs.Keyed.{AreKeys}
+
 number_same : (n : ℕ) → nat_eq n n ≡ true
 number_same n = grind (arith, common_steps)
 
