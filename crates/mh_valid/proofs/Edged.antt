@@ -8,8 +8,6 @@ use Rattle.mh_grammar.proofs.Lists.{cons_same, at_contains, contains_map, map_co
 use Rattle.mh_grammar.proofs.EdgeOrder.{edge_found, symbol_never, found_in}
 use Rattle.mh_kernels.specs.Collection.{edge_symbols, targets_of}
 
-]
-
 -- the symbols rise where the edges do
 pub symbols_rise : (es : List Edge) → IsRising IsEdgeBefore es → IsRising IsSymbolBefore (edge_symbols es)
 symbols_rise [] h = tt
