@@ -2,10 +2,9 @@
 #![tactic(auto)]
 
 ghost use Rattle.std.specs.Process.{exit_status};
-ghost use Rattle.mh_saying.specs.LastLine.{SaysLine};
+ghost use Rattle.mh_top_warnings.specs.LastLine.{SaysLine};
 
-use mh_devices::{FileShelf, StdSink, StdSource};
-use mh_outside::{Sink, write_whole};
+use mh_outside::{FileShelf, Sink, StdSink, StdSource, write_whole};
 use mh_top::{run, status};
 use std::env;
 use std::io::ErrorKind;

@@ -2,9 +2,9 @@
 use Rattle.std.specs.Prelude.{◌≡◌, ℕ, List, Some, slice_get}
 use Rattle.mh_grammar.specs.declared.edges.Edge.{Edge}
 use Rattle.mh_grammar.specs.Plain.{PlainGrammar}
-use Rattle.mh_kernels.specs.Shapes.{Items, Kernel}
-use Rattle.mh_moves.specs.Moves.{Move, AreMoves, AreMovesOf, symbols_of}
-use Rattle.mh_knuth.specs.Found.{AreEdges}
+use Rattle.mh_items_kernels.specs.Shapes.{Items, Kernel}
+use Rattle.mh_items.specs.Moves.{Move, AreMoves, AreMovesOf, symbols_of}
+use Rattle.mh_canon_states.specs.Found.{AreEdges}
 
 -- all moves were placed, whatever closure they are of
 abbrev pub PlacesAll : PlainGrammar → List Move → List Kernel → List Kernel → List Edge → Type 0

@@ -1,22 +1,20 @@
 //! How the canonical collection is made: the moves of each state in turn, whose new kernels are put behind the others.
 ghost use Rattle.std.specs.Prelude.{◌≡◌, ◌<◌, ◌≤◌, ◌*◌, ℕ, [], length, Err, IfOk, OnOk};
 ghost use Rattle.mh_grammar.specs.Plain.{plain_of, IsInRange};
-ghost use Rattle.mh_kernels.specs.Automaton.{IsAutomaton};
-ghost use Rattle.mh_knuth.specs.Canonical.{IsCanonical, IsOver};
-ghost use Rattle.mh_kernels.specs.Shapes.{Kernel as KernelOf};
-ghost use Rattle.mh_kernels.specs.Collection.{AreStarts};
-ghost use Rattle.mh_moves.specs.Moves.{AreMoves};
-ghost use Rattle.mh_mover.specs.Mover.{IsMover};
-ghost use Rattle.mh_knuth.specs.Found.{IsSource, AreStates};
+ghost use Rattle.mh_items_kernels.specs.Automaton.{IsAutomaton};
+ghost use Rattle.mh_canon_states.specs.Canonical.{IsCanonical, IsOver};
+ghost use Rattle.mh_items_kernels.specs.Shapes.{Kernel as KernelOf};
+ghost use Rattle.mh_items_kernels.specs.Collection.{AreStarts};
+ghost use Rattle.mh_items.specs.Moves.{AreMoves};
+ghost use Rattle.mh_items.specs.Mover.{IsMover};
+ghost use Rattle.mh_canon_states.specs.Found.{IsSource, AreStates};
 ghost use Rattle.mh_canon.specs.Placed.{PlacesAll, HasEdges};
 
 use crate::met::Kernels;
+use mh_canon_states::{MAX_STATES, Met, automaton_of, place};
 use mh_grammar::{Edge, Grammar, Sequence};
-use mh_kernels::{Automaton, StatesFault, start_kernel};
-use mh_knuth::MAX_STATES;
-use mh_mover::Mover;
-use mh_moves::Move;
-use mh_states::{Met, automaton_of, place};
+use mh_items::{Move, Mover};
+use mh_items_kernels::{Automaton, StatesFault, start_kernel};
 use std::alloc::Global;
 
 /// The canonical LR(1) automaton of a grammar (Knuth 1965): the start kernels in order, and then what breadth-first

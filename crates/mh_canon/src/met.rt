@@ -3,8 +3,8 @@ ghost use Rattle.std.specs.Prelude.{◌≡◌, ◌≤◌, [], IfOk};
 ghost use Rattle.mh_grammar.specs.Placed.{Placed};
 
 use indexmap::IndexSet;
-use mh_kernels::Kernel;
-use mh_states::Met;
+use mh_canon_states::Met;
+use mh_items_kernels::Kernel;
 use std::alloc::{AllocError, AllocFailed, Global};
 
 /// The kernels that were met, by their numbers.

@@ -1,10 +1,10 @@
 //! The canonical automaton of a grammar is the only one.
 ghost use Rattle.std.specs.Prelude.{◌≡◌};
 ghost use Rattle.mh_grammar.specs.Plain.{plain_of};
-ghost use Rattle.mh_knuth.specs.Canonical.{IsCanonical};
+ghost use Rattle.mh_canon_states.specs.Canonical.{IsCanonical};
 
 use mh_grammar::Grammar;
-use mh_kernels::Automaton;
+use mh_items_kernels::Automaton;
 
 /// Two canonical automata of one grammar are one, with the same numbers and the same order of edges, whatever the widths of their sets.
 pub fn is_one_automaton<const V: usize, const W: usize>(

@@ -1,13 +1,13 @@
 //! The catalogue of a table, by both searches of it.
 ghost use Rattle.std.specs.Prelude.{◌≡◌, ℕ, Err, IfOk};
-ghost use Rattle.mh_tables.specs.Failing.{Catalogue, TooLongAt};
-ghost use Rattle.mh_rows.specs.Rows.{rows_of, AreShort};
+ghost use Rattle.mh_tables_core.specs.Failing.{Catalogue, TooLongAt};
+ghost use Rattle.mh_catalogue_rows.specs.Rows.{rows_of, AreShort};
 
-use mh_failing::all_rows;
+use crate::gathering::all_rows;
+use mh_catalogue_rows::{CatalogueFault, Row};
 use mh_grammar::Memory;
 use mh_reach::reach;
-use mh_rows::{CatalogueFault, Row};
-use mh_tables::Halting;
+use mh_tables_core::Halting;
 use std::alloc::Global;
 
 /// The catalogue of a table: a row for each state in which some sentence fails, rising, with the sentence that fails there first. `TooLong` is

@@ -7,11 +7,11 @@ use Rattle.std.proofs.lemmas.List.{map-append, length-set, length-replicate}
 use Rattle.std.proofs.lemmas.Option.{slice_get-get_or}
 use Rattle.std.proofs.lemmas.List.Elements.{recursion_from_All}
 use Rattle.mh_grammar.proofs.Lists.{recursion-append}
-use Rattle.mh_tables.specs.Table.{TableData}
-use Rattle.mh_tables.specs.Halting.{HaltingFacts}
-use Rattle.mh_tables.specs.Run.{Ending, VerdictOf, Accepted, Overshot, Rejected}
-use Rattle.mh_tables.proofs.Ending.{has_verdict}
-use Rattle.mh_tables.proofs.Cut.{verdict_cut}
+use Rattle.mh_tables_core.specs.Table.{TableData}
+use Rattle.mh_tables_core.specs.Halting.{HaltingFacts}
+use Rattle.mh_tables_core.specs.Run.{Ending, VerdictOf, Accepted, Overshot, Rejected}
+use Rattle.mh_tables_core.proofs.Ending.{has_verdict}
+use Rattle.mh_tables_core.proofs.Cut.{verdict_cut}
 use Rattle.mh_msgfile.specs.declared.messages.MsgSentence.{MsgSentence}
 use Rattle.mh_msgfile.specs.declared.messages.Entry.{Entry}
 use Rattle.mh_msgfile.specs.declared.messages.MsgFile.{MsgFile}
@@ -19,7 +19,7 @@ use Rattle.mh_msgfile.specs.Messages.{IsOf, AreOf}
 use Rattle.mh_check.specs.declared.places.SentencePlace.{SentencePlace}
 use Rattle.mh_check.specs.Checks.{FailsIn, FaultFound, NotRefusedAt, RefusedEarlyAt, SharedBy, Accepts, Overshoots, Breaks, NotRefused, RefusedEarly, FirstFault, sentences_of}
 use Rattle.mh_check.specs.Compiling.{Item, item, items_of, items_from, sentences_in, place_of, message_of_place, Placed, IsCompiled}
-use Rattle.mh_tables.proofs.Refusing.{state_refused}
+use Rattle.mh_tables_core.proofs.Refusing.{state_refused}
 use Rattle.mh_check.proofs.Placing.{placed_more, placed_replicate, shares, breaks, first_more}
 use Rattle.mh_check.proofs.Files.{is_compiled, sentences_are}
 

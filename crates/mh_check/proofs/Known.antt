@@ -1,8 +1,8 @@
 -- A sentence fails in one state at most.
 use Rattle.std.proofs.Common.{◌≡◌, ℕ, ◌-◌, length}
-use Rattle.mh_tables.specs.Table.{TableData}
-use Rattle.mh_tables.specs.Run.{initial, Rejected}
-use Rattle.mh_tables.proofs.Ending.{one_ending}
+use Rattle.mh_tables_core.specs.Table.{TableData}
+use Rattle.mh_tables_core.specs.Run.{initial, Rejected}
+use Rattle.mh_tables_core.proofs.Ending.{one_ending}
 use Rattle.mh_msgfile.specs.declared.messages.MsgSentence.{MsgSentence}
 use Rattle.mh_check.specs.Checks.{FailsIn}
 

@@ -1,7 +1,7 @@
 -- The states that a second file lacks, one after another.
 use Rattle.std.proofs.Common.{◌≡◌, ◌+◌, ◌-◌, ◌<◌, ◌≤◌, ℕ, suc, Bool, true, false, List, [], ◌∷◌, ◌++◌, filter, Option, length, refl, sym, ap, ap₂, ◌∙◌, arith, append_assoc, append-nil}
 use Rattle.std.specs.Prelude.{Result, Ok, Err, OnOk, is_some}
-use Rattle.mh_bystate.specs.Lacking.{lacking}
+use Rattle.mh_grammar_texts.specs.Lacking.{lacking}
 use Rattle.mh_check.specs.Compiling.{message_at, numbers_from, is_missing, missing}
 
 numbers_step : (n p : ℕ) → p < n → numbers_from p (n - p) ≡ p ∷ numbers_from (p + 1) (n - (p + 1))

@@ -4,9 +4,9 @@ use Rattle.std.specs.List.{slice_get}
 use Rattle.std.proofs.lemmas.Option.{slice_get_within}
 use Rattle.std.proofs.lemmas.List.Elements.{Contains-append_right}
 use Rattle.mh_grammar.proofs.Lists.{at_contains, get_left, contains_here, get_behind}
-use Rattle.mh_tables.specs.Table.{TableData}
-use Rattle.mh_tables.specs.Run.{Ending, Rejected}
-use Rattle.mh_tables.proofs.OneTreeEnding.{one_verdict}
+use Rattle.mh_tables_core.specs.Table.{TableData}
+use Rattle.mh_tables_core.specs.Run.{Ending, Rejected}
+use Rattle.mh_tables_core.proofs.OneTreeEnding.{one_verdict}
 use Rattle.mh_msgfile.specs.declared.messages.MsgSentence.{MsgSentence}
 use Rattle.mh_msgfile.specs.declared.messages.MsgFile.{MsgFile}
 use Rattle.mh_check.specs.Checks.{FailsIn, Sound, FaultFound, NotRefusedAt, SharedBy, IsNoRefusal, Accepts, Overshoots, Breaks, NotRefused, RefusedEarly, Shared, FirstFault}

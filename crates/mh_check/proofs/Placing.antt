@@ -7,22 +7,22 @@ use Rattle.std.proofs.lemmas.List.{map-append, length-set, get_or-set_same, get_
 use Rattle.std.proofs.lemmas.Option.{slice_get-get_or, get_or_from_slice_get, slice_get_within, slice_get-map}
 use Rattle.mh_grammar.proofs.Lists.{get_cases, contains_push, contains_none, contains_last, contains_at, at_contains}
 use Rattle.std.proofs.lemmas.List.Elements.{Contains-append_left, recursion_from_All}
-use Rattle.mh_tables.specs.Table.{TableData}
-use Rattle.mh_tables.specs.Run.{VerdictOf, Rejected}
+use Rattle.mh_tables_core.specs.Table.{TableData}
+use Rattle.mh_tables_core.specs.Run.{VerdictOf, Rejected}
 use Rattle.mh_msgfile.specs.declared.messages.MsgSentence.{MsgSentence}
-use Rattle.mh_bystate.specs.Places.{PutsOnce}
+use Rattle.mh_grammar_texts.specs.Places.{PutsOnce}
 use Rattle.mh_check.specs.declared.places.SentencePlace.{SentencePlace}
 use Rattle.mh_check.specs.declared.compiling.CheckFault.{CheckFault}
 use Rattle.mh_check.specs.declared.compiling.CheckFault.TheVariants as faults
-use Rattle.mh_tables.specs.Facts.{Facts}
-use Rattle.mh_tables.proofs.Cut.{verdict_cut}
+use Rattle.mh_tables_core.specs.Facts.{Facts}
+use Rattle.mh_tables_core.proofs.Cut.{verdict_cut}
 use Rattle.mh_run.specs.Verdicts.{ending_for}
 use Rattle.mh_run.specs.declared.outcome.Verdict.{Verdict}
 use Rattle.mh_run.specs.declared.outcome.Verdict.TheVariants as verdicts
 use Rattle.mh_msgfile.specs.Messages.{IsOf}
 use Rattle.mh_check.specs.Checks.{FailsIn, Sound, FaultFound, NotRefusedAt, RefusedEarlyAt, SharedBy, IsNoRefusal, Accepts, Overshoots, Breaks, NotRefused, RefusedEarly, Shared, FirstFault}
 use Rattle.mh_check.specs.Compiling.{Item, sentences_in, place_of, Placed, Tells}
-use Rattle.mh_tables.proofs.Refusing.{state_refused}
+use Rattle.mh_tables_core.proofs.Refusing.{state_refused}
 use Rattle.mh_check.proofs.Known.{fails_once}
 
 -- a place of an item's sentence

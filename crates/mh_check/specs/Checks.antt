@@ -2,9 +2,9 @@
 -- manual (`--compile-errors`), and this project's profile.
 use Rattle.std.specs.Prelude.{◌≡◌, ℕ, ◌+◌, ◌<◌, List, ◌∷◌, ◌++◌, flat_map, length, slice_get, Some}
 use Rattle.std.specs.List.{Contains}
-use Rattle.mh_tables.specs.Table.{TableData}
-use Rattle.mh_tables.specs.Run.{VerdictOf, Ending, Accepted, Overshot, Rejected}
-use Rattle.mh_tables.specs.Failing.{Fails}
+use Rattle.mh_tables_core.specs.Table.{TableData}
+use Rattle.mh_tables_core.specs.Run.{VerdictOf, Ending, Accepted, Overshot, Rejected}
+use Rattle.mh_tables_core.specs.Failing.{Fails}
 use Rattle.mh_msgfile.specs.declared.messages.MsgSentence.{MsgSentence}
 use Rattle.mh_msgfile.specs.declared.messages.Entry.{Entry}
 use Rattle.mh_msgfile.specs.declared.messages.MsgFile.{MsgFile}

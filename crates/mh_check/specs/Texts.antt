@@ -1,6 +1,6 @@
 -- The texts of faults and of compiled messages (the wording is this project's own; the form of a line follows the Menhir manual).
 use Rattle.std.specs.Prelude.{ℕ, ◌+◌, List, [], ◌∷◌, ◌++◌, length, Option, None, Some, codes, decimal}
-use Rattle.mh_tables.specs.Run.{Ending, Accepted, Overshot, Rejected}
+use Rattle.mh_tables_core.specs.Run.{Ending, Accepted, Overshot, Rejected}
 use Rattle.mh_msgfile.specs.Messages.{FaultFound as FileFault, BadShape, NamesNoStartAt, LacksStartAt, NamesUnknownAt}
 use Rattle.mh_check.specs.Checks.{FaultFound, NotRefusedAt, RefusedEarlyAt, SharedBy}
 use Rattle.mh_grammar.specs.Text.{Text}

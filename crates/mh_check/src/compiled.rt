@@ -3,8 +3,8 @@ ghost use Rattle.std.specs.Prelude.{◌≡◌, ◌≤◌, ◌^◌, ◌∷◌, �
 ghost use Rattle.mh_check.specs.Compiling.{message_at, message_of_place, is_missing, missing};
 
 use crate::places::SentencePlace;
-use mh_bystate::{place_at, put_lacking};
 use mh_grammar::{Memory, Sequence};
+use mh_grammar_texts::{place_at, put_lacking};
 use std::alloc::Global;
 use std::marker::Model;
 

@@ -8,7 +8,7 @@ use crate::places::place_file;
 use mh_grammar::{Memory, Sequence};
 use mh_msgfile::{Entry, MsgFile};
 use mh_run::Verdict;
-use mh_tables::Halting;
+use mh_tables_core::Halting;
 use std::alloc::Global;
 
 /// Why a messages file does not fit a table: the fault of the first sentence, in order of lines, that breaks it.

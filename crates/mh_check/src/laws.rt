@@ -6,7 +6,7 @@ ghost use Rattle.mh_msgfile.specs.Messages.{AreOf};
 ghost use Rattle.mh_msgfile.specs.declared.messages.MsgSentence.{MsgSentence};
 ghost use Rattle.mh_msgfile.specs.declared.messages.MsgFile.{MsgFile};
 
-use mh_tables::Halting;
+use mh_tables_core::Halting;
 
 /// Sentences have one first fault or are sound, and not both; a file of the table's starts and tokens is compiled to one list of
 /// messages, or has a first fault.

@@ -7,11 +7,11 @@ ghost use Rattle.mh_check.specs.Checks.{Breaks, FailsIn};
 ghost use Rattle.mh_check.specs.Compiling.{Item, item, items_of, Placed, PlacesAll, PlacesMore, Tells, listed};
 
 use crate::compiling::CheckFault;
-use mh_bystate::{is_last, put_once};
 use mh_grammar::Memory;
+use mh_grammar_texts::{is_last, put_once};
 use mh_msgfile::{Entry, MsgSentence};
 use mh_run::{Verdict, verdict};
-use mh_tables::{Halting, Table};
+use mh_tables_core::{Halting, Table};
 use std::alloc::Global;
 
 /// Where the sentence stands that fails in a state.

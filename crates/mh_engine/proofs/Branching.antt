@@ -1,7 +1,7 @@
 -- Branches go on by one step and by one token.
 use Rattle.std.proofs.Common.{◌≡◌, ℕ, zero, suc, ◌+◌, ◌<◌, List, [], ◌∷◌, ◌++◌, refl, ap, sym, subst, arith, ◌∙◌}
 use Rattle.std.specs.Prelude.{Result, Ok, Err, IfOk}
-use Rattle.mh_tables.specs.Table.{TableData}
+use Rattle.mh_tables_core.specs.Table.{TableData}
 use Rattle.mh_engine.specs.Positions.{Position}
 use Rattle.mh_engine.specs.Phases.{phase_of, CanGoOn}
 use Rattle.mh_engine.specs.Steps.{begun, resumed, offered}

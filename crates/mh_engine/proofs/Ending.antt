@@ -1,24 +1,24 @@
 -- What was reached by checkpoints is how the run ends.
 use Rattle.std.proofs.Common.{◌≡◌, ℕ, zero, suc, ◌+◌, ◌-◌, ◌<◌, ◌≤◌, List, [], ◌∷◌, ◌++◌, length, Bool, true, false, refl, ap, sym, subst, arith, ◌∙◌, inl, inr, length-append, get_or}
 use Rattle.std.proofs.lemmas.Bool.{cases_lt}
-use Rattle.mh_tables.specs.Table.{TableData}
-use Rattle.mh_tables.specs.Facts.{Facts}
-use Rattle.mh_tables.specs.Run.{Config, Move, Accepts as Accepting, Asks, Refuses, Shifts, Reduces, move_of, top_of, initial, after, next_of, step, step_by, Ends, Ending, Accepted, Overshot, Rejected}
-use Rattle.mh_tables.specs.RunTrees.{grow, trees_after, Stands, yields}
-use Rattle.mh_tables.proofs.Ending.{step_moves}
-use Rattle.mh_tables.proofs.Trees.{stands_from_start}
+use Rattle.mh_tables_core.specs.Table.{TableData}
+use Rattle.mh_tables_core.specs.Facts.{Facts}
+use Rattle.mh_tables_core.specs.Run.{Config, Move, Accepts as Accepting, Asks, Refuses, Shifts, Reduces, move_of, top_of, initial, after, next_of, step, step_by, Ends, Ending, Accepted, Overshot, Rejected}
+use Rattle.mh_tables_core.specs.RunTrees.{grow, trees_after, Stands, yields}
+use Rattle.mh_tables_core.proofs.Ending.{step_moves}
+use Rattle.mh_tables_core.proofs.Trees.{stands_from_start}
 use Rattle.mh_grammar.specs.Trees.{SyntaxTree, Leaf}
 use Rattle.mh_engine.specs.code.Pairs.{Pairs}
 use Rattle.mh_engine.specs.Positions.{Position}
 use Rattle.mh_engine.specs.Phases.{next_move, phase_of, phase_by, phase_where}
 use Rattle.mh_engine.specs.Steps.{begun}
 use Rattle.mh_engine.specs.code.StepsOn.{after_steps}
-use Rattle.mh_tables.specs.Deep.{too_deep}
+use Rattle.mh_tables_core.specs.Deep.{too_deep}
 use Rattle.mh_engine.specs.code.Settled.{Leads, SettlesDeep}
 use Rattle.mh_engine.specs.Outcomes.{tree_ending_for}
 use Rattle.mh_engine.specs.code.Reached.{Reaches, Accepts, HasReached}
-use Rattle.mh_tables.specs.TreeRuns.{IsTreeOfRead, IsTooDeep, IsTreeEnding}
-use Rattle.mh_tables.proofs.Accepted.{accepted_from}
+use Rattle.mh_tables_core.specs.TreeRuns.{IsTreeOfRead, IsTooDeep, IsTreeEnding}
+use Rattle.mh_tables_core.proofs.Accepted.{accepted_from}
 use Rattle.mh_engine.specs.declared.phase.Phase.{Phase}
 use Rattle.mh_engine.specs.declared.phase.Phase.TheVariants as phases
 use Rattle.mh_engine.specs.declared.sentence.TreeOutcome.{TreeOutcome}

@@ -1,12 +1,12 @@
 -- What moves and phases say.
 use Rattle.std.proofs.Common.{◌≡◌, ℕ, suc, ◌+◌, inl, inr, ◌⊎◌, List, [], ◌∷◌, ◌++◌, length, Some, None, Option, Bool, true, false, refl, ap, sym, subst, arith, ◌∙◌, length-append}
-use Rattle.mh_tables.specs.Facts.{Facts}
-use Rattle.mh_tables.specs.Run.{Move, Accepts, Asks, Refuses, Shifts, Reduces, move_of, top_of}
-use Rattle.mh_tables.specs.RunTrees.{Grown}
-use Rattle.mh_tables.specs.Halting.{look_list}
-use Rattle.mh_tables.proofs.Trees.{accepts_one}
-use Rattle.mh_tables.proofs.Accepted.{accepts_by_default}
-use Rattle.mh_tables.proofs.Reductions.{no_shift_at_end}
+use Rattle.mh_tables_core.specs.Facts.{Facts}
+use Rattle.mh_tables_core.specs.Run.{Move, Accepts, Asks, Refuses, Shifts, Reduces, move_of, top_of}
+use Rattle.mh_tables_core.specs.RunTrees.{Grown}
+use Rattle.mh_tables_core.specs.Halting.{look_list}
+use Rattle.mh_tables_core.proofs.Trees.{accepts_one}
+use Rattle.mh_tables_core.proofs.Accepted.{accepts_by_default}
+use Rattle.mh_tables_core.proofs.Reductions.{no_shift_at_end}
 use Rattle.mh_grammar.specs.Trees.{SyntaxTree}
 use Rattle.mh_engine.specs.Positions.{Position}
 use Rattle.mh_engine.specs.Phases.{next_move, phase_of, phase_by, phase_where}

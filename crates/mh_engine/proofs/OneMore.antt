@@ -1,12 +1,12 @@
 -- Steps go on by one step more, and are the same with one token more behind those to come.
 use Rattle.std.proofs.Common.{◌≡◌, ℕ, zero, suc, ◌+◌, List, [], ◌∷◌, ◌++◌, Some, None, Option, Bool, true, false, refl, ap, sym, subst, ◌∙◌}
 use Rattle.mh_grammar.specs.Plain.{rhs_of}
-use Rattle.mh_tables.specs.Table.{TableData}
-use Rattle.mh_tables.specs.Run.{Config, Move, Accepts, Asks, Refuses, Shifts, Reduces, move_of, top_of, step, step_by, goes_to, next_of, reduce, initial, after}
-use Rattle.mh_tables.specs.RunTrees.{grow, trees_after}
-use Rattle.mh_tables.proofs.Reductions.{no_shift_at_end}
-use Rattle.mh_tables.proofs.Longer.{move_longer}
-use Rattle.mh_tables.proofs.Ending.{step_moves}
+use Rattle.mh_tables_core.specs.Table.{TableData}
+use Rattle.mh_tables_core.specs.Run.{Config, Move, Accepts, Asks, Refuses, Shifts, Reduces, move_of, top_of, step, step_by, goes_to, next_of, reduce, initial, after}
+use Rattle.mh_tables_core.specs.RunTrees.{grow, trees_after}
+use Rattle.mh_tables_core.proofs.Reductions.{no_shift_at_end}
+use Rattle.mh_tables_core.proofs.Longer.{move_longer}
+use Rattle.mh_tables_core.proofs.Ending.{step_moves}
 use Rattle.mh_grammar.specs.Trees.{SyntaxTree}
 use Rattle.mh_engine.specs.code.Pairs.{Pairs}
 use Rattle.mh_engine.specs.Positions.{Position}

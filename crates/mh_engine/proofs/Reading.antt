@@ -3,16 +3,16 @@ use Rattle.std.proofs.Common.{◌≡◌, ℕ, zero, suc, ◌+◌, ◌-◌, ◌<�
 use Rattle.std.proofs.lemmas.Bool.{cases_lt}
 use Rattle.std.proofs.lemmas.List.{take_more, take-append-drop, length-drop}
 use Rattle.std.proofs.Math.Seq.{take-length}
-use Rattle.mh_tables.specs.Table.{TableData}
-use Rattle.mh_tables.specs.Run.{Move, Accepts as Accepting, Asks, Refuses, Shifts, Reduces, move_of, top_of}
-use Rattle.mh_tables.proofs.Asking.{no_refusal_at_end}
-use Rattle.mh_tables.proofs.Reductions.{no_shift_at_end}
+use Rattle.mh_tables_core.specs.Table.{TableData}
+use Rattle.mh_tables_core.specs.Run.{Move, Accepts as Accepting, Asks, Refuses, Shifts, Reduces, move_of, top_of}
+use Rattle.mh_tables_core.proofs.Asking.{no_refusal_at_end}
+use Rattle.mh_tables_core.proofs.Reductions.{no_shift_at_end}
 use Rattle.mh_grammar.specs.Trees.{SyntaxTree}
 use Rattle.mh_engine.specs.Positions.{Position}
 use Rattle.mh_engine.specs.Phases.{next_move, phase_of, phase_by, phase_where, IsAsking, CanGoOn}
 use Rattle.mh_engine.specs.Steps.{begun, offered, resumed}
 use Rattle.mh_engine.specs.code.StepsOn.{after_steps, CanMake}
-use Rattle.mh_tables.specs.Deep.{too_deep}
+use Rattle.mh_tables_core.specs.Deep.{too_deep}
 use Rattle.mh_engine.specs.code.Settled.{Leads, SettlesTo, SettlesDeep}
 use Rattle.mh_engine.specs.code.Reached.{Reaches, Accepts, HasReached, Reads, IsAccept}
 use Rattle.mh_engine.specs.declared.phase.Phase.{Phase}

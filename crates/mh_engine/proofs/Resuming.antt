@@ -5,18 +5,18 @@ use Rattle.std.proofs.lemmas.Bool.{cases_lt}
 use Rattle.std.proofs.lemmas.List.{length-take-le}
 use Rattle.mh_grammar.specs.declared.types.Symbol.TheVariants.{T, N}
 use Rattle.mh_grammar.specs.Plain.{rhs_of, lhs_of, production_count}
-use Rattle.mh_tables.specs.Table.{TableData, edge_of}
-use Rattle.mh_tables.specs.Facts.{Facts}
-use Rattle.mh_tables.specs.Run.{Config, Move, Accepts, Asks, Refuses, Shifts, Reduces, move_of, top_of, step, step_by, next_of, reduce}
-use Rattle.mh_tables.specs.RunTrees.{Grown, grow}
-use Rattle.mh_tables.proofs.Asking.{no_ask}
-use Rattle.mh_tables.proofs.Trees.{grown_push, grown_reduced, run_of}
-use Rattle.mh_tables.proofs.Path.{finds, reduce_finds, run_take}
-use Rattle.mh_tables.proofs.Known.{edge_source}
-use Rattle.mh_tables.proofs.Ending.{step_moves}
-use Rattle.mh_tables.proofs.Reductions.{no_shift_at_end, reduces_from_move, shifts_from_move, reduced}
+use Rattle.mh_tables_core.specs.Table.{TableData, edge_of}
+use Rattle.mh_tables_core.specs.Facts.{Facts}
+use Rattle.mh_tables_core.specs.Run.{Config, Move, Accepts, Asks, Refuses, Shifts, Reduces, move_of, top_of, step, step_by, next_of, reduce}
+use Rattle.mh_tables_core.specs.RunTrees.{Grown, grow}
+use Rattle.mh_tables_core.proofs.Asking.{no_ask}
+use Rattle.mh_tables_core.proofs.Trees.{grown_push, grown_reduced, run_of}
+use Rattle.mh_tables_core.proofs.Path.{finds, reduce_finds, run_take}
+use Rattle.mh_tables_core.proofs.Known.{edge_source}
+use Rattle.mh_tables_core.proofs.Ending.{step_moves}
+use Rattle.mh_tables_core.proofs.Reductions.{no_shift_at_end, reduces_from_move, shifts_from_move, reduced}
 use Rattle.mh_grammar.specs.Trees.{SyntaxTree, Leaf, Node, forest_of, height_of}
-use Rattle.mh_tables.specs.Deep.{too_deep}
+use Rattle.mh_tables_core.specs.Deep.{too_deep}
 use Rattle.mh_engine.specs.code.Pairs.{Pairs}
 use Rattle.mh_engine.specs.code.Cells.{pushed, taken}
 use Rattle.mh_engine.specs.Positions.{Position}
@@ -25,7 +25,7 @@ use Rattle.mh_engine.specs.Steps.{resumed, offered, refused_at, config_of, is_re
 use Rattle.mh_engine.specs.code.Reducing.{CanReduce}
 use Rattle.mh_engine.specs.code.Sound.{IsSound}
 use Rattle.mh_engine.specs.declared.phase.Phase.{Phase}
-use Rattle.mh_tables.proofs.Depth.{shift_fits, reduce_fits, reduce_many, reduce_high, deep_pairs}
+use Rattle.mh_tables_core.proofs.Depth.{shift_fits, reduce_fits, reduce_many, reduce_high, deep_pairs}
 
 -- a step, by its move
 abbrev pub resumed_by : Position → Move → Position

@@ -1,10 +1,10 @@
 -- Steps from the beginning on are those of the run.
 use Rattle.std.proofs.Common.{◌≡◌, ℕ, zero, suc, List, [], ◌∷◌, ◌++◌, drop, Some, None, Option, Bool, refl, ap, sym, subst, ◌∙◌}
 use Rattle.mh_grammar.specs.Plain.{rhs_of}
-use Rattle.mh_tables.specs.Table.{TableData}
-use Rattle.mh_tables.specs.Run.{Config, Move, Accepts, Asks, Refuses, Shifts, Reduces, move_of, top_of, step, step_by, goes_to, next_of, reduce, initial, after}
-use Rattle.mh_tables.specs.RunTrees.{grow, trees_after}
-use Rattle.mh_tables.proofs.Ending.{step_moves}
+use Rattle.mh_tables_core.specs.Table.{TableData}
+use Rattle.mh_tables_core.specs.Run.{Config, Move, Accepts, Asks, Refuses, Shifts, Reduces, move_of, top_of, step, step_by, goes_to, next_of, reduce, initial, after}
+use Rattle.mh_tables_core.specs.RunTrees.{grow, trees_after}
+use Rattle.mh_tables_core.proofs.Ending.{step_moves}
 use Rattle.mh_grammar.specs.Trees.{SyntaxTree}
 use Rattle.mh_engine.specs.Positions.{Position}
 use Rattle.mh_engine.specs.Phases.{next_move}

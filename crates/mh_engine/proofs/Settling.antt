@@ -3,19 +3,19 @@ use Rattle.std.proofs.Common.{◌≡◌, ℕ, zero, suc, ◌+◌, ◌-◌, ◌*�
 use Rattle.std.proofs.lemmas.Bool.{cases_lt}
 use Rattle.std.proofs.lemmas.List.{length-take-le}
 use Rattle.mh_grammar.specs.Plain.{rhs_of}
-use Rattle.mh_tables.specs.Table.{TableData}
-use Rattle.mh_tables.specs.Facts.{Facts}
-use Rattle.mh_tables.specs.Halting.{HaltingFacts, IsLook, look_list}
-use Rattle.mh_tables.specs.Run.{Move, Accepts, Asks, Refuses, Shifts, Reduces, move_of, top_of, reduce}
-use Rattle.mh_tables.proofs.Path.{finds, reduce_finds}
-use Rattle.mh_tables.proofs.Reductions.{reduces_from_move, reduced}
-use Rattle.mh_tables.proofs.Trees.{run_of}
-use Rattle.mh_tables.proofs.Settling.{Relative, relative_few, relative_begins, relative_more}
+use Rattle.mh_tables_core.specs.Table.{TableData}
+use Rattle.mh_tables_core.specs.Facts.{Facts}
+use Rattle.mh_tables_core.specs.Halting.{HaltingFacts, IsLook, look_list}
+use Rattle.mh_tables_core.specs.Run.{Move, Accepts, Asks, Refuses, Shifts, Reduces, move_of, top_of, reduce}
+use Rattle.mh_tables_core.proofs.Path.{finds, reduce_finds}
+use Rattle.mh_tables_core.proofs.Reductions.{reduces_from_move, reduced}
+use Rattle.mh_tables_core.proofs.Trees.{run_of}
+use Rattle.mh_tables_core.proofs.Settling.{Relative, relative_few, relative_begins, relative_more}
 use Rattle.mh_engine.specs.Positions.{Position}
 use Rattle.mh_engine.specs.Phases.{next_move, phase_of, phase_by, phase_where, CanGoOn}
 use Rattle.mh_engine.specs.Steps.{resumed}
 use Rattle.mh_engine.specs.code.StepsOn.{after_steps, CanMake}
-use Rattle.mh_tables.specs.Deep.{too_deep}
+use Rattle.mh_tables_core.specs.Deep.{too_deep}
 use Rattle.mh_engine.specs.code.Sound.{IsSound}
 use Rattle.mh_engine.specs.code.Settled.{Kept, Leads, SettlesTo, SettlesDeep}
 use Rattle.mh_engine.specs.declared.phase.Phase.{Phase}

@@ -1,9 +1,9 @@
 -- A branch is its history: it stands where the run of its start on all its tokens, begun anew, stands after as many steps as it
 -- was resumed (this project's profile).
 use Rattle.std.specs.Prelude.{◌≡◌, ◌<◌, ℕ, zero, suc, Bool, false, List, ◌++◌, ◌∷◌, []}
-use Rattle.mh_tables.specs.Table.{TableData}
-use Rattle.mh_tables.specs.Run.{Config, initial, after, move_of, top_of}
-use Rattle.mh_tables.specs.RunTrees.{trees_after}
+use Rattle.mh_tables_core.specs.Table.{TableData}
+use Rattle.mh_tables_core.specs.Run.{Config, initial, after, move_of, top_of}
+use Rattle.mh_tables_core.specs.RunTrees.{trees_after}
 use Rattle.mh_engine.specs.Positions.{Position}
 use Rattle.mh_engine.specs.Phases.{phase_of, CanGoOn}
 use Rattle.mh_engine.specs.Steps.{is_refusal}

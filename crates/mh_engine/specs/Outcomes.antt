@@ -1,5 +1,5 @@
 -- How the run of a sentence with its trees ends, as an outcome of the code says it.
-use Rattle.mh_tables.specs.TreeRuns.{TreeEnding, AcceptedTree, OvershotTree, RejectedTree, DeepTree}
+use Rattle.mh_tables_core.specs.TreeRuns.{TreeEnding, AcceptedTree, OvershotTree, RejectedTree, DeepTree}
 use Rattle.mh_engine.specs.declared.sentence.TreeOutcome.{TreeOutcome}
 use Rattle.mh_engine.specs.declared.sentence.TreeOutcome.TheVariants as outcomes
 

@@ -1,6 +1,6 @@
 -- What a run does at a position.
 use Rattle.std.specs.Prelude.{ℕ, Bool, true, false, List, [], ◌∷◌}
-use Rattle.mh_tables.specs.Run.{Move, Accepts, Asks, Refuses, Shifts, Reduces, move_of, top_of}
+use Rattle.mh_tables_core.specs.Run.{Move, Accepts, Asks, Refuses, Shifts, Reduces, move_of, top_of}
 use Rattle.mh_engine.specs.Positions.{Position}
 use Rattle.mh_engine.specs.declared.phase.Phase.{Phase}
 use Rattle.mh_engine.specs.declared.phase.Phase.TheVariants as phases

@@ -1,7 +1,7 @@
 -- Where a run stands.
 use Rattle.std.specs.Prelude.{ℕ, Bool, List, Option}
-use Rattle.mh_tables.specs.Table.{TableData}
-use Rattle.mh_tables.specs.Halting.{look_list}
+use Rattle.mh_tables_core.specs.Table.{TableData}
+use Rattle.mh_tables_core.specs.Halting.{look_list}
 use Rattle.mh_engine.specs.code.Pairs.{Pairs}
 
 -- a table; the states with their trees; the tokens to come; whether the last step was a refusal

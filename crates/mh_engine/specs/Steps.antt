@@ -1,8 +1,8 @@
 -- What the calls of a checkpoint do to its position.
 use Rattle.std.specs.Prelude.{ℕ, Bool, true, false, List, [], ◌∷◌, ◌++◌}
-use Rattle.mh_tables.specs.Table.{TableData}
-use Rattle.mh_tables.specs.Run.{Config, Move, Accepts, Asks, Refuses, Shifts, Reduces, step, next_of}
-use Rattle.mh_tables.specs.RunTrees.{grow}
+use Rattle.mh_tables_core.specs.Table.{TableData}
+use Rattle.mh_tables_core.specs.Run.{Config, Move, Accepts, Asks, Refuses, Shifts, Reduces, step, next_of}
+use Rattle.mh_tables_core.specs.RunTrees.{grow}
 use Rattle.mh_engine.specs.code.Pairs.{Pairs}
 use Rattle.mh_engine.specs.code.Cells.{bottom}
 use Rattle.mh_engine.specs.Positions.{Position}

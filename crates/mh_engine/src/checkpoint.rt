@@ -1,8 +1,8 @@
 //! Checkpoints.
 ghost use Rattle.std.specs.Prelude.{◌≡◌, ◌<◌, ◌∷◌, [], length, true, false, IfOk, IfErr, IfSome, IfNone, OnOk};
-ghost use Rattle.mh_tables.specs.Run.{Shifts, Reduces};
-ghost use Rattle.mh_tables.specs.Moves.{move_for};
-ghost use Rattle.mh_tables.specs.Deep.{too_deep};
+ghost use Rattle.mh_tables_core.specs.Run.{Shifts, Reduces};
+ghost use Rattle.mh_tables_core.specs.Moves.{move_for};
+ghost use Rattle.mh_tables_core.specs.Deep.{too_deep};
 ghost use Rattle.mh_engine.specs.code.Reducing.{CanReduce};
 ghost use Rattle.mh_engine.specs.Phases.{next_move, phase_of, IsAsking, CanGoOn};
 ghost use Rattle.mh_engine.specs.Branches.{Branch, StandsAt, new_branch, with_token, with_step};
@@ -14,9 +14,9 @@ ghost use Rattle.mh_engine.specs.declared.fault.ResumeFault.TheVariants as fault
 use crate::fault::ResumeFault;
 use crate::phase::Phase;
 use crate::stack::Stack;
-use mh_bounds::{first_state, left_refused};
 use mh_grammar::{Memory, Token};
-use mh_tables::{Choice, Halting, choose};
+use mh_run::{first_state, left_refused};
+use mh_tables_core::{Choice, Halting, choose};
 use mh_tree::{Tree, can_be_children, leaf, node};
 use std::alloc::Global;
 use std::marker::Model;
@@ -43,7 +43,7 @@ impl<'t> Model for Checkpoint<'t> {
     ghost view = { λ c. waiting c.table.now c.stack c.pending c.refused };
 
     ghost use Rattle.mh_engine.specs.code.Sound.{IsSound};
-    ghost use Rattle.mh_tables.specs.Halting.{IsLook};
+    ghost use Rattle.mh_tables_core.specs.Halting.{IsLook};
 
     ghost invariant = { λ c. IsSound (waiting c.table.now c.stack c.pending c.refused) × IsLook c.table.now c.pending };
 }

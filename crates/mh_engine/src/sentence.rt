@@ -1,8 +1,8 @@
 //! Runs of whole sentences with their trees, by checkpoints.
 ghost use Rattle.std.specs.Prelude.{◌≡◌, ◌<◌, ◌^◌, ℕ, List, [], length, true, false, IfOk, IfErr, OnOk, All};
-ghost use Rattle.mh_tables.specs.Deep.{too_deep};
-ghost use Rattle.mh_tables.specs.Table.{TableData};
-ghost use Rattle.mh_tables.specs.TreeRuns.{IsTreeEnding};
+ghost use Rattle.mh_tables_core.specs.Deep.{too_deep};
+ghost use Rattle.mh_tables_core.specs.Table.{TableData};
+ghost use Rattle.mh_tables_core.specs.TreeRuns.{IsTreeEnding};
 ghost use Rattle.mh_engine.specs.Outcomes.{tree_ending_for};
 ghost use Rattle.mh_engine.specs.code.Reached.{HasReached, HasRead, ReadsNext, IsAccept};
 ghost use Rattle.mh_engine.specs.Phases.{phase_of, IsAsking, CanGoOn};
@@ -16,7 +16,7 @@ use crate::fault::ResumeFault;
 use crate::phase::Phase;
 use crate::reductions::settle;
 use mh_grammar::{Memory, Token};
-use mh_tables::Halting;
+use mh_tables_core::Halting;
 use mh_tree::Tree;
 use std::alloc::Global;
 

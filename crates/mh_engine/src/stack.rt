@@ -1,12 +1,12 @@
 //! The stack of a run: a list of shared cells, none of which is changed after it was made.
 ghost use Rattle.std.specs.Prelude.{◌≡◌, ◌↔◌, IsTrue, ◌+◌, ◌-◌, ◌<◌, ◌≤◌, ◌^◌, ◌++◌, ◌∷◌, [], length, take, drop, IfOk, IfSome, IfNone};
-ghost use Rattle.mh_tables.specs.Run.{top_of};
-ghost use Rattle.mh_tables.specs.Deep.{max_depth};
+ghost use Rattle.mh_tables_core.specs.Run.{top_of};
+ghost use Rattle.mh_tables_core.specs.Deep.{max_depth};
 ghost use Rattle.mh_engine.specs.code.Pairs.{Pairs};
 ghost use Rattle.mh_engine.specs.code.Cells.{bottom, pushed, taken};
 
-use mh_bounds::has_room;
 use mh_grammar::Memory;
+use mh_run::has_room;
 use mh_tree::Tree;
 use std::alloc::Global;
 use std::marker::Model;

@@ -15,14 +15,14 @@ use Rattle.mh_grammar.specs.Numbering.{AreDistinct}
 use Rattle.mh_grammar.proofs.Placing.{get_last, get_cases, contains_at, at_contains, AreDistinct-push}
 use Rattle.mh_grammar.proofs.Pigeon.{length-distinct_in}
 use Rattle.mh_rules.specs.declared.joined.Joined.{Joined}
-use Rattle.mh_instances.specs.declared.fault.ExpandFault.{ExpandFault}
-use Rattle.mh_instances.specs.Counts.{count_fault}
+use Rattle.mh_rules.specs.declared.fault.ExpandFault.{ExpandFault}
+use Rattle.mh_rules.specs.Counts.{count_fault}
 use Rattle.mh_expand.specs.Terms.{Term, Atom, head_of, head_name, text}
 use Rattle.mh_rules.specs.declared.joined.Head.TheVariants.{Token}
 use Rattle.mh_expand.specs.Expansion as expansion
 use Rattle.mh_expand.specs.Expansion.{IsInstance, IsNew, IsFull, IsFault, IsClear, Fits, Causes}
 use Rattle.mh_rules.specs.declared.instances.Part.TheVariants as parts
-use Rattle.mh_instances.specs.declared.fault.ExpandFault.TheVariants.{Arity, Expansion, Memory}
+use Rattle.mh_rules.specs.declared.fault.ExpandFault.TheVariants.{Arity, Expansion, Memory}
 use Rattle.mh_expand.specs.code.Sharing.{term_at, terms_at}
 use Rattle.mh_expand.specs.code.Searching.{IsSight, AreFound, IsSearch, IsTextWithin, Finds}
 use Rattle.mh_expand.proofs.Shared.{get_term, term_got}

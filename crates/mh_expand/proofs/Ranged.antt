@@ -14,7 +14,7 @@ use Rattle.mh_rules.specs.declared.joined.Applied.TheFolds.{fold-roll-Applied, i
 use Rattle.mh_rules.specs.declared.joined.JoinedAlternative.{JoinedAlternative}
 use Rattle.mh_rules.specs.declared.joined.JoinedRule.{JoinedRule}
 use Rattle.mh_rules.specs.declared.joined.Joined.{Joined}
-use Rattle.mh_instances.specs.declared.fault.ExpandFault.TheVariants.{Arity}
+use Rattle.mh_rules.specs.declared.fault.ExpandFault.TheVariants.{Arity}
 use Rattle.mh_rules.specs.declared.instances.Part.{Part}
 use Rattle.mh_rules.specs.declared.instances.Part.TheVariants as parts
 use Rattle.mh_rules.specs.declared.instances.Instance.{Instance}

@@ -2,7 +2,7 @@
 use Rattle.mh_rules.specs.declared.joined.Joined.{Joined}
 use Rattle.mh_rules.specs.declared.instances.Expanded.{Expanded}
 use Rattle.mh_rules.specs.Ready.{IsReady, IsExpandedReady}
-use Rattle.mh_instances.specs.declared.fault.ExpandFault.{ExpandFault}
+use Rattle.mh_rules.specs.declared.fault.ExpandFault.{ExpandFault}
 use Rattle.mh_expand.specs.Expansion.{IsExpanded, IsFirstFault}
 use Rattle.mh_expand.specs.Sentences.{HasSameSentences}
 

@@ -2,7 +2,7 @@
 ghost use Rattle.std.specs.Prelude.{◌≡◌, ◌<◌, ◌≤◌, ◌++◌, ℕ, List, [], flat_map, length, slice_index, nat_eq, IsSome, IfOk, IfErr};
 ghost use Rattle.std.specs.List.{All};
 ghost use Rattle.indexmap.specs.IndexMap.{get};
-ghost use Rattle.mh_instances.specs.declared.fault.ExpandFault.{ExpandFault};
+ghost use Rattle.mh_rules.specs.declared.fault.ExpandFault.{ExpandFault};
 ghost use Rattle.mh_expand.specs.Terms.{Term, arguments, text};
 ghost use Rattle.mh_expand.specs.Expansion.{Fails, Causes, IsExpanded, IsFirstFault, producers_of, right_side, rule_at, start_terms};
 ghost use Rattle.mh_rules.specs.Ready.{IsReady, IsExpandedReady};
@@ -18,10 +18,9 @@ use crate::terms::Terms;
 use crate::texts::text_within;
 use indexmap::IndexSet;
 use mh_grammar::{Memory, Name, Sequence, TokenInfo};
-use mh_instances::{Application, ExpandFault, next_place, production_of};
 use mh_rules::{
-    Expanded, Head, Instance, InstanceProduction, Joined, JoinedAlternative, JoinedRule,
-    MAX_INSTANCES, Part,
+    Application, ExpandFault, Expanded, Head, Instance, InstanceProduction, Joined,
+    JoinedAlternative, JoinedRule, MAX_INSTANCES, Part, next_place, production_of,
 };
 use std::alloc::Global;
 

@@ -11,5 +11,4 @@ mod texts;
 
 pub use expansion::expand;
 pub use laws::{is_one_expansion, is_one_fault};
-pub use mh_instances::ExpandFault;
-pub use mh_rules::{Expanded, Instance, InstanceProduction, Part};
+pub use mh_rules::{ExpandFault, Expanded, Instance, InstanceProduction, Part};

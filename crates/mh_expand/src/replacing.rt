@@ -6,8 +6,7 @@ ghost use Rattle.mh_expand.specs.code.Sharing.{terms_of, terms_at, Grows, IsNode
 
 use crate::terms::Terms;
 use mh_grammar::{Memory, Sequence};
-use mh_instances::Application;
-use mh_rules::{Applied, Head};
+use mh_rules::{Application, Applied, Head};
 use std::alloc::Global;
 
 /// The term that an actual stands for, where the formals stand for these terms. It calls itself as often as the actual is

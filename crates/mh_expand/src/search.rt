@@ -10,8 +10,7 @@ use crate::terms::Terms;
 use crate::texts::text_within;
 use indexmap::IndexSet;
 use mh_grammar::{Memory, Name};
-use mh_instances::{ExpandFault, count_fault};
-use mh_rules::{Head, Joined, JoinedRule, MAX_INSTANCES, Part};
+use mh_rules::{ExpandFault, Head, Joined, JoinedRule, MAX_INSTANCES, Part, count_fault};
 use std::alloc::{AllocFailed, Global};
 
 /// The most bytes that the name of an instance may have.

@@ -5,7 +5,7 @@ ghost use Rattle.mh_grammar.specs.Placed.{Placed};
 ghost use Rattle.mh_expand.specs.code.Sharing.{AreNodes, terms_of, node_term};
 
 use indexmap::IndexSet;
-use mh_instances::Application;
+use mh_rules::Application;
 use std::alloc::{AllocError, AllocFailed, Global};
 
 /// Terms by number, each once, their arguments before them.

@@ -1,2 +1,11 @@
 pub mod Ordered
 pub mod Stored
+pub mod Least
+pub mod Orders
+pub mod Search
+pub mod Classes
+pub mod Left
+pub mod Rules
+pub mod Tales
+pub mod code
+pub mod Failing

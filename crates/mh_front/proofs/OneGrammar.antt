@@ -7,17 +7,17 @@ use Rattle.mh_grammar.specs.Costs.{HaveCosts}
 use Rattle.mh_grammar.specs.Numbering.{AreDistinct}
 use Rattle.mh_grammar.specs.Plain.{plain_of, IsInRange}
 use Rattle.mh_rules.specs.declared.modules.Module.{Module}
-use Rattle.mh_meanings.specs.declared.fault.JoinFault.{JoinFault}
-use Rattle.mh_meanings.specs.declared.fault.JoinFault.TheVariants as joining
+use Rattle.mh_join_names.specs.declared.fault.JoinFault.{JoinFault}
+use Rattle.mh_join_names.specs.declared.fault.JoinFault.TheVariants as joining
 use Rattle.mh_rules.specs.declared.joined.Joined.{Joined}
 use Rattle.mh_grammar.specs.Text.{Text}
-use Rattle.mh_meanings.specs.Names.{files}
-use Rattle.mh_meanings.specs.Faults.{meanings, undefined_in_file, errors_in_file, unlevelled_in_file, many_tokens, other_faults, duplicates, join_faults, first, has_some, unless}
-use Rattle.mh_meanings.specs.Joining.{Joins}
+use Rattle.mh_join_names.specs.Names.{files}
+use Rattle.mh_join_names.specs.Faults.{meanings, undefined_in_file, errors_in_file, unlevelled_in_file, many_tokens, other_faults, duplicates, join_faults, first, has_some, unless}
+use Rattle.mh_join_names.specs.Joining.{Joins}
 use Rattle.mh_rules.specs.declared.joined.TheConstants.{MAX_TOKENS}
 use Rattle.mh_rules.specs.Ready.{AreModulesReady, IsExpandedReady}
 use Rattle.mh_join.proofs.Readying as joins
-use Rattle.mh_instances.specs.declared.fault.ExpandFault.{ExpandFault}
+use Rattle.mh_rules.specs.declared.fault.ExpandFault.{ExpandFault}
 use Rattle.mh_expand.specs.Expansion.{IsFirstFault}
 use Rattle.mh_expand.proofs.Few.{few_instances}
 use Rattle.mh_expand.proofs.Order as order

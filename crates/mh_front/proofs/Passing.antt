@@ -1,12 +1,12 @@
 -- The fault of a stage is the fault of the whole.
 use Rattle.std.proofs.Common.{◌≡◌, Bool, List, Ok, Err, inl, inr}
 use Rattle.mh_rules.specs.declared.modules.Module.{Module}
-use Rattle.mh_meanings.specs.declared.fault.JoinFault.{JoinFault}
-use Rattle.mh_meanings.specs.declared.fault.JoinFault.TheVariants as joining
+use Rattle.mh_join_names.specs.declared.fault.JoinFault.{JoinFault}
+use Rattle.mh_join_names.specs.declared.fault.JoinFault.TheVariants as joining
 use Rattle.mh_rules.specs.declared.joined.Joined.{Joined}
-use Rattle.mh_meanings.specs.Joining.{Joins}
-use Rattle.mh_instances.specs.declared.fault.ExpandFault.{ExpandFault}
-use Rattle.mh_instances.specs.declared.fault.ExpandFault.TheVariants as expanding
+use Rattle.mh_join_names.specs.Joining.{Joins}
+use Rattle.mh_rules.specs.declared.fault.ExpandFault.{ExpandFault}
+use Rattle.mh_rules.specs.declared.fault.ExpandFault.TheVariants as expanding
 use Rattle.mh_rules.specs.declared.instances.Expanded.{Expanded}
 use Rattle.mh_expand.specs.Expansion as expansion
 use Rattle.mh_expand.specs.Expansion.{IsExpanded, IsFirstFault}

@@ -4,7 +4,7 @@ use Rattle.mh_grammar.specs.declared.types.Grammar.{Grammar}
 use Rattle.mh_grammar.specs.Plain.{plain_of, IsSentence}
 use Rattle.mh_rules.specs.declared.modules.Module.{Module}
 use Rattle.mh_rules.specs.declared.joined.Joined.{Joined}
-use Rattle.mh_meanings.specs.Joining.{Joins}
+use Rattle.mh_join_names.specs.Joining.{Joins}
 use Rattle.mh_expand.specs.Sentences.{IsTermSentence}
 
 -- each start symbol has the same sentences over the terms of the joined rules and over the grammar

@@ -3,13 +3,13 @@
 use Rattle.std.specs.Prelude.{◌≡◌, Bool, List, Some, Ok}
 use Rattle.mh_grammar.specs.declared.types.Grammar.{Grammar}
 use Rattle.mh_rules.specs.declared.modules.Module.{Module}
-use Rattle.mh_meanings.specs.declared.fault.JoinFault.{JoinFault}
-use Rattle.mh_meanings.specs.declared.fault.JoinFault.TheVariants as joining
+use Rattle.mh_join_names.specs.declared.fault.JoinFault.{JoinFault}
+use Rattle.mh_join_names.specs.declared.fault.JoinFault.TheVariants as joining
 use Rattle.mh_rules.specs.declared.joined.Joined.{Joined}
-use Rattle.mh_meanings.specs.Faults.{join_faults, first}
-use Rattle.mh_meanings.specs.Joining.{Joins}
-use Rattle.mh_instances.specs.declared.fault.ExpandFault.{ExpandFault}
-use Rattle.mh_instances.specs.declared.fault.ExpandFault.TheVariants as expanding
+use Rattle.mh_join_names.specs.Faults.{join_faults, first}
+use Rattle.mh_join_names.specs.Joining.{Joins}
+use Rattle.mh_rules.specs.declared.fault.ExpandFault.{ExpandFault}
+use Rattle.mh_rules.specs.declared.fault.ExpandFault.TheVariants as expanding
 use Rattle.mh_rules.specs.declared.instances.Expanded.{Expanded}
 use Rattle.mh_expand.specs.Expansion.{IsExpanded, IsFirstFault}
 use Rattle.mh_inline.specs.declared.fault.InlineFault.{InlineFault}

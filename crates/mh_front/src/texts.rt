@@ -5,12 +5,12 @@ ghost use Rattle.mh_front.specs.Texts.{expand_text, fault_text, inline_text, joi
 use crate::fault::GrammarFault;
 use mh_expand::ExpandFault;
 use mh_grammar::Memory;
-use mh_inline::InlineFault;
-use mh_join::JoinFault;
-use mh_parts::{
+use mh_grammar_texts::{
     arity, counted, duplicate, empty_language, expansion, inline_cycle, inline_start, plain,
     undefined, unknown_level,
 };
+use mh_inline::InlineFault;
+use mh_join::JoinFault;
 use std::alloc::Global;
 
 fn join_line(alloc: Global, fault: &JoinFault) -> Result<Vec<u8>, Memory>

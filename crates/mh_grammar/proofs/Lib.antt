@@ -8,3 +8,8 @@ pub mod Placing
 pub mod SameText
 pub mod Heights
 pub mod WordOrder
+pub mod Begins
+pub mod FirstSets
+pub mod Flags
+pub mod LeastMarks
+pub mod Passes

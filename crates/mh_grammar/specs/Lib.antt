@@ -11,3 +11,6 @@ pub mod formers
 pub mod Text
 pub mod Trees
 pub mod WordOrder
+pub mod FirstFlags
+pub mod Grid
+pub mod Marked

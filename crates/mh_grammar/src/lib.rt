@@ -1,16 +1,30 @@
 //! The plain grammar: its types, and the definitions that every layer above shares (derivations, FIRST, sets of LR(1) items,
 //! breadth-first numbering).
+//!
+//! What the nonterminals of a grammar derive: which derive the empty word, which derive a word at all, and the tokens that
+//! the words of each may begin with.
+//!
+//! Whether the numbers and the costs of a grammar are in range.
 #![tactic(auto)]
 
 mod edges;
+mod firsts;
+mod grid;
+mod laws;
+mod marks;
 mod name;
 mod names;
+mod range;
 mod sequence;
 mod types;
 
 pub use edges::{Edge, find_edge};
+pub use firsts::first;
+pub use laws::words_begin_with_first;
+pub use marks::{nullable, productive};
 pub use name::{Name, from_bytes};
 pub use names::{left_side_name, nonterminal_name, start_name, symbol_name, token_name};
+pub use range::{has_costs_in_range, is_in_range};
 pub use sequence::Sequence;
 pub use types::{
     Assoc, Grammar, Level, Look, MAX_COST, MAX_HEIGHT, MAX_NUMBERED, Memory, NontermInfo,

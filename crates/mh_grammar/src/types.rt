@@ -77,7 +77,7 @@ pub struct TokenInfo {
     pub name: Name,
     /// Its level of precedence, where a declaration gives it one.
     pub level: Option<Level>,
-    /// What it costs in a least sentence: from 1 to [`MAX_COST`](crate::MAX_COST), and 1 where no declaration gives it a cost.
+    /// What it costs in a least sentence: from 1 to [`MAX_COST`](crate::types::MAX_COST), and 1 where no declaration gives it a cost.
     pub cost: u32,
 }
 
@@ -103,7 +103,7 @@ pub struct Production {
 
 /// A grammar. Production number i below the count of starts is that of start i, `S' -> S`; the ordinary productions
 /// of the list follow in order. Tokens, nonterminals and starts are at most 65,535 each, productions with the starts'
-/// are below 2^32, and so are the symbols of a right side; `is_in_range` of mh_range says whether a grammar keeps to this and each
+/// are below 2^32, and so are the symbols of a right side; `is_in_range` of mh_grammar says whether a grammar keeps to this and each
 /// number in it names something.
 #[derive(Drop)]
 pub struct Grammar {

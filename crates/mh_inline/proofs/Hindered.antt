@@ -2,10 +2,10 @@
 use Rattle.std.proofs.Common.{◌≡◌, ℕ, Option, Some, None, subst}
 use Rattle.std.specs.Prelude.{MatchOption, IfNone}
 use Rattle.mh_rules.specs.declared.instances.Expanded.{Expanded}
-use Rattle.mh_choices.specs.declared.hindrances.Hindrance.{Hindrance}
-use Rattle.mh_choices.specs.declared.hindrances.Hindrance.TheVariants.{Cycle, InlineStart}
-use Rattle.mh_choices.specs.Hindrances.{first_hindrance}
-use Rattle.mh_cycles.specs.Cycles.{HasNoCycle, IsFirstCyclicAt}
+use Rattle.mh_inline_unfold.specs.declared.hindrances.Hindrance.{Hindrance}
+use Rattle.mh_inline_unfold.specs.declared.hindrances.Hindrance.TheVariants.{Cycle, InlineStart}
+use Rattle.mh_inline_unfold.specs.Hindrances.{first_hindrance}
+use Rattle.mh_inline.specs.Cycles.{HasNoCycle, IsFirstCyclicAt}
 use Rattle.mh_inline.specs.Faults.{HasNoInlineStart, IsFirstInlineStartAt, IsHindrance}
 
 module _ (e : Expanded) where

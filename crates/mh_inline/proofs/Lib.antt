@@ -1,3 +1,13 @@
+pub mod Counting
+pub mod Cycling
+pub mod Finding
+pub mod Ordering
+pub mod Ranked
+pub mod Building
+pub mod Knowing
+pub mod Lasting
+pub mod Moved
+pub mod OriginOrder
 pub mod Limits
 pub mod Only
 pub mod Producing

@@ -14,10 +14,10 @@ use Rattle.mh_rules.specs.declared.instances.Expanded.{Expanded}
 use Rattle.mh_rules.specs.declared.instances.Instance.{Instance}
 use Rattle.mh_inline.specs.declared.fault.InlineFault.{InlineFault}
 use Rattle.mh_inline.specs.declared.fault.InlineFault.TheVariants.{InlineCycle, InlineStart, TooManyProductions, EmptyLanguage, Memory}
-use Rattle.mh_kept.specs.declared.origins.Origin.{Origin}
-use Rattle.mh_producers.specs.Instances.{is_inlined}
+use Rattle.mh_inline.specs.declared.origins.Origin.{Origin}
+use Rattle.mh_inline_unfold.specs.Instances.{is_inlined}
 use Rattle.mh_inline.specs.Inlined.{number_of, IsOriginBefore, AreProductions, IsInlined}
-use Rattle.mh_cycles.specs.Cycles.{IsFirstCyclicAt}
+use Rattle.mh_inline.specs.Cycles.{IsFirstCyclicAt}
 use Rattle.mh_inline.specs.Faults.{HasNoInlineStart, IsFault, IsFirstInlineStartAt, IsFirstEmptyAt, IsGrammarOf, IsNamed, IsNoMemory, IsOver, IsSmall}
 use Rattle.mh_inline.proofs.Limits.{made_same}
 

@@ -13,17 +13,17 @@ use Rattle.mh_rules.specs.declared.instances.Part.TheVariants.{Token, Instance a
 use Rattle.mh_rules.specs.declared.instances.InstanceProduction.{InstanceProduction}
 use Rattle.mh_rules.specs.declared.instances.Instance.{Instance}
 use Rattle.mh_rules.specs.declared.instances.Expanded.{Expanded}
-use Rattle.mh_producers.specs.declared.unfolding.Unfolding.{Unfolding}
-use Rattle.mh_kept.specs.declared.origins.Origin.{Origin}
-use Rattle.mh_producers.specs.declared.sizes.Size.{Size}
-use Rattle.mh_producers.specs.Instances.{IsAlternative, IsKept}
+use Rattle.mh_inline_unfold.specs.declared.unfolding.Unfolding.{Unfolding}
+use Rattle.mh_inline.specs.declared.origins.Origin.{Origin}
+use Rattle.mh_inline_unfold.specs.declared.sizes.Size.{Size}
+use Rattle.mh_inline_unfold.specs.Instances.{IsAlternative, IsKept}
 use Rattle.mh_rules.specs.Ready.{IsPartBelow, IsInstanceReady, IsExpandedReady}
-use Rattle.mh_producers.specs.Unfoldings as unfoldings
-use Rattle.mh_producers.specs.Unfoldings.{only, own, joined, choices, UnfoldsPart, Unfolds, UnfoldsEach}
-use Rattle.mh_producers.specs.Sizes.{longest, IsSideSize, IsBlocked, AreAllSized}
+use Rattle.mh_inline_unfold.specs.Unfoldings as unfoldings
+use Rattle.mh_inline_unfold.specs.Unfoldings.{only, own, joined, choices, UnfoldsPart, Unfolds, UnfoldsEach}
+use Rattle.mh_inline_unfold.specs.Sizes.{longest, IsSideSize, IsBlocked, AreAllSized}
 use Rattle.mh_inline.specs.Inlined as inlined
 use Rattle.mh_inline.specs.Inlined.{symbol_of, last_token, production_of, AreProductions}
-use Rattle.mh_kept.specs.code.Making.{symbol_by, AreNumbers}
+use Rattle.mh_inline.specs.code.Keeping.{symbol_by, AreNumbers}
 use Rattle.mh_inline.specs.code.Making.{production_by, token_else, longest_side, AddsOrigin, IsOriginsSize, IsUnfoldingBelow}
 
 pub last_token-push : (Xs : List Part) (X : Part) → last_token (Xs ++ X ∷ []) ≡ token_else X (last_token Xs)

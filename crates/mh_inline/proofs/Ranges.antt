@@ -19,17 +19,17 @@ use Rattle.mh_rules.specs.declared.instances.Part.{Part}
 use Rattle.mh_rules.specs.declared.instances.Part.TheVariants.{Token, Instance as Applied}
 use Rattle.mh_rules.specs.declared.instances.Instance.{Instance}
 use Rattle.mh_rules.specs.declared.instances.Expanded.{Expanded}
-use Rattle.mh_producers.specs.declared.unfolding.Unfolding.{Unfolding}
-use Rattle.mh_kept.specs.declared.origins.Origin.{Origin}
-use Rattle.mh_producers.specs.Instances.{is_inlined, IsKept}
+use Rattle.mh_inline_unfold.specs.declared.unfolding.Unfolding.{Unfolding}
+use Rattle.mh_inline.specs.declared.origins.Origin.{Origin}
+use Rattle.mh_inline_unfold.specs.Instances.{is_inlined, IsKept}
 use Rattle.mh_rules.specs.Ready.{IsPartBelow, IsExpandedReady}
-use Rattle.mh_producers.specs.Unfoldings.{own, Unfolds}
+use Rattle.mh_inline_unfold.specs.Unfoldings.{own, Unfolds}
 use Rattle.mh_inline.specs.Inlined as inlined
 use Rattle.mh_inline.specs.Inlined.{is_kept, nonterminal_of, number_of, symbol_of, production_of, IsOrigin, AreOrigins, AreProductions, IsInlined}
-use Rattle.mh_cycles.specs.Cycles.{HasNoCycle}
+use Rattle.mh_inline.specs.Cycles.{HasNoCycle}
 use Rattle.mh_inline.specs.Faults.{HasEmptyStart, HasNoInlineStart, IsFirstUnmarked, IsSmall}
 use Rattle.mh_inline.proofs.Producing.{AreBelow, below_ready, each_of_side}
-use Rattle.mh_cycles.proofs.Cycling.{numbers, length-numbers, numbers_at}
+use Rattle.mh_inline.proofs.Cycling.{numbers, length-numbers, numbers_at}
 
 -- an instance that is not inline, by its number
 pub record IsNonterminal (is : List Instance) (n : ℕ) : Type 0 where

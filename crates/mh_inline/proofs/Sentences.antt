@@ -20,12 +20,12 @@ use Rattle.mh_rules.specs.declared.instances.Part.TheVariants.{Token, Instance a
 use Rattle.mh_rules.specs.declared.instances.InstanceProduction.{InstanceProduction}
 use Rattle.mh_rules.specs.declared.instances.Instance.{Instance}
 use Rattle.mh_rules.specs.declared.instances.Expanded.{Expanded}
-use Rattle.mh_producers.specs.declared.unfolding.Unfolding.{Unfolding}
-use Rattle.mh_kept.specs.declared.origins.Origin.{Origin}
-use Rattle.mh_producers.specs.Instances.{is_inlined, IsAlternative, IsKept}
+use Rattle.mh_inline_unfold.specs.declared.unfolding.Unfolding.{Unfolding}
+use Rattle.mh_inline.specs.declared.origins.Origin.{Origin}
+use Rattle.mh_inline_unfold.specs.Instances.{is_inlined, IsAlternative, IsKept}
 use Rattle.mh_rules.specs.Ready.{IsExpandedReady}
-use Rattle.mh_producers.specs.Unfoldings as unfoldings
-use Rattle.mh_producers.specs.Unfoldings.{only, own, joined, choices, UnfoldsPart, Unfolds, UnfoldsEach}
+use Rattle.mh_inline_unfold.specs.Unfoldings as unfoldings
+use Rattle.mh_inline_unfold.specs.Unfoldings.{only, own, joined, choices, UnfoldsPart, Unfolds, UnfoldsEach}
 use Rattle.mh_inline.specs.Inlined as inlined
 use Rattle.mh_inline.specs.Inlined.{number_of, symbol_of, production_of, rank_of, IsOrigin, AreOrigins, AreProductions, IsInlined}
 use Rattle.mh_rules.specs.Sentences.{IsTokenPart, PartProduces}

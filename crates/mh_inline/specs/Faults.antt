@@ -8,11 +8,11 @@ use Rattle.mh_rules.specs.declared.instances.Instance.{Instance}
 use Rattle.mh_rules.specs.declared.instances.Expanded.{Expanded}
 use Rattle.mh_inline.specs.declared.fault.InlineFault.{InlineFault}
 use Rattle.mh_inline.specs.declared.fault.InlineFault.TheVariants.{InlineCycle, InlineStart, TooManyProductions, EmptyLanguage, Memory}
-use Rattle.mh_producers.specs.declared.sizes.TheConstants.{MAX_PRODUCTIONS, MAX_SYMBOLS}
-use Rattle.mh_producers.specs.Instances.{is_inlined}
-use Rattle.mh_choices.specs.declared.hindrances.Hindrance.{Hindrance}
-use Rattle.mh_choices.specs.declared.hindrances.Hindrance.TheVariants.{Cycle, InlineStart as Start}
-use Rattle.mh_cycles.specs.Cycles.{IsFirstCyclicAt, HasNoCycle}
+use Rattle.mh_inline_unfold.specs.declared.sizes.TheConstants.{MAX_PRODUCTIONS, MAX_SYMBOLS}
+use Rattle.mh_inline_unfold.specs.Instances.{is_inlined}
+use Rattle.mh_inline_unfold.specs.declared.hindrances.Hindrance.{Hindrance}
+use Rattle.mh_inline_unfold.specs.declared.hindrances.Hindrance.TheVariants.{Cycle, InlineStart as Start}
+use Rattle.mh_inline.specs.Cycles.{IsFirstCyclicAt, HasNoCycle}
 use Rattle.mh_inline.specs.Inlined.{IsInlined, number_of}
 
 -- the name of an instance

@@ -14,12 +14,12 @@ use Rattle.mh_rules.specs.declared.instances.Part.TheVariants.{Token, Instance a
 use Rattle.mh_rules.specs.declared.instances.InstanceProduction.{InstanceProduction}
 use Rattle.mh_rules.specs.declared.instances.Instance.{Instance}
 use Rattle.mh_rules.specs.declared.instances.Expanded.{Expanded}
-use Rattle.mh_producers.specs.declared.unfolding.Unfolding.{Unfolding}
-use Rattle.mh_kept.specs.declared.origins.Origin.{Origin}
-pub use Rattle.mh_choices.specs.Ranks.{rank_of}
-pub use Rattle.mh_kept.specs.Kept.{is_kept, nonterminal_of, number_of, IsOrigin, IsOriginBefore, AreOrigins}
-use Rattle.mh_producers.specs.Instances.{IsAlternative}
-use Rattle.mh_producers.specs.Unfoldings.{own, Unfolds}
+use Rattle.mh_inline_unfold.specs.declared.unfolding.Unfolding.{Unfolding}
+use Rattle.mh_inline.specs.declared.origins.Origin.{Origin}
+pub use Rattle.mh_inline_unfold.specs.Ranks.{rank_of}
+pub use Rattle.mh_inline.specs.Kept.{is_kept, nonterminal_of, number_of, IsOrigin, IsOriginBefore, AreOrigins}
+use Rattle.mh_inline_unfold.specs.Instances.{IsAlternative}
+use Rattle.mh_inline_unfold.specs.Unfoldings.{own, Unfolds}
 
 abbrev pub symbol_of : List Instance → Part → Symbol
 symbol_of is (Token a) = T a

@@ -1,4 +1,9 @@
+pub mod Cycles
+pub mod code
+pub mod Known
+pub mod LastUse
+pub mod Uses
+pub mod Kept
 pub mod Faults
 pub mod Inlined
 pub mod Sentences
-pub mod code

@@ -1,1 +1,5 @@
+pub mod Searching
+pub mod Found
+pub mod Ranks
+pub mod Keeping
 pub mod Making

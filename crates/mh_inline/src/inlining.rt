@@ -4,25 +4,26 @@ ghost use Rattle.std.specs.List.{All};
 ghost use Rattle.mh_grammar.specs.Plain.{plain_of, IsInRange};
 ghost use Rattle.mh_grammar.specs.Numbering.{AreDistinct};
 ghost use Rattle.mh_rules.specs.Ready.{IsExpandedReady};
-ghost use Rattle.mh_producers.specs.Sizes.{AreAllSized, IsSizing};
+ghost use Rattle.mh_inline_unfold.specs.Sizes.{AreAllSized, IsSizing};
 ghost use Rattle.mh_inline.specs.Inlined.{AreOrigins, AreProductions, IsInlined};
-ghost use Rattle.mh_kept.specs.code.Making.{AreNumbers};
+ghost use Rattle.mh_inline.specs.code.Keeping.{AreNumbers};
 ghost use Rattle.mh_inline.specs.code.Making.{AreOriginsSmall};
-ghost use Rattle.mh_cycles.specs.Cycles.{HasNoCycle, IsFirstCyclicAt};
+ghost use Rattle.mh_inline.specs.Cycles.{HasNoCycle, IsFirstCyclicAt};
 ghost use Rattle.mh_inline.specs.Faults.{HasEmptyStart, HasNoInlineStart, IsFault, IsFirstInlineStartAt, IsFirstUnmarked, IsGrammarOf, IsHindrance, IsNamed, IsSmall};
-ghost use Rattle.mh_cycles.specs.code.Searching.{IsSearch};
+ghost use Rattle.mh_inline.specs.code.Searching.{IsSearch};
 ghost use Rattle.mh_inline.specs.Sentences.{KeepsSentences};
 
+use crate::cycles::first_cyclic;
+use crate::depth::{Search, depth_first};
 use crate::fault::InlineFault;
+use crate::nonterminals::{nonterminals_of, numbers_of, starts_of};
+use crate::origins::{Origin, origins_of};
 use crate::productions::{productions_of, size_of_origins};
-use mh_choices::{Hindrance, first_hindrance};
-use mh_cycles::{Search, depth_first, first_cyclic, inline_sizes};
-use mh_firsts::productive;
-use mh_grammar::{Grammar, Memory, Name, Production, Sequence, TokenInfo};
-use mh_kept::{Origin, nonterminals_of, numbers_of, origins_of, starts_of};
-use mh_producers::{Sizing, is_inline, is_small};
+use crate::sizes::inline_sizes;
+use crate::unfoldings::unfold_inline;
+use mh_grammar::{Grammar, Memory, Name, Production, Sequence, TokenInfo, productive};
+use mh_inline_unfold::{Hindrance, Sizing, first_hindrance, is_inline, is_small};
 use mh_rules::Expanded;
-use mh_unfoldings::unfold_inline;
 use std::alloc::Global;
 
 fn name_of(expanded: &Expanded, number: usize) -> Result<Name, Memory>

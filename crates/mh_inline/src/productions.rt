@@ -2,21 +2,21 @@
 ghost use Rattle.std.specs.Prelude.{◌≡◌, ◌+◌, ◌++◌, length, map, IfOk, OnOk};
 ghost use Rattle.std.specs.List.{All};
 ghost use Rattle.mh_grammar.specs.declared.types.TheConstants.{MAX_NUMBERED};
-ghost use Rattle.mh_producers.specs.Instances.{IsAlternative};
+ghost use Rattle.mh_inline_unfold.specs.Instances.{IsAlternative};
 ghost use Rattle.mh_rules.specs.Ready.{IsExpandedReady};
-ghost use Rattle.mh_producers.specs.Unfoldings.{own};
-ghost use Rattle.mh_producers.specs.Sizes.{AreAllSized, IsSizing};
+ghost use Rattle.mh_inline_unfold.specs.Unfoldings.{own};
+ghost use Rattle.mh_inline_unfold.specs.Sizes.{AreAllSized, IsSizing};
 ghost use Rattle.mh_inline.specs.Inlined.{last_token, level_of, token_level, AreProductions, IsOrigin};
-ghost use Rattle.mh_kept.specs.code.Making.{AreNumbers};
+ghost use Rattle.mh_inline.specs.code.Keeping.{AreNumbers};
 ghost use Rattle.mh_inline.specs.code.Making.{production_by, token_else, AddsOrigin, IsOriginKnown, IsOriginsSize, IsUnfoldingBelow};
 
-use mh_choices::rightmost_prec;
-use mh_cycles::size_of_side;
+use crate::nonterminals::symbols;
+use crate::origins::Origin;
+use crate::sizes::size_of_side;
+use crate::unfoldings::unfold_side;
 use mh_grammar::{Level, Memory, Production, Sequence, Token, TokenInfo};
-use mh_kept::{Origin, symbols};
-use mh_producers::{Size, Sizing, Unfolding, plus};
+use mh_inline_unfold::{Size, Sizing, Unfolding, plus, rightmost_prec};
 use mh_rules::{Expanded, InstanceProduction, Part, Prec};
-use mh_unfoldings::unfold_side;
 use std::alloc::Global;
 
 fn last_token_of(parts: &[Part]) -> Option<Token>

@@ -8,15 +8,15 @@ use Rattle.mh_grammar.specs.declared.types.Symbol.{Symbol}
 use Rattle.mh_grammar.specs.declared.types.Symbol.TheVariants.{N}
 use Rattle.mh_grammar.specs.declared.types.Production.{Production}
 use Rattle.mh_grammar.specs.declared.types.Look.{Look}
-use Rattle.mh_firsts.specs.Grid.{Grows}
+use Rattle.mh_grammar.specs.Grid.{Grows}
 use Rattle.mh_grammar.specs.Plain.{PlainGrammar, IsProductionFor, rhs_of}
 use Rattle.mh_grammar.specs.ItemSets as sets
 use Rattle.mh_grammar.specs.ItemSets.{Close}
 use Rattle.mh_grammar.proofs.Lists.{at_drop}
 use Rattle.mh_grammar.proofs.Numbered.{listed_from_for}
-use Rattle.mh_kernels.specs.Shapes.{Kernel}
-use Rattle.mh_kernels.specs.Kernels.{Holds}
-use Rattle.mh_kernels.specs.Empties.{begins_empty, AreEmpties, HasComplete}
+use Rattle.mh_items_kernels.specs.Shapes.{Kernel}
+use Rattle.mh_items_kernels.specs.Kernels.{Holds}
+use Rattle.mh_items_kernels.specs.Empties.{begins_empty, AreEmpties, HasComplete}
 
 -- ---- passes over the productions
 

@@ -19,7 +19,7 @@ use Rattle.mh_grammar.specs.declared.types.Look.{Look}
 use Rattle.mh_grammar.specs.declared.types.Look.TheVariants.{Token, End}
 use Rattle.mh_grammar.specs.Plain.{IsSymbolBelow}
 use Rattle.mh_grammar.specs.First as first
-use Rattle.mh_firsts.proofs.FirstSets.{first_of-below}
+use Rattle.mh_grammar.proofs.FirstSets.{first_of-below}
 use Rattle.mh_items.proofs.Linking.{LinksSoFar, LinksSoFar-push, LinksSoFar-skip}
 use Rattle.mh_grammar.proofs.Lists.{same_at, all_at}
 

@@ -3,8 +3,8 @@ use Rattle.std.proofs.Common.{get_or, arith, inl, inr}
 use Rattle.std.proofs.lemmas.List.Elements.{Contains-get_or}
 use Rattle.mh_grammar.specs.declared.types.Look.TheVariants.{End}
 use Rattle.mh_grammar.specs.Plain.{PlainGrammar, IsLookBelow}
-use Rattle.mh_kernels.specs.Shapes.{KernelItem}
-use Rattle.mh_kernels.specs.Kernels.{IsKernelItem, IsJoined}
+use Rattle.mh_items_kernels.specs.Shapes.{KernelItem}
+use Rattle.mh_items_kernels.specs.Kernels.{IsKernelItem, IsJoined}
 use Rattle.mh_grammar.proofs.Lists.{recursion-from, recursion_contains}
 
 pub joined_item : (g : PlainGrammar) (x y z : KernelItem) → IsKernelItem g x → IsKernelItem g y → IsJoined x y z → IsKernelItem g z

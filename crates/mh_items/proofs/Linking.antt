@@ -10,12 +10,12 @@ use Rattle.mh_grammar.specs.declared.types.Look.{Look}
 use Rattle.mh_grammar.specs.declared.types.Look.TheVariants.{Token, End}
 use Rattle.mh_grammar.specs.declared.types.Production.{Production}
 use Rattle.mh_grammar.specs.Derivations as trees
-use Rattle.mh_firsts.specs.Marked.{Marked}
-use Rattle.mh_firsts.specs.Marked as marked
+use Rattle.mh_grammar.specs.Marked.{Marked}
+use Rattle.mh_grammar.specs.Marked as marked
 use Rattle.mh_grammar.specs.Plain.{PlainGrammar, Derives, DerivesAll, IsInRange, IsSymbolBelow, rhs_of}
 use Rattle.mh_grammar.specs.First as first
 use Rattle.mh_grammar.specs.First.{First, FirstOf}
-use Rattle.mh_firsts.proofs.LeastMarks.{marked-from_nil}
+use Rattle.mh_grammar.proofs.LeastMarks.{marked-from_nil}
 use Rattle.mh_grammar.proofs.Numbered.{IsProductionFor-ordinary, rhs_of-ordinary, listed_from_for}
 use Rattle.mh_items.specs.declared.links.Link.{Link}
 use Rattle.mh_items.specs.declared.first_sets.Sets.{Sets}

@@ -16,11 +16,11 @@ use Rattle.mh_grammar.specs.declared.types.Symbol.TheVariants.{N}
 use Rattle.mh_grammar.specs.Plain.{IsInRange, IsSymbolBelow, production_count, rhs_of}
 use Rattle.mh_grammar.proofs.Lists.{recursion_contains}
 use Rattle.mh_grammar.proofs.Numbered.{listed_from_for}
-use Rattle.mh_kernels.specs.Shapes.{KernelItem}
-use Rattle.mh_kernels.specs.Shapes.{Kernel}
+use Rattle.mh_items_kernels.specs.Shapes.{KernelItem}
+use Rattle.mh_items_kernels.specs.Shapes.{Kernel}
 use Rattle.mh_items.specs.declared.asked.Asked.{Asked}
-use Rattle.mh_kernels.specs.Kernels.{Holds, IsItemList, IsKernelItem}
-use Rattle.mh_kernels.proofs.Dotted.{drop_tail}
+use Rattle.mh_items_kernels.specs.Kernels.{Holds, IsItemList, IsKernelItem}
+use Rattle.mh_items_kernels.proofs.Dotted.{drop_tail}
 use Rattle.mh_items.specs.Added.{AreAdded, IsNumber}
 use Rattle.mh_items.specs.Merging.{IsUnion}
 use Rattle.mh_items.specs.Wanted as wanted
@@ -29,10 +29,10 @@ use Rattle.mh_items.specs.Asked.{looks_at, IsAsked, IsTable}
 use Rattle.mh_sets.specs.Sets.{IsSet}
 use Rattle.mh_grammar.proofs.Lists.{same_at, contains_at, at_contains, recursion-from}
 use Rattle.mh_items.proofs.Merged.{holds_push, holds_cases}
-use Rattle.mh_kernels.proofs.Pushing.{kernel_push}
+use Rattle.mh_items_kernels.proofs.Pushing.{kernel_push}
 use Rattle.mh_items.proofs.Wanting.{asked_known}
-use Rattle.mh_kernels.proofs.Sides.{behind_below}
-use Rattle.mh_firsts.proofs.FirstSets.{first_of-below}
+use Rattle.mh_items_kernels.proofs.Sides.{behind_below}
+use Rattle.mh_grammar.proofs.FirstSets.{first_of-below}
 
 abbrev of_items : List KernelItem → Kernel
 of_items items = record { items = items }

@@ -9,14 +9,14 @@ use Rattle.mh_grammar.specs.declared.types.Look.TheVariants.{Token, End}
 use Rattle.mh_grammar.specs.Plain.{PlainGrammar, rhs_of, DerivesAll}
 use Rattle.mh_grammar.specs.ItemSets as sets
 use Rattle.mh_grammar.specs.ItemSets.{MayBegin}
-use Rattle.mh_kernels.specs.Shapes.{KernelItem, Kernel}
+use Rattle.mh_items_kernels.specs.Shapes.{KernelItem, Kernel}
 use Rattle.mh_items.specs.declared.asked.Asked.{Asked}
-use Rattle.mh_kernels.specs.Kernels.{Holds, IsKernelItem}
+use Rattle.mh_items_kernels.specs.Kernels.{Holds, IsKernelItem}
 use Rattle.mh_items.specs.Firsts.{BeginsAll, IsRest}
 use Rattle.mh_items.specs.Asked.{IsAsked, AreAwake, Adds, IsAt}
 use Rattle.mh_items.specs.Wanted as wanted
 use Rattle.mh_items.specs.Wanted.{Follows, IsItemSeed, IsSeedOf, IsSeed, AreSeeds}
-use Rattle.mh_kernels.proofs.Dotted.{drop_from-slice_get, drop_tail}
+use Rattle.mh_items_kernels.proofs.Dotted.{drop_from-slice_get, drop_tail}
 use Rattle.mh_items.proofs.Growing.{Adds-then, Adds-as}
 use Rattle.mh_grammar.proofs.Lists.{at_drop}
 

@@ -4,8 +4,8 @@ use Rattle.std.specs.List.{slice_get, AllByRecursion}
 use Rattle.std.proofs.lemmas.Option.{slice_get_read}
 use Rattle.mh_grammar.specs.Plain.{PlainGrammar}
 use Rattle.mh_grammar.proofs.Lists.{recursion_at}
-use Rattle.mh_kernels.specs.Shapes.{KernelItem}
-use Rattle.mh_kernels.specs.Kernels.{IsKernelItem}
+use Rattle.mh_items_kernels.specs.Shapes.{KernelItem}
+use Rattle.mh_items_kernels.specs.Kernels.{IsKernelItem}
 
 module _ (seen items : List KernelItem) (same : seen ≡ items) (i : ℕ) (y : KernelItem) (short : i < length seen) (is : y ≡ get_or seen i y) where
   pub item_at : slice_get items i ≡ Some y

@@ -5,8 +5,8 @@ use Rattle.std.proofs.lemmas.Bool.{ltb-true, ltb-false}
 use Rattle.std.proofs.lemmas.Option.{slice_get_within}
 use Rattle.std.specs.declared.cmp.Ordering.{Ordering}
 use Rattle.std.specs.declared.cmp.Ordering.TheVariants.{Less, Equal, Greater}
-use Rattle.mh_kernels.specs.Shapes.{KernelItem}
-use Rattle.mh_kernels.specs.Kernels.{IsItemBefore}
+use Rattle.mh_items_kernels.specs.Shapes.{KernelItem}
+use Rattle.mh_items_kernels.specs.Kernels.{IsItemBefore}
 use Rattle.mh_items.specs.Merging.{IsTurn, place_order}
 use Rattle.mh_grammar.proofs.Lists.{same_at}
 

@@ -14,12 +14,12 @@ use Rattle.mh_grammar.specs.declared.types.Look.TheVariants.{Token, End}
 use Rattle.mh_grammar.specs.Plain.{PlainGrammar, IsProductionFor, rhs_of}
 use Rattle.mh_grammar.specs.ItemSets as sets
 use Rattle.mh_grammar.specs.ItemSets.{ItemSet, Close, MayBegin}
-use Rattle.mh_kernels.specs.Shapes.{Kernel}
+use Rattle.mh_items_kernels.specs.Shapes.{Kernel}
 use Rattle.mh_items.specs.declared.links.Link.{Link}
 use Rattle.mh_items.specs.declared.first_sets.Firsts.{Firsts}
 use Rattle.mh_items.specs.declared.asked.Asked.{Asked}
 use Rattle.mh_items.specs.Firsts.{AreFirsts, AreLinksOf, IsLinked, IsRest}
-use Rattle.mh_kernels.specs.Kernels.{Holds}
+use Rattle.mh_items_kernels.specs.Kernels.{Holds}
 use Rattle.mh_items.specs.Asked.{looks_at, IsAsked, IsWaiting, room, AreQueued, IsTable, AreAwake, Adds, IsStep}
 use Rattle.mh_items.specs.Wanted as wanted
 use Rattle.mh_items.specs.Wanted.{Wants, IsSeed, AreSeeds, AreWanted}

@@ -2,9 +2,9 @@
 use Rattle.std.specs.Prelude.{◌≡◌, ℕ, List}
 use Rattle.mh_grammar.specs.declared.types.Look.{Look}
 use Rattle.mh_grammar.specs.Plain.{PlainGrammar, IsProductionFor}
-use Rattle.mh_kernels.specs.Shapes.{KernelItem}
+use Rattle.mh_items_kernels.specs.Shapes.{KernelItem}
 use Rattle.mh_items.specs.declared.asked.Asked.{Asked}
-use Rattle.mh_kernels.specs.Kernels.{Holds}
+use Rattle.mh_items_kernels.specs.Kernels.{Holds}
 use Rattle.mh_items.specs.Asked.{IsAsked}
 
 -- a production of a nonterminal that has a look

@@ -4,7 +4,7 @@ use Rattle.mh_grammar.specs.Plain.{PlainGrammar}
 use Rattle.mh_items.specs.declared.closer.Closer.{Closer}
 use Rattle.mh_items.specs.Firsts.{AreFirsts}
 use Rattle.mh_items.specs.Asked.{IsNothing}
-use Rattle.mh_kernels.specs.Empties.{AreEmpties}
+use Rattle.mh_items_kernels.specs.Empties.{AreEmpties}
 
 pub record IsCloser {W : ℕ} (g : PlainGrammar) (c : Closer W) : Type 0 where
   pub firsts : AreFirsts g c.firsts

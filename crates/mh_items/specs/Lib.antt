@@ -4,3 +4,6 @@ pub mod Closer
 pub mod Firsts
 pub mod Merging
 pub mod Wanted
+pub mod Moves
+pub mod code
+pub mod Mover

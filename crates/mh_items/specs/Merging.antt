@@ -5,9 +5,9 @@ use Rattle.std.specs.declared.cmp.Ordering.{Ordering}
 use Rattle.std.specs.declared.cmp.Ordering.TheVariants.{Less, Equal, Greater}
 use Rattle.mh_grammar.specs.declared.types.Look.{Look}
 use Rattle.mh_grammar.specs.Plain.{PlainGrammar}
-use Rattle.mh_kernels.specs.Shapes.{KernelItem}
-use Rattle.mh_kernels.specs.Kernels.{Holds, IsItemList, IsItemBefore}
-pub use Rattle.mh_kernels.specs.Order.{place_order}
+use Rattle.mh_items_kernels.specs.Shapes.{KernelItem}
+use Rattle.mh_items_kernels.specs.Kernels.{Holds, IsItemList, IsItemBefore}
+pub use Rattle.mh_items_kernels.specs.Order.{place_order}
 
 -- the items of both, and no others
 pub record IsUnion (g : PlainGrammar) (left right items : List KernelItem) : Type 0 where

@@ -6,9 +6,9 @@ use Rattle.mh_grammar.specs.declared.types.Symbol.TheVariants.{N}
 use Rattle.mh_grammar.specs.declared.types.Look.{Look}
 use Rattle.mh_grammar.specs.Plain.{PlainGrammar, rhs_of}
 use Rattle.mh_grammar.specs.ItemSets.{ItemSet, Close, MayBegin}
-use Rattle.mh_kernels.specs.Shapes.{KernelItem, Kernel}
+use Rattle.mh_items_kernels.specs.Shapes.{KernelItem, Kernel}
 use Rattle.mh_items.specs.declared.asked.Asked.{Asked}
-use Rattle.mh_kernels.specs.Kernels.{Holds}
+use Rattle.mh_items_kernels.specs.Kernels.{Holds}
 use Rattle.mh_items.specs.Asked.{IsAsked}
 
 -- an item of the closure stands before the nonterminal, and the look may come behind that

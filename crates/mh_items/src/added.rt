@@ -3,8 +3,8 @@ ghost use Rattle.std.specs.Prelude.{◌≡◌, ◌≤◌, ◌↔◌, ℕ, vec_le
 ghost use Rattle.std.specs.List.{Contains};
 ghost use Rattle.std.specs.List.Sorted.{IsStrictlyIncreasing};
 ghost use Rattle.mh_grammar.specs.Plain.{plain_of, IsInRange};
-ghost use Rattle.mh_kernels.specs.Shapes.{Kernel as KernelOf};
-ghost use Rattle.mh_kernels.specs.Kernels.{IsItemList};
+ghost use Rattle.mh_items_kernels.specs.Shapes.{Kernel as KernelOf};
+ghost use Rattle.mh_items_kernels.specs.Kernels.{IsItemList};
 ghost use Rattle.mh_items.specs.Firsts.{AreFirsts};
 ghost use Rattle.mh_items.specs.Asked.{IsTable};
 ghost use Rattle.mh_items.specs.Wanted.{AreWanted};
@@ -13,7 +13,7 @@ ghost use Rattle.mh_items.specs.Added.{AreAdded, IsNumber};
 use crate::asked::Asked;
 use crate::first_sets::Firsts;
 use mh_grammar::{Grammar, Memory};
-use mh_kernels::{KernelItem, first_item};
+use mh_items_kernels::{KernelItem, first_item};
 use std::alloc::Global;
 
 /// The productions of the nonterminals that a closure asks for, rising, each with its looks.

@@ -6,7 +6,7 @@ ghost use Rattle.mh_items.specs.Asked.{IsTable, IsNothing, Adds, IsAt, IsStep, I
 
 use crate::links::Link;
 use mh_grammar::Memory;
-use mh_kernels::passed_on;
+use mh_items_kernels::passed_on;
 use mh_sets::TokenSet;
 use std::alloc::Global;
 

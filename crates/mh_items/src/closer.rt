@@ -3,8 +3,8 @@ ghost use Rattle.std.specs.Prelude.{◌≡◌, ◌≤◌, ◌*◌, ℕ, false, S
 ghost use Rattle.mh_grammar.specs.declared.types.Symbol.TheVariants.{N};
 ghost use Rattle.mh_grammar.specs.Plain.{plain_of, rhs_of, IsInRange};
 ghost use Rattle.mh_grammar.specs.ItemSets.{AreSame, Close};
-ghost use Rattle.mh_kernels.specs.Kernels.{Holds, IsItemList, IsKernelItem};
-ghost use Rattle.mh_kernels.specs.Empties.{HasComplete};
+ghost use Rattle.mh_items_kernels.specs.Kernels.{Holds, IsItemList, IsKernelItem};
+ghost use Rattle.mh_items_kernels.specs.Empties.{HasComplete};
 ghost use Rattle.mh_items.specs.Closer.{IsCloser};
 
 use crate::asked::Asked;
@@ -13,7 +13,7 @@ use crate::empties::empties;
 use crate::first_sets::Firsts;
 use crate::gathering::firsts;
 use mh_grammar::{Grammar, Memory, Symbol};
-use mh_kernels::{Closure, Kernel, KernelItem, symbol_at};
+use mh_items_kernels::{Closure, Kernel, KernelItem, symbol_at};
 use std::alloc::Global;
 
 /// What the closures of one grammar's kernels are computed from, and a place to compute them in.

@@ -5,7 +5,7 @@ ghost use Rattle.mh_grammar.specs.declared.types.Look.{Look as LookOf};
 ghost use Rattle.mh_grammar.specs.Plain.{plain_of, rhs_of, IsInRange};
 ghost use Rattle.mh_grammar.specs.ItemSets.{AreSame, Close};
 ghost use Rattle.mh_items.specs.Firsts.{AreFirsts, AreSets};
-ghost use Rattle.mh_kernels.specs.Kernels.{Holds, IsItemList, IsKernelItem};
+ghost use Rattle.mh_items_kernels.specs.Kernels.{Holds, IsItemList, IsKernelItem};
 ghost use Rattle.mh_items.specs.Asked.{IsTable, IsNothing, Adds};
 ghost use Rattle.mh_items.specs.Wanted.{Follows, IsItemSeed, IsSeedOf};
 
@@ -16,7 +16,7 @@ use crate::links::rest_of;
 use crate::merging::merged;
 use crate::spreading::spread;
 use mh_grammar::{Grammar, Memory, Symbol};
-use mh_kernels::{Closure, Kernel, KernelItem, behind, passed_on, symbol_at};
+use mh_items_kernels::{Closure, Kernel, KernelItem, behind, passed_on, symbol_at};
 use mh_sets::TokenSet;
 use std::alloc::Global;
 

@@ -1,9 +1,9 @@
 //! The nonterminals that may bring empty productions into a closure.
 ghost use Rattle.std.specs.Prelude.{◌≡◌, ◌^◌, ◌<◌, ℕ, true, false, not, length, count_by, slice_index_or, vec_len, IfOk};
 ghost use Rattle.std.specs.List.{All};
-ghost use Rattle.mh_firsts.specs.Grid.{Grows};
+ghost use Rattle.mh_grammar.specs.Grid.{Grows};
 ghost use Rattle.mh_grammar.specs.Plain.{plain_of, IsInRange, IsProductionBelow, IsSymbolBelow};
-ghost use Rattle.mh_kernels.specs.Empties.{AreEmpties, begins_empty};
+ghost use Rattle.mh_items_kernels.specs.Empties.{AreEmpties, begins_empty};
 
 use mh_grammar::{Grammar, Memory, Production, Symbol};
 use std::alloc::Global;

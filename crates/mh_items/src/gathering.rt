@@ -10,8 +10,7 @@ ghost use Rattle.mh_items.specs.Firsts.{AreFirsts, AreSets, AreFirstSets, AreLin
 
 use crate::first_sets::{Firsts, Sets};
 use crate::links::{Link, link_of};
-use mh_firsts::{first, nullable};
-use mh_grammar::{Grammar, Look, Memory, Sequence, Token};
+use mh_grammar::{Grammar, Look, Memory, Sequence, Token, first, nullable};
 use mh_sets::TokenSet;
 use std::alloc::Global;
 

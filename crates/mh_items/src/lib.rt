@@ -1,7 +1,12 @@
 //! The closure of LR(1) kernels and their moves.
+//!
+//! All moves of a closure at once, in the order of their symbols.
+//!
+//! The moves of many kernels of one grammar: each is closed, and its moves are taken.
 #![tactic(auto)]
 
 mod added;
+mod all_moves;
 mod asked;
 mod closer;
 mod closures;
@@ -10,10 +15,19 @@ pub mod first_sets;
 mod gathering;
 mod links;
 mod merging;
-mod moves;
+mod mover;
+mod moving;
+mod rows;
 mod spreading;
 
+pub use all_moves::{Move, MoveWith};
 pub use closer::Closer;
 pub use closures::closure;
 pub use gathering::firsts;
-pub use moves::moved;
+pub use mh_items_kernels::{
+    Automaton, AutomatonWith, Closure, ItemWith, ItemsWith, Kernel, KernelItem, StatesFault,
+    advanced, are_equal, behind, copied_item, first_item, is_marked, joined_item, one_list, order,
+    passed_on, rest_from, start_kernel, symbol_at, symbol_in,
+};
+pub use mover::Mover;
+pub use moving::moved;

@@ -7,7 +7,7 @@ ghost use Rattle.mh_items.specs.Firsts.{AreSets, Begins, IsRest, IsLinkOf};
 
 use crate::first_sets::Sets;
 use mh_grammar::{Look, Symbol};
-use mh_kernels::{is_marked, rest_from, symbol_in};
+use mh_items_kernels::{is_marked, rest_from, symbol_in};
 use mh_sets::TokenSet;
 
 /// The tokens that a string of symbols may begin with, and whether it may derive the empty word.

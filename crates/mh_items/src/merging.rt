@@ -1,12 +1,12 @@
 //! Two rising lists of items as one.
 ghost use Rattle.std.specs.Prelude.{◌≡◌, ◌<◌, ◌≤◌, ◌+◌, ◌⊎◌, List, [], ◌∷◌, ◌++◌, length, IfOk};
 ghost use Rattle.mh_grammar.specs.Plain.{plain_of, IsInRange};
-ghost use Rattle.mh_kernels.specs.Kernels.{IsItemList};
-ghost use Rattle.mh_kernels.specs.Shapes.{KernelItem as ItemOf};
+ghost use Rattle.mh_items_kernels.specs.Kernels.{IsItemList};
+ghost use Rattle.mh_items_kernels.specs.Shapes.{KernelItem as ItemOf};
 ghost use Rattle.mh_items.specs.Merging.{IsUnion, IsMerged, IsTurn};
 
 use mh_grammar::{Grammar, Memory, Sequence};
-use mh_kernels::{Closure, KernelItem, copied_item, joined_item, order};
+use mh_items_kernels::{Closure, KernelItem, copied_item, joined_item, order};
 use std::alloc::Global;
 use std::cmp::Ordering;
 

@@ -12,9 +12,9 @@ use Rattle.mh_rules.specs.declared.modules.Module.{Module}
 use Rattle.mh_rules.specs.declared.joined.Joined.{Joined}
 use Rattle.mh_rules.specs.Ready.{IsTokenReady, IsModuleReady, AreModulesReady}
 use Rattle.mh_grammar.specs.Text.{Text}
-use Rattle.mh_meanings.specs.Names.{same, given_cost, cost_by, costs, cost_of}
-use Rattle.mh_meanings.specs.Faults.{meanings}
-use Rattle.mh_meanings.specs.Joining.{token_info, IsJoined}
+use Rattle.mh_join_names.specs.Names.{same, given_cost, cost_by, costs, cost_of}
+use Rattle.mh_join_names.specs.Faults.{meanings}
+use Rattle.mh_join_names.specs.Joining.{token_info, IsJoined}
 
 abbrev IsPriced : Text × ℕ → Type 0
 IsPriced e = IsCost e.1

@@ -1,4 +1,4 @@
-pub mod Prelude
+pub mod PreludeRules
 pub mod Shallow
 pub mod Able
 pub mod Costing

@@ -28,24 +28,24 @@ use Rattle.mh_rules.specs.declared.joined.Applied.TheFolds.{every-Applied, every
 use Rattle.mh_rules.specs.declared.joined.JoinedAlternative.{JoinedAlternative}
 use Rattle.mh_rules.specs.declared.joined.JoinedRule.{JoinedRule}
 use Rattle.mh_rules.specs.declared.joined.Joined.{Joined}
-use Rattle.mh_meanings.specs.declared.outlines.Outline.{Outline}
-use Rattle.mh_meanings.specs.declared.fault.JoinFault.{JoinFault}
-use Rattle.mh_meanings.specs.declared.fault.JoinFault.TheVariants as faults
-use Rattle.mh_meanings.specs.Prelude.{prelude_rules}
+use Rattle.mh_join_names.specs.declared.outlines.Outline.{Outline}
+use Rattle.mh_join_names.specs.declared.fault.JoinFault.{JoinFault}
+use Rattle.mh_join_names.specs.declared.fault.JoinFault.TheVariants as faults
+use Rattle.mh_join_names.specs.Prelude.{prelude_rules}
 use Rattle.mh_grammar.specs.Text.{Text}
-use Rattle.mh_meanings.specs.Names.{same, files, firsts, token_names, start_names, is_elsewhere, is_public, owner_in, Definition, definitions, definitions_from, definitions_in, prelude_definitions, outline_of, same_owner, is_rule, same_rule, rules, rule_number, formal_number, visible_head, user_head, rule_head, token_head, insert_all, insert_key}
-use Rattle.mh_meanings.specs.Faults.{Meanings, meanings, meant_by, unless, agrees, same_flag, same_shape, repeats, own_name, own_names, own_in_file, formals_in_file, shapes_in_file, other_shape, name_duplicates, rule_duplicates, duplicates, levels_in_file, has_some, errors_in_file, unlevelled_in_file, many_tokens, other_faults, undefined_in_file, join_faults, first}
-use Rattle.mh_meanings.specs.Joining.{all_of, applied_to, apply_step, resolved, all_resolved, prec_by, alternative_with, alternative_by, alternatives_by, is_number, alternatives_for, rule_without, without_alternatives, token_info, on_error_in, IsJoined, Joins}
+use Rattle.mh_join_names.specs.Names.{same, files, firsts, token_names, start_names, is_elsewhere, is_public, owner_in, Definition, definitions, definitions_from, definitions_in, prelude_definitions, outline_of, same_owner, is_rule, same_rule, rules, rule_number, formal_number, visible_head, user_head, rule_head, token_head, insert_all, insert_key}
+use Rattle.mh_join_names.specs.Faults.{Meanings, meanings, meant_by, unless, agrees, same_flag, same_shape, repeats, own_name, own_names, own_in_file, formals_in_file, shapes_in_file, other_shape, name_duplicates, rule_duplicates, duplicates, levels_in_file, has_some, errors_in_file, unlevelled_in_file, many_tokens, other_faults, undefined_in_file, join_faults, first}
+use Rattle.mh_join_names.specs.Joining.{all_of, applied_to, apply_step, resolved, all_resolved, prec_by, alternative_with, alternative_by, alternatives_by, is_number, alternatives_for, rule_without, without_alternatives, token_info, on_error_in, IsJoined, Joins}
 use Rattle.mh_rules.specs.Depth.{greatest, actual_depth, actual_depth_step, applied_depth, applied_depth_step, IsActualShallow, IsAppliedShallow, AreProducersShallow}
 use Rattle.mh_rules.specs.Ready.{IsModuleReady, AreModulesReady, IsHeadBelow, IsAppliedBelow, IsRuleReady, IsReady}
 use Rattle.mh_grammar.proofs.Lists.{get_cases, at_contains, recursion-from, nil_parts}
 use Rattle.mh_grammar.proofs.SameText.{same_is, same_self}
-use Rattle.mh_meanings.proofs.Lists.{position-push, is_some-position}
-use Rattle.mh_naming.proofs.Numbers.{none_from}
-use Rattle.mh_naming.proofs.Meaning.{find_position}
+use Rattle.mh_join_names.proofs.Lists.{position-push, is_some-position}
+use Rattle.mh_join_gather.proofs.Numbers.{none_from}
+use Rattle.mh_join_gather.proofs.Meaning.{find_position}
 use Rattle.mh_join.proofs.Costing.{tokens_costed}
-use Rattle.mh_meanings.proofs.Resolving.{is_known}
-use Rattle.mh_join.proofs.Prelude.{and_left, and_right, owner_is}
+use Rattle.mh_join_names.proofs.Resolving.{is_known}
+use Rattle.mh_join.proofs.PreludeRules.{and_left, and_right, owner_is}
 use Rattle.mh_join.proofs.Able.{few_tokens}
 use Rattle.mh_join.proofs.Shallow.{prelude_shallow}
 

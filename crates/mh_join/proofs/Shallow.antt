@@ -12,7 +12,7 @@ use Rattle.mh_rules.specs.Depth.{actual_depth, IsActualShallow, AreProducersShal
 use Rattle.mh_rules.proofs.Depth.{depth_within}
 use Rattle.mh_grammar.proofs.Lists.{recursion-append}
 use Rattle.mh_grammar.specs.Text.{Text}
-use Rattle.mh_meanings.specs.Prelude.{call, words, optional, in_order, texts, prelude_rules, separated_items, list_rule, nonempty_list_rule, separated_list_rule, separated_nonempty_list_rule, option_rules, pair_rules, list_rules, other_rules}
+use Rattle.mh_join_names.specs.Prelude.{call, words, optional, in_order, texts, prelude_rules, separated_items, list_rule, nonempty_list_rule, separated_list_rule, separated_nonempty_list_rule, option_rules, pair_rules, list_rules, other_rules}
 
 shallow_by : (n : ℕ) → n ≤ 1000 → (k : Actual) → actual_depth k ≤ n → IsActualShallow k
 shallow_by n few k h = le_trans h few

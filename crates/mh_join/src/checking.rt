@@ -1,11 +1,10 @@
 //! The first fault in several files.
 ghost use Rattle.mh_rules.specs.Ready.{AreModulesReady};
-ghost use Rattle.mh_meanings.specs.Faults.{Finds, faults_by};
-ghost use Rattle.mh_meanings.specs.Maps.{meanings_in};
+ghost use Rattle.mh_join_names.specs.Faults.{Finds, faults_by};
+ghost use Rattle.mh_join_names.specs.Maps.{meanings_in};
 
-use mh_duplicates::check_duplicates;
-use mh_faults::{check_others, check_undefined};
-use mh_meanings::{JoinFault, Names, first_fault};
+use mh_join_faults::{check_duplicates, check_others, check_undefined};
+use mh_join_names::{JoinFault, Names, first_fault};
 use mh_rules::Module;
 use std::alloc::Global;
 

@@ -1,15 +1,14 @@
 //! Several files as one list of rules.
 ghost use Rattle.std.specs.Prelude.{◌≡◌, IfOk};
-ghost use Rattle.mh_meanings.specs.Joining.{Joins};
-ghost use Rattle.mh_meanings.specs.Maps.{HasMeanings};
-ghost use Rattle.mh_meanings.specs.Prelude as spec;
+ghost use Rattle.mh_join_names.specs.Joining.{Joins};
+ghost use Rattle.mh_join_names.specs.Maps.{HasMeanings};
+ghost use Rattle.mh_join_names.specs.Prelude as spec;
 ghost use Rattle.mh_rules.specs.Ready.{AreModulesReady, IsReady};
 
 use crate::checking::check;
-use mh_building::joined;
-use mh_meanings::{JoinFault, Names};
-use mh_naming::names_of;
-use mh_prelude::prelude_rules;
+use mh_join_gather::names_of;
+use mh_join_names::{JoinFault, Names};
+use mh_join_parts::{joined, prelude_rules};
 use mh_rules::{Joined, Module, Rule};
 use std::alloc::Global;
 

@@ -1,8 +1,8 @@
 //! Laws of the definition, each the contract of an empty function.
 ghost use Rattle.std.specs.Prelude.{◌≡◌, ◌≢◌, Err, Ok};
-ghost use Rattle.mh_meanings.specs.Joining.{Joins};
+ghost use Rattle.mh_join_names.specs.Joining.{Joins};
 
-use mh_meanings::JoinFault;
+use mh_join_names::JoinFault;
 use mh_rules::{Joined, Module};
 
 /// The files of a grammar are joined in one way.

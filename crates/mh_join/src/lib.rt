@@ -7,6 +7,6 @@ mod laws;
 
 pub use joining::join;
 pub use laws::{is_joined_or_fault, is_one_fault, is_one_joined};
-pub use mh_meanings::JoinFault;
-pub use mh_prelude::prelude_rules;
+pub use mh_join_names::JoinFault;
+pub use mh_join_parts::prelude_rules;
 pub use mh_rules::{Applied, Head, Joined, JoinedAlternative, JoinedRule, Prec};

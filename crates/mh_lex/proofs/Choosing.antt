@@ -1,11 +1,11 @@
 -- What a step is where nothing closes: a comment, or what is passed over.
 use Rattle.std.proofs.Common.{◌≡◌, ℕ, ◌≤◌, ◌&&◌, Bool, true, false, cond, List, Some, None, refl, sym, subst}
 use Rattle.std.proofs.lemmas.Bool.{false≢true}
-use Rattle.mh_bytes.specs.declared.code.Ends.{Ends}
-use Rattle.mh_bytes.specs.declared.code.Ends.TheVariants.{Comment, Brace, Bracket, Header, Angle, Slash}
-use Rattle.mh_bytes.specs.declared.code.Step.{Step}
-use Rattle.mh_bytes.specs.declared.code.Step.TheVariants.{Passes, Remark}
-use Rattle.mh_bytes.specs.Code.{reads_items, reads_arrows}
+use Rattle.mh_lex_bytes.specs.declared.code.Ends.{Ends}
+use Rattle.mh_lex_bytes.specs.declared.code.Ends.TheVariants.{Comment, Brace, Bracket, Header, Angle, Slash}
+use Rattle.mh_lex_bytes.specs.declared.code.Step.{Step}
+use Rattle.mh_lex_bytes.specs.declared.code.Step.TheVariants.{Passes, Remark}
+use Rattle.mh_lex_bytes.specs.Code.{reads_items, reads_arrows}
 use Rattle.mh_lex.specs.Bytes.{begins_arrow}
 use Rattle.mh_lex.specs.Steps.{single, item, plain, Within}
 

@@ -2,9 +2,9 @@
 use Rattle.std.proofs.Common.{◌≡◌, ℕ, zero, suc, ◌<◌, List, [], ◌∷◌, ◌++◌, take, drop, Option, Some, None, true, false, refl, sym, ap, subst, ◌∙◌, append_assoc}
 use Rattle.std.specs.List.{AllByRecursion}
 use Rattle.std.proofs.lemmas.List.{take-append-drop}
-use Rattle.mh_bytes.specs.declared.code.Ends.{Ends}
-use Rattle.mh_bytes.specs.declared.code.Step.{Step}
-use Rattle.mh_bytes.specs.declared.code.Step.TheVariants.{Closes, Passes, Nests, Remark}
+use Rattle.mh_lex_bytes.specs.declared.code.Ends.{Ends}
+use Rattle.mh_lex_bytes.specs.declared.code.Step.{Step}
+use Rattle.mh_lex_bytes.specs.declared.code.Step.TheVariants.{Closes, Passes, Nests, Remark}
 use Rattle.mh_lex.specs.declared.kinds.Kind.{Kind}
 use Rattle.mh_lex.specs.declared.kinds.Kind.TheVariants as kinds
 use Rattle.mh_lex.specs.declared.kinds.Lexeme.{Lexeme}

@@ -5,8 +5,8 @@ use Rattle.std.proofs.lemmas.Bool.{not-true, and_left, and_parts}
 use Rattle.std.proofs.lemmas.Bool.Decides.{nat_tests, Decides-eqb}
 use Rattle.std.proofs.lemmas.List.Elements.{recursion_from_All}
 use Rattle.std.proofs.lemmas.List.Sums.{AllPass-from_list_all}
-use Rattle.mh_bytes.specs.declared.code.Ends.TheVariants as ends
-use Rattle.mh_bytes.specs.declared.code.Step.TheVariants.{Closes, Passes}
+use Rattle.mh_lex_bytes.specs.declared.code.Ends.TheVariants as ends
+use Rattle.mh_lex_bytes.specs.declared.code.Step.TheVariants.{Closes, Passes}
 use Rattle.mh_lex.specs.declared.kinds.Kind.{Kind}
 use Rattle.mh_lex.specs.declared.kinds.Kind.TheVariants as kinds
 use Rattle.mh_lex.specs.declared.kinds.Lexeme.{Lexeme}
@@ -24,7 +24,7 @@ use Rattle.mh_lex.specs.Lexing.Taken.{short, long}
 use Rattle.mh_lex.specs.Lexing.LexesFrom.{ended, taken}
 use Rattle.mh_lex.specs.Texts.{LexemeText, IsText, is_content, laid, places, one_of, count_of_percents}
 use Rattle.mh_lex.specs.Texts.LexemeText.{word, mark, percents, keyword, quoted, empty_action, cost}
-use Rattle.mh_bytes.proofs.Rows.{keyword_is_word}
+use Rattle.mh_lex_bytes.proofs.Rows.{keyword_is_word}
 use Rattle.mh_lex.proofs.Tests.{third, fourth}
 
 -- one of two

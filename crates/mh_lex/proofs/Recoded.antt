@@ -6,10 +6,10 @@ use Rattle.std.proofs.lemmas.List.{take-append-drop}
 use Rattle.std.proofs.lemmas.Bool.Decides.{nat_tests, Decides-eqb}
 use Rattle.std.proofs.lemmas.Bool.{and_parts}
 use Rattle.std.proofs.lemmas.Option.{same_Some}
-use Rattle.mh_bytes.specs.declared.code.Ends.{Ends}
-use Rattle.mh_bytes.specs.declared.code.Ends.TheVariants.{Comment, Brace, Bracket, Header, Angle, Slash}
-use Rattle.mh_bytes.specs.declared.code.Step.{Step}
-use Rattle.mh_bytes.specs.declared.code.Step.TheVariants.{Closes, Passes, Nests, Remark}
+use Rattle.mh_lex_bytes.specs.declared.code.Ends.{Ends}
+use Rattle.mh_lex_bytes.specs.declared.code.Ends.TheVariants.{Comment, Brace, Bracket, Header, Angle, Slash}
+use Rattle.mh_lex_bytes.specs.declared.code.Step.{Step}
+use Rattle.mh_lex_bytes.specs.declared.code.Step.TheVariants.{Closes, Passes, Nests, Remark}
 use Rattle.mh_lex.specs.declared.kinds.Kind.{Kind}
 use Rattle.mh_lex.specs.declared.kinds.Kind.TheVariants as kinds
 use Rattle.mh_lex.specs.declared.kinds.Front.TheVariants.{Long}

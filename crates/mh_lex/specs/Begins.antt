@@ -1,6 +1,6 @@
 -- What begins a lexeme, a comment or a blank. Source: the Menhir manual's syntax of grammars, and this project's profile.
 use Rattle.std.specs.Prelude.{ℕ, ◌+◌, ◌<◌, ◌≤◌, ◌==◌, ◌&&◌, false, cond, List, [], ◌∷◌, Option, Some, None, drop, take}
-use Rattle.mh_bytes.specs.declared.code.Ends.TheVariants as ends
+use Rattle.mh_lex_bytes.specs.declared.code.Ends.TheVariants as ends
 use Rattle.mh_lex.specs.declared.kinds.Kind.TheVariants as kinds
 use Rattle.mh_lex.specs.declared.kinds.Front.{Front}
 use Rattle.mh_lex.specs.declared.kinds.Front.TheVariants.{Ended, Short, Long, Fault}

@@ -2,14 +2,14 @@
 use Rattle.std.specs.Prelude.{◌≡◌, ◌≢◌, ℕ, suc, ◌-◌, ◌<◌, ◌≤◌, List, [], ◌∷◌, ◌++◌, length, Option, Some, None, drop, Result, Ok, Err}
 use Rattle.mh_lex.specs.declared.kinds.SyntaxFault.{SyntaxFault}
 use Rattle.mh_lex.specs.declared.kinds.SyntaxFault.TheVariants.{Syntax, Memory}
-use Rattle.mh_bytes.specs.declared.code.Ends.{Ends}
+use Rattle.mh_lex_bytes.specs.declared.code.Ends.{Ends}
 use Rattle.mh_lex.specs.declared.kinds.Kind.{Kind}
 use Rattle.mh_lex.specs.declared.kinds.Kind.TheVariants as kinds
 use Rattle.mh_lex.specs.declared.kinds.Lexeme.{Lexeme}
 use Rattle.mh_lex.specs.declared.kinds.Front.TheVariants.{Ended, Short, Long}
 use Rattle.mh_lex.specs.declared.kinds.Taking.{Taking}
 use Rattle.mh_lex.specs.declared.kinds.Taking.TheVariants as takings
-pub use Rattle.mh_bytes.specs.Lines.{line_at}
+pub use Rattle.mh_lex_bytes.specs.Lines.{line_at}
 use Rattle.mh_lex.specs.Begins.{front}
 use Rattle.mh_lex.specs.Bodies.{Body}
 

@@ -1,11 +1,11 @@
 -- What stands at the front inside of code, comments and types. Source: this project's profile; the Menhir manual leaves
 -- what is in actions to OCaml.
 use Rattle.std.specs.Prelude.{ℕ, zero, suc, ◌+◌, ◌<◌, ◌≤◌, ◌&&◌, Bool, false, cond, List, Option, Some, None, drop, nat_lt}
-use Rattle.mh_bytes.specs.declared.code.Ends.{Ends}
-use Rattle.mh_bytes.specs.declared.code.Ends.TheVariants.{Comment, Brace, Bracket, Header, Angle, Slash}
-use Rattle.mh_bytes.specs.declared.code.Step.{Step}
-use Rattle.mh_bytes.specs.declared.code.Step.TheVariants.{Closes, Passes, Nests, Remark, Stuck}
-pub use Rattle.mh_bytes.specs.Code.{has_remarks}
+use Rattle.mh_lex_bytes.specs.declared.code.Ends.{Ends}
+use Rattle.mh_lex_bytes.specs.declared.code.Ends.TheVariants.{Comment, Brace, Bracket, Header, Angle, Slash}
+use Rattle.mh_lex_bytes.specs.declared.code.Step.{Step}
+use Rattle.mh_lex_bytes.specs.declared.code.Step.TheVariants.{Closes, Passes, Nests, Remark, Stuck}
+pub use Rattle.mh_lex_bytes.specs.Code.{has_remarks}
 use Rattle.mh_lex.specs.Bytes.{byte_at, has, is_end, is_word_start}
 use Rattle.mh_lex.specs.Spellings.{string_rest, word_rest, literal, quoted_opening, quoted_id, quoted_rest}
 

@@ -9,7 +9,7 @@ ghost use Rattle.mh_lex.specs.Steps.{begins_comment, passed, nests_in, innermost
 use crate::items::{
     literal_length, quoted_length, quoted_opening_length, starts_word, string_length, word_length,
 };
-use mh_bytes::{Ends, Step, has_byte, passes_arrow, reads_items, remark_in};
+use mh_lex_bytes::{Ends, Step, has_byte, passes_arrow, reads_items, remark_in};
 
 /// Whether a comment begins here.
 pub(crate) fn starts_comment(rest: &[u8]) -> bool

@@ -7,7 +7,7 @@ ghost use Rattle.mh_lex.specs.Begins.{line_rest, keyword_of, percent, slash, fro
 use crate::code::starts_comment;
 use crate::items::{starts_word, string_length, word_length};
 use crate::kinds::{Front, Kind};
-use mh_bytes::{Ends, has_byte, is_blank_byte, keyword_of as keyword_named};
+use mh_lex_bytes::{Ends, has_byte, is_blank_byte, keyword_of as keyword_named};
 
 fn is_mark_byte(byte: u8) -> bool
     ensures { result ≡ is_mark byte }

@@ -4,7 +4,7 @@ ghost use Rattle.std.specs.Option.{unwrap_or};
 ghost use Rattle.mh_lex.specs.Bytes.{byte_at, is_word_start, is_word_byte, is_decimal, is_octal, is_hexadecimal, is_id_byte, is_escape};
 ghost use Rattle.mh_lex.specs.Spellings.{word_rest, string_rest, id_rest, quoted_opening, closes_quoted, quoted_rest, escaped, literal};
 
-use mh_bytes::{has_byte, is_free};
+use mh_lex_bytes::{has_byte, is_free};
 
 pub(crate) fn starts_word(byte: u8) -> bool
     ensures { result ≡ is_word_start byte }

@@ -11,6 +11,6 @@ mod words;
 
 pub use kinds::{Kind, Lexeme, SyntaxFault};
 pub use laws::{code_is_taken, lexed_always, lexed_apart, lexed_code, lexed_once, lexed_texts};
-pub use mh_bytes::{Keyword, keyword_of, keywords_differ, line_of};
+pub use mh_lex_bytes::{Keyword, keyword_of, keywords_differ, line_of};
 pub use scanning::lex;
 pub use words::is_word;

@@ -8,7 +8,7 @@ ghost use Rattle.mh_lex.specs.Lexing.{Lexes, Finds, Rises, IsWithin, left_after,
 use crate::code::code_length;
 use crate::fronts::front_from;
 use crate::kinds::{Front, Kind, Lexeme, SyntaxFault, Taking};
-use mh_bytes::{Ends, line_of};
+use mh_lex_bytes::{Ends, line_of};
 use std::alloc::{AllocError, Global};
 
 /// How many bytes there are from a place up to what closes the code.

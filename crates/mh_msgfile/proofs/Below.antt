@@ -14,7 +14,7 @@ use Rattle.mh_grammar.specs.Text.{Text}
 use Rattle.mh_msgfile.specs.Sentences.{Vocabulary, vocabulary_of, token_names, start_name, start_names, TokensFound, Tokens, Unknown, StartFound, StartIs, NoSuchStart, NoStart, IsSentence, IsUnreadable, put_token, number_of, only_one, tokens_of, start_or, only_or, start_by, with_start, sole, colon_place, pieces, sentence_from, sentence_behind, sentence_in, AreTokens, FindsStart, IsUnknownToken, NamesUnknown, PutsSentence, behind_unknown}
 use Rattle.mh_msgfile.specs.declared.sentence.SentenceFault.{SentenceFault}
 use Rattle.mh_msgfile.specs.declared.sentence.SentenceFault.TheVariants as faults
-use Rattle.mh_lines.specs.First.{told_name}
+use Rattle.mh_msgfile.specs.First.{told_name}
 
 -- ---- its tokens are those of the grammar
 

@@ -1,3 +1,4 @@
+pub mod Splitting
 pub mod Fields
 pub mod Lexicons
 pub mod Below

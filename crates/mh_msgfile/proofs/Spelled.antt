@@ -6,7 +6,7 @@ use Rattle.mh_grammar.specs.Text.{Text}
 use Rattle.mh_msgfile.specs.Sentences.{vocabulary_of}
 use Rattle.mh_msgfile.specs.Messages.{FaultFound, faults_in, entries_in, blocks, MsgSpells, HasFault}
 use Rattle.mh_msgfile.specs.declared.messages.MsgFile.{MsgFile}
-use Rattle.mh_lines.proofs.Splitting.{lines_once, are_lines}
+use Rattle.mh_msgfile.proofs.Splitting.{lines_once, are_lines}
 
 module _ (g : Grammar) (bytes : Text) where
   pub spelled_once : (a b : MsgFile) → MsgSpells g bytes a → MsgSpells g bytes b → a ≡ b

@@ -5,7 +5,7 @@ use Rattle.mh_grammar.specs.declared.types.Grammar.{Grammar}
 use Rattle.mh_grammar.specs.Text.{Text}
 use Rattle.mh_msgfile.specs.Sentences.{Vocabulary, vocabulary_of, sentence_in}
 use Rattle.mh_msgfile.specs.Messages.{AreLines, line_at, message_of, FaultFound, BadShape, fault_at, first_number, faults_of, sentences_of, faults_in, entries_in, blocks, MsgSpells, HasFault, Tells, Begins, ReadsBlock, ReadsEntries, TellsLine, TellsLast, given}
-use Rattle.mh_lines.specs.First.{first_fault}
+use Rattle.mh_msgfile.specs.First.{first_fault}
 use Rattle.mh_msgfile.specs.declared.messages.Entry.{Entry}
 use Rattle.mh_msgfile.specs.declared.messages.MsgSentence.{MsgSentence}
 use Rattle.mh_msgfile.specs.declared.messages.MsgFault.{MsgFault}

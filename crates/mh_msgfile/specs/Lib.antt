@@ -1,3 +1,6 @@
+pub mod First
+pub mod Lines
+pub mod Starts
 pub mod Sentences
 pub mod Messages
 pub mod Printed

@@ -8,8 +8,8 @@ use Rattle.mh_grammar.specs.declared.types.Grammar.{Grammar}
 use Rattle.mh_grammar.specs.declared.types.Sentence.{Sentence}
 use Rattle.mh_lex.specs.Words.{is_word}
 use Rattle.std.specs.declared.alloc.Global.{Global}
-pub use Rattle.mh_lines.specs.Lines.{is_blank}
-pub use Rattle.mh_lines.specs.Starts.{start_name, start_names, only_one}
+pub use Rattle.mh_msgfile.specs.Lines.{is_blank}
+pub use Rattle.mh_msgfile.specs.Starts.{start_name, start_names, only_one}
 use Rattle.mh_msgfile.specs.declared.lexicon.Lexicon.{Lexicon}
 use Rattle.mh_msgfile.specs.declared.sentence.StartName.{StartName}
 use Rattle.mh_msgfile.specs.declared.sentence.StartName.TheVariants.{Named, LeftOut}

@@ -4,8 +4,8 @@ ghost use Rattle.mh_grammar.specs.Plain.{plain_of, IsInRange};
 ghost use Rattle.mh_grammar.specs.declared.types.TheConstants.{MAX_NUMBERED};
 ghost use Rattle.mh_msgfile.specs.Sentences.{AreNumbers, PutsName, start_names, only_one, vocabulary_of, vocabulary_in};
 
+use crate::starts::only_start;
 use mh_grammar::{Grammar, Memory, Token, TokenInfo};
-use mh_lines::only_start;
 use std::alloc::Global;
 use std::collections::HashMap;
 

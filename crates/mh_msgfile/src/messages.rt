@@ -5,10 +5,11 @@ ghost use Rattle.mh_grammar.specs.declared.types.Grammar.{Grammar as Grammar'};
 ghost use Rattle.mh_msgfile.specs.Sentences.{vocabulary_in, vocabulary_of, LineFound, FirstPiece, blank_count, piece_size, runs, ReadsSentence};
 ghost use Rattle.mh_msgfile.specs.Messages.{is_kept as is_kept_number, kept_lines as kept, is_blank_line as is_blank_number, blocks, first_number, message_of as message_text, AreOf, given, ReadsMessages, ReadsBlock, ReadsEntry, TellsLast, ReadsEntries, TellsLine};
 
+use crate::first::first_fault;
 use crate::lexicon::Lexicon;
+use crate::lines::{is_blank_line, is_kept, line_at, put_lines};
 use crate::sentence::SentenceFault;
 use mh_grammar::{Grammar, Memory, Name, Sequence, Token};
-use mh_lines::{first_fault, is_blank_line, is_kept, line_at, put_lines};
 use std::alloc::{AllocError, AllocFailed, Global};
 
 /// A sentence of a messages file.

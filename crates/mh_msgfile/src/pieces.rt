@@ -2,7 +2,7 @@
 ghost use Rattle.std.specs.Prelude.{◌≡◌, ◌≤◌, length};
 ghost use Rattle.mh_msgfile.specs.Sentences.{is_blank as is_blank_byte, blank_count, piece_size, FirstPiece};
 
-use mh_lines::is_blank;
+use crate::lines::is_blank;
 
 /// How many blanks stand in front.
 fn count_blanks(bytes: &[u8]) -> usize

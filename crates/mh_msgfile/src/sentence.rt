@@ -4,11 +4,11 @@ ghost use Rattle.mh_grammar.specs.Plain.{plain_of, IsInRange};
 ghost use Rattle.mh_msgfile.specs.Sentences.{colon_place, IsSole, AreTokens, IsUnknownToken, FindsStart, name_of, start_by, vocabulary_of, vocabulary_in, sentence_in, sentence_from, PutsSentence, ReadsSentence};
 ghost use Rattle.mh_msgfile.specs.declared.sentence.SentenceFault.TheVariants.{Memory as Memory'};
 
+use crate::first::{first_of, told_name};
 use crate::lexicon::Lexicon;
 use crate::pieces::first_piece;
 use mh_grammar::{Grammar, Memory, Name, Sentence, Sequence, Token, from_bytes};
 use mh_lex::is_word;
-use mh_lines::{first_of, told_name};
 use std::alloc::{AllocError, AllocFailed, Global};
 
 /// Why a line is no sentence.

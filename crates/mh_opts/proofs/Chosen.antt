@@ -2,9 +2,9 @@
 use Rattle.std.proofs.Common.{◌≡◌, ◌∙◌, ◌<◌, ◌+◌, ℕ, List, [], ◌∷◌, length, drop, get_or, map, Option, Some, None, Result, Ok, Err, ap, refl, sym}
 use Rattle.std.proofs.lemmas.List.{at_drop_more}
 use Rattle.clap.specs.Words.{Row, Text}
-use Rattle.mh_together.specs.declared.modes.Asked.{Asked}
-use Rattle.mh_together.specs.declared.modes.Asked.TheVariants.{Nothing, One, Several}
-use Rattle.mh_together.specs.Modes.{with_one, with_next, with_all}
+use Rattle.mh_opts.specs.declared.modes.Asked.{Asked}
+use Rattle.mh_opts.specs.declared.modes.Asked.TheVariants.{Nothing, One, Several}
+use Rattle.mh_opts.specs.Modes.{with_one, with_next, with_all}
 use Rattle.mh_opts.specs.declared.jobs.Mode.{Mode}
 use Rattle.mh_opts.specs.declared.jobs.Opt.{Opt}
 use Rattle.mh_opts.specs.declared.order.UsageFault.{UsageFault}

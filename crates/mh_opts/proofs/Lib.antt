@@ -1,3 +1,4 @@
+pub mod Renaming
 pub mod Chosen
 pub mod Files
 pub mod Given

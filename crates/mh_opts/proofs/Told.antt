@@ -14,13 +14,13 @@ use Rattle.mh_opts.specs.declared.order.Order.{Order}
 use Rattle.mh_opts.specs.declared.jobs.TheConstants.{SAMPLE, TABLES}
 use Rattle.mh_opts.specs.declared.order.UsageFault.{UsageFault}
 use Rattle.mh_opts.specs.declared.order.UsageFault.TheVariants.{Misplaced, NoGrammar, Number, Parse}
-use Rattle.mh_together.specs.declared.twice.Seen.{Seen}
-use Rattle.mh_together.specs.declared.twice.Seen.TheVariants.{Nothing, One, All}
-use Rattle.mh_together.specs.declared.twice.TheConstants.{AGAIN, ONCE, ONCE_WITH_VALUE}
+use Rattle.mh_opts.specs.declared.twice.Seen.{Seen}
+use Rattle.mh_opts.specs.declared.twice.Seen.TheVariants.{Nothing, One, All}
+use Rattle.mh_opts.specs.declared.twice.TheConstants.{AGAIN, ONCE, ONCE_WITH_VALUE}
 use Rattle.mh_opts.specs.App.{menhir_app, options}
 use Rattle.mh_opts.specs.Orders.{clashes, grammars_of, is_sample, lacks_number, misplaced_in, mode_in, needs, order_by, order_for, order_in, order_of, order_renamed, order_with, written}
 use Rattle.mh_opts.specs.Reading.{at_most, awaits, files_from, files_in, is_listed, is_option, is_use_of, times}
-use Rattle.mh_opts.specs.Twice.{again, is_end, is_reserved, is_use, renamed, renamed_from, seen_after, word_with}
+use Rattle.mh_opts.specs.Words.{again, is_end, is_reserved, is_use, renamed, renamed_from, seen_after, word_with}
 use Rattle.mh_opts.proofs.Files.{end_files, walk_files, walk_on}
 use Rattle.mh_opts.proofs.Known.{is_fit, known}
 use Rattle.mh_opts.proofs.Walking.{back_empty, front_empty, shape_by, stands}

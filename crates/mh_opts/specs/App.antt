@@ -3,7 +3,7 @@
 use Rattle.std.specs.Prelude.{Some, List, [], ◌∷◌, codes, map, true}
 use Rattle.clap.specs.Words.{App, Rule, Text, new_app, new_rule, with_rule}
 use Rattle.clap.specs.Simple.{on_top}
-use Rattle.mh_together.specs.Files.{files_rule}
+use Rattle.mh_opts.specs.Files.{files_rule}
 use Rattle.mh_opts.specs.declared.jobs.Opt.{Opt}
 use Rattle.mh_opts.specs.declared.jobs.TheConstants.{GRAMMARS, OPTIONS}
 

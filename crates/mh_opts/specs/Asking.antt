@@ -1,9 +1,9 @@
 -- The modes that the words hold, before it is said that there has to be one.
 use Rattle.std.specs.Prelude.{List, Result, Ok, Err, map}
 use Rattle.clap.specs.Words.{Row, Text}
-use Rattle.mh_together.specs.declared.modes.Asked.{Asked}
-use Rattle.mh_together.specs.declared.modes.Asked.TheVariants as asked
-use Rattle.mh_together.specs.Modes.{with_all}
+use Rattle.mh_opts.specs.declared.modes.Asked.{Asked}
+use Rattle.mh_opts.specs.declared.modes.Asked.TheVariants as asked
+use Rattle.mh_opts.specs.Modes.{with_all}
 use Rattle.mh_opts.specs.declared.jobs.Mode.{Mode}
 use Rattle.mh_opts.specs.declared.jobs.Opt.{Opt}
 use Rattle.mh_opts.specs.declared.order.UsageFault.{UsageFault}

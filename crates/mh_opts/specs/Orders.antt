@@ -4,7 +4,7 @@ use Rattle.std.specs.Prelude.{◌≡◌, ℕ, ◌++◌, is_none, Bool, true, fal
 use Rattle.clap.specs.Words.{Row, Text, all_of, first_of, fault_of, matches_of}
 use Rattle.clap.specs.Walk.{is_empty}
 use Rattle.clap.specs.Takes.{is_given}
-use Rattle.mh_together.specs.Tables.{has_own_table}
+use Rattle.mh_opts.specs.Tables.{has_own_table}
 use Rattle.mh_opts.specs.declared.jobs.Mode.{Mode}
 use Rattle.mh_opts.specs.declared.jobs.Mode.TheVariants as mode
 use Rattle.mh_opts.specs.declared.jobs.Need.{Need}
@@ -17,7 +17,7 @@ use Rattle.mh_opts.specs.declared.order.UsageFault.{UsageFault}
 use Rattle.mh_opts.specs.declared.order.UsageFault.TheVariants.{Parse, Number, NoMode, TwoModes, Misplaced, NoGrammar, Memory}
 use Rattle.mh_opts.specs.App.{menhir_app, options}
 use Rattle.mh_opts.specs.Numbers.{number_in}
-use Rattle.mh_opts.specs.Twice.{is_reserved, renamed}
+use Rattle.mh_opts.specs.Words.{is_reserved, renamed}
 
 -- the mode of an option that stands among the words
 abbrev pub mode_at : List Row → Opt Text → Option Mode

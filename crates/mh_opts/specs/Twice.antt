@@ -1,2 +1,46 @@
--- The words as clap reads them, where one option may stand twice.
-pub use Rattle.mh_together.specs.Twice.{is_end, is_use, again, if_use, seen_after, word_with, renamed_from, renamed, is_reserved}
+-- The words as clap reads them: clap takes an option once, so the second use of the one that may stand twice gets another
+-- name. Source: this project's profile.
+use Rattle.std.specs.Prelude.{Bool, true, false, ◌||◌, List, [], ◌∷◌, ◌++◌, codes, drop, length, nat_eq, if◌then◌else◌}
+use Rattle.std.specs.List.{starts_with}
+use Rattle.std.specs.Str.{bytes_eq}
+use Rattle.clap.specs.Words.{Text}
+use Rattle.mh_opts.specs.declared.twice.Seen.{Seen}
+use Rattle.mh_opts.specs.declared.twice.Seen.TheVariants.{Nothing, One, All}
+use Rattle.mh_opts.specs.declared.twice.TheConstants.{AGAIN, ONCE, ONCE_WITH_VALUE}
+
+-- a word ends the options
+abbrev pub is_end : Text → Bool
+is_end word = bytes_eq word (codes "--")
+
+-- a word is the option, alone or with its value
+abbrev pub is_use : Text → Bool
+is_use word = bytes_eq word ONCE.now || starts_with nat_eq word ONCE_WITH_VALUE.now
+
+-- a use with the other name
+abbrev pub again : Text → Text
+again word = if starts_with nat_eq word ONCE.now then AGAIN.now ++ drop (length ONCE.now) word else word
+
+abbrev pub if_use : Text → Seen → Seen → Seen
+if_use word at_use else_seen = if is_end word then All else (if is_use word then at_use else else_seen)
+
+abbrev pub seen_after : Seen → Text → Seen
+seen_after Nothing word = if_use word One Nothing
+seen_after One word = if_use word All One
+seen_after All word = All
+
+abbrev pub word_with : Seen → Text → Text
+word_with Nothing word = word
+word_with One word = if is_use word then again word else word
+word_with All word = word
+
+abbrev pub renamed_from : Seen → List Text → List Text
+renamed_from seen [] = []
+renamed_from seen (word ∷ words) = word_with seen word ∷ renamed_from (seen_after seen word) words
+
+abbrev pub renamed : List Text → List Text
+renamed words = renamed_from Nothing words
+
+-- a word before the end of the options begins with the other name
+abbrev pub is_reserved : List Text → Bool
+is_reserved [] = false
+is_reserved (word ∷ words) = if is_end word then false else (if starts_with nat_eq word AGAIN.now then true else is_reserved words)

@@ -3,9 +3,9 @@ ghost use Rattle.std.specs.Prelude.{◌≡◌, IfOk, false};
 ghost use Rattle.clap.specs.Words.{app_of, rule_of, with_rule};
 ghost use Rattle.mh_opts.specs.App.{bare_app, grammars_rule, menhir_app, option_rule, plain, plain_rows, with_options};
 
+use crate::alone::files;
 use crate::jobs::{GRAMMARS, Opt, options};
 use clap::{Arg, Command};
-use mh_together::files;
 use std::alloc::{AllocError, Global};
 
 /// The argument of an option.

@@ -14,11 +14,13 @@ use crate::jobs::{
     CANONICAL, GRAMMARS, INTERPRET_SHOW_CST, MESSAGES, Mode, NO_STDLIB, Need, Opt, SAMPLE, STRICT,
     TABLES, job_of, needs, options,
 };
+use crate::modes::{Asked, with_next};
 use crate::order::{Order, UsageFault};
+use crate::tables::has_own_table;
+use crate::twice::{is_reserved, renamed};
 use clap::ArgMatches;
 use clap::error::ErrorKind;
 use mh_grammar::{Memory, Name, Sequence, from_bytes};
-use mh_together::{Asked, has_own_table, is_reserved, renamed, with_next};
 use std::alloc::Global;
 
 /// The mode of an option, where the words hold it.

@@ -1,3 +1,4 @@
 pub mod Pieces
 pub mod LinesFound
 pub mod LinesRead
+pub mod Passes

@@ -4,3 +4,5 @@ pub mod Shelf
 pub mod Lines
 pub mod Sink
 pub mod Fakes
+pub mod Written
+pub mod Adapters

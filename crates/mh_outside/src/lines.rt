@@ -4,7 +4,7 @@ ghost use Rattle.mh_outside.specs.declared.lines.LineFault.TheVariants.{Failed a
 ghost use Rattle.mh_outside.specs.Lines.{AddsByte, ReadsByte, ReadsLine, FindsLine, LineCounts};
 ghost use Rattle.mh_outside.specs.Faults.{Counts};
 
-use crate::{Failed, Source};
+use crate::source::{Failed, Source};
 use std::alloc::Global;
 
 /// Why a line was not read.

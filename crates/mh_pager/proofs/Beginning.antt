@@ -3,7 +3,7 @@ use Rattle.std.proofs.Common.{◌≡◌, ◌+◌, ◌<◌, ◌≤◌, ℕ, zero,
 use Rattle.std.specs.List.{slice_get, range_with_len}
 use Rattle.std.proofs.lemmas.List.FromFn.{length-range_with_len, get_or-range_with_len}
 use Rattle.mh_grammar.specs.Placed.{Placed}
-use Rattle.mh_states.proofs.Starting.{range_push, range_from}
+use Rattle.mh_canon_states.proofs.Starting.{range_push, range_from}
 
 placed_next : (old new : List ℕ) (s n : ℕ) → old ≡ range_with_len 0 s → Placed old new s n → new ≡ range_with_len 0 (s + 1)
 placed_next old new s n e p = elim p.grown [

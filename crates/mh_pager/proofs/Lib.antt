@@ -1,3 +1,6 @@
+pub mod Combining
+pub mod Indexing
+pub mod Uniting
 pub mod Beginning
 pub mod Readying
 pub mod Rowing

@@ -8,11 +8,11 @@ use Rattle.mh_grammar.specs.declared.types.Symbol.{Symbol}
 use Rattle.mh_grammar.specs.declared.edges.Edge.{Edge}
 use Rattle.mh_grammar.specs.Plain.{PlainGrammar}
 use Rattle.mh_grammar.proofs.Lists.{contains_there, contains_one}
-use Rattle.mh_kernels.specs.Shapes.{Kernel}
-use Rattle.mh_kernels.specs.Kernels.{IsItemList}
-use Rattle.mh_knuth.specs.Canonical.{targets_of}
-use Rattle.mh_merging.specs.Steps.{Work, Queues, Puts, IsMoveOf, AllPut, symbols_of, IsStep, IsReady}
-use Rattle.mh_merging.proofs.Putting.{Came, stays, joins, fresh, came, put_length}
+use Rattle.mh_items_kernels.specs.Shapes.{Kernel}
+use Rattle.mh_items_kernels.specs.Kernels.{IsItemList}
+use Rattle.mh_canon_states.specs.Canonical.{targets_of}
+use Rattle.mh_pager_steps.specs.Steps.{Work, Queues, Puts, IsMoveOf, AllPut, symbols_of, IsStep, IsReady}
+use Rattle.mh_pager_steps.proofs.Putting.{Came, stays, joins, fresh, came, put_length}
 
 module _ (g : PlainGrammar) (move : Kernel) (old new : Work) (n : ℕ) (valid : IsItemList g move) (ready : IsReady g old) where
   of_came : (m : ℕ) (k : Kernel) → Came g move old new m k → IsItemList g k

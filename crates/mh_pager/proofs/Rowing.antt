@@ -8,16 +8,16 @@ use Rattle.mh_grammar.specs.Plain.{PlainGrammar, rhs_of}
 use Rattle.mh_grammar.specs.Edges.{IsRising, IsSymbolBefore}
 use Rattle.mh_grammar.specs.ItemSets as items
 use Rattle.mh_grammar.specs.ItemSets.{AreSame, Close, Moved}
-use Rattle.mh_kernels.specs.Shapes.{Items, Kernel}
-use Rattle.mh_kernels.specs.Kernels.{Holds, IsItemList}
-use Rattle.mh_knuth.specs.Canonical.{HasItem, targets_of}
-use Rattle.mh_kernels.specs.Collection.{IsBehindDot}
-use Rattle.mh_knuth.proofs.Sets.{same_sym, same_trans, has_same, moved_same, place_holds}
+use Rattle.mh_items_kernels.specs.Shapes.{Items, Kernel}
+use Rattle.mh_items_kernels.specs.Kernels.{Holds, IsItemList}
+use Rattle.mh_canon_states.specs.Canonical.{HasItem, targets_of}
+use Rattle.mh_items_kernels.specs.Collection.{IsBehindDot}
+use Rattle.mh_canon_states.proofs.Sets.{same_sym, same_trans, has_same, moved_same, place_holds}
 use Rattle.mh_pager.specs.Stepping.{RowIn, OverIn}
-use Rattle.mh_merging.specs.Steps.{Work, Puts, IsMoveOf, AllPut, AreMoving, IsStep, Overruns, IsReady}
+use Rattle.mh_pager_steps.specs.Steps.{Work, Puts, IsMoveOf, AllPut, AreMoving, IsStep, Overruns, IsReady}
 use Rattle.mh_pager.proofs.Readying.{all_put_push, all_put_ready}
-use Rattle.mh_kernels.proofs.Dotted.{drop_from-slice_get}
-use Rattle.mh_knuth.proofs.Edging.{behind_moved}
+use Rattle.mh_items_kernels.proofs.Dotted.{drop_from-slice_get}
+use Rattle.mh_canon_states.proofs.Edging.{behind_moved}
 
 -- a move of a closure is one of the kernel that it was made of
 module _ (g : PlainGrammar) (closed : Items) (move : Kernel) (X : Symbol) (valid : IsItemList g move) (same : AreSame (Holds move) (Moved g (Holds closed) X)) (some : HasItem (Moved g (Holds closed) X)) where

@@ -6,10 +6,10 @@ use Rattle.std.proofs.lemmas.List.{length-set, length_push}
 use Rattle.mh_grammar.specs.declared.types.Symbol.{Symbol}
 use Rattle.mh_grammar.specs.declared.edges.Edge.{Edge}
 use Rattle.mh_grammar.specs.Plain.{PlainGrammar}
-use Rattle.mh_kernels.specs.Shapes.{Kernel}
-use Rattle.mh_knuth.specs.Canonical.{targets_of}
-use Rattle.mh_merging.specs.Steps.{Work, Queues, Joins, Appends, Puts, AllPut, symbols_of, IsStep}
-use Rattle.mh_merging.proofs.Only.{all_put_longer}
+use Rattle.mh_items_kernels.specs.Shapes.{Kernel}
+use Rattle.mh_canon_states.specs.Canonical.{targets_of}
+use Rattle.mh_pager_steps.specs.Steps.{Work, Queues, Joins, Appends, Puts, AllPut, symbols_of, IsStep}
+use Rattle.mh_pager_steps.proofs.Only.{all_put_longer}
 use Rattle.mh_pager.proofs.Sizes.{size, full, size_full, size_covers}
 
 -- how many items the kernels lack

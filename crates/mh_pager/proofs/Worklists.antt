@@ -8,14 +8,14 @@ use Rattle.std.proofs.lemmas.Option.{slice_get_within}
 use Rattle.mh_grammar.specs.declared.edges.Edge.{Edge}
 use Rattle.mh_grammar.specs.Plain.{PlainGrammar, IsInRange}
 use Rattle.mh_grammar.proofs.Lists.{get_left, get_last, at_contains}
-use Rattle.mh_kernels.specs.Shapes.{Kernel}
-use Rattle.mh_kernels.specs.Automaton.{start_kernel}
-use Rattle.mh_knuth.specs.declared.limits.TheConstants.{MAX_STATES}
-use Rattle.mh_merging.specs.Steps.{Work, IsStep, Steps, none, more, IsBegun, AreBegun, IsList, IsReady, Overruns, IsSwollen, start_numbers}
+use Rattle.mh_items_kernels.specs.Shapes.{Kernel}
+use Rattle.mh_items_kernels.specs.Automaton.{start_kernel}
+use Rattle.mh_canon_states.specs.declared.limits.TheConstants.{MAX_STATES}
+use Rattle.mh_pager_steps.specs.Steps.{Work, IsStep, Steps, none, more, IsBegun, AreBegun, IsList, IsReady, Overruns, IsSwollen, start_numbers}
 use Rattle.mh_pager.proofs.Readying.{step_ready}
-use Rattle.mh_merging.proofs.Sound.{begun_running, start_numbers_at}
+use Rattle.mh_pager_steps.proofs.Sound.{begun_running, start_numbers_at}
 use Rattle.mh_pager.proofs.Weights.{weight, step_weight}
-use Rattle.mh_states.proofs.Starting.{range_push}
+use Rattle.mh_canon_states.proofs.Starting.{range_push}
 
 -- from so many start kernels to the first list
 pub begun_of : (g : PlainGrammar) (w : Work) → AreBegun (length g.starts) w → IsBegun g w

@@ -4,12 +4,12 @@ use Rattle.mh_grammar.specs.declared.types.Symbol.{Symbol}
 use Rattle.mh_grammar.specs.declared.edges.Edge.{Edge}
 use Rattle.mh_grammar.specs.Plain.{PlainGrammar}
 use Rattle.mh_grammar.specs.ItemSets.{AreSame, Close}
-use Rattle.mh_kernels.specs.Shapes.{Items, Kernel}
-use Rattle.mh_kernels.specs.Kernels.{Holds, IsItemList}
-use Rattle.mh_moves.specs.Moves.{Move, AreMoves}
-use Rattle.mh_knuth.specs.Canonical.{targets_of}
-use Rattle.mh_merging.specs.Steps.{Work, AllPut, symbols_of}
-use Rattle.mh_worklist.specs.declared.worklist.Worklist.{Worklist}
+use Rattle.mh_items_kernels.specs.Shapes.{Items, Kernel}
+use Rattle.mh_items_kernels.specs.Kernels.{Holds, IsItemList}
+use Rattle.mh_items.specs.Moves.{Move, AreMoves}
+use Rattle.mh_canon_states.specs.Canonical.{targets_of}
+use Rattle.mh_pager_steps.specs.Steps.{Work, AllPut, symbols_of}
+use Rattle.mh_pager.specs.declared.worklist.Worklist.{Worklist}
 
 -- the list before the state whose turn it is was taken from the queue
 abbrev pub with_first : {W : ℕ} → Worklist W → ℕ → Work

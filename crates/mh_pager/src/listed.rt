@@ -1,16 +1,16 @@
 //! The list that the steps make, from the start kernels until no state waits.
 ghost use Rattle.std.specs.Prelude.{◌≡◌, ◌<◌, ◌≤◌, ◌*◌, [], ℕ, length, Err, OnOk};
 ghost use Rattle.mh_grammar.specs.Plain.{plain_of, IsInRange};
-ghost use Rattle.mh_mover.specs.Mover.{IsMover};
-ghost use Rattle.mh_worklist.specs.Worklist.{work_of, IsKept};
-ghost use Rattle.mh_merging.specs.Steps.{AreBegun, IsList, IsSwollen};
+ghost use Rattle.mh_items.specs.Mover.{IsMover};
+ghost use Rattle.mh_pager.specs.Worklist.{work_of, IsKept};
+ghost use Rattle.mh_pager_steps.specs.Steps.{AreBegun, IsList, IsSwollen};
 
 use crate::stepping::step;
+use crate::worklist::Worklist;
+use mh_canon_states::MAX_STATES;
 use mh_grammar::{Grammar, Memory};
-use mh_kernels::{StatesFault, start_kernel};
-use mh_knuth::MAX_STATES;
-use mh_mover::Mover;
-use mh_worklist::Worklist;
+use mh_items::Mover;
+use mh_items_kernels::{StatesFault, start_kernel};
 use std::alloc::Global;
 
 /// Makes steps until no state waits, over a list that has no states yet.

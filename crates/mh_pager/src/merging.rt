@@ -1,21 +1,21 @@
 //! The merged automaton: the states of the last list that the starts reach, numbered anew.
 ghost use Rattle.std.specs.Prelude.{◌≡◌, ◌↔◌, ◌≤◌, ◌*◌, [], length, Err, IfOk, OnOk};
 ghost use Rattle.mh_grammar.specs.Plain.{plain_of, IsInRange};
-ghost use Rattle.mh_kernels.specs.Shapes.{Automaton as AutomatonOf};
-ghost use Rattle.mh_kernels.specs.Automaton.{IsAutomaton};
-ghost use Rattle.mh_knuth.specs.Canonical.{IsCanonical};
-ghost use Rattle.mh_kernels.specs.Conflicts.{IsConflicting, IsFaulty};
-ghost use Rattle.mh_merging.specs.Paths.{CoversPaths};
-ghost use Rattle.mh_worklist.specs.Worklist.{work_of, IsKept};
-ghost use Rattle.mh_merging.specs.Steps.{IsList, IsMerged, IsSwollen};
+ghost use Rattle.mh_items_kernels.specs.Shapes.{Automaton as AutomatonOf};
+ghost use Rattle.mh_items_kernels.specs.Automaton.{IsAutomaton};
+ghost use Rattle.mh_canon_states.specs.Canonical.{IsCanonical};
+ghost use Rattle.mh_items_kernels.specs.Conflicts.{IsConflicting, IsFaulty};
+ghost use Rattle.mh_pager_steps.specs.Paths.{CoversPaths};
+ghost use Rattle.mh_pager.specs.Worklist.{work_of, IsKept};
+ghost use Rattle.mh_pager_steps.specs.Steps.{IsList, IsMerged, IsSwollen};
 
 use crate::listed::list_all;
 use crate::numbering::{pick, reach};
 use crate::starts::kept_first;
+use crate::worklist::Worklist;
+use mh_canon_states::MAX_STATES;
 use mh_grammar::{Grammar, Memory, Sequence};
-use mh_kernels::{Automaton, StatesFault};
-use mh_knuth::MAX_STATES;
-use mh_worklist::Worklist;
+use mh_items_kernels::{Automaton, StatesFault};
 use std::alloc::Global;
 
 /// Pager's merged automaton of a grammar (Pager 1977). `TooManyStates` comes exactly where the list of its steps comes to

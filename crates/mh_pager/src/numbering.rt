@@ -2,17 +2,17 @@
 ghost use Rattle.std.specs.Prelude.{◌≡◌, ◌<◌, ◌≤◌, [], ℕ, Some, length, slice_get, IfOk, OnOk};
 ghost use Rattle.std.specs.List.{All, AllZip};
 ghost use Rattle.mh_grammar.specs.Placed.{Placed};
-ghost use Rattle.mh_knuth.specs.Canonical.{targets_of};
-ghost use Rattle.mh_merging.specs.Numbered.{AreBelow, IsRenamed, AreReached, AreClosed};
-ghost use Rattle.mh_merging.specs.Steps.{start_numbers};
+ghost use Rattle.mh_canon_states.specs.Canonical.{targets_of};
+ghost use Rattle.mh_pager_steps.specs.Numbered.{AreBelow, IsRenamed, AreReached, AreClosed};
+ghost use Rattle.mh_pager_steps.specs.Steps.{start_numbers};
 ghost use Rattle.std.specs.List.{range_with_len};
 
 use crate::starts::place_state;
+use crate::unions::copied;
 use indexmap::IndexSet;
+use mh_canon_states::MAX_STATES;
 use mh_grammar::{Edge, Memory, Sequence};
-use mh_kernels::Kernel;
-use mh_knuth::MAX_STATES;
-use mh_worklist::copied;
+use mh_items_kernels::Kernel;
 use std::alloc::Global;
 
 /// Adds the states that the starts lead to, by their old numbers in the order of the new ones, and the edges of each in

@@ -4,9 +4,8 @@ ghost use Rattle.std.specs.List.{range_with_len};
 ghost use Rattle.mh_grammar.specs.Placed.{Placed};
 
 use indexmap::IndexSet;
+use mh_canon_states::{MAX_STATES, first_states};
 use mh_grammar::Memory;
-use mh_knuth::MAX_STATES;
-use mh_states::first_states;
 use std::alloc::{AllocFailed, Global};
 
 /// The states of the starts.

@@ -1,20 +1,19 @@
 //! One step: the oldest state that waits gets its edges.
 ghost use Rattle.std.specs.Prelude.{◌≡◌, ◌<◌, ◌≤◌, ◌*◌, ◌∷◌, ℕ, length, Err, IfOk, OnOk};
 ghost use Rattle.mh_grammar.specs.Plain.{plain_of, IsInRange};
-ghost use Rattle.mh_kernels.specs.Shapes.{Kernel as KernelOf};
-ghost use Rattle.mh_kernels.specs.Kernels.{IsItemList};
-ghost use Rattle.mh_moves.specs.Moves.{AreMoves};
-ghost use Rattle.mh_mover.specs.Mover.{IsMover};
+ghost use Rattle.mh_items_kernels.specs.Shapes.{Kernel as KernelOf};
+ghost use Rattle.mh_items_kernels.specs.Kernels.{IsItemList};
+ghost use Rattle.mh_items.specs.Moves.{AreMoves};
+ghost use Rattle.mh_items.specs.Mover.{IsMover};
 ghost use Rattle.mh_pager.specs.Stepping.{with_first, PutsAll, OverrunsAll};
-ghost use Rattle.mh_worklist.specs.Worklist.{work_of, IsKept};
-ghost use Rattle.mh_merging.specs.Steps.{IsReady, IsStep, Overruns};
+ghost use Rattle.mh_pager.specs.Worklist.{work_of, IsKept};
+ghost use Rattle.mh_pager_steps.specs.Steps.{IsReady, IsStep, Overruns};
 
+use crate::worklist::Worklist;
+use mh_canon_states::MAX_STATES;
 use mh_grammar::{Edge, Grammar, Sequence};
-use mh_kernels::StatesFault;
-use mh_knuth::MAX_STATES;
-use mh_mover::Mover;
-use mh_moves::Move;
-use mh_worklist::Worklist;
+use mh_items::{Move, Mover};
+use mh_items_kernels::StatesFault;
 use std::alloc::Global;
 
 /// Puts the moves of a state somewhere, in the order of symbols.

@@ -1,0 +1,4 @@
+mod Choosing
+mod Costing
+mod First
+mod Spelled

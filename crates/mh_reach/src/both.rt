@@ -1,14 +1,15 @@
 //! Both searches of a table.
 ghost use Rattle.std.specs.Prelude.{◌≡◌, IfOk};
-ghost use Rattle.mh_ways.specs.Classes.{IsClasses};
+ghost use Rattle.mh_facts.specs.Classes.{IsClasses};
 
-use mh_arrivals::arrive::arrive;
+use crate::best::reach_by;
+use crate::sentences::Reach;
+use mh_facts::Classes;
 use mh_grammar::Memory;
-use mh_past::classes_of;
-use mh_search::search;
-use mh_sentences::{Reach, reach_by};
-use mh_tables::Halting;
-use mh_ways::Classes;
+use mh_reach_arrivals::arrive::arrive;
+use mh_reach_classes::classes_of;
+use mh_reach_paths::search;
+use mh_tables_core::Halting;
 use std::alloc::Global;
 
 /// Searches a table whose classes of tokens are known.

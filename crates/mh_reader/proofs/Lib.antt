@@ -1,10 +1,2 @@
-pub mod Heads
-pub mod Again
-pub mod Sound
-pub mod Exact
-pub mod Fitting
-pub mod Lines
-pub mod Short
-pub mod Shallow
-pub mod Filled
-pub mod Steps
+pub mod Laid
+pub mod Reprinted

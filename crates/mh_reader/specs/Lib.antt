@@ -1,3 +1,1 @@
-pub mod Limits
-pub mod Faults
-pub mod Pieces
+pub mod Printed

@@ -1,11 +1,11 @@
-//! The module that a grammar file spells.
+//! The text of a module, from which the module is read again.
 #![tactic(auto)]
 
-mod actuals;
-mod advance;
-mod laws;
-mod reading;
+mod printing;
 
-pub use laws::{cost_is_spelled, line_once, spelled_once};
-pub use mh_rules::{Actual, Alternative, LevelDecl, Module, Ref, Rule, TokenDecl};
-pub use reading::read_module;
+pub use mh_lex::SyntaxFault;
+pub use mh_reader_parser::{
+    Actual, Alternative, LevelDecl, Module, Ref, Rule, TokenDecl, cost_is_spelled, line_once,
+    read_module, spelled_once,
+};
+pub use printing::print_module;

@@ -4,14 +4,14 @@ use Rattle.std.proofs.lemmas.List.{same_lists, get_or_default}
 use Rattle.std.specs.Prelude.{MatchBool}
 use Rattle.mh_grammar.specs.declared.types.Grammar.{Grammar}
 use Rattle.mh_grammar.specs.declared.types.Look.TheVariants.{Token}
-use Rattle.mh_kernels.specs.Shapes.{Automaton}
-use Rattle.mh_kernels.specs.Automaton.{kernel_at, edges_at}
-use Rattle.mh_tables.specs.declared.parts.Fallback.{Fallback}
-use Rattle.mh_tables.specs.declared.parts.Fallback.TheVariants as fallbacks
-use Rattle.mh_tables.specs.Table.{TableData, fallback_of}
-use Rattle.mh_cells.specs.declared.kinds.Mode.{Mode}
-use Rattle.mh_cells.specs.States.{State, state_of, IsHoleOn}
-use Rattle.mh_cells.specs.Holes.{AreHoles}
+use Rattle.mh_items_kernels.specs.Shapes.{Automaton}
+use Rattle.mh_items_kernels.specs.Automaton.{kernel_at, edges_at}
+use Rattle.mh_tables_core.specs.declared.parts.Fallback.{Fallback}
+use Rattle.mh_tables_core.specs.declared.parts.Fallback.TheVariants as fallbacks
+use Rattle.mh_tables_core.specs.Table.{TableData, fallback_of}
+use Rattle.mh_resolve_cells.specs.declared.kinds.Mode.{Mode}
+use Rattle.mh_resolve_cells.specs.States.{State, state_of, IsHoleOn}
+use Rattle.mh_resolve_cells.specs.Holes.{AreHoles}
 use Rattle.mh_grammar.specs.Text.{Text}
 use Rattle.mh_report.specs.Automata.{title, cell_lines, head_line, kernel_lines, goto_lines, AreActionLines, IsStateText, AreStateTexts, IsAutomatonText}
 

@@ -2,12 +2,12 @@
 use Rattle.std.proofs.Common.{◌≡◌, ◌<◌, ℕ, suc, List, ◌++◌, length, get_or, refl, ap, sym, subst, ◌∙◌, append_assoc}
 use Rattle.mh_grammar.specs.declared.types.Grammar.{Grammar}
 use Rattle.mh_grammar.specs.declared.edges.Edge.{Edge}
-use Rattle.mh_kernels.specs.Shapes.{Kernel}
-use Rattle.mh_kernels.specs.Shapes.{KernelItem}
-use Rattle.mh_kernels.specs.Shapes.{Automaton}
-use Rattle.mh_kernels.specs.Automaton.{kernel_at, edges_at}
-use Rattle.mh_tables.specs.Table.{TableData, fallback_of}
-use Rattle.mh_cells.proofs.Resolving.{kernel_is, edges_are}
+use Rattle.mh_items_kernels.specs.Shapes.{Kernel}
+use Rattle.mh_items_kernels.specs.Shapes.{KernelItem}
+use Rattle.mh_items_kernels.specs.Shapes.{Automaton}
+use Rattle.mh_items_kernels.specs.Automaton.{kernel_at, edges_at}
+use Rattle.mh_tables_core.specs.Table.{TableData, fallback_of}
+use Rattle.mh_resolve_cells.proofs.Resolving.{kernel_is, edges_are}
 use Rattle.mh_grammar.specs.Text.{Text}
 use Rattle.mh_report.specs.Automata.{head_line, kernel_lines, goto_lines, AreActionLines, IsStateText, AreStateTexts, Adds}
 

@@ -5,21 +5,21 @@ use Rattle.mh_grammar.specs.declared.types.Symbol.{Symbol}
 use Rattle.mh_grammar.specs.declared.types.Symbol.TheVariants.{T, N}
 use Rattle.mh_grammar.specs.declared.edges.Edge.{Edge}
 use Rattle.mh_grammar.specs.Names.{token_name, nonterminal_name}
-use Rattle.mh_kernels.specs.Shapes.{KernelItem}
-use Rattle.mh_kernels.specs.Shapes.{Automaton}
-use Rattle.mh_kernels.specs.Automaton.{kernel_at, edges_at}
-use Rattle.mh_tables.specs.declared.parts.Action.{Action}
-use Rattle.mh_tables.specs.declared.parts.Action.TheVariants.{Shift, Reduce, Refuse}
-use Rattle.mh_tables.specs.declared.parts.Fallback.{Fallback}
-use Rattle.mh_tables.specs.declared.parts.Fallback.TheVariants as fallbacks
-use Rattle.mh_tables.specs.Table.{TableData, cell_of, fallback_of}
-use Rattle.mh_cells.specs.Names.{mode_name}
-use Rattle.mh_cells.specs.declared.kinds.Mode.{Mode}
-use Rattle.mh_cells.specs.States.{state_of}
-use Rattle.mh_cells.specs.Holes.{AreHoles}
+use Rattle.mh_items_kernels.specs.Shapes.{KernelItem}
+use Rattle.mh_items_kernels.specs.Shapes.{Automaton}
+use Rattle.mh_items_kernels.specs.Automaton.{kernel_at, edges_at}
+use Rattle.mh_tables_core.specs.declared.parts.Action.{Action}
+use Rattle.mh_tables_core.specs.declared.parts.Action.TheVariants.{Shift, Reduce, Refuse}
+use Rattle.mh_tables_core.specs.declared.parts.Fallback.{Fallback}
+use Rattle.mh_tables_core.specs.declared.parts.Fallback.TheVariants as fallbacks
+use Rattle.mh_tables_core.specs.Table.{TableData, cell_of, fallback_of}
+use Rattle.mh_resolve_cells.specs.Names.{mode_name}
+use Rattle.mh_resolve_cells.specs.declared.kinds.Mode.{Mode}
+use Rattle.mh_resolve_cells.specs.States.{state_of}
+use Rattle.mh_resolve_cells.specs.Holes.{AreHoles}
 use Rattle.mh_grammar.specs.Text.{Text}
-use Rattle.mh_notation.specs.Items.{production_text, item_lines}
-use Rattle.mh_notation.specs.Cells.{refusal_line}
+use Rattle.mh_report_notation.specs.Items.{production_text, item_lines}
+use Rattle.mh_report_notation.specs.Cells.{refusal_line}
 
 abbrev pub title : Mode → ℕ → Text
 title mode states = mode_name mode ++ codes ": " ++ decimal states ++ codes " states\n"

@@ -2,23 +2,23 @@
 ghost use Rattle.std.specs.Prelude.{◌≡◌, ◌<◌, ◌≤◌, ◌++◌, length, codes, decimal, IfOk, OnOk};
 ghost use Rattle.std.specs.List.{All};
 ghost use Rattle.mh_grammar.specs.Plain.{plain_of, IsInRange};
-ghost use Rattle.mh_kernels.specs.Kernels.{IsKernelItem};
-ghost use Rattle.mh_kernels.specs.Automaton.{IsAutomaton, kernel_at, edges_at};
-ghost use Rattle.mh_tables.specs.Table.{cell_of, fallback_of};
-ghost use Rattle.mh_cells.specs.declared.kinds.Mode.{Mode as ModeOf};
-ghost use Rattle.mh_cells.specs.States.{IsTableOf};
-ghost use Rattle.mh_cells.specs.Names.{mode_name};
-ghost use Rattle.mh_notation.specs.Items.{production_text};
+ghost use Rattle.mh_items_kernels.specs.Kernels.{IsKernelItem};
+ghost use Rattle.mh_items_kernels.specs.Automaton.{IsAutomaton, kernel_at, edges_at};
+ghost use Rattle.mh_tables_core.specs.Table.{cell_of, fallback_of};
+ghost use Rattle.mh_resolve_cells.specs.declared.kinds.Mode.{Mode as ModeOf};
+ghost use Rattle.mh_resolve_cells.specs.States.{IsTableOf};
+ghost use Rattle.mh_resolve_cells.specs.Names.{mode_name};
+ghost use Rattle.mh_report_notation.specs.Items.{production_text};
 ghost use Rattle.mh_report.specs.Automata.{title, kernel_lines, cell_line, cell_lines, goto_line, goto_lines, head_line, AreActionLines, IsStateText, IsAutomatonText, Adds};
 
-use mh_cells::Mode;
 use mh_grammar::{Edge, Grammar, Memory, Symbol, Token, nonterminal_name, token_name};
-use mh_kernels::{Automaton, KernelItem};
-use mh_notation::{
+use mh_items_kernels::{Automaton, KernelItem};
+use mh_report_notation::{
     write_between, write_indented, write_item_lines, write_production, write_refusal,
 };
-use mh_settling::holes_of;
-use mh_tables::{Action, Fallback, Halting, Table};
+use mh_resolve_cells::Mode;
+use mh_resolve_settle::holes_of;
+use mh_tables_core::{Action, Fallback, Halting, Table};
 use std::alloc::Global;
 
 /// The name of a mode.

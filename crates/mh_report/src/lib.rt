@@ -5,5 +5,6 @@ mod automata;
 mod warnings;
 
 pub use automata::{automaton_text, mode_name};
-pub use mh_notation::{look_name, write_number};
+pub use mh_report_comments::comment_lines;
+pub use mh_report_notation::{look_name, write_number};
 pub use warnings::warning_text;

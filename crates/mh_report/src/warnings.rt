@@ -2,9 +2,9 @@
 ghost use Rattle.std.specs.Prelude.{◌≡◌, ◌++◌, IfOk};
 ghost use Rattle.mh_report.specs.Warnings.{warning_line, warning_lines};
 
-use mh_cells::Conflict;
 use mh_grammar::{Grammar, Memory};
-use mh_notation::write_warning;
+use mh_report_notation::write_warning;
+use mh_resolve_cells::Conflict;
 use std::alloc::Global;
 
 /// A line for each conflict that levels do not solve, in the order of the list. The numbers of tokens are the

@@ -10,22 +10,22 @@ use Rattle.mh_grammar.specs.declared.types.Look.{Look}
 use Rattle.mh_grammar.specs.declared.types.Look.TheVariants.{Token, End}
 use Rattle.mh_grammar.specs.declared.edges.Edge.{Edge}
 use Rattle.mh_grammar.specs.Plain.{plain_of, IsLookBelow}
-use Rattle.mh_kernels.specs.Empties.{HasComplete}
-use Rattle.mh_kernels.specs.Shapes.{Items, Kernel}
-use Rattle.mh_kernels.specs.Shapes.{KernelItem}
-use Rattle.mh_kernels.specs.Kernels.{IsItemList, IsKernelItem}
-use Rattle.mh_tables.specs.declared.parts.Action.{Action}
-use Rattle.mh_tables.specs.declared.parts.Action.TheVariants.{Shift, Reduce, Refuse}
-use Rattle.mh_tables.specs.declared.parts.StateParts.{StateParts}
-use Rattle.mh_cells.specs.declared.kinds.Mode.{Mode}
-use Rattle.mh_cells.specs.declared.cells.Cell.{Cell}
-use Rattle.mh_cells.specs.States.{Raw, IsCandidate, IsForErrors, place_of, IsResolved}
-use Rattle.mh_cells.specs.code.Rows.{listed, AreCells, IsDecidedOn, IsStreamIn, IsDefaultIn, IsLooked, no_cell}
-use Rattle.mh_cells.specs.code.Whole.{closed_state, kept_of, IsFiller, filled_with, fallback_for, IsKnown, IsRow, AreEdgesKnown}
-use Rattle.mh_cells.specs.code.Counting.{AreLooksKnown}
+use Rattle.mh_items_kernels.specs.Empties.{HasComplete}
+use Rattle.mh_items_kernels.specs.Shapes.{Items, Kernel}
+use Rattle.mh_items_kernels.specs.Shapes.{KernelItem}
+use Rattle.mh_items_kernels.specs.Kernels.{IsItemList, IsKernelItem}
+use Rattle.mh_tables_core.specs.declared.parts.Action.{Action}
+use Rattle.mh_tables_core.specs.declared.parts.Action.TheVariants.{Shift, Reduce, Refuse}
+use Rattle.mh_tables_core.specs.declared.parts.StateParts.{StateParts}
+use Rattle.mh_resolve_cells.specs.declared.kinds.Mode.{Mode}
+use Rattle.mh_resolve_cells.specs.declared.cells.Cell.{Cell}
+use Rattle.mh_resolve_cells.specs.States.{Raw, IsCandidate, IsForErrors, place_of, IsResolved}
+use Rattle.mh_resolve_cells.specs.code.Rows.{listed, AreCells, IsDecidedOn, IsStreamIn, IsDefaultIn, IsLooked, no_cell}
+use Rattle.mh_resolve_cells.specs.code.Whole.{closed_state, kept_of, IsFiller, filled_with, fallback_for, IsKnown, IsRow, AreEdgesKnown}
+use Rattle.mh_resolve_cells.specs.code.Counting.{AreLooksKnown}
 use Rattle.mh_resolve.proofs.Same.{AreAlike, decided_same}
 use Rattle.mh_grammar.proofs.Lists.{recursion_contains}
-use Rattle.mh_cells.proofs.Stating.{stream_to, stream_from, found, fallback_is, cell_is}
+use Rattle.mh_resolve_cells.proofs.Stating.{stream_to, stream_from, found, fallback_is, cell_is}
 
 -- the complete items of the closure are listed
 abbrev pub IsListed : Grammar → Kernel → Kernel → Type 0

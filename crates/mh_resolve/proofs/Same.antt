@@ -1,14 +1,14 @@
 -- One set of raw actions in two forms.
 use Rattle.std.proofs.Common.{ℕ, Option, Some, None, Bool, true, false, inl, inr}
 use Rattle.std.specs.Prelude.{MatchBool}
-use Rattle.mh_tables.specs.declared.parts.Action.{Action}
-use Rattle.mh_tables.specs.declared.parts.Action.TheVariants.{Shift, Reduce, Refuse}
-use Rattle.mh_cells.specs.Levels.{Comparison}
-use Rattle.mh_cells.specs.declared.kinds.ConflictKind.{ConflictKind}
-use Rattle.mh_cells.specs.declared.kinds.ConflictKind.TheVariants.{Solved, Unsolved, Stream}
-use Rattle.mh_cells.specs.declared.cells.Cell.{Cell}
-use Rattle.mh_cells.specs.Cells.{Stays, Takes, IsConflict, IsUnsolved}
-use Rattle.mh_cells.specs.code.Tallies.{IsTaken, IsKind, IsDecided}
+use Rattle.mh_tables_core.specs.declared.parts.Action.{Action}
+use Rattle.mh_tables_core.specs.declared.parts.Action.TheVariants.{Shift, Reduce, Refuse}
+use Rattle.mh_resolve_cells.specs.declared.levels.Comparison.{Comparison}
+use Rattle.mh_resolve_cells.specs.declared.kinds.ConflictKind.{ConflictKind}
+use Rattle.mh_resolve_cells.specs.declared.kinds.ConflictKind.TheVariants.{Solved, Unsolved, Stream}
+use Rattle.mh_resolve_cells.specs.declared.cells.Cell.{Cell}
+use Rattle.mh_resolve_cells.specs.Cells.{Stays, Takes, IsConflict, IsUnsolved}
+use Rattle.mh_resolve_cells.specs.code.Tallies.{IsTaken, IsKind, IsDecided}
 
 pub record AreAlike (R S : Action → Type 0) : Type 0 where
   pub to : (a : Action) → R a → S a

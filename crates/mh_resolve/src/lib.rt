@@ -5,6 +5,7 @@ mod found;
 mod resolution;
 mod states;
 
+pub use mh_resolve_cells::{Conflict, ConflictKind, Mode};
 pub use resolution::{
     Resolution, conflicts_are_one, conflicts_are_raw, conflicts_tell, resolve, resolve_one,
     resolve_states, table_acts, table_is_one,

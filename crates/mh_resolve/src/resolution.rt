@@ -4,24 +4,24 @@ ghost use Rattle.mh_grammar.specs.Costs.{HaveCosts};
 ghost use Rattle.mh_grammar.specs.Plain.{plain_of, IsInRange};
 ghost use Rattle.mh_grammar.specs.Edges.{IsRising, IsEdgeBefore};
 ghost use Rattle.mh_items.specs.Closer.{IsCloser};
-ghost use Rattle.mh_kernels.specs.Kernels.{IsItemList};
-ghost use Rattle.mh_kernels.specs.Empties.{HasComplete};
-ghost use Rattle.mh_kernels.specs.Automaton.{IsAutomaton};
-ghost use Rattle.mh_tables.specs.Table.{table_data, state_at};
-ghost use Rattle.mh_tables.specs.Facts.{Facts};
-ghost use Rattle.mh_cells.specs.States.{state_of, IsResolved, AreResolved, IsTableOf};
-ghost use Rattle.mh_cells.specs.Conflicts.{AreConflicts};
-ghost use Rattle.mh_kernels.specs.Conflicts.{IsConflicting, IsFaulty};
-ghost use Rattle.mh_cells.specs.Clear.{HasNoConflicts, HasRawConflict, ActsWithin, ActsClearly};
-ghost use Rattle.mh_cells.specs.code.Whole.{closed_state, IsRow, AreEdgesKnown};
+ghost use Rattle.mh_items_kernels.specs.Kernels.{IsItemList};
+ghost use Rattle.mh_items_kernels.specs.Empties.{HasComplete};
+ghost use Rattle.mh_items_kernels.specs.Automaton.{IsAutomaton};
+ghost use Rattle.mh_tables_core.specs.Table.{table_data, state_at};
+ghost use Rattle.mh_tables_core.specs.Facts.{Facts};
+ghost use Rattle.mh_resolve_cells.specs.States.{state_of, IsResolved, AreResolved, IsTableOf};
+ghost use Rattle.mh_resolve_cells.specs.Conflicts.{AreConflicts};
+ghost use Rattle.mh_items_kernels.specs.Conflicts.{IsConflicting, IsFaulty};
+ghost use Rattle.mh_resolve_cells.specs.Clear.{HasNoConflicts, HasRawConflict, ActsWithin, ActsClearly};
+ghost use Rattle.mh_resolve_cells.specs.code.Whole.{closed_state, IsRow, AreEdgesKnown};
 
 use crate::found::add_conflicts;
 use crate::states::{Listed, Row, parts_of, row_of};
-use mh_cells::{Conflict, Mode};
 use mh_grammar::{Edge, Grammar, Memory};
 use mh_items::Closer;
-use mh_kernels::{Automaton, Kernel};
-use mh_tables::{StateParts, Table, table_of};
+use mh_items_kernels::{Automaton, Kernel};
+use mh_resolve_cells::{Conflict, Mode};
+use mh_tables_core::{StateParts, Table, table_of};
 use std::alloc::Global;
 
 /// The states of a table, and the list of its conflicts.

@@ -3,20 +3,20 @@ ghost use Rattle.std.specs.Prelude.{◌≡◌, ◌<◌, ◌≤◌, length, map, 
 ghost use Rattle.std.specs.List.{All};
 ghost use Rattle.mh_grammar.specs.Plain.{plain_of};
 ghost use Rattle.mh_grammar.specs.Edges.{IsRising, IsEdgeBefore};
-ghost use Rattle.mh_kernels.specs.Kernels.{IsItemList};
-ghost use Rattle.mh_kernels.specs.Empties.{HasComplete};
-ghost use Rattle.mh_cells.specs.States.{place_of, IsResolved};
-ghost use Rattle.mh_cells.specs.code.Rows.{listed, IsLooked};
-ghost use Rattle.mh_cells.specs.code.Whole.{closed_state, IsFiller, filled_with, fallback_for, AreEdgesKnown, IsRow};
+ghost use Rattle.mh_items_kernels.specs.Kernels.{IsItemList};
+ghost use Rattle.mh_items_kernels.specs.Empties.{HasComplete};
+ghost use Rattle.mh_resolve_cells.specs.States.{place_of, IsResolved};
+ghost use Rattle.mh_resolve_cells.specs.code.Rows.{listed, IsLooked};
+ghost use Rattle.mh_resolve_cells.specs.code.Whole.{closed_state, IsFiller, filled_with, fallback_for, AreEdgesKnown, IsRow};
 
-use mh_cells::{Cell, Mode};
 use mh_grammar::{Edge, Grammar, Memory, Sequence};
-use mh_kernels::{Closure, Kernel, KernelItem};
-use mh_settling::{
+use mh_items_kernels::{Closure, Kernel, KernelItem};
+use mh_resolve_cells::{Cell, Mode};
+use mh_resolve_settle::{
     cell_of, cells_of, default_of, for_errors, is_stream_conflict, kept_action, shifts_of,
     tallies_of,
 };
-use mh_tables::{Action, CoreItem, Fallback, StateParts};
+use mh_tables_core::{Action, CoreItem, Fallback, StateParts};
 use std::alloc::Global;
 
 /// What a state is resolved by: its kernel, a list with the complete items of its closure, and its edges.

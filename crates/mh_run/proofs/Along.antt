@@ -1,11 +1,11 @@
 -- What goes along with a run, step by step.
 use Rattle.std.proofs.Common.{◌≡◌, ℕ, zero, suc, ◌+◌, List, length, Option, Some, None, refl, ap, arith, ◌∙◌}
 use Rattle.mh_grammar.specs.Plain.{rhs_of}
-use Rattle.mh_tables.specs.Table.{TableData}
-use Rattle.mh_tables.specs.Run.{Config, Move, Reduces, move_of, top_of, reduce, step, goes_to, next_of, after}
-use Rattle.mh_tables.specs.Halting.{look_list}
-use Rattle.mh_tables.proofs.Reductions.{move_at_next}
-use Rattle.mh_tables.proofs.Ending.{step_moves}
+use Rattle.mh_tables_core.specs.Table.{TableData}
+use Rattle.mh_tables_core.specs.Run.{Config, Move, Reduces, move_of, top_of, reduce, step, goes_to, next_of, after}
+use Rattle.mh_tables_core.specs.Halting.{look_list}
+use Rattle.mh_tables_core.proofs.Reductions.{move_at_next}
+use Rattle.mh_tables_core.proofs.Ending.{step_moves}
 use Rattle.mh_run.specs.code.Following.{Following, along, along_after}
 use Rattle.mh_run.specs.code.Settled.{left_with, standing, Leads}
 

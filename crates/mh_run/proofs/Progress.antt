@@ -2,12 +2,12 @@
 use Rattle.std.proofs.Common.{◌≡◌, ℕ, suc, ◌+◌, ◌-◌, ◌<◌, ◌≤◌, List, length, Some, Option, refl, arith, length-append}
 use Rattle.std.proofs.lemmas.List.{length-take-le}
 use Rattle.mh_grammar.specs.Plain.{rhs_of}
-use Rattle.mh_tables.specs.Table.{TableData}
-use Rattle.mh_tables.specs.Halting.{HaltingFacts, IsLook, look_list}
-use Rattle.mh_tables.specs.Run.{Reduces, move_of, top_of, reduce, IsRunStack}
-use Rattle.mh_tables.proofs.Path.{reduce_keeps}
-use Rattle.mh_tables.proofs.Reductions.{reduced}
-use Rattle.mh_tables.proofs.Settling.{Relative, relative_begins, relative_more, relative_few}
+use Rattle.mh_tables_core.specs.Table.{TableData}
+use Rattle.mh_tables_core.specs.Halting.{HaltingFacts, IsLook, look_list}
+use Rattle.mh_tables_core.specs.Run.{Reduces, move_of, top_of, reduce, IsRunStack}
+use Rattle.mh_tables_core.proofs.Path.{reduce_keeps}
+use Rattle.mh_tables_core.proofs.Reductions.{reduced}
+use Rattle.mh_tables_core.proofs.Settling.{Relative, relative_begins, relative_more, relative_few}
 use Rattle.mh_run.specs.code.Following.{Following}
 use Rattle.mh_run.specs.code.Settled.{Leads}
 use Rattle.mh_run.proofs.Along.{leads_none, leads_more}

@@ -1,8 +1,8 @@
 -- What a run says that has its last reductions along.
 use Rattle.std.proofs.Common.{◌≡◌, ℕ, zero, suc, List, [], ◌∷◌, ◌++◌, refl, ap, sym, ◌∙◌}
-use Rattle.mh_tables.specs.Table.{TableData}
-use Rattle.mh_tables.specs.Run.{Config, Move, Accepts, Asks, Refuses, Shifts, Reduces, move_of, top_of, step, next_of, initial, Ending, VerdictOf}
-use Rattle.mh_tables.proofs.Reductions.{no_shift_at_end}
+use Rattle.mh_tables_core.specs.Table.{TableData}
+use Rattle.mh_tables_core.specs.Run.{Config, Move, Accepts, Asks, Refuses, Shifts, Reduces, move_of, top_of, step, next_of, initial, Ending, VerdictOf}
+use Rattle.mh_tables_core.proofs.Reductions.{no_shift_at_end}
 use Rattle.mh_run.specs.code.Following.{Following, along, along_after, RunsSo}
 use Rattle.mh_run.specs.Trace.{since_move, reduced_since, TraceOf}
 

@@ -3,10 +3,10 @@ use Rattle.std.proofs.Common.{◌≡◌, ℕ, ◌-◌, ◌<◌, List, [], ◌∷
 use Rattle.std.proofs.lemmas.List.{get_or-take, get_or_default, length-take-le}
 use Rattle.mh_grammar.specs.declared.types.Symbol.TheVariants.{N}
 use Rattle.mh_grammar.specs.Plain.{rhs_of, lhs_of}
-use Rattle.mh_tables.specs.Table.{TableData, edge_of}
-use Rattle.mh_tables.specs.Facts.{Facts, ReducesBy}
-use Rattle.mh_tables.specs.Run.{top_of, reduce, IsRunStack}
-use Rattle.mh_tables.proofs.Path.{Finds, finds, reduce_finds, top_of_take, state_known}
+use Rattle.mh_tables_core.specs.Table.{TableData, edge_of}
+use Rattle.mh_tables_core.specs.Facts.{Facts, ReducesBy}
+use Rattle.mh_tables_core.specs.Run.{top_of, reduce, IsRunStack}
+use Rattle.mh_tables_core.proofs.Path.{Finds, finds, reduce_finds, top_of_take, state_known}
 use Rattle.mh_run.specs.code.Settled.{CanReduce, below_of}
 
 below_is : (t : TableData) (p : ℕ) (stack : List ℕ) → length (rhs_of t.grammar p) < length stack → top_of (take (length stack - length (rhs_of t.grammar p)) stack) ≡ below_of t p stack

@@ -1,11 +1,11 @@
 -- One token after another.
 use Rattle.std.proofs.Common.{◌≡◌, ℕ, suc, ◌+◌, ◌-◌, ◌<◌, ◌≤◌, List, [], ◌∷◌, ◌++◌, length, drop, get_or, Some, None, Option, refl, ap, sym, arith, ◌∙◌}
 use Rattle.std.proofs.lemmas.List.{drop_more, drop_all, get_or_default}
-use Rattle.mh_tables.specs.Table.{TableData}
-use Rattle.mh_tables.specs.Facts.{Facts}
-use Rattle.mh_tables.specs.Run.{Config, Move, Shifts, move_of, top_of, IsRunStack, Ends, step, step_by, next_of, after, Ending, initial}
-use Rattle.mh_tables.proofs.Reductions.{move_at_next, after-add}
-use Rattle.mh_tables.proofs.Ending.{step_moves, run_shift, run_begins}
+use Rattle.mh_tables_core.specs.Table.{TableData}
+use Rattle.mh_tables_core.specs.Facts.{Facts}
+use Rattle.mh_tables_core.specs.Run.{Config, Move, Shifts, move_of, top_of, IsRunStack, Ends, step, step_by, next_of, after, Ending, initial}
+use Rattle.mh_tables_core.proofs.Reductions.{move_at_next, after-add}
+use Rattle.mh_tables_core.proofs.Ending.{step_moves, run_shift, run_begins}
 use Rattle.mh_run.specs.code.Following.{Following, along, along_after, RunsSo}
 use Rattle.mh_run.specs.code.Settled.{left_with, standing, SettlesTo}
 use Rattle.mh_run.proofs.Along.{after_one_more, along_one_more, along_add}

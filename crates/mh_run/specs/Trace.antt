@@ -1,7 +1,7 @@
 -- The productions that a run reduced since its last shift.
 use Rattle.std.specs.Prelude.{◌≡◌, ℕ, zero, suc, List, [], ◌∷◌, ◌++◌}
-use Rattle.mh_tables.specs.Table.{TableData}
-use Rattle.mh_tables.specs.Run.{Config, Move, Accepts, Asks, Refuses, Shifts, Reduces, Ending, Ends, initial, move_of, top_of, step, next_of, after}
+use Rattle.mh_tables_core.specs.Table.{TableData}
+use Rattle.mh_tables_core.specs.Run.{Config, Move, Accepts, Asks, Refuses, Shifts, Reduces, Ending, Ends, initial, move_of, top_of, step, next_of, after}
 
 -- those after a move
 abbrev pub since_move : Move → List ℕ → List ℕ

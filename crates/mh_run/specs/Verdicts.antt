@@ -1,5 +1,5 @@
 -- How the run of a sentence ends, as an outcome of the code says it.
-use Rattle.mh_tables.specs.Run.{Ending, Accepted, Overshot, Rejected}
+use Rattle.mh_tables_core.specs.Run.{Ending, Accepted, Overshot, Rejected}
 use Rattle.mh_run.specs.declared.outcome.Verdict.{Verdict}
 use Rattle.mh_run.specs.declared.outcome.Verdict.TheVariants as verdicts
 

@@ -1,6 +1,6 @@
 //! Runs on whole sentences.
 ghost use Rattle.std.specs.Prelude.{◌≡◌, ◌<◌, ◌^◌, length, IfOk, All};
-ghost use Rattle.mh_tables.specs.Run.{VerdictOf, Overshot, Rejected, top_of};
+ghost use Rattle.mh_tables_core.specs.Run.{VerdictOf, Overshot, Rejected, top_of};
 ghost use Rattle.mh_run.specs.code.Following.{RunsSo};
 ghost use Rattle.mh_run.specs.Verdicts.{ending_for};
 
@@ -8,7 +8,7 @@ use crate::follow::{Alone, Follow};
 use crate::outcome::Verdict;
 use crate::settle::settle;
 use mh_grammar::{Memory, Token};
-use mh_tables::{Choice, Halting};
+use mh_tables_core::{Choice, Halting};
 use std::alloc::Global;
 
 /// The verdict of a start, by its number, on a sentence of fewer than 2^32 tokens. Fails for want of memory alone.

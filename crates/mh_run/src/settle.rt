@@ -1,15 +1,15 @@
 //! The reductions between two shifts of a run.
 ghost use Rattle.std.specs.Prelude.{◌≡◌, length, IfOk, OnOk, Some};
 ghost use Rattle.mh_grammar.specs.Plain.{rhs_of};
-ghost use Rattle.mh_tables.specs.Table.{TableData};
-ghost use Rattle.mh_tables.specs.Run.{move_of, top_of, reduce, IsRunStack, Reduces};
-ghost use Rattle.mh_tables.specs.Halting.{IsLook, look_list};
-ghost use Rattle.mh_tables.specs.Moves.{move_for};
+ghost use Rattle.mh_tables_core.specs.Table.{TableData};
+ghost use Rattle.mh_tables_core.specs.Run.{move_of, top_of, reduce, IsRunStack, Reduces};
+ghost use Rattle.mh_tables_core.specs.Halting.{IsLook, look_list};
+ghost use Rattle.mh_tables_core.specs.Moves.{move_for};
 ghost use Rattle.mh_run.specs.code.Settled.{CanReduce, SettlesTo};
 
 use crate::follow::Follow;
 use mh_grammar::{Memory, Token};
-use mh_tables::{Choice, Halting, Table, choose};
+use mh_tables_core::{Choice, Halting, Table, choose};
 use std::alloc::AllocError;
 
 /// Takes off the states of a right side, and goes on the left side.

@@ -7,7 +7,7 @@ use crate::follow::Follow;
 use crate::outcome::Verdict;
 use crate::runs::run;
 use mh_grammar::{Memory, Token};
-use mh_tables::Halting;
+use mh_tables_core::Halting;
 use std::alloc::Global;
 use std::marker::Model;
 

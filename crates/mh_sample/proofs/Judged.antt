@@ -3,8 +3,8 @@ use Rattle.std.proofs.Common.{◌≡◌, ℕ, ◌+◌, List, [], ◌∷◌, ◌+
 use Rattle.std.proofs.lemmas.Slice.Zip.{all_zipped_more}
 use Rattle.std.proofs.lemmas.List.{map-append}
 use Rattle.mh_grammar.specs.declared.types.Sentence.{Sentence}
-use Rattle.mh_tables.specs.Table.{TableData}
-use Rattle.mh_tables.specs.Run.{VerdictOf, Ending}
+use Rattle.mh_tables_core.specs.Table.{TableData}
+use Rattle.mh_tables_core.specs.Run.{VerdictOf, Ending}
 use Rattle.mh_run.specs.Verdicts.{ending_for}
 use Rattle.mh_run.specs.declared.outcome.Verdict.{Verdict}
 use Rattle.mh_grammar.specs.declared.types.Grammar.{Grammar}

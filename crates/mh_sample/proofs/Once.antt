@@ -5,10 +5,10 @@ use Rattle.std.proofs.lemmas.List.Elements.{recursion_from_All}
 use Rattle.mh_grammar.proofs.Lists.{recursion-append, zip_one}
 use Rattle.mh_grammar.specs.declared.types.Grammar.{Grammar}
 use Rattle.mh_grammar.specs.declared.types.Sentence.{Sentence}
-use Rattle.mh_tables.specs.Table.{TableData}
-use Rattle.mh_tables.specs.Run.{VerdictOf, Ending, initial}
-use Rattle.mh_tables.specs.Halting.{HaltingFacts}
-use Rattle.mh_tables.proofs.Ending.{one_ending, has_verdict}
+use Rattle.mh_tables_core.specs.Table.{TableData}
+use Rattle.mh_tables_core.specs.Run.{VerdictOf, Ending, initial}
+use Rattle.mh_tables_core.specs.Halting.{HaltingFacts}
+use Rattle.mh_tables_core.proofs.Ending.{one_ending, has_verdict}
 use Rattle.mh_grammar.specs.Plain.{plain_of}
 use Rattle.mh_msgfile.specs.Sentences.{vocabulary_of, LineFound, IsSentence, IsUnreadable, NamesNoStart, LacksStart, NamesUnknown, sentence_in}
 use Rattle.mh_msgfile.proofs.Below.{sentence_below, start_known}

@@ -4,12 +4,12 @@ use Rattle.std.specs.List.{AllZip}
 use Rattle.mh_grammar.specs.declared.types.Grammar.{Grammar}
 use Rattle.mh_grammar.specs.declared.types.Sentence.{Sentence}
 use Rattle.mh_grammar.specs.Plain.{plain_of}
-use Rattle.mh_tables.specs.Table.{TableData}
-use Rattle.mh_tables.specs.Run.{VerdictOf, Ending}
+use Rattle.mh_tables_core.specs.Table.{TableData}
+use Rattle.mh_tables_core.specs.Run.{VerdictOf, Ending}
 use Rattle.mh_msgfile.specs.Sentences.{Vocabulary, vocabulary_of, vocabulary_in, LineFound, IsSentence, sentence_in}
 use Rattle.mh_msgfile.specs.declared.lexicon.Lexicon.{Lexicon}
-use Rattle.mh_amounts.specs.declared.amounts.TheConstants.{SENTENCES}
-pub use Rattle.mh_amounts.specs.Endings.{is_accepted, is_overshot, is_rejected}
+use Rattle.mh_sample.specs.declared.amounts.TheConstants.{SENTENCES}
+pub use Rattle.mh_sample.specs.Endings.{is_accepted, is_overshot, is_rejected}
 use Rattle.mh_grammar.specs.Text.{Text}
 use Rattle.mh_sample.specs.Texts.{each_from, operators_of, sentence_text}
 

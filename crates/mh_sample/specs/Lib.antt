@@ -1,2 +1,4 @@
+pub mod Amounts
+pub mod Endings
 pub mod Texts
 pub mod Counts

@@ -1,8 +1,8 @@
 -- The sample: for each number a grammar of expressions with so many levels, and sentences of it, of which a part lacks its last
 -- parenthesis. All of it is this project's own.
 use Rattle.std.specs.Prelude.{ℕ, zero, suc, ◌+◌, ◌-◌, ◌%◌, List, [], ◌∷◌, ◌++◌, codes, decimal}
-use Rattle.mh_amounts.specs.declared.amounts.TheConstants.{SENTENCES}
-pub use Rattle.mh_amounts.specs.Amounts.{operators_of, operator_at, opened, closed}
+use Rattle.mh_sample.specs.declared.amounts.TheConstants.{SENTENCES}
+pub use Rattle.mh_sample.specs.Amounts.{operators_of, operator_at, opened, closed}
 use Rattle.mh_grammar.specs.Text.{Text}
 
 -- a text so many times

@@ -5,16 +5,17 @@ ghost use Rattle.mh_grammar.specs.Plain.{plain_of, IsInRange};
 ghost use Rattle.mh_grammar.specs.declared.types.Sentence.{Sentence as Sentence'};
 ghost use Rattle.mh_run.specs.Verdicts.{ending_for};
 ghost use Rattle.mh_msgfile.specs.Sentences.{vocabulary_in, vocabulary_of, sentence_in};
-ghost use Rattle.mh_amounts.specs.declared.amounts.TheConstants.{SENTENCES};
+ghost use Rattle.mh_sample.specs.declared.amounts.TheConstants.{SENTENCES};
 ghost use Rattle.mh_sample.specs.Texts.{each_from, operators_of, sentence_text};
 ghost use Rattle.mh_sample.specs.Counts.{HaveEndings, IsSampleLine, SpeaksOf, counts_line as counts_text, endings_text, grammar_sizes, table_sizes, is_accepted, is_overshot, is_rejected, sample_sentences, sentences_of, sentences_at};
 
+use crate::amounts::{operators, sentences};
+use crate::endings::{accepts, overshoots, rejects};
 use crate::texts::write_sentence;
-use mh_amounts::{accepts, operators, overshoots, rejects, sentences};
 use mh_grammar::{Grammar, Memory, Sentence};
 use mh_msgfile::{Lexicon, SentenceFault};
 use mh_run::{Verdict, verdict};
-use mh_tables::{Halting, Table};
+use mh_tables_core::{Halting, Table};
 use std::alloc::Global;
 
 /// Puts in the verdict of a sentence.

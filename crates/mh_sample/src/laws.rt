@@ -4,7 +4,7 @@ ghost use Rattle.mh_grammar.specs.Plain.{plain_of};
 ghost use Rattle.mh_grammar.specs.declared.types.Grammar.{Grammar};
 ghost use Rattle.mh_sample.specs.Counts.{IsSampleLine};
 
-use mh_tables::Halting;
+use mh_tables_core::Halting;
 
 /// By a grammar, its table and the size of the catalogue a sample has one line.
 pub fn sample_line_is_one(table: &Halting)

@@ -1,10 +1,10 @@
 //! The grammar and the sentences of a number.
 ghost use Rattle.std.specs.Prelude.{◌≡◌, ◌<◌, ◌≤◌, ◌+◌, ◌-◌, ◌%◌, ◌++◌, IfOk, OnOk};
-ghost use Rattle.mh_amounts.specs.declared.amounts.TheConstants.{SENTENCES};
+ghost use Rattle.mh_sample.specs.declared.amounts.TheConstants.{SENTENCES};
 ghost use Rattle.mh_sample.specs.Texts.{operators_of, each_from, token_line, left_text, right_text, level_line, last_level_line, grammar_text, operator_at, operand_text, opened, closed, sentence_text, sentence_line, sentences_text};
 
+use crate::amounts::{count_closed, operator, operators, sentences};
 use crate::repeating::write_times;
-use mh_amounts::{count_closed, operator, operators, sentences};
 use mh_grammar::Memory;
 use std::alloc::Global;
 

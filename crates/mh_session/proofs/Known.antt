@@ -3,14 +3,14 @@ use Rattle.std.proofs.Common.{◌≡◌, ◌<◌, ℕ, length, Option, None, Som
 use Rattle.std.proofs.lemmas.List.{length-map}
 use Rattle.mh_grammar.specs.declared.types.Grammar.{Grammar}
 use Rattle.mh_grammar.specs.Plain.{PlainGrammar, plain_of}
-use Rattle.mh_tables.specs.Table.{TableData}
+use Rattle.mh_tables_core.specs.Table.{TableData}
 use Rattle.mh_msgfile.specs.Sentences.{Vocabulary, vocabulary_of, start_name, start_names, token_names}
 use Rattle.mh_msgfile.proofs.Below.{bounded}
-use Rattle.mh_commands.specs.declared.command.Command.{Command}
-use Rattle.mh_commands.specs.declared.command.Command.TheVariants as commands
+use Rattle.mh_session_branches.specs.declared.command.Command.{Command}
+use Rattle.mh_session_branches.specs.declared.command.Command.TheVariants as commands
 use Rattle.mh_grammar.specs.Text.{Text}
-use Rattle.mh_branches.specs.Answers.{IsKnown}
-use Rattle.mh_branches.specs.Lines.{Form, BeginOnly, BeginAt, OfferTo, ResumeOf, ForkTo, ShowOf, TreeOf, ForgetOf, Said, Asks, NamesNoStart, LacksStart, NamesNoToken, at_only, at_start, with_token_of, said_by, LineSays}
+use Rattle.mh_session_branches.specs.Answers.{IsKnown}
+use Rattle.mh_session_branches.specs.Lines.{Form, BeginOnly, BeginAt, OfferTo, ResumeOf, ForkTo, ShowOf, TreeOf, ForgetOf, Said, Asks, NamesNoStart, LacksStart, NamesNoToken, at_only, at_start, with_token_of, said_by, LineSays}
 
 -- what is said has numbers below these counts
 abbrev IsSaidBelow : ℕ → ℕ → Said → Type 0

@@ -1,6 +1,7 @@
 pub mod Known
-pub mod Naming
+pub mod ValuesByName
 pub mod Serving
 pub mod Spelling
 pub mod Stepping
 pub mod Telling
+pub mod LinesAnswered

@@ -2,9 +2,9 @@
 use Rattle.std.proofs.Common.{◌≡◌, ℕ, suc, Bool, true, false, cond, List, [], ◌∷◌, Option, Some, None, Bor, Result, Ok, Err, refl, sym, ap, subst, ◌∙◌}
 use Rattle.std.specs.Prelude.{IfOk, IfErr, OnOk, OnErr, is_some}
 use Rattle.std.specs.Option.{option_copied}
-use Rattle.mh_tables.specs.Table.{TableData}
+use Rattle.mh_tables_core.specs.Table.{TableData}
 use Rattle.mh_engine.specs.Positions.{Position}
-use Rattle.mh_tables.specs.Deep.{too_deep}
+use Rattle.mh_tables_core.specs.Deep.{too_deep}
 use Rattle.mh_engine.specs.Phases.{phase_of, IsAsking, CanGoOn}
 use Rattle.mh_engine.specs.Steps.{begun, offered, resumed}
 use Rattle.mh_engine.specs.Branches.{Branch, StandsAt, position_of, new_branch, with_token, with_step}
@@ -13,20 +13,20 @@ use Rattle.mh_engine.specs.declared.phase.Phase.{Phase}
 use Rattle.mh_engine.specs.declared.phase.Phase.TheVariants as phases
 use Rattle.mh_engine.proofs.OneMore.{table_stays}
 use Rattle.mh_engine.proofs.Branching.{stands_begun, stands_offered, stands_resumed}
-use Rattle.mh_commands.specs.declared.command.Command.{Command}
-use Rattle.mh_commands.specs.declared.command.Command.TheVariants as commands
-use Rattle.mh_branches.specs.declared.command.Reply.{Reply}
-use Rattle.mh_branches.specs.declared.command.Reply.TheVariants as replies
-use Rattle.mh_branches.specs.declared.command.SessionFault.{SessionFault}
-use Rattle.mh_branches.specs.declared.command.SessionFault.TheVariants as faults
+use Rattle.mh_session_branches.specs.declared.command.Command.{Command}
+use Rattle.mh_session_branches.specs.declared.command.Command.TheVariants as commands
+use Rattle.mh_session_branches.specs.declared.reply.Reply.{Reply}
+use Rattle.mh_session_branches.specs.declared.reply.Reply.TheVariants as replies
+use Rattle.mh_session_branches.specs.declared.reply.SessionFault.{SessionFault}
+use Rattle.mh_session_branches.specs.declared.reply.SessionFault.TheVariants as faults
 use Rattle.mh_grammar.specs.Text.{Text}
-use Rattle.mh_branches.specs.Names.{at_name, without, with_name}
+use Rattle.mh_session_branches.specs.Renamed.{at_name, without, with_name}
 use Rattle.mh_session.specs.code.Moments.{Moment}
-use Rattle.mh_branches.specs.Answers.{Branches, Answer, answer, changed, next, next_by, phase_at, shown, of_held, of_fresh, to_offer, to_resume, step_or_deep, put_held}
+use Rattle.mh_session_branches.specs.Answers.{Branches, Answer, answer, changed, next, next_by, phase_at, shown, of_held, of_fresh, to_offer, to_resume, step_or_deep, put_held}
 use Rattle.mh_session.specs.Standing.{Fits, StandsFor}
 use Rattle.mh_session.specs.code.Puts.{Puts, AreOf}
 use Rattle.mh_session.specs.Served.{IsServed}
-use Rattle.mh_session.proofs.Naming.{finds, lacks, puts_fit, removal_fits}
+use Rattle.mh_session.proofs.ValuesByName.{finds, lacks, puts_fit, removal_fits}
 
 -- nothing is found
 pub found_none : (o : Option (Bor Checkpoint)) (p : Option Position) → option_copied o ≡ p → is_some o ≡ false → p ≡ None

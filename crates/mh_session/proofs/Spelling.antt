@@ -4,14 +4,14 @@ use Rattle.std.specs.Prelude.{codes, if◌then◌else◌}
 use Rattle.std.specs.List.{list_all}
 use Rattle.mh_lex.specs.Words.{is_word}
 use Rattle.mh_msgfile.specs.Sentences.{Vocabulary, pieces}
-use Rattle.mh_commands.specs.declared.command.Command.{Command}
-use Rattle.mh_branches.specs.declared.fault.CommandFault.{CommandFault}
-use Rattle.mh_branches.specs.declared.fault.CommandFault.TheVariants as faults
+use Rattle.mh_session_branches.specs.declared.command.Command.{Command}
+use Rattle.mh_session_branches.specs.declared.fault.CommandFault.{CommandFault}
+use Rattle.mh_session_branches.specs.declared.fault.CommandFault.TheVariants as faults
 use Rattle.mh_grammar.specs.Text.{Text}
-use Rattle.mh_branches.specs.Names.{same}
-use Rattle.mh_branches.specs.Lines.{Form, BeginOnly, BeginAt, OfferTo, ResumeOf, ForkTo, ShowOf, TreeOf, ForgetOf, words_of, HasForm, said_by, ReadsCommand}
-use Rattle.mh_branches.specs.Forms.{of_one, of_two, of_words, form_of}
-use Rattle.mh_branches.proofs.Forms.{has_form}
+use Rattle.mh_session_branches.specs.Renamed.{same}
+use Rattle.mh_session_branches.specs.Lines.{Form, BeginOnly, BeginAt, OfferTo, ResumeOf, ForkTo, ShowOf, TreeOf, ForgetOf, words_of, HasForm, said_by, ReadsCommand}
+use Rattle.mh_session_branches.specs.Forms.{of_one, of_two, of_words, form_of}
+use Rattle.mh_session_branches.proofs.Forms.{has_form}
 use Rattle.mh_session.specs.code.Forms.{ReadsSaid}
 use Rattle.mh_grammar.proofs.SameText.{same_is}
 

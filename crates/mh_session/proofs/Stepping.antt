@@ -1,11 +1,11 @@
 -- What an answer by the histories says of the reply, of the fault and of the session behind it.
 use Rattle.std.proofs.Common.{◌≡◌, ◌⊎◌, inl, inr, Result, Ok, Err, refl, ap}
 use Rattle.std.specs.Prelude.{IfOk, IfErr, OnOk, OnErr}
-use Rattle.mh_commands.specs.declared.command.Command.{Command}
-use Rattle.mh_branches.specs.declared.command.SessionFault.{SessionFault}
-use Rattle.mh_branches.specs.declared.command.SessionFault.TheVariants as faults
+use Rattle.mh_session_branches.specs.declared.command.Command.{Command}
+use Rattle.mh_session_branches.specs.declared.reply.SessionFault.{SessionFault}
+use Rattle.mh_session_branches.specs.declared.reply.SessionFault.TheVariants as faults
 use Rattle.mh_session.specs.code.Moments.{Moment}
-use Rattle.mh_branches.specs.Answers.{Branches, Answer, answer, next}
+use Rattle.mh_session_branches.specs.Answers.{Branches, Answer, answer, next}
 use Rattle.mh_session.specs.Standing.{StandsFor}
 use Rattle.mh_session.specs.Served.{IsServed, IsRefusedSo, IsTheirs}
 

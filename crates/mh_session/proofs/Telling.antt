@@ -2,15 +2,15 @@
 use Rattle.std.proofs.Common.{◌≡◌, ℕ, ◌+◌, ◌<◌, ◌≤◌, List, [], ◌∷◌, ◌++◌, length, drop, get_or, None, Ok, Err, refl, sym, ap, subst, ◌∙◌, append_assoc, append-nil}
 use Rattle.std.proofs.Math.ListN.{drop_of_length-le}
 use Rattle.std.proofs.lemmas.List.{drop_more}
-use Rattle.mh_tables.specs.Table.{TableData}
-use Rattle.mh_commands.specs.declared.command.Command.{Command}
-use Rattle.mh_branches.specs.declared.command.SessionFault.{SessionFault}
-use Rattle.mh_branches.specs.declared.command.SessionFault.TheVariants as faults
+use Rattle.mh_tables_core.specs.Table.{TableData}
+use Rattle.mh_session_branches.specs.declared.command.Command.{Command}
+use Rattle.mh_session_branches.specs.declared.reply.SessionFault.{SessionFault}
+use Rattle.mh_session_branches.specs.declared.reply.SessionFault.TheVariants as faults
 use Rattle.mh_session.specs.code.Moments.{Moment}
 use Rattle.mh_engine.specs.Positions.{Position}
 use Rattle.mh_grammar.specs.Text.{Text}
-use Rattle.mh_branches.specs.Names.{at_name}
-use Rattle.mh_branches.specs.Answers.{Branches, Answer, answer, answers, next}
+use Rattle.mh_session_branches.specs.Renamed.{at_name}
+use Rattle.mh_session_branches.specs.Answers.{Branches, Answer, answer, answers, next}
 use Rattle.mh_session.specs.Standing.{Fits, StandsFor}
 use Rattle.mh_session.specs.Served.{IsServed, IsTheirs}
 

@@ -1,3 +1,5 @@
 pub mod Served
 pub mod Standing
 pub mod code
+pub mod Worded
+pub mod Told

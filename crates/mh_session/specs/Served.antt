@@ -1,11 +1,11 @@
 -- A command is answered by the histories of the branches.
 use Rattle.std.specs.Prelude.{◌≡◌, Result, Ok, Err}
 use Rattle.mh_engine.specs.declared.phase.Phase.{Phase}
-use Rattle.mh_commands.specs.declared.command.Command.{Command}
-use Rattle.mh_branches.specs.declared.command.SessionFault.{SessionFault}
-use Rattle.mh_branches.specs.declared.command.SessionFault.TheVariants as faults
+use Rattle.mh_session_branches.specs.declared.command.Command.{Command}
+use Rattle.mh_session_branches.specs.declared.reply.SessionFault.{SessionFault}
+use Rattle.mh_session_branches.specs.declared.reply.SessionFault.TheVariants as faults
 use Rattle.mh_session.specs.code.Moments.{Moment}
-use Rattle.mh_branches.specs.Answers.{Answer, Branches, answer, next}
+use Rattle.mh_session_branches.specs.Answers.{Answer, Branches, answer, next}
 use Rattle.mh_session.specs.Standing.{StandsFor}
 
 -- whatever branches the session stands for, this is their answer

@@ -3,16 +3,15 @@ ghost use Rattle.std.specs.Prelude.{◌≡◌, ◌∷◌, true};
 ghost use Rattle.mh_lex.specs.Words.{is_word as is_word_text};
 ghost use Rattle.mh_grammar.specs.Plain.{plain_of, IsInRange};
 ghost use Rattle.mh_msgfile.specs.Sentences.{pieces, vocabulary_in, vocabulary_of};
-ghost use Rattle.mh_branches.specs.Names.{same};
-ghost use Rattle.mh_branches.specs.Lines.{ReadsCommand, said_by};
-ghost use Rattle.mh_branches.specs.Forms.{of_one, of_two, form_by, form_of};
+ghost use Rattle.mh_session_branches.specs.Renamed.{same};
+ghost use Rattle.mh_session_branches.specs.Lines.{ReadsCommand, said_by};
+ghost use Rattle.mh_session_branches.specs.Forms.{of_one, of_two, form_by, form_of};
 ghost use Rattle.mh_session.specs.code.Forms.{as_form, as_forms, FirstWord, ReadsSaid};
 
-use mh_branches::CommandFault;
-use mh_commands::Command;
 use mh_grammar::{Grammar, from_bytes};
 use mh_lex::is_word;
 use mh_msgfile::{Lexicon, first_piece};
+use mh_session_branches::{Command, CommandFault};
 use std::alloc::Global;
 
 /// What a line says, its names not looked up yet.
@@ -35,7 +34,7 @@ fn is_text(word: &[u8], text: &[u8]) -> bool
 }
 
 /// What a line of two words says, by the first, with the name behind it.
-#[tactic(auto, unfolding(mh_branches::specs::Forms::of_one))]
+#[tactic(auto, unfolding(mh_session_branches::specs::Forms::of_one))]
 fn with_one<'a>(verb: &[u8], name: &'a [u8]) -> Option<Spelled<'a>>
     ensures { as_forms result ≡ of_one verb.now name.now }
 {
@@ -55,7 +54,7 @@ fn with_one<'a>(verb: &[u8], name: &'a [u8]) -> Option<Spelled<'a>>
 }
 
 /// What a line of three words says, by the first, with the two names behind it.
-#[tactic(auto, unfolding(mh_branches::specs::Forms::of_two))]
+#[tactic(auto, unfolding(mh_session_branches::specs::Forms::of_two))]
 fn with_two<'a>(verb: &[u8], name: &'a [u8], other: &'a [u8]) -> Option<Spelled<'a>>
     ensures { as_forms result ≡ of_two verb.now name.now other.now }
 {
@@ -168,7 +167,7 @@ fn command_of(
 }
 
 /// The command of a line, as `read_command` has it, by names that were collected once.
-pub fn read_command_by(
+pub(crate) fn read_command_by(
     alloc: Global,
     lexicon: &Lexicon,
     line: &[u8],

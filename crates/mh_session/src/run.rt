@@ -1,14 +1,13 @@
 //! Lists of commands.
 ghost use Rattle.std.specs.Prelude.{◌≡◌, ◌↔◌, [], IfOk, OnOk, IsTrue, Err};
-ghost use Rattle.mh_branches.specs.declared.command.SessionFault.TheVariants as faults;
+ghost use Rattle.mh_session_branches.specs.declared.reply.SessionFault.TheVariants as faults;
 ghost use Rattle.std.specs.List.{All};
-ghost use Rattle.mh_branches.specs.Answers.{IsKnown, answers};
+ghost use Rattle.mh_session_branches.specs.Answers.{IsKnown, answers};
 
 use crate::session::Session;
-use mh_branches::{Reply, SessionFault};
-use mh_commands::Command;
 use mh_grammar::Memory;
-use mh_tables::Halting;
+use mh_session_branches::{Command, Reply, SessionFault};
+use mh_tables_core::Halting;
 use std::alloc::Global;
 
 /// Answers a list of commands, from no names on. Each answer is by the history of the branch that the command names,

@@ -2,20 +2,19 @@
 ghost use Rattle.std.specs.Prelude.{◌≡◌, ◌↔◌, ◌<◌, IsTrue, [], length, IfOk, IfErr, IfSome, OnOk, OnErr, Some, Ok, Err, ◌⊎◌};
 ghost use Rattle.std.specs.Option.{option_copied};
 ghost use Rattle.mh_engine.specs.Phases.{phase_of, CanGoOn};
-ghost use Rattle.mh_branches.specs.declared.command.Reply.TheVariants as replies;
-ghost use Rattle.mh_branches.specs.declared.command.SessionFault.TheVariants as faults;
-ghost use Rattle.mh_branches.specs.Names.{at_name};
+ghost use Rattle.mh_session_branches.specs.declared.reply.Reply.TheVariants as replies;
+ghost use Rattle.mh_session_branches.specs.declared.reply.SessionFault.TheVariants as faults;
+ghost use Rattle.mh_session_branches.specs.Renamed.{at_name};
 ghost use Rattle.mh_session.specs.code.Puts.{Puts};
-ghost use Rattle.mh_branches.specs.Answers.{IsKnown, Branches, answer, next};
+ghost use Rattle.mh_session_branches.specs.Answers.{IsKnown, Branches, answer, next};
 ghost use Rattle.mh_session.specs.Standing.{StandsFor};
 ghost use Rattle.mh_session.specs.Served.{IsServed};
-ghost use Rattle.mh_commands.specs.declared.command.Command.TheVariants as commands;
+ghost use Rattle.mh_session_branches.specs.declared.command.Command.TheVariants as commands;
 
-use mh_branches::{Reply, SessionFault};
-use mh_commands::{Command, Serves, held, serve};
 use mh_engine::{Checkpoint, Phase, ResumeFault, begin};
 use mh_grammar::{Name, Token};
-use mh_tables::Halting;
+use mh_session_branches::{Command, Reply, Serves, SessionFault, held, serve};
+use mh_tables_core::Halting;
 use std::alloc::Global;
 use std::collections::HashMap;
 use std::marker::Model;
@@ -94,7 +93,7 @@ impl<'t> Session<'t> {
 }
 
 impl<'t> Serves for Session<'t> {
-    ghost use Rattle.mh_branches.specs.Answers.{IsKnown};
+    ghost use Rattle.mh_session_branches.specs.Answers.{IsKnown};
     ghost use Rattle.mh_session.specs.Served.{IsServed};
 
     type Reply = Reply;

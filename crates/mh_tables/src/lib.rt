@@ -1,13 +1,12 @@
-//! Tables of a parser with the facts that they keep, their runs, and tables on which every run ends.
+//! The test that every run on a table ends: no relative run makes too many reductions, or the first that does is told.
 #![tactic(auto)]
 
-mod halting;
-mod laws;
-mod moves;
-mod parts;
-mod table;
+mod checking;
+mod passages;
+mod relative;
 
-pub use halting::{Halting, MAX_REDUCTIONS, halting_of};
-pub use moves::{Choice, choose};
-pub use parts::{Action, CoreItem, Fallback, StateParts};
-pub use table::{Table, table_of};
+pub use checking::{HaltFault, check_halts};
+pub use mh_tables_core::{
+    Action, Choice, CoreItem, Fallback, Halting, MAX_REDUCTIONS, StateParts, Table, choose,
+    halting_of, table_of,
+};

@@ -1,2 +1,2 @@
 -- Which files may be asked for.
-pub use Rattle.mh_program.specs.Asking.{AsksFor}
+pub use Rattle.mh_top_claims.specs.Asking.{AsksFor}

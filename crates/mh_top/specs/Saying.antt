@@ -1,2 +1,2 @@
 -- How the work went before its last line.
-pub use Rattle.mh_program.specs.Saying.{Warned, LastLine, Reported, SaysLine, Worked}
+pub use Rattle.mh_top_claims.specs.Saying.{Warned, LastLine, Reported, SaysLine, Worked}

@@ -6,7 +6,7 @@ ghost use Rattle.mh_top.specs.Run.{world, Ran};
 
 use crate::top::menhir;
 use mh_outside::{Shelf, Sink, Source};
-use mh_saying::exit_code;
+use mh_top_warnings::exit_code;
 use std::alloc::Global;
 use std::process::ExitCode;
 

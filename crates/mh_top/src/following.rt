@@ -1,18 +1,18 @@
 //! What follows the warnings: the refusal by `--strict`, or the mode.
 ghost use Rattle.std.specs.Prelude.{◌≡◌, ◌≤◌};
 ghost use Rattle.std.specs.List.{All};
-ghost use Rattle.mh_drive.specs.Steps.{Counts, FileCounts};
-ghost use Rattle.mh_plans.specs.Files.{files_of_mode};
-ghost use Rattle.mh_plans.specs.Modes.{Followed};
-ghost use Rattle.mh_prepared.specs.Prepared.{IsFit};
+ghost use Rattle.mh_top_drive.specs.Steps.{Counts, FileCounts};
+ghost use Rattle.mh_top_plans.specs.Files.{files_of_mode};
+ghost use Rattle.mh_top_plans.specs.Modes.{Followed};
+ghost use Rattle.mh_top_types.specs.Prepared.{IsFit};
 ghost use Rattle.mh_top.specs.Run.{IsTurnBehind};
 ghost use Rattle.mh_top.specs.Work.{IsPlanOf};
 
 use crate::modes::follow;
-use mh_drive::{Stop, refused};
 use mh_outside::{Shelf, Sink, Source};
-use mh_prepared::Prepared;
-use mh_saying::is_refused;
+use mh_top_drive::{Stop, refused};
+use mh_top_types::Prepared;
+use mh_top_warnings::is_refused;
 use std::alloc::Global;
 
 /// Does what follows the warnings: under `--strict` a grammar is refused for what is warned of.

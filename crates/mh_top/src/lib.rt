@@ -7,8 +7,8 @@ mod modes;
 mod top;
 
 pub use exit::run;
-pub use mh_drive::{Cause, status};
-pub use mh_program::{
+pub use mh_top_claims::{
     lines_are_answered, runs_are_one, some_work_is_asked, unwarned_is_clear, work_is_one,
 };
+pub use mh_top_drive::{Cause, status};
 pub use top::menhir;

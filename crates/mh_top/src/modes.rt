@@ -1,22 +1,21 @@
 //! What follows the warnings, by the job.
 ghost use Rattle.std.specs.Prelude.{◌≡◌, ◌≤◌};
 ghost use Rattle.std.specs.List.{All};
-ghost use Rattle.mh_drive.specs.Steps.{Counts, FileCounts};
-ghost use Rattle.mh_plans.specs.Files.{IsTurnOfJob, files_of_mode};
-ghost use Rattle.mh_plans.specs.Modes.{Followed};
-ghost use Rattle.mh_plans.specs.Plan.{IsPlanOfJob};
-ghost use Rattle.mh_prepared.specs.Prepared.{IsFit};
+ghost use Rattle.mh_top_drive.specs.Steps.{Counts, FileCounts};
+ghost use Rattle.mh_top_plans.specs.Files.{IsTurnOfJob, files_of_mode};
+ghost use Rattle.mh_top_plans.specs.Modes.{Followed};
+ghost use Rattle.mh_top_plans.specs.Plan.{IsPlanOfJob};
+ghost use Rattle.mh_top_types.specs.Prepared.{IsFit};
 
-use mh_drive::Stop;
-use mh_explaining::explain;
-use mh_judging::interpret;
-use mh_keeping::{Pair, compare_errors, compile_errors, echo_errors, update_errors};
-use mh_listing::{count_sample, list_errors};
 use mh_opts::Job;
 use mh_outside::{Shelf, Sink, Source};
-use mh_prepared::Prepared;
-use mh_serving::run_session;
-use mh_showing::{export_tables, show_automaton};
+use mh_top_drive::Stop;
+use mh_top_lists::{count_sample, list_errors};
+use mh_top_modes::{
+    Pair, compare_errors, compile_errors, echo_errors, explain, export_tables, interpret,
+    run_session, show_automaton, update_errors,
+};
+use mh_top_types::Prepared;
 use std::alloc::Global;
 
 /// Does what the job asks for. A mode that reads files of its own takes them from the shelf.

@@ -2,9 +2,9 @@
 ghost use Rattle.std.specs.Prelude.{◌≡◌, ◌++◌, IfOk, OnOk};
 ghost use Rattle.mh_grammar.specs.Trees.{text_of, forest_text, forest_of};
 
+use crate::nodes::{close_node, open_node, write_leaf};
 use crate::tree::{Shape, Tree};
 use mh_grammar::{Grammar, Memory};
-use mh_nodes::{close_node, open_node, write_leaf};
 use std::alloc::Global;
 
 /// The tree's text, which `--interpret-show-cst` of the Menhir manual asks for, on one line: a leaf is the name of its

@@ -3,9 +3,9 @@ ghost use Rattle.std.specs.Prelude.{◌≡◌, ◌++◌, IfOk, OnOk};
 ghost use Rattle.mh_grammar.specs.Trees as spec;
 ghost use Rattle.mh_grammar.specs.Trees.{forest_yield, forest_of};
 
+use crate::nodes::put_token;
 use crate::tree::{Shape, Tree};
 use mh_grammar::{Memory, Token};
-use mh_nodes::put_token;
 use std::alloc::Global;
 
 /// The tokens of the tree's leaves, from left to right: its yield (Aho, Lam, Sethi and Ullman). Fails for want of memory

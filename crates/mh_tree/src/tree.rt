@@ -5,8 +5,8 @@ ghost use Rattle.std.specs.List.{All};
 ghost use Rattle.mh_grammar.specs.Trees.{height_of, forest_height, Leaf, Node, forest_of};
 ghost use Rattle.mh_tree.specs.Shapes.{tree_of};
 
+use crate::nodes::height_over;
 use mh_grammar::{MAX_HEIGHT, Memory, Token};
-use mh_nodes::height_over;
 use std::alloc::Global;
 use std::marker::Model;
 use std::rc::Rc;

@@ -5,16 +5,16 @@ use Rattle.std.proofs.lemmas.Grind.{flat_map-append}
 use Rattle.std.specs.List.{Contains}
 use Rattle.mh_grammar.proofs.Lists.{contains_cases, contains_none, taken}
 use Rattle.mh_grammar.specs.declared.types.Grammar.{Grammar}
-use Rattle.mh_kernels.specs.Shapes.{Automaton}
-use Rattle.mh_tables.specs.Table.{TableData}
+use Rattle.mh_items_kernels.specs.Shapes.{Automaton}
+use Rattle.mh_tables_core.specs.Table.{TableData}
 use Rattle.mh_msgfile.specs.declared.messages.MsgSentence.{MsgSentence}
 use Rattle.mh_msgfile.specs.declared.messages.Entry.{Entry}
 use Rattle.mh_check.specs.Checks.{Breaks, FailsIn}
 use Rattle.mh_check.specs.Compiling.{Tells}
 use Rattle.mh_check.specs.declared.compiling.CheckFault.{CheckFault}
 use Rattle.mh_check.proofs.Placing.{order_more, told_more}
-use Rattle.mh_renewed.specs.declared.comment.Comment.{Comment}
-use Rattle.mh_renewed.specs.Updates.{AreComments, FirstUnfit, IsComment}
+use Rattle.mh_update_renewed.specs.declared.comment.Comment.{Comment}
+use Rattle.mh_update_renewed.specs.Updates.{AreComments, FirstUnfit, IsComment}
 
 -- ---- lists up to a place
 

@@ -20,19 +20,19 @@ use Rattle.mh_grammar.specs.declared.types.Look.{Look}
 use Rattle.mh_grammar.specs.declared.types.Look.TheVariants.{Token, End}
 use Rattle.mh_grammar.specs.Plain.{plain_of, rhs_of}
 use Rattle.mh_grammar.specs.Names.{nonterminal_name, symbol_name, left_side_name, start_name}
-use Rattle.mh_kernels.specs.Shapes.{KernelItem, Automaton}
-use Rattle.mh_kernels.specs.Automaton.{kernel_at}
-use Rattle.mh_tables.specs.Table.{TableData}
-use Rattle.mh_tables.specs.Facts.{Facts}
-use Rattle.mh_cells.specs.Names.{look_name}
-use Rattle.mh_notation.specs.Items.{looks_after, kernel_text, item_line}
-use Rattle.mh_parts.specs.Productions.{names_after, left_side, production_text}
+use Rattle.mh_items_kernels.specs.Shapes.{KernelItem, Automaton}
+use Rattle.mh_items_kernels.specs.Automaton.{kernel_at}
+use Rattle.mh_tables_core.specs.Table.{TableData}
+use Rattle.mh_tables_core.specs.Facts.{Facts}
+use Rattle.mh_resolve_cells.specs.Names.{look_name}
+use Rattle.mh_report_notation.specs.Items.{looks_after, kernel_text, item_line}
+use Rattle.mh_grammar_texts.specs.Productions.{names_after, left_side, production_text}
 use Rattle.mh_msgfile.proofs.Endings.{with_ends, IsWhole, ends_in_cr}
-use Rattle.mh_tables.proofs.Refusing.{state_refused}
-use Rattle.mh_comments.specs.Comments.{before_dot, kernel_comments, comments, IsCommentText}
-use Rattle.mh_parts.specs.Commented.{ends_in, suffix_follows, suffix_comment, reduced_before, reduced_comment, reduced_comments}
+use Rattle.mh_tables_core.proofs.Refusing.{state_refused}
+use Rattle.mh_report_comments.specs.Comments.{before_dot, kernel_comments, comments, IsCommentText}
+use Rattle.mh_grammar_texts.specs.Commented.{ends_in, suffix_follows, suffix_comment, reduced_before, reduced_comment, reduced_comments}
 use Rattle.mh_grammar.specs.Text.{Text}
-use Rattle.mh_parts.specs.Kept.{is_made}
+use Rattle.mh_grammar_texts.specs.Kept.{is_made}
 use Rattle.mh_update.specs.Lines.{is_inner, IsInLine, HasLineNames}
 use Rattle.mh_update.proofs.Walks.{IsMadeLine}
 

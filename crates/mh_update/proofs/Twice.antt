@@ -3,9 +3,9 @@ use Rattle.std.proofs.Common.{◌≡◌, ℕ, ◌+◌, Bool, true, false, List, 
 use Rattle.std.specs.List.{AllByRecursion, Contains}
 use Rattle.mh_grammar.proofs.Lists.{contains_here, contains_there, zip_one}
 use Rattle.mh_grammar.specs.declared.types.Grammar.{Grammar}
-use Rattle.mh_kernels.specs.Shapes.{Automaton}
-use Rattle.mh_tables.specs.Table.{TableData}
-use Rattle.mh_tables.specs.Facts.{Facts}
+use Rattle.mh_items_kernels.specs.Shapes.{Automaton}
+use Rattle.mh_tables_core.specs.Table.{TableData}
+use Rattle.mh_tables_core.specs.Facts.{Facts}
 use Rattle.mh_msgfile.specs.Sentences.{Vocabulary, vocabulary_of, sentence_in}
 use Rattle.mh_msgfile.specs.Messages.{HasNoEnd, AreLines, blocks, entries_in, MsgSpells}
 use Rattle.mh_msgfile.specs.Printed.{entry_content, HaveSameContent}
@@ -13,12 +13,12 @@ use Rattle.mh_msgfile.specs.declared.messages.MsgSentence.{MsgSentence}
 use Rattle.mh_msgfile.specs.declared.messages.MsgFile.{MsgFile}
 use Rattle.mh_msgfile.proofs.Endings.{with_ends, IsWhole, lines_end, lines_again, ends_in_cr}
 use Rattle.mh_check.specs.Checks.{sentences_of}
-use Rattle.mh_comments.specs.Comments.{IsCommentText}
-use Rattle.mh_comments.proofs.OneText.{comments_once}
-use Rattle.mh_renewed.specs.declared.comment.Comment.{Comment}
+use Rattle.mh_report_comments.specs.Comments.{IsCommentText}
+use Rattle.mh_report_comments.proofs.OneText.{comments_once}
+use Rattle.mh_update_renewed.specs.declared.comment.Comment.{Comment}
 use Rattle.mh_grammar.specs.Text.{Text}
-use Rattle.mh_renewed.specs.Updates.{IsComment, AreComments, updated, IsUpdated}
-use Rattle.mh_parts.specs.Kept.{is_made}
+use Rattle.mh_update_renewed.specs.Updates.{IsComment, AreComments, updated, IsUpdated}
+use Rattle.mh_grammar_texts.specs.Kept.{is_made}
 use Rattle.mh_update.specs.Lines.{HasLineNames, HasNoCrAtEnds}
 use Rattle.mh_update.proofs.Walks.{LinePlace, Outside, Kind, kind_of, next, Content, told, put, sentences, made_remark, Walk, Ended, Dropped, Silent, Telling, grown, text_of, tales_of, again, grown_text, again_text, grown_whole, grown_kept, text_is}
 use Rattle.mh_update.proofs.Found.{sentences_are}

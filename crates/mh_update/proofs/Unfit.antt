@@ -7,27 +7,27 @@ use Rattle.std.proofs.lemmas.List.Elements.{recursion_from_All}
 use Rattle.mh_grammar.proofs.Lists.{contains_cases, contains_here, contains_there, contains_none, recursion-append}
 use Rattle.mh_grammar.specs.declared.types.Grammar.{Grammar}
 use Rattle.mh_grammar.specs.Plain.{plain_of}
-use Rattle.mh_kernels.specs.Shapes.{Automaton}
-use Rattle.mh_kernels.specs.Automaton.{IsAutomaton, kernel_at}
-use Rattle.mh_tables.specs.Table.{TableData}
-use Rattle.mh_tables.specs.Halting.{HaltingFacts}
-use Rattle.mh_tables.specs.Run.{Ending, VerdictOf, Accepted, Overshot, Rejected, initial}
-use Rattle.mh_tables.proofs.Ending.{has_verdict}
-use Rattle.mh_tables.proofs.OneTreeEnding.{one_verdict}
-use Rattle.mh_tables.proofs.Cut.{verdict_cut}
+use Rattle.mh_items_kernels.specs.Shapes.{Automaton}
+use Rattle.mh_items_kernels.specs.Automaton.{IsAutomaton, kernel_at}
+use Rattle.mh_tables_core.specs.Table.{TableData}
+use Rattle.mh_tables_core.specs.Halting.{HaltingFacts}
+use Rattle.mh_tables_core.specs.Run.{Ending, VerdictOf, Accepted, Overshot, Rejected, initial}
+use Rattle.mh_tables_core.proofs.Ending.{has_verdict}
+use Rattle.mh_tables_core.proofs.OneTreeEnding.{one_verdict}
+use Rattle.mh_tables_core.proofs.Cut.{verdict_cut}
 use Rattle.mh_run.specs.Trace.{reduced_since}
 use Rattle.mh_msgfile.specs.declared.messages.MsgSentence.{MsgSentence}
 use Rattle.mh_msgfile.specs.declared.messages.Entry.{Entry}
 use Rattle.mh_msgfile.specs.declared.messages.MsgFile.{MsgFile}
 use Rattle.mh_msgfile.specs.Messages.{IsOf, AreOf}
 use Rattle.mh_check.specs.Checks.{FailsIn, FaultFound, NotRefusedAt, RefusedEarlyAt, Accepts, Overshoots, Breaks, NotRefused, RefusedEarly, Shared, sentences_of}
-use Rattle.mh_tables.proofs.Refusing.{state_refused}
+use Rattle.mh_tables_core.proofs.Refusing.{state_refused}
 use Rattle.mh_check.proofs.Once.{refuses_not}
-use Rattle.mh_comments.specs.Comments.{comments}
-use Rattle.mh_comments.proofs.Farthest.{some_farthest}
-use Rattle.mh_renewed.specs.declared.comment.Comment.{Comment}
+use Rattle.mh_report_comments.specs.Comments.{comments}
+use Rattle.mh_report_comments.proofs.Farthest.{some_farthest}
+use Rattle.mh_update_renewed.specs.declared.comment.Comment.{Comment}
 use Rattle.mh_grammar.specs.Text.{Text}
-use Rattle.mh_renewed.specs.Updates.{IsComment, AreComments, updated, IsUpdated, FirstUnfit}
+use Rattle.mh_update_renewed.specs.Updates.{IsComment, AreComments, updated, IsUpdated, FirstUnfit}
 
 module _ (t : TableData) where
   -- ---- one fault

@@ -2,22 +2,22 @@
 ghost use Rattle.std.specs.Prelude.{◌≡◌, ◌≤◌, ◌++◌, ◌∷◌, [], ℕ, List, flat_map, length, IfOk, MatchResult};
 ghost use Rattle.std.specs.List.{AllByRecursion};
 ghost use Rattle.mh_grammar.specs.Plain.{plain_of};
-ghost use Rattle.mh_kernels.specs.Automaton.{IsAutomaton};
+ghost use Rattle.mh_items_kernels.specs.Automaton.{IsAutomaton};
 ghost use Rattle.mh_msgfile.specs.Messages.{IsOf};
 ghost use Rattle.mh_msgfile.specs.declared.messages.MsgSentence.{MsgSentence as MsgSentence'};
 ghost use Rattle.mh_check.specs.Checks.{Breaks, FailsIn, sentences_of};
 ghost use Rattle.mh_check.specs.Compiling.{Tells};
-ghost use Rattle.mh_renewed.specs.Updates.{AreComments, FirstUnfit, IsComment, Comments as CommentsOf};
+ghost use Rattle.mh_update_renewed.specs.Updates.{AreComments, FirstUnfit, IsComment, Comments as CommentsOf};
 
 use mh_check::CheckFault;
-use mh_comments::comment_lines;
 use mh_grammar::{Grammar, Memory, Sequence};
-use mh_kernels::Automaton;
+use mh_grammar_texts::is_early;
+use mh_items_kernels::Automaton;
 use mh_msgfile::{Entry, MsgSentence};
-use mh_parts::is_early;
-use mh_renewed::Comment;
+use mh_report_comments::comment_lines;
 use mh_run::{Verdict, verdict};
-use mh_tables::Halting;
+use mh_tables_core::Halting;
+use mh_update_renewed::Comment;
 use std::alloc::Global;
 
 /// Whether a sentence fails at its last token.

@@ -1,18 +1,18 @@
 //! What readers may rely on of messages files that were brought up to date. The calls do nothing; each clause is a theorem.
 ghost use Rattle.std.specs.Prelude.{◌≡◌, ◌⊎◌, List, ℕ, length};
 ghost use Rattle.mh_grammar.specs.Plain.{plain_of};
-ghost use Rattle.mh_kernels.specs.Automaton.{IsAutomaton};
+ghost use Rattle.mh_items_kernels.specs.Automaton.{IsAutomaton};
 ghost use Rattle.mh_msgfile.specs.Messages.{AreOf, MsgSpells};
 ghost use Rattle.mh_check.specs.Checks.{FaultFound, sentences_of};
 ghost use Rattle.mh_msgfile.specs.Printed.{HaveSameContent};
 ghost use Rattle.mh_msgfile.specs.declared.messages.MsgFile.{MsgFile};
 ghost use Rattle.mh_update.specs.Lines.{HasLineNames, HasNoCrAtEnds};
-ghost use Rattle.mh_renewed.specs.Updates.{FirstUnfit, IsUpdated};
+ghost use Rattle.mh_update_renewed.specs.Updates.{FirstUnfit, IsUpdated};
 ghost use Rattle.mh_msgfile.specs.declared.messages.MsgSentence.{MsgSentence};
 
 use mh_grammar::Grammar;
-use mh_kernels::Automaton;
-use mh_tables::Halting;
+use mh_items_kernels::Automaton;
+use mh_tables_core::Halting;
 
 /// What a file becomes is one text. Where no name holds an LF or a CR and no line of the file ends in a CR, that text reads as a file
 /// with the same sentences and messages, and bringing that up to date changes no byte.

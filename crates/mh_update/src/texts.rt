@@ -1,12 +1,12 @@
 //! The lines that tell which states one messages file names and another lacks.
 ghost use Rattle.std.specs.Prelude.{◌≡◌, ◌++◌, IfOk, OnOk};
-ghost use Rattle.mh_renewed.specs.Missing.{missing_line, missing_lines, state_text};
+ghost use Rattle.mh_update_renewed.specs.Missing.{missing_line, missing_lines, state_text};
 
 use mh_grammar::Memory;
 use std::alloc::Global;
 
 /// Writes the beginning of a state's line.
-#[tactic(auto, unfolding(mh_renewed::specs::Missing::state_text))]
+#[tactic(auto, unfolding(mh_update_renewed::specs::Missing::state_text))]
 fn write_state(alloc: Global, text: &mut Vec<u8>, state: u32) -> Result<(), Memory>
     ensures { OnOk result (text.new.items ≡ text.old.items ++ state_text state) }
 {
@@ -16,7 +16,7 @@ fn write_state(alloc: Global, text: &mut Vec<u8>, state: u32) -> Result<(), Memo
 }
 
 /// Writes the line of a state.
-#[tactic(auto, unfolding(mh_renewed::specs::Missing::missing_line))]
+#[tactic(auto, unfolding(mh_update_renewed::specs::Missing::missing_line))]
 fn write_missing(
     alloc: Global,
     text: &mut Vec<u8>,

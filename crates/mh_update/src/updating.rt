@@ -1,20 +1,20 @@
 //! The text of a messages file that is brought up to date.
 ghost use Rattle.std.specs.Prelude.{◌≡◌, ◌≤◌, ◌-◌, ◌++◌, length, take, drop, IfOk, OnOk, MatchResult};
 ghost use Rattle.mh_grammar.specs.Plain.{plain_of};
-ghost use Rattle.mh_kernels.specs.Automaton.{IsAutomaton};
+ghost use Rattle.mh_items_kernels.specs.Automaton.{IsAutomaton};
 ghost use Rattle.mh_msgfile.specs.Messages.{AreOf};
 ghost use Rattle.mh_check.specs.Checks.{sentences_of};
 ghost use Rattle.mh_check.specs.Compiling.{Tells};
-ghost use Rattle.mh_renewed.specs.Updates.{FirstUnfit, IsUpdated, own_texts, updated};
+ghost use Rattle.mh_update_renewed.specs.Updates.{FirstUnfit, IsUpdated, own_texts, updated};
 
 use crate::comments::all_comments;
 use mh_check::CheckFault;
 use mh_grammar::{Grammar, Memory, Name};
-use mh_kernels::Automaton;
+use mh_grammar_texts::{lines_up_to, write_lines_behind, write_lines_up_to};
+use mh_items_kernels::Automaton;
 use mh_msgfile::MsgFile;
-use mh_parts::{lines_up_to, write_lines_behind, write_lines_up_to};
-use mh_renewed::Comment;
-use mh_tables::Halting;
+use mh_tables_core::Halting;
+use mh_update_renewed::Comment;
 use std::alloc::Global;
 
 /// Writes the lines up to a sentence's, where the first ones are written, and its comment lines.

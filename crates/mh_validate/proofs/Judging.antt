@@ -5,26 +5,26 @@ use Rattle.mh_grammar.specs.declared.types.Grammar.{Grammar}
 use Rattle.mh_grammar.specs.declared.types.Symbol.TheVariants.{T}
 use Rattle.mh_grammar.specs.declared.edges.Edge.{Edge}
 use Rattle.mh_grammar.specs.Plain.{plain_of, IsInRange}
-use Rattle.mh_kernels.specs.Shapes.{Kernel, Automaton}
-use Rattle.mh_kernels.specs.Automaton.{no_kernel, kernel_at, edges_at}
-use Rattle.mh_tables.specs.declared.parts.StateParts.{StateParts}
-use Rattle.mh_tables.specs.Table.{no_state}
+use Rattle.mh_items_kernels.specs.Shapes.{Kernel, Automaton}
+use Rattle.mh_items_kernels.specs.Automaton.{no_kernel, kernel_at, edges_at}
+use Rattle.mh_tables_core.specs.declared.parts.StateParts.{StateParts}
+use Rattle.mh_tables_core.specs.Table.{no_state}
 use Rattle.std.proofs.lemmas.List.{get_or_default}
-use Rattle.mh_cells.specs.States.{AreResolved, IsResolved}
-use Rattle.mh_cells.specs.code.Whole.{AreEdgesKnown, closed_state}
-use Rattle.mh_cells.proofs.Tabled.{moving_symbol}
-use Rattle.mh_tabform.specs.declared.types.RawTable.{RawTable}
-use Rattle.mh_tabform.specs.Written.{raw_cells}
-use Rattle.mh_valid.specs.declared.reason.Reason.{Reason}
-use Rattle.mh_valid.specs.declared.reason.Reason.TheVariants as reasons
-use Rattle.mh_valid.specs.Valid.{HasHeader, HasStates, AreKernels, HasEdges, IsResolvedAt, IsRightBefore, IsWrong, IsInvalidAt, IsValidFor, has_lines, reason_of, of_kernels, raw_state}
-use Rattle.mh_valid.proofs.Giving.{IsNamed}
+use Rattle.mh_resolve_cells.specs.States.{AreResolved, IsResolved}
+use Rattle.mh_resolve_cells.specs.code.Whole.{AreEdgesKnown, closed_state}
+use Rattle.mh_resolve_cells.proofs.Tabled.{moving_symbol}
+use Rattle.mh_tabfile_form.specs.declared.types.RawTable.{RawTable}
+use Rattle.mh_tabfile_form.specs.Written.{raw_cells}
+use Rattle.mh_validate_valid.specs.declared.reason.Reason.{Reason}
+use Rattle.mh_validate_valid.specs.declared.reason.Reason.TheVariants as reasons
+use Rattle.mh_validate_valid.specs.Valid.{HasHeader, HasStates, AreKernels, HasEdges, IsResolvedAt, IsRightBefore, IsWrong, IsInvalidAt, IsValidFor, has_lines, reason_of, of_kernels, raw_state}
+use Rattle.mh_validate_valid.proofs.Giving.{IsNamed}
 use Rattle.mh_validate.specs.declared.fault.ValidFault.{ValidFault}
 use Rattle.mh_validate.specs.declared.fault.ValidFault.TheVariants.{Invalid}
 use Rattle.mh_validate.specs.declared.validation.Valid.{Valid}
 use Rattle.mh_validate.specs.Outcome.{IsFault, IsOutcome, Gives}
-use Rattle.mh_stated.specs.Found.{AreFirstKernels}
-use Rattle.mh_compared.specs.Comparing.{AreFirstRows, AreRows, AreResolvedRows}
+use Rattle.mh_validate.specs.Found.{AreFirstKernels}
+use Rattle.mh_validate.specs.Comparing.{AreFirstRows, AreRows, AreResolvedRows}
 
 -- all kernels, where no state lacks one
 pub all_kernels : (g : Grammar) (raw : RawTable) (ks : List Kernel) → AreFirstKernels g raw ks → length raw.states ≤ length ks → AreKernels g raw ks

@@ -2,7 +2,7 @@
 use Rattle.std.proofs.Common.{◌≡◌, ◌<◌, ◌≤◌, ℕ, Bool, true, false, Some, None, nat_lt, cond, refl, sym}
 use Rattle.std.proofs.lemmas.Bool.{ltb-true, ltb-false}
 use Rattle.std.proofs.lemmas.Option.{cond_some, none-some}
-use Rattle.mh_matches.specs.Lacking.{first_lacking}
+use Rattle.mh_validate_valid.specs.Lacking.{first_lacking}
 
 all_by : (b : Bool) (k : ℕ) → cond b (Some k) None ≡ None → b ≡ false
 all_by true k e = absurd (none-some k (sym e))

@@ -1,1 +1,5 @@
+pub mod Looking
+pub mod Found
+pub mod Leading
+pub mod Comparing
 pub mod Outcome

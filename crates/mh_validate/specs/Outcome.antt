@@ -1,10 +1,10 @@
 -- What validating answers.
 use Rattle.std.specs.Prelude.{◌≡◌, ℕ, Result, Ok, Err}
 use Rattle.mh_grammar.specs.declared.types.Grammar.{Grammar}
-use Rattle.mh_cells.specs.States.{IsTableOf}
-use Rattle.mh_cells.specs.Conflicts.{AreConflicts}
-use Rattle.mh_tabform.specs.declared.types.RawTable.{RawTable}
-use Rattle.mh_valid.specs.Valid.{IsInvalidAt, IsValidFor}
+use Rattle.mh_resolve_cells.specs.States.{IsTableOf}
+use Rattle.mh_resolve_cells.specs.Conflicts.{AreConflicts}
+use Rattle.mh_tabfile_form.specs.declared.types.RawTable.{RawTable}
+use Rattle.mh_validate_valid.specs.Valid.{IsInvalidAt, IsValidFor}
 use Rattle.mh_validate.specs.declared.fault.ValidFault.{ValidFault}
 use Rattle.mh_validate.specs.declared.fault.ValidFault.TheVariants.{Invalid, Memory}
 use Rattle.mh_validate.specs.declared.validation.Valid.{Valid}

@@ -1,5 +1,5 @@
 //! Why a table file is not taken.
-use mh_valid::Reason;
+use mh_validate_valid::Reason;
 
 /// Why a table file is not taken.
 #[derive(Clone, Copy)]

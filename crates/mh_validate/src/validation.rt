@@ -3,27 +3,28 @@ ghost use Rattle.std.specs.Prelude.{◌≡◌, ◌<◌, ◌≤◌, ◌*◌, ◌^
 ghost use Rattle.mh_grammar.specs.Costs.{HaveCosts};
 ghost use Rattle.mh_grammar.specs.Plain.{plain_of, IsInRange};
 ghost use Rattle.mh_items.specs.Closer.{IsCloser};
-ghost use Rattle.mh_kernels.specs.Automaton.{IsAutomaton};
-ghost use Rattle.mh_cells.specs.States.{IsTableOf};
-ghost use Rattle.mh_cells.specs.Conflicts.{AreConflicts};
-ghost use Rattle.mh_valid.specs.declared.reason.Reason.{Reason as ReasonOf};
-ghost use Rattle.mh_valid.specs.Valid.{AreKernels, AreNamesApart, HasHeader, HasStates, IsInvalidAt, IsValidFor, reason_of, raw_state};
-ghost use Rattle.mh_tabform.specs.Written.{raw_cells};
-ghost use Rattle.mh_compared.specs.Comparing.{AreFirstRows, AreRows, AreResolvedRows};
+ghost use Rattle.mh_items_kernels.specs.Automaton.{IsAutomaton};
+ghost use Rattle.mh_resolve_cells.specs.States.{IsTableOf};
+ghost use Rattle.mh_resolve_cells.specs.Conflicts.{AreConflicts};
+ghost use Rattle.mh_validate_valid.specs.declared.reason.Reason.{Reason as ReasonOf};
+ghost use Rattle.mh_validate_valid.specs.Valid.{AreKernels, AreNamesApart, HasHeader, HasStates, IsInvalidAt, IsValidFor, reason_of, raw_state};
+ghost use Rattle.mh_tabfile_form.specs.Written.{raw_cells};
+ghost use Rattle.mh_validate.specs.Comparing.{AreFirstRows, AreRows, AreResolvedRows};
 ghost use Rattle.mh_validate.specs.Outcome.{IsFault, IsOutcome};
 
+use crate::cells::{cells_at, count_told, reason};
 use crate::fault::ValidFault;
-use mh_cells::{Conflict, Mode};
-use mh_compared::{cells_at, count_told, first_rows, reason};
+use crate::header::has_header;
+use crate::kernels::first_kernels;
+use crate::rows::first_rows;
 use mh_grammar::{Edge, Grammar, Memory, Sequence};
 use mh_items::Closer;
-use mh_kernels::{Automaton, Kernel};
-use mh_matches::first_lacking;
+use mh_items_kernels::{Automaton, Kernel};
 use mh_resolve::{Resolution, resolve_one, resolve_states};
-use mh_stated::{first_kernels, has_header};
-use mh_tabform::RawTable;
-use mh_tables::{StateParts, Table, table_of};
-use mh_valid::Reason;
+use mh_resolve_cells::{Conflict, Mode};
+use mh_tabfile_form::RawTable;
+use mh_tables_core::{StateParts, Table, table_of};
+use mh_validate_valid::{Reason, first_lacking};
 use std::alloc::Global;
 
 /// What a valid table file gives: the automaton that it names, the table of that in its mode, and its conflicts.

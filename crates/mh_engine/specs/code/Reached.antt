@@ -1,6 +1,6 @@
 -- What checkpoints have reached of the run of a sentence.
 use Rattle.std.specs.Prelude.{◌≡◌, ◌+◌, ◌<◌, ◌≤◌, ℕ, List, [], ◌∷◌, length, take, get_or, false}
-use Rattle.mh_tables.specs.Table.{TableData}
+use Rattle.mh_tables_core.specs.Table.{TableData}
 use Rattle.mh_grammar.specs.Trees.{SyntaxTree}
 use Rattle.mh_engine.specs.Positions.{Position}
 use Rattle.mh_engine.specs.Phases.{phase_of}

@@ -1,8 +1,8 @@
 -- What a reduction finds.
 use Rattle.std.specs.Prelude.{ℕ, length, ◌<◌, ◌≤◌}
 use Rattle.mh_grammar.specs.Plain.{rhs_of, production_count}
-use Rattle.mh_tables.specs.Facts.{HasGoto}
-use Rattle.mh_tables.specs.Run.{top_of}
+use Rattle.mh_tables_core.specs.Facts.{HasGoto}
+use Rattle.mh_tables_core.specs.Run.{top_of}
 use Rattle.mh_engine.specs.code.Cells.{taken}
 use Rattle.mh_engine.specs.Positions.{Position}
 

@@ -1,10 +1,10 @@
 -- Where a run stands when it has made all reductions that come next.
 use Rattle.std.specs.Prelude.{◌≡◌, ◌≤◌, ℕ, true, false, Option}
-use Rattle.mh_tables.specs.Halting.{HaltingFacts, IsLook, look_list}
+use Rattle.mh_tables_core.specs.Halting.{HaltingFacts, IsLook, look_list}
 use Rattle.mh_engine.specs.Positions.{Position}
 use Rattle.mh_engine.specs.Phases.{phase_of}
 use Rattle.mh_engine.specs.code.StepsOn.{after_steps, CanMake}
-use Rattle.mh_tables.specs.Deep.{too_deep}
+use Rattle.mh_tables_core.specs.Deep.{too_deep}
 use Rattle.mh_engine.specs.code.Sound.{IsSound}
 use Rattle.mh_engine.specs.declared.phase.Phase.TheVariants as phases
 

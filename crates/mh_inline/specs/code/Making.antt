@@ -7,16 +7,16 @@ use Rattle.mh_rules.specs.declared.instances.Part.{Part}
 use Rattle.mh_rules.specs.declared.instances.Part.TheVariants.{Token, Instance as Applied}
 use Rattle.mh_rules.specs.declared.instances.Instance.{Instance}
 use Rattle.mh_rules.specs.declared.instances.InstanceProduction.{InstanceProduction}
-use Rattle.mh_producers.specs.declared.unfolding.Unfolding.{Unfolding}
-use Rattle.mh_kept.specs.declared.origins.Origin.{Origin}
-use Rattle.mh_producers.specs.declared.sizes.TheConstants.{MAX_PRODUCTIONS, MAX_SYMBOLS}
-use Rattle.mh_producers.specs.declared.sizes.Size.{Size}
-use Rattle.mh_producers.specs.Instances.{IsAlternative}
+use Rattle.mh_inline_unfold.specs.declared.unfolding.Unfolding.{Unfolding}
+use Rattle.mh_inline.specs.declared.origins.Origin.{Origin}
+use Rattle.mh_inline_unfold.specs.declared.sizes.TheConstants.{MAX_PRODUCTIONS, MAX_SYMBOLS}
+use Rattle.mh_inline_unfold.specs.declared.sizes.Size.{Size}
+use Rattle.mh_inline_unfold.specs.Instances.{IsAlternative}
 use Rattle.mh_rules.specs.Ready.{IsPartBelow}
-use Rattle.mh_producers.specs.Unfoldings.{own, Unfolds}
-use Rattle.mh_unfoldings.specs.Known.{AreKnown}
+use Rattle.mh_inline_unfold.specs.Unfoldings.{own, Unfolds}
+use Rattle.mh_inline.specs.Known.{AreKnown}
 use Rattle.mh_inline.specs.Inlined.{level_of, production_of, AreProductions}
-use Rattle.mh_kept.specs.code.Making.{symbol_by}
+use Rattle.mh_inline.specs.code.Keeping.{symbol_by}
 
 abbrev pub production_by : List TokenInfo → List ℕ → ℕ → Unfolding → Production
 production_by tokens numbers lhs u = record { lhs = lhs; rhs = map (symbol_by numbers) u.rhs; level = level_of tokens u.prec u.rhs }

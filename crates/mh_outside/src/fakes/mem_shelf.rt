@@ -6,7 +6,7 @@ ghost use Rattle.mh_outside.specs.Schedule.{no_calls, fails_next, after_call};
 ghost use Rattle.mh_outside.specs.Shelf.{files_of, file_at, HasDistinctNames, Reads};
 
 use crate::schedule::Schedule;
-use crate::{Shelf, ShelfFault};
+use crate::shelf::{Shelf, ShelfFault};
 use std::alloc::Global;
 
 /// Files in memory.

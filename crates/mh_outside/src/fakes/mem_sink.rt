@@ -6,7 +6,8 @@ ghost use Rattle.mh_outside.specs.Faults.{Counts};
 ghost use Rattle.mh_outside.specs.Schedule.{no_calls, fails_next, after_call};
 
 use crate::schedule::Schedule;
-use crate::{Failed, Sink};
+use crate::sink::Sink;
+use crate::source::Failed;
 use std::alloc::Global;
 
 /// Output in memory. Where it cannot grow, that is a fault of the device.

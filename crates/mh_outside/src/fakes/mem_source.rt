@@ -6,7 +6,7 @@ ghost use Rattle.mh_outside.specs.Faults.{Counts};
 ghost use Rattle.mh_outside.specs.Schedule.{no_calls, fails_next, after_call};
 
 use crate::schedule::Schedule;
-use crate::{Failed, Source};
+use crate::source::{Failed, Source};
 
 /// Input in memory.
 #[derive(Drop)]

@@ -1,8 +1,8 @@
 -- What goes along with a run: it is told of each shift and each reduction.
 use Rattle.std.specs.Prelude.{◌≡◌, ℕ, zero, suc, List, [], ◌∷◌, length}
 use Rattle.mh_grammar.specs.Plain.{rhs_of}
-use Rattle.mh_tables.specs.Table.{TableData}
-use Rattle.mh_tables.specs.Run.{Config, Move, Accepts, Asks, Refuses, Shifts, Reduces, Ending, Ends, initial, move_of, top_of, step, next_of, after}
+use Rattle.mh_tables_core.specs.Table.{TableData}
+use Rattle.mh_tables_core.specs.Run.{Config, Move, Accepts, Asks, Refuses, Shifts, Reduces, Ending, Ends, initial, move_of, top_of, step, next_of, after}
 
 -- What becomes of a value by the shift of a token, and by the reduction of so many symbols to a production.
 pub record Following (S : Type 0) : Type 0 where

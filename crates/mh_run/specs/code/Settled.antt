@@ -1,10 +1,10 @@
 -- What the functions of the run answer.
 use Rattle.std.specs.Prelude.{◌≡◌, ℕ, List, [], ◌∷◌, Option, Some, None, ◌<◌, ◌≤◌, ◌-◌, length, slice_index}
 use Rattle.mh_grammar.specs.Plain.{rhs_of, production_count}
-use Rattle.mh_tables.specs.Table.{TableData}
-use Rattle.mh_tables.specs.Facts.{HasGoto}
-use Rattle.mh_tables.specs.Run.{Config, Move, Reduces, move_of, top_of, after, IsRunStack}
-use Rattle.mh_tables.specs.Halting.{look_list}
+use Rattle.mh_tables_core.specs.Table.{TableData}
+use Rattle.mh_tables_core.specs.Facts.{HasGoto}
+use Rattle.mh_tables_core.specs.Run.{Config, Move, Reduces, move_of, top_of, after, IsRunStack}
+use Rattle.mh_tables_core.specs.Halting.{look_list}
 use Rattle.mh_run.specs.code.Following.{Following, along_after}
 
 -- the state that comes to the top where a right side is taken off

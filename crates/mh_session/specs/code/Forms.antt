@@ -4,12 +4,12 @@ use Rattle.std.specs.Borrow.{Bor}
 use Rattle.mh_lex.specs.Words.{is_word}
 use Rattle.mh_msgfile.specs.Sentences.{pieces}
 use Rattle.mh_grammar.specs.Text.{Text}
-use Rattle.mh_branches.specs.Lines.{Form, BeginOnly, BeginAt, OfferTo, ResumeOf, ForkTo, ShowOf, TreeOf, ForgetOf, Said, Asks, NamesNoStart, LacksStart, NamesNoToken}
+use Rattle.mh_session_branches.specs.Lines.{Form, BeginOnly, BeginAt, OfferTo, ResumeOf, ForkTo, ShowOf, TreeOf, ForgetOf, Said, Asks, NamesNoStart, LacksStart, NamesNoToken}
 use Rattle.mh_session.specs.declared.reading.Spelled.{Spelled}
 use Rattle.mh_session.specs.declared.reading.Spelled.TheVariants as spelled
-use Rattle.mh_commands.specs.declared.command.Command.{Command}
-use Rattle.mh_branches.specs.declared.fault.CommandFault.{CommandFault}
-use Rattle.mh_branches.specs.declared.fault.CommandFault.TheVariants as faults
+use Rattle.mh_session_branches.specs.declared.command.Command.{Command}
+use Rattle.mh_session_branches.specs.declared.fault.CommandFault.{CommandFault}
+use Rattle.mh_session_branches.specs.declared.fault.CommandFault.TheVariants as faults
 
 abbrev pub begins_with_word : List Text → Bool
 begins_with_word [] = false

@@ -1,6 +1,6 @@
 -- What a session is at a moment.
 use Rattle.std.specs.Prelude.{List}
-use Rattle.mh_tables.specs.Table.{TableData}
+use Rattle.mh_tables_core.specs.Table.{TableData}
 use Rattle.mh_engine.specs.Positions.{Position}
 use Rattle.mh_grammar.specs.Text.{Text}
 

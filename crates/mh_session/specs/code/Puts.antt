@@ -1,10 +1,10 @@
 -- How a session changes at one name.
 use Rattle.std.specs.Prelude.{◌≡◌, Option, Some, List}
 use Rattle.std.specs.Map.{update}
-use Rattle.mh_tables.specs.Table.{TableData}
+use Rattle.mh_tables_core.specs.Table.{TableData}
 use Rattle.mh_engine.specs.Positions.{Position}
 use Rattle.mh_grammar.specs.Text.{Text}
-use Rattle.mh_branches.specs.Names.{same, at_name}
+use Rattle.mh_session_branches.specs.Renamed.{same, at_name}
 use Rattle.mh_session.specs.code.Moments.{Moment}
 
 -- all positions are of one table

@@ -15,7 +15,7 @@ use crate::files::words::{put_read, put_words};
 use mh_front::GrammarFault;
 use mh_grammar::{Level, Name, Symbol};
 use mh_join::{Joined, Prec, join};
-use mh_reader::{Module, read_module};
+use mh_reader_parser::{Module, read_module};
 use std::alloc::Global;
 use std::test::Fail;
 

@@ -6,7 +6,7 @@ use crate::files::cases::{
 };
 use mh_front::{GrammarFault, fault_line, grammar_of};
 use mh_grammar::{Grammar, Production};
-use mh_reader::Module;
+use mh_reader_parser::Module;
 use std::alloc::Global;
 use std::fmt::Write;
 use std::test::Fail;

@@ -10,7 +10,7 @@ use mh_join::{
     Applied, Head, JoinFault, Joined, JoinedAlternative, JoinedRule, is_joined_or_fault,
     is_one_fault, is_one_joined, join, prelude_rules,
 };
-use mh_reader::{Actual, Alternative, Module, Ref, Rule};
+use mh_reader_parser::{Actual, Alternative, Module, Ref, Rule};
 use std::alloc::Global;
 use std::fmt::Write;
 use std::test::Fail;

@@ -4,9 +4,10 @@ ghost use Rattle.mh_grammar.specs.Plain.{plain_of, IsInRange};
 
 use crate::files::cases::{Subject, check_cases, digit, put, release};
 use crate::files::messages::{put_echoed, put_printed};
-use mh_grammar::{Grammar, Memory, NontermInfo, Sentence, Sequence, TokenInfo, from_bytes};
+use mh_grammar::{
+    Grammar, Memory, NontermInfo, Sentence, Sequence, TokenInfo, from_bytes, is_in_range,
+};
 use mh_msgfile::{SentenceFault, read_sentence};
-use mh_range::is_in_range;
 use std::alloc::Global;
 use std::test::Fail;
 

@@ -3,8 +3,8 @@ use crate::files::cases::{Subject, Wanted, check_answer, check_cases, put, put_n
 use crate::files::messages::put_made;
 use mh_grammar::Memory;
 use mh_lex::SyntaxFault;
-use mh_printing::print_module;
-use mh_reader::{Module, read_module, spelled_once};
+use mh_reader::print_module;
+use mh_reader_parser::{Module, read_module, spelled_once};
 use std::alloc::Global;
 use std::test::Fail;
 

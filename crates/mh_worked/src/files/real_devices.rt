@@ -1,6 +1,8 @@
 //! Real files, readers and writers as shelf, source and sink.
-use mh_devices::{FileShelf, StdSink, StdSource};
-use mh_outside::{Shelf, ShelfFault, Sink, Source, WriteFault, read_line, write_whole};
+use mh_outside::{
+    FileShelf, Shelf, ShelfFault, Sink, Source, StdSink, StdSource, WriteFault, read_line,
+    write_whole,
+};
 use std::alloc::Global;
 use std::fs;
 use std::process::Abort;

@@ -2,9 +2,8 @@
 use crate::tables::cases::{check_cases, put, release};
 use crate::tables::made::{automaton_of, grammar_of};
 use mh_canon::{canonical, is_one_automaton};
-use mh_grammar::{Edge, Grammar, Symbol};
-use mh_kernels::Automaton;
-use mh_range::is_in_range;
+use mh_grammar::{Edge, Grammar, Symbol, is_in_range};
+use mh_items_kernels::Automaton;
 use std::alloc::Global;
 use std::fmt::Write;
 use std::process::Abort;

@@ -5,7 +5,7 @@ use crate::tables::cases::{check_cases, put, put_bytes, put_comma, release};
 use crate::tables::made::halting_of;
 use mh_catalogue::{CatalogueFault, Row, catalogue};
 use mh_grammar::{Grammar, start_name, token_name};
-use mh_tables::Halting;
+use mh_tables_core::Halting;
 use std::alloc::Global;
 use std::fmt::Write;
 use std::test::Fail;

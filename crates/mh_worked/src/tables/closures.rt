@@ -1,13 +1,12 @@
 //! Worked closures and moves, computed by hand.
 ghost use Rattle.std.specs.Prelude.{◌≤◌, ◌<◌, length, IfOk};
 ghost use Rattle.mh_grammar.specs.Plain.{plain_of, IsInRange};
-ghost use Rattle.mh_kernels.specs.Kernels.{IsItemList};
+ghost use Rattle.mh_items_kernels.specs.Kernels.{IsItemList};
 
 use crate::tables::cases::{check_cases, put, release};
-use mh_grammar::{Grammar, Look, Memory, Symbol};
+use mh_grammar::{Grammar, Look, Memory, Symbol, is_in_range};
 use mh_items::{closure, firsts, moved};
-use mh_kernels::{Kernel, are_equal, one_list, start_kernel, symbol_at};
-use mh_range::is_in_range;
+use mh_items_kernels::{Kernel, are_equal, one_list, start_kernel, symbol_at};
 use std::alloc::Global;
 use std::fmt::Write;
 use std::test::Fail;

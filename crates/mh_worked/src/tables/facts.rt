@@ -2,19 +2,18 @@
 ghost use Rattle.std.specs.Prelude.{◌≤◌, length, IfOk, IsTrue};
 ghost use Rattle.mh_grammar.specs.Costs.{HaveCosts};
 ghost use Rattle.mh_grammar.specs.Plain.{plain_of, IsInRange};
-ghost use Rattle.mh_kernels.specs.Automaton.{IsAutomaton};
-ghost use Rattle.mh_cells.specs.States.{IsTableOf};
-ghost use Rattle.mh_cells.specs.declared.kinds.Mode.TheVariants.{Canonical};
+ghost use Rattle.mh_items_kernels.specs.Automaton.{IsAutomaton};
+ghost use Rattle.mh_resolve_cells.specs.States.{IsTableOf};
+ghost use Rattle.mh_resolve_cells.specs.declared.kinds.Mode.TheVariants.{Canonical};
 
 use crate::tables::cases::release;
 use mh_canon::canonical;
-use mh_cells::Mode;
-use mh_grammar::Grammar;
-use mh_halting::check_halts;
-use mh_kernels::Automaton;
-use mh_range::{has_costs_in_range, is_in_range};
+use mh_grammar::{Grammar, has_costs_in_range, is_in_range};
+use mh_items_kernels::Automaton;
 use mh_resolve::resolve;
-use mh_tables::Halting;
+use mh_resolve_cells::Mode;
+use mh_tables::check_halts;
+use mh_tables_core::Halting;
 use std::alloc::Global;
 use std::test::Fail;
 

@@ -1,15 +1,15 @@
 //! Grammars from short texts, and their automata and tables: each call of the layers stands here once.
 
 use mh_canon::canonical;
-use mh_cells::{Conflict, Mode};
 use mh_grammar::{
     Assoc, Grammar, Level, NontermInfo, Production, Sequence, Symbol, TokenInfo, from_bytes,
+    has_costs_in_range, is_in_range,
 };
-use mh_halting::check_halts;
-use mh_kernels::Automaton;
-use mh_range::{has_costs_in_range, is_in_range};
+use mh_items_kernels::Automaton;
 use mh_resolve::resolve;
-use mh_tables::{Halting, Table};
+use mh_resolve_cells::{Conflict, Mode};
+use mh_tables::check_halts;
+use mh_tables_core::{Halting, Table};
 use std::alloc::Global;
 use std::test::Fail;
 

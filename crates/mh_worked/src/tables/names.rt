@@ -1,7 +1,7 @@
 //! Whether the names of a grammar's tokens can be told apart.
 ghost use Rattle.std.specs.Prelude.{◌≡◌, ◌≤◌, ◌<◌, ◌↔◌, ℕ, IsTrue, length};
 ghost use Rattle.mh_grammar.specs.Names.{token_name as name_of};
-ghost use Rattle.mh_valid.specs.Valid.{AreNamesApart};
+ghost use Rattle.mh_validate_valid.specs.Valid.{AreNamesApart};
 
 use mh_grammar::{Grammar, Token, token_name};
 

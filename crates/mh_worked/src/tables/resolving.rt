@@ -2,9 +2,9 @@
 //! and state 1 is the one behind it.
 use crate::tables::cases::{check_cases, put, put_comma, release};
 use crate::tables::made::resolved;
-use mh_cells::{Conflict, Mode};
 use mh_grammar::Grammar;
-use mh_tables::Table;
+use mh_resolve_cells::{Conflict, Mode};
+use mh_tables_core::Table;
 use std::alloc::Global;
 use std::fmt::Write;
 use std::test::Fail;

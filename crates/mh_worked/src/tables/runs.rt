@@ -7,7 +7,7 @@ use crate::tables::trees::put_tree;
 use mh_engine::{TreeOutcome, run_with_trees};
 use mh_grammar::{Grammar, Token};
 use mh_run::{trace, verdict};
-use mh_tables::Halting;
+use mh_tables_core::Halting;
 use std::alloc::Global;
 use std::fmt::Write;
 use std::test::Fail;

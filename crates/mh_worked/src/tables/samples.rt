@@ -2,15 +2,15 @@
 ghost use Rattle.std.specs.Prelude.{◌≡◌, ◌≤◌, length};
 ghost use Rattle.mh_grammar.specs.Costs.{HaveCosts};
 ghost use Rattle.mh_grammar.specs.Plain.{plain_of, IsInRange};
-ghost use Rattle.mh_kernels.specs.Automaton.{IsAutomaton};
+ghost use Rattle.mh_items_kernels.specs.Automaton.{IsAutomaton};
 
 use crate::tables::cases::{check_cases, put, put_bytes, release};
 use crate::tables::facts::{automaton_of, is_small, table_of};
 use mh_catalogue::catalogue;
 use mh_grammar::Grammar;
-use mh_kernels::Automaton;
+use mh_items_kernels::Automaton;
 use mh_sample::{sample, sample_grammar, sample_line};
-use mh_tables::Halting;
+use mh_tables_core::Halting;
 use std::alloc::Global;
 use std::test::Fail;
 

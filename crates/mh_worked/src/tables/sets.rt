@@ -3,12 +3,11 @@ ghost use Rattle.mh_grammar.specs.Plain.{plain_of, IsInRange};
 
 use crate::tables::cases::{check_cases, put, put_bytes, put_comma, release};
 use crate::tables::made::grammar_of;
-use mh_firsts::{first, nullable, productive, words_begin_with_first};
 use mh_grammar::{
     Edge, Grammar, Memory, NontermInfo, Production, Sequence, Symbol, Token, TokenInfo, find_edge,
-    from_bytes, left_side_name, nonterminal_name, start_name, symbol_name, token_name,
+    first, from_bytes, is_in_range, left_side_name, nonterminal_name, nullable, productive,
+    start_name, symbol_name, token_name, words_begin_with_first,
 };
-use mh_range::is_in_range;
 use std::alloc::Global;
 use std::fmt::Write;
 use std::process::Abort;

@@ -3,19 +3,18 @@
 ghost use Rattle.std.specs.Prelude.{◌<◌, ◌≤◌, ◌^◌, length};
 ghost use Rattle.mh_grammar.specs.Costs.{HaveCosts};
 ghost use Rattle.mh_grammar.specs.Plain.{plain_of, IsInRange};
-ghost use Rattle.mh_kernels.specs.Automaton.{IsAutomaton};
+ghost use Rattle.mh_items_kernels.specs.Automaton.{IsAutomaton};
 
 use crate::tables::cases::{check, put, release};
 use crate::tables::made::grammar_of;
 use mh_canon::canonical;
-use mh_cells::Mode;
-use mh_grammar::{Grammar, Memory};
-use mh_kernels::Automaton;
-use mh_range::{has_costs_in_range, is_in_range};
+use mh_grammar::{Grammar, Memory, has_costs_in_range, is_in_range};
+use mh_items_kernels::Automaton;
 use mh_resolve::resolve;
-use mh_tabform::{RawCells, RawTable};
-use mh_tabreader::{TabFault, read_tables};
-use mh_tabwriter::write_tables;
+use mh_resolve_cells::Mode;
+use mh_tabfile_form::{RawCells, RawTable};
+use mh_tabfile_read::{TabFault, read_tables};
+use mh_tabfile_write::write_tables;
 use std::alloc::Global;
 use std::fmt::Write;
 use std::process::Abort;

@@ -1,9 +1,9 @@
 //! Tables that were worked out by hand, and whether runs on them end.
 use crate::tables::cases::{check_cases, release};
 use crate::tables::made::resolved;
-use mh_cells::Mode;
 use mh_grammar::Grammar;
-use mh_halting::check_halts;
+use mh_resolve_cells::Mode;
+use mh_tables::check_halts;
 use std::alloc::Global;
 use std::fmt::Write;
 use std::test::Fail;

@@ -3,19 +3,19 @@
 ghost use Rattle.std.specs.Prelude.{◌≡◌, ◌≤◌, length, IfOk};
 ghost use Rattle.mh_grammar.specs.Costs.{HaveCosts};
 ghost use Rattle.mh_grammar.specs.Plain.{plain_of, IsInRange};
-ghost use Rattle.mh_kernels.specs.Automaton.{IsAutomaton};
-ghost use Rattle.mh_cells.specs.States.{IsTableOf};
-ghost use Rattle.mh_cells.specs.declared.kinds.Mode.TheVariants.{Canonical};
+ghost use Rattle.mh_items_kernels.specs.Automaton.{IsAutomaton};
+ghost use Rattle.mh_resolve_cells.specs.States.{IsTableOf};
+ghost use Rattle.mh_resolve_cells.specs.declared.kinds.Mode.TheVariants.{Canonical};
 
 use crate::tables::cases::{check, put, put_bytes, release};
 use crate::tables::facts::{automaton_of, is_small, table_of};
 use crate::tables::made::grammar_of;
 use mh_check::{CheckFault, Compiled, compare, compile};
 use mh_grammar::Grammar;
-use mh_kernels::Automaton;
+use mh_items_kernels::Automaton;
 use mh_msgfile::read_messages;
 use mh_run::Verdict;
-use mh_tables::Halting;
+use mh_tables_core::Halting;
 use mh_update::update;
 use std::alloc::Global;
 use std::fmt::Write;

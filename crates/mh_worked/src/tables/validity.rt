@@ -4,7 +4,7 @@ use crate::tables::facts::is_small;
 use crate::tables::made::grammar_of;
 use crate::tables::names::are_apart;
 use mh_grammar::Grammar;
-use mh_tabreader::read_tables;
+use mh_tabfile_read::read_tables;
 use mh_validate::{ValidFault, validate};
 use std::alloc::Global;
 use std::fmt::Write;

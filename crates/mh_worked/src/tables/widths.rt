@@ -1,15 +1,14 @@
 //! One automaton at every width of its sets.
 ghost use Rattle.std.specs.Prelude.{◌≤◌, ◌*◌, length, IfOk};
 ghost use Rattle.mh_grammar.specs.Plain.{plain_of, IsInRange};
-ghost use Rattle.mh_knuth.specs.Canonical.{IsCanonical};
+ghost use Rattle.mh_canon_states.specs.Canonical.{IsCanonical};
 
 use crate::tables::automata::put_edges;
 use crate::tables::cases::{check_cases, put, release};
 use crate::tables::closures::put_kernel;
 use mh_canon::{canonical, is_one_automaton};
-use mh_grammar::Grammar;
-use mh_kernels::Automaton;
-use mh_range::is_in_range;
+use mh_grammar::{Grammar, is_in_range};
+use mh_items_kernels::Automaton;
 use std::alloc::Global;
 use std::fmt::Write;
 use std::test::Fail;

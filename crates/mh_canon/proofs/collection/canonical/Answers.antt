@@ -1,7 +1,7 @@
 use Rattle.std.proofs.Common.{rules}
 use Rattle.mh_grammar.specs.Plain.{plain_of}
-use Rattle.mh_knuth.specs.declared.limits.TheConstants.{MAX_STATES}
-use Rattle.mh_knuth.proofs.Meaning.{IsAutomaton-canonical, IsOver-canonical}
+use Rattle.mh_canon_states.specs.declared.limits.TheConstants.{MAX_STATES}
+use Rattle.mh_canon_states.proofs.Meaning.{IsAutomaton-canonical, IsOver-canonical}
 use Rattle.mh_canon.proofs.collection.canonical.Goals as goal
 
 pub collect-requires : goal.collect-requires

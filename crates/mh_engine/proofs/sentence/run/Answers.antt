@@ -1,6 +1,6 @@
 use Rattle.std.proofs.Common.{◌≡◌, ◌<◌, ℕ, length, slice_index_or, refl, sym, subst, ◌∙◌, arith}
 use Rattle.std.proofs.lemmas.List.Elements.{All-get_or}
-use Rattle.mh_tables.specs.Table.{TableData}
+use Rattle.mh_tables_core.specs.Table.{TableData}
 use Rattle.mh_engine.specs.code.Reached.{HasRead, IsAccept}
 use Rattle.mh_engine.proofs.Reading.{reads_first, reads_on, reads_deep, reads_accept, reads_overshoot, not_at_end, reads_table}
 use Rattle.mh_engine.proofs.sentence.run.Goals as goal

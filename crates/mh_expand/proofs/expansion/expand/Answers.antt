@@ -1,6 +1,6 @@
 use Rattle.std.proofs.lemmas.Result.{IfOk-weaker}
 use Rattle.mh_rules.specs.Ready.{IsExpandedReady}
-use Rattle.mh_instances.specs.declared.fault.ExpandFault.{ExpandFault}
+use Rattle.mh_rules.specs.declared.fault.ExpandFault.{ExpandFault}
 use Rattle.mh_expand.specs.Expansion.{IsExpanded, IsFirstFault}
 use Rattle.mh_expand.specs.Sentences.{HasSameSentences}
 use Rattle.mh_expand.specs.Whole.{IsExpandedWhole}

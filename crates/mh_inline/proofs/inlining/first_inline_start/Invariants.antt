@@ -1,6 +1,6 @@
 use Rattle.std.proofs.Common.{◌≡◌, ℕ, ◌<◌, Some, false}
 use Rattle.std.specs.List.{slice_get}
-use Rattle.mh_producers.specs.Instances.{is_inlined}
+use Rattle.mh_inline_unfold.specs.Instances.{is_inlined}
 use Rattle.mh_inline.proofs.inlining.first_inline_start.Given as goal
 
 abbrev pub invariant-loop-start : goal.invariant-loop-start

@@ -1,5 +1,5 @@
 use Rattle.std.proofs.Common.{sym, ◌∙◌}
-use Rattle.mh_producers.specs.Sizes.{AreAllSized}
+use Rattle.mh_inline_unfold.specs.Sizes.{AreAllSized}
 use Rattle.mh_inline.proofs.Hindered.{is_hindrance, no_hindrance}
 use Rattle.mh_inline.proofs.inlining.inline_unless_cyclic.Goals as goal
 

@@ -1,5 +1,5 @@
 use Rattle.std.proofs.Common.{◌≡◌, ◌++◌, map, take}
-use Rattle.mh_producers.specs.Unfoldings.{own}
+use Rattle.mh_inline_unfold.specs.Unfoldings.{own}
 use Rattle.mh_inline.specs.code.Making.{production_by}
 use Rattle.mh_inline.proofs.productions.add_productions.Given as goal
 

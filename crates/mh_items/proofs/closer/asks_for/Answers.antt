@@ -2,7 +2,7 @@ use Rattle.std.proofs.Common.{◌≡◌, Some, sym, ap, ◌∙◌, arith}
 use Rattle.std.specs.List.{slice_get}
 use Rattle.mh_grammar.specs.declared.types.Symbol.TheVariants.{N}
 use Rattle.mh_grammar.specs.Plain.{plain_of, rhs_of}
-use Rattle.mh_kernels.proofs.Sides.{target_below}
+use Rattle.mh_items_kernels.proofs.Sides.{target_below}
 use Rattle.mh_items.proofs.closer.asks_for.Goals as goal
 
 pub bounds-marks-from : goal.bounds-marks-from

@@ -4,7 +4,7 @@ use Rattle.std.proofs.lemmas.Option.{slice_get_within}
 use Rattle.std.proofs.lemmas.Result.{on_ok_weaker}
 use Rattle.mh_grammar.specs.declared.types.Symbol.TheVariants.{N}
 use Rattle.mh_grammar.specs.Plain.{plain_of, rhs_of}
-use Rattle.mh_kernels.proofs.Sides.{target_below}
+use Rattle.mh_items_kernels.proofs.Sides.{target_below}
 use Rattle.mh_items.proofs.Growing.{Adds-none}
 use Rattle.mh_items.proofs.Linking.{no_token, not_none}
 use Rattle.mh_items.proofs.Seeding.{item_adds, item_nothing}

@@ -1,7 +1,7 @@
 use Rattle.std.proofs.Common.{List, take, sym, subst, ◌∙◌, rules}
 use Rattle.mh_grammar.specs.Plain.{plain_of}
-use Rattle.mh_kernels.specs.Shapes.{KernelItem}
-use Rattle.mh_kernels.specs.Kernels.{IsKernelItem}
+use Rattle.mh_items_kernels.specs.Shapes.{KernelItem}
+use Rattle.mh_items_kernels.specs.Kernels.{IsKernelItem}
 use Rattle.mh_items.specs.Asked.{Adds}
 use Rattle.mh_items.specs.Wanted.{IsSeedOf}
 use Rattle.mh_grammar.proofs.Lists.{taken, all_at}

@@ -1,6 +1,6 @@
 use Rattle.std.proofs.Common.{sym, ◌∙◌, rules, lit<}
 use Rattle.mh_grammar.specs.Plain.{plain_of}
-use Rattle.mh_kernels.proofs.Sides.{behind_fits}
+use Rattle.mh_items_kernels.proofs.Sides.{behind_fits}
 use Rattle.mh_items.proofs.Seeding.{follows_is}
 use Rattle.mh_items.proofs.closures.looks_behind.Goals as goal
 

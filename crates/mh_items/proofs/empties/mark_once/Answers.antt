@@ -1,5 +1,5 @@
 use Rattle.std.proofs.Common.{arith}
-use Rattle.mh_firsts.proofs.Passes.{pass-step, pass-end}
+use Rattle.mh_grammar.proofs.Passes.{pass-step, pass-end}
 use Rattle.mh_items.proofs.Emptying.{Closes}
 use Rattle.mh_items.proofs.empties.mark_once.Goals as goal
 

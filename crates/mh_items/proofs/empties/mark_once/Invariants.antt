@@ -1,4 +1,4 @@
-use Rattle.mh_firsts.proofs.Passes.{PassSoFar}
+use Rattle.mh_grammar.proofs.Passes.{PassSoFar}
 use Rattle.mh_items.proofs.Emptying.{Closes}
 use Rattle.mh_items.proofs.empties.mark_once.Given as goal
 

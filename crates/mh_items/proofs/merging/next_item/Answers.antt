@@ -2,7 +2,7 @@ use Rattle.std.proofs.Common.{◌≡◌, Some, length, refl, arith}
 use Rattle.std.specs.List.{slice_get}
 use Rattle.std.proofs.lemmas.Option.{slice_get_read}
 use Rattle.mh_grammar.specs.Plain.{plain_of}
-use Rattle.mh_kernels.specs.Kernels.{IsKernelItem}
+use Rattle.mh_items_kernels.specs.Kernels.{IsKernelItem}
 use Rattle.mh_grammar.proofs.Lists.{recursion_at}
 use Rattle.mh_items.proofs.Joining.{joined_item}
 use Rattle.mh_items.proofs.Merged.{IsMerged-left, IsMerged-right, IsMerged-both}

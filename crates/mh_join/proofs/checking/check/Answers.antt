@@ -1,7 +1,7 @@
 use Rattle.std.specs.List.{flat_map}
-use Rattle.mh_meanings.specs.Names.{files}
-use Rattle.mh_meanings.specs.Faults.{undefined_in_file, duplicates, other_faults}
-use Rattle.mh_meanings.specs.Maps.{meanings_in}
+use Rattle.mh_join_names.specs.Names.{files}
+use Rattle.mh_join_names.specs.Faults.{undefined_in_file, duplicates, other_faults}
+use Rattle.mh_join_names.specs.Maps.{meanings_in}
 use Rattle.mh_join.proofs.checking.check.Goals as goal
 
 pub returns : goal.returns

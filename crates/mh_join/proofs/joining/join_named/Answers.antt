@@ -1,6 +1,6 @@
 use Rattle.std.proofs.Common.{◌≡◌, [], subst}
-use Rattle.mh_meanings.specs.Faults.{Meanings, faults_by}
-use Rattle.mh_meanings.proofs.Finding.{IsFirst}
+use Rattle.mh_join_names.specs.Faults.{Meanings, faults_by}
+use Rattle.mh_join_names.proofs.Finding.{IsFirst}
 use Rattle.mh_join.proofs.Able.{can_join, joined_by}
 use Rattle.mh_join.proofs.joining.join_named.Goals as goal
 

@@ -1,5 +1,5 @@
 use Rattle.std.proofs.Common.{sym, ◌∙◌, ◌&&◌, length}
-use Rattle.mh_bytes.specs.Code.{has_remarks}
+use Rattle.mh_lex_bytes.specs.Code.{has_remarks}
 use Rattle.mh_lex.specs.Steps.{begins_comment, plain}
 use Rattle.mh_lex.proofs.Choosing.{remark_is, remark_within, no_remark}
 use Rattle.mh_lex.proofs.code.open_step.Goals as goal

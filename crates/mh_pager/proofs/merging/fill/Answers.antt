@@ -1,9 +1,9 @@
 use Rattle.std.proofs.Common.{arith, rules}
 use Rattle.std.proofs.lemmas.Result.{on_ok_weaker}
 use Rattle.mh_grammar.specs.Plain.{plain_of}
-use Rattle.mh_knuth.specs.declared.limits.TheConstants.{MAX_STATES}
-use Rattle.mh_worklist.specs.Worklist.{work_of}
-use Rattle.mh_merging.proofs.Finishing.{starts_within, AreClosed-list, IsMerged-list, few_list}
+use Rattle.mh_canon_states.specs.declared.limits.TheConstants.{MAX_STATES}
+use Rattle.mh_pager.specs.Worklist.{work_of}
+use Rattle.mh_pager_steps.proofs.Finishing.{starts_within, AreClosed-list, IsMerged-list, few_list}
 use Rattle.mh_pager.proofs.Worklists.{of_list}
 use Rattle.mh_pager.proofs.merging.fill.Goals as goal
 

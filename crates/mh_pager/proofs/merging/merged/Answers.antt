@@ -1,6 +1,6 @@
 use Rattle.mh_grammar.specs.Plain.{plain_of}
-use Rattle.mh_worklist.proofs.Combining.{if_both}
-use Rattle.mh_merging.proofs.Finishing.{merged_automaton, merged_paths, merged_clashes, merged_faults}
+use Rattle.mh_pager.proofs.Combining.{if_both}
+use Rattle.mh_pager_steps.proofs.Finishing.{merged_automaton, merged_paths, merged_clashes, merged_faults}
 use Rattle.mh_pager.proofs.merging.merged.Goals as goal
 
 pub returns-clause-automaton : goal.returns-clause-automaton

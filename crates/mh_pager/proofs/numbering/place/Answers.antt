@@ -1,5 +1,5 @@
 use Rattle.std.proofs.Common.{arith}
-use Rattle.mh_merging.proofs.Reaching.{placed_small}
+use Rattle.mh_pager_steps.proofs.Reaching.{placed_small}
 use Rattle.mh_pager.proofs.numbering.place.Goals as goal
 
 pub overflow_cast-result : goal.overflow_cast-result

@@ -1,6 +1,6 @@
 use Rattle.std.proofs.Common.{◌-◌, length}
-use Rattle.mh_knuth.specs.declared.limits.TheConstants.{MAX_STATES}
-use Rattle.mh_merging.proofs.Reaching.{Reaching}
+use Rattle.mh_canon_states.specs.declared.limits.TheConstants.{MAX_STATES}
+use Rattle.mh_pager_steps.proofs.Reaching.{Reaching}
 use Rattle.mh_pager.proofs.numbering.reach.Given as goal
 
 abbrev pub invariant-states : goal.invariant-states

@@ -1,5 +1,5 @@
 use Rattle.std.proofs.Common.{take}
-use Rattle.mh_merging.specs.Numbered.{AreBelow, IsRenamed}
+use Rattle.mh_pager_steps.specs.Numbered.{AreBelow, IsRenamed}
 use Rattle.mh_pager.proofs.numbering.renamed.Given as goal
 
 abbrev pub invariant-loop-edge : goal.invariant-loop-edge

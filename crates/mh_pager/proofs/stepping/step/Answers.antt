@@ -3,12 +3,12 @@ use Rattle.std.specs.List.{slice_get}
 use Rattle.std.proofs.lemmas.Option.{slice_get_read}
 use Rattle.mh_grammar.specs.Plain.{plain_of}
 use Rattle.mh_grammar.proofs.Lists.{contains_here}
-use Rattle.mh_kernels.specs.Collection.{targets_of}
-use Rattle.mh_kernels.specs.declared.kernels.StatesFault.TheVariants.{TooManyStates}
-use Rattle.mh_knuth.specs.declared.limits.TheConstants.{MAX_STATES}
+use Rattle.mh_items_kernels.specs.Collection.{targets_of}
+use Rattle.mh_items_kernels.specs.declared.kernels.StatesFault.TheVariants.{TooManyStates}
+use Rattle.mh_canon_states.specs.declared.limits.TheConstants.{MAX_STATES}
 use Rattle.mh_pager.specs.Stepping.{with_first}
-use Rattle.mh_worklist.specs.Worklist.{work_of}
-use Rattle.mh_merging.proofs.Only.{all_put_longer}
+use Rattle.mh_pager.specs.Worklist.{work_of}
+use Rattle.mh_pager_steps.proofs.Only.{all_put_longer}
 use Rattle.mh_pager.proofs.Readying.{taken_ready}
 use Rattle.mh_pager.proofs.Rowing.{step_made, step_over, row_ready}
 use Rattle.mh_pager.proofs.Turning.{symbols_in}

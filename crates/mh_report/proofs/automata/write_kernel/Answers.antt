@@ -1,6 +1,6 @@
 use Rattle.std.proofs.Common.{rules}
 use Rattle.std.proofs.lemmas.Result.{on_ok_weaker}
-use Rattle.mh_notation.proofs.Kernels.{kernel_items}
+use Rattle.mh_report_notation.proofs.Kernels.{kernel_items}
 use Rattle.mh_report.proofs.Parts.{kernel_text_is}
 use Rattle.mh_report.proofs.automata.write_kernel.Goals as goal
 

@@ -1,5 +1,5 @@
 use Rattle.std.proofs.Common.{◌≡◌, ◌<◌, length, arith, refl, rules}
-use Rattle.mh_cells.proofs.Resolving.{items_of, edges_known, edges_rise, front_more, all_resolved, facts_of, none_collected, collected_more, row_at, all_collected}
+use Rattle.mh_resolve_cells.proofs.Resolving.{items_of, edges_known, edges_rise, front_more, all_resolved, facts_of, none_collected, collected_more, row_at, all_collected}
 use Rattle.mh_resolve.proofs.resolution.add_states.Goals as goal
 
 pub loop-state-init : goal.loop-state-init

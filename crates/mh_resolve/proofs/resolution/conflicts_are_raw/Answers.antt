@@ -1,4 +1,4 @@
-use Rattle.mh_cells.proofs.Bridging.{clear_are, conflicts_are}
+use Rattle.mh_resolve_cells.proofs.Bridging.{clear_are, conflicts_are}
 use Rattle.mh_resolve.proofs.resolution.conflicts_are_raw.Goals as goal
 
 pub returns-clause-none : goal.returns-clause-none

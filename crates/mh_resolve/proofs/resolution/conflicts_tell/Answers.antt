@@ -1,4 +1,4 @@
-use Rattle.mh_cells.proofs.Clear.{none_listed, none_there}
+use Rattle.mh_resolve_cells.proofs.Clear.{none_listed, none_there}
 use Rattle.mh_resolve.proofs.resolution.conflicts_tell.Goals as goal
 
 pub returns : goal.returns

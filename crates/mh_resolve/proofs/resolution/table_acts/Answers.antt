@@ -1,4 +1,4 @@
-use Rattle.mh_cells.proofs.Clear.{state_acts, state_acts_clearly}
+use Rattle.mh_resolve_cells.proofs.Clear.{state_acts, state_acts_clearly}
 use Rattle.mh_resolve.proofs.resolution.table_acts.Goals as goal
 
 pub returns-clause-within : goal.returns-clause-within

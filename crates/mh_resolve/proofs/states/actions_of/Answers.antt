@@ -1,6 +1,6 @@
 use Rattle.std.proofs.Common.{get_or, map, ap, refl, ◌∙◌}
 use Rattle.std.proofs.lemmas.List.{take_all}
-use Rattle.mh_cells.specs.code.Whole.{filled_with}
+use Rattle.mh_resolve_cells.specs.code.Whole.{filled_with}
 use Rattle.mh_grammar.proofs.Lists.{mapped_more}
 use Rattle.mh_resolve.proofs.states.actions_of.Goals as goal
 

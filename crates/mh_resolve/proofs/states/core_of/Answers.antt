@@ -1,6 +1,6 @@
 use Rattle.std.proofs.Common.{map, ap, ◌∙◌}
 use Rattle.std.proofs.lemmas.List.{take_all}
-use Rattle.mh_cells.specs.States.{place_of}
+use Rattle.mh_resolve_cells.specs.States.{place_of}
 use Rattle.mh_grammar.proofs.Lists.{mapped_more}
 use Rattle.mh_resolve.proofs.states.core_of.Goals as goal
 

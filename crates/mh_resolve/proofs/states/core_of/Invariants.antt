@@ -1,6 +1,6 @@
 use Rattle.std.proofs.Common.{◌≡◌, take}
 use Rattle.std.specs.Prelude.{map}
-use Rattle.mh_cells.specs.States.{place_of}
+use Rattle.mh_resolve_cells.specs.States.{place_of}
 use Rattle.mh_resolve.proofs.states.core_of.Given as goal
 
 abbrev pub invariant-loop-item : goal.invariant-loop-item

@@ -1,8 +1,8 @@
 use Rattle.std.proofs.Common.{◌≡◌, refl, arith, length}
-use Rattle.mh_tables.specs.Run.{Accepts, Asks, Refuses, Accepted, Overshot, Rejected, top_of}
-use Rattle.mh_tables.proofs.Reductions.{no_shift_at_end}
+use Rattle.mh_tables_core.specs.Run.{Accepts, Asks, Refuses, Accepted, Overshot, Rejected, top_of}
+use Rattle.mh_tables_core.proofs.Reductions.{no_shift_at_end}
 use Rattle.mh_run.specs.code.Following.{RunsSo}
-use Rattle.mh_tables.proofs.Asking.{no_ask, no_refusal_at_end}
+use Rattle.mh_tables_core.proofs.Asking.{no_ask, no_refusal_at_end}
 use Rattle.mh_run.proofs.Turns.{turn_ends, turn_shifts, last_ends}
 use Rattle.mh_run.proofs.runs.run.Goals as goal
 

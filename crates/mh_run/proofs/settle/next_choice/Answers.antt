@@ -1,5 +1,5 @@
 use Rattle.std.proofs.Common.{arith}
-use Rattle.mh_tables.proofs.Path.{state_known}
+use Rattle.mh_tables_core.proofs.Path.{state_known}
 use Rattle.mh_run.proofs.settle.next_choice.Goals as goal
 
 pub choose-requires-clause-state : goal.choose-requires-clause-state

@@ -1,5 +1,5 @@
-use Rattle.mh_tables.specs.Halting.{look_list}
-use Rattle.mh_tables.proofs.Reductions.{reduces_from_move}
+use Rattle.mh_tables_core.specs.Halting.{look_list}
+use Rattle.mh_tables_core.proofs.Reductions.{reduces_from_move}
 use Rattle.mh_run.proofs.Steps.{can_reduce}
 use Rattle.mh_run.proofs.settle.reduce_next.Goals as goal
 

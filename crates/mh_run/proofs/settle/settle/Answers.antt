@@ -1,6 +1,6 @@
 use Rattle.std.proofs.Common.{◌≡◌, ◌≤◌, ◌+◌, suc, sym, arith}
-use Rattle.mh_tables.specs.Run.{move_of, top_of, Reduces}
-use Rattle.mh_tables.specs.Halting.{look_list}
+use Rattle.mh_tables_core.specs.Run.{move_of, top_of, Reduces}
+use Rattle.mh_tables_core.specs.Halting.{look_list}
 use Rattle.mh_run.proofs.Progress.{progress_from, progress_above, progress_to, progress_few, two_left}
 use Rattle.mh_run.proofs.settle.settle.Goals as goal
 

@@ -1,5 +1,5 @@
-use Rattle.mh_tables.specs.Halting.{look_list}
-use Rattle.mh_tables.proofs.Reductions.{reduces_from_move}
+use Rattle.mh_tables_core.specs.Halting.{look_list}
+use Rattle.mh_tables_core.proofs.Reductions.{reduces_from_move}
 use Rattle.mh_run.proofs.settle.tell_next.Goals as goal
 
 pub length_of-requires : goal.length_of-requires

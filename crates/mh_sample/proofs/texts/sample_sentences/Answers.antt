@@ -1,5 +1,5 @@
 use Rattle.std.proofs.Common.{◌++◌, ℕ, List, ap, ap₂, ◌∙◌}
-use Rattle.mh_amounts.specs.declared.amounts.TheConstants.{SENTENCES}
+use Rattle.mh_sample.specs.declared.amounts.TheConstants.{SENTENCES}
 use Rattle.mh_sample.specs.Texts.{each_from, sentence_line, sentences_text}
 use Rattle.mh_sample.proofs.texts.sample_sentences.Goals as goal
 

@@ -1,8 +1,8 @@
 use Rattle.std.proofs.Common.{[], ap, subst, sym, ◌∙◌}
 use Rattle.std.specs.List.{All}
-use Rattle.mh_tables.specs.Table.{TableData}
+use Rattle.mh_tables_core.specs.Table.{TableData}
 use Rattle.mh_session.specs.code.Moments.{Moment}
-use Rattle.mh_branches.specs.Answers.{IsKnown, answers}
+use Rattle.mh_session_branches.specs.Answers.{IsKnown, answers}
 use Rattle.mh_session.proofs.run.answer_all.Goals as goal
 
 pub answer_each-requires-clause-known : goal.answer_each-requires-clause-known

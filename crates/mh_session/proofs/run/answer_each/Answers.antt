@@ -1,7 +1,7 @@
 use Rattle.std.proofs.Common.{get_or, subst, sym}
 use Rattle.std.proofs.lemmas.List.Elements.{All-get_or}
-use Rattle.mh_tables.specs.Table.{TableData}
-use Rattle.mh_branches.specs.Answers.{IsKnown}
+use Rattle.mh_tables_core.specs.Table.{TableData}
+use Rattle.mh_session_branches.specs.Answers.{IsKnown}
 use Rattle.mh_session.proofs.Telling.{told_begins, told_more, told_whole}
 use Rattle.mh_session.proofs.run.answer_each.Goals as goal
 

@@ -1,4 +1,4 @@
-use Rattle.mh_program.proofs.Going.{accepted_followed, refused_followed, refused_read}
+use Rattle.mh_top_claims.proofs.Going.{accepted_followed, refused_followed, refused_read}
 use Rattle.mh_top.proofs.following.go_on.Goals as goal
 
 pub returns-then-is_refused-clause-ran : goal.returns-then-is_refused-clause-ran

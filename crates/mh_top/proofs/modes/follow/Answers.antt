@@ -1,8 +1,8 @@
 use Rattle.std.proofs.Common.{refl, rules, sym, ap, ap₂, ◌∙◌}
 use Rattle.mh_opts.specs.declared.jobs.Job.TheVariants.{Interpret, Session, CompileErrors, CompareErrors, EchoErrors, UpdateErrors}
-use Rattle.mh_drive.proofs.Opening.{ran_read}
-use Rattle.mh_plans.specs.Plan.{by_plan}
-use Rattle.mh_plans.proofs.Following.{of_job, of_plan, still_followed, still_read}
+use Rattle.mh_top_drive.proofs.Opening.{ran_read}
+use Rattle.mh_top_plans.specs.Plan.{by_plan}
+use Rattle.mh_top_plans.proofs.Following.{of_job, of_plan, still_followed, still_read}
 use Rattle.mh_top.proofs.modes.follow.Goals as goal
 
 pub returns-in-Interpret-clause-ran : goal.returns-in-Interpret-clause-ran

@@ -1,9 +1,9 @@
 use Rattle.std.proofs.Common.{List, ℕ, map, refl, sym, subst}
 use Rattle.std.specs.String.{string_bytes}
 use Rattle.std.specs.declared.alloc.Global.{Global}
-use Rattle.mh_drive.specs.Causes.{Go}
-use Rattle.mh_modules.specs.FrontStage.{IsFront}
-use Rattle.mh_program.proofs.Going.{front_stops, worked_same}
+use Rattle.mh_top_drive.specs.Causes.{Go}
+use Rattle.mh_top_load.specs.FrontStage.{IsFront}
+use Rattle.mh_top_claims.proofs.Going.{front_stops, worked_same}
 use Rattle.mh_top.proofs.top.work.Goals as goal
 
 pub front_of-requires : goal.front_of-requires

@@ -1,7 +1,7 @@
 use Rattle.std.proofs.Common.{refl, rules, subst, sym}
-use Rattle.mh_drive.specs.Causes.{Go}
-use Rattle.mh_program.specs.Preparing.{IsPrepared}
-use Rattle.mh_program.proofs.Going.{prepare_stops, prepared_so, worked_same}
+use Rattle.mh_top_drive.specs.Causes.{Go}
+use Rattle.mh_top_claims.specs.Preparing.{IsPrepared}
+use Rattle.mh_top_claims.proofs.Going.{prepare_stops, prepared_so, worked_same}
 use Rattle.mh_top.proofs.top.work_on.Goals as goal
 
 pub work_with-ended-requires : goal.work_with-ended-requires

@@ -1,4 +1,4 @@
-use Rattle.mh_program.proofs.Going.{followed, warning_stops}
+use Rattle.mh_top_claims.proofs.Going.{followed, warning_stops}
 use Rattle.mh_top.proofs.top.work_with.Goals as goal
 
 pub returns-in-Ok-clause-ran : goal.returns-in-Ok-clause-ran

@@ -1,9 +1,9 @@
 use Rattle.std.proofs.Common.{[], ◌<◌, length, arith, rules}
 use Rattle.std.specs.Prelude.{slice_index_or}
-use Rattle.mh_tables.specs.Table.{no_state}
-use Rattle.mh_valid.specs.Valid.{IsResolvedAt}
-use Rattle.mh_valid.proofs.Pushed.{count_more, pushed}
-use Rattle.mh_compared.proofs.Edging.{kernel_right}
+use Rattle.mh_tables_core.specs.Table.{no_state}
+use Rattle.mh_validate_valid.specs.Valid.{IsResolvedAt}
+use Rattle.mh_validate_valid.proofs.Pushed.{count_more, pushed}
+use Rattle.mh_validate.proofs.Edging.{kernel_right}
 use Rattle.mh_validate.proofs.Judging.{row_has, resolved_here, edges_known}
 use Rattle.mh_validate.proofs.validation.fill_parts.Goals as goal
 

@@ -1,5 +1,5 @@
 use Rattle.std.proofs.lemmas.Result.{IfOk-weaker}
-use Rattle.mh_valid.proofs.Giving.{automaton_of}
+use Rattle.mh_validate_valid.proofs.Giving.{automaton_of}
 use Rattle.mh_validate.proofs.Judging.{outcome_ok, outcome_fault}
 use Rattle.mh_validate.proofs.validation.validate.Goals as goal
 

@@ -1,5 +1,5 @@
 use Rattle.std.proofs.Common.{◌<◌, ◌≤◌, length, refl, arith, rules}
-use Rattle.mh_valid.proofs.Giving.{automaton_named}
+use Rattle.mh_validate_valid.proofs.Giving.{automaton_named}
 use Rattle.mh_validate.proofs.Judging.{cell_fault, wrong_fault, valid_told, resolved_at, named}
 use Rattle.mh_validate.proofs.validation.with_table.Goals as goal
 

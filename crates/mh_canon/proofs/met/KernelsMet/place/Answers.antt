@@ -1,6 +1,6 @@
 use Rattle.std.proofs.Common.{rules, refl}
 use Rattle.mh_grammar.proofs.Placing.{Placed-insert}
-use Rattle.mh_kernels.proofs.Exact.{item_Decides, kernel_Decides}
+use Rattle.mh_items_kernels.proofs.Exact.{item_Decides, kernel_Decides}
 use Rattle.mh_canon.proofs.met.KernelsMet.place.Goals as goal
 
 pub returns : goal.returns

@@ -1,13 +1,13 @@
 use Rattle.std.proofs.Common.{◌≡◌, ap, sym, subst, ◌∙◌, inl, inr, refl, Some, arith}
 use Rattle.std.specs.List.{All}
-use Rattle.mh_tables.specs.Facts.{Facts}
-use Rattle.mh_tables.specs.Halting.{look_list}
-use Rattle.mh_tables.specs.Run.{Refuses, Shifts, Reduces}
+use Rattle.mh_tables_core.specs.Facts.{Facts}
+use Rattle.mh_tables_core.specs.Halting.{look_list}
+use Rattle.mh_tables_core.specs.Run.{Refuses, Shifts, Reduces}
 use Rattle.mh_engine.specs.Positions.{Position, waiting}
 use Rattle.mh_engine.specs.Phases.{next_move, phase_of, IsAsking}
 use Rattle.mh_engine.specs.Steps.{resumed, offered}
 use Rattle.mh_engine.specs.code.Sound.{IsSound}
-use Rattle.mh_tables.specs.Deep.{too_deep}
+use Rattle.mh_tables_core.specs.Deep.{too_deep}
 use Rattle.mh_engine.specs.code.Reducing.{CanReduce}
 use Rattle.mh_engine.proofs.Moves.{no_shift_waiting}
 use Rattle.mh_engine.proofs.Resuming.{offered_made, refused_is, shifted_made, shifted_keeps, shifted_fits, shifted_deep, Found, reduced_made, reduced_keeps, reduced_low, reduced_deep, can_reduce, going}

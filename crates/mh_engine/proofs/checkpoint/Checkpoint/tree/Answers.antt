@@ -1,7 +1,7 @@
 use Rattle.std.proofs.Common.{◌≡◌, ap, sym, subst, ◌∙◌}
 use Rattle.mh_grammar.specs.Trees.{SyntaxTree}
-use Rattle.mh_tables.specs.Table.{TableData}
-use Rattle.mh_tables.specs.Facts.{Facts}
+use Rattle.mh_tables_core.specs.Table.{TableData}
+use Rattle.mh_tables_core.specs.Facts.{Facts}
 use Rattle.mh_engine.specs.Positions.{Position}
 use Rattle.mh_engine.specs.code.Sound.{IsSound}
 use Rattle.mh_engine.proofs.Moves.{accepted_tree, accepted_some}

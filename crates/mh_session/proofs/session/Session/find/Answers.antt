@@ -1,8 +1,8 @@
 use Rattle.std.proofs.Common.{◌≡◌, ap, sym, subst, ◌∙◌}
-use Rattle.mh_branches.specs.Names.{at_name}
+use Rattle.mh_session_branches.specs.Renamed.{at_name}
 use Rattle.mh_session.specs.code.Moments.{Moment}
 use Rattle.mh_session.specs.code.Puts.{AreOf}
-use Rattle.mh_session.proofs.Naming.{of_table}
+use Rattle.mh_session.proofs.ValuesByName.{of_table}
 use Rattle.mh_session.proofs.session.Session.find.Goals as goal
 
 pub returns-clause-found : goal.returns-clause-found

@@ -1,9 +1,9 @@
 use Rattle.std.proofs.Common.{◌≡◌, ap, sym, ◌∙◌, None, Some}
 use Rattle.std.specs.Map.{update}
 use Rattle.mh_session.specs.code.Moments.{Moment}
-use Rattle.mh_branches.specs.Names.{at_name, same}
+use Rattle.mh_session_branches.specs.Renamed.{at_name, same}
 use Rattle.mh_session.specs.code.Puts.{Puts}
-use Rattle.mh_session.proofs.Naming.{removal_of}
+use Rattle.mh_session.proofs.ValuesByName.{removal_of}
 use Rattle.mh_session.proofs.Serving.{forget_served}
 use Rattle.mh_session.proofs.session.SessionServes.forget.Goals as goal
 

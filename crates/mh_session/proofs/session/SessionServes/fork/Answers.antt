@@ -3,10 +3,10 @@ use Rattle.std.specs.Prelude.{IsTrue, true}
 use Rattle.mh_engine.specs.Positions.{Position}
 use Rattle.mh_engine.specs.Phases.{phase_of, CanGoOn}
 use Rattle.mh_engine.specs.Steps.{resumed}
-use Rattle.mh_tables.specs.Deep.{too_deep}
+use Rattle.mh_tables_core.specs.Deep.{too_deep}
 use Rattle.mh_session.specs.code.Moments.{Moment}
-use Rattle.mh_branches.specs.Names.{at_name}
-use Rattle.mh_session.proofs.Naming.{removal_of}
+use Rattle.mh_session_branches.specs.Renamed.{at_name}
+use Rattle.mh_session.proofs.ValuesByName.{removal_of}
 use Rattle.mh_session.proofs.Serving.{found_none, begin_served, offer_served, resume_served, deep_served, resumed_of, fork_served, forget_served, DidPut}
 use Rattle.mh_session.proofs.session.SessionServes.fork.Goals as goal
 

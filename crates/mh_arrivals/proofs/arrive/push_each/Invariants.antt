@@ -1,7 +1,0 @@
-use Rattle.mh_ways.specs.code.Rows.{Gains}
-use Rattle.mh_arrivals.specs.Arriving.{StepsOn}
-use Rattle.mh_ways.proofs.Gaining.{First}
-use Rattle.mh_arrivals.proofs.arrive.push_each.Given as goal
-
-abbrev pub invariant-loop-next : goal.invariant-loop-next
-invariant-loop-next l = Gains (First (StepsOn l.cost l.state l.step) l.tokens l.next-index) l.fn.queue.buckets.items l.queue.buckets.items

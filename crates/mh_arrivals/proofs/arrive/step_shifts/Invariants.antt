@@ -1,8 +1,0 @@
-use Rattle.mh_tables.specs.Table.{state_at}
-use Rattle.mh_ways.specs.code.Rows.{Gains}
-use Rattle.mh_arrivals.specs.Arriving.{StepsEdge}
-use Rattle.mh_ways.proofs.Gaining.{First}
-use Rattle.mh_arrivals.proofs.arrive.step_shifts.Given as goal
-
-abbrev pub invariant-loop-edge : goal.invariant-loop-edge
-invariant-loop-edge l = Gains (First (StepsEdge l.table l.classes l.from.spot l.from.cost) (state_at l.table l.from.spot.state).edges l.edge-index) l.fn.queue.buckets.items l.queue.buckets.items

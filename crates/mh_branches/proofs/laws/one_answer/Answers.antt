@@ -1,5 +1,0 @@
-use Rattle.mh_branches.proofs.Once.{answer_once}
-use Rattle.mh_branches.proofs.laws.one_answer.Goals as goal
-
-pub returns : goal.returns
-returns c = answer_once

@@ -1,5 +1,0 @@
-pub mod Answers
-pub mod Forms
-pub mod Lines
-pub mod Names
-pub mod Replies

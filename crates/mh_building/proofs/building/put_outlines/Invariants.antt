@@ -1,7 +1,0 @@
-use Rattle.std.proofs.Common.{◌≡◌, map, take}
-use Rattle.mh_meanings.specs.Joining.{rule_without}
-use Rattle.mh_meanings.specs.Maps.{elsewhere_in}
-use Rattle.mh_building.proofs.building.put_outlines.Given as goal
-
-abbrev pub invariant-loop-outline : goal.invariant-loop-outline
-invariant-loop-outline l = l.rules.items ≡ map (rule_without (elsewhere_in l.names)) (take l.outline-index l.outline-items)

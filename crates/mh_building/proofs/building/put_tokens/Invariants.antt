@@ -1,7 +1,0 @@
-use Rattle.std.proofs.Common.{◌≡◌, map, take}
-use Rattle.mh_meanings.specs.Joining.{token_info}
-use Rattle.mh_meanings.specs.Maps.{meanings_in}
-use Rattle.mh_building.proofs.building.put_tokens.Given as goal
-
-abbrev pub invariant-loop-name : goal.invariant-loop-name
-invariant-loop-name l = l.tokens ≡ map (token_info (meanings_in l.names)) (take l.name-index l.name-items)

@@ -1,3 +1,0 @@
-pub mod Lacking
-pub mod Places
-pub mod Refusing

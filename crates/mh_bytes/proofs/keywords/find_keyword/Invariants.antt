@@ -1,8 +1,0 @@
-use Rattle.std.proofs.Common.{◌≡◌, drop}
-use Rattle.mh_bytes.specs.Keywords.{keyword_among, plain_rows}
-use Rattle.mh_bytes.proofs.keywords.find_keyword.Given as goal
-
-abbrev pub invariant-loop-row : goal.invariant-loop-row
-invariant-loop-row l =
-    keyword_among (plain_rows (drop l.row-index l.rows) (λ word. word.now)) l.word
-    ≡ keyword_among (plain_rows l.rows (λ word. word.now)) l.word

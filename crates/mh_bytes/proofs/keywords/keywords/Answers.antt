@@ -1,7 +1,0 @@
-use Rattle.std.proofs.Common.{ap}
-use Rattle.mh_bytes.specs.Keywords.{keywords, plain_rows}
-use Rattle.mh_bytes.proofs.keywords.keywords.Goals as goal
-
-pub returns : goal.returns
-unfolding keywords
-returns c = ap (λ rows. plain_rows rows (λ word. word.now)) c.as_slice.ensures

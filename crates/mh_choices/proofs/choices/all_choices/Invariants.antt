@@ -1,6 +1,0 @@
-use Rattle.std.proofs.Common.{◌≡◌, take}
-use Rattle.mh_producers.specs.Unfoldings.{choices}
-use Rattle.mh_choices.proofs.choices.all_choices.Given as goal
-
-abbrev pub invariant-loop-first : goal.invariant-loop-first
-invariant-loop-first l = l.all.items ≡ choices (take l.first-index l.left) l.right

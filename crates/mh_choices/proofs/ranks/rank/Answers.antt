@@ -1,9 +1,0 @@
-use Rattle.std.proofs.Common.{refl}
-use Rattle.mh_choices.proofs.FileOrder.{rank_else}
-use Rattle.mh_choices.proofs.ranks.rank.Goals as goal
-
-pub returns-then-file-eq0 : goal.returns-then-file-eq0
-returns-then-file-eq0 c = rw c.if-file-eq0.true refl
-
-pub returns-else-file-eq0 : goal.returns-else-file-eq0
-returns-else-file-eq0 c = rank_else c.args.file c.if-file-eq0.false

@@ -1,2 +1,0 @@
-pub mod Hindrances
-pub mod Ranks

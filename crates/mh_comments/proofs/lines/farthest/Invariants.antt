@@ -1,5 +1,0 @@
-use Rattle.mh_comments.proofs.Farthest.{SoFar}
-use Rattle.mh_comments.proofs.lines.farthest.Given as goal
-
-abbrev pub invariant-loop-item : goal.invariant-loop-item
-invariant-loop-item _ l = SoFar l.items l.item-index l.best

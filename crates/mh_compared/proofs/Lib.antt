@@ -1,4 +1,0 @@
-pub mod Within
-pub mod Edging
-pub mod Counting
-pub mod Zipping

@@ -1,7 +1,0 @@
-use Rattle.std.proofs.Common.{rules}
-use Rattle.mh_grammar.proofs.Lists.{zip_length}
-use Rattle.mh_compared.specs.Leading.{Leads}
-use Rattle.mh_compared.proofs.edges.row_of.Goals as goal
-
-pub edges_on-requires : goal.edges_on-requires
-edges_on-requires g c = (search rules, (c.requires.few, zip_length (Leads c.args.grammar.now c.args.kernels.now) c.args.moves.now c.args.raws.now (c.all_lead.ensures.0 c.if-not-all_lead.false)))

@@ -1,5 +1,0 @@
-pub mod Counting
-pub mod Cycling
-pub mod Finding
-pub mod Ordering
-pub mod Ranked

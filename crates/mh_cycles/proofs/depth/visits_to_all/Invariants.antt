@@ -1,6 +1,0 @@
-use Rattle.std.specs.List.{All}
-use Rattle.mh_cycles.specs.code.Searching.{IsVisitBelow}
-use Rattle.mh_cycles.proofs.depth.visits_to_all.Given as goal
-
-abbrev pub invariant-loop-number : goal.invariant-loop-number
-invariant-loop-number l = All (IsVisitBelow l.count) l.stack.items

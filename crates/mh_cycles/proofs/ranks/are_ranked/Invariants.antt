@@ -1,6 +1,0 @@
-use Rattle.std.proofs.Common.{ℕ, ◌<◌}
-use Rattle.mh_cycles.specs.code.Ranks.{IsRanked}
-use Rattle.mh_cycles.proofs.ranks.are_ranked.Given as goal
-
-abbrev pub invariant-loop-number : goal.invariant-loop-number
-invariant-loop-number l = (m : ℕ) → m < l.number → IsRanked l.expanded.instances l.ranks m

@@ -1,5 +1,0 @@
-use Rattle.mh_producers.specs.Sizes.{IsSizing}
-use Rattle.mh_cycles.proofs.sizes.size_in_order.Given as goal
-
-abbrev pub invariant-loop-number : goal.invariant-loop-number
-invariant-loop-number l = IsSizing l.expanded.instances l.sizing

@@ -1,5 +1,0 @@
-pub mod Binding
-pub mod Splits
-pub mod SoFar
-pub mod Answered
-pub mod Opening

@@ -1,4 +1,0 @@
-use Rattle.mh_drive.proofs.stop.refused.Goals as goal
-
-pub returns-in-Err : goal.returns-in-Err
-returns-in-Err c = tt

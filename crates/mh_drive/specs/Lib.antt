@@ -1,9 +1,0 @@
-pub mod Text
-pub mod Causes
-pub mod Statuses
-pub mod Stages
-pub mod Lines
-pub mod Ways
-pub mod Drive
-pub mod Steps
-pub mod Opening

@@ -1,8 +1,0 @@
-use Rattle.std.proofs.Common.{◌≡◌, drop}
-use Rattle.std.specs.List.{flat_map}
-use Rattle.mh_meanings.specs.Faults.{other_shape}
-use Rattle.mh_meanings.specs.Maps.{meanings_in, is_public_in}
-use Rattle.mh_duplicates.proofs.duplicates.check_file_shapes.Given as goal
-
-abbrev pub invariant-loop-rule : goal.invariant-loop-rule
-invariant-loop-rule l = flat_map (other_shape (meanings_in l.names) (is_public_in l.names l.marked)) (drop l.rule-index l.rules) ≡ flat_map (other_shape (meanings_in l.names) (is_public_in l.names l.marked)) l.rules

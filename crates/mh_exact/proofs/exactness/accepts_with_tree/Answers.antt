@@ -1,9 +1,0 @@
-use Rattle.mh_tables.proofs.Accepted.{accepted_tree}
-use Rattle.mh_exact.proofs.AcceptedSentence.{accepted_sentence}
-use Rattle.mh_exact.proofs.exactness.accepts_with_tree.Goals as goal
-
-pub returns-clause-tree : goal.returns-clause-tree
-returns-clause-tree c = accepted_tree c.args.table.now c.facts.ensures
-
-pub returns-clause-sentence : goal.returns-clause-sentence
-returns-clause-sentence c = accepted_sentence c.args.table.now c.facts.ensures

@@ -1,7 +1,0 @@
-use Rattle.mh_cells.specs.declared.kinds.Mode.TheVariants.{Canonical}
-use Rattle.mh_exact.specs.Example.{one_grammar, one_automaton, one_table}
-use Rattle.mh_exact.proofs.Example.{meets}
-use Rattle.mh_exact.proofs.exactness.some_clean_table.Goals as goal
-
-pub returns : goal.returns
-returns c = (one_grammar, one_automaton, Canonical, one_table, meets)

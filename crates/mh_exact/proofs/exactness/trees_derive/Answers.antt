@@ -1,5 +1,0 @@
-use Rattle.mh_exact.proofs.Derived.{tree_derives}
-use Rattle.mh_exact.proofs.exactness.trees_derive.Goals as goal
-
-pub returns : goal.returns
-returns c = tree_derives

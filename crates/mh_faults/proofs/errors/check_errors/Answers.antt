@@ -1,9 +1,0 @@
-use Rattle.mh_meanings.specs.Faults.{errors_in_file}
-use Rattle.mh_meanings.proofs.Finding.{finds_more, finds_err}
-use Rattle.mh_faults.proofs.errors.check_errors.Goals as goal
-
-pub loop-file-preserved : goal.loop-file-preserved
-loop-file-preserved c = finds_more (errors_in_file) c.args.modules.now c.loop-file.file-index c.file-item.result c.loop-file-test.true c.file-item.is c.loop-file.invariant (rw c.as_slice.ensures at c.in_default.ensures)
-
-pub returns-in-Err : goal.returns-in-Err
-returns-in-Err c = finds_err (errors_in_file) c.args.modules.now c.loop-file.file-index c.file-item.result c.loop-file-test.true c.file-item.is c.loop-file.invariant c.in-Err.fault (rw c.as_slice.ensures at c.in-Err.ensures)

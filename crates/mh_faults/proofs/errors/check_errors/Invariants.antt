@@ -1,7 +1,0 @@
-use Rattle.std.proofs.Common.{◌≡◌, drop}
-use Rattle.std.specs.List.{flat_map}
-use Rattle.mh_meanings.specs.Faults.{errors_in_file}
-use Rattle.mh_faults.proofs.errors.check_errors.Given as goal
-
-abbrev pub invariant-loop-file : goal.invariant-loop-file
-invariant-loop-file l = flat_map (errors_in_file) (drop l.file-index l.modules) ≡ flat_map (errors_in_file) l.modules

@@ -1,9 +1,0 @@
-use Rattle.mh_meanings.specs.Faults.{errors_in_rule}
-use Rattle.mh_meanings.proofs.Finding.{finds_more, finds_err}
-use Rattle.mh_faults.proofs.errors.check_rules.Goals as goal
-
-pub loop-rule-preserved : goal.loop-rule-preserved
-loop-rule-preserved c = finds_more (errors_in_rule) c.args.rules.now c.loop-rule.rule-index c.rule-item.result c.loop-rule-test.true c.rule-item.is c.loop-rule.invariant c.in_default.ensures
-
-pub returns-in-Err : goal.returns-in-Err
-returns-in-Err c = finds_err (errors_in_rule) c.args.rules.now c.loop-rule.rule-index c.rule-item.result c.loop-rule-test.true c.rule-item.is c.loop-rule.invariant c.in-Err.fault c.in-Err.ensures

@@ -1,2 +1,0 @@
-pub mod FileStage
-pub mod Turns

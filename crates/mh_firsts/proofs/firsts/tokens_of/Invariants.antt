@@ -1,5 +1,0 @@
-use Rattle.mh_firsts.proofs.FirstSets.{TokensSoFar}
-use Rattle.mh_firsts.proofs.firsts.tokens_of.Given as goal
-
-abbrev pub invariant-loop-token : goal.invariant-loop-token
-invariant-loop-token l = TokensSoFar l.flags l.tokens.items l.token

@@ -1,6 +1,0 @@
-use Rattle.std.proofs.Common.{◌≡◌, true, take}
-use Rattle.mh_firsts.specs.Marked.{all_marked}
-use Rattle.mh_firsts.proofs.marks.are_marked.Given as goal
-
-abbrev pub invariant-loop-symbol : goal.invariant-loop-symbol
-invariant-loop-symbol l = all_marked l.tokens l.marks (take l.symbol-index l.symbols) ≡ true

@@ -1,3 +1,0 @@
-pub mod FirstFlags
-pub mod Grid
-pub mod Marked

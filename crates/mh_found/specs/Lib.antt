@@ -1,4 +1,0 @@
-pub mod Drawn
-pub mod Found
-pub mod Numbers
-pub mod Tails

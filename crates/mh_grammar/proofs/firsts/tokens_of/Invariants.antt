@@ -1,0 +1,5 @@
+use Rattle.mh_grammar.proofs.FirstSets.{TokensSoFar}
+use Rattle.mh_grammar.proofs.firsts.tokens_of.Given as goal
+
+abbrev pub invariant-loop-token : goal.invariant-loop-token
+invariant-loop-token l = TokensSoFar l.flags l.tokens.items l.token

@@ -1,0 +1,104 @@
+//! Which nonterminals derive the empty word, and which derive a word at all.
+ghost use Rattle.std.specs.Prelude.{◌≡◌, ◌^◌, ◌<◌, ◌≤◌, ◌↔◌, ℕ, List, Some, true, false, not, length, count_by, slice_get, slice_index_or, vec_len, IsTrue, IfOk};
+ghost use Rattle.std.specs.List.{All};
+ghost use Rattle.mh_grammar.specs.Grid.{Grows};
+ghost use Rattle.mh_grammar.specs.Plain.{plain_of, IsInRange, IsSymbolBelow, IsProductionBelow, IsNullable, IsProductive};
+ghost use Rattle.mh_grammar.specs.Marked.{mark_of, all_marked, AreSound, AreClosed, AreMarks, IsMarkable};
+
+use crate::types::{Grammar, Memory, Production, Symbol};
+use std::alloc::Global;
+
+/// For each nonterminal, whether it derives the empty word. It fails for want of memory alone.
+pub fn nullable(alloc: Global, grammar: &Grammar) -> Result<Vec<bool>, Memory>
+    requires { IsInRange (plain_of grammar.now) }
+    ensures len { IfOk result (λ v. vec_len v ≡ length grammar.now.nonterminals) }
+    ensures exact { IfOk result (λ v. (n : ℕ) → IsTrue (slice_index_or v.items n false) ↔ IsNullable (plain_of grammar.now) n) }
+{
+    least_marks(alloc, grammar, false)
+}
+
+/// For each nonterminal, whether it derives some word. It fails for want of memory alone.
+pub fn productive(alloc: Global, grammar: &Grammar) -> Result<Vec<bool>, Memory>
+    requires { IsInRange (plain_of grammar.now) }
+    ensures len { IfOk result (λ v. vec_len v ≡ length grammar.now.nonterminals) }
+    ensures exact { IfOk result (λ v. (n : ℕ) → IsTrue (slice_index_or v.items n false) ↔ IsProductive (plain_of grammar.now) n) }
+{
+    least_marks(alloc, grammar, true)
+}
+
+/// The least marks such that a nonterminal is marked where all symbols of one of its right sides are. Tokens
+/// count as marked where `tokens` says so.
+fn least_marks(alloc: Global, grammar: &Grammar, tokens: bool) -> Result<Vec<bool>, Memory>
+    requires { IsInRange (plain_of grammar.now) }
+    ensures len { IfOk result (λ v. vec_len v ≡ length grammar.now.nonterminals) }
+    ensures least { IfOk result (λ v. AreMarks tokens grammar.now.productions v.items) }
+{
+    let mut marks = vec![in alloc; false; grammar.nonterminals.len()]?;
+    let mut changed = true;
+    while changed {
+        changed = mark_once(tokens, grammar.productions.as_slice(), &mut marks);
+    }
+    Ok(marks)
+}
+
+/// Adds the marks that one pass over the productions backward and one forward find, and says whether there were any.
+/// Marks go from right sides to left sides: in a file written top down a forward pass alone would carry them up by
+/// one rule, and in one written bottom up a backward pass alone.
+fn mark_once(tokens: bool, productions: &[Production], marks: &mut [bool]) -> bool
+    requires { All (IsProductionBelow (2 ^ 16) (length marks.old)) productions.now }
+    ensures sound { AreSound tokens productions.now marks.old → AreSound tokens productions.now marks.new }
+    ensures closed { result ≡ false → AreClosed tokens productions.now marks.new }
+    ensures shrinks { result ≡ true → count_by not marks.new < count_by not marks.old }
+    ensures same { result ≡ false → marks.new ≡ marks.old }
+{
+    let mut changed = false;
+    for place in (0..productions.len()).rev() {
+        changed |= mark_left_side(tokens, &productions[place], marks);
+    }
+    for production in productions {
+        changed |= mark_left_side(tokens, production, marks);
+    }
+    changed
+}
+
+/// Marks the left side of a production whose symbols are all marked, and says whether the mark was new.
+fn mark_left_side(tokens: bool, production: &Production, marks: &mut [bool]) -> bool
+    requires { IsProductionBelow (2 ^ 16) (length marks.old) production.now }
+    ensures grows { Grows marks.old marks.new result }
+    ensures sound { (ps : List Production) (k : ℕ) → slice_get ps k ≡ Some production.now → AreSound tokens ps marks.old → AreSound tokens ps marks.new }
+    ensures closed { result ≡ false → all_marked tokens marks.new production.now.rhs ≡ true → slice_index_or marks.new production.now.lhs false ≡ true }
+{
+    let lhs = usize::from(production.lhs);
+    if marks[lhs] {
+        return false;
+    }
+    if !are_marked(tokens, marks, production.rhs.as_slice()) {
+        return false;
+    }
+    marks[lhs] = true;
+    true
+}
+
+/// Whether all symbols of a right side are marked.
+fn are_marked(tokens: bool, marks: &[bool], symbols: &[Symbol]) -> bool
+    requires { All (IsSymbolBelow (2 ^ 16) (length marks.now)) symbols.now }
+    ensures { result ≡ all_marked tokens marks.now symbols.now }
+{
+    for symbol in symbols {
+        if !is_marked(tokens, marks, *symbol) {
+            return false;
+        }
+    }
+    true
+}
+
+/// Whether a symbol is marked.
+pub(crate) fn is_marked(tokens: bool, marks: &[bool], symbol: Symbol) -> bool
+    requires { IsMarkable (length marks.now) symbol }
+    ensures { result ≡ mark_of tokens marks.now symbol }
+{
+    match symbol {
+        Symbol::T(_) => tokens,
+        Symbol::N(n) => marks[usize::from(n)],
+    }
+}

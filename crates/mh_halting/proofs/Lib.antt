@@ -1,4 +1,0 @@
-pub mod Finding
-pub mod Passing
-pub mod Trying
-pub mod Waiting

@@ -1,0 +1,5 @@
+use Rattle.mh_inline.specs.Uses.{Forgets}
+use Rattle.mh_inline.proofs.uses.forget.Given as goal
+
+abbrev pub invariant-loop-number : goal.invariant-loop-number
+invariant-loop-number l = Forgets l.last l.place l.initial.known.items l.known.items

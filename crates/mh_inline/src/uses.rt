@@ -1,0 +1,113 @@
+//! Until when the unfoldings of inline instances are needed.
+ghost use Rattle.std.specs.Prelude.{◌≡◌, ◌<◌, length, IfOk, OnOk};
+ghost use Rattle.std.specs.List.{All, Contains};
+ghost use Rattle.mh_inline_unfold.specs.MadeOf.{IsMadeOf};
+ghost use Rattle.mh_inline.specs.Uses.{AreLast, Forgets, IsPartOfKept, PutsOff};
+
+use mh_grammar::{Memory, Sequence};
+use mh_inline_unfold::{Unfolding, inlined_in, is_inline};
+use mh_rules::Expanded;
+use std::alloc::Global;
+
+/// Moves the last places of some instances back to this one, where they stand before it.
+fn put_off(last: &mut Vec<usize>, numbers: &[usize], place: usize)
+    requires { All (λ m. m < length last.old.items) numbers.now }
+    ensures { PutsOff (Contains numbers.now) place last.old.items last.new.items }
+{
+    for number in numbers {
+        last[*number] = last[*number].max(place);
+    }
+}
+
+/// The same for those that an instance is made of.
+fn put_off_inlined(
+    alloc: Global,
+    expanded: &Expanded,
+    number: usize,
+    place: usize,
+    last: &mut Vec<usize>,
+) -> Result<(), Memory>
+    requires number { number < length expanded.now.instances }
+    requires last { length last.old.items ≡ length expanded.now.instances }
+    ensures { OnOk result (PutsOff (IsMadeOf expanded.now.instances number) place last.old.items last.new.items) }
+{
+    let numbers = inlined_in(alloc, expanded, number)?;
+    put_off(last, numbers.as_slice(), place);
+    Ok(())
+}
+
+/// The same for an instance that is not inline.
+fn put_off_kept(
+    alloc: Global,
+    expanded: &Expanded,
+    number: usize,
+    place: usize,
+    last: &mut Vec<usize>,
+) -> Result<(), Memory>
+    requires number { number < length expanded.now.instances }
+    requires last { length last.old.items ≡ length expanded.now.instances }
+    ensures { OnOk result (PutsOff (IsPartOfKept expanded.now.instances number) place last.old.items last.new.items) }
+{
+    if is_inline(expanded, number) {
+        return Ok(());
+    }
+    put_off_inlined(alloc, expanded, number, place, last)
+}
+
+/// For each instance the last place in an order at which an inline instance is made of it, or the end of the order if one
+/// that is not inline is.
+pub(crate) fn last_uses(
+    alloc: Global,
+    expanded: &Expanded,
+    order: &[u32],
+) -> Result<Vec<usize>, Memory>
+    requires { All (λ n. n < length expanded.now.instances) order.now }
+    ensures { IfOk result (λ last. AreLast expanded.now.instances order.now last.items) }
+{
+    let mut last = vec![in alloc; 0; expanded.instances.len()]?;
+    for (place, number) in order.iter().enumerate() {
+        put_off_inlined(alloc, expanded, *number as usize, place, &mut last)?;
+    }
+    for number in 0..expanded.instances.len() {
+        put_off_kept(alloc, expanded, number, order.len(), &mut last)?;
+    }
+    Ok(last)
+}
+
+/// Lets go of the unfoldings of those of some instances that are not needed behind a place.
+fn forget(
+    alloc: Global,
+    known: &mut Vec<Sequence<Unfolding>>,
+    last: &[usize],
+    numbers: &[usize],
+    place: usize,
+)
+    requires known { All (λ m. m < length known.old.items) numbers.now }
+    requires last { length last.now ≡ length known.old.items }
+    ensures { Forgets last.now place known.old.items known.new.items }
+{
+    for number in numbers {
+        if last[*number] <= place {
+            known[*number] = Sequence::new(alloc);
+        }
+    }
+}
+
+/// The same for those that an instance is made of.
+pub(crate) fn forget_inlined(
+    alloc: Global,
+    expanded: &Expanded,
+    last: &[usize],
+    known: &mut Vec<Sequence<Unfolding>>,
+    number: usize,
+    place: usize,
+) -> Result<(), Memory>
+    requires number { number < length expanded.now.instances }
+    requires known { length known.old.items ≡ length expanded.now.instances }
+    requires last { length last.now ≡ length expanded.now.instances }
+    ensures { OnOk result (Forgets last.now place known.old.items known.new.items) }
+{
+    let numbers = inlined_in(alloc, expanded, number)?;
+    forget(alloc, known, last, numbers.as_slice(), place);
+    Ok(())
+}

@@ -1,0 +1,32 @@
+-- Which inline instances stand among producers, in alternatives and in those of an instance, and how a list of them grows.
+use Rattle.std.specs.Prelude.{◌≡◌, ◌⊎◌, ℕ, true, List, Some, slice_get}
+use Rattle.std.specs.List.{Contains}
+use Rattle.mh_rules.specs.declared.instances.Part.{Part}
+use Rattle.mh_rules.specs.declared.instances.Part.TheVariants.{Instance as Applied}
+use Rattle.mh_rules.specs.declared.instances.InstanceProduction.{InstanceProduction}
+use Rattle.mh_rules.specs.declared.instances.Instance.{Instance}
+use Rattle.mh_inline_unfold.specs.Instances.{is_inlined, IsAlternative}
+
+-- an inline instance among some producers, in some alternatives, in those of an instance
+pub record IsAmong (is : List Instance) (Xs : List Part) (m : ℕ) : Type 0 where
+  pub producer : ℕ
+  pub at : slice_get Xs producer ≡ Some (Applied m)
+  pub used : is_inlined is m ≡ true
+
+pub record IsIn (is : List Instance) (ps : List InstanceProduction) (m : ℕ) : Type 0 where
+  pub place : ℕ
+  pub production : InstanceProduction
+  pub at : slice_get ps place ≡ Some production
+  pub among : IsAmong is production.rhs m
+
+pub record IsMadeOf (is : List Instance) (n m : ℕ) : Type 0 where
+  pub place : ℕ
+  pub production : InstanceProduction
+  pub alternative : IsAlternative is n place production
+  pub among : IsAmong is production.rhs m
+
+-- those of P were added to a list, perhaps more than once, and no others
+pub record Lists (P : ℕ → Type 0) (old new : List ℕ) : Type 0 where
+  pub kept : (m : ℕ) → Contains old m → Contains new m
+  pub origin : (m : ℕ) → Contains new m → Contains old m ⊎ P m
+  pub added : (m : ℕ) → P m → Contains new m

@@ -1,0 +1,76 @@
+//! A row of items for each symbol.
+ghost use Rattle.std.specs.Prelude.{◌≡◌, ◌<◌, ◌≤◌, ◌+◌, ◌^◌, [], ◌∷◌, ◌++◌, ℕ, set, length, vec_len, slice_index_or, IfOk, OnOk};
+ghost use Rattle.mh_grammar.specs.Plain.{plain_of, IsInRange, IsSymbolBelow};
+ghost use Rattle.mh_items.specs.code.Rows.{AreEmpty, AreFilled, IsListed, place_of, row_at};
+
+use mh_grammar::{Grammar, Memory, Sequence, Symbol};
+use mh_items_kernels::KernelItem;
+use std::alloc::Global;
+
+/// A row of items for each token, then one for each nonterminal; and the places of the rows that have items. It is used
+/// again and again, at the cost of what it held.
+#[derive(Drop)]
+pub struct Rows<const W: usize> {
+    pub(crate) rows: Vec<Sequence<KernelItem<W>>>,
+    pub(crate) filled: Vec<u32>,
+}
+
+impl<const W: usize> Rows<W> {
+    /// Empty rows for the symbols of a grammar. It fails for want of memory alone.
+    pub fn new(alloc: Global, grammar: &Grammar) -> Result<Rows<W>, Memory>
+        requires few { W ≤ 8 }
+        requires range { IsInRange (plain_of grammar.now) }
+        ensures { IfOk result (AreEmpty (plain_of grammar.now)) }
+    {
+        let count = grammar.tokens.len() + grammar.nonterminals.len();
+        let mut rows = Vec::with_capacity(alloc, count)?;
+        for _ in 0..count {
+            rows.push(Sequence::new(alloc))?;
+        }
+        Ok(Rows {
+            rows,
+            filled: Vec::new(alloc),
+        })
+    }
+
+    /// Puts an item behind those of a row.
+    pub(crate) fn add(&mut self, place: usize, item: KernelItem<W>) -> Result<(), Memory>
+        requires few { W ≤ 8 }
+        requires place { place < vec_len self.old.rows }
+        requires small { vec_len self.old.rows < 2 ^ 32 }
+        ensures rows { OnOk result (self.new.rows.items ≡ set self.old.rows.items place (row_at self.old place ++ item.entry ∷ [])) }
+        ensures filled { OnOk result (AreFilled self.old → AreFilled self.new) }
+    {
+        self.note_filled(place)?;
+        self.rows[place].push(item)?;
+        Ok(())
+    }
+
+    /// Notes a row that has no items yet as filled.
+    fn note_filled(&mut self, place: usize) -> Result<(), Memory>
+        requires few { W ≤ 8 }
+        requires place { place < vec_len self.old.rows }
+        requires small { vec_len self.old.rows < 2 ^ 32 }
+        ensures rows { OnOk result (self.new.rows ≡ self.old.rows) }
+        ensures listed { OnOk result (IsListed place self.old self.new) }
+    {
+        if !self.rows[place].is_empty() {
+            return Ok(());
+        }
+        self.filled.push(place as u32)?;
+        Ok(())
+    }
+}
+
+/// Where the row of a symbol stands.
+pub(crate) fn place(grammar: &Grammar, symbol: Symbol) -> usize
+    requires range { IsInRange (plain_of grammar.now) }
+    requires symbol { IsSymbolBelow (length grammar.now.tokens) (length grammar.now.nonterminals) symbol }
+    ensures at { result ≡ place_of (length grammar.now.tokens) symbol }
+    ensures within { result < length grammar.now.tokens + length grammar.now.nonterminals }
+{
+    match symbol {
+        Symbol::T(token) => usize::from(token),
+        Symbol::N(nonterminal) => grammar.tokens.len() + usize::from(nonterminal),
+    }
+}

@@ -1,0 +1,30 @@
+//! The costs of the tokens of all files.
+ghost use Rattle.std.specs.Prelude.{◌≡◌, OnOk};
+ghost use Rattle.std.specs.List.{flat_map};
+ghost use Rattle.std.specs.HashMap.{get, IsEmpty};
+ghost use Rattle.mh_grammar.specs.Text.{Text};
+ghost use Rattle.mh_join_names.specs.Names.{same, cost_of, given_cost};
+ghost use Rattle.mh_join_names.specs.Puts.{Puts};
+
+use mh_grammar::Memory;
+use mh_join_names::{Costs, add_cost};
+use mh_rules::{Module, TokenDecl};
+
+fn add_costs(costs: &mut Costs, tokens: &[TokenDecl]) -> Result<(), Memory>
+    ensures { OnOk result (Puts costs.old (flat_map given_cost tokens.now) costs.new) }
+{
+    for token in tokens {
+        add_cost(costs, token)?;
+    }
+    Ok(())
+}
+
+pub(crate) fn put_costs(costs: &mut Costs, files: &[Module]) -> Result<(), Memory>
+    requires { IsEmpty costs.old }
+    ensures { OnOk result ((x : Text) → get same costs.new x ≡ cost_of files.now x) }
+{
+    for file in files {
+        add_costs(costs, file.tokens.as_slice())?;
+    }
+    Ok(())
+}

@@ -1,0 +1,47 @@
+-- Faults that are sought one after the other.
+use Rattle.std.proofs.Common.{◌≡◌, ℕ, ◌+◌, ◌<◌, List, [], ◌∷◌, ◌++◌, Some, None, Ok, Err, Result, length, get_or, drop, sym, ap, subst, ◌∙◌, ◌⊎◌, inl, inr, arith}
+use Rattle.std.specs.Result.{result_and}
+use Rattle.std.specs.List.{flat_map, enumerate_from}
+use Rattle.mh_grammar.proofs.Lists.{left_at}
+use Rattle.mh_join_names.specs.declared.fault.JoinFault.{JoinFault}
+use Rattle.mh_join_names.specs.declared.fault.JoinFault.TheVariants as faults
+use Rattle.mh_join_names.specs.Faults.{Finds, first}
+
+-- the first of these faults, or want of memory
+abbrev pub IsFirst : List JoinFault → JoinFault → Type 0
+IsFirst es e = (e ≡ faults.Memory) ⊎ (first es ≡ Some e)
+
+pub first_then : (es fs : List JoinFault) (e : JoinFault) → IsFirst es e → IsFirst (es ++ fs) e
+first_then es fs e (inl m) = inl m
+first_then [] fs e (inr p) = let bad : None ≡ Some e = p in cc
+first_then (x ∷ es) fs e (inr p) = inr p
+
+pub finds_then : {X : Type 0} (es fs : List JoinFault) (r : Result X JoinFault) → es ≡ [] → Finds fs r → Finds (es ++ fs) r
+finds_then es fs r e h = subst (λ k. Finds (k ++ fs) r) (sym e) h
+
+pub finds_and : {X Y : Type 0} (es fs : List JoinFault) (r : Result X JoinFault) (s : Result Y JoinFault) → Finds es r → Finds fs s → Finds (es ++ fs) (result_and r s)
+finds_and es fs (Ok x) s p q = finds_then es fs s p q
+finds_and es fs (Err e) s p q = first_then es fs e p
+
+module _ {A : Type 0} (f : A → List JoinFault) (xs : List A) (i : ℕ) (x : A) (h : i < length xs) (at : x ≡ get_or xs i x) (so_far : flat_map f (drop i xs) ≡ flat_map f xs) where
+  here : f x ++ flat_map f (drop (i + 1) xs) ≡ flat_map f xs
+  here = ap (flat_map f) (sym (left_at xs i x h at)) ∙ so_far
+
+  pub finds_more : f x ≡ [] → flat_map f (drop (i + 1) xs) ≡ flat_map f xs
+  finds_more e = ap (λ k. k ++ flat_map f (drop (i + 1) xs)) (sym e) ∙ here
+
+  pub finds_err : (e : JoinFault) → IsFirst (f x) e → IsFirst (flat_map f xs) e
+  finds_err e p = subst (λ k. IsFirst k e) here (first_then (f x) (flat_map f (drop (i + 1) xs)) e p)
+
+module _ {A : Type 0} (f : ℕ × A → List JoinFault) (xs : List A) (n i j : ℕ) (x : A) (h : i < length xs) (at : x ≡ get_or xs i x) (place : n + i ≡ j) (so_far : flat_map f (enumerate_from (n + i) (drop i xs)) ≡ flat_map f (enumerate_from n xs)) where
+  here_at : f (j, x) ++ flat_map f (enumerate_from (n + (i + 1)) (drop (i + 1) xs)) ≡ flat_map f (enumerate_from n xs)
+  here_at =
+      ap (λ k. f (k, x) ++ flat_map f (enumerate_from (n + (i + 1)) (drop (i + 1) xs))) (sym place)
+      ∙ ap (λ k. f (n + i, x) ++ flat_map f (enumerate_from k (drop (i + 1) xs))) (let e : n + (i + 1) ≡ n + i + 1 = omega arith in e)
+      ∙ ap (λ k. flat_map f (enumerate_from (n + i) k)) (sym (left_at xs i x h at)) ∙ so_far
+
+  pub finds_more_at : f (j, x) ≡ [] → flat_map f (enumerate_from (n + (i + 1)) (drop (i + 1) xs)) ≡ flat_map f (enumerate_from n xs)
+  finds_more_at e = ap (λ k. k ++ flat_map f (enumerate_from (n + (i + 1)) (drop (i + 1) xs))) (sym e) ∙ here_at
+
+  pub finds_err_at : (e : JoinFault) → IsFirst (f (j, x)) e → IsFirst (flat_map f (enumerate_from n xs)) e
+  finds_err_at e p = subst (λ k. IsFirst k e) here_at (first_then (f (j, x)) (flat_map f (enumerate_from (n + (i + 1)) (drop (i + 1) xs))) e p)

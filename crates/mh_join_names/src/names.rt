@@ -1,0 +1,199 @@
+//! What the names and strings of several files stand for.
+ghost use Rattle.std.specs.Prelude.{◌≡◌, ◌≤◌, ◌||◌, is_some, length};
+ghost use Rattle.std.specs.List.{list_any};
+ghost use Rattle.std.specs.HashMap.{get};
+ghost use Rattle.mh_join_names.specs.Names as spec;
+ghost use Rattle.mh_join_names.specs.Names.{same, user_head, visible_head};
+ghost use Rattle.mh_join_names.specs.Faults.{has_some, meant_by};
+ghost use Rattle.mh_join_names.specs.Maps.{numbers_in, meanings_in, elsewhere_in, formals_in};
+
+use crate::aliases::Aliases;
+use crate::formals::Formals;
+use crate::kinds::Kind;
+use crate::name_list::NameList;
+use crate::numbering::Numbering;
+use mh_grammar::{Level, Name, Token};
+use mh_rules::{Head, MAX_TOKENS, Ref};
+use std::collections::HashMap;
+
+/// Each token that is given a cost with its first.
+pub type Costs = HashMap<Name, u32>;
+
+/// Each name with its first use.
+pub type Kinds = HashMap<Name, Kind>;
+
+/// Each name with its first level.
+pub type Levels = HashMap<Name, Level>;
+
+/// The files that define a rule of one name.
+#[derive(Clone, Copy)]
+pub enum Definers {
+    One(u64),
+    Several,
+}
+
+/// Each name with its definers.
+pub type DefinersOf = HashMap<Name, Definers>;
+
+/// What the names of all files stand for. Files count from 1, and the prelude is file 0.
+#[derive(Drop)]
+pub struct Names {
+    pub tokens: NameList,
+    pub starts: NameList,
+    pub aliases: Aliases,
+    pub levels: Levels,
+    pub costs: Costs,
+    pub kinds: Kinds,
+    pub definers: DefinersOf,
+    pub numbering: Numbering,
+}
+
+impl Names {
+    /// Whether a name or string of a file stands for something, in a rule with these formals.
+    pub fn stands(&self, file: u64, formals: &Formals, reference: &Ref) -> bool
+        ensures { result ≡ is_some (meant_by (meanings_in self.now) file (formals_in formals.now) reference.now) }
+    {
+        match reference {
+            Ref::Plain(name) => self.name_stands(file, formals, name),
+            Ref::Alias(alias) => match self.aliases.get(alias) {
+                Some(token) => self.is_token(token),
+                None => false,
+            },
+        }
+    }
+
+    fn name_stands(&self, file: u64, formals: &Formals, name: &Name) -> bool
+        ensures { result ≡ is_some (spec.head_of_name (numbers_in self.now) file (formals_in formals.now) name.now) }
+    {
+        if formals.contains_key(name) {
+            return true;
+        }
+        if self.is_visible(file, name) {
+            return true;
+        }
+        self.is_rule(Some(0), name)
+    }
+
+    fn is_token(&self, name: &Name) -> bool
+        ensures { result ≡ is_some (spec.token_head (numbers_in self.now) name.now) }
+    {
+        self.tokens.place_of(name).is_some()
+    }
+
+    fn is_rule(&self, owner: Option<u64>, name: &Name) -> bool
+        ensures { result ≡ is_some (spec.rule_head (numbers_in self.now) owner name.now) }
+    {
+        self.numbering.number_of(owner, name).is_some()
+    }
+
+    fn is_user_name(&self, file: u64, name: &Name) -> bool
+        ensures { result ≡ is_some (user_head (numbers_in self.now) file name.now) }
+    {
+        if self.is_token(name) {
+            return true;
+        }
+        if self.is_rule(Some(file), name) {
+            return true;
+        }
+        self.is_rule(None, name)
+    }
+
+    /// Whether a name is a token or a rule that the file sees, beside the prelude's rules.
+    fn is_visible(&self, file: u64, name: &Name) -> bool
+        ensures { result ≡ is_some (visible_head (numbers_in self.now) file name.now) }
+    {
+        file != 0 && self.is_user_name(file, name)
+    }
+
+    fn rule_head(&self, owner: Option<u64>, name: &Name) -> Option<Head>
+        ensures { result ≡ spec.rule_head (numbers_in self.now) owner name.now }
+    {
+        match self.numbering.number_of(owner, name) {
+            Some(number) => Some(Head::Rule(number)),
+            None => None,
+        }
+    }
+
+    fn token_head(&self, name: &Name) -> Option<Head>
+        requires { length self.now.tokens.keys ≤ MAX_TOKENS }
+        ensures { result ≡ spec.token_head (numbers_in self.now) name.now }
+    {
+        match self.tokens.place_of(name) {
+            Some(number) => Some(Head::Token(number as Token)),
+            None => None,
+        }
+    }
+
+    fn user_head(&self, file: u64, name: &Name) -> Option<Head>
+        requires { length self.now.tokens.keys ≤ MAX_TOKENS }
+        ensures { result ≡ user_head (numbers_in self.now) file name.now }
+    {
+        if let Some(head) = self.token_head(name) {
+            return Some(head);
+        }
+        if let Some(head) = self.rule_head(Some(file), name) {
+            return Some(head);
+        }
+        self.rule_head(None, name)
+    }
+
+    fn visible_head(&self, file: u64, name: &Name) -> Option<Head>
+        requires { length self.now.tokens.keys ≤ MAX_TOKENS }
+        ensures { result ≡ visible_head (numbers_in self.now) file name.now }
+    {
+        if file == 0 {
+            None
+        } else {
+            self.user_head(file, name)
+        }
+    }
+
+    fn head_of_name(&self, file: u64, formals: &Formals, name: &Name) -> Option<Head>
+        requires { length self.now.tokens.keys ≤ MAX_TOKENS }
+        ensures { result ≡ spec.head_of_name (numbers_in self.now) file (formals_in formals.now) name.now }
+    {
+        if let Some(number) = formals.get(name) {
+            return Some(Head::Formal(*number));
+        }
+        if let Some(head) = self.visible_head(file, name) {
+            return Some(head);
+        }
+        self.rule_head(Some(0), name)
+    }
+
+    /// What a name or string of a file stands for, in a rule with these formals.
+    pub fn head_of(&self, file: u64, formals: &Formals, reference: &Ref) -> Option<Head>
+        requires { length self.now.tokens.keys ≤ MAX_TOKENS }
+        ensures { result ≡ meant_by (meanings_in self.now) file (formals_in formals.now) reference.now }
+    {
+        match reference {
+            Ref::Plain(name) => self.head_of_name(file, formals, name),
+            Ref::Alias(alias) => self.token_head(self.aliases.get(alias)?),
+        }
+    }
+
+    /// Whether there is a start symbol.
+    pub fn has_start(&self) -> bool
+        ensures { result ≡ has_some self.now.starts.keys }
+    {
+        !self.starts.is_empty()
+    }
+
+    /// Whether a name is a token or has a level.
+    pub fn is_levelled(&self, name: &Name) -> bool
+        ensures { result ≡ (list_any (same name.now) self.now.tokens.keys || is_some (get same self.now.levels name.now)) }
+    {
+        self.tokens.contains(name) || self.levels.contains_key(name)
+    }
+
+    /// Whether a file other than this one defines this name.
+    pub fn is_elsewhere(&self, file: u64, name: &Name) -> bool
+        ensures { result ≡ elsewhere_in self.now file name.now }
+    {
+        match self.definers.get(name) {
+            None => false,
+            Some(Definers::One(only)) => *only != file,
+            Some(Definers::Several) => true,
+        }
+    }
+}

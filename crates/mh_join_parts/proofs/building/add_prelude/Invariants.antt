@@ -1,0 +1,7 @@
+use Rattle.std.proofs.Common.{Some, take}
+use Rattle.mh_join_names.specs.Maps.{meanings_in}
+use Rattle.mh_join_parts.proofs.Adding.{AddsRules}
+use Rattle.mh_join_parts.proofs.building.add_prelude.Given as goal
+
+abbrev pub invariant-loop-rule : goal.invariant-loop-rule
+invariant-loop-rule l = AddsRules (meanings_in l.names) (λ x. Some 0) 0 (take l.rule-index l.rules) l.initial.joined l.joined l.place

@@ -1,0 +1,32 @@
+//! The names of rules as they are printed.
+ghost use Rattle.std.specs.Prelude.{◌≡◌, IfOk};
+ghost use Rattle.mh_join_names.specs.Joining as spec;
+ghost use Rattle.mh_join_names.specs.Joining.{printed_by};
+ghost use Rattle.mh_join_names.specs.Maps.{elsewhere_in};
+
+use mh_grammar::{Memory, Name, from_bytes};
+use mh_join_names::{Names, Outline};
+use std::alloc::Global;
+
+/// A name, `@`, and the number of a file.
+fn with_file(alloc: Global, name: &Name, file: u64) -> Result<Name, Memory>
+    ensures { IfOk result (λ n. n ≡ spec.with_file name.now file) }
+{
+    let number = format!(in alloc; "{file}")?;
+    let mut text = Vec::from_slice(alloc, name.as_slice())?;
+    text.push(b'@')?;
+    text.extend_from_slice(number.as_bytes())?;
+    from_bytes(alloc, text.as_slice())
+}
+
+/// A rule's name as it is printed.
+pub(crate) fn printed(alloc: Global, names: &Names, outline: &Outline) -> Result<Name, Memory>
+    ensures { IfOk result (λ n. n ≡ printed_by (elsewhere_in names.now) outline.now.name outline.now.owner) }
+{
+    if let Some(file) = outline.owner {
+        if names.is_elsewhere(file, &outline.name) {
+            return with_file(alloc, &outline.name, file);
+        }
+    }
+    Ok(outline.name.clone()?)
+}

@@ -1,8 +1,0 @@
-use Rattle.mh_plans.proofs.Following.{opened_followed, opened_read}
-use Rattle.mh_keeping.proofs.compiling.compile_errors.Goals as goal
-
-pub returns-clause-ran : goal.returns-clause-ran
-returns-clause-ran g c = opened_followed _ _ _ _ _ _ _ c.drive_opened.result c.compile_by-opened.result c.compile_by-opened.ensures.opens c.drive_opened.ensures.ran
-
-pub returns-clause-read : goal.returns-clause-read
-returns-clause-read g c = opened_read _ _ _ c.compile_by-opened.result _ _ _ _ _ _ c.drive_opened.result c.compile_by-opened.ensures.opens c.compile_by-opened.ensures.counts c.drive_opened.ensures.ran

@@ -1,5 +1,0 @@
-use Rattle.mh_kept.specs.code.Making.{AreOriginsBelow}
-use Rattle.mh_kept.proofs.origins.add_origins.Given as goal
-
-abbrev pub invariant-loop-alternative : goal.invariant-loop-alternative
-invariant-loop-alternative l = AreOriginsBelow l.expanded.instances l.number l.alternative l.origins.keys

@@ -1,6 +1,0 @@
-//! When an automaton is Knuth's canonical collection of LR(1) item sets (Knuth 1965), numbered breadth first: definitions and laws.
-#![tactic(auto)]
-
-mod limits;
-
-pub use limits::MAX_STATES;

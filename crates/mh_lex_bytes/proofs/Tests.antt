@@ -1,0 +1,28 @@
+-- What tests of bytes say.
+use Rattle.std.proofs.Common.{◌≡◌, ℕ, ◌==◌, Bool, true, false, cond, List, [], ◌∷◌, drop, refl, ap, ◌∙◌}
+use Rattle.std.proofs.lemmas.Bool.Decides.{Decides-eqb}
+use Rattle.std.proofs.lemmas.Bool.{both_ways}
+use Rattle.mh_lex_bytes.specs.Bytes.{has}
+
+-- the first test that holds
+pub second : {X : Type 0} (p q : Bool) (x y z : X) → p ≡ false → q ≡ true → cond p x (cond q y z) ≡ y
+second p q x y z e f = rw (e, f) refl
+
+pub third : {X : Type 0} (p q r : Bool) (x y z w : X) → p ≡ false → q ≡ false → r ≡ true → cond p x (cond q y (cond r z w)) ≡ z
+third p q r x y z w e f g = rw (e, f, g) refl
+
+pub fourth : {X : Type 0} (p q r k : Bool) (x y z u v : X) → p ≡ false → q ≡ false → r ≡ false → k ≡ true → cond p x (cond q y (cond r z (cond k u v))) ≡ u
+fourth p q r k x y z u v e f g h = rw (e, f, g, h) refl
+
+-- the bytes at the front
+pub front_is : (s : List ℕ) (c : ℕ) → (256 == c) ≡ false → has s 0 c ≡ true → s ≡ c ∷ drop 1 s
+front_is [] c e h = absurd (both_ways (256 == c) e h)
+front_is (b ∷ bs) c e h = ap (λ k. k ∷ bs) ((Decides-eqb b c).0 h)
+
+pub two_are : (s : List ℕ) (c d : ℕ) → (256 == c) ≡ false → (256 == d) ≡ false → has s 0 c ≡ true → has s 1 d ≡ true → s ≡ c ∷ d ∷ drop 2 s
+two_are [] c d e f h k = absurd (both_ways (256 == c) e h)
+two_are (a ∷ bs) c d e f h k = ap (λ b. b ∷ bs) ((Decides-eqb a c).0 h) ∙ ap (λ l. c ∷ l) (front_is bs d f k)
+
+pub three_are : (s : List ℕ) (c d g : ℕ) → (256 == c) ≡ false → (256 == d) ≡ false → (256 == g) ≡ false → has s 0 c ≡ true → has s 1 d ≡ true → has s 2 g ≡ true → s ≡ c ∷ d ∷ g ∷ drop 3 s
+three_are [] c d g e f i h k l = absurd (both_ways (256 == c) e h)
+three_are (a ∷ bs) c d g e f i h k l = ap (λ b. b ∷ bs) ((Decides-eqb a c).0 h) ∙ ap (λ t. c ∷ t) (two_are bs d g f i k l)

@@ -1,5 +1,0 @@
-use Rattle.std.proofs.Common.{rules}
-use Rattle.mh_lines.proofs.lines.is_blank_line.Goals as goal
-
-pub returns : goal.returns
-returns c = search rules

@@ -1,4 +1,0 @@
-use Rattle.mh_listed.proofs.refusing.stop_of.Goals as goal
-
-pub returns-in-TooLong : goal.returns-in-TooLong
-returns-in-TooLong c = rw c.in-TooLong.is c.too_long.ensures

@@ -1,5 +1,0 @@
-use Rattle.mh_matches.proofs.Rowing.{row_end}
-use Rattle.mh_matches.proofs.cells.are_cells.Goals as goal
-
-pub returns : goal.returns
-returns c = row_end c.args.grammar.now c.args.raws.now c.args.cells.now c.loop-token.next c.loop-token.token c.loop-token-test.false c.loop-token.invariant.within c.loop-token.invariant.rest

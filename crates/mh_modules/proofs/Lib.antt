@@ -1,5 +1,0 @@
-pub mod Misspelled
-pub mod Sampling
-pub mod Refusing
-pub mod Apart
-pub mod Ready

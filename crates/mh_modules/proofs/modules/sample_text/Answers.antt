@@ -1,5 +1,0 @@
-use Rattle.mh_modules.proofs.Sampling.{text_short}
-use Rattle.mh_modules.proofs.modules.sample_text.Goals as goal
-
-pub returns-clause-short : goal.returns-clause-short
-returns-clause-short c = text_short c.args.number c.sample_grammar.result c.sample_grammar.ensures

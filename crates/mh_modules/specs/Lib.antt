@@ -1,8 +1,0 @@
-pub mod Texts
-pub mod Faults
-pub mod GrammarFile
-pub mod Modules
-pub mod GrammarStage
-pub mod Order
-pub mod FrontStage
-pub mod GrammarTurns

@@ -1,6 +1,0 @@
-use Rattle.std.proofs.Common.{length}
-use Rattle.mh_moves.proofs.Taking.{TakenSoFar}
-use Rattle.mh_moves.proofs.all_moves.taken.Given as goal
-
-abbrev pub invariant-loop-place : goal.invariant-loop-place
-invariant-loop-place g l = TakenSoFar (length l.grammar.tokens) l.fn.rows l.place-items l.place-index l.rows l.moves.items

@@ -1,8 +1,0 @@
-use Rattle.std.proofs.Common.{take}
-use Rattle.std.specs.List.{flat_map}
-use Rattle.mh_meanings.specs.Names.{given_cost}
-use Rattle.mh_meanings.specs.Puts.{Puts}
-use Rattle.mh_naming.proofs.costs.add_costs.Given as goal
-
-abbrev pub invariant-loop-token : goal.invariant-loop-token
-invariant-loop-token l = Puts l.initial.costs (flat_map given_cost (take l.token-index l.tokens)) l.costs

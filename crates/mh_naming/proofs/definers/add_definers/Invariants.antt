@@ -1,8 +1,0 @@
-use Rattle.std.proofs.Common.{take}
-use Rattle.std.specs.List.{list_any}
-use Rattle.mh_meanings.specs.Names.{same}
-use Rattle.mh_meanings.specs.Definers.{Defines}
-use Rattle.mh_naming.proofs.definers.add_definers.Given as goal
-
-abbrev pub invariant-loop-rule : goal.invariant-loop-rule
-invariant-loop-rule l = Defines l.file (λ x. list_any (λ r. same x r.name) (take l.rule-index l.rules)) l.initial.definers l.definers

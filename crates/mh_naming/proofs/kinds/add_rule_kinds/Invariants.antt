@@ -1,8 +1,0 @@
-use Rattle.std.proofs.Common.{◌∷◌, [], take}
-use Rattle.std.specs.List.{flat_map}
-use Rattle.mh_meanings.specs.declared.kinds.Kind.TheVariants as kinds
-use Rattle.mh_meanings.specs.Puts.{Puts}
-use Rattle.mh_naming.proofs.kinds.add_rule_kinds.Given as goal
-
-abbrev pub invariant-loop-rule : goal.invariant-loop-rule
-invariant-loop-rule l = Puts l.initial.kinds (flat_map (λ r. (r.name, kinds.Rule) ∷ []) (take l.rule-index l.rules)) l.kinds

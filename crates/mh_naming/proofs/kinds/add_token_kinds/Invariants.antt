@@ -1,8 +1,0 @@
-use Rattle.std.proofs.Common.{◌∷◌, [], take}
-use Rattle.std.specs.List.{flat_map}
-use Rattle.mh_meanings.specs.declared.kinds.Kind.TheVariants as kinds
-use Rattle.mh_meanings.specs.Puts.{Puts}
-use Rattle.mh_naming.proofs.kinds.add_token_kinds.Given as goal
-
-abbrev pub invariant-loop-token : goal.invariant-loop-token
-invariant-loop-token l = Puts l.initial.kinds (flat_map (λ t. (t.name, kinds.Token) ∷ []) (take l.token-index l.tokens)) l.kinds

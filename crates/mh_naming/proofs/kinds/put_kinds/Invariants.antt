@@ -1,8 +1,0 @@
-use Rattle.std.proofs.Common.{take}
-use Rattle.std.specs.List.{flat_map}
-use Rattle.mh_meanings.specs.Faults.{kinds_in}
-use Rattle.mh_meanings.specs.Puts.{Puts}
-use Rattle.mh_naming.proofs.kinds.put_kinds.Given as goal
-
-abbrev pub invariant-loop-file : goal.invariant-loop-file
-invariant-loop-file l = Puts l.initial.kinds (flat_map kinds_in (take l.file-index l.files)) l.kinds

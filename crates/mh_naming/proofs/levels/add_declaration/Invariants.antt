@@ -1,9 +1,0 @@
-use Rattle.std.proofs.Common.{take}
-use Rattle.std.specs.List.{flat_map}
-use Rattle.std.specs.HashMap.{get}
-use Rattle.mh_meanings.specs.Names.{same, with_level, name_by}
-use Rattle.mh_meanings.specs.Puts.{Puts}
-use Rattle.mh_naming.proofs.levels.add_declaration.Given as goal
-
-abbrev pub invariant-loop-reference : goal.invariant-loop-reference
-invariant-loop-reference l = Puts l.initial.levels (flat_map (λ r. with_level l.level (name_by (λ a. get same l.aliases a) r)) (take l.reference-index l.reference-items)) l.levels

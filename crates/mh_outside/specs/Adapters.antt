@@ -1,0 +1,25 @@
+-- What the adapters hold.
+use Rattle.std.specs.Prelude.{◌≡◌, ◌<◌, ℕ, List, [], Option}
+use Rattle.std.specs.Io.Buffered.{reader_remaining, reader_inner, reader_buffer, reader_capacity}
+use Rattle.mh_outside.specs.declared.std_source.StdSource.{StdSource}
+use Rattle.mh_outside.specs.declared.std_sink.StdSink.{StdSink}
+
+abbrev pub source_faults : {R : Type 0} → StdSource R → ℕ
+source_faults s = s.faults
+
+-- the bytes that were read ahead, and those that the reader has left, where they are known
+abbrev pub source_left : {R : Type 0} → (R → Option (List ℕ)) → StdSource R → Option (List ℕ)
+source_left remaining s = reader_remaining remaining s.inner
+
+-- nothing was read of the reader yet, and there is room to read ahead
+pub record IsFresh {R : Type 0} (s : StdSource R) (inner : R) : Type 0 where
+  pub same : reader_inner s.inner ≡ inner
+  pub unread : reader_buffer s.inner ≡ []
+  pub room : 0 < reader_capacity s.inner
+  pub calm : s.faults ≡ 0
+
+abbrev pub sink_inner : {W : Type 0} → StdSink W → W
+sink_inner s = s.inner
+
+abbrev pub sink_faults : {W : Type 0} → StdSink W → ℕ
+sink_faults s = s.faults

@@ -1,0 +1,58 @@
+//! The source over a real reader.
+ghost use Rattle.std.specs.Prelude.{◌≡◌, ◌<◌, length, None, IfOk};
+ghost use Rattle.std.specs.Io.{ReadsAtMost};
+ghost use Rattle.std.specs.Io.KnownBytes.{ReadConsumes};
+ghost use Rattle.mh_outside.specs.Faults.{Counts};
+
+use crate::source::{Failed, Source};
+use std::alloc::{AllocError, Global};
+use std::io::{BufReader, Read};
+
+/// How many bytes one read of the reader asks for.
+const BLOCK: usize = 64 * 1024;
+
+/// Any reader, read a block at a time, so that one byte at a time may be asked for.
+#[derive(Drop)]
+pub struct StdSource<R> {
+    inner: BufReader<R>,
+    faults: u64,
+}
+
+impl<R: Read + Drop> StdSource<R> {
+    ghost use Rattle.mh_outside.specs.Adapters.{IsFresh};
+
+    /// Takes the memory of the block; no read takes any.
+    pub fn new(alloc: Global, inner: R) -> Result<Self, AllocError>
+        ensures { IfOk result (λ s. IsFresh s inner) }
+    {
+        match BufReader::with_capacity(alloc, BLOCK, inner) {
+            Ok(inner) => Ok(StdSource { inner, faults: 0 }),
+            Err(_) => Err(AllocError),
+        }
+    }
+}
+
+impl<R: Read> Source for StdSource<R> {
+    ghost use Rattle.mh_outside.specs.Adapters.{source_left, source_faults};
+
+    ghost left = { λ _. None };
+
+    ghost faults = { λ s. s.faults };
+
+    fn read(&mut self, buf: &mut [u8]) -> Result<usize, Failed>
+        requires { 0 < length buf.old }
+        ensures bound { ReadsAtMost result buf.new }
+        ensures bytes { ReadConsumes None None result buf.new }
+        ensures counts { Counts (source_faults self.old) (source_faults self.new) result }
+        // what the reader gives is passed on
+        ensures passed { ReadConsumes (source_left R.remaining self.old) (source_left R.remaining self.new) result buf.new }
+    {
+        match self.inner.read(buf) {
+            Ok(count) => Ok(count),
+            Err(_) => {
+                self.faults = self.faults.saturating_add(1);
+                Err(Failed)
+            }
+        }
+    }
+}

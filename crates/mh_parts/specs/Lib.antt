@@ -1,5 +1,0 @@
-pub mod Cells
-pub mod Commented
-pub mod Conflicts
-pub mod Kept
-pub mod Productions

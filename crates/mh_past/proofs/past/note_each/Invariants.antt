@@ -1,7 +1,0 @@
-use Rattle.mh_ways.specs.code.Rows.{Collects}
-use Rattle.mh_past.specs.Past.{PastOne}
-use Rattle.mh_ways.proofs.Collecting.{FirstOf}
-use Rattle.mh_past.proofs.past.note_each.Given as goal
-
-abbrev pub invariant-loop-production : goal.invariant-loop-production
-invariant-loop-production l = Collects (FirstOf (λ p r. PastOne l.table l.from l.target p r) l.productions l.production-index) l.fn.past.keys l.past.keys

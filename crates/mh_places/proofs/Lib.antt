@@ -1,2 +1,0 @@
-pub mod Priced
-pub mod Steps

@@ -1,7 +1,0 @@
-use Rattle.std.proofs.Common.{◌≡◌, ◌+◌, drop}
-use Rattle.mh_lex.specs.Bytes.{is_blank}
-use Rattle.mh_places.specs.Costs.{front_of}
-use Rattle.mh_places.proofs.costs.blanks_length.Given as goal
-
-abbrev pub invariant-loop-byte : goal.invariant-loop-byte
-invariant-loop-byte l = (l.length ≡ l.byte-index) × (front_of is_blank l.text ≡ front_of is_blank (drop l.byte-index l.text) + l.byte-index)

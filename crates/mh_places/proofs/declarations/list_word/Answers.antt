@@ -1,8 +1,0 @@
-use Rattle.std.proofs.Common.{sym, subst}
-use Rattle.mh_places.specs.code.Machine.{Refers}
-use Rattle.mh_places.proofs.Steps.{word_else}
-use Rattle.mh_places.proofs.declarations.list_word.Goals as goal
-
-pub returns-in_default : goal.returns-in_default
-returns-in_default c =
-    subst (λ step. Refers step c.list_item.result) (sym (word_else c.args.made c.args.listing c.args.text.now c.in_default.not-Tokens c.in_default.not-Starts)) (rw c.in-Ok.ensures at c.list_item.ensures)

@@ -1,4 +1,0 @@
-pub mod Costs
-pub mod Signs
-pub mod Spelling
-pub mod code

@@ -1,5 +1,0 @@
-use Rattle.mh_meanings.proofs.Lists.{push_first}
-use Rattle.mh_prelude.proofs.prelude.add_in_order.Goals as goal
-
-pub returns : goal.returns
-returns c = push_first c.args.rules.now c.push.new.self c.in_ok-in_order.field-0 _ c.in_ok-push.ensures.ok c.in_ok-in_order.ensures

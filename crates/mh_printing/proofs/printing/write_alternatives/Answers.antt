@@ -1,6 +1,0 @@
-use Rattle.mh_printing.specs.Printed.{alternative_pieces}
-use Rattle.mh_printing.proofs.Laid.{writes_next}
-use Rattle.mh_printing.proofs.printing.write_alternatives.Goals as goal
-
-pub loop-alternative-preserved : goal.loop-alternative-preserved
-loop-alternative-preserved c = writes_next alternative_pieces c.args.alternatives.now _ _ _ _ _ c.loop-alternative-test.true c.alternative-item.is c.loop-alternative.invariant c.in_ok-write_alternative.ensures

@@ -1,7 +1,0 @@
-use Rattle.std.proofs.Common.{◌≡◌, ◌++◌, map, drop}
-use Rattle.mh_lex.specs.Texts.{laid}
-use Rattle.mh_reader.specs.Pieces.{ref_piece}
-use Rattle.mh_printing.proofs.printing.write_level.Given as goal
-
-abbrev pub invariant-loop-name : goal.invariant-loop-name
-invariant-loop-name l = l.text.items ++ laid (map ref_piece (drop l.name-index l.level.names)) ≡ l.initial.text.items ++ laid (map ref_piece l.level.names)

@@ -1,6 +1,0 @@
-use Rattle.mh_printing.specs.Printed.{level_pieces}
-use Rattle.mh_printing.proofs.Laid.{writes_next}
-use Rattle.mh_printing.proofs.printing.write_levels.Goals as goal
-
-pub loop-level-preserved : goal.loop-level-preserved
-loop-level-preserved c = writes_next level_pieces c.args.levels.now _ _ _ _ _ c.loop-level-test.true c.level-item.is c.loop-level.invariant c.in_ok-write_level.ensures

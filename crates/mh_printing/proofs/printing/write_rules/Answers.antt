@@ -1,6 +1,0 @@
-use Rattle.mh_printing.specs.Printed.{rule_pieces}
-use Rattle.mh_printing.proofs.Laid.{writes_next}
-use Rattle.mh_printing.proofs.printing.write_rules.Goals as goal
-
-pub loop-rule-preserved : goal.loop-rule-preserved
-loop-rule-preserved c = writes_next rule_pieces c.args.rules.now _ _ _ _ _ c.loop-rule-test.true c.rule-item.is c.loop-rule.invariant c.in_ok-write_rule.ensures

@@ -1,7 +1,0 @@
-use Rattle.std.proofs.Common.{take}
-use Rattle.mh_producers.specs.MadeOf.{IsIn}
-use Rattle.mh_producers.specs.MadeOf.{Lists}
-use Rattle.mh_producers.proofs.inlined.list_alternatives.Given as goal
-
-abbrev pub invariant-loop-production : goal.invariant-loop-production
-invariant-loop-production l = Lists (IsIn l.expanded.instances (take l.production-index l.productions)) l.initial.list.items l.list.items

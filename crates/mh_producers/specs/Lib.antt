@@ -1,4 +1,0 @@
-pub mod Instances
-pub mod MadeOf
-pub mod Sizes
-pub mod Unfoldings

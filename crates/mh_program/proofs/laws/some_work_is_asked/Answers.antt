@@ -1,5 +1,0 @@
-use Rattle.mh_program.proofs.EachLine.{some_work}
-use Rattle.mh_program.proofs.laws.some_work_is_asked.Goals as goal
-
-pub returns : goal.returns
-returns c = some_work

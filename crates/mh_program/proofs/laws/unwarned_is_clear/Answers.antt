@@ -1,5 +1,0 @@
-use Rattle.mh_program.proofs.Exactly.{clear_where_unwarned}
-use Rattle.mh_program.proofs.laws.unwarned_is_clear.Goals as goal
-
-pub returns : goal.returns
-returns c = clear_where_unwarned

@@ -1,8 +1,0 @@
-use Rattle.mh_program.proofs.Once.{outcome_once, work_once}
-use Rattle.mh_program.proofs.laws.work_is_one.Goals as goal
-
-pub returns-clause-work : goal.returns-clause-work
-returns-clause-work c = work_once
-
-pub returns-clause-outcome : goal.returns-clause-outcome
-returns-clause-outcome c = outcome_once

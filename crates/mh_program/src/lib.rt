@@ -1,9 +1,0 @@
-//! What a run of the program is, by definition: the work that words ask for over files and an input, how a run ends, what is claimed of
-//! it, and its laws.
-#![tactic(auto)]
-
-mod laws;
-
-pub use laws::{
-    lines_are_answered, runs_are_one, some_work_is_asked, unwarned_is_clear, work_is_one,
-};

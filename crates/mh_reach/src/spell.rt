@@ -1,0 +1,76 @@
+//! Words and sentences, by what facts and arrivals came from.
+ghost use Rattle.std.specs.Prelude.{◌≡◌, OnOk};
+ghost use Rattle.mh_reach.specs.Spelling.{HasWord, Spells, SpellsOne, SpellsNext};
+
+use mh_facts::{Back, FactKey, FactStore};
+use mh_grammar::{Memory, Token};
+use mh_reach_found::token_before;
+use mh_tables_core::Table;
+use std::alloc::Global;
+
+/// Puts what a fact came from in its place; the token that it ends with is spelled.
+fn spell_one(
+    table: &Table,
+    stack: &mut Vec<FactKey>,
+    backwards: &mut Vec<Token>,
+    key: FactKey,
+    back: Back,
+) -> Result<(), Memory>
+    ensures { OnOk result (SpellsOne table.now key back stack.old.items stack.new.items backwards.old.items backwards.new.items) }
+{
+    match back {
+        Back::Empty => Ok(()),
+        Back::Shifted(path) => {
+            stack.push(path)?;
+            if let Some(token) = token_before(table, key) {
+                backwards.push(token)?;
+            }
+            Ok(())
+        }
+        Back::Reduced { path, inner } => {
+            stack.push(path)?;
+            stack.push(inner)?;
+            Ok(())
+        }
+    }
+}
+
+/// The same, but what is free has no tokens, and is not gone into.
+fn spell_next(
+    table: &Table,
+    store: &FactStore,
+    stack: &mut Vec<FactKey>,
+    backwards: &mut Vec<Token>,
+    key: FactKey,
+) -> Result<(), Memory>
+    ensures { OnOk result (SpellsNext table.now store.now key stack.old.items stack.new.items backwards.old.items backwards.new.items) }
+{
+    if store.cost(&key) == Some(0) {
+        return Ok(());
+    }
+    match store.back(&key) {
+        None => Ok(()),
+        Some(back) => spell_one(table, stack, backwards, key, back),
+    }
+}
+
+/// Puts the word of a fact in front of what is spelled. Fails for want of memory alone.
+pub fn spell(
+    alloc: Global,
+    table: &Table,
+    store: &FactStore,
+    key: FactKey,
+    backwards: &mut Vec<Token>,
+) -> Result<(), Memory>
+    requires { HasWord table.now store.now key }
+    ensures { OnOk result (Spells table.now store.now key backwards.old.items backwards.new.items) }
+{
+    let mut stack = Vec::new(alloc);
+    stack.push(key)?;
+    'facts: loop {
+        match stack.pop() {
+            None => return Ok(()),
+            Some(key) => spell_next(table, store, &mut stack, backwards, key)?,
+        }
+    }
+}

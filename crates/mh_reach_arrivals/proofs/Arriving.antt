@@ -1,0 +1,355 @@
+-- The turns of the second search.
+use Rattle.std.proofs.Common.{◌≡◌, ℕ, ◌+◌, ◌<◌, ◌≤◌, ◌⊎◌, inl, inr, List, [], ◌∷◌, ◌++◌, length, Some, None, Option, refl, ap, sym, subst, arith, ◌∙◌}
+use Rattle.std.specs.Prelude.{min}
+use Rattle.std.specs.List.{Contains}
+use Rattle.std.specs.Global.{Vec}
+use Rattle.std.proofs.lemmas.Bool.{cases_lt}
+use Rattle.mh_grammar.specs.declared.types.Symbol.TheVariants.{T, N}
+use Rattle.mh_grammar.proofs.Lists.{contains_none}
+use Rattle.mh_tables_core.specs.Table.{TableData, edge_of, cost_of_token}
+use Rattle.mh_tables_core.specs.Facts.{Facts}
+use Rattle.mh_tables_core.specs.Run.{Shifts, move_of}
+use Rattle.mh_tables_core.proofs.Reductions.{shifts_from_move}
+use Rattle.mh_facts.specs.declared.store.FactKey.{FactKey}
+use Rattle.mh_facts.specs.Least.{Label, longer, HoldsAt, LabelLaws, SoundReach, SoundWay}
+use Rattle.mh_facts.specs.Orders.{cap}
+use Rattle.mh_facts.proofs.Sound.{shift_known}
+use Rattle.mh_facts.proofs.Least.{reach_begins, reach_shifts, reach_goes}
+use Rattle.mh_facts.specs.declared.work.Whole.{Whole}
+use Rattle.mh_facts.specs.declared.work.Way.{Way}
+use Rattle.mh_facts.specs.declared.work.Work.{Work}
+use Rattle.mh_facts.specs.declared.classes.Classes.{Classes}
+use Rattle.mh_reach_found.specs.declared.arrivals.Spot.{Spot}
+use Rattle.mh_reach_found.specs.declared.arrivals.Step.TheVariants as steps
+use Rattle.mh_reach_found.specs.declared.arrivals.Arrival.{Arrival}
+use Rattle.mh_reach_arrivals.specs.declared.comings.Coming.{Coming}
+use Rattle.mh_facts.specs.code.Rows.{Waits, Gains, Among}
+use Rattle.mh_facts.specs.Classes.{IsClasses, rep_of, place_of}
+use Rattle.mh_facts.specs.Rules.{wholes_at}
+use Rattle.mh_facts.specs.Tales.{NoLater, capped}
+use Rattle.mh_reach_found.specs.Found.{WaysIn, WholeOk}
+use Rattle.mh_reach_found.specs.Spots.{NoLaterAt, Spots, spot, Journey, LabelBy, HasArrived, Arrived, labels_at}
+use Rattle.mh_reach_arrivals.specs.Arriving.{NoLaterBy, StepsAlong, StepsShift, StepsWay, GoesOn, Starts, ComingOk, Waiting, PendingAt, GoodAt, InOrderAt, ComesNext}
+use Rattle.mh_reach_words.specs.Rising.{Rises}
+use Rattle.mh_facts.proofs.Rowing.{row_past}
+use Rattle.mh_facts.proofs.Wording.{some_is, capped_one, capped_both, min_cap, no_lower}
+use Rattle.mh_facts.proofs.Keyed.{at_cases}
+use Rattle.mh_reach_found.proofs.Spots.{label_one, spot_keys}
+use Rattle.mh_reach_arrivals.proofs.Journeys.{label_kept, journey_more, new_labels, labels_kept, labels_here, labels_only}
+use Rattle.mh_reach_found.proofs.Labelling.{label_laws, same_label, over_from}
+use Rattle.mh_reach_words.proofs.Listing.{rises_by}
+
+abbrev pub Comings : Type 0
+Comings = List (Vec Coming)
+
+abbrev pub arrival_for : ℕ → Coming → Arrival
+arrival_for level i = record { cost = level; step = i.step }
+
+-- nothing waits with a cost that has no bucket
+pub none_over : (q : Comings) (level cost : ℕ) (o : Coming) → length q ≤ level → level ≤ cost → Waiting q level [] cost o → ⊥
+none_over q level cost o over low (inl there) = contains_none o (rw (row_past q cost (omega arith)) at there)
+none_over q level cost o over low (inr beside) = contains_none o beside.1
+
+module _ (t : TableData) (f : Facts t) (c : Classes) (cls : IsClasses t c) (words : FactKey → Option (List ℕ)) (work : Work) (ways_ok : (n : ℕ) (w : Whole) → Contains (wholes_at work n) w → WholeOk t (rep_of c) words cap w) where
+  abbrev rep : ℕ → ℕ → ℕ
+  rep = rep_of c
+
+  abbrev laws : LabelLaws (NoLater t) (NoLaterAt t)
+  laws = label_laws t
+
+  start_ok : (cost : ℕ) (o : Coming) → Starts t c cost o → ComingOk t c words (λ k. None) cost o
+  start_ok cost o (start, start_lt, (z, there, is)) =
+      let listed = cls.list_only start z there in
+      rw (is.0, is.1) (record {
+        state = let e = f.enough_states in omega arith;
+        token = listed.0;
+        few = omega arith;
+        label = record { start = start; word = [] };
+        by = refl;
+        cost_is = refl;
+        sound = reach_begins t f rep start z start_lt;
+      })
+
+  pub arrive_begins : (q : Comings) → Gains (Starts t c) [] q → GoodAt t c words work [] q 0 []
+  arrive_begins q g =
+      record {
+        journey = record { labels = λ k. None; none = λ k e. refl; some = λ k r e. absurd (let y : None ≡ Some r = e in cc) };
+        closed = record {
+          begins = λ start z start_lt lt.
+              let x = rep start z in
+              let o : Coming = record { spot = spot start x; step = steps.Begin start } in
+              let l : Label = record { start = start; word = [] } in
+              inr (0, o, l, inl (g.all 0 o (start, start_lt, (x, cls.list_all start z (let e = f.enough_states in omega arith) lt, (refl, refl)))), refl, refl, laws.same l);
+          shifts = λ s x z j l e move lt. absurd (let y : None ≡ Some l = e in cc);
+          goes = λ s n y x j l v e way edge. absurd (let y : None ≡ Some l = e in cc);
+        };
+        sound = λ s z l e. absurd (let y : None ≡ Some l = e in cc);
+        items = λ cost o h. start_ok cost o (begun cost o h);
+        low = λ cost o h. omega arith;
+        high = λ k r e. absurd (let y : None ≡ Some r = e in cc);
+        before = λ k l m cost o e h by. absurd (let y : None ≡ Some l = e in cc);
+      }
+    where
+      begun : (cost : ℕ) (o : Coming) → Waiting q 0 [] cost o → Starts t c cost o
+      begun cost o (inl h) = elim (g.only cost o h) [ inl none ↦ absurd (let l = none.1 in omega arith) | inr b ↦ b ]
+      begun cost o (inr h) = absurd (let l = (h.1).1 in omega arith)
+
+  module _ (spots : Spots) (old : Comings) (level : ℕ) (beside : List Coming) (good : GoodAt t c words work spots old level beside) where
+    abbrev labels : Spot → Option Label
+    labels = good.journey.labels
+
+    -- where something is stored, it comes no later than what waits
+    pub stored_held : (s z cost : ℕ) (o : Coming) (k l : Label) → HasArrived spots o.spot → Waiting old level beside cost o → o.spot ≡ spot s z → LabelBy words labels o.step k → NoLaterAt t k l → HoldsAt (NoLaterAt t) (labels_at labels) s z l
+    stored_held s z cost o k l there waits is by le =
+        let told = good.journey.some o.spot there.0 there.1 in
+        (told.label, rw (← is) told.is, laws.after told.label k l (good.before o.spot told.label k cost o told.is waits by) le)
+
+    -- What waits is thinned, or moved: what is no longer there is stored.
+    unfoldable pub good_moves : (mid : Comings) (level' : ℕ) (other : List Coming) → ((cost : ℕ) (o : Coming) → Waiting old level beside cost o → Waiting mid level' other cost o ⊎ HasArrived spots o.spot) →
+        ((cost : ℕ) (o : Coming) → Waiting mid level' other cost o → Waiting old level beside cost o) → ((cost : ℕ) (o : Coming) → Waiting mid level' other cost o → level' ≤ cost) → level ≤ level' → GoodAt t c words work spots mid level' other
+    good_moves mid level' other on back low le = record {
+      journey = good.journey;
+      closed = record {
+        begins = λ j z lt zt. held j (rep j z) (record { start = j; word = [] }) (good.closed.begins j z lt zt);
+        shifts = λ s x z j l e move lt. held j (rep j z) (longer l (x ∷ [])) (good.closed.shifts s x z j l e move lt);
+        goes = λ s n y x g l v r way edge. held g x (longer l v) (good.closed.goes s n y x g l v r way edge);
+      };
+      sound = good.sound;
+      items = λ cost o h. good.items cost o (back cost o h);
+      low = low;
+      high = λ k r e. (let h = good.high k r e in omega arith);
+      before = λ k l m cost o e h by. good.before k l m cost o e (back cost o h) by;
+    }
+      where
+        held : (s z : ℕ) (l : Label) → PendingAt t words labels (Waiting old level beside) s z l → PendingAt t words labels (Waiting mid level' other) s z l
+        held s z l (inl was) = inl was
+        held s z l (inr (cost, o, k, waits, is, by, ahead)) = elim (on cost o waits) [
+          | inl still ↦ inr (cost, o, k, still, is, by, ahead)
+          | inr stored ↦ inl (stored_held s z cost o k l stored waits is by ahead)
+        ]
+
+    -- what waits has one sentence
+    pub waiting_label : (later : Spot → Option Label) → ((o : Spot) (u : Label) → labels o ≡ Some u → later o ≡ Some u) → (cost : ℕ) (o : Coming) (h : Waiting old level beside cost o) (m : Label) → LabelBy words later o.step m → m ≡ (good.items cost o h).label
+    waiting_label later kept cost o h m by = let ok = good.items cost o h in label_one words later o.step m ok.label by (label_kept words labels later o.step ok.label kept ok.by)
+
+    module _ (flat : (x y : Coming) (cost : ℕ) → Waits old level x → Waiting old level beside cost y → NoLaterBy t words labels x y) (rising : Rises (NoLaterBy t words labels) beside)
+        (mid new : Comings) (i : Coming) (next : ComesNext spots old mid level i) (more : Gains (GoesOn t c work i.spot level) mid new) (le_cap : level ≤ cap) where
+      abbrev ok : ComingOk t c words labels level i
+      ok = good.items level i (inl next.was)
+
+      abbrev r : Arrival
+      r = arrival_for level i
+
+      abbrev later : Spot → Option Label
+      later = new_labels t words spots good.journey i.spot r ok.label next.fresh ok.by ok.cost_is
+
+      kept : (o : Spot) (u : Label) → labels o ≡ Some u → later o ≡ Some u
+      kept = labels_kept t words spots good.journey i.spot r ok.label next.fresh ok.by ok.cost_is
+
+      here : later i.spot ≡ Some ok.label
+      here = labels_here t words spots good.journey i.spot r ok.label next.fresh ok.by ok.cost_is
+
+      only : (o : Spot) (u : Label) → later o ≡ Some u → (labels o ≡ Some u) ⊎ ((o ≡ i.spot) × (u ≡ ok.label))
+      only = labels_only t words spots good.journey i.spot r ok.label next.fresh ok.by ok.cost_is
+
+      -- what waits now waited, or follows
+      came : (cost : ℕ) (o : Coming) → Waiting new level beside cost o → Waiting old level beside cost o ⊎ GoesOn t c work i.spot level cost o
+      came cost o (inl h) = elim (more.only cost o h) [ inl was ↦ inl (inl (next.only cost o was)) | inr add ↦ inr add ]
+      came cost o (inr h) = inl (inr h)
+
+      held : (s z : ℕ) (l : Label) → PendingAt t words labels (Waiting old level beside) s z l → PendingAt t words later (Waiting new level beside) s z l
+      held s z l (inl h) = inl (h.0, kept (spot s z) h.0 h.1, h.2)
+      held s z l (inr (cost, o, k, inr aside, is, by, le)) = inr (cost, o, k, inr aside, is, label_kept words labels later o.step k kept by, le)
+      held s z l (inr (cost, o, k, inl there, is, by, le)) = elim (next.kept cost o there) [
+        | inl on ↦ (elim on [
+          | inl still ↦ inr (cost, o, k, inl (more.kept cost o still), is, label_kept words labels later o.step k kept by, le)
+          | inr stored ↦ (let h = stored_held s z cost o k l stored (inl there) is by le in inl (h.0, kept (spot s z) h.0 h.1, h.2))
+        ])
+        | inr one ↦ (
+            let at : i.spot ≡ spot s z = sym (ap (λ (x : Coming). x.spot) one.1) ∙ is in
+            let same : k ≡ ok.label = label_one words labels i.step k ok.label (rw one.1 at by) ok.by in
+            inl (ok.label, subst (λ (x : Spot). later x ≡ Some ok.label) at here, rw same at le))
+      ]
+
+      shift_on : (x z j : ℕ) → rep i.spot.state x ≡ i.spot.next → move_of t i.spot.state (x ∷ []) ≡ Shifts j → z < t.grammar.tokens → PendingAt t words later (Waiting new level beside) j (rep j z) (longer ok.label (x ∷ []))
+      shift_on x z j token move lt =
+          let o : Coming = record { spot = spot j (rep j z); step = steps.Shift i.spot x } in
+          let edge : edge_of t i.spot.state (T x) ≡ Some j = f.shifts i.spot.state x j (shifts_from_move t i.spot.state x [] j move) in
+          let s : StepsAlong t c i.spot level x (min (level + cost_of_token t x) cap) o = record { end = j; z = rep j z; token = token; move = move; listed = cls.list_all j z (f.each_target i.spot.state (T x) j edge) lt; cost_is = refl; is = refl } in
+          inr (min (level + cost_of_token t x) cap, o, longer ok.label (x ∷ []), inl (more.all (min (level + cost_of_token t x) cap) o (inl (x, s))), refl, (ok.label, here, refl), laws.same (longer ok.label (x ∷ [])))
+
+      way_on : (n x g : ℕ) (v : List ℕ) → WaysIn c words work i.spot.state n i.spot.next x v → edge_of t i.spot.state (N n) ≡ Some g → PendingAt t words later (Waiting new level beside) g x (longer ok.label v)
+      way_on n x g v way edge =
+          let w = way.0 in
+          let known = ways_ok _ w way.1 in
+          let from : w.inner.from ≡ i.spot.state = ap (λ (k : Way). k.from) way.2 in
+          let first : w.inner.first ≡ i.spot.next = ap (λ (k : Way). k.first) way.2 in
+          let nonterminal : w.nonterminal ≡ n = ap (λ (k : Way). k.nonterminal) way.2 in
+          let after : w.next ≡ x = ap (λ (k : Way). k.next) way.2 in
+          let there : edge_of t i.spot.state (N n) ≡ Some w.target = rw (from, nonterminal) at known.edge in
+          let target : w.target ≡ g = some_is _ w.target g there edge in
+          let o : Coming = record { spot = spot w.target w.next; step = steps.Way i.spot w.inner } in
+          let s : StepsWay i.spot level w (min (level + w.cost) cap) o = record { meets = from; begins = first; cost_is = refl; is = refl } in
+          let at : o.spot ≡ spot g x = rw (target, after) refl in
+          inr (min (level + w.cost) cap, o, longer ok.label v, inl (more.all (min (level + w.cost) cap) o (inr (w, way.1, s))), at, (ok.label, v, here, way.3, refl), laws.same (longer ok.label v))
+
+      shift_ok : (cost : ℕ) (o : Coming) → StepsShift t c i.spot level cost o → ComingOk t c words later cost o
+      shift_ok cost o (x, s) =
+          let edge : edge_of t i.spot.state (T x) ≡ Some s.end = f.shifts i.spot.state x s.end (shifts_from_move t i.spot.state x [] s.end s.move) in
+          let listed = cls.list_only s.end s.z s.listed in
+          let before : SoundReach t rep i.spot.state (rep i.spot.state x) ok.label = rw s.token ok.sound in
+          rw (s.cost_is, s.is) (record {
+            state = f.each_target i.spot.state (T x) s.end edge;
+            token = listed.0;
+            few = min_cap (level + cost_of_token t x);
+            label = longer ok.label (x ∷ []);
+            by = (ok.label, here, refl);
+            cost_is = capped_one t f ok.label.word x level (shift_known t f i.spot.state x s.end ok.state s.move) ok.cost_is;
+            sound = reach_shifts t f rep i.spot.state x s.z s.end ok.label ok.state before s.move;
+          })
+
+      way_ok : (cost : ℕ) (o : Coming) → Among (StepsWay i.spot level) (wholes_at work (place_of c i.spot.state i.spot.next)) cost o → ComingOk t c words later cost o
+      way_ok cost o (w, there, s) =
+          let known = ways_ok _ w there in
+          let edge : edge_of t i.spot.state (N w.nonterminal) ≡ Some w.target = rw s.meets at known.edge in
+          let half : SoundWay t rep i.spot.state w.nonterminal w.inner.first w.next w.target known.word = subst (λ (n : ℕ). SoundWay t rep n w.nonterminal w.inner.first w.next w.target known.word) s.meets known.sound in
+          let way : SoundWay t rep i.spot.state w.nonterminal i.spot.next w.next w.target known.word = subst (λ (n : ℕ). SoundWay t rep i.spot.state w.nonterminal n w.next w.target known.word) s.begins half in
+          rw (s.cost_is, s.is) (record {
+            state = f.each_target i.spot.state (N w.nonterminal) w.target edge;
+            token = known.next;
+            few = min_cap (level + w.cost);
+            label = longer ok.label known.word;
+            by = (ok.label, known.word, here, known.stored, refl);
+            cost_is = capped_both t ok.label.word known.word level w.cost ok.cost_is known.cost_is;
+            sound = reach_goes t f rep i.spot.state w.nonterminal i.spot.next w.next w.target ok.label known.word ok.state ok.sound way edge;
+          })
+
+      follow_ok : (cost : ℕ) (o : Coming) → GoesOn t c work i.spot level cost o → ComingOk t c words later cost o
+      follow_ok cost o (inl s) = shift_ok cost o s
+      follow_ok cost o (inr s) = way_ok cost o s
+
+      each : (cost : ℕ) (o : Coming) → Waiting new level beside cost o → ComingOk t c words later cost o
+      each cost o h = elim (came cost o h) [
+        | inl was ↦ (let k = good.items cost o was in record { state = k.state; token = k.token; few = k.few; label = k.label; by = label_kept words labels later o.step k.label kept k.by; cost_is = k.cost_is; sound = k.sound })
+        | inr add ↦ follow_ok cost o add
+      ]
+
+      low_follow : (cost : ℕ) (o : Coming) → GoesOn t c work i.spot level cost o → level ≤ cost
+      low_follow cost o (inl s) = rw s.1.cost_is (no_lower level (cost_of_token t s.0) le_cap)
+      low_follow cost o (inr s) = rw s.2.cost_is (no_lower level s.0.cost le_cap)
+
+      low_all : (cost : ℕ) (o : Coming) → Waiting new level beside cost o → level ≤ cost
+      low_all cost o h = elim (came cost o h) [ inl was ↦ good.low cost o was | inr add ↦ low_follow cost o add ]
+
+      -- what follows goes on from the sentence that is settled
+      goes_longer : (cost : ℕ) (o : Coming) → GoesOn t c work i.spot level cost o → (m : Label) → LabelBy words later o.step m → (v : List ℕ) × (m ≡ longer ok.label v)
+      goes_longer cost o (inl (x, s)) m by =
+          let h : LabelBy words later (steps.Shift i.spot x) m = subst (λ (y : Coming). LabelBy words later y.step m) s.is by in
+          let same : h.0 ≡ ok.label = some_is (later i.spot) h.0 ok.label h.1 here in
+          (x ∷ [], rw same at h.2)
+      goes_longer cost o (inr (w, there, s)) m by =
+          let h : LabelBy words later (steps.Way i.spot w.inner) m = subst (λ (y : Coming). LabelBy words later y.step m) s.is by in
+          let same : h.0 ≡ ok.label = some_is (later i.spot) h.0 ok.label h.2 here in
+          (h.1, rw same at h.4)
+
+      -- all that waits now comes no sooner than what is settled
+      no_sooner : (cost : ℕ) (o : Coming) → Waiting new level beside cost o → (m : Label) → LabelBy words later o.step m → NoLaterAt t ok.label m
+      no_sooner cost o h m by = elim (came cost o h) [
+        | inl was ↦ (
+            let one = waiting_label later kept cost o was m by in
+            let k = good.items cost o was in
+            rw one (flat i o cost next.was was ok.label k.label ok.by k.by))
+        | inr add ↦ (let k = goes_longer cost o add m by in rw k.1 (laws.front ok.label k.0))
+      ]
+
+      before_all : (k : Spot) (l m : Label) (cost : ℕ) (o : Coming) → later k ≡ Some l → Waiting new level beside cost o → LabelBy words later o.step m → NoLaterAt t l m
+      before_all k l m cost o e h by = elim (only k l e) [
+        | inl was ↦ laws.after l ok.label m (good.before k l ok.label level i was (inl next.was) ok.by) (no_sooner cost o h m by)
+        | inr is ↦ rw is.1 (no_sooner cost o h m by)
+      ]
+
+      -- what follows with the same cost is the same sentence, or too dear
+      level_label : (o : Coming) → GoesOn t c work i.spot level level o → (k : Label) → LabelBy words later o.step k → (l : Label) → NoLaterAt t ok.label l → NoLaterAt t k l
+      level_label o add k by l le =
+          let now = follow_ok level o add in
+          let one : now.label ≡ k = label_one words later o.step now.label k now.by by in
+          let more = goes_longer level o add k by in
+          let cost_is : level ≡ capped t (longer ok.label more.0).word = rw (one ∙ more.1) at now.cost_is in
+          elim (cases_lt level cap) [
+            | inl lt ↦ rw (more.1 ∙ same_label t ok.label more.0 level lt ok.cost_is cost_is) le
+            | inr ge ↦ rw more.1 (over_from t ok.label (longer ok.label more.0) l level ge ok.cost_is cost_is le)
+          ]
+
+      flat_all : (x y : Coming) (cost : ℕ) → Waits new level x → Waiting new level beside cost y → NoLaterBy t words later x y
+      flat_all x y cost there waits k l by by' = elim (more.only level x there) [
+        | inl was ↦ (
+            let before = next.only level x was in
+            let one = waiting_label later kept level x (inl before) k by in
+            let o = good.items level x (inl before) in
+            laws.after k ok.label l (rw one (flat x i level before (inl next.was) o.label ok.label o.by ok.by)) (no_sooner cost y waits l by'))
+        | inr add ↦ level_label x add k by l (no_sooner cost y waits l by')
+      ]
+
+      rising_all : Rises (NoLaterBy t words later) beside
+      rising_all = rises_by (NoLaterBy t words labels) (NoLaterBy t words later) beside (λ x y in_x in_y h k l by by'. (
+          let one = waiting_label later kept level x (inr (refl, in_x)) k by in
+          let two = waiting_label later kept level y (inr (refl, in_y)) l by' in
+          let a = good.items level x (inr (refl, in_x)) in
+          let b = good.items level y (inr (refl, in_y)) in
+          rw (one, two) (h a.label b.label a.by b.by))) rising
+
+      abbrev journey : Journey t words (spots ++ (i.spot, r) ∷ [])
+      journey = journey_more t words spots good.journey i.spot r ok.label next.fresh ok.by ok.cost_is
+
+      pub settles_good : GoodAt t c words work (spots ++ (i.spot, r) ∷ []) new level beside
+      settles_good = record {
+        journey = journey;
+        closed = record {
+          begins = λ j z lt zt. held j (rep j z) (record { start = j; word = [] }) (good.closed.begins j z lt zt);
+          shifts = λ s x z j l e move lt. elim (only (spot s (rep s x)) l e) [
+            | inl was ↦ held j (rep j z) (longer l (x ∷ [])) (good.closed.shifts s x z j l was move lt)
+            | inr is ↦ (
+                let state : s ≡ i.spot.state = ap (λ (k : Spot). k.state) is.0 in
+                let token : rep s x ≡ i.spot.next = ap (λ (k : Spot). k.next) is.0 in
+                rw is.1 (shift_on x z j (rw state at token) (rw state at move) lt))
+          ];
+          goes = λ s n y x g l v e way edge. elim (only (spot s y) l e) [
+            | inl was ↦ held g x (longer l v) (good.closed.goes s n y x g l v was way edge)
+            | inr is ↦ (
+                let state : s ≡ i.spot.state = ap (λ (k : Spot). k.state) is.0 in
+                let token : y ≡ i.spot.next = ap (λ (k : Spot). k.next) is.0 in
+                rw is.1 (way_on n x g v (rw (state, token) at way) (rw state at edge)))
+          ];
+        };
+        sound = λ s z l e. elim (only (spot s z) l e) [
+          | inl was ↦ good.sound s z l was
+          | inr is ↦ (
+              let state : s ≡ i.spot.state = ap (λ (k : Spot). k.state) is.0 in
+              let token : z ≡ i.spot.next = ap (λ (k : Spot). k.next) is.0 in
+              rw (state, token, is.1) ok.sound)
+        ];
+        items = each;
+        low = low_all;
+        high = λ k g e. elim (at_cases spot_keys spots i.spot k r g next.fresh e) [ inl was ↦ good.high k g was | inr is ↦ rw is.1 (omega arith) ];
+        before = before_all;
+      }
+
+      pub arrive_settles : InOrderAt t c words work (spots ++ (i.spot, r) ∷ []) new level beside
+      unfolding settles_good
+      arrive_settles = record { good = settles_good; flat = flat_all; rising = rising_all }
+
+    pub arrive_ends : ((cost : ℕ) (o : Coming) → Waiting old level beside cost o → ⊥) → Arrived t c words work spots
+    arrive_ends none =
+        record {
+          journey = good.journey;
+          closed = record {
+            begins = λ j z lt zt. held j (rep j z) (record { start = j; word = [] }) (good.closed.begins j z lt zt);
+            shifts = λ s x z j l e move lt. held j (rep j z) (longer l (x ∷ [])) (good.closed.shifts s x z j l e move lt);
+            goes = λ s n y x g l v r way edge. held g x (longer l v) (good.closed.goes s n y x g l v r way edge);
+          };
+          sound = good.sound;
+        }
+      where
+        held : (s z : ℕ) (l : Label) → PendingAt t words labels (Waiting old level beside) s z l → HoldsAt (NoLaterAt t) (labels_at labels) s z l
+        held s z l (inl was) = was
+        held s z l (inr (cost, o, k, waits, is, by, le)) = absurd (none cost o waits)

@@ -1,0 +1,83 @@
+-- What arrivals tell, where one more is stored.
+use Rattle.std.proofs.Common.{◌≡◌, ℕ, ◌+◌, ◌⊎◌, inl, inr, List, [], ◌∷◌, ◌++◌, Some, None, Option, refl, ap, sym, arith, ◌∙◌}
+use Rattle.std.proofs.lemmas.List.Sums.{fold_push}
+use Rattle.mh_tables_core.specs.Table.{TableData}
+use Rattle.mh_facts.specs.declared.store.FactKey.{FactKey}
+use Rattle.mh_facts.specs.Least.{Label}
+use Rattle.mh_reach_found.specs.declared.arrivals.Spot.{Spot}
+use Rattle.mh_reach_found.specs.declared.arrivals.Step.{Step}
+use Rattle.mh_reach_found.specs.declared.arrivals.Step.TheVariants as steps
+use Rattle.mh_reach_found.specs.declared.arrivals.Arrival.{Arrival}
+use Rattle.mh_facts.specs.Tales.{capped}
+use Rattle.mh_reach_found.specs.Spots.{Spots, arrival_at, put_at, height_by, with_height, heights_of, LabelBy, Reached, Journey}
+use Rattle.mh_facts.proofs.Keyed.{put_here, put_cases, put_other, each_more, none_more}
+use Rattle.mh_facts.proofs.Wording.{some_is}
+use Rattle.mh_reach_found.proofs.Spots.{spot_keys}
+
+pub heights_more : (spots : Spots) (e : Spot × Arrival) → heights_of (spots ++ e ∷ []) ≡ with_height (heights_of spots) e
+heights_more spots e = fold_push (λ heights e. with_height heights e) (λ k. 0) spots e
+
+-- what is made of stored labels stays where they stay
+pub label_kept : (words : FactKey → Option (List ℕ)) (labels new : Spot → Option Label) (step : Step) (l : Label) → ((o : Spot) (u : Label) → labels o ≡ Some u → new o ≡ Some u) → LabelBy words labels step l → LabelBy words new step l
+label_kept words labels new (steps.Begin start) l kept h = h
+label_kept words labels new (steps.Shift from token) l kept h = (h.0, kept from h.0 h.1, h.2)
+label_kept words labels new (steps.Way from inner) l kept h = (h.0, h.1, kept from h.0 h.2, h.3, h.4)
+
+-- one arrival more
+module _ (t : TableData) (words : FactKey → Option (List ℕ)) (spots : Spots) (journey : Journey t words spots) (k : Spot) (r : Arrival) (l : Label) (fresh : arrival_at spots k ≡ None) (by : LabelBy words journey.labels r.step l) (cost_is : r.cost ≡ capped t l.word) where
+  abbrev pub new_labels : Spot → Option Label
+  new_labels = put_at journey.labels k (Some l)
+
+  abbrev pub new_heights : Spot → ℕ
+  new_heights = put_at (heights_of spots) k (height_by (heights_of spots) r.step)
+
+  pub none_there : journey.labels k ≡ None
+  none_there = journey.none k fresh
+
+  other_than : (o : Spot) (u : Label) → journey.labels o ≡ Some u → o ≡ k → ⊥
+  other_than o u e is = let n : journey.labels o ≡ None = rw is none_there in let y : None ≡ Some u = sym n ∙ e in cc
+
+  pub labels_kept : (o : Spot) (u : Label) → journey.labels o ≡ Some u → new_labels o ≡ Some u
+  labels_kept o u e = put_other spot_keys journey.labels k (Some l) o (other_than o u e) ∙ e
+
+  pub labels_here : new_labels k ≡ Some l
+  labels_here = put_here spot_keys journey.labels k (Some l)
+
+  pub labels_only : (o : Spot) (u : Label) → new_labels o ≡ Some u → (journey.labels o ≡ Some u) ⊎ ((o ≡ k) × (u ≡ l))
+  labels_only o u e = elim (put_cases spot_keys journey.labels k (Some l) o) [
+    | inl here ↦ inr (here.0, some_is (new_labels o) u l e here.1)
+    | inr was ↦ inl (sym was ∙ e)
+  ]
+
+  heights_kept : (o : Spot) (u : Label) → journey.labels o ≡ Some u → new_heights o ≡ heights_of spots o
+  heights_kept o u e = put_other spot_keys (heights_of spots) k (height_by (heights_of spots) r.step) o (other_than o u e)
+
+  height_kept : (step : Step) (u : Label) → LabelBy words journey.labels step u → height_by new_heights step ≡ height_by (heights_of spots) step
+  height_kept (steps.Begin start) u h = refl
+  height_kept (steps.Shift from token) u h = ap (λ (n : ℕ). n + 1) (heights_kept from h.0 h.1)
+  height_kept (steps.Way from inner) u h = ap (λ (n : ℕ). n + 1) (heights_kept from h.0 h.2)
+
+  pub reached_old : (o : Spot) (g : Arrival) → Reached t words journey.labels (heights_of spots) o g → Reached t words new_labels new_heights o g
+  reached_old o g h = record {
+    label = h.label;
+    is = labels_kept o h.label h.is;
+    cost_is = h.cost_is;
+    by = label_kept words journey.labels new_labels g.step h.label labels_kept h.by;
+    height = rw (height_kept g.step h.label h.by, heights_kept o h.label h.is) h.height;
+  }
+
+  pub reached_new : Reached t words new_labels new_heights k r
+  reached_new = record {
+    label = l;
+    is = labels_here;
+    cost_is = cost_is;
+    by = label_kept words journey.labels new_labels r.step l labels_kept by;
+    height = let e = put_here spot_keys (heights_of spots) k (height_by (heights_of spots) r.step) in let s = height_kept r.step l by in omega (arith, e, s);
+  }
+
+  abbrev pub journey_more : Journey t words (spots ++ (k, r) ∷ [])
+  journey_more = record {
+    labels = new_labels;
+    none = none_more spot_keys journey.labels spots k r (Some l) journey.none;
+    some = each_more spot_keys (Reached t words new_labels (heights_of (spots ++ (k, r) ∷ []))) spots k r fresh (λ o g was. rw (heights_more spots (k, r)) (reached_old o g (journey.some o g was))) (rw (heights_more spots (k, r)) reached_new);
+  }

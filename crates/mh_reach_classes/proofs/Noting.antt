@@ -1,0 +1,21 @@
+-- A reduction is put into a set that keeps the order in which its keys were put in.
+use Rattle.std.proofs.Common.{◌≡◌, inl, List, [], ◌∷◌, ◌++◌, Bool, true, false, refl}
+use Rattle.std.specs.Prelude.{if◌then◌else◌}
+use Rattle.std.specs.List.{list_any}
+use Rattle.std.proofs.lemmas.List.Elements.{Contains-append_left}
+use Rattle.indexmap.specs.IndexSet.{insert_key}
+use Rattle.indexmap.proofs.CallerLemmas.{Contains-list_any}
+use Rattle.mh_grammar.proofs.Lists.{contains_last, contains_push}
+use Rattle.mh_facts.specs.code.Rows.{Collects}
+
+-- a key is put behind the others, where it is new
+collects_key : {X : Type 0} (eq : X → X → Bool) → ((x y : X) → eq x y ≡ true → x ≡ y) → (ks : List X) (k : X) → Collects (λ r. r ≡ k) ks (insert_key eq ks k)
+collects_key {X} eq same ks k = by (list_any (eq k) ks) refl
+  where
+    by : (b : Bool) → list_any (eq k) ks ≡ b → Collects (λ r. r ≡ k) ks (if b then ks else ks ++ k ∷ [])
+    by true e = record { kept = λ r h. h; all = λ r is. rw is (Contains-list_any eq same ks k e); only = λ r h. inl h }
+    by false e = record { kept = λ r h. Contains-append_left ks (k ∷ []) r h; all = λ r is. rw is (contains_last ks k); only = λ r h. contains_push ks k r h }
+
+-- the same, by what an insertion says
+pub collects_insert : {X : Type 0} (eq : X → X → Bool) (ks new : List X) (k : X) → new ≡ insert_key eq ks k → ((x y : X) → eq x y ≡ true → x ≡ y) → Collects (λ r. r ≡ k) ks new
+collects_insert eq ks new k e same = rw e (collects_key eq same ks k)

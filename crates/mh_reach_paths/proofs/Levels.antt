@@ -1,0 +1,137 @@
+-- A level of the search, from its beginning to its end.
+use Rattle.std.proofs.Common.{◌≡◌, ℕ, zero, suc, drop, Some, None, ◌+◌, inl, inr, List, [], ◌∷◌, Option, refl, ap, sym, arith, ◌∙◌}
+use Rattle.std.specs.Prelude.{slice_get}
+use Rattle.std.specs.List.{Contains}
+use Rattle.std.proofs.lemmas.Bool.{cases_lt}
+use Rattle.mh_grammar.proofs.Lists.{contains_there, contains_none}
+use Rattle.mh_tables_core.specs.Table.{TableData}
+use Rattle.mh_tables_core.specs.Facts.{Facts}
+use Rattle.mh_facts.specs.declared.store.FactKey.{FactKey}
+use Rattle.mh_facts.specs.Stored.{Facts as Stored}
+use Rattle.mh_facts.specs.Least.{Pending}
+use Rattle.mh_facts.specs.Orders.{cap}
+use Rattle.mh_facts.specs.declared.work.Item.{Item}
+use Rattle.mh_facts.specs.declared.work.Work.{Work}
+use Rattle.mh_facts.specs.declared.classes.Classes.{Classes}
+use Rattle.mh_facts.specs.code.Rows.{Waits, Gains, IsOne}
+use Rattle.mh_facts.specs.Classes.{IsClasses, rep_of}
+use Rattle.mh_facts.specs.Rules.{queue_of}
+use Rattle.mh_facts.specs.Tales.{NoLater, WordBy}
+use Rattle.mh_reach_paths.specs.Good.{IsDone, NoneIsNext, InQueue, Waiting, ItemOk, Good, IsRising, InOrder, LevelReady, AllTaken}
+use Rattle.mh_reach_found.proofs.Queueing.{moves_taken, moves_sorted, moves_pushed, moves_drained, moves_higher, above}
+use Rattle.mh_facts.proofs.Wording.{word_one, order_laws, cheaper, over}
+use Rattle.mh_reach_paths.proofs.Turns.{SameBeside, good_moves}
+
+module _ (t : TableData) (f : Facts t) (c : Classes) (cls : IsClasses t c) (facts : Stored) (old : Work) (level : ℕ) where
+  -- what waited with the level's cost waits beside the queue
+  unfoldable pub level_taken : (mid : Work) (all : List Item) → Good t c facts old level [] → SameBeside old mid → AllTaken facts (queue_of old) (queue_of mid) level all → Good t c facts mid level all
+  level_taken mid all good same taken = let m = moves_taken (IsDone facts) (queue_of old) (queue_of mid) level all taken in good_moves t f c cls facts old level [] good mid all same m.on m.back
+
+  -- the same items beside it, in another order
+  unfoldable pub level_sorted : (xs ys : List Item) → Good t c facts old level xs → ((o : Item) → Contains xs o → Contains ys o) → ((o : Item) → Contains ys o → Contains xs o) → Good t c facts old level ys
+  level_sorted xs ys good kept only =
+      let m = moves_sorted (IsDone facts) (queue_of old) level xs ys (record { kept = kept; only = only }) in
+      good_moves t f c cls facts old level xs good old ys (record { paths = refl; wholes = refl; known = refl }) m.on m.back
+
+  -- words that are too dear rise in any order
+  pub rises_over : (words : FactKey → Option (List ℕ)) → level ≡ cap → (ys : List Item) → ((o : Item) → Contains ys o → ItemOk t (rep_of c) words level o) → IsRising t words ys
+  rises_over words top [] each = tt
+  rises_over words top (y ∷ ys) each = (
+    λ o u v there by by'.
+        let a = each y (0, omega arith, refl) in
+        let b = each o (contains_there y ys o there) in
+        let e : u ≡ a.word = word_one t words y.key y.back u a.word by a.by in
+        let g : v ≡ b.word = word_one t words o.key o.back v b.word by' b.by in
+        rw (e, g) (over t a.word b.word (sym top ∙ a.cost_is) (sym top ∙ b.cost_is)),
+    rises_over words top ys (λ o there. each o (contains_there y ys o there)),
+  )
+
+  -- the next item goes into the queue
+  unfoldable pub level_pushed : (mid : Work) (x : Item) (xs : List Item) → LevelReady t c facts old level (x ∷ xs) → SameBeside old mid → Gains (IsOne level x) (queue_of old) (queue_of mid) → InOrder t c facts mid level xs
+  unfolding good_moves
+  level_pushed mid x xs ready same gains = record {
+    good = let m = moves_pushed (IsDone facts) (queue_of old) (queue_of mid) level x xs gains in good_moves t f c cls facts old level (x ∷ xs) ready.good mid xs same m.on m.back;
+    flat = flat;
+    rising = ready.rising.1;
+  }
+    where
+      here : ItemOk t (rep_of c) ready.good.tale.words level x
+      here = ready.good.items level x (inr (refl, (0, omega arith, refl)))
+
+      -- x comes no later than all that waits
+      first : (i : Item) (cost : ℕ) (u v : List ℕ) → Waiting mid level xs cost i → WordBy t ready.good.tale.words x.key x.back u → WordBy t ready.good.tale.words i.key i.back v → NoLater t u v
+      first i cost u v (inl there) by by' = elim (gains.only cost i there) [
+        | inl was ↦ (
+            let ok = ready.good.items cost i (inl was) in
+            let low = ready.good.low cost i (inl was) in
+            let e : u ≡ here.word = word_one t ready.good.tale.words x.key x.back u here.word by here.by in
+            let g : v ≡ ok.word = word_one t ready.good.tale.words i.key i.back v ok.word by' ok.by in
+            elim (cases_lt level cost) [
+              | inl lt ↦ rw (e, g) (cheaper t here.word ok.word level cost here.cost_is ok.cost_is lt)
+              | inr ge ↦ absurd (ready.none i (let same : cost ≡ level = omega arith in rw same at was))
+            ])
+        | inr is ↦ (
+            let by'' : WordBy t ready.good.tale.words x.key x.back v = rw is.1 at by' in
+            let e : v ≡ u = word_one t ready.good.tale.words x.key x.back v u by'' by in
+            rw e ((order_laws t).same u))
+      ]
+      first i cost u v (inr beside) by by' = ready.rising.0 i u v beside.1 by by'
+
+      flat : (o i : Item) (cost : ℕ) (u v : List ℕ) → Waits (queue_of mid) level o → Waiting mid level xs cost i → WordBy t ready.good.tale.words o.key o.back u → WordBy t ready.good.tale.words i.key i.back v → NoLater t u v
+      flat o i cost u v there waits by by' = elim (gains.only level o there) [
+        | inl was ↦ absurd (ready.none o was)
+        | inr is ↦ first i cost u v waits (rw is.1 at by) by'
+      ]
+
+  -- nothing of the level is left in the queue
+  unfoldable pub level_drained : (mid : Work) (xs : List Item) → InOrder t c facts old level xs → SameBeside old mid → NoneIsNext facts (queue_of old) (queue_of mid) level → LevelReady t c facts mid level xs
+  unfolding good_moves
+  level_drained mid xs order same next = record {
+    good = let m = moves_drained (IsDone facts) (queue_of old) (queue_of mid) level xs next in good_moves t f c cls facts old level xs order.good mid xs same m.on m.back;
+    none = next.none;
+    rising = order.rising;
+  }
+
+  -- the level is done
+  unfoldable pub level_done : LevelReady t c facts old level [] → Good t c facts old (level + 1) []
+  level_done ready =
+      let good = ready.good in
+      record {
+        tale = good.tale;
+        ready = good.ready;
+        frontier = record {
+          closed = record {
+            begins = λ r p a known lt o pk goto. next (good.frontier.closed.begins r p a known lt o pk goto);
+            shifts = λ r p d a x z s j v e end symbol move lt. next (good.frontier.closed.shifts r p d a x z s j v e end symbol move lt);
+            wholes = good.frontier.closed.wholes;
+            joins = λ r p d a y s n x u v path end symbol way. next (good.frontier.closed.joins r p d a y s n x u v path end symbol way);
+          };
+          stored = good.frontier.stored;
+          queued = λ k u h. good.frontier.queued k u (h.0, h.1, was h.0 h.1 h.2, h.3, h.4);
+          before = λ k l u m e h. good.frontier.before k l u m e (h.0, h.1, was h.0 h.1 h.2, h.3, h.4);
+        };
+        items = λ cost i h. good.items cost i (was cost i h);
+        low = above (queue_of old) level good.low ready.none;
+        high = (let h = good.high in omega arith);
+        paths = good.paths;
+        all_paths = good.all_paths;
+        wholes = λ n w h. (let ok = good.wholes n w h in record { few = ok.few; low = (let l = ok.low in omega arith); from = ok.from; edge = ok.edge; next = ok.next; word = ok.word; stored = ok.stored; cost_is = ok.cost_is; short = ok.short; sound = ok.sound });
+        filed = good.filed;
+      }
+    where
+      was : (cost : ℕ) (i : Item) → Waiting old (level + 1) [] cost i → Waiting old level [] cost i
+      was = (moves_higher (IsDone facts) (queue_of old) level).back
+
+      waits : (cost : ℕ) (i : Item) → Waiting old level [] cost i → Waiting old (level + 1) [] cost i
+      waits cost i (inl there) = inl there
+      waits cost i (inr beside) = absurd (contains_none i beside.1)
+
+      next : {k : FactKey} {u : List ℕ} → Pending (NoLater t) ready.good.tale.words (InQueue t ready.good.tale.words (Waiting old level [])) k u → Pending (NoLater t) ready.good.tale.words (InQueue t ready.good.tale.words (Waiting old (level + 1) [])) k u
+      next (inl held) = inl held
+      next (inr w) = inr (w.0, ((w.1).0, (w.1).1, waits (w.1).0 (w.1).1 (w.1).2, (w.1).3, (w.1).4), w.2)
+
+-- the front of a list is taken off
+pub drop_get : {X : Type 0} (xs : List X) (n : ℕ) (x : X) → slice_get xs n ≡ Some x → drop n xs ≡ x ∷ drop (n + 1) xs
+drop_get {X = X} [] n x e = absurd (let y : None ≡ Some x = e in cc)
+drop_get {X = X} (y ∷ xs) zero x e = let z : y ≡ x = (let w : Some y ≡ Some x = e in cc) in ap (λ (w : X). w ∷ xs) z
+drop_get {X = X} (y ∷ xs) (suc n) x e = let g : suc n + 1 ≡ suc (n + 1) = omega arith in rw g (drop_get xs n x e)

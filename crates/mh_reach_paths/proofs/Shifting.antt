@@ -1,0 +1,39 @@
+-- What a shift puts in.
+use Rattle.std.proofs.Common.{◌≡◌, ℕ, ◌+◌, List, [], ◌∷◌, Some, refl, sym, ◌∙◌}
+use Rattle.std.specs.Prelude.{min, slice_get}
+use Rattle.std.specs.Global.{Vec}
+use Rattle.mh_grammar.specs.declared.types.Symbol.{Symbol}
+use Rattle.mh_grammar.specs.declared.types.Symbol.TheVariants.{T}
+use Rattle.mh_grammar.specs.Plain.{rhs_of}
+use Rattle.mh_tables_core.specs.Table.{TableData, cost_of_token}
+use Rattle.mh_tables_core.specs.Facts.{Facts}
+use Rattle.mh_tables_core.specs.Run.{Shifts, move_of}
+use Rattle.mh_facts.specs.declared.store.Back.TheVariants as backs
+use Rattle.mh_facts.specs.Orders.{cap}
+use Rattle.mh_facts.specs.declared.work.Item.{Item}
+use Rattle.mh_facts.specs.declared.work.Path.{Path}
+use Rattle.mh_facts.specs.declared.classes.Classes.{Classes}
+use Rattle.mh_facts.specs.code.Rows.{Gains, Among}
+use Rattle.mh_facts.specs.Classes.{IsClasses, rep_of, list_at}
+use Rattle.mh_facts.specs.Rules.{FollowsShift, further}
+use Rattle.mh_reach_paths.specs.Adding.{WithNext, with_next}
+use Rattle.mh_facts.proofs.Edging.{one_shift, shift_target}
+use Rattle.mh_facts.proofs.Gaining.{gains_by}
+
+one_token : (o : Symbol) (x y : ℕ) → T x ≡ T y → x ≡ y
+one_token o x y e = cc
+
+module _ (t : TableData) (f : Facts t) (c : Classes) (cls : IsClasses t c) (p : Path) (token end cost : ℕ) (item : Item) (symbol : slice_get (rhs_of t.grammar p.key.production) p.key.dot ≡ Some (T token)) (like : rep_of c p.end token ≡ p.key.next)
+    (move : move_of t p.end (token ∷ []) ≡ Shifts end) (cost_is : cost ≡ min (p.cost + cost_of_token t token) cap) (form : (z : ℕ) → with_next item z ≡ record { key = further p.key z; end = end; back = backs.Shifted p.key }) where
+  pub shift_gains : (old new : List (Vec Item)) → Gains (Among (WithNext cost item) (list_at c end)) old new → Gains (FollowsShift t (rep_of c) p) old new
+  shift_gains old new g = gains_by (Among (WithNext cost item) (list_at c end)) (FollowsShift t (rep_of c) p) old new
+      (λ at o h.
+      let z = h.0 in
+      let listed = cls.list_only end z h.1 in
+      record { x = token; end = end; z = z; symbol = symbol; token = like; move = move; known = listed.0; cost_is = h.2.0 ∙ cost_is; is = h.2.1 ∙ form z ∙ rw listed.1 refl })
+      (λ at o s.
+      let same : s.x ≡ token = (let y : Some (T s.x) ≡ Some (T token) = sym s.symbol ∙ symbol in let z : T s.x ≡ T token = cc in cc) in
+      let ends : s.end ≡ end = one_shift s.end end (sym (rw same at s.move) ∙ move) in
+      let known = f.each_target p.end (T token) end (shift_target t f p.end token end move) in
+      (rep_of c end s.z, cls.list_all end s.z known s.known, (s.cost_is ∙ rw same refl ∙ sym cost_is, s.is ∙ rw ends refl ∙ sym (form (rep_of c end s.z)))))
+      g

@@ -1,0 +1,29 @@
+use Rattle.std.proofs.Common.{◌≡◌, ◌<◌, true, false, refl}
+use Rattle.std.specs.Prelude.{max}
+use Rattle.std.proofs.lemmas.Result.{IfOk-weaker}
+use Rattle.mh_facts.specs.Orders.{cap}
+use Rattle.mh_reach_paths.proofs.Numbers.{numbered_higher, some_level, plain_numbered, between, made_known, made_even, made_numbered}
+use Rattle.mh_reach_paths.proofs.numbering.numbers_of.Goals as goal
+
+pub returns-then-is_plain : goal.returns-then-is_plain
+returns-then-is_plain c =
+    IfOk-weaker c.no_numbers.result _ _ (λ numbers h. plain_numbered c.args.table.now c.args.store.now c.args.numbering.now c.args.cost c.args.items.now numbers.items c.rising.ensures (c.if-is_plain.ensures.0 refl) h) c.no_numbers.ensures
+
+apart : (c : goal.After-as_slice) → (0 < c.args.cost) × (c.args.cost < cap)
+apart c = between c.args.cost c.requires.most (λ plain. (let y : false ≡ true = c.if-is_plain.ensures.1 plain in cc))
+
+pub number_all-requires-clause-known : goal.number_all-requires-clause-known
+number_all-requires-clause-known c =
+    rw c.as_slice.ensures.value (made_known c.args.table.now c.args.store.now c.args.numbering.now c.rising.ensures c.args.cost (apart c).1 c.args.items.now c.in_ok-made.made.items c.in_ok-made.ensures c.requires)
+
+pub number_all-requires-clause-even : goal.number_all-requires-clause-even
+number_all-requires-clause-even c =
+    rw c.as_slice.ensures.value (made_even c.args.table.now c.args.store.now c.args.numbering.now c.rising.ensures c.args.cost (apart c).1 c.args.items.now c.in_ok-made.made.items c.in_ok-made.ensures c.requires)
+
+pub number_all-requires-clause-fresh : goal.number_all-requires-clause-fresh
+number_all-requires-clause-fresh c = (numbered_higher c.args.store.now c.requires.tale.words (max 1 c.args.cost) c.args.cost c.args.numbering.now (some_level c.args.cost (apart c).0) c.requires.numbered).below
+
+pub returns : goal.returns
+returns c =
+    let apart : (0 < c.args.cost) × (c.args.cost < cap) = between c.args.cost c.requires.most (λ plain. (let y : false ≡ true = c.if-is_plain.ensures.1 plain in cc)) in
+    IfOk-weaker c.number_all.result _ _ (λ numbers h. made_numbered c.args.table.now c.args.store.now c.args.numbering.now c.rising.ensures c.args.cost apart.1 c.args.items.now c.in_ok-made.made.items c.in_ok-made.ensures c.requires c.number_all.new.self numbers.items apart.0 (rw c.as_slice.ensures.value at h)) c.number_all.ensures.numbered

@@ -1,0 +1,17 @@
+use Rattle.std.proofs.Common.{◌≡◌, ◌≤◌, ◌+◌, refl, arith}
+use Rattle.mh_facts.specs.Orders.{cap}
+use Rattle.mh_reach_paths.proofs.Turns.{search_done, search_ends}
+use Rattle.mh_reach_paths.proofs.Ranks.{before_all}
+use Rattle.mh_reach_paths.proofs.settling.search.Goals as goal
+
+pub loop-cost-init : goal.loop-cost-init
+loop-cost-init c =
+    rw c.new-store.ensures (before_all c.args.table.now c.facts.ensures c.args.classes.now c.requires c.in_ok-work.work c.in_ok-work.ensures (record { numbers = c.new.result; book = c.new-2.result }) c.new.ensures.items c.new-2.ensures)
+
+pub returns : goal.returns
+returns c = let e : c.loop-cost.cost ≡ cap + 1 = (let a = c.loop-cost-test.false in let b = c.loop-cost.auto.cost-end in omega arith) in search_ends c.args.table.now c.facts.ensures c.args.classes.now c.loop-cost.found (rw e at c.loop-cost.invariant)
+
+pub returns-then-is_done : goal.returns-then-is_done
+returns-then-is_done c =
+    let le : c.loop-cost.cost ≤ cap + 1 = (let a = c.loop-cost.auto.cost-end in omega arith) in
+    search_done c.args.table.now c.facts.ensures c.args.classes.now c.loop-cost.found c.loop-cost.cost c.loop-cost.invariant le (c.if-is_done.ensures.0 refl)

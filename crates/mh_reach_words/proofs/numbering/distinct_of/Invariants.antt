@@ -1,0 +1,5 @@
+use Rattle.mh_reach_words.proofs.Giving.{OnceSoFar}
+use Rattle.mh_reach_words.proofs.numbering.distinct_of.Given as goal
+
+abbrev pub invariant-loop-one : goal.invariant-loop-one
+invariant-loop-one l = OnceSoFar l.made l.one-index l.distinct.keys

@@ -1,5 +1,0 @@
-use Rattle.mh_reader.proofs.Exact as exact
-use Rattle.mh_reader.proofs.laws.spelled_once.Goals as goal
-
-pub returns : goal.returns
-returns c = exact.spelled_once c.lexed_once.ensures

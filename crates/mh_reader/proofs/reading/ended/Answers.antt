@@ -1,9 +1,0 @@
-use Rattle.std.proofs.Common.{sym, subst}
-use Rattle.mh_places.specs.code.Machine.{Refers}
-use Rattle.mh_reader.proofs.Steps.{no_end}
-use Rattle.mh_reader.proofs.reading.ended.Goals as goal
-
-pub returns-in_default : goal.returns-in_default
-returns-in_default c =
-    subst (λ step. Refers step c.unexpected.result)
-    (sym (no_end c.args.reader.made c.args.reader.place c.in_default.not-Rules c.in_default.not-RuleEnd c.in_default.not-Ended c.in_default.not-Group c.in_default.not-GroupClosed)) c.unexpected.ensures

@@ -1,0 +1,12 @@
+pub mod Priced
+pub mod PlaceSteps
+pub mod Heads
+pub mod Again
+pub mod Sound
+pub mod Exact
+pub mod Fitting
+pub mod Lines
+pub mod Short
+pub mod Shallow
+pub mod Filled
+pub mod Steps

@@ -1,0 +1,55 @@
+-- The comment lines of a sentence that fails, and the entry that lists it. Source: the Menhir manual (`--list-errors`); the layout
+-- is this project's own.
+use Rattle.std.specs.Prelude.{◌≡◌, ◌-◌, ◌<◌, ◌≤◌, ℕ, List, ◌++◌, length, slice_index_or, take, codes}
+use Rattle.mh_grammar.specs.declared.types.Symbol.{Symbol}
+use Rattle.mh_grammar.specs.declared.types.Grammar.{Grammar}
+use Rattle.mh_grammar.specs.Plain.{plain_of, rhs_of}
+use Rattle.mh_items_kernels.specs.Shapes.{KernelItem, Automaton}
+use Rattle.mh_items_kernels.specs.Automaton.{kernel_at}
+use Rattle.mh_tables_core.specs.Table.{TableData}
+use Rattle.mh_tables_core.specs.Run.{Rejected}
+use Rattle.mh_tables_core.specs.Failing.{Fails}
+use Rattle.mh_run.specs.Trace.{TraceOf}
+use Rattle.mh_msgfile.specs.Printed.{sentence_text}
+use Rattle.mh_grammar.specs.Text.{Text}
+use Rattle.mh_report_notation.specs.Items.{item_lines}
+pub use Rattle.mh_grammar_texts.specs.Commented.{ends_in, suffix_follows, suffix_comment, reduced_before, reduced_comment, reduced_comments, message_here}
+
+-- the first of the items whose dot is as far as any
+pub record IsFarthest (items : List KernelItem) (item : KernelItem) : Type 0 where
+  pub place : ℕ
+  pub within : place < length items
+  pub there : slice_index_or items place item ≡ item
+  pub first : (k : ℕ) → k < place → (slice_index_or items k item).dot < item.dot
+  pub farthest : (k : ℕ) → k < length items → (slice_index_or items k item).dot ≤ item.dot
+
+-- the symbols before its dot
+abbrev pub before_dot : Grammar → KernelItem → List Symbol
+before_dot g item = take item.dot (rhs_of (plain_of g) item.production)
+
+abbrev pub kernel_comments : Grammar → List KernelItem → Text
+kernel_comments g items = item_lines (codes "## ") g items
+
+-- the state with its kernel, the symbols that are known to stand on the stack, and the productions reduced since the last shift
+abbrev pub comments : Grammar → List KernelItem → ℕ → KernelItem → List ℕ → Text
+comments g items s item ps = ends_in s ++ kernel_comments g items ++ suffix_comment g (before_dot g item) ++ reduced_comments g ps
+
+-- the comment lines of a sentence that fails
+pub record IsCommentText (g : Grammar) (a : Automaton) (t : TableData) (start : ℕ) (w : List ℕ) (text : Text) : Type 0 where
+  pub state : ℕ
+  pub fails : Fails t start w state
+  pub item : KernelItem
+  pub farthest : IsFarthest (kernel_at a state).items item
+  pub reduced : List ℕ
+  pub traced : TraceOf t start w (Rejected (length w - 1) state) reduced
+  pub is : text ≡ comments g (kernel_at a state).items state item reduced
+
+-- the comment lines of a state, for the item with the farthest dot, are written behind a text
+abbrev pub WritesComments : Grammar → List KernelItem → ℕ → List ℕ → Text → Text → Type 0
+WritesComments g items s ps old new = (item : KernelItem) × IsFarthest items item × (new ≡ old ++ comments g items s item ps)
+
+-- the entry of a sentence that fails: its line, its comment lines, an empty line, a place for the message, an empty line
+pub record IsEntryText (g : Grammar) (a : Automaton) (t : TableData) (start : ℕ) (w : List ℕ) (text : Text) : Type 0 where
+  pub comments : Text
+  pub are : IsCommentText g a t start w comments
+  pub is : text ≡ sentence_text g start w ++ codes "\n" ++ comments ++ message_here

@@ -1,0 +1,5 @@
+pub mod Fitting
+pub mod Counting
+pub mod Rows
+pub mod Tallies
+pub mod Whole

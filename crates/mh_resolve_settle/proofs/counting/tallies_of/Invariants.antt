@@ -1,0 +1,6 @@
+use Rattle.mh_resolve_cells.specs.code.Counting.{AreTallied}
+use Rattle.mh_resolve_settle.proofs.Counted.{Front}
+use Rattle.mh_resolve_settle.proofs.counting.tallies_of.Given as goal
+
+abbrev pub invariant-loop-item : goal.invariant-loop-item
+invariant-loop-item g l = AreTallied l.grammar (Front l.items l.item-index) l.shifts l.tallies

@@ -1,0 +1,111 @@
+//! One cell of a state.
+ghost use Rattle.std.specs.Prelude.{◌≡◌};
+ghost use Rattle.mh_resolve_cells.specs.Levels.{compared};
+ghost use Rattle.mh_resolve_cells.specs.code.Tallies.{empty_tally, is_other, tally_with, weighed, cell_from};
+
+use crate::levels::compare_on;
+use mh_grammar::{Grammar, Look};
+use mh_resolve_cells::{Cell, Comparison, ConflictKind, Tally, lower_of};
+use mh_tables_core::Action;
+
+/// The tally of no reduction.
+pub fn new_tally() -> Tally
+    ensures { result ≡ empty_tally }
+{
+    Tally {
+        lowest: None,
+        some: false,
+        two: false,
+        shifts: true,
+        unknown: false,
+    }
+}
+
+/// Whether there is a lowest one, and this production is another.
+fn is_another(lowest: Option<u32>, production: u32) -> bool
+    ensures { result ≡ is_other lowest production }
+{
+    match lowest {
+        None => false,
+        Some(lowest) => production < lowest || lowest < production,
+    }
+}
+
+/// One more reduction, with how it compares.
+fn count(tally: Tally, production: u32, comparison: Comparison) -> Tally
+    ensures { result ≡ tally_with tally production comparison }
+{
+    let tally = Tally {
+        some: true,
+        ..tally
+    };
+    match comparison {
+        Comparison::Reduces => Tally {
+            lowest: Some(lower_of(tally.lowest, production)),
+            two: is_another(tally.lowest, production) || tally.two,
+            shifts: false,
+            ..tally
+        },
+        Comparison::Shifts => tally,
+        Comparison::Neither => Tally {
+            shifts: false,
+            ..tally
+        },
+        Comparison::Unknown => Tally {
+            unknown: true,
+            ..tally
+        },
+    }
+}
+
+/// How a reduction compares with the shift on a look; without a shift it stays.
+fn weigh(grammar: &Grammar, look: Look, shift: Option<u32>, production: u32) -> Comparison
+    ensures { result ≡ weighed (compared grammar.now look) shift production }
+{
+    match shift {
+        None => Comparison::Reduces,
+        Some(_) => compare_on(grammar, look, production),
+    }
+}
+
+/// The tally with one more reduction on a look, on which the state has this shift.
+pub fn add_reduction(
+    tally: Tally,
+    grammar: &Grammar,
+    look: Look,
+    shift: Option<u32>,
+    production: u32,
+) -> Tally
+    ensures { result ≡ tally_with tally production (weighed (compared grammar.now look) shift production) }
+{
+    count(tally, production, weigh(grammar, look, shift, production))
+}
+
+/// The cell of a tally.
+pub fn cell_of(tally: Tally, shift: Option<u32>) -> Cell
+    ensures { result ≡ cell_from tally shift }
+{
+    let action = match (tally.lowest, shift) {
+        (Some(production), _) => Action::Reduce(production),
+        (None, Some(target)) => {
+            if tally.shifts {
+                Action::Shift(target)
+            } else {
+                Action::Refuse
+            }
+        }
+        (None, None) => Action::Refuse,
+    };
+    let kind = if tally.two || tally.unknown {
+        Some(ConflictKind::Unsolved)
+    } else if tally.some && shift.is_some() {
+        Some(ConflictKind::Solved)
+    } else {
+        None
+    };
+    Cell {
+        action,
+        raw: tally.some || shift.is_some(),
+        kind,
+    }
+}

@@ -1,0 +1,79 @@
+//! Levels of precedence, and how a reduction compares with a shift.
+ghost use Rattle.std.specs.Prelude.{◌≡◌, length};
+ghost use Rattle.mh_grammar.specs.Plain.{plain_of, rhs_of};
+ghost use Rattle.mh_resolve_cells.specs.Levels.{production_level, look_level, compared, error_rank};
+
+use mh_grammar::{Grammar, Level, Look};
+use mh_resolve_cells::{Comparison, compare};
+
+#[tactic(auto, unfolding(mh_resolve_cells::specs::Levels::production_level))]
+fn level_of_production(grammar: &Grammar, production: u32) -> Option<Level>
+    ensures { result ≡ production_level grammar.now production }
+{
+    let production = production as usize;
+    let starts = grammar.starts.len();
+    if production < starts {
+        return None;
+    }
+    match grammar.productions.get(production - starts) {
+        Some(found) => found.level,
+        None => None,
+    }
+}
+
+fn level_of_look(grammar: &Grammar, look: Look) -> Option<Level>
+    ensures { result ≡ look_level grammar.now look }
+{
+    match look {
+        Look::Token(token) => match grammar.tokens.get(token as usize) {
+            Some(found) => found.level,
+            None => None,
+        },
+        Look::End => None,
+    }
+}
+
+/// How reducing a production compares with shifting a look.
+pub fn compare_on(grammar: &Grammar, look: Look, production: u32) -> Comparison
+    ensures { result ≡ compared grammar.now look production }
+{
+    compare(
+        level_of_production(grammar, production),
+        level_of_look(grammar, look),
+    )
+}
+
+/// The rank of a production's left side among those that states reduce on errors, if it has one.
+#[tactic(auto, unfolding(mh_resolve_cells::specs::Levels::error_rank))]
+pub fn rank_of(grammar: &Grammar, production: u32) -> Option<u64>
+    ensures { result ≡ error_rank grammar.now production }
+{
+    let production = production as usize;
+    let starts = grammar.starts.len();
+    if production < starts {
+        return None;
+    }
+    match grammar.productions.get(production - starts) {
+        Some(found) => match grammar.nonterminals.get(found.lhs as usize) {
+            Some(info) => info.on_error,
+            None => None,
+        },
+        None => None,
+    }
+}
+
+/// The length of a production's right side; that of a start production is 1.
+#[tactic(auto, unfolding(mh_grammar::specs::Plain::rhs_of))]
+pub fn length_of(grammar: &Grammar, production: u32) -> usize
+    ensures { result ≡ length (rhs_of (plain_of grammar.now) production) }
+{
+    let production = production as usize;
+    let starts = grammar.starts.len();
+    if production < starts {
+        return 1;
+    }
+    match grammar.productions.get(production - starts) {
+        Some(found) => found.rhs.len(),
+        None => 0,
+    }
+}

@@ -1,0 +1,83 @@
+//! What the verdicts of a table say of the grammar's sentences (Knuth 1965): empty calls that tell it to contracts.
+ghost use Rattle.std.specs.Prelude.{◌≡◌, ◌↔◌, ◌<◌, ◌+◌, List, ℕ, length, take};
+ghost use Rattle.mh_grammar.specs.declared.types.Grammar.{Grammar};
+ghost use Rattle.mh_items_kernels.specs.Shapes.{Automaton as AutomatonOf};
+ghost use Rattle.mh_tables_core.specs.Table.{TableData};
+ghost use Rattle.mh_resolve_cells.specs.declared.kinds.Mode.{Mode};
+ghost use Rattle.mh_run_exact.specs.Example.{MeetsPremises};
+ghost use Rattle.mh_grammar.specs.declared.types.Symbol.{Symbol};
+ghost use Rattle.mh_grammar.specs.Plain.{PlainGrammar, plain_of, Derives, IsSentence, BeginsSentence};
+ghost use Rattle.mh_items_kernels.specs.Automaton.{IsAutomaton};
+ghost use Rattle.mh_resolve_cells.specs.Clear.{HasNoConflicts};
+ghost use Rattle.mh_resolve_cells.specs.States.{IsTableOf};
+ghost use Rattle.mh_tables_core.specs.Run.{VerdictOf, Accepted, Overshot, Rejected};
+ghost use Rattle.mh_grammar.specs.Trees.{SyntaxTree, IsTreeFor, yield_of};
+ghost use Rattle.mh_tables_core.specs.TreeRuns.{IsTreeOfRead};
+ghost use Rattle.mh_run_exact.specs.Exactness.{IsPrefixSentence, AllProductive};
+
+use mh_grammar::Grammar;
+use mh_items_kernels::Automaton;
+use mh_resolve_cells::Mode;
+use mh_tables_core::Table;
+
+/// Where the run of a start accepts, on any table, its one tree is a derivation's tree for the symbol of the start, and
+/// the tokens that were read are a sentence.
+pub fn accepts_with_tree(table: &Table)
+    ensures tree { (start : ℕ) (w : List ℕ) (read : ℕ) → start < length table.now.grammar.starts → VerdictOf table.now start w (Accepted read) → (tree : SyntaxTree) × IsTreeOfRead table.now start w read tree }
+    ensures sentence { (start : ℕ) (w : List ℕ) (read : ℕ) → start < length table.now.grammar.starts → VerdictOf table.now start w (Accepted read) → IsPrefixSentence table.now.grammar start w read }
+{
+    table.facts();
+}
+
+/// A tree of a grammar for a symbol is a derivation of its yield from that symbol.
+pub fn trees_derive()
+    ensures { (g : PlainGrammar) (tree : SyntaxTree) (x : Symbol) → IsTreeFor g x tree → Derives g x (yield_of tree) }
+{}
+
+/// On the table of an automaton, with conflicts or without, where each nonterminal derives some word: where the run of a
+/// start overshoots, some sentence begins with the tokens.
+pub fn overshoots_in_sentences<const W: usize>(
+    grammar: &Grammar,
+    automaton: &Automaton<W>,
+    mode: Mode,
+    table: &Table,
+)
+    requires automaton { IsAutomaton (plain_of grammar.now) automaton.now }
+    requires table { IsTableOf grammar.now automaton.now mode table.now }
+    requires productive { AllProductive (plain_of grammar.now) }
+    ensures { (start : ℕ) (w : List ℕ) (s : ℕ) → start < length grammar.now.starts → VerdictOf table.now start w (Overshot s) → BeginsSentence (plain_of grammar.now) start w }
+{
+    let _grammar = grammar;
+    let _automaton = automaton;
+    let _mode = mode;
+    table.facts();
+}
+
+/// Without conflicts the verdicts are exact: a start accepts the whole list of tokens exactly where it is a sentence,
+/// and after some of them exactly where those are one; there is at most one such front; and no sentence begins with
+/// the tokens up to a refused one.
+pub fn verdicts_are_exact<const W: usize>(
+    grammar: &Grammar,
+    automaton: &Automaton<W>,
+    mode: Mode,
+    table: &Table,
+)
+    requires automaton { IsAutomaton (plain_of grammar.now) automaton.now }
+    requires table { IsTableOf grammar.now automaton.now mode table.now }
+    requires clear { HasNoConflicts grammar.now automaton.now }
+    ensures whole { (start : ℕ) (w : List ℕ) → start < length grammar.now.starts → VerdictOf table.now start w (Accepted (length w)) ↔ IsSentence (plain_of grammar.now) start w }
+    ensures prefix { (start : ℕ) (w : List ℕ) (read : ℕ) → start < length grammar.now.starts → VerdictOf table.now start w (Accepted read) ↔ IsPrefixSentence (plain_of grammar.now) start w read }
+    ensures one { (start : ℕ) (w : List ℕ) (j k : ℕ) → start < length grammar.now.starts → IsPrefixSentence (plain_of grammar.now) start w j → IsPrefixSentence (plain_of grammar.now) start w k → j ≡ k }
+    ensures refused { (start : ℕ) (w : List ℕ) (at s : ℕ) → start < length grammar.now.starts → VerdictOf table.now start w (Rejected at s) → BeginsSentence (plain_of grammar.now) start (take (at + 1) w) → ⊥ }
+{
+    let _grammar = grammar;
+    let _automaton = automaton;
+    let _mode = mode;
+    table.facts();
+}
+
+/// The premises of these laws can be met: there is a grammar, with its automaton and its table, that has a sentence and
+/// no conflicts.
+pub fn some_clean_table()
+    ensures { (g : Grammar) × (a : AutomatonOf) × (mode : Mode) × (t : TableData) × MeetsPremises g a mode t }
+{}

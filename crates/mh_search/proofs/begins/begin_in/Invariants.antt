@@ -1,9 +1,0 @@
-use Rattle.mh_tables.specs.Table.{state_at}
-use Rattle.mh_ways.specs.code.Rows.{Gains}
-use Rattle.mh_ways.specs.Classes.{list_at}
-use Rattle.mh_search.specs.Begins.{BeginsBehind}
-use Rattle.mh_ways.proofs.Gaining.{First}
-use Rattle.mh_search.proofs.begins.begin_in.Given as goal
-
-abbrev pub invariant-loop-edge : goal.invariant-loop-edge
-invariant-loop-edge l = Gains (First (BeginsBehind l.from (list_at l.classes l.from) l.left) (state_at l.table l.from).edges l.edge-index) l.fn.queue.buckets.items l.queue.buckets.items

@@ -1,7 +1,0 @@
-use Rattle.mh_ways.specs.code.Rows.{Gains}
-use Rattle.mh_search.specs.Begins.{EmptyOn}
-use Rattle.mh_ways.proofs.Gaining.{First}
-use Rattle.mh_search.proofs.begins.begin_one.Given as goal
-
-abbrev pub invariant-loop-token : goal.invariant-loop-token
-invariant-loop-token l = Gains (First (EmptyOn l.from l.production) l.tokens l.token-index) l.fn.queue.buckets.items l.queue.buckets.items

@@ -1,7 +1,0 @@
-use Rattle.mh_ways.specs.code.Rows.{Gains}
-use Rattle.mh_ways.specs.Rules.{FollowsWay}
-use Rattle.mh_ways.proofs.Gaining.{First}
-use Rattle.mh_search.proofs.joins.join_paths.Given as goal
-
-abbrev pub invariant-loop-path : goal.invariant-loop-path
-invariant-loop-path l = Gains (First (λ path. FollowsWay l.table path l.whole) l.paths l.path-index) l.fn.queue.buckets.items l.queue.buckets.items

@@ -1,7 +1,0 @@
-use Rattle.mh_ways.specs.code.Rows.{Gains}
-use Rattle.mh_ways.specs.Rules.{FollowsWay}
-use Rattle.mh_ways.proofs.Gaining.{First}
-use Rattle.mh_search.proofs.joins.join_ways.Given as goal
-
-abbrev pub invariant-loop-whole : goal.invariant-loop-whole
-invariant-loop-whole l = Gains (First (FollowsWay l.table l.path) l.wholes l.whole-index) l.fn.queue.buckets.items l.queue.buckets.items

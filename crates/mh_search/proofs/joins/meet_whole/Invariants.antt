@@ -1,7 +1,0 @@
-use Rattle.std.specs.Prelude.{take}
-use Rattle.mh_ways.specs.Classes.{list_at}
-use Rattle.mh_search.specs.Adding.{MeetsOn}
-use Rattle.mh_search.proofs.joins.meet_whole.Given as goal
-
-abbrev pub invariant-loop-next : goal.invariant-loop-next
-invariant-loop-next l = MeetsOn l.table l.classes l.fn.work l.work l.inner l.target (take l.next-index (list_at l.classes l.target))

@@ -1,7 +1,0 @@
-use Rattle.std.proofs.Common.{refl}
-use Rattle.mh_ways.proofs.Collecting.{collects_put, way_same}
-use Rattle.mh_ways.specs.contracts.work.WayPartialEq.TheImpl.{ghosts}
-use Rattle.mh_search.proofs.joins.note_way.Goals as goal
-
-pub returns-clause-notes : goal.returns-clause-notes
-returns-clause-notes c = collects_put ghosts.eq (λ x y e. way_same x y _ refl e) c.args.known.now.keys c.insert.new.self.keys c.args.way c.in_ok-fresh.fresh c.in_ok-fresh.ensures.added c.in_ok-fresh.ensures.keys

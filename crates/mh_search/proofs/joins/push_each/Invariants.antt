@@ -1,7 +1,0 @@
-use Rattle.mh_ways.specs.code.Rows.{Gains}
-use Rattle.mh_search.specs.Adding.{WithNext}
-use Rattle.mh_ways.proofs.Gaining.{First}
-use Rattle.mh_search.proofs.joins.push_each.Given as goal
-
-abbrev pub invariant-loop-next : goal.invariant-loop-next
-invariant-loop-next l = Gains (First (WithNext l.cost l.item) l.tokens l.next-index) l.fn.queue.buckets.items l.queue.buckets.items

@@ -1,5 +1,0 @@
-use Rattle.mh_search.specs.Ranking.{BeforeLevel}
-use Rattle.mh_search.proofs.settling.search.Given as goal
-
-abbrev pub invariant-loop-cost : goal.invariant-loop-cost
-invariant-loop-cost l = BeforeLevel l.table l.classes l.found l.cost

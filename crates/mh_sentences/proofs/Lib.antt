@@ -1,4 +1,0 @@
-mod Choosing
-mod Costing
-mod First
-mod Spelled

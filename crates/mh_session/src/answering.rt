@@ -1,0 +1,53 @@
+//! The answer to a line.
+ghost use Rattle.std.specs.Prelude.{◌≡◌};
+ghost use Rattle.mh_grammar.specs.Plain.{plain_of};
+ghost use Rattle.mh_msgfile.specs.Sentences.{vocabulary_in, vocabulary_of};
+ghost use Rattle.mh_session_branches.specs.Answers.{IsKnown};
+ghost use Rattle.mh_session_branches.specs.Lines.{Asks};
+ghost use Rattle.mh_session.specs.Told.{ToldSaid, ToldLine};
+
+use crate::naming::replying;
+use crate::reading::read_command_by;
+use crate::refusals::command_refusal;
+use crate::session::Session;
+use crate::texts::answer_text;
+use mh_grammar::{Grammar, Memory};
+use mh_msgfile::Lexicon;
+use mh_session_branches::Command;
+use std::alloc::Global;
+
+/// The answer to a command.
+fn serve(
+    alloc: Global,
+    grammar: &Grammar,
+    session: &mut Session<'_>,
+    command: &Command,
+) -> Result<Vec<u8>, Memory>
+    requires { IsKnown session.old.table command.now }
+    ensures told { ToldSaid grammar.now (Asks command.now) session.old session.new result }
+    ensures table { session.new.table ≡ session.old.table }
+{
+    let answer = session.step(command);
+    answer_text(alloc, grammar, replying(command), &answer)
+}
+
+/// The text that answers a line of a session on a grammar's table, by the names of that grammar. Whatever branches the
+/// session stands for, it is that of their histories, and the session stands for the branches behind the line then.
+/// Fails for want of memory alone.
+pub fn answer_line(
+    alloc: Global,
+    grammar: &Grammar,
+    lexicon: &Lexicon,
+    session: &mut Session<'_>,
+    line: &[u8],
+) -> Result<Vec<u8>, Memory>
+    requires names { vocabulary_in lexicon.now ≡ vocabulary_of grammar.now }
+    requires same { session.old.table.grammar ≡ plain_of grammar.now }
+    ensures told { ToldLine grammar.now line.now session.old session.new result }
+    ensures table { session.new.table ≡ session.old.table }
+{
+    match read_command_by(alloc, lexicon, line) {
+        Ok(command) => serve(alloc, grammar, session, &command),
+        Err(fault) => command_refusal(alloc, &fault),
+    }
+}

@@ -1,0 +1,20 @@
+//! Whom replies name.
+ghost use Rattle.std.specs.Prelude.{◌≡◌};
+ghost use Rattle.mh_session_branches.specs.Replies.{replying as replying_of};
+
+use mh_session_branches::Command;
+
+/// The name that a reply begins with: behind a fork that of the fresh branch.
+pub(crate) fn replying(command: &Command) -> &[u8]
+    ensures { result.now ≡ replying_of command.now }
+{
+    match command {
+        Command::Begin { name, .. } => name.as_slice(),
+        Command::Offer { name, .. } => name.as_slice(),
+        Command::Resume { name } => name.as_slice(),
+        Command::Fork { fresh, .. } => fresh.as_slice(),
+        Command::Show { name } => name.as_slice(),
+        Command::Tree { name } => name.as_slice(),
+        Command::Forget { name } => name.as_slice(),
+    }
+}

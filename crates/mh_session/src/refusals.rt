@@ -1,0 +1,34 @@
+//! The texts for lines that are no commands.
+ghost use Rattle.std.specs.Prelude.{◌≡◌, ◌++◌, codes, IfOk};
+ghost use Rattle.mh_session.specs.Worded.{IsRefusal};
+
+use mh_grammar::Memory;
+use mh_session_branches::CommandFault;
+use std::alloc::Global;
+
+/// `error: `, some words and a name.
+fn error_on(alloc: Global, words: &[u8], name: &[u8]) -> Result<Vec<u8>, Memory>
+    ensures { IfOk result (λ text. text.items ≡ words.now ++ name.now ++ codes "\n") }
+{
+    let mut text = words.to_vec(alloc)?;
+    text.extend_from_slice(name)?;
+    text.push(b'\n')?;
+    Ok(text)
+}
+
+/// The text for a line that is no command. Fails for want of memory alone, also where the fault is that.
+pub(crate) fn command_refusal(alloc: Global, fault: &CommandFault) -> Result<Vec<u8>, Memory>
+    ensures { IfOk result (λ text. IsRefusal fault.now text.items) }
+{
+    match fault {
+        CommandFault::Unreadable => Ok(b"error: unreadable\n".to_vec(alloc)?),
+        CommandFault::UnknownStart { name } => {
+            error_on(alloc, b"error: unknown start ", name.as_slice())
+        }
+        CommandFault::MissingStart => Ok(b"error: missing start\n".to_vec(alloc)?),
+        CommandFault::UnknownToken { name } => {
+            error_on(alloc, b"error: unknown token ", name.as_slice())
+        }
+        CommandFault::Memory => Err(Memory),
+    }
+}

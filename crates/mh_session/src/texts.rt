@@ -1,0 +1,132 @@
+//! The texts of replies and faults. Each function writes behind what a text holds.
+ghost use Rattle.std.specs.Prelude.{◌≡◌, ◌++◌, IfOk, OnOk, codes};
+ghost use Rattle.mh_session_branches.specs.Replies.{phase_word as word_of, phase_rest, reply_text, fault_text};
+ghost use Rattle.mh_session.specs.Worded.{IsTold};
+ghost use Rattle.mh_session_branches.specs.declared.reply.SessionFault.TheVariants as faults;
+
+use mh_engine::Phase;
+use mh_grammar::{Grammar, Memory, token_name};
+use mh_grammar_texts::{write_number, write_production};
+use mh_session_branches::{Reply, SessionFault};
+use mh_tree::print_tree;
+use std::alloc::Global;
+
+/// The word for a phase.
+fn phase_word(phase: Phase) -> &'static [u8]
+    ensures { result.now ≡ word_of phase }
+{
+    match phase {
+        Phase::InputNeeded { .. } => b"input-needed",
+        Phase::Shifting { .. } => b"shifting",
+        Phase::AboutToReduce { .. } => b"about-to-reduce",
+        Phase::HandlingError { .. } => b"handling-error",
+        Phase::Accepted => b"accepted",
+        Phase::Rejected => b"rejected",
+    }
+}
+
+/// The state of a phase, with the token or the production, each after a space.
+fn write_rest(
+    alloc: Global,
+    text: &mut Vec<u8>,
+    grammar: &Grammar,
+    phase: Phase,
+) -> Result<(), Memory>
+    ensures { OnOk result (text.new.items ≡ text.old.items ++ phase_rest grammar.now phase) }
+{
+    match phase {
+        Phase::InputNeeded { state } => {
+            text.push(b' ')?;
+            write_number(alloc, text, state)
+        }
+        Phase::Shifting { state, token } => {
+            text.push(b' ')?;
+            write_number(alloc, text, state)?;
+            text.push(b' ')?;
+            text.extend_from_slice(token_name(grammar, token))?;
+            Ok(())
+        }
+        Phase::AboutToReduce { state, production } => {
+            text.push(b' ')?;
+            write_number(alloc, text, state)?;
+            text.push(b' ')?;
+            write_production(text, grammar, production)
+        }
+        Phase::HandlingError { state } => {
+            text.push(b' ')?;
+            write_number(alloc, text, state)
+        }
+        Phase::Accepted => Ok(()),
+        Phase::Rejected => Ok(()),
+    }
+}
+
+/// A reply, behind the name of its branch.
+fn write_reply(
+    alloc: Global,
+    text: &mut Vec<u8>,
+    grammar: &Grammar,
+    name: &[u8],
+    reply: &Reply,
+) -> Result<(), Memory>
+    ensures { OnOk result (text.new.items ≡ text.old.items ++ reply_text grammar.now name.now reply.now) }
+{
+    text.extend_from_slice(name)?;
+    match reply {
+        Reply::Phase(phase) => {
+            text.push(b' ')?;
+            text.extend_from_slice(phase_word(*phase))?;
+            write_rest(alloc, text, grammar, *phase)?;
+            text.push(b'\n')?;
+        }
+        Reply::Tree(tree) => {
+            text.push(b' ')?;
+            let shown = print_tree(alloc, grammar, tree)?;
+            text.extend_from_slice(&shown)?;
+            text.push(b'\n')?;
+        }
+        Reply::Forgotten => text.extend_from_slice(b" forgotten\n")?,
+    }
+    Ok(())
+}
+
+fn write_wrong_phase(text: &mut Vec<u8>, phase: Phase) -> Result<(), Memory>
+    ensures { OnOk result (text.new.items ≡ text.old.items ++ codes "error: wrong phase: " ++ word_of phase ++ codes "\n") }
+{
+    text.extend_from_slice(b"error: wrong phase: ")?;
+    text.extend_from_slice(phase_word(phase))?;
+    text.push(b'\n')?;
+    Ok(())
+}
+
+/// A refusal; want of memory has no text.
+fn write_fault(text: &mut Vec<u8>, fault: SessionFault) -> Result<(), Memory>
+    ensures text { OnOk result (text.new.items ≡ text.old.items ++ fault_text fault) }
+    ensures memory { OnOk result (fault ≡ faults.Memory → ⊥) }
+{
+    match fault {
+        SessionFault::UnknownName => text.extend_from_slice(b"error: unknown name\n")?,
+        SessionFault::NameTaken => text.extend_from_slice(b"error: name taken\n")?,
+        SessionFault::WrongPhase { phase } => write_wrong_phase(text, phase)?,
+        SessionFault::TooDeep => text.extend_from_slice(b"error: too deep\n")?,
+        SessionFault::Memory => return Err(Memory),
+    }
+    Ok(())
+}
+
+/// The text of an answer on a branch of this name. Fails for want of memory alone, also where the answer is that.
+pub(crate) fn answer_text(
+    alloc: Global,
+    grammar: &Grammar,
+    name: &[u8],
+    answer: &Result<Reply, SessionFault>,
+) -> Result<Vec<u8>, Memory>
+    ensures { IfOk result (λ text. IsTold grammar.now name.now answer.now text.items) }
+{
+    let mut text = Vec::new(alloc);
+    match answer {
+        Ok(reply) => write_reply(alloc, &mut text, grammar, name, reply)?,
+        Err(fault) => write_fault(&mut text, *fault)?,
+    }
+    Ok(text)
+}

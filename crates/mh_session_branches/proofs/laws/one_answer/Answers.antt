@@ -1,0 +1,5 @@
+use Rattle.mh_session_branches.proofs.Once.{answer_once}
+use Rattle.mh_session_branches.proofs.laws.one_answer.Goals as goal
+
+pub returns : goal.returns
+returns c = answer_once

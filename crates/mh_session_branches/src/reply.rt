@@ -1,0 +1,56 @@
+//! What commands are answered.
+ghost use Rattle.std.specs.Prelude.{◌≡◌};
+ghost use Rattle.mh_session_branches.specs.declared.reply.SessionFault.TheVariants as faults;
+
+use mh_engine::Phase;
+use mh_grammar::Memory;
+use mh_tree::Tree;
+use std::alloc::{AllocError, AllocFailed};
+
+/// What a session answers.
+#[derive(Drop)]
+pub enum Reply {
+    /// The phase of the branch: of the fresh one after a fork, else of the one that was named.
+    Phase(Phase),
+    Tree(Tree),
+    Forgotten,
+}
+
+/// Why a command is refused. What was refused changes nothing.
+#[derive(Clone, Copy)]
+pub enum SessionFault {
+    /// No branch has the name.
+    UnknownName,
+    /// Some branch has the name.
+    NameTaken,
+    /// The branch is in this phase, in which the command is of no use.
+    WrongPhase { phase: Phase },
+    /// The step would make more than 4,000 pairs of a state and a tree, or a tree of a height of more than 4,000.
+    TooDeep,
+    /// Memory ran out.
+    Memory,
+}
+
+impl From<Memory> for SessionFault {
+    ghost from_gives = { λ _ fault. fault ≡ faults.Memory };
+
+    fn from(_: Memory) -> SessionFault {
+        SessionFault::Memory
+    }
+}
+
+impl From<AllocError> for SessionFault {
+    ghost from_gives = { λ _ fault. fault ≡ faults.Memory };
+
+    fn from(_: AllocError) -> SessionFault {
+        SessionFault::Memory
+    }
+}
+
+impl<T: Drop> From<AllocFailed<T>> for SessionFault {
+    ghost from_gives = { λ _ fault. fault ≡ faults.Memory };
+
+    fn from(_: AllocFailed<T>) -> SessionFault {
+        SessionFault::Memory
+    }
+}

@@ -1,5 +1,0 @@
-use Rattle.mh_settling.proofs.Shifting.{AreShiftsSoFar}
-use Rattle.mh_settling.proofs.counting.shifts_of.Given as goal
-
-abbrev pub invariant-loop-edge : goal.invariant-loop-edge
-invariant-loop-edge l = AreShiftsSoFar l.tokens l.edges l.edge-index l.shifts.items

@@ -1,5 +1,0 @@
-use Rattle.std.proofs.Common.{rules}
-use Rattle.mh_settling.proofs.row.all_fit.Goals as goal
-
-pub returns : goal.returns
-returns c = search rules

@@ -1,5 +1,0 @@
-use Rattle.mh_settling.proofs.Rowing.{AreSettledSoFar}
-use Rattle.mh_settling.proofs.row.cells_of.Given as goal
-
-abbrev pub invariant-loop-token : goal.invariant-loop-token
-invariant-loop-token l = AreSettledSoFar l.token l.tallies l.shifts l.cells.items

@@ -1,4 +1,0 @@
-use Rattle.mh_sources.proofs.sources.built.Goals as goal
-
-pub returns-then-canonical : goal.returns-then-canonical
-returns-then-canonical c = rw c.if-canonical.true

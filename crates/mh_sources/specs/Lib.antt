@@ -1,4 +1,0 @@
-pub mod TableTexts
-pub mod TableFile
-pub mod Sources
-pub mod Turns

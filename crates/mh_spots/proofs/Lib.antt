@@ -1,4 +1,0 @@
-pub mod Labelling
-pub mod Spots
-pub mod Tracing
-pub mod Walking

@@ -1,6 +1,0 @@
-mod Reading
-mod Mapped
-mod Named
-mod Itemed
-mod Stating
-mod Counting

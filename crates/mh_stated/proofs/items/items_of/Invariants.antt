@@ -1,6 +1,0 @@
-use Rattle.std.proofs.Common.{take}
-use Rattle.mh_stated.specs.Looking.{AreItemsOf}
-use Rattle.mh_stated.proofs.items.items_of.Given as goal
-
-abbrev pub invariant-loop-raw : goal.invariant-loop-raw
-invariant-loop-raw g l = AreItemsOf l.grammar (take l.raw-index l.raws) l.items.items

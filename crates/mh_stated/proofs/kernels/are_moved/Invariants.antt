@@ -1,7 +1,0 @@
-use Rattle.std.proofs.Common.{◌↔◌, drop}
-use Rattle.std.specs.List.{AllByRecursion}
-use Rattle.mh_stated.specs.Looking.{IsMovedItem}
-use Rattle.mh_stated.proofs.kernels.are_moved.Given as goal
-
-abbrev pub invariant-loop-at : goal.invariant-loop-at
-invariant-loop-at g l = AllByRecursion (IsMovedItem l.grammar) (drop l.at l.items) ↔ AllByRecursion (IsMovedItem l.grammar) l.items

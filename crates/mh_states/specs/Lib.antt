@@ -1,6 +1,0 @@
-pub mod Cores
-pub mod First
-pub mod Fits
-pub mod Kernels
-pub mod Queued
-pub mod Weak

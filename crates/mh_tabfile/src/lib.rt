@@ -1,0 +1,6 @@
+//! Table files: what they hold, read and written. Each part is proved in a crate of its own.
+#![tactic(auto)]
+
+pub use mh_tabfile_form::{RawCell, RawCells, RawEdge, RawItem, RawProduction, RawState, RawTable};
+pub use mh_tabfile_read::{TabFault, content_is_one, fault_is_one, read_tables};
+pub use mh_tabfile_write::{write_tables, written_is_file};

@@ -1,0 +1,4 @@
+pub mod Numbers
+pub mod Versions
+pub mod Form
+pub mod Written

@@ -1,0 +1,5 @@
+use Rattle.mh_tabfile_read.proofs.Only.{same_file}
+use Rattle.mh_tabfile_read.proofs.laws.content_is_one.Goals as goal
+
+pub returns : goal.returns
+returns c = λ one two f g. same_file c.args.bytes.now one two f g

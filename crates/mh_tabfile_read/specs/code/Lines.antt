@@ -1,0 +1,60 @@
+-- Bytes as lines, and what reading them line by line tells.
+use Rattle.std.specs.Prelude.{◌≡◌, ◌+◌, ◌==◌, ℕ, Bool, true, false, if◌then◌else◌, List, [], ◌∷◌, ◌++◌, map, length, Option, Some, None, Result, Ok, Err, codes}
+use Rattle.std.specs.List.{slice_split}
+use Rattle.mh_resolve_cells.specs.declared.kinds.Mode.{Mode}
+use Rattle.mh_tabfile_form.specs.declared.types.RawTable.{RawTable}
+use Rattle.mh_tabfile_read.specs.declared.places.Reader.{Reader}
+use Rattle.mh_tabfile_read.specs.declared.reading.TabFault.{TabFault}
+use Rattle.mh_tabfile_read.specs.declared.reading.TabFault.TheVariants as faults
+use Rattle.mh_tabfile_form.specs.Form.{Line, Begins}
+pub use Rattle.mh_tabfile_form.specs.Versions.{is_other_number}
+use Rattle.mh_tabfile_read.specs.code.Words.{same_word, number_of, mode_of}
+use Rattle.mh_tabfile_read.specs.code.Machine.{run, start, finish}
+
+abbrev pub words_of : List ℕ → Line
+words_of = slice_split (λ b. b == 32)
+
+abbrev pub lines_in : List (List ℕ) → List Line
+lines_in parts = map words_of parts
+
+abbrev pub is_mode : Option Mode → Bool
+is_mode None = false
+is_mode (Some m) = true
+
+abbrev pub are_other : List ℕ → List ℕ → List ℕ → Bool
+are_other w v m = if same_word w (codes "menhir-tables") then (if is_other_number (number_of v) then is_mode (mode_of m) else false) else false
+
+unfoldable pub is_other_head : Line → Bool
+is_other_head [] = false
+is_other_head (w ∷ []) = false
+is_other_head (w ∷ v ∷ []) = false
+is_other_head (w ∷ v ∷ m ∷ []) = are_other w v m
+is_other_head (w ∷ v ∷ m ∷ x ∷ ws) = false
+
+-- the lines before the n-th begin a file, and with it they do not
+pub record IsMisplaced (ls : List Line) (n : ℕ) : Type 0 where
+  pub before : List Line
+  pub line : Line
+  pub rest : List Line
+  pub whole : ls ≡ before ++ line ∷ rest
+  pub begins : Begins before
+  pub first : Begins (before ++ line ∷ []) → ⊥
+  pub number : n ≡ length before + 1
+
+abbrev pub Reaches : List Line → Result Reader TabFault → Type 0
+Reaches ls (Ok r) = run start ls ≡ run r []
+Reaches ls (Err faults.Version) = ⊥
+Reaches ls (Err (faults.TabShape n)) = IsMisplaced ls n
+Reaches ls (Err faults.Memory) = Unit {0}
+
+-- the same, of a reader that is lent
+abbrev pub HasRead : {X : Type 0} → List Line → Reader → Result X TabFault → Type 0
+HasRead ls r (Ok x) = Reaches ls (Ok r)
+HasRead ls r (Err fault) = Reaches ls (Err fault)
+
+-- the file ends here, or may not
+abbrev pub EndsAt : Option RawTable → ℕ → Result RawTable TabFault → Type 0
+EndsAt o at (Ok raw) = o ≡ Some raw
+EndsAt o at (Err faults.Version) = ⊥
+EndsAt o at (Err (faults.TabShape n)) = (o ≡ None) × (n ≡ at)
+EndsAt o at (Err faults.Memory) = Unit {0}

@@ -1,0 +1,216 @@
+//! Table files, read.
+ghost use Rattle.std.specs.Prelude.{◌≡◌, ◌<◌, ◌≤◌, ◌+◌, ◌^◌, ◌==◌, ℕ, max, map, length, IfOk, Err, Ok, ◌⊎◌, true, false};
+ghost use Rattle.std.specs.List.{slice_split};
+ghost use Rattle.mh_tabfile_form.specs.declared.types.RawTable.{RawTable as Raw};
+ghost use Rattle.mh_tabfile_form.specs.Form.{IsFileOf};
+ghost use Rattle.mh_tabfile_read.specs.Reading.{IsOtherVersion, IsReading};
+ghost use Rattle.mh_tabfile_read.specs.code.Machine.{start, next, finish, Goes};
+ghost use Rattle.mh_tabfile_read.specs.code.Words;
+ghost use Rattle.mh_tabfile_read.specs.code.Lines;
+ghost use Rattle.mh_tabfile_read.specs.code.Lines.{words_of, lines_in, Reaches, HasRead, EndsAt, is_other_head as is_head_of_other};
+
+use crate::advance::{Refusal, advance};
+use crate::places::{Place, Reader};
+use crate::words::{is_word, mode_in};
+use mh_grammar::Sequence;
+use mh_resolve_cells::Mode;
+use mh_tabfile_form::{RawTable, first_line, is_open, is_other_number, version_fault};
+use std::alloc::{AllocError, Global};
+
+/// Why bytes are no table file.
+#[derive(Clone, Copy)]
+pub enum TabFault {
+    /// The file is of another version.
+    Version,
+    /// The first line that is not of the form that its place demands, counted from 1.
+    TabShape { line: u32 },
+    /// Memory ran out.
+    Memory,
+}
+
+/// The parts between separators.
+fn cut(alloc: Global, bytes: &[u8], separator: u8) -> Result<Vec<&[u8]>, AllocError>
+    ensures { IfOk result (λ v. map (λ x. x.now) v.items ≡ slice_split (λ b. b == separator) bytes.now) }
+{
+    bytes.split(|byte| *byte == separator).collect(alloc)
+}
+
+fn is_mode(word: &[u8]) -> bool
+    ensures { result ≡ Lines.is_mode (Words.mode_of word.now) }
+{
+    mode_in(word).is_some()
+}
+
+fn are_other(word: &[u8], version: &[u8], mode: &[u8]) -> bool
+    ensures { result ≡ Lines.are_other word.now version.now mode.now }
+{
+    is_word(word, b"menhir-tables") && is_other_number(version) && is_mode(mode)
+}
+
+#[tactic(auto, unfolding(crate::specs::code::Lines::is_other_head))]
+fn is_other_head(words: &[&[u8]]) -> bool
+    ensures { result ≡ is_head_of_other (map (λ w. w.now) words.now) }
+{
+    match words {
+        [word, version, mode] => are_other(word, version, mode),
+        _ => false,
+    }
+}
+
+fn fresh(alloc: Global) -> Reader
+    ensures { result ≡ start }
+{
+    Reader {
+        mode: Mode::Merged,
+        tokens: Sequence::new(alloc),
+        costs: None,
+        starts: Sequence::new(alloc),
+        productions: Sequence::new(alloc),
+        states: Sequence::new(alloc),
+        items: Sequence::new(alloc),
+        edges: Sequence::new(alloc),
+        cells: Sequence::new(alloc),
+        place: Place::Head,
+    }
+}
+
+/// One line more, cut into its words.
+fn read_line(alloc: Global, reader: &mut Reader, part: &[u8]) -> Result<(), Refusal>
+    ensures { Goes (next reader.old (words_of part.now)) reader.new result }
+{
+    let Ok(words) = cut(alloc, part, b' ') else {
+        return Err(Refusal::Memory);
+    };
+    advance(alloc, reader, words.as_slice())
+}
+
+/// Reads lines with a reader that has read none.
+fn read_with(alloc: Global, reader: &mut Reader, parts: &[&[u8]]) -> Result<(), TabFault>
+    requires fresh { reader.old ≡ start }
+    requires few { length parts.now < 2 ^ 32 }
+    ensures { HasRead (lines_in (map (λ x. x.now) parts.now)) reader.new result }
+{
+    for (at, part) in parts.iter().enumerate() {
+        match read_line(alloc, reader, part) {
+            Ok(()) => {}
+            Err(Refusal::Unexpected) => {
+                return Err(TabFault::TabShape {
+                    line: at as u32 + 1,
+                });
+            }
+            Err(Refusal::Memory) => return Err(TabFault::Memory),
+        }
+    }
+    Ok(())
+}
+
+/// Reads lines.
+fn read_lines(alloc: Global, parts: &[&[u8]]) -> Result<Reader, TabFault>
+    requires { length parts.now < 2 ^ 32 }
+    ensures { Reaches (lines_in (map (λ x. x.now) parts.now)) result }
+{
+    let mut reader = fresh(alloc);
+    match read_with(alloc, &mut reader, parts) {
+        Ok(()) => Ok(reader),
+        Err(fault) => {
+            drop(reader);
+            Err(fault)
+        }
+    }
+}
+
+/// A line that is not of the form. What was read is let go in one call: letting go of a reader takes long to prove.
+fn misplaced<T: Drop>(read: T, line: u32) -> Result<RawTable, TabFault>
+    ensures { result ≡ Err (TabFault.TabShape line) }
+{
+    drop(read);
+    Err(TabFault::TabShape { line })
+}
+
+/// The table, where the file may end here.
+#[tactic(auto, unfolding(crate::specs::code::Machine::finish))]
+fn ended(reader: Reader, line: u32) -> Result<RawTable, TabFault>
+    ensures { EndsAt (finish reader) line result }
+{
+    match reader.place {
+        Place::Ended => Ok(RawTable {
+            mode: reader.mode,
+            tokens: reader.tokens,
+            costs: reader.costs,
+            starts: reader.starts,
+            productions: reader.productions,
+            states: reader.states,
+        }),
+        _ => misplaced(reader, line),
+    }
+}
+
+/// The table of a file that is cut into its lines and what stands behind the last LF, where its version is a known one.
+fn read_known(alloc: Global, bytes: &[u8], parts: &[&[u8]]) -> Result<RawTable, TabFault>
+    requires cut { map (λ x. x.now) parts.now ≡ slice_split (λ b. b == 10) bytes.now }
+    requires some { 0 < length parts.now }
+    requires few { length parts.now < 2 ^ 32 }
+    ensures { IsReading bytes.now result }
+{
+    // The clauses alone speak of it.
+    let _bytes = bytes;
+    let count = parts.len() - 1;
+    let reader = match read_lines(alloc, &parts[..count]) {
+        Ok(reader) => reader,
+        Err(fault) => return Err(fault),
+    };
+    if is_open(parts[count]) {
+        return misplaced(reader, count as u32 + 1);
+    }
+    ended(reader, line_of(count as u32))
+}
+
+/// Whether a file that is cut into its lines and what stands behind the last LF is of another version.
+fn is_other(alloc: Global, bytes: &[u8], parts: &[&[u8]]) -> Result<bool, AllocError>
+    requires cut { map (λ x. x.now) parts.now ≡ slice_split (λ b. b == 10) bytes.now }
+    requires some { 0 < length parts.now }
+    ensures { IfOk result (λ other. (other ≡ true → IsOtherVersion bytes.now) × (other ≡ false → IsOtherVersion bytes.now → ⊥)) }
+{
+    // The clauses alone speak of it.
+    let _bytes = bytes;
+    let head = cut(alloc, first_line(parts), b' ')?;
+    Ok(is_other_head(head.as_slice()))
+}
+
+/// The table of a file that is cut into its lines and what stands behind the last LF.
+fn read_parts(alloc: Global, bytes: &[u8], parts: &[&[u8]]) -> Result<RawTable, TabFault>
+    requires cut { map (λ x. x.now) parts.now ≡ slice_split (λ b. b == 10) bytes.now }
+    requires some { 0 < length parts.now }
+    requires few { length parts.now < 2 ^ 32 }
+    ensures reading { IsReading bytes.now result }
+    ensures other { IsOtherVersion bytes.now → (result ≡ Err TabFault.Version) ⊎ (result ≡ Err TabFault.Memory) }
+{
+    let Ok(other) = is_other(alloc, bytes, parts) else {
+        return Err(TabFault::Memory);
+    };
+    match version_fault(other, TabFault::Version) {
+        Some(fault) => Err(fault),
+        None => read_known(alloc, bytes, parts),
+    }
+}
+
+/// The last line of so many, and 1 where there is none.
+fn line_of(count: u32) -> u32
+    ensures { result ≡ max 1 count }
+{
+    if count == 0 { 1 } else { count }
+}
+
+/// What a table file says; or that it is of another version; or the first of its lines that is not of the form that its
+/// place demands.
+pub fn read_tables(alloc: Global, bytes: &[u8]) -> Result<RawTable, TabFault>
+    requires { length bytes.now < 2 ^ 31 }
+    ensures reading { IsReading bytes.now result }
+    ensures other { IsOtherVersion bytes.now → (result ≡ Err TabFault.Version) ⊎ (result ≡ Err TabFault.Memory) }
+    ensures only { (raw : Raw) → IsFileOf bytes.now raw → (result ≡ Ok raw) ⊎ (result ≡ Err TabFault.Memory) }
+{
+    let Ok(parts) = cut(alloc, bytes, b'\n') else {
+        return Err(TabFault::Memory);
+    };
+    read_parts(alloc, bytes, parts.as_slice())
+}

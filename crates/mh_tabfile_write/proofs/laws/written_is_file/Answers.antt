@@ -1,0 +1,6 @@
+use Rattle.std.proofs.Common.{arith, refl}
+use Rattle.mh_tabfile_write.proofs.Legible.{is_written}
+use Rattle.mh_tabfile_write.proofs.laws.written_is_file.Goals as goal
+
+pub returns : goal.returns
+returns g c = is_written c.args.grammar.now c.args.automaton.now c.args.mode c.args.table.now c.requires.names c.requires.range c.requires.automaton c.requires.table c.facts.ensures

@@ -1,0 +1,33 @@
+//! What table files keep: an empty call that says so to contracts.
+ghost use Rattle.std.specs.Prelude.{◌≤◌};
+ghost use Rattle.mh_grammar.specs.Plain.{plain_of, IsInRange};
+ghost use Rattle.mh_items_kernels.specs.Automaton.{IsAutomaton};
+ghost use Rattle.mh_resolve_cells.specs.States.{IsTableOf};
+ghost use Rattle.mh_tabfile_form.specs.Form.{table_text, IsFileOf};
+ghost use Rattle.mh_tabfile_form.specs.Written.{HasWordNames, raw_of};
+
+use mh_grammar::Grammar;
+use mh_items_kernels::Automaton;
+use mh_resolve_cells::Mode;
+use mh_tables_core::Table;
+
+/// What is written of a grammar whose names are words is a file of what was written.
+pub fn written_is_file<const W: usize>(
+    grammar: &Grammar,
+    automaton: &Automaton<W>,
+    table: &Table,
+    mode: Mode,
+)
+    requires few { W ≤ 8 }
+    requires range { IsInRange (plain_of grammar.now) }
+    requires names { HasWordNames grammar.now }
+    requires automaton { IsAutomaton (plain_of grammar.now) automaton.now }
+    requires table { IsTableOf grammar.now automaton.now mode table.now }
+    ensures { IsFileOf (table_text (raw_of grammar.now automaton.now mode table.now.states))
+        (raw_of grammar.now automaton.now mode table.now.states) }
+{
+    let _grammar = grammar;
+    let _automaton = automaton;
+    let _mode = mode;
+    table.facts();
+}

@@ -1,0 +1,434 @@
+//! Table files, written. Each function writes behind what a text holds, and fails for want of memory alone; then a front of
+//! what it writes may be there.
+ghost use Rattle.std.specs.Prelude.{◌≡◌, ◌∷◌, ◌++◌, ◌<◌, ◌≤◌, ◌^◌, [], map, length, codes, decimal, Some, IfOk, OnOk};
+ghost use Rattle.std.specs.List.{All};
+ghost use Rattle.mh_grammar.specs.Plain.{plain_of, IsInRange};
+ghost use Rattle.mh_grammar.specs.Costs.{costs_of};
+ghost use Rattle.mh_grammar.specs.Names.{nonterminal_name as name_of_nonterminal, symbol_name as name_of_symbol};
+ghost use Rattle.mh_items_kernels.specs.Automaton.{IsAutomaton, kernel_at, edges_at};
+ghost use Rattle.mh_tables_core.specs.Table.{state_at};
+ghost use Rattle.mh_resolve_cells.specs.States.{IsTableOf};
+ghost use Rattle.mh_resolve_cells.specs.Names.{look_name as name_of_look};
+ghost use Rattle.mh_tabfile_form.specs.Form.{count_line, production_line, item_line, edge_line, cell_line, fallback_line, cells_lines, state_lines, states_lines, table_text};
+ghost use Rattle.mh_tabfile_form.specs.Written.{raw_production, raw_item, raw_edge, raw_cell, raw_row, raw_cells, raw_state_of, raw_states, raw_of};
+ghost use Rattle.mh_tabfile_write.specs.code.Texts.{words_after, line_written, lines_written};
+
+use mh_grammar::{
+    Edge, Grammar, Memory, Production, Symbol, Token, TokenInfo, nonterminal_name, symbol_name,
+    token_name,
+};
+use mh_items_kernels::{Automaton, KernelItem};
+use mh_report::{look_name, mode_name, write_number};
+use mh_resolve_cells::Mode;
+use mh_sets::TokenSet;
+use mh_tables_core::{Action, Fallback, Table};
+use std::alloc::Global;
+
+/// A word behind another.
+fn write_word(text: &mut Vec<u8>, word: &[u8]) -> Result<(), Memory>
+    ensures { OnOk result (text.new.items ≡ text.old.items ++ 32 ∷ word.now) }
+{
+    text.push(b' ')?;
+    text.extend_from_slice(word)?;
+    Ok(())
+}
+
+/// A number behind a word.
+fn write_numeral(alloc: Global, text: &mut Vec<u8>, number: u32) -> Result<(), Memory>
+    ensures { OnOk result (text.new.items ≡ text.old.items ++ 32 ∷ decimal number) }
+{
+    text.push(b' ')?;
+    write_number(alloc, text, number)
+}
+
+/// A line of a word and a number.
+fn write_count(alloc: Global, text: &mut Vec<u8>, key: &[u8], count: u32) -> Result<(), Memory>
+    ensures { OnOk result (text.new.items ≡ text.old.items ++ line_written (count_line key.now count)) }
+{
+    text.extend_from_slice(key)?;
+    write_numeral(alloc, text, count)?;
+    text.push(b'\n')?;
+    Ok(())
+}
+
+fn write_version(alloc: Global, text: &mut Vec<u8>, version: u32, mode: &[u8]) -> Result<(), Memory>
+    ensures { OnOk result (text.new.items ≡ text.old.items
+        ++ line_written (codes "menhir-tables" ∷ decimal version ∷ mode.now ∷ [])) }
+{
+    text.extend_from_slice(b"menhir-tables")?;
+    write_numeral(alloc, text, version)?;
+    write_word(text, mode)?;
+    text.push(b'\n')?;
+    Ok(())
+}
+
+fn write_token_names(text: &mut Vec<u8>, tokens: &[TokenInfo]) -> Result<(), Memory>
+    ensures { OnOk result (text.new.items ≡ text.old.items
+        ++ words_after (map (λ t. t.name) tokens.now)) }
+{
+    for token in tokens {
+        write_word(text, token.name.as_slice())?;
+    }
+    Ok(())
+}
+
+fn write_token_costs(alloc: Global, text: &mut Vec<u8>, tokens: &[TokenInfo]) -> Result<(), Memory>
+    ensures { OnOk result (text.new.items ≡ text.old.items
+        ++ words_after (map decimal (costs_of tokens.now))) }
+{
+    for token in tokens {
+        write_numeral(alloc, text, token.cost)?;
+    }
+    Ok(())
+}
+
+fn write_start_names(text: &mut Vec<u8>, grammar: &Grammar, starts: &[u16]) -> Result<(), Memory>
+    ensures { OnOk result (text.new.items ≡ text.old.items
+        ++ words_after (map (name_of_nonterminal grammar.now) starts.now)) }
+{
+    for start in starts {
+        write_word(text, nonterminal_name(grammar, *start))?;
+    }
+    Ok(())
+}
+
+fn write_symbol_names(
+    text: &mut Vec<u8>,
+    grammar: &Grammar,
+    symbols: &[Symbol],
+) -> Result<(), Memory>
+    ensures { OnOk result (text.new.items ≡ text.old.items
+        ++ words_after (map (name_of_symbol grammar.now) symbols.now)) }
+{
+    for symbol in symbols {
+        write_word(text, symbol_name(grammar, *symbol))?;
+    }
+    Ok(())
+}
+
+fn write_looks<const W: usize>(
+    text: &mut Vec<u8>,
+    grammar: &Grammar,
+    looks: &TokenSet<W>,
+) -> Result<(), Memory>
+    requires few { W ≤ 8 }
+    ensures { OnOk result (text.new.items ≡ text.old.items
+        ++ words_after (map (name_of_look grammar.now) looks.now)) }
+{
+    for look in looks.looks() {
+        write_word(text, look_name(grammar, look))?;
+    }
+    Ok(())
+}
+
+fn write_tokens(text: &mut Vec<u8>, tokens: &[TokenInfo]) -> Result<(), Memory>
+    ensures { OnOk result (text.new.items ≡ text.old.items
+        ++ line_written (codes "tokens" ∷ map (λ t. t.name) tokens.now)) }
+{
+    text.extend_from_slice(b"tokens")?;
+    write_token_names(text, tokens)?;
+    text.push(b'\n')?;
+    Ok(())
+}
+
+fn write_costs(alloc: Global, text: &mut Vec<u8>, tokens: &[TokenInfo]) -> Result<(), Memory>
+    ensures { OnOk result (text.new.items ≡ text.old.items
+        ++ line_written (codes "costs" ∷ map decimal (costs_of tokens.now))) }
+{
+    text.extend_from_slice(b"costs")?;
+    write_token_costs(alloc, text, tokens)?;
+    text.push(b'\n')?;
+    Ok(())
+}
+
+fn write_starts(text: &mut Vec<u8>, grammar: &Grammar) -> Result<(), Memory>
+    ensures { OnOk result (text.new.items ≡ text.old.items
+        ++ line_written (codes "starts" ∷ map (name_of_nonterminal grammar.now) grammar.now.starts)) }
+{
+    text.extend_from_slice(b"starts")?;
+    write_start_names(text, grammar, grammar.starts.as_slice())?;
+    text.push(b'\n')?;
+    Ok(())
+}
+
+fn write_production(
+    text: &mut Vec<u8>,
+    grammar: &Grammar,
+    production: &Production,
+) -> Result<(), Memory>
+    ensures { OnOk result (text.new.items ≡ text.old.items
+        ++ line_written (production_line (raw_production grammar.now production.now))) }
+{
+    text.extend_from_slice(nonterminal_name(grammar, production.lhs))?;
+    text.extend_from_slice(b" ->")?;
+    write_symbol_names(text, grammar, production.rhs.as_slice())?;
+    text.push(b'\n')?;
+    Ok(())
+}
+
+fn write_productions(
+    text: &mut Vec<u8>,
+    grammar: &Grammar,
+    productions: &[Production],
+) -> Result<(), Memory>
+    ensures { OnOk result (text.new.items ≡ text.old.items
+        ++ lines_written (map production_line (map (raw_production grammar.now) productions.now))) }
+{
+    for production in productions {
+        write_production(text, grammar, production)?;
+    }
+    Ok(())
+}
+
+fn write_item<const W: usize>(
+    alloc: Global,
+    text: &mut Vec<u8>,
+    grammar: &Grammar,
+    item: &KernelItem<W>,
+) -> Result<(), Memory>
+    requires few { W ≤ 8 }
+    ensures { OnOk result (text.new.items ≡ text.old.items
+        ++ line_written (item_line (raw_item grammar.now item.now))) }
+{
+    text.extend_from_slice(b"item")?;
+    write_numeral(alloc, text, item.production)?;
+    write_numeral(alloc, text, item.dot)?;
+    write_looks(text, grammar, &item.looks)?;
+    text.push(b'\n')?;
+    Ok(())
+}
+
+fn write_items<const W: usize>(
+    alloc: Global,
+    text: &mut Vec<u8>,
+    grammar: &Grammar,
+    items: &[KernelItem<W>],
+) -> Result<(), Memory>
+    requires few { W ≤ 8 }
+    ensures { OnOk result (text.new.items ≡ text.old.items
+        ++ lines_written (map item_line (map (raw_item grammar.now) items.now))) }
+{
+    for item in items {
+        write_item(alloc, text, grammar, item)?;
+    }
+    Ok(())
+}
+
+fn write_edge(
+    alloc: Global,
+    text: &mut Vec<u8>,
+    grammar: &Grammar,
+    edge: &Edge,
+) -> Result<(), Memory>
+    ensures { OnOk result (text.new.items ≡ text.old.items
+        ++ line_written (edge_line (raw_edge grammar.now edge.now))) }
+{
+    text.extend_from_slice(b"edge")?;
+    write_word(text, symbol_name(grammar, edge.symbol))?;
+    write_numeral(alloc, text, edge.target)?;
+    text.push(b'\n')?;
+    Ok(())
+}
+
+fn write_edges(
+    alloc: Global,
+    text: &mut Vec<u8>,
+    grammar: &Grammar,
+    edges: &[Edge],
+) -> Result<(), Memory>
+    ensures { OnOk result (text.new.items ≡ text.old.items
+        ++ lines_written (map edge_line (map (raw_edge grammar.now) edges.now))) }
+{
+    for edge in edges {
+        write_edge(alloc, text, grammar, edge)?;
+    }
+    Ok(())
+}
+
+/// The line of a token that acts.
+fn write_acting(
+    alloc: Global,
+    text: &mut Vec<u8>,
+    name: &[u8],
+    verb: &[u8],
+    number: u32,
+) -> Result<(), Memory>
+    ensures { OnOk result (text.new.items ≡ text.old.items
+        ++ line_written (codes "cell" ∷ name.now ∷ verb.now ∷ decimal number ∷ [])) }
+{
+    text.extend_from_slice(b"cell")?;
+    write_word(text, name)?;
+    write_word(text, verb)?;
+    write_numeral(alloc, text, number)?;
+    text.push(b'\n')?;
+    Ok(())
+}
+
+fn write_cell(
+    alloc: Global,
+    text: &mut Vec<u8>,
+    grammar: &Grammar,
+    token: Token,
+    action: Action,
+) -> Result<(), Memory>
+    ensures { OnOk result (text.new.items ≡ text.old.items
+        ++ lines_written (map cell_line (raw_cell grammar.now token action))) }
+{
+    let name = token_name(grammar, token);
+    match action {
+        Action::Shift(target) => write_acting(alloc, text, name, b"shift", target),
+        Action::Reduce(production) => write_acting(alloc, text, name, b"reduce", production),
+        Action::Refuse => Ok(()),
+    }
+}
+
+fn write_cells(
+    alloc: Global,
+    text: &mut Vec<u8>,
+    grammar: &Grammar,
+    table: &Table,
+    state: u32,
+) -> Result<(), Memory>
+    requires state { state < length table.now.states }
+    ensures { OnOk result (text.new.items ≡ text.old.items
+        ++ lines_written (map cell_line (raw_row grammar.now 0 (state_at table.now state).cells))) }
+{
+    table.facts();
+    for token in 0..table.tokens() {
+        write_cell(alloc, text, grammar, token, table.action(state, token))?;
+    }
+    Ok(())
+}
+
+fn write_fallback(alloc: Global, text: &mut Vec<u8>, fallback: Fallback) -> Result<(), Memory>
+    ensures { OnOk result (text.new.items ≡ text.old.items ++ line_written (fallback_line fallback)) }
+{
+    match fallback {
+        Fallback::Accept => {
+            text.extend_from_slice(b"default accept\n")?;
+            Ok(())
+        }
+        Fallback::Reduce(production) => write_count(alloc, text, b"default reduce", production),
+    }
+}
+
+/// The default of a state, or else its cells.
+#[tactic(auto, unfolding(mh_tables_core::specs::Table::fallback_of))]
+fn write_actions(
+    alloc: Global,
+    text: &mut Vec<u8>,
+    grammar: &Grammar,
+    table: &Table,
+    state: u32,
+) -> Result<(), Memory>
+    requires state { state < length table.now.states }
+    ensures { OnOk result (text.new.items ≡ text.old.items
+        ++ lines_written (cells_lines (raw_cells grammar.now (state_at table.now state)))) }
+{
+    match table.fallback(state) {
+        Some(fallback) => write_fallback(alloc, text, fallback),
+        None => write_cells(alloc, text, grammar, table, state),
+    }
+}
+
+fn write_state<const W: usize>(
+    alloc: Global,
+    text: &mut Vec<u8>,
+    grammar: &Grammar,
+    automaton: &Automaton<W>,
+    table: &Table,
+    state: u32,
+) -> Result<(), Memory>
+    requires few { W ≤ 8 }
+    requires kernel { state < length automaton.now.kernels }
+    requires edges { state < length automaton.now.edges }
+    requires state { state < length table.now.states }
+    ensures { OnOk result (text.new.items ≡ text.old.items
+        ++ lines_written (state_lines state (raw_state_of grammar.now
+        (kernel_at automaton.now state) (edges_at automaton.now state)
+        (state_at table.now state)))) }
+{
+    let place = state as usize;
+    write_count(alloc, text, b"state", state)?;
+    write_items(
+        alloc,
+        text,
+        grammar,
+        automaton.kernels[place].items.as_slice(),
+    )?;
+    write_edges(alloc, text, grammar, automaton.edges[place].as_slice())?;
+    write_actions(alloc, text, grammar, table, state)?;
+    Ok(())
+}
+
+fn write_states<const W: usize>(
+    alloc: Global,
+    text: &mut Vec<u8>,
+    grammar: &Grammar,
+    automaton: &Automaton<W>,
+    table: &Table,
+) -> Result<(), Memory>
+    requires few { W ≤ 8 }
+    requires edges { length automaton.now.edges ≡ length automaton.now.kernels }
+    requires states { length table.now.states ≡ length automaton.now.kernels }
+    ensures { OnOk result (text.new.items ≡ text.old.items
+        ++ lines_written (states_lines 0
+        (raw_states grammar.now automaton.now.kernels automaton.now.edges table.now.states))) }
+{
+    for state in 0..table.states() {
+        write_state(alloc, text, grammar, automaton, table, state)?;
+    }
+    Ok(())
+}
+
+/// The table file of a grammar's automaton and table, in version 2. The table is the one that the automaton's states
+/// resolve to in the mode. Fails for want of memory alone.
+pub fn write_tables<const W: usize>(
+    alloc: Global,
+    grammar: &Grammar,
+    automaton: &Automaton<W>,
+    table: &Table,
+    mode: Mode,
+) -> Result<Vec<u8>, Memory>
+    requires few { W ≤ 8 }
+    requires range { IsInRange (plain_of grammar.now) }
+    requires automaton { IsAutomaton (plain_of grammar.now) automaton.now }
+    requires table { IsTableOf grammar.now automaton.now mode table.now }
+    ensures { IfOk result (λ text. text.items
+        ≡ table_text (raw_of grammar.now automaton.now mode table.now.states)) }
+{
+    let mut text = Vec::new(alloc);
+    write_all(alloc, &mut text, grammar, automaton, table, mode)?;
+    Ok(text)
+}
+
+/// The same into a text that is empty.
+fn write_all<const W: usize>(
+    alloc: Global,
+    text: &mut Vec<u8>,
+    grammar: &Grammar,
+    automaton: &Automaton<W>,
+    table: &Table,
+    mode: Mode,
+) -> Result<(), Memory>
+    requires few { W ≤ 8 }
+    requires empty { text.old.items ≡ [] }
+    requires range { IsInRange (plain_of grammar.now) }
+    requires automaton { IsAutomaton (plain_of grammar.now) automaton.now }
+    requires table { IsTableOf grammar.now automaton.now mode table.now }
+    ensures { OnOk result (text.new.items
+        ≡ table_text (raw_of grammar.now automaton.now mode table.now.states)) }
+{
+    let productions = grammar.productions.as_slice();
+    let tokens = grammar.tokens.as_slice();
+    write_version(alloc, text, 2, mode_name(mode))?;
+    write_tokens(text, tokens)?;
+    write_costs(alloc, text, tokens)?;
+    write_starts(text, grammar)?;
+    write_count(alloc, text, b"productions", productions.len() as u32)?;
+    write_productions(text, grammar, productions)?;
+    write_count(alloc, text, b"states", table.states())?;
+    write_states(alloc, text, grammar, automaton, table)?;
+    text.extend_from_slice(b"end\n")?;
+    Ok(())
+}

@@ -1,5 +1,0 @@
-use Rattle.mh_tables.proofs.Catalogues.{catalogue_once}
-use Rattle.mh_tables.proofs.table.Table.one_catalogue.Goals as goal
-
-pub returns : goal.returns
-returns c = catalogue_once c.args.self.now

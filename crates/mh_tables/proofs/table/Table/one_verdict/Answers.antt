@@ -1,6 +1,0 @@
-use Rattle.mh_tables.specs.Run.{initial}
-use Rattle.mh_tables.proofs.Ending.{one_ending}
-use Rattle.mh_tables.proofs.table.Table.one_verdict.Goals as goal
-
-pub returns : goal.returns
-returns c = λ start w a b one other. one_ending c.args.self.now (initial start w) a b one other

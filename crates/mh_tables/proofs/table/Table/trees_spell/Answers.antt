@@ -1,5 +1,0 @@
-use Rattle.mh_tables.proofs.Trees.{stands_from_start}
-use Rattle.mh_tables.proofs.table.Table.trees_spell.Goals as goal
-
-pub returns : goal.returns
-returns c = stands_from_start c.args.self.now c.facts.ensures

@@ -1,5 +1,0 @@
-use Rattle.std.proofs.Common.{◌≡◌, take}
-use Rattle.mh_tables.proofs.table.copies_of.Given as goal
-
-abbrev pub invariant-loop-production : goal.invariant-loop-production
-invariant-loop-production l = l.copies.items ≡ take l.production-index l.productions

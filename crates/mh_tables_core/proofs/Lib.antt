@@ -1,0 +1,15 @@
+pub mod Accepted
+pub mod Asking
+pub mod Catalogues
+pub mod Cut
+pub mod Depth
+pub mod Ending
+pub mod Known
+pub mod Longer
+pub mod OneLoop
+pub mod OneTreeEnding
+pub mod Path
+pub mod Reductions
+pub mod Refusing
+pub mod Settling
+pub mod Trees

@@ -1,0 +1,5 @@
+use Rattle.mh_tables_core.proofs.Ending.{has_verdict}
+use Rattle.mh_tables_core.proofs.halting.Halting.run_ends.Goals as goal
+
+pub returns : goal.returns
+returns c = has_verdict c.args.self.now (rw (← c.self.view_is) c.self.invariant)

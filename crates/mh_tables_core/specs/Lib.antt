@@ -1,0 +1,9 @@
+pub mod Deep
+pub mod Facts
+pub mod Failing
+pub mod Halting
+pub mod Moves
+pub mod Run
+pub mod RunTrees
+pub mod Table
+pub mod TreeRuns

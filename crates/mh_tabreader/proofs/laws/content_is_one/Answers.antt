@@ -1,5 +1,0 @@
-use Rattle.mh_tabreader.proofs.Only.{same_file}
-use Rattle.mh_tabreader.proofs.laws.content_is_one.Goals as goal
-
-pub returns : goal.returns
-returns c = λ one two f g. same_file c.args.bytes.now one two f g

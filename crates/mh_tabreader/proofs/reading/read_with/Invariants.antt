@@ -1,7 +1,0 @@
-use Rattle.std.proofs.Common.{◌≡◌, drop, map}
-use Rattle.mh_tabreader.specs.code.Lines.{lines_in}
-use Rattle.mh_tabreader.specs.code.Machine.{run, start}
-use Rattle.mh_tabreader.proofs.reading.read_with.Given as goal
-
-abbrev pub invariant-loop-at : goal.invariant-loop-at
-invariant-loop-at l = run start (lines_in (map (λ x. x.now) l.parts)) ≡ run l.reader (lines_in (map (λ x. x.now) (drop l.at l.parts)))

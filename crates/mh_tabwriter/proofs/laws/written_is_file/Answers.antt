@@ -1,6 +1,0 @@
-use Rattle.std.proofs.Common.{arith, refl}
-use Rattle.mh_tabwriter.proofs.Legible.{is_written}
-use Rattle.mh_tabwriter.proofs.laws.written_is_file.Goals as goal
-
-pub returns : goal.returns
-returns g c = is_written c.args.grammar.now c.args.automaton.now c.args.mode c.args.table.now c.requires.names c.requires.range c.requires.automaton c.requires.table c.facts.ensures

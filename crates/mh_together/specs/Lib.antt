@@ -1,4 +1,0 @@
-pub mod Files
-pub mod Modes
-pub mod Tables
-pub mod Twice

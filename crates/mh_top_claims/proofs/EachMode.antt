@@ -1,0 +1,215 @@
+-- Each mode by itself: what is proved by a case for each job, each end and each plan, and by nothing else.
+use Rattle.std.proofs.Common.{◌≡◌, ◌∷◌, List, Option, None, Some, [], sym, ◌∙◌, ap, subst, refl}
+use Rattle.std.specs.Bool.{⊤}
+use Rattle.mh_grammar.specs.declared.types.Grammar.{Grammar}
+use Rattle.mh_opts.specs.declared.jobs.Job.{Job}
+use Rattle.mh_opts.specs.declared.jobs.Job.TheVariants.{Interpret, InterpretError, Session, ShowAutomaton, WriteTables, ListErrors, CompareErrors, CompileErrors, EchoErrors, UpdateErrors, Sample}
+use Rattle.mh_outside.specs.Shelf.{Files, Found}
+use Rattle.mh_report.proofs.OneText.{text_once}
+use Rattle.mh_session_branches.proofs.Once.{answer_once as line_once}
+use Rattle.mh_session_branches.specs.Answers.{Branches}
+use Rattle.mh_tables_core.specs.Table.{TableData}
+use Rattle.mh_check.specs.Compiling.{missing}
+use Rattle.mh_check.specs.Texts.{compiled_text}
+use Rattle.mh_msgfile.specs.Printed.{echo_text}
+use Rattle.mh_grammar.specs.Text.{Text}
+use Rattle.mh_top_drive.specs.Causes.{Staged, Go, Halt}
+use Rattle.mh_top_drive.specs.Ways.{Finish}
+use Rattle.mh_top_drive.specs.declared.stop.Cause.{Cause}
+use Rattle.mh_top_drive.specs.declared.stop.Cause.TheVariants.{Refused}
+use Rattle.mh_top_drive.proofs.Binding.{IsOne}
+use Rattle.mh_top_drive.specs.FileStage.{IsFile, IsFound, loaded}
+use Rattle.mh_top_types.specs.Shapes.{Prepared}
+use Rattle.mh_top_plans.specs.Told.{ending_of}
+use Rattle.mh_top_plans.specs.Compared.{compared}
+use Rattle.mh_top_plans.specs.Files.{files_of_job, named}
+use Rattle.mh_top_plans.specs.Listing.{ListsErrors, Lists, TooLong, too_long}
+use Rattle.mh_top_plans.specs.MessagesStage.{AreBoth, AreMessages, IsMessagesFile, IsUpdatedFile, Messages}
+use Rattle.mh_top_plans.specs.Plan.{Answers, Automaton, End, Ends, EndsBy, EndsWith, Errors, Explains, IsPlanOfJob, Judges, Known, MessagesFor, Plan, Serves, halts, judges, plan_by, tables_of, tells, Sampled}
+use Rattle.mh_top_plans.specs.Verdicts.{Answering}
+use Rattle.mh_top_plans.specs.declared.at_end.Told.{Told}
+use Rattle.mh_top_plans.specs.declared.at_end.Told.TheVariants.{Said, Not}
+use Rattle.mh_top_claims.proofs.Answering.{one_once}
+use Rattle.mh_top_plans.proofs.Messaging.{checking, for_unread_halts, messages_for_once, messages_for_right, named_turn, some_checked, some_messages_for, some_spelled, spelling}
+use Rattle.mh_top_claims.proofs.Both.{two_files}
+use Rattle.mh_top_claims.proofs.Updated.{one_updated}
+use Rattle.mh_top_plans.proofs.Reading.{IsRead, Runs, StagedRight, one_file}
+use Rattle.mh_top_plans.proofs.Turning.{Turn, no_turn, turn_of_named}
+use Rattle.mh_top_claims.proofs.Refusals.{list_cause_once, list_out_once}
+use Rattle.mh_top_claims.proofs.Explained.{told_once}
+use Rattle.mh_top_claims.proofs.Counts.{counts_cause_once, counts_out_once, counts_right}
+
+-- ---- for which causes a mode may end
+
+module _ (Right : Cause → Type 0) where
+  abbrev pub IsRight : Option Cause → Type 0
+  IsRight None = ⊤
+  IsRight (Some cause) = Right cause
+
+  -- so it ends, as it stands
+  abbrev pub EndsRight : Plan → Type 0
+  EndsRight (Ends (Known e)) = IsRight e.cause
+  EndsRight plan = ⊤
+
+told_right : (Right : Cause → Type 0) → ((line : Text) → Right (Refused line)) → (told : Told) → IsRight Right (ending_of told).cause
+told_right Right may (Said text) = tt
+told_right Right may (Not line) = may line
+
+-- ---- a job has a plan, and one alone over given files
+
+-- what is known of the plans of a job that reads these files
+pub record Facts (p : Prepared) (names : List Text) (Is : Option Files → Plan → Type 0) : Type 1 where
+  pub some : (files : Option Files) → Runs p → (plan : Plan) × Is files plan
+  pub once : (files : Files) → IsOne (Is (Some files))
+  -- a file whose turn has come, and which gives no bytes, ends the work
+  pub unread : (files : Files) (name : Text) (what : Found) (cause : Cause) (plan : Plan) → Turn p names (Some files) name → IsFound (Some files) name what → loaded name what ≡ Halt cause → Is (Some files) plan → plan ≡ halts cause
+  -- what judges, judges by the table
+  pub judged : (Has : Grammar → TableData → Type 0) (files : Option Files) (by : Answering) → Has p.grammar p.tabled.halting → Is files (Judges by) → Has by.grammar by.table
+  -- it ends for no other cause than it may: it may refuse, and halt at a file
+  pub right : (Right : Cause → Type 0) → ((line : Text) → Right (Refused line)) → (files : Option Files) (plan : Plan) → ((name : Text) (what : Found) (cause : Cause) → Turn p names files name → IsFound files name what → loaded name what ≡ Halt cause → Right cause) → Is files plan → EndsRight Right plan
+
+module _ (p : Prepared) where
+  -- one that reads no file, and judges nothing
+  fixed : (plan : Plan) → ((by : Answering) → Judges by ≡ plan → ⊥) → ((Right : Cause → Type 0) → EndsRight Right plan) → Facts p [] (λ files other. other ≡ plan)
+  fixed plan never ends = record {
+    some = λ files runs. (plan, refl);
+    once = λ files x y is so. is ∙ sym so;
+    unread = λ files name what cause other turn found halt is. absurd (no_turn p (Some files) name turn);
+    judged = λ Has files by has is. absurd (never by is);
+    right = λ Right may files other of_file is. subst (EndsRight Right) (sym is) (ends Right);
+  }
+
+  -- one that reads files, and judges nothing
+  module _ {A : Type 0} (names : List Text) (Has : Option Files → Staged A → Type 0) (read : IsRead p names Has) (plan : A → Plan) (never : (x : A) (by : Answering) → Judges by ≡ plan x → ⊥) (ends : (Right : Cause → Type 0) → ((line : Text) → Right (Refused line)) → (x : A) → EndsRight Right (plan x)) where
+    judges_not : (s : Staged A) (by : Answering) → Judges by ≡ plan_by plan s → ⊥
+    judges_not (Go x) by is = never x by is
+    judges_not (Halt cause) by is = cc
+
+    ends_so : (Right : Cause → Type 0) → ((line : Text) → Right (Refused line)) → (s : Staged A) → StagedRight Right s → EndsRight Right (plan_by plan s)
+    ends_so Right may (Go x) right = ends Right may x
+    ends_so Right may (Halt cause) right = right
+
+    reading : Facts p names (λ files other. (s : Staged A) × Has files s × (other ≡ plan_by plan s))
+    reading = record {
+      some = λ files runs. let s = read.some files runs in (plan_by plan s.0, (s.0, s.1, refl));
+      once = λ files x y is so. is.2 ∙ ap (plan_by plan) (read.once files is.0 so.0 is.1 so.1) ∙ sym so.2;
+      unread = λ files name what cause other turn found halt is. is.2 ∙ ap (plan_by plan) (read.unread files name what cause is.0 turn found halt is.1);
+      judged = λ Has files by has is. absurd (judges_not is.0 by is.2);
+      right = λ Right may files other of_file is. subst (EndsRight Right) (sym is.2) (ends_so Right may is.0 (read.right Right may files is.0 of_file is.1));
+    }
+
+  -- one that judges
+  module _ (Has : Grammar → TableData → Type 0) where
+    judged_by : (x by : Answering) → Judges by ≡ Judges x → Has x.grammar x.table → Has by.grammar by.table
+    judged_by x by e has = let same : x ≡ by = cc in subst (λ (y : Answering). Has y.grammar y.table) same has
+
+    judges_has : (s : Staged (Option Messages)) (by : Answering) → Judges by ≡ plan_by (judges p) s → Has p.grammar p.tabled.halting → Has by.grammar by.table
+    judges_has (Go messages) by is has = judged_by (record { trees = p.order.show_cst; grammar = p.grammar; table = p.tabled.halting; messages = messages }) by is has
+    judges_has (Halt cause) by is has = absurd (cc)
+
+  judges_right : (Right : Cause → Type 0) (s : Staged (Option Messages)) → StagedRight Right s → EndsRight Right (plan_by (judges p) s)
+  judges_right Right (Go messages) right = tt
+  judges_right Right (Halt cause) right = right
+
+  judging : (file : Option Text) → Facts p (named file) (λ files plan. (s : Staged (Option Messages)) × MessagesFor file files p s × (plan ≡ plan_by (judges p) s))
+  judging file = record {
+    some = λ files runs. let s = some_messages_for p runs.halts runs.fit.table.grammar file files in (plan_by (judges p) s.0, (s.0, s.1, refl));
+    once = λ files x y is so. is.2 ∙ ap (plan_by (judges p)) (messages_for_once p file files is.0 so.0 is.1 so.1) ∙ sym so.2;
+    unread = λ files name what cause plan turn found halt is. is.2 ∙ ap (plan_by (judges p)) (for_unread_halts p file files name what cause is.0 (turn_of_named p (Some files) name file turn) found halt is.1);
+    judged = λ Has files by has is. judges_has Has is.0 by is.2 has;
+    right = λ Right may files plan of_file is.
+        subst (EndsRight Right) (sym is.2) (judges_right Right is.0 (messages_for_right p Right may file files is.0 (λ name what cause same found halt. of_file name what cause (named_turn p files file name same) found halt) is.1));
+  }
+
+-- one messages file, checked
+one_checked : (p : Prepared) (file : Text) → IsRead p (file ∷ []) (λ files. IsFile files (AreMessages p.grammar p.tabled.halting) file)
+one_checked p file = one_file p file (AreMessages p.grammar p.tabled.halting) (checking p.grammar p.tabled.halting) (λ runs. some_checked p.grammar p.tabled.halting runs.halts runs.fit.table.grammar)
+
+pub facts_of : (job : Job) (p : Prepared) → Facts p (files_of_job job p.order) (λ files. IsPlanOfJob job files p)
+facts_of Interpret p = judging p p.order.messages
+facts_of InterpretError p = fixed p (Explains p []) (λ by is. cc) (λ Right. tt)
+facts_of Session p = fixed p (Serves p.grammar p.tabled.halting []) (λ by is. cc) (λ Right. tt)
+facts_of ShowAutomaton p = fixed p (Ends (Automaton p)) (λ by is. cc) (λ Right. tt)
+facts_of WriteTables p = fixed p (tells (Said (tables_of p))) (λ by is. cc) (λ Right. tt)
+facts_of ListErrors p = fixed p (Ends (Errors p)) (λ by is. cc) (λ Right. tt)
+facts_of (Sample number) p = fixed p (Ends (Sampled number p)) (λ by is. cc) (λ Right. tt)
+facts_of (CompileErrors file) p = reading p (file ∷ []) (λ files. IsFile files (AreMessages p.grammar p.tabled.halting) file) (one_checked p file) (λ messages. tells (Said (compiled_text messages))) (λ messages by is. cc) (λ Right may messages. tt)
+facts_of (EchoErrors file) p =
+    reading p (file ∷ []) (λ files. IsFile files (IsMessagesFile p.grammar) file) (one_file p file (IsMessagesFile p.grammar) (spelling p.grammar) (λ runs name bytes short. some_spelled p.grammar name bytes)) (λ spelled. tells (Said (echo_text p.grammar spelled))) (λ spelled by is. cc)
+    (λ Right may spelled. tt)
+facts_of (UpdateErrors file) p = reading p (file ∷ []) (λ files. IsUpdatedFile files p file) (one_updated p file) (λ text. tells (Said text)) (λ text by is. cc) (λ Right may text. tt)
+facts_of (CompareErrors first second) p =
+    reading p (first ∷ second ∷ []) (λ files. AreBoth files p first second) (two_files p first second) (λ both. tells (compared first second (missing both.0 both.1))) (λ both by is. cc) (λ Right may both. told_right Right may (compared first second (missing both.0 both.1)))
+
+-- ---- an end is one
+
+pub record EndFacts (end : End) : Type 1 where
+  pub cause : (x y : Finish) → EndsBy end x → EndsBy end y → x.cause ≡ y.cause
+  pub out : (x y : Finish) → EndsBy end x → EndsBy end y → x.out ≡ y.out
+  pub right : (Right : Cause → Type 0) → ((line : Text) → Right (Refused line)) → (e : Finish) → EndsRight Right (Ends end) → EndsBy end e → IsRight Right e.cause
+
+list_right : (p : Prepared) (Right : Cause → Type 0) → ((line : Text) → Right (Refused line)) → (e : Finish) → ListsErrors p.grammar p.tabled.automaton p.tabled.halting e.cause e.out → IsRight Right e.cause
+list_right p Right may e (Lists none cause list) = subst (IsRight Right) (sym cause) tt
+list_right p Right may e (TooLong s long cause out) = subst (IsRight Right) (sym cause) (may (too_long s))
+
+pub end_facts : (end : End) → EndFacts end
+end_facts (Known end) = record {
+  cause = λ x y is so. ap (λ (e : Finish). e.cause) (is ∙ sym so);
+  out = λ x y is so. ap (λ (e : Finish). e.out) (is ∙ sym so);
+  right = λ Right may e right is. subst (IsRight Right) (sym (ap (λ (x : Finish). x.cause) is)) right;
+}
+end_facts (Automaton p) = record {
+  cause = λ x y is so. is.0 ∙ sym so.0;
+  out = λ x y is so. text_once p.grammar p.tabled.automaton p.tabled.mode p.tabled.halting x.out y.out is.1 so.1;
+  right = λ Right may e right is. subst (IsRight Right) (sym is.0) tt;
+}
+end_facts (Errors p) = record {
+  cause = λ x y is so. list_cause_once p.grammar p.tabled.automaton p.tabled.halting x.cause y.cause x.out y.out is so;
+  out = λ x y is so. list_out_once p.grammar p.tabled.automaton p.tabled.halting x.cause y.cause x.out y.out is so;
+  right = λ Right may e right is. list_right p Right may e is;
+}
+end_facts (Sampled number p) = record {
+  cause = λ x y is so. counts_cause_once p.grammar p.tabled.halting number x.cause y.cause x.out y.out is so;
+  out = λ x y is so. counts_out_once p.grammar p.tabled.halting number x.cause y.cause x.out y.out is so;
+  right = λ Right may e right is. counts_right p.grammar p.tabled.halting number (IsRight Right) may tt e.cause e.out is;
+}
+
+-- ---- a line has one answer, and a mode one end
+
+module _ (line : Text) where
+  pub answer_once : (plan : Plan) (a c : Text) (x y : Plan) → Answers plan line a x → Answers plan line c y → (a ≡ c) × (x ≡ y)
+  answer_once (Ends e) a c x y p q = (p.0 ∙ sym q.0, p.1 ∙ sym q.1)
+  answer_once (Judges by) a c x y p q = (one_once by line a c p.0 q.0, p.1 ∙ sym q.1)
+  answer_once (Explains from old) a c x y p q = (p.0 ∙ sym q.0, p.1 ∙ sym q.1)
+  answer_once (Serves g t branches) a c x y p q =
+      let same = line_once g t branches line a c p.0 q.0 p.1 q.1 in (same.0, p.2 ∙ ap (λ (after : Branches). Serves g t after) same.1 ∙ sym q.2)
+
+explained_once : (p : Prepared) (line : Text) (x y : Finish) → EndsWith (Explains p line) x → EndsWith (Explains p line) y → x ≡ y
+explained_once p line x y is so = is.2 ∙ ap ending_of (told_once p line is.0 so.0 is.1 so.1) ∙ sym so.2
+
+pub cause_once : (plan : Plan) (x y : Finish) → EndsWith plan x → EndsWith plan y → x.cause ≡ y.cause
+cause_once (Ends end) x y is so = (end_facts end).cause x y is so
+cause_once (Judges by) x y is so = ap (λ (end : Finish). end.cause) (is ∙ sym so)
+cause_once (Explains p line) x y is so = ap (λ (end : Finish). end.cause) (explained_once p line x y is so)
+cause_once (Serves g t branches) x y is so = ap (λ (end : Finish). end.cause) (is ∙ sym so)
+
+pub out_once : (plan : Plan) (x y : Finish) → EndsWith plan x → EndsWith plan y → x.out ≡ y.out
+out_once (Ends end) x y is so = (end_facts end).out x y is so
+out_once (Judges by) x y is so = ap (λ (end : Finish). end.out) (is ∙ sym so)
+out_once (Explains p line) x y is so = ap (λ (end : Finish). end.out) (explained_once p line x y is so)
+out_once (Serves g t branches) x y is so = ap (λ (end : Finish). end.out) (is ∙ sym so)
+
+-- ---- a mode ends for no other cause than it may
+
+module _ (Right : Cause → Type 0) (may_refuse : (line : Text) → Right (Refused line)) where
+  pub answer_right : (plan : Plan) (line text : Text) (next : Plan) → Answers plan line text next → EndsRight Right plan → EndsRight Right next
+  answer_right (Ends e) line text next is right = subst (EndsRight Right) (sym is.1) right
+  answer_right (Judges by) line text next is right = subst (EndsRight Right) (sym is.1) tt
+  answer_right (Explains p old) line text next is right = subst (EndsRight Right) (sym is.1) tt
+  answer_right (Serves g t branches) line text next is right = subst (EndsRight Right) (sym is.2) tt
+
+  pub ends_right : (plan : Plan) (e : Finish) → EndsRight Right plan → EndsWith plan e → IsRight Right e.cause
+  ends_right (Ends end) e right is = (end_facts end).right Right may_refuse e right is
+  ends_right (Judges by) e right is = subst (IsRight Right) (sym (ap (λ (x : Finish). x.cause) is)) tt
+  ends_right (Explains p line) e right is = subst (IsRight Right) (sym (ap (λ (x : Finish). x.cause) is.2)) (told_right Right may_refuse is.0)
+  ends_right (Serves g t branches) e right is = subst (IsRight Right) (sym (ap (λ (x : Finish). x.cause) is)) tt

@@ -1,0 +1,180 @@
+-- How the work goes on: from the grammar to the table, the warnings, and the mode.
+use Rattle.std.proofs.Common.{◌≡◌, ◌≤◌, inl, inr, ℕ, List, [], arith, Option, None, Some, Bool, true, false, ◌&&◌, refl, sym, ◌∙◌, subst}
+use Rattle.std.proofs.KnownBytes.{Appends-nil}
+use Rattle.std.specs.Prelude.{Result, Ok, Err}
+use Rattle.std.specs.Io.KnownBytes.{Appends}
+use Rattle.mh_outside.specs.Shelf.{Files}
+use Rattle.mh_grammar.specs.Text.{Text}
+use Rattle.mh_top_drive.specs.Causes.{Staged, Go, Halt, Then, Gives}
+use Rattle.mh_top_load.specs.Order.{staged_order}
+use Rattle.mh_top_load.specs.GrammarTurns.{IsGrammarTurn}
+use Rattle.mh_top_plans.specs.Plan.{Plan, IsPlanOfJob, halts, by_plan}
+use Rattle.mh_top_plans.specs.Files.{IsTurnOfJob}
+use Rattle.mh_top_plans.proofs.Following.{ended_halts}
+use Rattle.mh_top_drive.specs.Stages.{FilesGive, ShelfCounts, StageHas, Halts as HaltsWith}
+use Rattle.mh_top_load.specs.FrontStage.{IsFront}
+use Rattle.mh_top_claims.specs.Preparing.{IsPrepared, IsTabledFront}
+use Rattle.mh_top_claims.specs.Work.{IsPlanOf, IsPlanUnless, Work, has_warning, warnings_of}
+use Rattle.mh_top_drive.specs.Ways.{left_behind}
+use Rattle.mh_top_drive.specs.Drive.{Ended, LeftIs, Ran}
+use Rattle.mh_top_drive.specs.Steps.{Counts, FileCounts, OutCounts}
+use Rattle.mh_top_plans.specs.Modes.{Followed, IsUnopened}
+use Rattle.mh_top_claims.specs.Saying.{Warned, Worked}
+use Rattle.mh_top_claims.specs.Run.{World, Behind, Nothing, Warned as Said, Begun, IsDue, OfGrammar, OfTables, OfMode, IsStill, IsTurnBehind, IsTurnUnless}
+use Rattle.mh_top_types.specs.declared.front.Front.{Front}
+use Rattle.mh_top_types.specs.Shapes.{Prepared}
+use Rattle.mh_top_drive.specs.declared.stop.Cause.{Cause}
+use Rattle.mh_top_drive.specs.declared.stop.Cause.TheVariants.{Refused}
+use Rattle.mh_top_drive.specs.declared.stop.Stop.{Stop}
+use Rattle.mh_top_drive.specs.declared.stop.Stop.TheVariants.{Halted, ShelfFailed, InputFailed, WriteFailed, OutOfMemory}
+use Rattle.mh_top_drive.proofs.Binding.{names_wider, then_on, then_stops}
+
+pub prepared_so : (words : List Text) (files : Option Files) (front : Front) (p : Prepared) → IsFront words files (Go front) → IsTabledFront files front (Go p) → IsPrepared words files (Go p)
+prepared_so words files front p is has = (Go front, is, has)
+
+-- ---- nothing was written yet
+
+pub record IsUntouched (b a : World) : Type 0 where
+  pub out : a.out ≡ b.out
+  pub err : a.err ≡ b.err
+  pub left : a.left ≡ b.left
+  pub input_faults : a.input_faults ≡ b.input_faults
+  pub out_faults : a.out_faults ≡ b.out_faults
+  pub err_faults : a.err_faults ≡ b.err_faults
+
+module _ (words : List Text) (b a : World) (same : IsUntouched b a) where
+  still : IsStill b a
+  still = record { out = same.out; left = same.left; input_faults = same.input_faults; out_faults = same.out_faults }
+
+  no_err : Appends b.err a.err []
+  no_err = subst (λ x. Appends b.err x []) (sym same.err) (Appends-nil b.err)
+
+  left_same : (old new : Option Text) → new ≡ old → LeftIs (left_behind old true []) new
+  left_same None new is = tt
+  left_same (Some input) new is = is
+
+  ended_before : (cause : Cause) → Ended by_plan (halts cause) b.left a.left b.out a.out (Some cause)
+  ended_before cause = record {
+    outcome = record { cause = Some cause; out = []; left = left_behind b.left true [] };
+    yields = record { lines = []; whole = true; asks = (refl, refl); text = []; last = halts cause; answers = (refl, refl); ends = (_, refl, refl, refl); left_is = refl };
+    cause_is = refl;
+    on_out = subst (λ x. Appends b.out x []) (sym same.out) (Appends-nil b.out);
+    left_is = left_same b.left a.left same.left;
+  }
+
+  -- it halts before the warnings
+  pub stops_before : (stop : Stop) → ShelfCounts {A = Prepared} b.shelf_faults a.shelf_faults (Err stop) → FilesGive {A = Prepared} (IsPrepared words b.files) (IsDue words b.files []) (Err stop) → Worked words b a (Err stop)
+  stops_before (Halted cause) counts has = (
+    record { shelf = counts; input = same.input_faults; out = same.out_faults; err = same.err_faults },
+    record { work = record { warnings = []; plan = halts cause }; is_asked = (Halt cause, has, refl); at = ended_before cause; on_err = no_err },
+  )
+  stops_before (ShelfFailed name) counts has = (counts.1, record { out = same.out_faults; err = same.err_faults }, ([], has, still, no_err))
+  stops_before OutOfMemory counts has = (record { out = same.out_faults; err = same.err_faults }, same.input_faults, Nothing still no_err)
+  stops_before InputFailed counts has = absurd has
+  stops_before WriteFailed counts has = absurd has
+
+  pub front_stops : (stop : Stop) → ShelfCounts {A = Front} b.shelf_faults a.shelf_faults (Err stop) → FilesGive {A = Front} (IsFront words b.files) (IsGrammarTurn words b.files) (Err stop) → Worked words b a (Err stop)
+  front_stops stop counts has =
+      stops_before stop (counts_of stop counts) (then_stops (IsFront words b.files) (IsTabledFront b.files) (IsDue words b.files []) stop
+      (names_wider (IsFront words b.files) (IsGrammarTurn words b.files) (IsDue words b.files []) (Err stop) (λ name turn. OfGrammar turn.0 turn.1 turn.2 refl) has))
+    where
+      counts_of : (s : Stop) → ShelfCounts {A = Front} b.shelf_faults a.shelf_faults (Err s) → ShelfCounts {A = Prepared} b.shelf_faults a.shelf_faults (Err s)
+      counts_of (Halted cause) h = h
+      counts_of (ShelfFailed name) h = h
+      counts_of OutOfMemory h = h
+      counts_of InputFailed h = h
+      counts_of WriteFailed h = h
+
+  -- the table's stage stops
+  pub prepare_stops : (front : Front) (stop : Stop) → IsFront words b.files (Go front) → ShelfCounts {A = Prepared} b.shelf_faults a.shelf_faults (Err stop) → FilesGive {A = Prepared} (IsTabledFront b.files front) (λ name. front.order.tables ≡ Some name) (Err stop) → Worked words b a (Err stop)
+  prepare_stops front stop is counts has =
+      stops_before stop counts (then_on (IsFront words b.files) (IsTabledFront b.files) (IsDue words b.files []) front (Err stop) is
+      (names_wider (IsTabledFront b.files front) (λ name. front.order.tables ≡ Some name) (IsDue words b.files []) (Err stop) (λ name named. OfTables (front, is, named) refl) has))
+
+-- ---- the warnings
+
+module _ (words : List Text) (b : World) (p : Prepared) (is : IsPrepared words b.files (Go p)) (err : Option Text) (n : ℕ) where
+  pub warning_stops : (stop : Stop) → Warned (warnings_of p) b.err err (Err stop) → OutCounts {T = Unit {0}} b.err_faults n (Err stop) → Worked words b (record b { err = err; err_faults = n }) (Err stop)
+  warning_stops WriteFailed wrote counts = inl (counts.1, record { prepared = p; is_asked = is; still = record { out = refl; left = refl; input_faults = refl; out_faults = refl }; on_err = wrote })
+  warning_stops OutOfMemory wrote counts = (
+    record { out = refl; err = counts },
+    refl,
+    Nothing (record { out = refl; left = refl; input_faults = refl; out_faults = refl }) (subst (λ x. Appends b.err x []) (sym wrote) (Appends-nil b.err)),
+  )
+  warning_stops (Halted cause) wrote counts = absurd wrote
+  warning_stops (ShelfFailed name) wrote counts = absurd wrote
+  warning_stops InputFailed wrote counts = absurd wrote
+
+-- ---- the mode
+
+module _ (words : List Text) (b a : World) (p : Prepared) (is : IsPrepared words b.files (Go p)) (on_err : Appends b.err a.err (warnings_of p)) (err_calm : a.err_faults ≡ b.err_faults) where
+  module _ (plan : Plan) (is_plan : IsPlanOf b.files p plan) where
+    behind : (At : Work → Type 0) → At (record { warnings = warnings_of p; plan = plan }) → Behind words b At (Appends b.err a.err)
+    behind At at = record { work = record { warnings = warnings_of p; plan = plan }; is_asked = (Go p, is, (refl, is_plan)); at = at; on_err = on_err }
+
+    plan_ran : (r : Result (Unit {0}) Stop) → Ran by_plan plan b.left a.left b.out a.out r → Counts b.input_faults a.input_faults b.out_faults a.out_faults r → FileCounts b.shelf_faults a.shelf_faults r → Worked words b a r
+    plan_ran (Ok u) ran counts read = (record { shelf = read; input = counts.0; out = counts.1; err = err_calm }, behind _ ran)
+    plan_ran (Err (Halted cause)) ran counts read = (record { shelf = read; input = counts.0; out = counts.1; err = err_calm }, behind _ ran)
+    plan_ran (Err (ShelfFailed name)) ran counts read = absurd ran
+    plan_ran (Err InputFailed) ran counts read = (counts.1, record { out = counts.2; err = err_calm }, behind _ ran)
+    plan_ran (Err WriteFailed) ran counts read = inr (counts.2, counts.0, err_calm, behind _ ran)
+    plan_ran (Err OutOfMemory) ran counts read = (record { out = counts.1; err = err_calm }, counts.0, Begun (behind _ ran))
+
+  not_opened : (r : Result (Unit {0}) Stop) → IsUnopened (IsTurnBehind b.files p) r → a.left ≡ b.left → a.out ≡ b.out → Counts b.input_faults a.input_faults b.out_faults a.out_faults r → FileCounts b.shelf_faults a.shelf_faults r → Worked words b a r
+  not_opened (Err OutOfMemory) want left out counts read =
+      (record { out = counts.1; err = err_calm }, counts.0, Said p is (record { out = out; left = left; input_faults = counts.0; out_faults = counts.1 }) on_err)
+  not_opened (Err (ShelfFailed name)) turn left out counts read =
+      (read.1, record { out = counts.1; err = err_calm }, (warnings_of p, OfMode p is turn refl, record { out = out; left = left; input_faults = counts.0; out_faults = counts.1 }, on_err))
+  not_opened (Ok u) want left out counts read = absurd want
+  not_opened (Err (Halted cause)) want left out counts read = absurd want
+  not_opened (Err InputFailed) want left out counts read = absurd want
+  not_opened (Err WriteFailed) want left out counts read = absurd want
+
+  pub followed : (r : Result (Unit {0}) Stop) → Followed (IsPlanOf b.files p) (IsTurnBehind b.files p) b.left a.left b.out a.out r → Counts b.input_faults a.input_faults b.out_faults a.out_faults r → FileCounts b.shelf_faults a.shelf_faults r → Worked words b a r
+  followed r (inl h) counts read = plan_ran h.0 h.1 r h.2 counts read
+  followed r (inr h) counts read = not_opened r h.0 h.1 h.2 counts read
+
+-- ---- a shelf that was read from, and holds the same
+
+pub worked_same : (words : List Text) (b a : World) (files : Option Files) (n : ℕ) (r : Result (Unit {0}) Stop) → files ≡ b.files → n ≡ b.shelf_faults → Worked words (record b { files = files; shelf_faults = n }) a r → Worked words b a r
+worked_same words b a files n r same calm worked = subst (λ (x : World). Worked words x a r) (λ i. record b { files = same i; shelf_faults = calm i }) worked
+
+-- ---- the refusal by `--strict`
+
+pub refused_followed : (files : Option Files) (p : Prepared) (test : Bool) (stop : Stop) (left out : Option Text) → test ≡ true → test ≡ (p.order.strict && has_warning p.tabled.conflicts) → HaltsWith (Refused []) stop → Followed (IsPlanOf files p) (IsTurnBehind files p) left left out out (Err stop)
+refused_followed files p test (Halted cause) left out holds is halt =
+    let plan : IsPlanOf files p (halts (Refused [])) = subst (λ (b : Bool). IsPlanUnless b files p (halts (Refused []))) (sym holds ∙ is) refl in
+    inl (halts (Refused []), plan, subst (λ (c : Cause). Ended by_plan (halts (Refused [])) left left out out (Some c)) (sym halt) (ended_halts (Refused []) left out))
+refused_followed files p test OutOfMemory left out holds is halt = inr (tt, refl, refl)
+refused_followed files p test (ShelfFailed name) left out holds is halt = absurd halt
+refused_followed files p test InputFailed left out holds is halt = absurd halt
+refused_followed files p test WriteFailed left out holds is halt = absurd halt
+
+-- no file was read for it
+pub refused_read : (cause : Cause) (n : ℕ) (stop : Stop) → HaltsWith cause stop → FileCounts {T = Unit {0}} n n (Err stop)
+refused_read cause n (Halted given) halt = refl
+refused_read cause n OutOfMemory halt = omega arith
+refused_read cause n (ShelfFailed name) halt = absurd halt
+refused_read cause n InputFailed halt = absurd halt
+refused_read cause n WriteFailed halt = absurd halt
+
+-- ---- the mode that follows else
+
+module _ (files : Option Files) (p : Prepared) (test : Bool) (no_test : test ≡ false) (test_is : test ≡ (p.order.strict && has_warning p.tabled.conflicts)) where
+  plan_goes : (plan : Plan) → IsPlanOfJob p.order.job files p plan → IsPlanOf files p plan
+  plan_goes plan planned = subst (λ (b : Bool). IsPlanUnless b files p plan) (sym no_test ∙ test_is) planned
+
+  turn_goes : (name : Text) → IsTurnOfJob p.order.job files p name → IsTurnBehind files p name
+  turn_goes name turn = subst (λ (b : Bool). IsTurnUnless b files p name) (sym no_test ∙ test_is) turn
+
+  unopened_goes : (r : Result (Unit {0}) Stop) → IsUnopened (IsTurnOfJob p.order.job files p) r → IsUnopened (IsTurnBehind files p) r
+  unopened_goes (Err OutOfMemory) is = tt
+  unopened_goes (Err (ShelfFailed name)) is = turn_goes name is
+  unopened_goes (Ok u) is = absurd is
+  unopened_goes (Err (Halted cause)) is = absurd is
+  unopened_goes (Err InputFailed) is = absurd is
+  unopened_goes (Err WriteFailed) is = absurd is
+
+  pub accepted_followed : (in0 in1 out0 out1 : Option Text) (r : Result (Unit {0}) Stop) → Followed (IsPlanOfJob p.order.job files p) (IsTurnOfJob p.order.job files p) in0 in1 out0 out1 r → Followed (IsPlanOf files p) (IsTurnBehind files p) in0 in1 out0 out1 r
+  accepted_followed in0 in1 out0 out1 r (inl ran) = inl (ran.0, plan_goes ran.0 ran.1, ran.2)
+  accepted_followed in0 in1 out0 out1 r (inr not) = inr (unopened_goes r not.0, not.1, not.2)

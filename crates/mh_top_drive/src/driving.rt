@@ -1,0 +1,224 @@
+//! A mode over an input and an output: the lines that it asks for are answered, each before the next is asked for, and then its
+//! end is written. After the first write that fails nothing is written, and no line is taken.
+ghost use Rattle.std.specs.Prelude.{◌≡◌, ◌<◌, ◌^◌, length, IfOk};
+ghost use Rattle.mh_top_drive.specs.Drive.{Ran};
+ghost use Rattle.mh_top_drive.specs.Opening.{Driven, IsOpened};
+ghost use Rattle.mh_top_drive.specs.Steps.{AnswerRan, Counts, EndRan, InputCounts, LineRan, LinesRan, NextRan, OutCounts, PastRan, StopIs, WriteRan};
+ghost use Rattle.mh_grammar.specs.Text.{Text};
+ghost use Rattle.mh_top_drive.specs.Ways.{Way, most as most_of};
+
+use crate::stop::{Cause, Stop};
+use mh_grammar::Memory;
+use mh_outside::{LineFault, Sink, Source, read_line, write_whole};
+use std::alloc::Global;
+
+/// An input line has at most 1 MiB.
+pub const LINE_LIMIT: usize = 1024 * 1024;
+
+/// The input has at most so many lines.
+pub const MAX_LINES: usize = 1_000_000;
+
+/// Which lines of the input a mode asks for.
+#[derive(Clone, Copy)]
+pub enum Asks {
+    NoLine,
+    FirstLine,
+    EachLine,
+}
+
+impl Asks {
+    /// How many lines it may ask for.
+    fn most(self) -> usize
+        ensures { result ≡ most_of self }
+    {
+        match self {
+            Asks::NoLine => 0,
+            Asks::FirstLine => 1,
+            Asks::EachLine => MAX_LINES,
+        }
+    }
+}
+
+/// A mode as it stands, between lines.
+pub trait Mode {
+    /// How a mode may stand, between lines.
+    ghost State: { Type 0 };
+
+    /// What it asks for, answers and writes at its end, where it stands so.
+    ghost way: { Way State };
+
+    /// The plans that a value stands for.
+    ghost Is: { Self → State → Type 0 };
+
+    /// Which lines it asks for.
+    fn asks(&self) -> Asks
+        ensures { (plan : State) → Is self.now plan → result ≡ way.asks_of plan };
+
+    /// The text that answers a line. Each line may change the mode.
+    fn answer(&mut self, alloc: Global, line: &[u8]) -> Result<Vec<u8>, Memory>
+        requires short { length line.now < 2 ^ 32 }
+        requires some { (plan : State) × Is self.old plan }
+        ensures { (plan : State) → Is self.old plan → (next : State) × Is self.new next × IfOk result (λ text.
+            way.Answers plan line.now text.items next) };
+
+    /// Writes what stands behind the answers: in one piece, or piece by piece as it is made. It may halt.
+    fn end<O: Sink>(self, alloc: Global, out: &mut O) -> Result<(), Stop>
+        requires some { (plan : State) × Is self plan }
+        ensures text { (plan : State) → Is self plan → EndRan (way.EndsWith plan) (O.written out.old) (O.written out.new) result }
+        ensures counts { OutCounts (O.faults out.old) (O.faults out.new) result };
+}
+
+/// Writes a text.
+pub fn write_text<O: Sink>(out: &mut O, text: &[u8]) -> Result<(), Stop>
+    ensures text { WriteRan text.now (O.written out.old) (O.written out.new) result }
+    ensures counts { OutCounts (O.faults out.old) (O.faults out.new) result }
+{
+    match write_whole(out, text) {
+        Ok(()) => Ok(()),
+        Err(_) => Err(Stop::WriteFailed),
+    }
+}
+
+fn stop_of(fault: LineFault) -> Stop
+    ensures { StopIs fault result }
+{
+    match fault {
+        LineFault::Failed => Stop::InputFailed,
+        LineFault::TooBig => Stop::Halted {
+            cause: Cause::LongInput,
+        },
+        LineFault::Memory => Stop::OutOfMemory,
+    }
+}
+
+/// Answers a line.
+fn answer_line<O: Sink, M: Mode>(
+    alloc: Global,
+    out: &mut O,
+    mode: &mut M,
+    line: &[u8],
+) -> Result<(), Stop>
+    requires short { length line.now < 2 ^ 32 }
+    requires some { (plan : M.State) × M.Is mode.old plan }
+    ensures text { (plan : M.State) → M.Is mode.old plan → (next : M.State) × M.Is mode.new next × AnswerRan M.way plan next line.now
+        (O.written out.old) (O.written out.new) result }
+    ensures counts { OutCounts (O.faults out.old) (O.faults out.new) result }
+{
+    let text = mode.answer(alloc, line)?;
+    write_text(out, &text)
+}
+
+/// Takes the next line, where there is one.
+fn next_line<I: Source>(alloc: Global, input: &mut I) -> Result<Option<Vec<u8>>, Stop>
+    ensures line { NextRan (I.left input.old) (I.left input.new) result }
+    ensures counts { InputCounts (I.faults input.old) (I.faults input.new) result }
+{
+    match read_line(alloc, input, LINE_LIMIT) {
+        Ok(line) => Ok(line),
+        Err(fault) => Err(stop_of(fault)),
+    }
+}
+
+/// Takes the next line, where there is one, and answers it. Says whether there was one.
+fn take_line<I: Source, O: Sink, M: Mode>(
+    alloc: Global,
+    input: &mut I,
+    out: &mut O,
+    mode: &mut M,
+) -> Result<bool, Stop>
+    requires some { (plan : M.State) × M.Is mode.old plan }
+    ensures ran { (plan : M.State) → M.Is mode.old plan → (next : M.State) × M.Is mode.new next × LineRan M.way plan next
+        (I.left input.old) (I.left input.new) (O.written out.old) (O.written out.new) result }
+    ensures counts { Counts (I.faults input.old) (I.faults input.new)
+        (O.faults out.old) (O.faults out.new) result }
+{
+    match next_line(alloc, input) {
+        Ok(None) => Ok(false),
+        Ok(Some(line)) => match answer_line(alloc, out, mode, &line) {
+            Ok(()) => Ok(true),
+            Err(stop) => Err(stop),
+        },
+        Err(stop) => Err(stop),
+    }
+}
+
+/// One line more is too many.
+fn past_last<I: Source>(alloc: Global, input: &mut I) -> Result<(), Stop>
+    ensures ran { PastRan (I.left input.old) (I.left input.new) result }
+    ensures counts { InputCounts (I.faults input.old) (I.faults input.new) result }
+{
+    match read_line(alloc, input, 0) {
+        Ok(None) => Ok(()),
+        Ok(Some(_)) => Err(Stop::Halted {
+            cause: Cause::LongInput,
+        }),
+        Err(fault) => Err(stop_of(fault)),
+    }
+}
+
+/// Answers the lines that a mode asks for.
+fn ask<I: Source, O: Sink, M: Mode>(
+    alloc: Global,
+    input: &mut I,
+    out: &mut O,
+    mode: &mut M,
+) -> Result<(), Stop>
+    requires some { (plan : M.State) × M.Is mode.old plan }
+    ensures ran { (plan : M.State) → M.Is mode.old plan → (next : M.State) × M.Is mode.new next × LinesRan M.way plan
+        (I.left input.old) (I.left input.new) (O.written out.old) (O.written out.new) next result }
+    ensures counts { Counts (I.faults input.old) (I.faults input.new)
+        (O.faults out.old) (O.faults out.new) result }
+{
+    let asks = mode.asks();
+    for _ in 0..asks.most() {
+        match take_line(alloc, input, out, mode) {
+            Ok(true) => {}
+            Ok(false) => return Ok(()),
+            Err(stop) => return Err(stop),
+        }
+    }
+    match asks {
+        Asks::EachLine => past_last(alloc, input),
+        Asks::FirstLine => Ok(()),
+        Asks::NoLine => Ok(()),
+    }
+}
+
+/// Runs a mode that was opened over the input and out.
+pub fn drive_opened<I: Source, O: Sink, M: Mode + Drop>(
+    alloc: Global,
+    opened: Result<M, Stop>,
+    input: &mut I,
+    out: &mut O,
+) -> Result<(), Stop>
+    requires some { IsOpened M.Is opened }
+    ensures ran { Driven M.way M.Is opened (I.left input.old) (I.left input.new)
+        (O.written out.old) (O.written out.new) result }
+    ensures counts { Counts (I.faults input.old) (I.faults input.new)
+        (O.faults out.old) (O.faults out.new) result }
+{
+    match opened {
+        Ok(mode) => drive(alloc, mode, input, out),
+        Err(stop) => Err(stop),
+    }
+}
+
+/// Runs a mode over the input and out.
+pub fn drive<I: Source, O: Sink, M: Mode + Drop>(
+    alloc: Global,
+    mode: M,
+    input: &mut I,
+    out: &mut O,
+) -> Result<(), Stop>
+    requires some { (plan : M.State) × M.Is mode plan }
+    ensures ran { (plan : M.State) → M.Is mode plan → Ran M.way plan (I.left input.old) (I.left input.new)
+        (O.written out.old) (O.written out.new) result }
+    ensures counts { Counts (I.faults input.old) (I.faults input.new)
+        (O.faults out.old) (O.faults out.new) result }
+{
+    let mut mode = mode;
+    match ask(alloc, input, out, &mut mode) {
+        Ok(()) => mode.end(alloc, out),
+        Err(stop) => Err(stop),
+    }
+}

@@ -1,0 +1,25 @@
+-- The counts of a sample, as they are written.
+use Rattle.std.proofs.Common.{◌≡◌, ℕ, List, length, Option, None, refl, subst, inl}
+use Rattle.std.specs.Prelude.{Result, Ok, Err}
+use Rattle.mh_grammar.specs.Text.{Text}
+use Rattle.mh_tables_core.specs.Failing.{Row, Catalogue, TooLongAt}
+use Rattle.mh_sample.specs.Counts.{IsSampleLine}
+use Rattle.mh_top_drive.specs.Steps.{EndRan}
+use Rattle.mh_top_drive.specs.declared.stop.Stop.{Stop}
+use Rattle.mh_top_drive.specs.declared.stop.Stop.TheVariants.{Halted, ShelfFailed, InputFailed, WriteFailed, OutOfMemory}
+use Rattle.mh_top_types.specs.Shapes.{Prepared}
+use Rattle.mh_top_plans.specs.Plan.{EndsBy, Sampled}
+use Rattle.mh_top_plans.specs.Sampled.{Counts}
+use Rattle.mh_top_lists.specs.Entries.{TextRan}
+
+module _ (p : Prepared) (number : ℕ) (none : (s : ℕ) → TooLongAt p.tabled.halting s → ⊥) (rows : List Row) (is : Catalogue p.tabled.halting rows) (listed : ℕ) (all : listed ≡ length rows) (out0 out1 : Option Text) where
+  counts_of : (text : Text) → IsSampleLine p.grammar p.tabled.halting number listed text → EndsBy (Sampled number p) (record { cause = None; out = text })
+  counts_of text line = Counts none refl (record { rows = rows; catalogue = is; line = subst (λ (n : ℕ). IsSampleLine p.grammar p.tabled.halting number n text) all line })
+
+  pub counts_ran : (r : Result (Unit {0}) Stop) → TextRan (IsSampleLine p.grammar p.tabled.halting number listed) out0 out1 r → EndRan (EndsBy (Sampled number p)) out0 out1 r
+  counts_ran (Ok u) ran = (record { cause = None; out = ran.0 }, counts_of ran.0 ran.1, refl, ran.2)
+  counts_ran (Err WriteFailed) ran = (record { cause = None; out = ran.0 }, counts_of ran.0 ran.1, ran.2)
+  counts_ran (Err OutOfMemory) ran = inl ran
+  counts_ran (Err (Halted cause)) ran = absurd ran
+  counts_ran (Err (ShelfFailed name)) ran = absurd ran
+  counts_ran (Err InputFailed) ran = absurd ran

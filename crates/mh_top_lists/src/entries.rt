@@ -1,0 +1,60 @@
+//! The entries of rows, one behind the other.
+ghost use Rattle.std.specs.Prelude.{◌≤◌};
+ghost use Rattle.mh_catalogue_rows.specs.Rows.{row_of, rows_of};
+ghost use Rattle.mh_top_lists.specs.Entries.{AreEntriesOf, AreRowsFit, IsEntryOf, IsRowFit, PartRan, TextRan};
+ghost use Rattle.mh_top_types.specs.Prepared.{IsFit};
+ghost use Rattle.mh_top_drive.specs.Steps.{OutCounts};
+
+use mh_catalogue_rows::Row;
+use mh_outside::Sink;
+use mh_report_comments::entry_text;
+use mh_top_drive::{Stop, write_text};
+use mh_top_types::Prepared;
+use std::alloc::Global;
+
+/// Writes the entry of a row.
+fn write_entry<O: Sink, const W: usize>(
+    alloc: Global,
+    prepared: &Prepared<W>,
+    row: &Row,
+    out: &mut O,
+) -> Result<(), Stop>
+    requires few { W ≤ 8 }
+    requires fit { IsFit prepared.now }
+    requires row { IsRowFit prepared.now.tabled.halting (row_of row.now) }
+    ensures text { TextRan (IsEntryOf prepared.now (row_of row.now)) (O.written out.old) (O.written out.new) result }
+    ensures counts { OutCounts (O.faults out.old) (O.faults out.new) result }
+{
+    let text = entry_text(
+        alloc,
+        &prepared.grammar,
+        &prepared.tabled.automaton,
+        &prepared.tabled.halting,
+        row.start,
+        row.sentence.as_slice(),
+    )?;
+    write_text(out, &text)
+}
+
+/// Writes the entries of rows, each as it is made.
+pub(crate) fn write_entries<O: Sink, const W: usize>(
+    alloc: Global,
+    prepared: &Prepared<W>,
+    rows: &[Row],
+    out: &mut O,
+) -> Result<(), Stop>
+    requires few { W ≤ 8 }
+    requires fit { IsFit prepared.now }
+    requires rows { AreRowsFit prepared.now.tabled.halting (rows_of rows.now) }
+    ensures text { PartRan (AreEntriesOf prepared.now (rows_of rows.now)) (O.written out.old) (O.written out.new) result }
+    ensures counts { OutCounts (O.faults out.old) (O.faults out.new) result }
+{
+    let _facts = prepared.tabled.halting.table();
+    for row in rows {
+        match write_entry(alloc, prepared, row, out) {
+            Ok(()) => {}
+            Err(stop) => return Err(stop),
+        }
+    }
+    Ok(())
+}

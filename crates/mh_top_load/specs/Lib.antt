@@ -1,0 +1,9 @@
+pub mod Texts
+pub mod ModuleFaults
+pub mod GrammarFile
+pub mod Modules
+pub mod GrammarStage
+pub mod Order
+pub mod FrontStage
+pub mod GrammarTurns
+pub mod UsageFaults

@@ -1,0 +1,74 @@
+//! The modules of an order: those of its grammar files, or that of the sample, which is read as a file with a name of its own.
+ghost use Rattle.std.specs.Prelude.{◌≡◌, ◌<◌, ◌^◌, ◌∷◌, [], List, ℕ, length, IfOk};
+ghost use Rattle.std.specs.List.{All};
+ghost use Rattle.mh_sample.specs.Texts.{grammar_text};
+ghost use Rattle.mh_top_drive.specs.Stages.{FilesGive, ShelfCounts, StageHas, listed};
+ghost use Rattle.mh_top_load.specs.GrammarFile.{IsModule};
+ghost use Rattle.mh_top_load.specs.Modules.{AreModules, IsSampleModule, grammar_files, sample_of as sample_in};
+ghost use Rattle.mh_top_drive.specs.Turns.{IsTurn};
+
+use crate::grammar_file::{GrammarFiles, module_in};
+use mh_grammar::Memory;
+use mh_opts::{Job, Order};
+use mh_outside::Shelf;
+use mh_reader_parser::Module;
+use mh_sample::sample_grammar;
+use mh_top_drive::{Stop, read_files};
+use std::alloc::Global;
+
+/// The number of the sample that a job asks for.
+fn sample_of(job: &Job) -> Option<u32>
+    ensures { result ≡ sample_in job.now }
+{
+    match job {
+        Job::Sample { number } => Some(*number),
+        _ => None,
+    }
+}
+
+/// The text of the sample's grammar, which is short enough to be read.
+fn sample_text(alloc: Global, number: u32) -> Result<Vec<u8>, Memory>
+    ensures text { IfOk result (λ text. text.items ≡ grammar_text number) }
+    ensures short { IfOk result (λ text. length text.items < 2 ^ 31) }
+{
+    sample_grammar(alloc, number)
+}
+
+/// A module alone.
+fn alone(alloc: Global, made: Module) -> Result<Vec<Module>, Memory>
+    ensures { IfOk result (λ modules. modules.items ≡ made ∷ []) }
+{
+    let mut modules = Vec::new(alloc);
+    modules.push(made)?;
+    Ok(modules)
+}
+
+/// The module of a sample, alone.
+fn sample_modules(alloc: Global, number: u32) -> Result<Vec<Module>, Stop>
+    ensures { StageHas (IsSampleModule number) (listed result) }
+{
+    let text = sample_text(alloc, number)?;
+    match module_in(alloc, b"sample", &text) {
+        Ok(made) => Ok(alone(alloc, made)?),
+        Err(stop) => Err(stop),
+    }
+}
+
+/// The modules of an order.
+pub(crate) fn modules_of<F: Shelf>(
+    alloc: Global,
+    shelf: &mut F,
+    order: &Order,
+) -> Result<Vec<Module>, Stop>
+    requires asked { All (F.MayAsk shelf.old) (grammar_files order.now) }
+    ensures modules { FilesGive (AreModules (F.files shelf.old) order.now)
+        (IsTurn (F.files shelf.old) IsModule (grammar_files order.now)) (listed result) }
+    ensures may_still { IfOk result (λ items. (other : List ℕ) → F.MayAsk shelf.old other → F.MayAsk shelf.new other) }
+    ensures kept { F.files shelf.new ≡ F.files shelf.old }
+    ensures counts { ShelfCounts (F.faults shelf.old) (F.faults shelf.new) result }
+{
+    match sample_of(&order.job) {
+        Some(number) => sample_modules(alloc, number),
+        None => read_files(alloc, shelf, &GrammarFiles, order.grammars.as_slice()),
+    }
+}

@@ -1,0 +1,18 @@
+use Rattle.std.specs.Prelude.{Ok, Err}
+use Rattle.mh_check.specs.Compiling.{missing}
+use Rattle.mh_opts.specs.declared.jobs.Job.TheVariants.{CompareErrors}
+use Rattle.mh_top_plans.specs.Compared.{compared}
+use Rattle.mh_top_plans.specs.Files.{IsTurnOfJob}
+use Rattle.mh_top_plans.specs.MessagesStage.{AreBoth}
+use Rattle.mh_top_plans.specs.Modes.{Tells}
+use Rattle.mh_top_plans.specs.Plan.{tells}
+use Rattle.mh_top_plans.proofs.Messaging.{stage_opens}
+use Rattle.mh_top_modes.proofs.comparing.compare_by.Goals as goal
+
+pub returns-in-Err-clause-opens : goal.returns-in-Err-clause-opens
+returns-in-Err-clause-opens g c =
+    let p = c.args.prepared.now in
+    let files = g.F.Shelf.files c.args.shelf.now in
+    let first = c.args.first.now in
+    let second = c.args.second.now in
+    stage_opens (AreBoth files p first second) (IsTurnOfJob (CompareErrors first second) files p) Tells (λ both. tells (compared first second (missing both.0 both.1))) c.in-Err.stop c.in-Err.ensures.both

@@ -1,0 +1,279 @@
+//! Verdicts on the input's lines.
+ghost use Rattle.std.specs.Prelude.{◌≡◌, ◌<◌, ◌≤◌, ◌^◌, ◌++◌, List, ℕ, length, IfOk, OnOk};
+ghost use Rattle.std.specs.List.{All};
+ghost use Rattle.mh_grammar.specs.Plain.{plain_of};
+ghost use Rattle.mh_engine.specs.Outcomes.{tree_ending_for};
+ghost use Rattle.mh_run.specs.Verdicts.{ending_for};
+ghost use Rattle.mh_msgfile.specs.Sentences.{vocabulary_in, vocabulary_of};
+ghost use Rattle.mh_check.specs.Compiling.{message_at};
+ghost use Rattle.mh_top_plans.specs.Modes.{Followed, Opens};
+ghost use Rattle.mh_opts.specs.declared.jobs.Job.TheVariants.{Interpret as Interpret'};
+ghost use Rattle.mh_top_plans.specs.Plan.{Judges, IsPlanOfJob, MessagesFor};
+ghost use Rattle.mh_top_plans.specs.Files.{IsTurnOfJob, named};
+ghost use Rattle.mh_top_drive.specs.Stages.{FilesGive, ShelfCounts};
+ghost use Rattle.mh_top_drive.specs.Steps.{Counts, FileCounts};
+ghost use Rattle.mh_top_types.specs.Prepared.{IsFit};
+ghost use Rattle.mh_top_plans.specs.Verdicts.{AnswersOne, IsOutcomeText, IsVerdictText, SentenceText, message_or, outcome_text as outcome_line, refusal_text as refusal_line, verdict_text as verdict_line};
+
+use mh_check::Compiled;
+use mh_engine::{TreeOutcome, run_with_trees};
+use mh_grammar::{Grammar, Memory, Sentence};
+use mh_msgfile::{Lexicon, SentenceFault};
+use mh_outside::{Shelf, Sink, Source};
+use mh_report::write_number;
+use mh_run::{Verdict, verdict};
+use mh_tables_core::Halting;
+use mh_top_drive::{Asks, Mode, Stop, drive_opened, joined};
+use mh_top_plans::read_messages_file;
+use mh_top_types::Prepared;
+use mh_tree::print_tree;
+use std::alloc::Global;
+
+/// What answers each line with its verdict.
+#[derive(Drop)]
+struct Judging<'a> {
+    /// Whether what is accepted has its tree.
+    trees: bool,
+    grammar: &'a Grammar,
+    lexicon: Lexicon,
+    halting: &'a Halting,
+    /// The messages of what is refused.
+    messages: Option<Compiled>,
+    ghost numbers: { vocabulary_in lexicon ≡ vocabulary_of grammar.now },
+    ghost same: { halting.now.grammar ≡ plain_of grammar.now },
+}
+
+/// Writes the message of a state, or that there is none.
+fn write_message(
+    alloc: Global,
+    text: &mut Vec<u8>,
+    messages: &Compiled,
+    state: u32,
+) -> Result<(), Memory>
+    ensures { OnOk result (text.new.items ≡ text.old.items ++ message_or state (message_at messages.now state)) }
+{
+    match messages.message(state) {
+        Some(message) => text.extend_from_slice(message)?,
+        None => {
+            text.extend_from_slice(b"no message for state ")?;
+            write_number(alloc, text, state)?;
+            text.push(b'\n')?;
+        }
+    }
+    Ok(())
+}
+
+/// The words for a refusal in a state, and what stands behind them.
+fn refusal_text(alloc: Global, messages: &Option<Compiled>, state: u32) -> Result<Vec<u8>, Memory>
+    ensures { IfOk result (λ text. text.items ≡ refusal_line messages.now state) }
+{
+    let mut text = b"REJECT\n".to_vec(alloc)?;
+    if let Some(messages) = messages {
+        write_message(alloc, &mut text, messages, state)?;
+    }
+    Ok(text)
+}
+
+/// The words for a verdict.
+fn verdict_text(
+    alloc: Global,
+    messages: &Option<Compiled>,
+    verdict: Verdict,
+) -> Result<Vec<u8>, Memory>
+    ensures { IfOk result (λ text. text.items ≡ verdict_line messages.now (ending_for verdict)) }
+{
+    match verdict {
+        Verdict::Accept { .. } => Ok(b"ACCEPT\n".to_vec(alloc)?),
+        Verdict::Overshoot { .. } => Ok(b"OVERSHOOT\n".to_vec(alloc)?),
+        Verdict::Reject { state, .. } => refusal_text(alloc, messages, state),
+    }
+}
+
+/// The answer to a sentence by its verdict.
+fn verdict_answer(alloc: Global, by: &Judging<'_>, sentence: &Sentence) -> Result<Vec<u8>, Memory>
+    requires start { sentence.now.start < length by.now.halting.now.grammar.starts }
+    requires tokens { All (λ z. z < by.now.halting.now.grammar.tokens) sentence.now.tokens }
+    requires few { length sentence.now.tokens < 2 ^ 32 }
+    ensures { IfOk result (λ text. IsVerdictText by.now.halting.now by.now.messages sentence.now text.items) }
+{
+    let verdict = verdict(
+        alloc,
+        by.halting,
+        sentence.start,
+        sentence.tokens.as_slice(),
+    )?;
+    verdict_text(alloc, &by.messages, verdict)
+}
+
+/// The words for how a run with its trees ends, and the tree.
+fn outcome_text(alloc: Global, by: &Judging<'_>, outcome: &TreeOutcome) -> Result<Vec<u8>, Memory>
+    ensures { IfOk result (λ text. text.items ≡ outcome_line by.now.grammar.now by.now.messages (tree_ending_for outcome.now)) }
+{
+    match outcome {
+        TreeOutcome::Accept { tree, .. } => {
+            let tree = print_tree(alloc, by.grammar, tree)?;
+            let text = joined(alloc, b"ACCEPT\n", &tree, b"\n")?;
+            Ok(text.into_vec())
+        }
+        TreeOutcome::Overshoot { .. } => Ok(b"OVERSHOOT\n".to_vec(alloc)?),
+        TreeOutcome::Reject { state, .. } => refusal_text(alloc, &by.messages, *state),
+        TreeOutcome::TooDeep => Ok(b"TOODEEP\n".to_vec(alloc)?),
+    }
+}
+
+/// The answer to a sentence by its run with trees.
+fn tree_answer(alloc: Global, by: &Judging<'_>, sentence: &Sentence) -> Result<Vec<u8>, Memory>
+    requires start { sentence.now.start < length by.now.halting.now.grammar.starts }
+    requires tokens { All (λ z. z < by.now.halting.now.grammar.tokens) sentence.now.tokens }
+    requires few { length sentence.now.tokens < 2 ^ 32 }
+    ensures { IfOk result (λ text. IsOutcomeText by.now.grammar.now by.now.halting.now by.now.messages sentence.now text.items) }
+{
+    let outcome = run_with_trees(
+        alloc,
+        by.halting,
+        sentence.start,
+        sentence.tokens.as_slice(),
+    )?;
+    outcome_text(alloc, by, &outcome)
+}
+
+/// The answer to a sentence.
+fn sentence_text(alloc: Global, by: &Judging<'_>, sentence: &Sentence) -> Result<Vec<u8>, Memory>
+    requires start { sentence.now.start < length by.now.halting.now.grammar.starts }
+    requires tokens { All (λ z. z < by.now.halting.now.grammar.tokens) sentence.now.tokens }
+    requires few { length sentence.now.tokens < 2 ^ 32 }
+    ensures { IfOk result (λ text.
+        SentenceText by.now.trees by.now.grammar.now by.now.halting.now by.now.messages sentence.now text.items) }
+{
+    if by.trees {
+        tree_answer(alloc, by, sentence)
+    } else {
+        verdict_answer(alloc, by, sentence)
+    }
+}
+
+/// The text that answers a line.
+fn line_text(alloc: Global, by: &Judging<'_>, line: &[u8]) -> Result<Vec<u8>, Memory>
+    requires short { length line.now < 2 ^ 32 }
+    ensures { IfOk result (λ text. AnswersOne
+        (record { trees = by.now.trees; grammar = by.now.grammar.now; table = by.now.halting.now; messages = by.now.messages })
+        line.now text.items) }
+{
+    match by.lexicon.read(alloc, line) {
+        Ok(sentence) => sentence_text(alloc, by, &sentence),
+        Err(SentenceFault::Unreadable) => Ok(b"ERROR unreadable\n".to_vec(alloc)?),
+        Err(SentenceFault::UnknownStart { name }) => {
+            let text = joined(alloc, b"ERROR unknown start ", name.as_slice(), b"\n")?;
+            Ok(text.into_vec())
+        }
+        Err(SentenceFault::MissingStart) => Ok(b"ERROR missing start\n".to_vec(alloc)?),
+        Err(SentenceFault::UnknownToken { name }) => {
+            let text = joined(alloc, b"ERROR unknown token ", name.as_slice(), b"\n")?;
+            Ok(text.into_vec())
+        }
+        Err(SentenceFault::Memory) => Err(Memory),
+    }
+}
+
+impl<'a> Mode for Judging<'a> {
+    ghost use Rattle.std.specs.Prelude.{◌≡◌};
+    ghost use Rattle.mh_top_plans.specs.Plan.{Plan, by_plan, Judges};
+
+    ghost State = { Plan };
+
+    ghost way = { by_plan };
+
+    ghost Is = { λ s plan. plan ≡ Judges (record { trees = s.trees; grammar = s.grammar.now; table = s.halting.now; messages = s.messages }) };
+
+    fn asks(&self) -> Asks {
+        Asks::EachLine
+    }
+
+    fn answer(&mut self, alloc: Global, line: &[u8]) -> Result<Vec<u8>, Memory> {
+        line_text(alloc, self, line)
+    }
+
+    fn end<O: Sink>(self, _alloc: Global, _out: &mut O) -> Result<(), Stop> {
+        Ok(())
+    }
+}
+
+/// The messages that an order names, where it names a file of them.
+fn messages_for<F: Shelf, const W: usize>(
+    alloc: Global,
+    prepared: &Prepared<W>,
+    shelf: &mut F,
+) -> Result<Option<Compiled>, Stop>
+    requires few { W ≤ 8 }
+    requires fit { IsFit prepared.now }
+    requires asked { All (F.MayAsk shelf.old) (named prepared.now.order.messages) }
+    ensures messages { FilesGive (MessagesFor prepared.now.order.messages (F.files shelf.old) prepared.now)
+        (IsTurnOfJob Interpret' (F.files shelf.old) prepared.now) result }
+    ensures kept { F.files shelf.new ≡ F.files shelf.old }
+    ensures counts { ShelfCounts (F.faults shelf.old) (F.faults shelf.new) result }
+{
+    match &prepared.order.messages {
+        None => Ok(None),
+        Some(name) => match read_messages_file(alloc, prepared, shelf, name.as_slice()) {
+            Ok(messages) => Ok(Some(messages)),
+            Err(stop) => Err(stop),
+        },
+    }
+}
+
+/// What judges by the table, with the messages that the order names.
+fn judge_by<'a, F: Shelf, const W: usize>(
+    alloc: Global,
+    prepared: &'a Prepared<W>,
+    shelf: &mut F,
+) -> Result<Judging<'a>, Stop>
+    requires few { W ≤ 8 }
+    requires fit { IsFit prepared.now }
+    requires asked { All (F.MayAsk shelf.old) (named prepared.now.order.messages) }
+    ensures opens { Opens (λ by plan. plan ≡ Judges (record { trees = by.trees; grammar = by.grammar.now; table = by.halting.now; messages = by.messages }))
+        (IsPlanOfJob Interpret' (F.files shelf.old) prepared.now)
+        (IsTurnOfJob Interpret' (F.files shelf.old) prepared.now) result }
+    ensures counts { ShelfCounts (F.faults shelf.old) (F.faults shelf.new) result }
+    ensures kept { F.files shelf.new ≡ F.files shelf.old }
+{
+    let grammar = &prepared.grammar;
+    let halting = &prepared.tabled.halting;
+    halting.table().facts();
+    let messages = match messages_for(alloc, prepared, shelf) {
+        Ok(messages) => messages,
+        Err(stop) => return Err(stop),
+    };
+    match Lexicon::new(alloc, grammar) {
+        Ok(lexicon) => Ok(Judging {
+            trees: prepared.order.show_cst,
+            grammar,
+            lexicon,
+            halting,
+            messages,
+        }),
+        Err(_) => Err(Stop::OutOfMemory),
+    }
+}
+
+/// Answers each line of the input with its verdict.
+pub fn interpret<F: Shelf, I: Source, O: Sink, const W: usize>(
+    alloc: Global,
+    prepared: &Prepared<W>,
+    shelf: &mut F,
+    input: &mut I,
+    out: &mut O,
+) -> Result<(), Stop>
+    requires few { W ≤ 8 }
+    requires fit { IsFit prepared.now }
+    requires asked { All (F.MayAsk shelf.old) (named prepared.now.order.messages) }
+    ensures ran { Followed (IsPlanOfJob Interpret' (F.files shelf.old) prepared.now)
+        (IsTurnOfJob Interpret' (F.files shelf.old) prepared.now)
+        (I.left input.old) (I.left input.new) (O.written out.old) (O.written out.new) result }
+    ensures counts { Counts (I.faults input.old) (I.faults input.new)
+        (O.faults out.old) (O.faults out.new) result }
+    ensures read { FileCounts (F.faults shelf.old) (F.faults shelf.new) result }
+    ensures kept { F.files shelf.new ≡ F.files shelf.old }
+{
+    let opened = judge_by(alloc, prepared, shelf);
+    drive_opened(alloc, opened, input, out)
+}

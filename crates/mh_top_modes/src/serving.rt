@@ -1,0 +1,93 @@
+//! Sessions on the input's lines.
+ghost use Rattle.std.specs.Prelude.{◌≡◌, ◌≤◌, []};
+ghost use Rattle.mh_grammar.specs.Plain.{plain_of};
+ghost use Rattle.mh_msgfile.specs.Sentences.{vocabulary_in, vocabulary_of};
+ghost use Rattle.mh_session_branches.specs.Answers.{Branches};
+ghost use Rattle.mh_session.specs.Standing.{StandsFor};
+ghost use Rattle.mh_top_drive.specs.Steps.{Counts};
+ghost use Rattle.mh_top_plans.specs.Modes.{Followed, Opens};
+ghost use Rattle.mh_top_plans.specs.Plan.{Serves};
+ghost use Rattle.mh_top_types.specs.Prepared.{IsFit};
+
+use mh_grammar::{Grammar, Memory};
+use mh_msgfile::Lexicon;
+use mh_outside::{Sink, Source};
+use mh_session::{Session, answer_line};
+use mh_top_drive::{Asks, Mode, Stop, drive_opened};
+use mh_top_types::Prepared;
+use std::alloc::Global;
+
+/// What answers each line as a command on named branches.
+#[derive(Drop)]
+struct Serving<'a> {
+    grammar: &'a Grammar,
+    lexicon: Lexicon,
+    session: Session<'a>,
+    ghost names: { vocabulary_in lexicon ≡ vocabulary_of grammar.now },
+    ghost same: { session.table.grammar ≡ plain_of grammar.now },
+}
+
+impl<'a> Mode for Serving<'a> {
+    ghost use Rattle.std.specs.Prelude.{◌≡◌};
+    ghost use Rattle.mh_session_branches.specs.Answers.{Branches};
+    ghost use Rattle.mh_session.specs.Standing.{StandsFor};
+    ghost use Rattle.mh_top_plans.specs.Plan.{Plan, by_plan, Serves};
+
+    ghost State = { Plan };
+
+    ghost way = { by_plan };
+
+    ghost Is = { λ s plan. (branches : Branches) × StandsFor s.session branches × (plan ≡ Serves s.grammar.now s.session.table branches) };
+
+    fn asks(&self) -> Asks {
+        Asks::EachLine
+    }
+
+    fn answer(&mut self, alloc: Global, line: &[u8]) -> Result<Vec<u8>, Memory> {
+        answer_line(alloc, self.grammar, &self.lexicon, &mut self.session, line)
+    }
+
+    fn end<O: Sink>(self, _alloc: Global, _out: &mut O) -> Result<(), Stop> {
+        Ok(())
+    }
+}
+
+/// What answers the commands of a session on the table, from no names on.
+fn serve_on<'a, const W: usize>(
+    alloc: Global,
+    prepared: &'a Prepared<W>,
+) -> Result<Serving<'a>, Stop>
+    requires few { W ≤ 8 }
+    requires fit { IsFit prepared.now }
+    ensures { Opens (λ by plan. (branches : Branches) × StandsFor by.session branches × (plan ≡ Serves by.grammar.now by.session.table branches))
+        (λ plan. plan ≡ Serves prepared.now.grammar prepared.now.tabled.halting [])
+        (λ name. ⊥) result }
+{
+    let grammar = &prepared.grammar;
+    match Lexicon::new(alloc, grammar) {
+        Ok(lexicon) => Ok(Serving {
+            grammar,
+            lexicon,
+            session: Session::new(alloc, &prepared.tabled.halting),
+        }),
+        Err(_) => Err(Stop::OutOfMemory),
+    }
+}
+
+/// Answers each line of the input as a command on named branches.
+pub fn run_session<I: Source, O: Sink, const W: usize>(
+    alloc: Global,
+    prepared: &Prepared<W>,
+    input: &mut I,
+    out: &mut O,
+) -> Result<(), Stop>
+    requires few { W ≤ 8 }
+    requires fit { IsFit prepared.now }
+    ensures ran { Followed (λ plan. plan ≡ Serves prepared.now.grammar prepared.now.tabled.halting []) (λ name. ⊥)
+        (I.left input.old) (I.left input.new) (O.written out.old) (O.written out.new) result }
+    ensures counts { Counts (I.faults input.old) (I.faults input.new)
+        (O.faults out.old) (O.faults out.new) result }
+{
+    let opened = serve_on(alloc, prepared);
+    drive_opened(alloc, opened, input, out)
+}

@@ -1,0 +1,4 @@
+pub mod Rejecting
+pub mod Sourcing
+pub mod Tabling
+pub mod Sourced

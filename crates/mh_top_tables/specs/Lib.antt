@@ -1,0 +1,10 @@
+pub mod FormTexts
+pub mod FileContent
+pub mod Sources
+pub mod Turns
+pub mod Loops
+pub mod Tabled
+pub mod TableTexts
+pub mod TableFile
+pub mod TableStage
+pub mod Preparing

@@ -1,0 +1,54 @@
+//! Table files: what one says, and the lines for one that is refused.
+ghost use Rattle.std.specs.Prelude.{◌≡◌, ◌<◌, ◌^◌, ◌++◌, IfOk, codes, decimal, length, string_bytes};
+ghost use Rattle.mh_top_drive.specs.Stages.{Halts, StageHas};
+ghost use Rattle.mh_top_drive.specs.declared.stop.Cause.TheVariants.{Refused};
+ghost use Rattle.mh_top_tables.specs.FileContent.{IsTableFile};
+ghost use Rattle.mh_top_tables.specs.FormTexts.{table_line};
+ghost use Rattle.mh_tabfile_read.specs.declared.reading.TabFault.TheVariants.{TabShape};
+
+use mh_tabfile_form::RawTable;
+use mh_tabfile_read::{TabFault, read_tables};
+use mh_top_drive::{Spelling, Stop, refused};
+use std::alloc::{AllocError, Global};
+
+/// Table files.
+pub(crate) struct TableFiles;
+
+/// What stands behind a file's name.
+fn place_of(alloc: Global, line: u32) -> Result<String, AllocError>
+    ensures { IfOk result (λ text. string_bytes text ≡ codes ":" ++ (decimal line ++ codes ": shape\n")) }
+{
+    format!(in alloc; ":{line}: shape\n")
+}
+
+fn no_table(alloc: Global, name: &[u8], line: u32) -> Stop
+    ensures { Halts (Refused (table_line name.now (TabShape line))) result }
+{
+    match place_of(alloc, line) {
+        Ok(place) => refused(alloc, b"menhir: ", name, place.as_bytes()),
+        Err(_) => Stop::OutOfMemory,
+    }
+}
+
+/// What the bytes of the named file say.
+fn raw_in(alloc: Global, name: &[u8], bytes: &[u8]) -> Result<RawTable, Stop>
+    requires { length bytes.now < 2 ^ 31 }
+    ensures { StageHas (IsTableFile name.now bytes.now) result }
+{
+    match read_tables(alloc, bytes) {
+        Ok(raw) => Ok(raw),
+        Err(TabFault::Version) => Err(refused(alloc, b"menhir: ", name, b": version\n")),
+        Err(TabFault::TabShape { line }) => Err(no_table(alloc, name, line)),
+        Err(TabFault::Memory) => Err(Stop::OutOfMemory),
+    }
+}
+
+impl Spelling<RawTable> for TableFiles {
+    ghost use Rattle.mh_top_tables.specs.FileContent.{IsTableFile};
+
+    ghost Spells = { λ s. IsTableFile };
+
+    fn spell(&self, alloc: Global, name: &[u8], bytes: &[u8]) -> Result<RawTable, Stop> {
+        raw_in(alloc, name, bytes)
+    }
+}

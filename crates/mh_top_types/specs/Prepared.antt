@@ -1,0 +1,10 @@
+-- What the modes may rely on.
+use Rattle.mh_grammar.specs.Plain.{plain_of, IsInRange}
+use Rattle.mh_items_kernels.specs.Automaton.{IsAutomaton}
+use Rattle.mh_resolve_cells.specs.States.{IsTableOf}
+use Rattle.mh_top_types.specs.Shapes.{Prepared}
+
+pub record IsFit (p : Prepared) : Type 0 where
+  pub range : IsInRange (plain_of p.grammar)
+  pub automaton : IsAutomaton (plain_of p.grammar) p.tabled.automaton
+  pub table : IsTableOf p.grammar p.tabled.automaton p.tabled.mode p.tabled.halting

@@ -1,4 +1,0 @@
-pub mod Building
-pub mod Knowing
-pub mod Lasting
-pub mod Moved

@@ -1,6 +1,0 @@
-use Rattle.std.specs.Option.{IfSome}
-use Rattle.mh_unfoldings.specs.LastUse.{IsLastUse}
-use Rattle.mh_unfoldings.proofs.moving.last_use.Given as goal
-
-abbrev pub invariant-loop-alternative : goal.invariant-loop-alternative
-invariant-loop-alternative l = IfSome l.best (IsLastUse l.expanded.instances l.last l.place l.productions)

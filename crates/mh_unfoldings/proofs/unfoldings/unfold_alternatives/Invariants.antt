@@ -1,6 +1,0 @@
-use Rattle.std.proofs.Common.{take}
-use Rattle.mh_producers.specs.Unfoldings.{UnfoldsEach}
-use Rattle.mh_unfoldings.proofs.unfoldings.unfold_alternatives.Given as goal
-
-abbrev pub invariant-loop-production : goal.invariant-loop-production
-invariant-loop-production l = UnfoldsEach l.expanded.instances (take l.production-index l.productions) l.all.items

@@ -1,7 +1,0 @@
-pub mod Giving
-pub mod Again
-pub mod OneKernel
-pub mod Edged
-pub mod Apart
-pub mod Once
-pub mod Pushed

@@ -1,3 +1,0 @@
-pub mod Valid
-pub mod Within
-pub mod Finding

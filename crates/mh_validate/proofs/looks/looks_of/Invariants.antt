@@ -1,0 +1,6 @@
+use Rattle.std.proofs.Common.{take}
+use Rattle.mh_validate.proofs.Itemed.{LooksSoFar}
+use Rattle.mh_validate.proofs.looks.looks_of.Given as goal
+
+abbrev pub invariant-loop-name : goal.invariant-loop-name
+invariant-loop-name g l = LooksSoFar l.grammar (take l.name-index l.names) l.looks l.last

@@ -1,0 +1,89 @@
+//! The edges of a state beside the moves of its closure.
+ghost use Rattle.std.specs.Prelude.{◌≡◌, ◌<◌, ◌≤◌, ◌↔◌, length, IsTrue, IfOk};
+ghost use Rattle.std.specs.List.{AllZip};
+ghost use Rattle.mh_validate.specs.Leading.{Leads, IsRowOf, edges_on as edges_of_moves};
+
+use crate::targets::is_kernel_within;
+use mh_grammar::{Edge, Grammar, Memory, Sequence};
+use mh_items::Move;
+use mh_items_kernels::Kernel;
+use mh_tabfile_form::RawEdge;
+use mh_validate_valid::is_on;
+use std::alloc::Global;
+
+fn leads<const W: usize>(
+    grammar: &Grammar,
+    kernels: &[Kernel<W>],
+    found: &Move<W>,
+    raw: &RawEdge,
+) -> bool
+    requires few { W ≤ 8 }
+    ensures { IsTrue result ↔ Leads grammar.now kernels.now found.now raw.now }
+{
+    if !is_on(grammar, found.symbol, &raw.symbol) {
+        return false;
+    }
+    if raw.target as usize >= kernels.len() {
+        return false;
+    }
+    is_kernel_within(&found.kernel, &kernels[raw.target as usize])
+}
+
+/// Whether the edges are those of the moves, and lead to states that hold what is moved.
+fn all_lead<const W: usize>(
+    grammar: &Grammar,
+    kernels: &[Kernel<W>],
+    moves: &[Move<W>],
+    raws: &[RawEdge],
+) -> bool
+    requires few { W ≤ 8 }
+    ensures { IsTrue result ↔ AllZip (Leads grammar.now kernels.now) moves.now raws.now }
+{
+    if moves.len() != raws.len() {
+        return false;
+    }
+    for at in 0..moves.len() {
+        if !leads(grammar, kernels, &moves[at], &raws[at]) {
+            return false;
+        }
+    }
+    true
+}
+
+/// The edges on the symbols of the moves.
+fn edges_on<const W: usize>(
+    alloc: Global,
+    moves: &[Move<W>],
+    raws: &[RawEdge],
+) -> Result<Sequence<Edge>, Memory>
+    requires few { W ≤ 8 }
+    requires count { length moves.now ≡ length raws.now }
+    ensures { IfOk result (λ row. row ≡ edges_of_moves moves.now raws.now) }
+{
+    let mut row = Vec::with_capacity(alloc, raws.len())?;
+    for at in 0..moves.len() {
+        row.push(Edge {
+            symbol: moves[at].symbol,
+            target: raws[at].target,
+        })?;
+    }
+    Ok(Sequence::from_vec(row))
+}
+
+/// The edges on the symbols of the moves, where they are the raw ones.
+pub(crate) fn row_of<const W: usize>(
+    alloc: Global,
+    grammar: &Grammar,
+    kernels: &[Kernel<W>],
+    moves: &[Move<W>],
+    raws: &[RawEdge],
+) -> Result<Option<Sequence<Edge>>, Memory>
+    requires few { W ≤ 8 }
+    ensures { IfOk result (IsRowOf grammar.now kernels.now moves.now raws.now) }
+{
+    if !all_lead(grammar, kernels, moves, raws) {
+        return Ok(None);
+    }
+    let row = edges_on(alloc, moves, raws)?;
+    Ok(Some(row))
+}

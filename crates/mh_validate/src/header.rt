@@ -1,0 +1,71 @@
+//! The first test: the header.
+ghost use Rattle.std.specs.Prelude.{◌≡◌, ◌↔◌, map, IsTrue};
+ghost use Rattle.mh_grammar.specs.Names.{nonterminal_name as name_of_nonterminal, symbol_name as name_of_symbol};
+ghost use Rattle.mh_tabfile_form.specs.Written.{raw_production};
+ghost use Rattle.mh_validate_valid.specs.Valid.{HasHeader};
+
+use mh_grammar::{Grammar, Name, Production, Symbol, nonterminal_name, symbol_name};
+use mh_tabfile_form::{RawProduction, RawTable};
+use mh_validate_valid::{has_tokens, is_named};
+
+fn are_symbols(grammar: &Grammar, names: &[Name], symbols: &[Symbol]) -> bool
+    ensures { IsTrue result ↔ (names.now ≡ map (name_of_symbol grammar.now) symbols.now) }
+{
+    if names.len() != symbols.len() {
+        return false;
+    }
+    for at in 0..names.len() {
+        if !is_named(&names[at], symbol_name(grammar, symbols[at])) {
+            return false;
+        }
+    }
+    true
+}
+
+fn are_starts(grammar: &Grammar, names: &[Name], starts: &[u16]) -> bool
+    ensures { IsTrue result ↔ (names.now ≡ map (name_of_nonterminal grammar.now) starts.now) }
+{
+    if names.len() != starts.len() {
+        return false;
+    }
+    for at in 0..names.len() {
+        if !is_named(&names[at], nonterminal_name(grammar, starts[at])) {
+            return false;
+        }
+    }
+    true
+}
+
+fn is_production(grammar: &Grammar, raw: &RawProduction, production: &Production) -> bool
+    ensures { IsTrue result ↔ (raw.now ≡ raw_production grammar.now production.now) }
+{
+    is_named(&raw.lhs, nonterminal_name(grammar, production.lhs))
+        && are_symbols(grammar, raw.rhs.as_slice(), production.rhs.as_slice())
+}
+
+fn are_productions(grammar: &Grammar, raws: &[RawProduction], productions: &[Production]) -> bool
+    ensures { IsTrue result ↔ (raws.now ≡ map (raw_production grammar.now) productions.now) }
+{
+    if raws.len() != productions.len() {
+        return false;
+    }
+    for at in 0..raws.len() {
+        if !is_production(grammar, &raws[at], &productions[at]) {
+            return false;
+        }
+    }
+    true
+}
+
+/// Whether the tokens, the costs, the starts and the productions are the grammar's.
+pub(crate) fn has_header(grammar: &Grammar, raw: &RawTable) -> bool
+    ensures { IsTrue result ↔ HasHeader grammar.now raw.now }
+{
+    has_tokens(grammar, raw)
+        && are_starts(grammar, raw.starts.as_slice(), grammar.starts.as_slice())
+        && are_productions(
+            grammar,
+            raw.productions.as_slice(),
+            grammar.productions.as_slice(),
+        )
+}

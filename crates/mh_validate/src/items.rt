@@ -1,0 +1,118 @@
+//! The items that lines stand for.
+ghost use Rattle.std.specs.Prelude.{◌≡◌, ◌<◌, ◌≤◌, ◌*◌, ◌+◌, ◌↔◌, length, IsTrue, IfOk};
+ghost use Rattle.mh_grammar.specs.Plain.{plain_of, rhs_of, IsInRange};
+ghost use Rattle.std.specs.List.{Contains};
+ghost use Rattle.mh_grammar.specs.Edges.{IsRising};
+ghost use Rattle.mh_items_kernels.specs.Shapes.{KernelItem as ItemOf};
+ghost use Rattle.mh_items_kernels.specs.Kernels.{IsItemBefore};
+ghost use Rattle.mh_msgfile.specs.Sentences.{vocabulary_in, vocabulary_of};
+ghost use Rattle.mh_validate_valid.specs.Valid.{AreNamesApart};
+ghost use Rattle.mh_validate.specs.Looking.{Finds, IsItemOf, AreItemsOf};
+
+use crate::looks::looks_of;
+use mh_grammar::{Grammar, Memory, Sequence};
+use mh_items_kernels::KernelItem;
+use mh_msgfile::Lexicon;
+use mh_tabfile_form::RawItem;
+use std::alloc::Global;
+
+/// How many symbols a production has.
+fn length_of(grammar: &Grammar, production: u32) -> usize
+    requires range { IsInRange (plain_of grammar.now) }
+    requires production { production < length grammar.now.starts + length grammar.now.productions }
+    ensures { result ≡ length (rhs_of (plain_of grammar.now) production) }
+{
+    let production = production as usize;
+    let starts = grammar.starts.len();
+    if production < starts {
+        return 1;
+    }
+    grammar.productions[production - starts].rhs.len()
+}
+
+/// Whether a production is known, and has a place for a dot.
+fn is_place(grammar: &Grammar, production: u32, dot: u32) -> bool
+    requires range { IsInRange (plain_of grammar.now) }
+    ensures { IsTrue result ↔ ((production < length grammar.now.starts + length grammar.now.productions) × (dot ≤ length (rhs_of (plain_of grammar.now) production))) }
+{
+    if production as usize >= grammar.starts.len() + grammar.productions.len() {
+        return false;
+    }
+    dot as usize <= length_of(grammar, production)
+}
+
+/// The item of a line.
+fn item_of<const W: usize>(
+    grammar: &Grammar,
+    lexicon: &Lexicon,
+    raw: &RawItem,
+) -> Option<KernelItem<W>>
+    requires few { W ≤ 8 }
+    requires width { length grammar.now.tokens ≤ 64 * W }
+    requires range { IsInRange (plain_of grammar.now) }
+    requires apart { AreNamesApart grammar.now }
+    requires lexicon { vocabulary_in lexicon.now ≡ vocabulary_of grammar.now }
+    ensures { Finds (IsItemOf grammar.now raw.now) result }
+{
+    if !is_place(grammar, raw.production, raw.dot) {
+        return None;
+    }
+    if raw.looks.is_empty() {
+        return None;
+    }
+    let Some(looks) = looks_of(grammar, lexicon, raw.looks.as_slice()) else {
+        return None;
+    };
+    Some(KernelItem {
+        production: raw.production,
+        dot: raw.dot,
+        looks,
+    })
+}
+
+fn is_before<const W: usize>(left: &KernelItem<W>, right: &KernelItem<W>) -> bool
+    requires few { W ≤ 8 }
+    ensures { IsTrue result ↔ IsItemBefore left.now right.now }
+{
+    left.production < right.production
+        || (left.production == right.production && left.dot < right.dot)
+}
+
+/// Whether an item comes behind those of a rising list.
+fn is_behind<const W: usize>(items: &[KernelItem<W>], item: &KernelItem<W>) -> bool
+    requires few { W ≤ 8 }
+    requires rising { IsRising IsItemBefore items.now }
+    ensures { IsTrue result ↔ ((other : ItemOf) → Contains items.now other → IsItemBefore other item.now) }
+{
+    if items.is_empty() {
+        return true;
+    }
+    is_before(&items[items.len() - 1], item)
+}
+
+/// The items of rising lines.
+pub(crate) fn items_of<const W: usize>(
+    alloc: Global,
+    grammar: &Grammar,
+    lexicon: &Lexicon,
+    raws: &[RawItem],
+) -> Result<Option<Sequence<KernelItem<W>>>, Memory>
+    requires few { W ≤ 8 }
+    requires width { length grammar.now.tokens ≤ 64 * W }
+    requires range { IsInRange (plain_of grammar.now) }
+    requires apart { AreNamesApart grammar.now }
+    requires lexicon { vocabulary_in lexicon.now ≡ vocabulary_of grammar.now }
+    ensures { IfOk result (Finds (AreItemsOf grammar.now raws.now)) }
+{
+    let mut items = Vec::with_capacity(alloc, raws.len())?;
+    for raw in raws {
+        let Some(item) = item_of(grammar, lexicon, raw) else {
+            return Ok(None);
+        };
+        if !is_behind(items.as_slice(), &item) {
+            return Ok(None);
+        }
+        items.push(item)?;
+    }
+    Ok(Some(Sequence::from_vec(items)))
+}

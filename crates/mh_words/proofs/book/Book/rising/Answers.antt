@@ -1,5 +1,0 @@
-use Rattle.mh_words.proofs.Growing.{is_book}
-use Rattle.mh_words.proofs.book.Book.rising.Goals as goal
-
-pub returns : goal.returns
-returns c = rw c.self.view_is at (is_book c.self.inside.entries.items c.self.invariant)

@@ -1,5 +1,0 @@
-use Rattle.mh_words.proofs.Growing.{entry_found}
-use Rattle.mh_words.proofs.comparing.entry_at.Goals as goal
-
-pub returns : goal.returns
-returns c = entry_found c.args.entries.now c.args.number c.get.result c.if-number-eq0.false c.requires c.get.ensures

@@ -1,5 +1,0 @@
-use Rattle.mh_words.proofs.Giving.{OnceSoFar}
-use Rattle.mh_words.proofs.numbering.distinct_of.Given as goal
-
-abbrev pub invariant-loop-one : goal.invariant-loop-one
-invariant-loop-one l = OnceSoFar l.made l.one-index l.distinct.keys

@@ -1,5 +1,0 @@
-use Rattle.mh_words.specs.Numbered.{Gives}
-use Rattle.mh_words.proofs.numbering.give.Given as goal
-
-abbrev pub invariant-loop-place : goal.invariant-loop-place
-invariant-loop-place l = Gives l.entries l.ordered.group l.ordered.made.now l.place l.given

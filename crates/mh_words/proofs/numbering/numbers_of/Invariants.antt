@@ -1,5 +1,0 @@
-use Rattle.mh_words.proofs.Giving.{NumberedSoFar}
-use Rattle.mh_words.proofs.numbering.numbers_of.Given as goal
-
-abbrev pub invariant-loop-one : goal.invariant-loop-one
-invariant-loop-one l = NumberedSoFar l.given l.made l.one-index l.numbers.items

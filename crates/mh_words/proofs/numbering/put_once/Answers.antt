@@ -1,5 +1,0 @@
-use Rattle.mh_words.proofs.Giving.{puts_once}
-use Rattle.mh_words.proofs.numbering.put_once.Goals as goal
-
-pub returns : goal.returns
-returns c = puts_once c.args.distinct.now.keys c.insert.new.self.keys c.args.made c.in_ok-insert.ensures.keys

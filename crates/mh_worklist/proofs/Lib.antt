@@ -1,3 +1,0 @@
-pub mod Combining
-pub mod Indexing
-pub mod Uniting

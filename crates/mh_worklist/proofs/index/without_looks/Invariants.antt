@@ -1,6 +1,0 @@
-use Rattle.std.proofs.Common.{◌≡◌, map, take}
-use Rattle.mh_worklist.specs.Indexed.{bare}
-use Rattle.mh_worklist.proofs.index.without_looks.Given as goal
-
-abbrev pub invariant-loop-item : goal.invariant-loop-item
-invariant-loop-item g l = l.places.items ≡ map bare (take l.item-index l.items)

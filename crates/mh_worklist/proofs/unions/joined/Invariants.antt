@@ -1,5 +1,0 @@
-use Rattle.mh_worklist.proofs.Uniting.{JoinedSoFar}
-use Rattle.mh_worklist.proofs.unions.joined.Given as goal
-
-abbrev pub invariant-loop-i : goal.invariant-loop-i
-invariant-loop-i g l = JoinedSoFar l.ours l.theirs l.items.items l.i
